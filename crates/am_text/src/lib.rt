@@ -1,0 +1,20 @@
+//! Texts and bytes.
+#![tactic(auto)]
+
+mod items;
+mod letters;
+mod lines;
+mod memory;
+mod number;
+mod range;
+mod roomy;
+mod utf8;
+
+pub use items::{Bytes, Ids, Items, Names, Numbers, Rune, Runes, Words};
+pub use letters::Letters;
+pub use lines::{escape, lines as line_spans, split_line};
+pub use memory::NoMemory;
+pub use number::{decimal, read_decimal};
+pub use range::{Range, Spans};
+pub use roomy::Roomy;
+pub use utf8::{decode_whole, encode};
