@@ -17,4 +17,4 @@ pub use memory::NoMemory;
 pub use number::{decimal, read_decimal};
 pub use range::{Range, Spans};
 pub use roomy::Roomy;
-pub use utf8::{decode_whole, encode};
+pub use utf8::{decode_whole, encode, is_utf8, utf8_slice};

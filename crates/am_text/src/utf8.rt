@@ -1,10 +1,11 @@
 //! Bytes to runes and back.
 
 ghost use Rattle.std.specs.List.{AllByRecursion};
-ghost use Rattle.std.specs.Prelude.{List, ℕ, ◌≡◌, ◌<◌, ◌≤◌, ◌++◌, length, IfOk, OnOk, slice_index, if◌then◌else◌};
+ghost use Rattle.std.specs.Prelude.{List, ℕ, ◌≡◌, ◌<◌, ◌≤◌, ◌-◌, ◌++◌, length, IfOk, OnOk, slice_index, take, drop, if◌then◌else◌};
 ghost use lib.Utf8.{scalar};
 ghost use Rattle.std.specs.Char.{IsScalar};
 ghost use Rattle.std.specs.Int.{is_in_range};
+ghost use Rattle.std.specs.Str.{is_utf8};
 ghost use Rattle.std.specs.Str.Lossy.{second_byte_min, second_byte_max};
 ghost use Rattle.am_text.specs.Utf8.{begins_two, begins_three, begins_four, front_rune, front_width, decode, rune_bytes, utf8};
 
@@ -146,4 +147,64 @@ pub fn encode<T: Letters>(alloc: Global, text: &T) -> Result<Bytes, NoMemory>
         push_rune(&mut bytes, text.at(i))?;
     }
     Ok(bytes)
+}
+
+// From one place on, at most so many bytes.
+fn part_of(bytes: &[u8], skip: usize, room: usize) -> &[u8]
+    ensures part { result.now ≡ take room (drop skip bytes.now) }
+    ensures small { length result.now ≤ room }
+{
+    let (_, rest) = bytes.split_at(skip.min(bytes.len()));
+    let (part, _) = rest.split_at(room.min(rest.len()));
+    part
+}
+
+// Puts a part of a rune's bytes at the end, and answers how many bytes are still to be skipped and to be put.
+fn put_part(
+    bytes: &mut Bytes,
+    rune: Rune,
+    skip: usize,
+    room: usize,
+) -> Result<(usize, usize), NoMemory>
+    ensures put { OnOk result (bytes.new ≡ bytes.old ++ take room (drop skip (rune_bytes rune))) }
+    ensures skip { IfOk result (λ left. left.0 ≡ skip - length (rune_bytes rune)) }
+    ensures room { IfOk result (λ left. left.1 ≡ room - length (take room (drop skip (rune_bytes rune)))) }
+{
+    let mut buf = [0; 4];
+    let encoded = scalar_or_replacement(rune).encode_utf8(&mut buf).as_bytes();
+    let part = part_of(encoded, skip, room);
+    bytes.append(part)?;
+    Ok((skip.saturating_sub(encoded.len()), room - part.len()))
+}
+
+/// The bytes of a text from an offset on, at most `count` of them. A rune may be cut at both ends.
+#[tactic(auto, using(crate::proofs::Sliced::slicing))]
+pub fn utf8_slice(
+    alloc: Global,
+    text: &[Rune],
+    offset: u64,
+    count: usize,
+) -> Result<Bytes, NoMemory>
+    ensures { IfOk result (λ bytes. bytes ≡ take count (drop offset (utf8 text.now))) }
+{
+    let mut bytes = Items::new(alloc);
+    let mut left = (offset as usize, count);
+    let mut rest = text;
+    while !rest.is_empty() {
+        if left.1 == 0 {
+            return Ok(bytes);
+        }
+        let (first, after) = rest.split_at(1);
+        left = put_part(&mut bytes, first[0], left.0, left.1)?;
+        rest = after;
+    }
+    Ok(bytes)
+}
+
+/// Whether the bytes are well-formed UTF-8.
+#[tactic(auto, using(crate::proofs::Tested::texts))]
+pub fn is_utf8(bytes: &[u8]) -> bool
+    ensures { result ≡ is_utf8 bytes.now }
+{
+    str::from_utf8(bytes).is_ok()
 }
