@@ -1,5 +1,5 @@
 -- Lines, and texts in one line.
-use Rattle.std.specs.Prelude.{ℕ, ◌+◌, List, [], ◌∷◌, ◌==◌, if◌then◌else◌}
+use Rattle.std.specs.Prelude.{ℕ, ◌+◌, List, [], ◌∷◌, ◌==◌, if◌then◌else◌, slice_range}
 use Rattle.std.specs.List.{onto_first}
 use Rattle.am_text.specs.Utf8.{rune_bytes}
 use Rattle.am_text.specs.declared.range.Range.{Range}
@@ -11,6 +11,10 @@ spans_after from at (b ∷ bs) = if b == 10 then record { q0 = from; q1 = at } �
 
 abbrev pub spans_of : List ℕ → List Range
 spans_of bs = spans_after 0 0 bs
+
+-- what a span holds of the bytes
+abbrev pub line_at : List ℕ → Range → List ℕ
+line_at bytes r = slice_range bytes r.q0 r.q1
 
 -- the bytes up to the first newline, and those after it
 abbrev pub first_line : List ℕ → List ℕ

@@ -1,6 +1,6 @@
 //! A vector with reserved room, which contracts see as a list and a number.
 
-ghost use Rattle.std.specs.Prelude.{◌≡◌, ◌<◌, ◌≤◌, ◌+◌, ◌-◌, ◌∷◌, [], ◌++◌, length, ◌==◌, OnOk, slice_get, slice_set, remove, Some};
+ghost use Rattle.std.specs.Prelude.{◌≡◌, ◌<◌, ◌≤◌, ◌+◌, ◌-◌, ◌^◌, ◌∷◌, [], ◌++◌, length, ◌==◌, OnOk, slice_get, slice_set, remove, Some};
 
 use crate::items::Items;
 use crate::memory::NoMemory;
@@ -65,6 +65,7 @@ impl<T> Roomy<T> {
     pub fn reserve(&mut self, more: usize) -> Result<(), NoMemory>
         ensures items { self.new.items ≡ self.old.items }
         ensures ok { OnOk result (more ≤ self.new.spare) }
+        ensures fits { OnOk result (length self.new.items + more < 2 ^ 64) }
         ensures spare { self.old.spare ≤ self.new.spare }
     {
         self.vec.reserve(more)?;

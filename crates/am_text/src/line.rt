@@ -1,9 +1,8 @@
 //! Lines, and texts in one line.
 
-ghost use Rattle.std.specs.Prelude.{◌≡◌, ◌≤◌, ◌<◌, ◌++◌, ◌+◌, ◌∷◌, length, IfOk, OnOk, All, take, drop};
-ghost use Rattle.std.specs.Char.{IsScalar};
+ghost use Rattle.std.specs.Prelude.{◌≡◌, ◌≤◌, ◌<◌, ◌++◌, ◌+◌, ◌∷◌, length, map, IfOk};
 ghost use Rattle.std.specs.List.{flat_map};
-ghost use Rattle.am_text.specs.Lines.{spans_of, escaped, first_line, after_line, lines_of};
+ghost use Rattle.am_text.specs.Lines.{spans_of, line_at, escaped, first_line, after_line, lines_of};
 
 use crate::items::{Bytes, Items};
 use crate::memory::NoMemory;
@@ -11,8 +10,7 @@ use crate::range::{Range, Spans};
 use crate::utf8::push_rune;
 use std::alloc::Global;
 
-/// The spans between newlines, and a last one where bytes follow the last newline.
-pub fn lines(alloc: Global, bytes: &[u8]) -> Result<Spans, NoMemory>
+fn spans_in(alloc: Global, bytes: &[u8]) -> Result<Spans, NoMemory>
     ensures { IfOk result (λ spans. spans ≡ spans_of bytes.now) }
 {
     let mut spans = Items::new(alloc);
@@ -29,6 +27,16 @@ pub fn lines(alloc: Global, bytes: &[u8]) -> Result<Spans, NoMemory>
         spans.push(Range { q0: from, q1: at })?;
     }
     Ok(spans)
+}
+
+/// The spans between newlines, and a last one where bytes follow the last newline.
+#[tactic(auto, using(crate::proofs::Spanned::lines_spans))]
+pub fn lines(alloc: Global, bytes: &[u8]) -> Result<Spans, NoMemory>
+    ensures exact { IfOk result (λ spans. spans ≡ spans_of bytes.now) }
+    // What they span are the lines.
+    ensures each { IfOk result (λ spans. map (line_at bytes.now) spans ≡ lines_of bytes.now) }
+{
+    spans_in(alloc, bytes)
 }
 
 fn cut_line(bytes: &[u8]) -> (&[u8], &[u8])
