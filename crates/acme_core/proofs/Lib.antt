@@ -1,0 +1,6 @@
+pub mod Answers
+pub mod Each
+pub mod Few
+pub mod Goes
+pub mod Places
+pub mod Viewed

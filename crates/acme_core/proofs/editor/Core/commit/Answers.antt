@@ -1,0 +1,11 @@
+use Rattle.std.proofs.Common.{Option, sym, subst, ◌∙◌}
+use Rattle.acme_core.specs.declared.editor.Prepared.{Prepared}
+use Rattle.acme_core.specs.Kept.{IsKept}
+use Rattle.acme_core.proofs.Goes.{kept_on}
+use Rattle.acme_core.proofs.editor.Core.commit.Goals as goal
+
+pub invariant_of-self : goal.invariant_of-self
+invariant_of-self c =
+    let P : Option Prepared → Type 0 = λ x. IsKept c.self.inside.journal c.self.inside.parts x in
+    let was = subst P (sym c.take.ensures.value ∙ c.in-Some.is) c.self.invariant in
+    kept_on c.self.inside.journal c.put.new.self c.self.inside.parts c.apply.new.self c.in-Some.prepared c.take.new.self was c.put.ensures.items c.apply.ensures c.take.ensures.after

@@ -1,0 +1,10 @@
+pub mod Sessions
+pub mod Fids
+pub mod Windows
+pub mod Panes
+pub mod Outputs
+pub mod Deeds
+pub mod Run
+pub mod Parts
+pub mod Kept
+pub mod Views

@@ -1,0 +1,36 @@
+-- What the report tells of the editor after a journal.
+use Rattle.std.specs.Prelude.{ℕ, ◌+◌, List, [], ◌∷◌, length, Option, None}
+use Rattle.am_text.specs.declared.range.Range.{Range}
+use Rattle.am_journal.specs.declared.event.Event.{Event}
+use Rattle.am_journal.specs.declared.view.ConnView.{ConnView}
+use Rattle.am_journal.specs.declared.view.WindowView.{WindowView}
+use Rattle.am_journal.specs.declared.view.View.{View}
+use Rattle.acme_core.specs.declared.session.Session.{Session}
+use Rattle.acme_core.specs.declared.session.Session.TheVariants.{Undialed, Dialed, Open}
+use Rattle.acme_core.specs.Windows.{Window}
+use Rattle.acme_core.specs.Run.{State, run}
+
+abbrev pub live_conn : ℕ → ConnView
+live_conn c = record { conn = c; ending = None }
+
+-- the dialled connections, of which the first has this number
+unfoldable pub conn_views : ℕ → List Session → List ConnView
+conn_views c [] = []
+conn_views c (Undialed ∷ ss) = conn_views (c + 1) ss
+conn_views c (Dialed ∷ ss) = live_conn c ∷ conn_views (c + 1) ss
+conn_views c (Open msize ∷ ss) = live_conn c ∷ conn_views (c + 1) ss
+
+-- a window: dot stays at the front of its body, and it has no name
+abbrev pub window_view : ℕ → Window → WindowView
+window_view w window = record { id = w; modified = window.modified; dot = record { q0 = 0; q1 = 0 }; name = []; body = window.text }
+
+-- the windows, of which the first has this number
+unfoldable pub window_views : ℕ → List Window → List WindowView
+window_views w [] = []
+window_views w (window ∷ ws) = window_view w window ∷ window_views (w + 1) ws
+
+abbrev pub view_at : ℕ → State → View
+view_at entries s = record { entries = entries; conns = conn_views 0 s.sessions; windows = window_views 1 s.windows }
+
+unfoldable pub view_of : List Event → View
+view_of journal = view_at (length journal) (run journal)

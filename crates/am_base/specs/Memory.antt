@@ -1,0 +1,127 @@
+-- The objects in memory, as their callers see them.
+use Rattle.std.specs.Prelude.{ℕ, ◌+◌, ◌-◌, ◌^◌, ◌&&◌, ◌||◌, min, Bool, true, false, List, [], ◌++◌, length, take, drop, remove, slice_get, Option, Some, None, nat_lt, nat_le, ◌==◌, if◌then◌else◌, bytes_eq, position, option_map, option_and_then}
+use Rattle.std.specs.List.{list_any}
+
+-- The calls that were made, and the numbers, from 1, of those that fail.
+pub record CallLog : Type 0 where
+  pub fail_at : List ℕ
+  pub made : ℕ
+  pub faults : ℕ
+
+abbrev pub no_calls : List ℕ → CallLog
+no_calls numbers = record { fail_at = numbers; made = 0; faults = 0 }
+
+-- a count of 64 bits, one further; it stays at its end
+abbrev pub one_more : ℕ → ℕ
+one_more n = if nat_lt n (2 ^ 64 - 1) then n + 1 else n
+
+-- whether the number of the next call is among those that fail
+abbrev pub fails_next : CallLog → Bool
+fails_next c = list_any (λ number. number == c.made + 1) c.fail_at
+
+-- one call more, which failed or didn't
+abbrev pub after_call : CallLog → Bool → CallLog
+after_call c failed = record c { made = one_more c.made; faults = if failed then one_more c.faults else c.faults }
+
+-- as handed out: its count of faults begins
+abbrev pub begun_calls : CallLog → CallLog
+begun_calls c = record c { faults = 0 }
+
+-- A source: the bytes left, the most that one read gives, the calls of read.
+pub record SourceState : Type 0 where
+  pub left : List ℕ
+  pub piece : ℕ
+  pub calls : CallLog
+
+-- how many bytes a read into so much room gives, or None where it fails
+abbrev pub read_count : SourceState → ℕ → Option ℕ
+read_count s room = if fails_next s.calls then None else Some (min (min (length s.left) room) s.piece)
+
+abbrev pub after_read : SourceState → Option ℕ → SourceState
+after_read s None = record s { calls = after_call s.calls true }
+after_read s (Some n) = record s { left = drop n s.left; calls = after_call s.calls false }
+
+abbrev pub begun_source : SourceState → SourceState
+begun_source s = record s { calls = begun_calls s.calls }
+
+-- A sink: the bytes got, how many it has room for in all, the most that one write takes, the calls of write.
+pub record SinkState : Type 0 where
+  pub held : List ℕ
+  pub room : ℕ
+  pub piece : ℕ
+  pub calls : CallLog
+
+abbrev pub is_full : SinkState → Bool
+is_full s = nat_le s.room (length s.held)
+
+-- how many bytes a write of so many takes, or None where it fails
+abbrev pub write_count : SinkState → ℕ → Option ℕ
+write_count s len = if fails_next s.calls || is_full s then None else Some (min (min len s.piece) (s.room - length s.held))
+
+abbrev pub after_write : SinkState → List ℕ → Option ℕ → SinkState
+after_write s bytes None = record s { calls = after_call s.calls true }
+after_write s bytes (Some n) = record s { held = s.held ++ take n bytes; calls = after_call s.calls false }
+
+abbrev pub begun_sink : SinkState → SinkState
+begun_sink s = record s { held = []; calls = begun_calls s.calls }
+
+-- A link: what it still hands out, what its source begins with, whether it is to fail.
+pub record LinkState : Type 0 where
+  pub halves : Option (SourceState × SinkState)
+  pub begins : List ℕ
+  pub fails : Bool
+  pub faults : ℕ
+
+-- what a link hands out at the next call, or None where that fails
+abbrev pub halves_of : LinkState → Option (SourceState × SinkState)
+halves_of l = if l.fails then None else option_map (λ h. (begun_source h.0, begun_sink h.1)) l.halves
+
+abbrev pub after_halves : LinkState → Option (SourceState × SinkState) → LinkState
+after_halves l None = record l { faults = one_more l.faults }
+after_halves l (Some h) = record l { halves = None }
+
+abbrev pub begun_link : LinkState → LinkState
+begun_link l = record l { faults = 0 }
+
+-- A gate: its name, the link that it still hands out, whether it is to fail.
+pub record GateState : Type 0 where
+  pub path : List ℕ
+  pub slot : ℕ
+  pub link : Option LinkState
+  pub fails : Bool
+  pub faults : ℕ
+
+abbrev pub name_of : GateState → List ℕ × ℕ
+name_of g = (g.path, g.slot)
+
+-- what a gate hands out at the next call, or None where that fails
+abbrev pub link_of : GateState → Option LinkState
+link_of g = if g.fails then None else option_map begun_link g.link
+
+abbrev pub after_accept : GateState → Option LinkState → GateState
+after_accept g None = record g { faults = one_more g.faults }
+after_accept g (Some l) = record g { link = None }
+
+abbrev pub begun_gate : GateState → GateState
+begun_gate g = record g { faults = 0 }
+
+-- A host: the gates that it still hands out, the calls of bind.
+pub record HostState : Type 0 where
+  pub gates : List GateState
+  pub calls : CallLog
+
+-- whether a gate is of this path and slot
+abbrev pub is_gate_of : List ℕ → ℕ → GateState → Bool
+is_gate_of path slot g = bytes_eq g.path path && g.slot == slot
+
+-- the place of the gate that a host hands out at the next call, or None where that fails
+abbrev pub place_of : HostState → List ℕ → ℕ → Option ℕ
+place_of h path slot = if fails_next h.calls then None else position (is_gate_of path slot) h.gates
+
+-- that gate
+abbrev pub gate_of : HostState → List ℕ → ℕ → Option GateState
+gate_of h path slot = option_map begun_gate (option_and_then (slice_get h.gates) (place_of h path slot))
+
+abbrev pub after_bind : HostState → Option ℕ → HostState
+after_bind h None = record h { calls = after_call h.calls true }
+after_bind h (Some at) = record h { gates = remove h.gates at; calls = after_call h.calls false }

@@ -1,0 +1,43 @@
+-- What an object of the outside tells, and how often it has failed.
+use Rattle.std.specs.Prelude.{◌≡◌, ◌⊎◌, ℕ, ◌+◌, ◌^◌, ◌<◌, ◌≤◌, List, ◌++◌, length, take, Option, Some, None, Result, IsErr}
+
+-- these bytes, and then those that are told
+abbrev pub then_told : List ℕ → Option (List ℕ) → Option (List ℕ)
+then_told bytes None = None
+then_told bytes (Some rest) = Some (bytes ++ rest)
+
+-- those that are told, and then these bytes
+abbrev pub told_then : Option (List ℕ) → List ℕ → Option (List ℕ)
+told_then None bytes = None
+told_then (Some before) bytes = Some (before ++ bytes)
+
+-- where the bytes are told, they are these
+abbrev pub AreTold : Option (List ℕ) → List ℕ → Type 0
+AreTold None bytes = Unit {0}
+AreTold (Some told) bytes = told ≡ bytes
+
+-- where a name is told, it is this path and slot
+abbrev pub IsNamed : Option (List ℕ × ℕ) → List ℕ → ℕ → Type 0
+IsNamed None path slot = Unit {0}
+IsNamed (Some name) path slot = (name.0 ≡ path) × (name.1 ≡ slot)
+
+-- A count has risen, or stands at its type's end, where it stays.
+abbrev pub HasRisen : ℕ → ℕ → Type 0
+HasRisen before now = (before < now) ⊎ (2 ^ 64 ≤ now + 1)
+
+-- a count of faults never falls, and a failure has risen it
+pub record HasCause {T E : Type 0} (before now : ℕ) (result : Result T E) : Type 0 where
+  pub later : before ≤ now
+  pub risen : IsErr result → HasRisen before now
+
+-- a front of the bytes was put behind what is told
+abbrev pub PutsFront : Option (List ℕ) → List ℕ → Option (List ℕ) → Type 0
+PutsFront old bytes new = (n : ℕ) × (n ≤ length bytes) × (new ≡ told_then old (take n bytes))
+
+-- at most n bytes were taken from the front of what is told
+abbrev pub TakesAtMost : ℕ → Option (List ℕ) → Option (List ℕ) → Type 0
+TakesAtMost n old new = (bytes : List ℕ) × (length bytes ≤ n) × (old ≡ then_told bytes new)
+
+-- so many bytes were taken from the front of what is told
+abbrev pub Takes : ℕ → Option (List ℕ) → Option (List ℕ) → Type 0
+Takes n old new = (bytes : List ℕ) × (length bytes ≡ n) × (old ≡ then_told bytes new)

@@ -1,0 +1,92 @@
+//! A gate in memory.
+
+ghost use Rattle.std.specs.Prelude.{◌≡◌, Some, None, IfOk, OnErr};
+ghost use Rattle.am_base.specs.Outside.{HasCause};
+ghost use Rattle.am_base.specs.Memory.{link_of, after_accept, begun_gate, is_gate_of, name_of};
+
+use crate::calls::raised;
+use crate::link::Gate;
+use crate::mem_link::MemLink;
+use crate::source::Failed;
+use am_text::Bytes;
+use std::marker::Model;
+
+/// A link in memory behind a name, handed out once, or never. It tells its name.
+#[derive(Drop)]
+pub struct MemGate {
+    path: Bytes,
+    slot: u32,
+    link: Option<MemLink>,
+    fails: bool,
+    faults: u64,
+}
+
+impl Model for MemGate {
+    ghost use Rattle.am_base.specs.Memory.{GateState};
+
+    ghost Value = { GateState };
+
+    ghost view = { λ g. record { path = g.path; slot = g.slot; link = g.link; fails = g.fails; faults = g.faults } };
+}
+
+impl MemGate {
+    /// The gate of this path and slot. It hands out this link once, and not where `fail` holds.
+    /// The link's count of faults begins then. It takes no memory.
+    pub fn new(path: Bytes, slot: u32, link: MemLink, fail: bool) -> MemGate
+        ensures { result ≡ record { path = path; slot = slot; link = Some link; fails = fail; faults = 0 } }
+    {
+        MemGate {
+            path,
+            slot,
+            link: Some(link),
+            fails: fail,
+            faults: 0,
+        }
+    }
+
+    /// Whether the gate is of this path and slot.
+    pub(crate) fn is_of(&self, path: &[u8], slot: u32) -> bool
+        ensures { result ≡ is_gate_of path.now slot self.now }
+    {
+        self.path.as_slice() == path && self.slot == slot
+    }
+
+    /// The gate as it is handed out: its count of faults begins.
+    pub(crate) fn begun(self) -> MemGate
+        ensures { result ≡ begun_gate self }
+    {
+        let mut gate = self;
+        gate.faults = 0;
+        gate
+    }
+}
+
+impl Gate for MemGate {
+    type L = MemLink;
+
+    ghost name = { λ g. Some (name_of g) };
+
+    ghost faults = { λ g. g.faults };
+
+    fn accept(&mut self) -> Result<MemLink, Failed>
+        ensures fresh { IfOk result (λ link. link.faults ≡ 0) }
+        ensures name { Some (name_of self.new) ≡ Some (name_of self.old) }
+        ensures cause { HasCause self.old.faults self.new.faults result }
+        // What is handed out, and which calls fail.
+        ensures gives { IfOk result (λ link. link_of self.old ≡ Some link) }
+        ensures fails { OnErr result (link_of self.old ≡ None) }
+        ensures state { self.new ≡ after_accept self.old (link_of self.old) }
+    {
+        if self.fails {
+            self.faults = raised(self.faults);
+            return Err(Failed);
+        }
+        match self.link.take() {
+            Some(link) => Ok(link.begun()),
+            None => {
+                self.faults = raised(self.faults);
+                Err(Failed)
+            }
+        }
+    }
+}

@@ -1,0 +1,96 @@
+//! A link in memory.
+
+ghost use Rattle.std.specs.Prelude.{◌≡◌, [], true, false, Some, None, is_none, IfOk, OnOk, OnErr};
+ghost use Rattle.am_base.specs.Outside.{HasCause};
+ghost use Rattle.am_base.specs.Memory.{halves_of, after_halves, begun_link};
+
+use crate::calls::raised;
+use crate::link::Link;
+use crate::mem_sink::MemSink;
+use crate::mem_source::MemSource;
+use crate::source::Failed;
+use std::marker::Model;
+use std::snapshot::Snapshot;
+
+/// A source and a sink in memory, handed out once, or never. It tells its bytes.
+#[derive(Drop)]
+pub struct MemLink {
+    halves: Option<(MemSource, MemSink)>,
+    source: Snapshot<MemSource>,
+    fails: bool,
+    faults: u64,
+}
+
+impl Model for MemLink {
+    ghost use Rattle.std.specs.Prelude.{◌≡◌};
+    ghost use Rattle.std.specs.Option.{ForSome};
+    ghost use Rattle.am_base.specs.Memory.{LinkState};
+
+    ghost Value = { LinkState };
+
+    ghost view = { λ l. record { halves = l.halves; begins = l.source.value.left; fails = l.fails; faults = l.faults } };
+
+    ghost invariant = { λ l. ForSome l.halves (λ h. h.0.left ≡ l.source.value.left) };
+}
+
+impl MemLink {
+    /// Hands out this source and this sink once, and not where `fail` holds. The sink is emptied
+    /// then, and the counts of faults of both begin. It takes no memory.
+    pub fn new(source: MemSource, sink: MemSink, fail: bool) -> MemLink
+        ensures { result ≡ record { halves = Some (source, sink); begins = source.left; fails = fail; faults = 0 } }
+    {
+        MemLink {
+            source: Snapshot::of(&source),
+            halves: Some((source, sink)),
+            fails: fail,
+            faults: 0,
+        }
+    }
+
+    /// The link as it is handed out: its count of faults begins.
+    pub(crate) fn begun(self) -> MemLink
+        ensures { result ≡ begun_link self }
+    {
+        let mut link = self;
+        link.faults = 0;
+        link
+    }
+}
+
+impl Link for MemLink {
+    type R = MemSource;
+
+    type W = MemSink;
+
+    ghost begins = { λ l. Some l.begins };
+
+    ghost is_halved = { λ l. is_none l.halves };
+
+    ghost faults = { λ l. l.faults };
+
+    fn halves(&mut self) -> Result<(MemSource, MemSink), Failed>
+        ensures source { IfOk result (λ h. Some h.0.left ≡ Some self.old.begins) }
+        ensures sink { IfOk result (λ h. h.1.held ≡ []) }
+        ensures fresh { IfOk result (λ h. (h.0.calls.faults ≡ 0) × (h.1.calls.faults ≡ 0)) }
+        ensures begins { Some self.new.begins ≡ Some self.old.begins }
+        ensures once { OnOk result ((is_none self.old.halves ≡ false) × (is_none self.new.halves ≡ true)) }
+        ensures err { OnErr result (is_none self.new.halves ≡ is_none self.old.halves) }
+        ensures cause { HasCause self.old.faults self.new.faults result }
+        // What is handed out, and which calls fail.
+        ensures gives { IfOk result (λ h. halves_of self.old ≡ Some h) }
+        ensures fails { OnErr result (halves_of self.old ≡ None) }
+        ensures state { self.new ≡ after_halves self.old (halves_of self.old) }
+    {
+        if self.fails {
+            self.faults = raised(self.faults);
+            return Err(Failed);
+        }
+        match self.halves.take() {
+            Some((source, sink)) => Ok((source.begun(), sink.begun())),
+            None => {
+                self.faults = raised(self.faults);
+                Err(Failed)
+            }
+        }
+    }
+}

@@ -1,0 +1,58 @@
+//! A source that never fails.
+
+ghost use Rattle.std.specs.Prelude.{◌≡◌, ◌<◌, ◌≤◌, ◌++◌, [], Some, length, take, drop, IfOk, OnErr, IsOk};
+ghost use Rattle.am_base.specs.Outside.{then_told, HasCause};
+ghost use Rattle.am_base.specs.Memory.{read_count, after_read};
+
+use crate::mem_source::MemSource;
+use crate::source::{Failed, Source};
+use std::marker::Model;
+
+/// A source in memory of which no call fails. Its count of faults is 0 for good.
+#[derive(Drop)]
+pub struct NeverFails {
+    source: MemSource,
+}
+
+impl Model for NeverFails {
+    ghost use Rattle.std.specs.Prelude.{◌≡◌, []};
+    ghost use Rattle.am_base.specs.Memory.{SourceState};
+
+    ghost Value = { SourceState };
+
+    ghost view = { λ s. s.source };
+
+    ghost invariant = { λ s. s.source.calls.fail_at ≡ [] };
+}
+
+impl NeverFails {
+    /// Gives what a source gives none of whose calls is to fail.
+    pub fn new(source: MemSource) -> NeverFails
+        requires { source.calls.fail_at ≡ [] }
+        ensures { result ≡ source }
+    {
+        NeverFails { source }
+    }
+}
+
+impl Source for NeverFails {
+    ghost left = { λ s. Some s.left };
+
+    ghost faults = { λ _. 0 };
+
+    fn read(&mut self, buf: &mut [u8]) -> Result<usize, Failed>
+        requires { 0 < length buf.old }
+        ensures within { IfOk result (λ n. n ≤ length buf.old) }
+        ensures moved { IfOk result (λ n. Some self.old.left ≡ then_told (take n buf.new) (Some self.new.left)) }
+        ensures end { IfOk result (λ n. n ≡ 0 → self.new.left ≡ []) }
+        ensures err { OnErr result (Some self.new.left ≡ Some self.old.left) }
+        ensures cause { HasCause 0 0 result }
+        // How many bytes are read. It never fails.
+        ensures ok { IsOk result }
+        ensures count { IfOk result (λ n. read_count self.old (length buf.old) ≡ Some n) }
+        ensures state { self.new ≡ after_read self.old (read_count self.old (length buf.old)) }
+        ensures rest { IfOk result (λ n. buf.new ≡ take n self.old.left ++ drop n buf.old) }
+    {
+        self.source.read(buf)
+    }
+}

@@ -1,0 +1,5 @@
+pub mod Joined
+pub mod Hex
+pub mod HexLaws
+pub mod FieldWords
+pub mod LineLaws

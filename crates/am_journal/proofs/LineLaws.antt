@@ -1,0 +1,182 @@
+-- Reading a line and spelling an event undo each other.
+use Rattle.std.proofs.Common.{◌≡◌, ℕ, ◌<◌, ◌≤◌, true, false, cond, ltb, List, [], ◌∷◌, ◌++◌, length, Option, Some, None, Result, Ok, Err, refl, ap, sym, subst, ◌∙◌, append_assoc, arith}
+use Rattle.std.specs.Prelude.{codes, IfOk, IfSome}
+use Rattle.std.specs.Fmt.{decimal}
+use Rattle.std.proofs.lemmas.Bool.{le-ltb, ltb-false}
+use Rattle.ninep_wire.specs.declared.fault.WireFault.{WireFault}
+use Rattle.ninep_wire.specs.declared.message.TMsg.{TMsg}
+use Rattle.ninep_wire.specs.Reading.{t_of}
+use Rattle.ninep_wire.specs.Spelling.{spelling_t}
+use Rattle.ninep_wire.proofs.TLaws.{Spells, t_takes, t_again}
+use Rattle.am_journal.specs.declared.event.Event.{Event}
+use Rattle.am_journal.specs.declared.event.Event.TheVariants as event
+use Rattle.am_journal.specs.Hexadecimal.{hex_of, bytes_of_hex}
+use Rattle.am_journal.specs.Lawful.{IsLawful, IsInRange, AreBytes}
+use Rattle.am_journal.specs.Line.{dial_line, msg_line, line_text, first_field, after_field, conn_at, dial_from, dial_at, msg_read, msg_from, msg_at, after_front, with_front, event_of}
+use Rattle.am_journal.specs.Parts.{around}
+use Rattle.am_journal.proofs.HexLaws.{hex-again, hex-is}
+use Rattle.am_journal.proofs.FieldWords.{decimal-visible, first-is, after-is, field-split, conn-again, conn-is, front-is}
+
+-- ---- what is spelled is read
+
+msg_from-again : (c : ℕ) (m : TMsg) → IsLawful (event.Msg c m) → IsInRange (event.Msg c m) → msg_from (Some c) (Some (spelling_t m)) ≡ Some (event.Msg c m)
+msg_from-again c m h k = rw (le-ltb 65560 (length (spelling_t m)) h.2) (ap (msg_read c) (t_again m h.1 k.1))
+
+msg-again : (c : ℕ) (m : TMsg) → IsLawful (event.Msg c m) → IsInRange (event.Msg c m) → msg_at (decimal c ++ 32 ∷ hex_of (spelling_t m)) ≡ Some (event.Msg c m)
+msg-again c m h k =
+    let seen = decimal-visible c (omega (arith, h.0)) in
+    let hex = hex_of (spelling_t m) in
+    ap (λ (l : List ℕ). msg_from (conn_at l) (bytes_of_hex (after_field (decimal c ++ 32 ∷ hex)))) (first-is (decimal c) hex seen)
+    ∙ ap (λ (l : List ℕ). msg_from (conn_at (decimal c)) (bytes_of_hex l)) (after-is (decimal c) hex seen)
+    ∙ ap (λ (o : Option ℕ). msg_from o (bytes_of_hex hex)) (conn-again c h.0)
+    ∙ ap (msg_from (Some c)) (hex-again (spelling_t m) k.2)
+    ∙ msg_from-again c m h k
+
+pub line-again : (e : Event) → IsLawful e → IsInRange e → event_of (line_text e) ≡ Some e
+unfolding event_of dial_line msg_line around
+line-again (event.Dial c) h k = ap dial_from (conn-again c h)
+line-again (event.Msg c m) h k = ap msg_at (append_assoc (decimal c) (32 ∷ []) (hex_of (spelling_t m))) ∙ msg-again c m h k
+
+-- ---- what is read is spelled so
+
+pub record Found (bs : List ℕ) (e : Event) : Type 0 where
+  pub lawful : IsLawful e
+  pub in_range : IsInRange e
+  pub spelled : bs ≡ line_text e
+
+event_is : (a b : Event) → Some a ≡ Some b → a ≡ b
+event_is a b e = cc
+
+-- ---- messages
+
+record Read (c : ℕ) (bytes : List ℕ) (e : Event) : Type 0 where
+  msg : TMsg
+  spells : Spells bytes msg
+  is : event.Msg c msg ≡ e
+
+read_some : (c : ℕ) (bytes : List ℕ) (e : Event) (r : Result TMsg WireFault) → AreBytes bytes → t_of bytes ≡ r → msg_read c r ≡ Some e → Read c bytes e
+read_some c bytes e (Ok m) fits given h = record { msg = m; spells = t_takes bytes m fits given; is = event_is (event.Msg c m) e h }
+read_some c bytes e (Err f) fits given h = absurd cc
+
+record Parts (o : Option ℕ) (b : Option (List ℕ)) (e : Event) : Type 0 where
+  conn : ℕ
+  bytes : List ℕ
+  conn-is : o ≡ Some conn
+  bytes-is : b ≡ Some bytes
+  short : length bytes ≤ 65560
+  read : msg_read conn (t_of bytes) ≡ Some e
+
+parts_some : (o : Option ℕ) (b : Option (List ℕ)) (e : Event) → msg_from o b ≡ Some e → Parts o b e
+parts_some None b e = λ h. absurd cc
+parts_some (Some c) None e = λ h. absurd cc
+parts_some (Some c) (Some bytes) e =
+    elim (ltb 65560 (length bytes)) as (λ t. ltb 65560 (length bytes) ≡ t → cond t None (msg_read c (t_of bytes)) ≡ Some e → Parts (Some c) (Some bytes) e) [
+      | true ↦ λ t h. absurd cc
+      | false ↦ λ t h. record { conn = c; bytes = bytes; conn-is = refl; bytes-is = refl; short = ltb-false 65560 (length bytes) t; read = h }
+    ] refl
+
+hex_some : (bs : List ℕ) → 0 < length bs → 0 < length (hex_of bs)
+unfolding hex_of
+hex_some [] h = absurd (omega arith)
+hex_some (b ∷ bs) h = omega arith
+
+spelling_some : (m : TMsg) → 0 < length (spelling_t m)
+spelling_some m = omega arith
+
+msg_text-is : (bs hex : List ℕ) (c : ℕ) → first_field bs ≡ decimal c → after_field bs ≡ hex → 0 < length hex → bs ≡ decimal c ++ 32 ∷ hex
+msg_text-is bs hex c f a h =
+    field-split bs (subst (λ (l : List ℕ). 0 < length l) (sym a) h) ∙ ap (λ (l : List ℕ). l ++ 32 ∷ after_field bs) f ∙ ap (λ (l : List ℕ). decimal c ++ 32 ∷ l) a
+
+msg_line-is : (c : ℕ) (message : List ℕ) → codes "msg " ++ (decimal c ++ 32 ∷ hex_of message) ≡ msg_line c message
+unfolding msg_line around
+msg_line-is c message = ap (λ (l : List ℕ). codes "msg " ++ l) (sym (append_assoc (decimal c) (32 ∷ []) (hex_of message)))
+
+msg-is : (bs rest : List ℕ) (e : Event) → bs ≡ codes "msg " ++ rest → msg_at rest ≡ Some e → Found bs e
+msg-is bs rest e front h =
+    let p = parts_some (conn_at (first_field rest)) (bytes_of_hex (after_field rest)) e h in
+    let conn = conn-is (first_field rest) p.conn p.conn-is in
+    let hex = hex-is (after_field rest) p.bytes p.bytes-is in
+    let read = read_some p.conn p.bytes e (t_of p.bytes) hex.1 refl p.read in
+    let m = read.msg in
+    let spelled = read.spells.2 in
+    let hex-is-it : after_field rest ≡ hex_of (spelling_t m) = hex.0 ∙ ap hex_of spelled in
+    let text = msg_text-is rest (hex_of (spelling_t m)) p.conn conn.1 hex-is-it (hex_some (spelling_t m) (spelling_some m)) in
+    let short : length (spelling_t m) ≤ 65560 = subst (λ (l : List ℕ). length l ≤ 65560) spelled p.short in
+    let bytes : AreBytes (spelling_t m) = subst AreBytes spelled hex.1 in
+    subst (Found bs) read.is
+    (record {
+      lawful = (conn.0, read.spells.0, short);
+      in_range = (omega (arith, conn.0), read.spells.1, bytes);
+      spelled = front ∙ ap (λ (l : List ℕ). codes "msg " ++ l) text ∙ msg_line-is p.conn (spelling_t m);
+    })
+
+-- ---- connections
+
+record Dials (o : Option ℕ) (e : Event) : Type 0 where
+  conn : ℕ
+  conn-is : o ≡ Some conn
+  is : event.Dial conn ≡ e
+
+dials_some : (o : Option ℕ) (e : Event) → dial_from o ≡ Some e → Dials o e
+dials_some None e h = absurd cc
+dials_some (Some c) e h = record { conn = c; conn-is = refl; is = event_is (event.Dial c) e h }
+
+dial_line-is : (c : ℕ) → codes "dial " ++ decimal c ≡ dial_line c
+unfolding dial_line
+dial_line-is c = refl
+
+dial-is : (bs rest : List ℕ) (e : Event) → bs ≡ codes "dial " ++ rest → dial_at rest ≡ Some e → Found bs e
+dial-is bs rest e front h =
+    let d = dials_some (conn_at rest) e h in
+    let conn = conn-is rest d.conn d.conn-is in
+    subst (Found bs) d.is
+    (record { lawful = conn.0; in_range = omega (arith, conn.0); spelled = front ∙ ap (λ (l : List ℕ). codes "dial " ++ l) conn.1 ∙ dial_line-is d.conn })
+
+-- ---- lines
+
+no_event : (e : Event) → None ≡ Some e → ⊥
+no_event e h = cc
+
+msg_case : (bs : List ℕ) (e : Event) (o : Option (List ℕ)) → after_front (codes "msg ") bs ≡ o → with_front o msg_at None ≡ Some e → Found bs e
+msg_case bs e None given h = absurd (no_event e h)
+msg_case bs e (Some rest) given h = msg-is bs rest e (front-is (codes "msg ") bs rest given) h
+
+dial_case : (bs : List ℕ) (e : Event) (o : Option (List ℕ)) → after_front (codes "dial ") bs ≡ o
+    → with_front o dial_at (with_front (after_front (codes "msg ") bs) msg_at None) ≡ Some e → Found bs e
+dial_case bs e None given h = msg_case bs e (after_front (codes "msg ") bs) refl h
+dial_case bs e (Some rest) given h = dial-is bs rest e (front-is (codes "dial ") bs rest given) h
+
+pub line-is : (bs : List ℕ) (e : Event) → event_of bs ≡ Some e → Found bs e
+unfolding event_of
+line-is bs e h = dial_case bs e (after_front (codes "dial ") bs) refl h
+
+-- ---- as the clauses have it
+
+module _ {E : Type 0} where
+  pub all_found : (bs : List ℕ) (r : Result (Option Event) E) → IfOk r (λ found. found ≡ event_of bs) → IfOk r (λ found. IfSome found (Found bs))
+  all_found bs (Ok None) h = tt
+  all_found bs (Ok (Some e)) h = line-is bs e (sym h)
+  all_found bs (Err e) h = tt
+
+  pub all_lawful : (bs : List ℕ) (r : Result (Option Event) E) → IfOk r (λ found. IfSome found (Found bs)) → IfOk r (λ found. IfSome found IsLawful)
+  all_lawful bs (Ok None) h = tt
+  all_lawful bs (Ok (Some e)) h = h.lawful
+  all_lawful bs (Err e) h = tt
+
+  pub all_in_range : (bs : List ℕ) (r : Result (Option Event) E) → IfOk r (λ found. IfSome found (Found bs)) → IfOk r (λ found. IfSome found IsInRange)
+  all_in_range bs (Ok None) h = tt
+  all_in_range bs (Ok (Some e)) h = h.in_range
+  all_in_range bs (Err e) h = tt
+
+  pub all_spelled : (bs : List ℕ) (r : Result (Option Event) E) → IfOk r (λ found. IfSome found (Found bs)) → IfOk r (λ found. IfSome found (λ e. bs ≡ line_text e))
+  all_spelled bs (Ok None) h = tt
+  all_spelled bs (Ok (Some e)) h = h.spelled
+  all_spelled bs (Err e) h = tt
+
+  pub all_read : (bs : List ℕ) (r : Result (Option Event) E) → IfOk r (λ found. found ≡ event_of bs) → (e : Event) → IsLawful e → IsInRange e → bs ≡ line_text e → IfOk r (λ found. found ≡ Some e)
+  all_read bs (Ok o) h e lawful in_range text = h ∙ ap event_of text ∙ line-again e lawful in_range
+  all_read bs (Err x) h e lawful in_range text = tt
+
+  pub all_again : (e : Event) (r : Result (List ℕ) E) → IfOk r (λ line. line ≡ line_text e) → IsLawful e → IsInRange e → IfOk r (λ line. event_of line ≡ Some e)
+  all_again e (Ok line) h lawful in_range = ap event_of h ∙ line-again e lawful in_range
+  all_again e (Err x) h lawful in_range = tt

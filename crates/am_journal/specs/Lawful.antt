@@ -1,0 +1,19 @@
+-- Events that a line of a transcript spells.
+use Rattle.std.specs.Prelude.{ℕ, ◌<◌, ◌≤◌, ◌^◌, List, length, slice_index}
+use Rattle.ninep_wire.specs.Spelling.{spelling_t, Fits_t, InRange_t}
+use Rattle.am_journal.specs.declared.event.Event.{Event}
+use Rattle.am_journal.specs.declared.event.Event.TheVariants as event
+
+-- A connection is one of 64, and a message has a spelling of at most 65,560 bytes.
+abbrev pub IsLawful : Event → Type 0
+IsLawful (event.Dial c) = c < 64
+IsLawful (event.Msg c m) = (c < 64) × Fits_t m × (length (spelling_t m) ≤ 65560)
+
+-- each is below 256; past the end stands 0
+abbrev pub AreBytes : List ℕ → Type 0
+AreBytes bytes = (i : ℕ) → slice_index bytes i < 256
+
+-- each number fits its field, as each of an event of the program does
+abbrev pub IsInRange : Event → Type 0
+IsInRange (event.Dial c) = c < 2 ^ 32
+IsInRange (event.Msg c m) = (c < 2 ^ 32) × InRange_t m × AreBytes (spelling_t m)

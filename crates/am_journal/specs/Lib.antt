@@ -1,0 +1,6 @@
+pub mod Lawful
+pub mod Hexadecimal
+pub mod Parts
+pub mod Line
+pub mod Texts
+pub mod Report

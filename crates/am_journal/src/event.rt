@@ -1,0 +1,62 @@
+//! Events, and why one is refused.
+
+ghost use Rattle.std.specs.Prelude.{◌≡◌};
+ghost use Rattle.am_journal.specs.declared.event.Refused.TheVariants.{NoMemory};
+
+use am_text::Items;
+use ninep_wire::TMsg;
+use std::alloc::{AllocError, AllocFailed};
+
+/// What the editor takes one at a time. A transcript has a line for each.
+#[derive(Drop)]
+pub enum Event {
+    /// A connection is made. There are 64 of them, numbered from 0.
+    Dial { conn: u32 },
+    /// A message comes on a connection.
+    Msg { conn: u32, msg: TMsg },
+}
+
+/// All events that were done, in their order. Entries are numbered from 1.
+pub type Journal = Items<Event>;
+
+/// Why an event isn't enabled.
+#[derive(Clone, Copy, Debug, PartialEq, Eq)]
+pub enum Why {
+    /// The connection isn't dialled.
+    Conn,
+    /// The connection was dialled before.
+    Dialed,
+}
+
+/// Why an event isn't done.
+#[derive(Clone, Copy, Debug, PartialEq, Eq)]
+pub enum Refused {
+    /// The state doesn't allow it.
+    NotEnabled(Why),
+    /// There is no memory for it.
+    NoMemory,
+}
+
+impl From<am_text::NoMemory> for Refused {
+    ghost from_gives = { λ _ e. e ≡ NoMemory };
+
+    fn from(_e: am_text::NoMemory) -> Refused {
+        Refused::NoMemory
+    }
+}
+
+impl From<AllocError> for Refused {
+    ghost from_gives = { λ _ e. e ≡ NoMemory };
+
+    fn from(_e: AllocError) -> Refused {
+        Refused::NoMemory
+    }
+}
+
+impl<T: Drop> From<AllocFailed<T>> for Refused {
+    ghost from_gives = { λ _ e. e ≡ NoMemory };
+
+    fn from(_e: AllocFailed<T>) -> Refused {
+        Refused::NoMemory
+    }
+}

@@ -1,0 +1,22 @@
+//! The events of the editor, the lines of a transcript, and the report.
+#![tactic(auto)]
+
+mod ending;
+mod event;
+mod fields;
+mod hexadecimal;
+mod lines;
+mod replies;
+mod reporting;
+#[cfg(test)]
+mod tests;
+mod view;
+
+pub use am_text::{Bytes, Items, NoMemory, Range, Runes};
+pub use ending::{Bad, Ending};
+pub use event::{Event, Journal, Refused, Why};
+pub use lines::{line_law, read_line, write_line};
+pub use ninep_wire::{TBody, TMsg, WireError, WireFault};
+pub use replies::{refused_line, reply_line, word};
+pub use reporting::report;
+pub use view::{ConnView, ConnViews, View, WindowView, WindowViews};

@@ -1,0 +1,117 @@
+//! Lines of a transcript.
+
+ghost use Rattle.std.specs.Prelude.{◌≡◌, ◌<◌, ◌≤◌, ◌++◌, length, IfOk, IfSome, Some};
+ghost use Rattle.ninep_wire.specs.Spelling.{spelling_t, Fits_t};
+ghost use Rattle.am_journal.specs.declared.event.Event.{Event};
+ghost use Rattle.am_journal.specs.Lawful.{IsLawful, IsInRange};
+ghost use Rattle.am_journal.specs.Line.{dial_at, dial_line, msg_at, msg_line, line_text, event_of};
+
+use crate::event::Event;
+use crate::fields::{after_front, conn_of, cut_field, put_around};
+use crate::hexadecimal::{bytes_of_hex, hex_text};
+use am_text::{Bytes, Items, NoMemory, decimal};
+use ninep_wire::{TMsg, WireError, read_t, write_t};
+use std::alloc::Global;
+
+/// The most bytes that a message of a line has.
+const MAX_MESSAGE: usize = 65560;
+
+fn dial_of(rest: &[u8]) -> Option<Event>
+    ensures { result ≡ dial_at rest.now }
+{
+    match conn_of(rest) {
+        Some(conn) => Some(Event::Dial { conn }),
+        None => None,
+    }
+}
+
+fn msg_of(alloc: Global, rest: &[u8]) -> Result<Option<Event>, NoMemory>
+    ensures { IfOk result (λ e. e ≡ msg_at rest.now) }
+{
+    let (field, hex) = cut_field(rest);
+    let Some(conn) = conn_of(field) else {
+        return Ok(None);
+    };
+    let Some(bytes) = bytes_of_hex(alloc, hex)? else {
+        return Ok(None);
+    };
+    if bytes.len() > MAX_MESSAGE {
+        return Ok(None);
+    }
+    match read_t(alloc, bytes.as_slice()) {
+        Ok(msg) => Ok(Some(Event::Msg { conn, msg })),
+        Err(WireError::NoMemory) => Err(NoMemory),
+        Err(WireError::Fault(_)) => Ok(None),
+    }
+}
+
+#[tactic(auto, unfolding(crate::specs::Line::event_of))]
+fn event_in(alloc: Global, line: &[u8]) -> Result<Option<Event>, NoMemory>
+    ensures { IfOk result (λ e. e ≡ event_of line.now) }
+{
+    if let Some(rest) = after_front(b"dial ", line) {
+        return Ok(dial_of(rest));
+    }
+    if let Some(rest) = after_front(b"msg ", line) {
+        return msg_of(alloc, rest);
+    }
+    Ok(None)
+}
+
+/// The event that a line without its newline spells. There is none where no lawful event is spelled so.
+pub fn read_line(alloc: Global, line: &[u8]) -> Result<Option<Event>, NoMemory>
+    ensures exact { IfOk result (λ found. found ≡ event_of line.now) }
+    ensures lawful { IfOk result (λ found. IfSome found IsLawful) }
+    ensures in_range { IfOk result (λ found. IfSome found IsInRange) }
+    // What is read is spelled so.
+    ensures found { IfOk result (λ found. IfSome found (λ e. line.now ≡ line_text e)) }
+    // What is spelled so is read.
+    ensures only { (e : Event) → IsLawful e → IsInRange e → line.now ≡ line_text e → IfOk result (λ found. found ≡ Some e) }
+{
+    event_in(alloc, line)
+}
+
+#[tactic(auto, unfolding(crate::specs::Line::dial_line))]
+fn dial_text(alloc: Global, conn: u32) -> Result<Bytes, NoMemory>
+    ensures { IfOk result (λ line. line ≡ dial_line conn) }
+{
+    let mut line = Items::new(alloc);
+    line.append(b"dial ")?;
+    line.append(decimal(alloc, u64::from(conn))?.as_slice())?;
+    Ok(line)
+}
+
+#[tactic(auto, unfolding(crate::specs::Line::msg_line))]
+fn msg_text(alloc: Global, conn: u32, message: &[u8]) -> Result<Bytes, NoMemory>
+    ensures { IfOk result (λ line. line ≡ msg_line conn message.now) }
+{
+    let mut line = Items::new(alloc);
+    put_around(alloc, &mut line, b"msg ", u64::from(conn), b" ")?;
+    line.append(hex_text(alloc, message)?.as_slice())?;
+    Ok(line)
+}
+
+fn line_of(alloc: Global, event: &Event) -> Result<Bytes, NoMemory>
+    requires { IsLawful event.now }
+    ensures { IfOk result (λ line. line ≡ line_text event.now) }
+{
+    match event {
+        Event::Dial { conn } => dial_text(alloc, *conn),
+        Event::Msg { conn, msg } => msg_text(alloc, *conn, write_t(alloc, msg)?.as_slice()),
+    }
+}
+
+/// The one line of an event, without its newline.
+pub fn write_line(alloc: Global, event: &Event) -> Result<Bytes, NoMemory>
+    requires { IsLawful event.now }
+    ensures exact { IfOk result (λ line. line ≡ line_text event.now) }
+    // Reading gives the event again.
+    ensures again { IsInRange event.now → IfOk result (λ line. event_of line ≡ Some event.now) }
+{
+    line_of(alloc, event)
+}
+
+/// The round trip of the transcript: the line of a lawful event is read as that event.
+pub fn line_law()
+    ensures { (e : Event) → IsLawful e → IsInRange e → event_of (line_text e) ≡ Some e }
+{}

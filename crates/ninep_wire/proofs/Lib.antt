@@ -1,0 +1,9 @@
+pub mod FieldLaws
+pub mod Heads
+pub mod Joins
+pub mod Lists
+pub mod Loops
+pub mod Prefixes
+pub mod RLaws
+pub mod Sizes
+pub mod TLaws

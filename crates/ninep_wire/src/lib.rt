@@ -1,0 +1,26 @@
+//! The messages of 9P2000 as bytes, after section 5 of the Plan 9 manual.
+//!
+//! A message is size[4] type[1] tag[2] and its fields. Numbers are little-endian, and the size counts
+//! its own four bytes. `docs/formats/messages.md` has the table of messages.
+#![tactic(auto)]
+
+mod fault;
+mod fields;
+mod laws;
+mod message;
+mod puts;
+mod r_reading;
+mod r_writing;
+mod t_reading;
+mod t_writing;
+#[cfg(test)]
+mod tests;
+
+pub use am_text::{Bytes, Items, Names, NoMemory};
+pub use fault::{WireError, WireFault};
+pub use laws::{spellings_are_prefix_free, spellings_are_read_again, spellings_have_their_size};
+pub use message::{Qid, Qids, RBody, RMsg, TBody, TMsg};
+pub use r_reading::read_r;
+pub use r_writing::write_r;
+pub use t_reading::read_t;
+pub use t_writing::write_t;

@@ -1,0 +1,132 @@
+//! Messages from the server, to their bytes.
+
+ghost use Rattle.std.specs.Prelude.{◌≡◌, ◌<◌, ◌≤◌, ◌^◌, ◌++◌, ◌+◌, length, OnOk, IfOk};
+ghost use Rattle.ninep_wire.specs.Spelling.{kind_r, fields_r, size_r, spelling_r, Fits_r, BodyFits_r, IsString};
+
+use crate::message::{Qid, RBody, RMsg};
+use crate::puts::{begun, put_data, put_qid, put_qids, put_string, put_u32};
+use am_text::{Bytes, NoMemory};
+use std::alloc::Global;
+
+#[tactic(auto, using(crate::proofs::Joins::joins))]
+fn put_r_version(out: &mut Bytes, msize: u32, version: &[u8]) -> Result<(), NoMemory>
+    requires { IsString version.now }
+    ensures { OnOk result (out.new ≡ out.old ++ fields_r (RBody.Version msize version.now)) }
+{
+    put_u32(out, msize)?;
+    put_string(out, version)?;
+    Ok(())
+}
+
+#[tactic(auto, using(crate::proofs::Joins::joins))]
+fn put_r_error(out: &mut Bytes, ename: &[u8]) -> Result<(), NoMemory>
+    requires { IsString ename.now }
+    ensures { OnOk result (out.new ≡ out.old ++ fields_r (RBody.Error ename.now)) }
+{
+    put_string(out, ename)?;
+    Ok(())
+}
+
+#[tactic(auto, using(crate::proofs::Joins::joins))]
+fn put_r_attach(out: &mut Bytes, qid: Qid) -> Result<(), NoMemory>
+    ensures { OnOk result (out.new ≡ out.old ++ fields_r (RBody.Attach qid)) }
+{
+    put_qid(out, qid)?;
+    Ok(())
+}
+
+#[tactic(auto, using(crate::proofs::Joins::joins))]
+fn put_r_walk(out: &mut Bytes, qids: &[Qid]) -> Result<(), NoMemory>
+    requires { length qids.now ≤ 16 }
+    ensures { OnOk result (out.new ≡ out.old ++ fields_r (RBody.Walk qids.now)) }
+{
+    put_qids(out, qids)?;
+    Ok(())
+}
+
+#[tactic(auto, using(crate::proofs::Joins::joins))]
+fn put_r_open(out: &mut Bytes, qid: Qid, iounit: u32) -> Result<(), NoMemory>
+    ensures { OnOk result (out.new ≡ out.old ++ fields_r (RBody.Open qid iounit)) }
+{
+    put_qid(out, qid)?;
+    put_u32(out, iounit)?;
+    Ok(())
+}
+
+#[tactic(auto, using(crate::proofs::Joins::joins))]
+fn put_r_read(out: &mut Bytes, bytes: &[u8]) -> Result<(), NoMemory>
+    requires { length bytes.now < 2 ^ 32 }
+    ensures { OnOk result (out.new ≡ out.old ++ fields_r (RBody.Read bytes.now)) }
+{
+    put_data(out, bytes)?;
+    Ok(())
+}
+
+#[tactic(auto, using(crate::proofs::Joins::joins))]
+fn put_r_write(out: &mut Bytes, count: u32) -> Result<(), NoMemory>
+    ensures { OnOk result (out.new ≡ out.old ++ fields_r (RBody.Write count)) }
+{
+    put_u32(out, count)?;
+    Ok(())
+}
+
+fn put_r_body(out: &mut Bytes, body: &RBody) -> Result<(), NoMemory>
+    requires { BodyFits_r body.now }
+    ensures { OnOk result (out.new ≡ out.old ++ fields_r body.now) }
+{
+    match body {
+        RBody::Version { msize, version } => put_r_version(out, *msize, version.as_slice()),
+        RBody::Error { ename } => put_r_error(out, ename.as_slice()),
+        RBody::Attach { qid } => put_r_attach(out, *qid),
+        RBody::Walk { qids } => put_r_walk(out, qids.as_slice()),
+        RBody::Open { qid, iounit } => put_r_open(out, *qid, *iounit),
+        RBody::Read { bytes } => put_r_read(out, bytes.as_slice()),
+        RBody::Write { count } => put_r_write(out, *count),
+        RBody::Clunk => Ok(()),
+    }
+}
+
+/// The type byte.
+fn r_kind(body: &RBody) -> u8
+    ensures { result ≡ kind_r body.now }
+{
+    match body {
+        RBody::Version { .. } => 101,
+        RBody::Error { .. } => 107,
+        RBody::Attach { .. } => 105,
+        RBody::Walk { .. } => 111,
+        RBody::Open { .. } => 113,
+        RBody::Read { .. } => 117,
+        RBody::Write { .. } => 119,
+        RBody::Clunk => 121,
+    }
+}
+
+/// The number of bytes of a message.
+fn r_size(body: &RBody) -> usize
+    requires { size_r body.now < 2 ^ 32 }
+    ensures { result ≡ size_r body.now }
+{
+    match body {
+        RBody::Version { version, .. } => 13 + version.len(),
+        RBody::Error { ename } => 9 + ename.len(),
+        RBody::Attach { .. } => 20,
+        RBody::Walk { qids } => 9 + 13 * qids.len(),
+        RBody::Open { .. } => 24,
+        RBody::Read { bytes } => 11 + bytes.len(),
+        RBody::Write { .. } => 11,
+        RBody::Clunk => 7,
+    }
+}
+
+/// The one spelling of a message from the server. It takes memory once, for all of its bytes.
+#[tactic(auto, using(crate::proofs::Sizes::r_sizes))]
+pub fn write_r(alloc: Global, msg: &RMsg) -> Result<Bytes, NoMemory>
+    requires { Fits_r msg.now }
+    ensures spelled { IfOk result (λ bytes. bytes ≡ spelling_r msg.now) }
+    ensures size { IfOk result (λ bytes. length bytes ≡ size_r msg.now.body) }
+{
+    let mut out = begun(alloc, r_size(&msg.body), r_kind(&msg.body), msg.tag)?;
+    put_r_body(&mut out, &msg.body)?;
+    Ok(out)
+}

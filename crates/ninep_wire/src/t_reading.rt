@@ -1,0 +1,136 @@
+//! Messages to the server, from their bytes.
+
+ghost use Rattle.std.specs.Prelude.{◌≡◌, IfOk, Ok};
+ghost use Rattle.ninep_wire.specs.declared.message.TMsg.{TMsg};
+ghost use Rattle.ninep_wire.specs.Fields.{Gives};
+ghost use Rattle.ninep_wire.specs.Reading.{t_version_at, t_attach_at, t_walk_at, t_open_at, t_read_at, t_write_at, t_clunk_at, t_body_at, t_of};
+ghost use Rattle.ninep_wire.specs.Spelling.{spelling_t, Fits_t, InRange_t};
+
+use crate::fault::{WireError, WireFault};
+use crate::fields::{take_data, take_head, take_names, take_string, take_u8, take_u32, take_u64};
+use crate::message::{TBody, TMsg};
+use std::alloc::Global;
+
+#[tactic(auto, unfolding(crate::specs::Reading::t_version_at))]
+fn take_t_version(alloc: Global, rest: &[u8]) -> Result<(TBody, &[u8]), WireError>
+    ensures { Gives (λ x. (x.0, x.1.now)) result (t_version_at rest.now) }
+{
+    let (msize, rest) = take_u32(rest)?;
+    let (version, rest) = take_string(alloc, rest)?;
+    Ok((TBody::Version { msize, version }, rest))
+}
+
+#[tactic(auto, unfolding(crate::specs::Reading::t_attach_at))]
+fn take_t_attach(alloc: Global, rest: &[u8]) -> Result<(TBody, &[u8]), WireError>
+    ensures { Gives (λ x. (x.0, x.1.now)) result (t_attach_at rest.now) }
+{
+    let (fid, rest) = take_u32(rest)?;
+    let (afid, rest) = take_u32(rest)?;
+    let (uname, rest) = take_string(alloc, rest)?;
+    let (aname, rest) = take_string(alloc, rest)?;
+    Ok((
+        TBody::Attach {
+            fid,
+            afid,
+            uname,
+            aname,
+        },
+        rest,
+    ))
+}
+
+#[tactic(auto, unfolding(crate::specs::Reading::t_walk_at))]
+fn take_t_walk(alloc: Global, rest: &[u8]) -> Result<(TBody, &[u8]), WireError>
+    ensures { Gives (λ x. (x.0, x.1.now)) result (t_walk_at rest.now) }
+{
+    let (fid, rest) = take_u32(rest)?;
+    let (newfid, rest) = take_u32(rest)?;
+    let (names, rest) = take_names(alloc, rest)?;
+    Ok((TBody::Walk { fid, newfid, names }, rest))
+}
+
+#[tactic(auto, unfolding(crate::specs::Reading::t_open_at))]
+fn take_t_open(rest: &[u8]) -> Result<(TBody, &[u8]), WireError>
+    ensures { Gives (λ x. (x.0, x.1.now)) result (t_open_at rest.now) }
+{
+    let (fid, rest) = take_u32(rest)?;
+    let (mode, rest) = take_u8(rest)?;
+    Ok((TBody::Open { fid, mode }, rest))
+}
+
+#[tactic(auto, unfolding(crate::specs::Reading::t_read_at))]
+fn take_t_read(rest: &[u8]) -> Result<(TBody, &[u8]), WireError>
+    ensures { Gives (λ x. (x.0, x.1.now)) result (t_read_at rest.now) }
+{
+    let (fid, rest) = take_u32(rest)?;
+    let (offset, rest) = take_u64(rest)?;
+    let (count, rest) = take_u32(rest)?;
+    Ok((TBody::Read { fid, offset, count }, rest))
+}
+
+#[tactic(auto, unfolding(crate::specs::Reading::t_write_at))]
+fn take_t_write(alloc: Global, rest: &[u8]) -> Result<(TBody, &[u8]), WireError>
+    ensures { Gives (λ x. (x.0, x.1.now)) result (t_write_at rest.now) }
+{
+    let (fid, rest) = take_u32(rest)?;
+    let (offset, rest) = take_u64(rest)?;
+    let (bytes, rest) = take_data(alloc, rest)?;
+    Ok((TBody::Write { fid, offset, bytes }, rest))
+}
+
+#[tactic(auto, unfolding(crate::specs::Reading::t_clunk_at))]
+fn take_t_clunk(rest: &[u8]) -> Result<(TBody, &[u8]), WireError>
+    ensures { Gives (λ x. (x.0, x.1.now)) result (t_clunk_at rest.now) }
+{
+    let (fid, rest) = take_u32(rest)?;
+    Ok((TBody::Clunk { fid }, rest))
+}
+
+#[tactic(auto, unfolding(crate::specs::Reading::t_body_at))]
+fn take_t_body(alloc: Global, kind: u8, rest: &[u8]) -> Result<(TBody, &[u8]), WireError>
+    ensures { Gives (λ x. (x.0, x.1.now)) result (t_body_at kind rest.now) }
+{
+    match kind {
+        100 => take_t_version(alloc, rest),
+        104 => take_t_attach(alloc, rest),
+        110 => take_t_walk(alloc, rest),
+        112 => take_t_open(rest),
+        116 => take_t_read(rest),
+        118 => take_t_write(alloc, rest),
+        120 => take_t_clunk(rest),
+        _ => Err(WireError::Fault(WireFault::Kind)),
+    }
+}
+
+#[tactic(auto, unfolding(crate::specs::Reading::t_of))]
+fn take_t_message(alloc: Global, bytes: &[u8]) -> Result<TMsg, WireError>
+    ensures { Gives (λ m. m) result (t_of bytes.now) }
+{
+    let (kind, tag, rest) = take_head(bytes)?;
+    let (body, rest) = take_t_body(alloc, kind, rest)?;
+    if !rest.is_empty() {
+        return Err(WireError::Fault(WireFault::Long));
+    }
+    Ok(TMsg { tag, body })
+}
+
+/// The message to the server that the bytes spell, all of them.
+///
+/// Errors: `Size` where fewer than 7 bytes are given or the size field isn't their number. Then
+/// `Kind` where the type byte is of no message to the server. Then the fields are read from
+/// left to right, and the first that fails decides: `Short` where it passes the end, `Text` where a
+/// string isn't UTF-8 or has a NUL, `Names` where a walk has more than 16 names. Then `Long`
+/// where bytes are left over. `NoMemory` may come before a fault that stands later.
+pub fn read_t(alloc: Global, bytes: &[u8]) -> Result<TMsg, WireError>
+    // What is read is spelled so.
+    ensures found { IfOk result (λ m. Fits_t m × (bytes.now ≡ spelling_t m)) }
+    // Its numbers are within their fields.
+    ensures in_range { IfOk result (λ m. InRange_t m) }
+    // What is spelled so is read, unless memory runs out.
+    ensures only { (m : TMsg) → Fits_t m → InRange_t m → bytes.now ≡ spelling_t m
+        → Gives (λ x. x) result (Ok m) }
+    // Which fault it is.
+    ensures exact { Gives (λ m. m) result (t_of bytes.now) }
+{
+    take_t_message(alloc, bytes)
+}
