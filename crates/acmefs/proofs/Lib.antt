@@ -1,0 +1,5 @@
+pub mod Fronts
+pub mod Ran
+pub mod Replied
+pub mod Words
+pub mod Wrote

@@ -1,0 +1,70 @@
+-- How a replay ends.
+use Rattle.std.specs.Prelude.{◌≡◌, ◌⊎◌, ℕ, List, [], ◌∷◌, Bool, true, false, Option, Some, None, codes}
+use Rattle.std.specs.Str.{bytes_eq}
+use Rattle.am_base.specs.Outside.{AreTold, HasRisen}
+use Rattle.am_journal.specs.declared.event.Event.{Event}
+use Rattle.acmefs.specs.declared.replay.End.{End}
+use Rattle.acmefs.specs.declared.replay.End.TheVariants.{Done, Usage, Script, ReadFault, WriteFault, NoMemory}
+use Rattle.acmefs.specs.Scripts as scripts
+use Rattle.acmefs.specs.Scripts.{script_of, text_of}
+use Rattle.acmefs.specs.Written.{Output, IsWhole, IsCut, IsFront, IsCaughtUp}
+
+-- the exit status
+abbrev pub code_of : End → ℕ
+code_of Done = 0
+code_of Usage = 1
+code_of Script = 2
+code_of ReadFault = 3
+code_of WriteFault = 4
+code_of NoMemory = 6
+
+-- the words that ask for a replay
+abbrev pub are_replay : List (List ℕ) → Bool
+are_replay [] = false
+are_replay (word ∷ []) = bytes_eq word (codes "replay")
+are_replay (word ∷ other ∷ words) = false
+
+-- Memory ran out: a front of the events was done, and what was put is the lines of their replies, but perhaps those of the last.
+pub record RanOut (script : scripts.Script) (o : Output) (journal : List Event) : Type 0 where
+  pub events : IsFront journal script.events
+  pub put : (text : List ℕ) × IsCaughtUp journal text × IsFront text (text_of script) × (IsWhole o text ⊎ IsCut o text)
+
+-- nothing was written and nothing was done
+pub record IsIdle (o : Output) (journal : List Event) : Type 0 where
+  pub silent : o.held_now ≡ o.held
+  pub empty : journal ≡ []
+
+-- a line, or the whole input, is refused
+abbrev pub IsRefused : scripts.Script → Type 0
+IsRefused script = (refusal : scripts.Refusal) × (script.refused ≡ Some refusal)
+
+-- what each end says of a script, the output and the journal
+abbrev pub Ran : End → scripts.Script → Output → List Event → Type 0
+Ran Done script o journal = (journal ≡ script.events) × (script.refused ≡ None) × IsWhole o (text_of script)
+Ran Usage script o journal = ⊥
+Ran Script script o journal = (journal ≡ script.events) × IsRefused script × (IsWhole o (text_of script) ⊎ IsCut o (text_of script))
+Ran ReadFault script o journal = ⊥
+Ran WriteFault script o journal = (journal ≡ script.events) × (script.refused ≡ None) × IsCut o (text_of script)
+Ran NoMemory script o journal = RanOut script o journal
+
+-- Some bytes, those that the input told where it tells them, were replayed so.
+abbrev pub Replays : End → Option (List ℕ) → Output → List Event → Type 0
+Replays end told o journal = (bytes : List ℕ) × AreTold told bytes × Ran end (script_of bytes) o journal
+
+-- what each end says of an input, by what it told and its count of faults, the output and the journal
+abbrev pub Says : End → Option (List ℕ) → ℕ → ℕ → Output → List Event → Type 0
+Says Done told before now o journal = Replays Done told o journal
+Says Usage told before now o journal = ⊥
+Says Script told before now o journal = Replays Script told o journal
+Says ReadFault told before now o journal = IsIdle o journal × HasRisen before now
+Says WriteFault told before now o journal = Replays WriteFault told o journal
+Says NoMemory told before now o journal = Replays NoMemory told o journal
+
+-- what each end says of the words, which ask for a replay or don't, and of all the rest
+abbrev pub ProgramSays : Bool → End → Option (List ℕ) → Option (List ℕ) → ℕ → ℕ → Output → List Event → Type 0
+ProgramSays asked Usage told told_now before now o journal = (asked ≡ false) × (told_now ≡ told) × IsIdle o journal
+ProgramSays asked Done told told_now before now o journal = (asked ≡ true) × Says Done told before now o journal
+ProgramSays asked Script told told_now before now o journal = (asked ≡ true) × Says Script told before now o journal
+ProgramSays asked ReadFault told told_now before now o journal = (asked ≡ true) × Says ReadFault told before now o journal
+ProgramSays asked WriteFault told told_now before now o journal = (asked ≡ true) × Says WriteFault told before now o journal
+ProgramSays asked NoMemory told told_now before now o journal = (asked ≡ true) × Says NoMemory told before now o journal

@@ -1,0 +1,4 @@
+pub mod Scripts
+pub mod Written
+pub mod Playing
+pub mod Ends

@@ -1,0 +1,111 @@
+//! All that the program does.
+
+ghost use Rattle.std.specs.Prelude.{◌≡◌, []};
+ghost use Rattle.acmefs.specs.Ends.{are_replay, Says, ProgramSays, code_of};
+
+use crate::replay::{End, Ended, ReplayEnd, code, no_events, replay};
+use am_base::{Gate, Host, Link, Sink, Source};
+use am_journal::{Ending, Journal};
+use am_text::{Bytes, Items, Words};
+use std::alloc::Global;
+
+/// How a served connection ended.
+#[derive(Clone, Copy, Debug, PartialEq, Eq)]
+pub enum ServedEnd {
+    /// Its gate could not be bound.
+    Bind,
+    /// Its gate gave no link.
+    Accept,
+    /// Its link gave no halves.
+    Halve,
+    /// Memory ran out before it was dialled.
+    NoMemory,
+    /// It was dialled, and ended so.
+    Ended(Ending),
+}
+
+/// A served connection: its slot, the objects that it was served by, and how it ended.
+#[derive(Drop)]
+pub struct Served<H: Host> {
+    pub slot: u32,
+    pub gate: Option<H::G>,
+    pub link: Option<<H::G as Gate>::L>,
+    pub reader: Option<<<H::G as Gate>::L as Link>::R>,
+    pub writer: Option<<<H::G as Gate>::L as Link>::W>,
+    pub end: ServedEnd,
+}
+
+/// Served connections, by slot.
+pub type ServedList<H> = Items<Served<H>>;
+
+/// What a run of the program comes to: the exit status, the events that were done, and the
+/// connections that were served.
+#[derive(Drop)]
+pub struct Outcome<H: Host> {
+    pub status: u8,
+    pub journal: Journal,
+    pub served: ServedList<H>,
+}
+
+#[tactic(auto, using(crate::proofs::Words::one_word))]
+fn is_replay(words: &[Bytes]) -> bool
+    ensures { result ≡ are_replay words.now }
+{
+    match words {
+        [word] => word.as_slice() == b"replay".as_slice(),
+        _ => false,
+    }
+}
+
+fn run<I: Source, O: Sink>(alloc: Global, words: &Words, input: &mut I, output: &mut O) -> Ended
+    ensures { ProgramSays (are_replay words.now) result.end (I.left input.old) (I.left input.new) (I.faults input.old) (I.faults input.new)
+        (record { held = O.held output.old; held_now = O.held output.new; faults = O.faults output.old; faults_now = O.faults output.new })
+        result.journal }
+{
+    if is_replay(words.as_slice()) {
+        replay(alloc, input, output)
+    } else {
+        no_events(alloc, End::Usage)
+    }
+}
+
+/// Does all that the program does: what the words after its name ask for. The word `replay` alone
+/// asks for a replay of the transcript that the input gives; every other list of words is refused.
+///
+/// The status is 0 where all was done and written, 1 for other words, 2 where a line or the whole
+/// input is refused, 3 where the input failed, 4 where the output failed, 6 where memory ran out.
+pub fn acmefs<I: Source, O: Sink, H: Host>(
+    alloc: Global,
+    words: &Words,
+    input: &mut I,
+    output: &mut O,
+    _host: &mut H,
+) -> Outcome<H>
+    // One run of the program: each status has its cause, and journal and output are those of one script.
+    ensures headline { (end : _) × (result.status ≡ code_of end)
+        × ProgramSays (are_replay words.now) end (I.left input.old) (I.left input.new) (I.faults input.old) (I.faults input.new)
+        (record { held = O.held output.old; held_now = O.held output.new; faults = O.faults output.old; faults_now = O.faults output.new })
+        result.journal }
+    ensures served { result.served ≡ [] }
+{
+    let ended = run(alloc, words, input, output);
+    Outcome {
+        status: code(ended.end),
+        journal: ended.journal,
+        served: Items::new(alloc),
+    }
+}
+
+/// Replays the transcript that the input gives, and writes a line for each reply and the report.
+pub fn replay_main<I: Source, O: Sink>(alloc: Global, input: &mut I, output: &mut O) -> ReplayEnd
+    ensures headline { (end : _) × (result.status ≡ code_of end)
+        × Says end (I.left input.old) (I.faults input.old) (I.faults input.new)
+        (record { held = O.held output.old; held_now = O.held output.new; faults = O.faults output.old; faults_now = O.faults output.new })
+        result.journal }
+{
+    let ended = replay(alloc, input, output);
+    ReplayEnd {
+        status: code(ended.end),
+        journal: ended.journal,
+    }
+}

@@ -1,0 +1,155 @@
+//! Replaying a transcript.
+
+ghost use Rattle.std.specs.Prelude.{◌≡◌, [], None, codes, IfOk};
+ghost use Rattle.am_text.specs.Lines.{lines_of};
+ghost use Rattle.acmefs.specs.Scripts.{play, end_of, refused_at};
+ghost use Rattle.acmefs.specs.Ends.{Ran, Says, code_of};
+ghost use Rattle.acmefs.specs.Playing.{EndText, end_at};
+
+use crate::script::{Fault, Played, Stop, fault_word, play, put};
+use acme_core::{Core, Journal};
+use am_base::{ReadStop, Sink, Source, read_to_end};
+use am_journal::{refused_line, report};
+use am_text::{Bytes, Items, NoMemory};
+use std::alloc::Global;
+
+/// The most bytes that a transcript has.
+const INPUT_LIMIT: usize = 16777216;
+
+/// How a run ended. Each has an exit status.
+#[derive(Clone, Copy, Debug, PartialEq, Eq)]
+pub enum End {
+    /// All was done and written.
+    Done,
+    /// The words ask for nothing that is known.
+    Usage,
+    /// A line, or the whole input, is refused.
+    Script,
+    /// The input could not be read.
+    ReadFault,
+    /// The output could not be written.
+    WriteFault,
+    /// Memory ran out.
+    NoMemory,
+}
+
+/// How a run ended, and the events that were done.
+#[derive(Drop)]
+pub struct Ended {
+    pub end: End,
+    pub journal: Journal,
+}
+
+/// How a replay ended: the exit status, and the events that were done.
+#[derive(Drop)]
+pub struct ReplayEnd {
+    pub status: u8,
+    pub journal: Journal,
+}
+
+pub(crate) fn no_events(alloc: Global, end: End) -> Ended
+    ensures end { result.end ≡ end }
+    ensures journal { result.journal ≡ [] }
+{
+    Ended {
+        end,
+        journal: Items::new(alloc),
+    }
+}
+
+#[tactic(auto, unfolding(crate::specs::Scripts::end_of))]
+fn report_text(alloc: Global, core: &Core) -> Result<Bytes, NoMemory>
+    ensures { IfOk result (λ text. text ≡ end_of core.now.journal None) }
+{
+    let view = core.view()?;
+    report(alloc, &view)
+}
+
+// What is written at a stop; a stop for want of memory has none.
+fn end_text(alloc: Global, core: &Core, stop: Stop) -> Result<Bytes, NoMemory>
+    ensures { IfOk result (λ text. EndText stop core.now.journal text) }
+{
+    match stop {
+        Stop::Report => report_text(alloc, core),
+        Stop::Refused { line, fault } => refused_line(alloc, line, fault_word(fault)),
+        Stop::NoMemory => Err(NoMemory),
+    }
+}
+
+fn end_at(stop: Stop, failed: bool) -> End
+    ensures { result ≡ end_at stop failed }
+{
+    match stop {
+        Stop::Report => { if failed { End::WriteFault } else { End::Done } }
+        Stop::Refused { .. } => End::Script,
+        Stop::NoMemory => End::NoMemory,
+    }
+}
+
+/// Replays a transcript of lawful length.
+fn replay_lines<O: Sink>(alloc: Global, bytes: &[u8], output: &mut O) -> Ended
+    ensures { Ran result.end (play [] 1 (lines_of bytes.now))
+        (record { held = O.held output.old; held_now = O.held output.new; faults = O.faults output.old; faults_now = O.faults output.new })
+        result.journal }
+{
+    let Ok(mut core) = Core::new(alloc) else {
+        return no_events(alloc, End::NoMemory);
+    };
+    let played = play(alloc, &mut core, output, bytes);
+    match end_text(alloc, &core, played.stop) {
+        Ok(text) => {
+            let failed = put(output, played.failed, text.as_slice());
+            Ended {
+                end: end_at(played.stop, failed),
+                journal: core.into_journal(),
+            }
+        }
+        Err(NoMemory) => Ended {
+            end: End::NoMemory,
+            journal: core.into_journal(),
+        },
+    }
+}
+
+/// Refuses a transcript that is too long.
+fn refuse_input<O: Sink>(alloc: Global, output: &mut O) -> Ended
+    ensures { Ran result.end (refused_at [] 0 (codes "input"))
+        (record { held = O.held output.old; held_now = O.held output.new; faults = O.faults output.old; faults_now = O.faults output.new })
+        result.journal }
+{
+    match refused_line(alloc, 0, fault_word(Fault::Input)) {
+        Ok(text) => {
+            let _failed = put(output, false, text.as_slice());
+            no_events(alloc, End::Script)
+        }
+        Err(NoMemory) => no_events(alloc, End::NoMemory),
+    }
+}
+
+/// Replays the transcript that the input gives.
+pub(crate) fn replay<I: Source, O: Sink>(alloc: Global, input: &mut I, output: &mut O) -> Ended
+    ensures { Says result.end (I.left input.old) (I.faults input.old) (I.faults input.new)
+        (record { held = O.held output.old; held_now = O.held output.new; faults = O.faults output.old; faults_now = O.faults output.new })
+        result.journal }
+{
+    match read_to_end(alloc, input, INPUT_LIMIT) {
+        Ok(bytes) => replay_lines(alloc, bytes.as_slice(), output),
+        Err(ReadStop::TooLong) => refuse_input(alloc, output),
+        Err(ReadStop::ReadFault) => no_events(alloc, End::ReadFault),
+        Err(ReadStop::NoMemory) => no_events(alloc, End::NoMemory),
+    }
+}
+
+/// The exit status of an end.
+pub(crate) fn code(end: End) -> u8
+    ensures { result ≡ code_of end }
+{
+    match end {
+        End::Done => 0,
+        End::Usage => 1,
+        End::Script => 2,
+        End::ReadFault => 3,
+        End::WriteFault => 4,
+        End::NoMemory => 6,
+    }
+}
