@@ -1,4 +1,5 @@
 pub mod Fronts
+pub mod Promised
 pub mod Ran
 pub mod Replied
 pub mod Words

@@ -1,10 +1,9 @@
 -- How the parts of a replay make the whole.
-use Rattle.std.proofs.Common.{◌≡◌, ◌⊎◌, inl, inr, ℕ, ◌+◌, ◌<◌, ◌≤◌, Bool, true, false, cond, nat_lt, zero, suc, List, [], ◌∷◌, ◌++◌, length, codes, Option, Some, None, refl, sym, ap, subst, ◌∙◌, append_assoc, arith}
+use Rattle.std.proofs.Common.{◌≡◌, ◌⊎◌, inl, inr, ℕ, ◌+◌, ◌<◌, ◌≤◌, Bool, true, false, zero, suc, List, [], ◌∷◌, ◌++◌, length, codes, Option, Some, None, refl, sym, ap, subst, ◌∙◌, arith}
 use Rattle.std.specs.Prelude.{IfSome}
 use Rattle.std.proofs.lemmas.Bool.{lt-ltb, le-ltb}
-use Rattle.std.proofs.lemmas.List.{append-nil}
 use Rattle.am_text.specs.Lines.{lines_of}
-use Rattle.am_base.specs.Outside.{told_then, AreTold, HasRisen}
+use Rattle.am_base.specs.Outside.{AreTold}
 use Rattle.am_journal.specs.declared.event.Event.{Event}
 use Rattle.am_journal.specs.Texts.{refused_text}
 use Rattle.acmefs.specs.declared.replay.End.{End}
@@ -12,10 +11,10 @@ use Rattle.acmefs.specs.declared.replay.End.TheVariants as ends
 use Rattle.acmefs.specs.declared.script.Stop.{Stop}
 use Rattle.acmefs.specs.declared.script.Stop.TheVariants as stop
 use Rattle.acmefs.specs.declared.script.Did.TheVariants as did
-use Rattle.acmefs.specs.Scripts.{Script, Refusal, ended, refused_at, play, script_of, replied, replied_from, end_of, text_of, input_limit, reply_lines}
-use Rattle.acmefs.specs.Written.{Output, IsWhole, IsCut, Holds, Wrote, IsFront, IsCaughtUp}
+use Rattle.acmefs.specs.Scripts.{Script, ended, refused_at, play, script_of, replied, replied_from, end_of, text_of, input_limit, reply_lines}
+use Rattle.acmefs.specs.Written.{Output, IsWhole, IsCut, Wrote, IsFront, IsCaughtUp}
 use Rattle.acmefs.specs.Playing.{Put, Stops, Shows, EndText, end_at, fault_word, line_script, DidLine}
-use Rattle.acmefs.specs.Ends.{Ran, RanOut, Replays, Says}
+use Rattle.acmefs.specs.Ends.{Ran, RanOut, Says}
 use Rattle.acmefs.proofs.Wrote.{wrote_on, wrote_none}
 use Rattle.acme_core.specs.Run.{run}
 use Rattle.acmefs.proofs.Replied.{replied-push}

@@ -1,5 +1,5 @@
 -- How a replay ends.
-use Rattle.std.specs.Prelude.{◌≡◌, ◌⊎◌, ℕ, List, [], ◌∷◌, Bool, true, false, Option, Some, None, codes}
+use Rattle.std.specs.Prelude.{◌≡◌, ◌⊎◌, ℕ, List, [], ◌∷◌, Bool, true, false, Option, Some, None, IfSome, codes}
 use Rattle.std.specs.Str.{bytes_eq}
 use Rattle.am_base.specs.Outside.{AreTold, HasRisen}
 use Rattle.am_journal.specs.declared.event.Event.{Event}
@@ -68,3 +68,12 @@ ProgramSays asked Script told told_now before now o journal = (asked ≡ true) �
 ProgramSays asked ReadFault told told_now before now o journal = (asked ≡ true) × Says ReadFault told before now o journal
 ProgramSays asked WriteFault told told_now before now o journal = (asked ≡ true) × Says WriteFault told before now o journal
 ProgramSays asked NoMemory told told_now before now o journal = (asked ≡ true) × Says NoMemory told before now o journal
+
+-- where the input tells its bytes, their script ran so
+abbrev pub RanTold : End → Option (List ℕ) → Output → List Event → Type 0
+RanTold end told o journal = IfSome told (λ bytes. Ran end (script_of bytes) o journal)
+
+-- Completeness: where no event is refused and no count of faults rises, the whole text is written, or memory runs out.
+abbrev pub IsComplete : ℕ → scripts.Script → ℕ → ℕ → Output → List Event → Type 0
+IsComplete status script before now o journal = script.refused ≡ None → ¬ HasRisen before now → ¬ HasRisen o.faults o.faults_now
+    → ((status ≡ 0) × Ran Done script o journal) ⊎ (status ≡ 6)

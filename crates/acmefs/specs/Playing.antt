@@ -1,9 +1,8 @@
 -- The steps of a replay.
-use Rattle.std.specs.Prelude.{◌≡◌, ◌⊎◌, ℕ, Bool, true, false, List, [], ◌∷◌, ◌++◌, ◌≤◌, Option, Some, None, if◌then◌else◌, codes}
+use Rattle.std.specs.Prelude.{◌≡◌, ℕ, Bool, true, false, List, [], ◌∷◌, ◌++◌, None, if◌then◌else◌, codes}
 use Rattle.am_journal.specs.declared.event.Event.{Event}
 use Rattle.am_journal.specs.Line.{event_of}
 use Rattle.am_journal.specs.Texts.{word_of, refused_text}
-use Rattle.acme_core.specs.Run.{enabled}
 use Rattle.acmefs.specs.declared.script.Fault.{Fault}
 use Rattle.acmefs.specs.declared.script.Fault.TheVariants as fault
 use Rattle.acmefs.specs.declared.script.Did.{Did}
@@ -13,7 +12,7 @@ use Rattle.acmefs.specs.declared.script.Stop.TheVariants as stop
 use Rattle.acmefs.specs.declared.replay.End.{End}
 use Rattle.acmefs.specs.declared.replay.End.TheVariants as ends
 use Rattle.acmefs.specs.Scripts.{Script, ended, refused_at, is_report, play_line, end_of}
-use Rattle.acmefs.specs.Written.{Output, Wrote, IsWhole, IsCut, IsFront, IsCaughtUp}
+use Rattle.acmefs.specs.Written.{Output, Wrote, IsFront, IsCaughtUp}
 
 -- the word for a refused line
 abbrev pub fault_word : Fault → List ℕ

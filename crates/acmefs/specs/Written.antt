@@ -38,3 +38,7 @@ IsFront {A} front whole = (rest : List A) × (front ++ rest ≡ whole)
 abbrev pub IsCaughtUp : List Event → List ℕ → Type 0
 IsCaughtUp events text = (text ≡ replied events)
     ⊎ ((before : List Event) × (e : Event) × (events ≡ before ++ e ∷ []) × (text ≡ replied before))
+
+-- an output by what it tells and by its count of faults, before and after
+abbrev pub seen : Option (List ℕ) → Option (List ℕ) → ℕ → ℕ → Output
+seen held held_now faults faults_now = record { held = held; held_now = held_now; faults = faults; faults_now = faults_now }

@@ -4,6 +4,8 @@
 mod program;
 mod replay;
 mod script;
+#[cfg(test)]
+mod tests;
 
 use am_base::{InputSource, MemHost, OutputSink};
 use am_text::{Items, NoMemory, Words};

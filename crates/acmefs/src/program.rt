@@ -1,7 +1,11 @@
 //! All that the program does.
 
-ghost use Rattle.std.specs.Prelude.{◌≡◌, []};
-ghost use Rattle.acmefs.specs.Ends.{are_replay, Says, ProgramSays, code_of};
+ghost use Rattle.std.specs.Prelude.{◌≡◌, [], true, false, IfSome};
+ghost use Rattle.am_base.specs.Outside.{HasRisen};
+ghost use Rattle.acmefs.specs.declared.replay.End.TheVariants.{Done, Script, WriteFault, NoMemory};
+ghost use Rattle.acmefs.specs.Scripts.{script_of};
+ghost use Rattle.acmefs.specs.Written.{seen};
+ghost use Rattle.acmefs.specs.Ends.{are_replay, Says, ProgramSays, IsIdle, RanTold, IsComplete, code_of};
 
 use crate::replay::{End, Ended, ReplayEnd, code, no_events, replay};
 use am_base::{Gate, Host, Link, Sink, Source};
@@ -81,11 +85,29 @@ pub fn acmefs<I: Source, O: Sink, H: Host>(
     output: &mut O,
     _host: &mut H,
 ) -> Outcome<H>
-    // One run of the program: each status has its cause, and journal and output are those of one script.
+    // Status 1 comes exactly where the words aren't `replay`; then nothing is read, written or done.
+    ensures usage { result.status ≡ 1 → are_replay words.now ≡ false }
+    ensures other_words { are_replay words.now ≡ false → result.status ≡ 1 }
+    ensures unread { result.status ≡ 1 → I.left input.new ≡ I.left input.old }
+    ensures idle_words { result.status ≡ 1 → IsIdle (seen (O.held output.old) (O.held output.new) (O.faults output.old) (O.faults output.new)) result.journal }
+    // Status 3 comes only where the input's count of faults rose; then nothing is written or done.
+    ensures read_fault { result.status ≡ 3 → HasRisen (I.faults input.old) (I.faults input.new) }
+    ensures idle_fault { result.status ≡ 3 → IsIdle (seen (O.held output.old) (O.held output.new) (O.faults output.old) (O.faults output.new)) result.journal }
+    // Status 0: no line is refused, the journal is the events of the script, and the whole text is written.
+    ensures done { result.status ≡ 0 → RanTold Done (I.left input.old) (seen (O.held output.old) (O.held output.new) (O.faults output.old) (O.faults output.new)) result.journal }
+    // Status 2: a line, or the whole input, is refused; all events before it are done and written.
+    ensures script { result.status ≡ 2 → RanTold Script (I.left input.old) (seen (O.held output.old) (O.held output.new) (O.faults output.old) (O.faults output.new)) result.journal }
+    // Status 4 comes only where the output's count rose: all events are done, a front of the text is written.
+    ensures write_fault { result.status ≡ 4 → RanTold WriteFault (I.left input.old) (seen (O.held output.old) (O.held output.new) (O.faults output.old) (O.faults output.new)) result.journal }
+    ensures write_cause { result.status ≡ 4 → HasRisen (O.faults output.old) (O.faults output.new) }
+    // Status 6: a front of the events is done, and the lines of their replies are written.
+    ensures no_memory { result.status ≡ 6 → RanTold NoMemory (I.left input.old) (seen (O.held output.old) (O.held output.new) (O.faults output.old) (O.faults output.new)) result.journal }
+    // No line refused and no fault outside: the whole text, or want of memory.
+    ensures complete { are_replay words.now ≡ true → IfSome (I.left input.old) (λ bytes.
+        IsComplete result.status (script_of bytes) (I.faults input.old) (I.faults input.new) (seen (O.held output.old) (O.held output.new) (O.faults output.old) (O.faults output.new)) result.journal) }
+    // The same of any input, also of one that doesn't tell its bytes: some bytes were replayed so.
     ensures headline { (end : _) × (result.status ≡ code_of end)
-        × ProgramSays (are_replay words.now) end (I.left input.old) (I.left input.new) (I.faults input.old) (I.faults input.new)
-        (record { held = O.held output.old; held_now = O.held output.new; faults = O.faults output.old; faults_now = O.faults output.new })
-        result.journal }
+        × ProgramSays (are_replay words.now) end (I.left input.old) (I.left input.new) (I.faults input.old) (I.faults input.new) (seen (O.held output.old) (O.held output.new) (O.faults output.old) (O.faults output.new)) result.journal }
     ensures served { result.served ≡ [] }
 {
     let ended = run(alloc, words, input, output);

@@ -1,5 +1,4 @@
-use Rattle.std.proofs.Common.{◌≤◌, ◌<◌, length, sym, subst, List, ℕ}
-use Rattle.std.specs.Prelude.{IfSome}
+use Rattle.std.proofs.Common.{◌≤◌, length, sym, subst, List, ℕ}
 use Rattle.am_base.specs.Outside.{AreTold}
 use Rattle.am_base.specs.Stops.{StopsFor}
 use Rattle.am_base.specs.declared.reading.ReadStop.{ReadStop}

@@ -1,5 +1,5 @@
 use Rattle.acmefs.proofs.Ran.{ran_ok, ran_err, ran_none}
-use Rattle.std.proofs.Common.{sym, subst, ◌∙◌, List, ℕ}
+use Rattle.std.proofs.Common.{sym, subst, List, ℕ}
 use Rattle.acmefs.specs.Playing.{EndText}
 use Rattle.acmefs.proofs.replay.replay_lines.Goals as goal
 

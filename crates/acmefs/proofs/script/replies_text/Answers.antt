@@ -1,4 +1,4 @@
-use Rattle.std.proofs.Common.{◌++◌, List, ℕ, sym, ap, ◌∙◌}
+use Rattle.std.proofs.Common.{sym}
 use Rattle.acmefs.proofs.Replied.{line_more}
 use Rattle.acmefs.proofs.script.replies_text.Goals as goal
 
