@@ -1,0 +1,11 @@
+-- One step of reading.
+use Rattle.std.proofs.Common.{◌≡◌, ℕ, ◌+◌, Option, Some, None, sym, ap, ◌∙◌}
+use Rattle.re_syntax.specs.Scan.{Scanned, scan}
+use Rattle.re_syntax.specs.Build.{built, weight}
+use Rattle.re_syntax.specs.Read.{Reading, taken, read}
+use Rattle.re_syntax.specs.declared.scanner.Token.{Token}
+use Rattle.re_syntax.specs.declared.scanner.Scanner.{Scanner}
+
+pub read_is : (m : Reading) (s t : Scanner) (c : ℕ) (o : Scanned) (tok u : Option Token) → s ≡ m.scanner → o ≡ scan s c → o ≡ Some (t, tok) → tok ≡ u → read m c ≡ taken m (Some (t, u))
+read_is m s t c o tok u e p r q =
+    ap (taken m) (ap (λ (x : Scanner). scan x c) (sym e) ∙ sym p ∙ r ∙ ap (λ (x : Option Token). Some (t, x)) q)

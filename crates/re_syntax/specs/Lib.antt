@@ -1,0 +1,9 @@
+pub mod Tree
+pub mod Signs
+pub mod Grammar
+pub mod Answer
+pub mod Scan
+pub mod Build
+pub mod Read
+pub mod Match
+pub mod Groups
