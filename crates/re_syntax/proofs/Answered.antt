@@ -1,27 +1,26 @@
 -- What reading answers.
-use Rattle.std.proofs.Common.{◌≡◌, ℕ, zero, suc, ◌+◌, ◌-◌, ◌<◌, ◌≤◌, ◌⊎◌, ◌==◌, ◌&&◌, ◌||◌, Bool, true, false, not, List, [], ◌∷◌, ◌++◌, length, get_or, take, drop, Option, Some, None, refl, sym, ap, subst, ◌∙◌, inl, inr, arith}
-use Rattle.std.specs.Prelude.{IsTrue, IfSome, nat_lt, slice_range, slice_index}
+use Rattle.std.proofs.Common.{◌≡◌, ℕ, ◌+◌, ◌-◌, ◌<◌, ◌≤◌, ◌==◌, ◌&&◌, ◌||◌, Bool, true, false, not, List, [], ◌∷◌, ◌++◌, length, get_or, drop, Option, Some, None, refl, sym, ap, subst, ◌∙◌, inl, inr, arith}
+use Rattle.std.specs.Prelude.{IfSome, nat_lt, slice_range}
 use Rattle.std.proofs.lemmas.List.{take_more, get_or-drop, length-drop}
 use Rattle.re_syntax.specs.Tree.{Tree, tree, nodes}
 use Rattle.re_syntax.specs.Signs.{is_stop, sign_of, class_sign_of}
 use Rattle.re_syntax.specs.Grammar.{IsExpression, GoesOn, MayEnd}
 use Rattle.re_syntax.specs.Answer.{IsRead, IsBad, Refuses}
 use Rattle.re_syntax.specs.Scan.{Scanned, outside, in_class, opened, after_low, after_dash, high, scan_in, scan}
-use Rattle.re_syntax.specs.Build.{Stack, stack_of, finished}
-use Rattle.re_syntax.specs.Read.{Reading, begin, taken, read, read_on, reads, is_outside, is_escaped, is_complete, Follows, Finishes, FinishFails}
+use Rattle.re_syntax.specs.Build.{Stack, finished}
+use Rattle.re_syntax.specs.Read.{Reading, begin, taken, read, reads, is_outside, is_escaped, is_complete, Follows, Finishes, FinishFails}
 use Rattle.re_syntax.specs.declared.re.Re.{Re}
 use Rattle.re_syntax.specs.declared.re.ReFault.{ReFault}
 use Rattle.re_syntax.specs.declared.re.ReFault.TheVariants.{Bad, Nodes, NoMemory}
 use Rattle.re_syntax.specs.declared.sign.Sign.{Sign}
 use Rattle.re_syntax.specs.declared.sign.Sign.TheVariants.{Stop, Lone, Escape, Bar, Repeats, Open, Close, Dot, Caret, Dollar, OpenClass, Plain}
-use Rattle.re_syntax.specs.declared.sign.Repeat.{Repeat}
 use Rattle.re_syntax.specs.declared.sign.ClassSign.{ClassSign}
 use Rattle.re_syntax.specs.declared.sign.ClassSign.TheVariants.{Ends, Escapes, Dash, Closes, Hat, Member}
 use Rattle.re_syntax.specs.declared.scanner.Mode.{Mode}
 use Rattle.re_syntax.specs.declared.scanner.Mode.TheVariants.{Outside, Escaped, Opened, Next, NextEscaped, Low, Upto, UptoEscaped}
 use Rattle.re_syntax.specs.declared.scanner.Scanner.{Scanner}
 use Rattle.re_syntax.specs.declared.parser.Parser.{Parser}
-use Rattle.re_syntax.proofs.Sound.{reads_none, built_from, Whole, whole}
+use Rattle.re_syntax.proofs.Sound.{reads_none, built_from, whole}
 use Rattle.re_syntax.proofs.Complete.{complete_read}
 use Rattle.re_syntax.proofs.Live.{reads_append, goes_on}
 
@@ -217,8 +216,7 @@ module _ (stop : Option ℕ) (text : List ℕ) (from here : ℕ) (m : Reading) (
         let small = follows.small f.small in
         let built : finished m.stack.top ≡ Some (tree re) = subst (λ (z : Stack). finished z.top ≡ Some (tree re)) small.1 f.tree_is in
         let same : Some w.result ≡ Some (tree re) = sym w.finished_is ∙ built in
-        let is : w.result ≡ tree re = cc same in
-        (
+        let is : w.result ≡ tree re = cc same in (
           subst (λ (k : ℕ). IsRead stop text from k (tree re)) (sym f.here) (record {
             order = order;
             written = subst (λ (r : Tree). IsExpression stop (slice_range text from here) r) is w.written;

@@ -1,28 +1,26 @@
 -- An expression is read to its tree.
-use Rattle.std.proofs.Common.{◌≡◌, ℕ, zero, suc, ◌+◌, ◌-◌, ◌<◌, ◌≤◌, ◌⊎◌, ◌==◌, ◌&&◌, ◌||◌, Bool, true, false, not, cond, List, [], ◌∷◌, ◌++◌, length, Option, Some, None, refl, sym, ap, subst, ◌∙◌, inl, inr, append_assoc, arith}
-use Rattle.std.specs.Prelude.{IsTrue, nat_lt}
+use Rattle.std.proofs.Common.{◌≡◌, ℕ, ◌+◌, ◌-◌, ◌≤◌, ◌==◌, Bool, true, false, not, List, [], ◌∷◌, ◌++◌, Option, Some, None, refl, sym, ap, subst, ◌∙◌, inl, inr, append_assoc, arith}
+use Rattle.std.specs.Prelude.{IsTrue}
 use Rattle.std.proofs.lemmas.Bool.{le-ltb}
 use Rattle.std.proofs.lemmas.Bool.Decides.{nat_tests}
 use Rattle.std.proofs.lemmas.List.{append-nil}
-use Rattle.re_syntax.specs.Tree.{Tree, Letter, AnyLetter, OneOf, LineStart, LineEnd, Then, Either, Many, Several, Maybe, Group, tree, is_either, is_part, repeated}
-use Rattle.re_syntax.specs.Signs.{sign_of, class_sign_of, escaped}
-use Rattle.re_syntax.specs.Grammar.{Has, ClassHas, WritesLetter, WritesMember, WritesRange, WritesRanges, OpensClass, WritesClass, Writes, IsExpression, is_member}
-use Rattle.re_syntax.specs.Scan.{Scanned, within, often, or, leave, outside, close_class, in_class, opened, with_range, after_low, high, after_dash, scan_in, scan}
-use Rattle.re_syntax.specs.Build.{Level, Stack, chain, choice, finished, whole, built, nothing, weight, with_part, end_side}
-use Rattle.re_syntax.specs.Read.{Reading, begin, taken, read, read_on, reads, is_complete}
-use Rattle.re_syntax.specs.declared.re.Re.{Re, Lit, Any, Class, Start, End}
+use Rattle.re_syntax.specs.Tree.{Tree, Letter, AnyLetter, OneOf, LineStart, LineEnd, Then, Either, Many, Several, Maybe, Group, is_either, is_part, repeated}
+use Rattle.re_syntax.specs.Signs.{class_sign_of}
+use Rattle.re_syntax.specs.Grammar.{Has, ClassHas, WritesMember, WritesRange, WritesRanges, WritesClass, Writes, IsExpression, is_member}
+use Rattle.re_syntax.specs.Scan.{Scanned, outside, in_class, opened, after_low, high, after_dash, scan}
+use Rattle.re_syntax.specs.Build.{Level, Stack, chain, choice, finished, whole, built, with_part, end_side}
+use Rattle.re_syntax.specs.Read.{Reading, begin, taken, reads, is_complete}
+use Rattle.re_syntax.specs.declared.re.Re.{Class}
 use Rattle.re_syntax.specs.declared.sign.Repeat.{Repeat}
 use Rattle.re_syntax.specs.declared.sign.Repeat.TheVariants.{Star, Plus, Opt}
 use Rattle.re_syntax.specs.declared.sign.Sign.{Sign}
-use Rattle.re_syntax.specs.declared.sign.Sign.TheVariants.{Stop, Lone, Escape, Bar, Repeats, Open, Close, Dot, Caret, Dollar, OpenClass, Plain}
+use Rattle.re_syntax.specs.declared.sign.Sign.TheVariants.{Escape, Bar, Repeats, Open, Close, Dot, Caret, Dollar, OpenClass, Plain}
 use Rattle.re_syntax.specs.declared.sign.ClassSign.{ClassSign}
 use Rattle.re_syntax.specs.declared.sign.ClassSign.TheVariants.{Ends, Escapes, Dash, Closes, Hat, Member}
 use Rattle.re_syntax.specs.declared.scanner.Mode.{Mode}
-use Rattle.re_syntax.specs.declared.scanner.Mode.TheVariants.{Outside, Escaped, Opened, Next, NextEscaped, Low, Upto, UptoEscaped}
-use Rattle.re_syntax.specs.declared.scanner.Token.{Token}
-use Rattle.re_syntax.specs.declared.scanner.Token.TheVariants.{Leaf, Often, Or, Enter, Leave}
+use Rattle.re_syntax.specs.declared.scanner.Mode.TheVariants.{Outside, Opened, Next, Low, Upto, UptoEscaped}
+use Rattle.re_syntax.specs.declared.scanner.Token.TheVariants.{Leaf}
 use Rattle.re_syntax.specs.declared.scanner.Scanner.{Scanner}
-use Rattle.re_syntax.proofs.Sound.{suc_not_zero}
 
 -- ---- what a tree leaves, the last first: the parts of a concatenation, the sides of an alternation, its last side
 
@@ -163,15 +161,14 @@ module _ (stop : Option ℕ) (b : Bool) (d : ℕ) (e : Bool) (z : Stack) (n : �
   range_goes first s rs r text rest ready x = elim x [
     | inl m ↦
         (scanner_of stop (Low r.0) b rs d e, member_goes first s rs r.0 text rest ready m.0, subst (λ (y : ℕ). Ready stop false (scanner_of stop (Low r.0) b rs d e) (base (rs ++ (r.0, y) ∷ []))) (sym m.1) (ready_low rs r.0))
-    | inr m ↦
-        (
-          base (rs ++ r ∷ []),
-          member_goes first s rs r.0 text m.0 ready m.2 ∙
+    | inr m ↦ (
+      base (rs ++ r ∷ []),
+      member_goes first s rs r.0 text m.0 ready m.2 ∙
           (ap (reads (Some (inside (scanner_of stop (Low r.0) b rs d e)))) m.3.1 ∙
           (ap (λ (t : ClassSign). reads (taken (inside (scanner_of stop (Low r.0) b rs d e)) (after_low (scanner_of stop (Low r.0) b rs d e) r.0 t m.3.0)) m.1) m.3.2 ∙
           upto_goes rs r.0 r.1 m.1 rest m.5 m.4)),
-          ready_next (rs ++ r ∷ []),
-        )
+      ready_next (rs ++ r ∷ []),
+    )
   ]
 
   ranges_goes : (s : Scanner) (rs qs : List (ℕ × ℕ)) (text rest : List ℕ) → Ready stop false s (base rs) → WritesRanges stop false qs text rest → GoesReady s text (rs ++ qs) rest
@@ -300,9 +297,9 @@ goes stop (OneOf c spans) = all_of_part stop (OneOf c spans) (λ ps. refl) refl 
     same_groups stop (at stop b rs d e (stack_at outer number ss ps g) n) text d outer number ss (OneOf c spans ∷ ps) g h rest w.0 (class_goes stop b c rs d e (stack_at outer number ss ps g) n spans text rest w.1))
 goes stop (Then a b) =
     let go : ChainGoes stop (Then a b) = λ g h text rest w ss ps x rs d e n outer number.
-        let first = (goes stop a).part w.0 g w.2 text w.3 w.4 ss ps x rs d e n outer number in
-        let second = (goes stop b).chained w.1 w.2 h w.3 rest w.5 ss (a ∷ ps) first.0 first.1 d false first.2 outer number in
-        (second.0, second.1, second.2, first.3 ∙ second.3)
+    let first = (goes stop a).part w.0 g w.2 text w.3 w.4 ss ps x rs d e n outer number in
+    let second = (goes stop b).chained w.1 w.2 h w.3 rest w.5 ss (a ∷ ps) first.0 first.1 d false first.2 outer number in
+    (second.0, second.1, second.2, first.3 ∙ second.3)
     in
     record { part = λ h. absurd cc; chained = λ h. go; whole_goes = λ g h text rest w ss. go g h text rest w ss [] }
 goes stop (Either a b) =

@@ -1,26 +1,23 @@
 -- What is read so far can always become an expression.
-use Rattle.std.proofs.Common.{◌≡◌, ℕ, zero, suc, ◌+◌, ◌-◌, ◌<◌, ◌≤◌, ◌⊎◌, ◌==◌, ◌&&◌, ◌||◌, Bool, true, false, not, cond, List, [], ◌∷◌, ◌++◌, length, Option, Some, None, refl, sym, ap, subst, ◌∙◌, inl, inr, arith}
-use Rattle.std.specs.Prelude.{IsTrue, nat_lt}
+use Rattle.std.proofs.Common.{◌≡◌, ℕ, zero, suc, ◌+◌, ◌-◌, ◌<◌, ◌≤◌, ◌==◌, Bool, true, false, cond, List, [], ◌∷◌, ◌++◌, length, Option, Some, None, refl, sym, ap, subst, ◌∙◌, arith}
 use Rattle.std.proofs.lemmas.Bool.{le-ltb, eqb-true}
 use Rattle.std.proofs.lemmas.Bool.Decides.{nat_tests}
-use Rattle.re_syntax.specs.Tree.{Tree}
 use Rattle.re_syntax.specs.Signs.{is_stop, bracket, sign_of, class_sign_of, escaped}
-use Rattle.re_syntax.specs.Grammar.{Has, ClassHas, OpensClass, IsExpression, GoesOn}
-use Rattle.re_syntax.specs.Scan.{Scanned, within, outside, in_class, opened, with_range, after_low, high, after_dash, scan_in, scan}
+use Rattle.re_syntax.specs.Grammar.{OpensClass, GoesOn}
+use Rattle.re_syntax.specs.Scan.{outside, in_class, opened, after_low, high, after_dash}
 use Rattle.re_syntax.specs.Build.{Level, Stack, built}
 use Rattle.re_syntax.specs.Read.{Reading, begin, taken, read, read_on, reads, is_complete}
-use Rattle.re_syntax.specs.declared.re.Re.{Re, Lit}
 use Rattle.re_syntax.specs.declared.sign.Repeat.TheVariants.{Star, Plus, Opt}
 use Rattle.re_syntax.specs.declared.sign.Sign.{Sign}
-use Rattle.re_syntax.specs.declared.sign.Sign.TheVariants.{Stop, Lone, Escape, Bar, Repeats, Open, Close, Dot, Caret, Dollar, OpenClass, Plain}
+use Rattle.re_syntax.specs.declared.sign.Sign.TheVariants.{Stop, Escape, Bar, Repeats, Open, Close, Dot, Caret, Dollar, OpenClass, Plain}
 use Rattle.re_syntax.specs.declared.sign.ClassSign.{ClassSign}
-use Rattle.re_syntax.specs.declared.sign.ClassSign.TheVariants.{Ends, Escapes, Dash, Closes, Hat, Member}
+use Rattle.re_syntax.specs.declared.sign.ClassSign.TheVariants.{Closes, Member}
 use Rattle.re_syntax.specs.declared.scanner.Mode.{Mode}
 use Rattle.re_syntax.specs.declared.scanner.Mode.TheVariants.{Outside, Escaped, Opened, Next, NextEscaped, Low, Upto, UptoEscaped}
 use Rattle.re_syntax.specs.declared.scanner.Scanner.{Scanner}
 use Rattle.re_syntax.specs.declared.scanner.Token.TheVariants.{Leave}
-use Rattle.re_syntax.proofs.Written.{Kept, Levels}
-use Rattle.re_syntax.proofs.Sound.{Built, InMode, Inside, built_from, suc_not_zero, Whole, whole}
+use Rattle.re_syntax.proofs.Written.{Levels}
+use Rattle.re_syntax.proofs.Sound.{Built, InMode, Inside, built_from, suc_not_zero, whole}
 
 -- ---- signs
 

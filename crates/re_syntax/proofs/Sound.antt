@@ -1,15 +1,15 @@
 -- What is read is an expression, as far as it goes.
-use Rattle.std.proofs.Common.{◌≡◌, ℕ, zero, suc, ◌+◌, ◌-◌, ◌<◌, ◌≤◌, ◌⊎◌, ◌==◌, ◌&&◌, ◌||◌, Bool, true, false, not, cond, List, [], ◌∷◌, ◌++◌, length, Option, Some, None, refl, sym, ap, subst, ◌∙◌, inl, inr, arith}
-use Rattle.std.specs.Prelude.{IsTrue, IfSome, nat_lt}
+use Rattle.std.proofs.Common.{◌≡◌, ℕ, zero, suc, ◌+◌, ◌==◌, ◌&&◌, Bool, true, false, not, cond, List, [], ◌∷◌, ◌++◌, Option, Some, None, refl, sym, ap, subst, inl, inr, arith}
+use Rattle.std.specs.Prelude.{IfSome, nat_lt}
 use Rattle.std.proofs.lemmas.Bool.{ltb-false}
 use Rattle.std.proofs.lemmas.Bool.Decides.{nat_tests}
-use Rattle.re_syntax.specs.Tree.{Tree, OneOf, nodes}
+use Rattle.re_syntax.specs.Tree.{Tree, nodes}
 use Rattle.re_syntax.specs.Signs.{sign_of, class_sign_of, escaped}
-use Rattle.re_syntax.specs.Grammar.{Has, ClassHas, WritesMember, WritesRange, WritesRanges, OpensClass, Writes, IsExpression}
-use Rattle.re_syntax.specs.Scan.{Scanned, within, often, or, leave, outside, close_class, in_class, opened, with_range, after_low, high, after_dash, scan_in, scan}
+use Rattle.re_syntax.specs.Grammar.{Has, ClassHas, WritesMember, WritesRange, WritesRanges, OpensClass, IsExpression}
+use Rattle.re_syntax.specs.Scan.{within, often, or, leave, outside, close_class, in_class, opened, with_range, after_low, high, after_dash, scan_in}
 use Rattle.re_syntax.specs.Build.{Level, Stack, chain, choice, finished}
-use Rattle.re_syntax.specs.Read.{Reading, begin, taken, read, read_on, reads, is_complete}
-use Rattle.re_syntax.specs.declared.re.Re.{Re, Lit, Any, Class, Start, End}
+use Rattle.re_syntax.specs.Read.{Reading, begin, taken, read, reads, is_complete}
+use Rattle.re_syntax.specs.declared.re.Re.{Lit, Any, Class, Start, End}
 use Rattle.re_syntax.specs.declared.sign.Repeat.{Repeat}
 use Rattle.re_syntax.specs.declared.sign.Sign.{Sign}
 use Rattle.re_syntax.specs.declared.sign.Sign.TheVariants.{Stop, Lone, Escape, Bar, Repeats, Open, Close, Dot, Caret, Dollar, OpenClass, Plain}
@@ -18,7 +18,7 @@ use Rattle.re_syntax.specs.declared.sign.ClassSign.TheVariants.{Ends, Escapes, D
 use Rattle.re_syntax.specs.declared.scanner.Mode.{Mode}
 use Rattle.re_syntax.specs.declared.scanner.Mode.TheVariants.{Outside, Escaped, Opened, Next, NextEscaped, Low, Upto, UptoEscaped}
 use Rattle.re_syntax.specs.declared.scanner.Scanner.{Scanner}
-use Rattle.re_syntax.proofs.Written.{Kept, Levels, is_nil, stack_weight, tree_weights, kept_leaf, kept_often, kept_or, kept_enter, kept_leave, level_writes, level_nodes}
+use Rattle.re_syntax.proofs.Written.{Kept, Levels, kept_leaf, kept_often, kept_or, kept_enter, kept_leave, level_writes, level_nodes}
 
 -- whether a `^` that comes next would be the first of its class
 abbrev pub first_now : Bool → List (ℕ × ℕ) → Bool

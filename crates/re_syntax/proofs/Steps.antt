@@ -1,7 +1,6 @@
 -- One step of reading.
-use Rattle.std.proofs.Common.{◌≡◌, ℕ, ◌+◌, Option, Some, None, sym, ap, ◌∙◌}
+use Rattle.std.proofs.Common.{◌≡◌, ℕ, Option, Some, sym, ap, ◌∙◌}
 use Rattle.re_syntax.specs.Scan.{Scanned, scan}
-use Rattle.re_syntax.specs.Build.{built, weight}
 use Rattle.re_syntax.specs.Read.{Reading, taken, read}
 use Rattle.re_syntax.specs.declared.scanner.Token.{Token}
 use Rattle.re_syntax.specs.declared.scanner.Scanner.{Scanner}

@@ -1,9 +1,9 @@
 -- What the tokens so far spell.
-use Rattle.std.proofs.Common.{◌≡◌, ℕ, zero, suc, ◌+◌, ◌-◌, ◌<◌, ◌≤◌, ◌⊎◌, Bool, true, false, not, List, [], ◌∷◌, ◌++◌, length, Option, Some, None, refl, sym, ap, subst, ◌∙◌, inl, inr, arith}
+use Rattle.std.proofs.Common.{◌≡◌, ℕ, ◌+◌, ◌-◌, Bool, true, false, List, [], ◌∷◌, length, Option, refl, sym, subst, ◌∙◌, arith}
 use Rattle.std.specs.Prelude.{IsTrue}
-use Rattle.re_syntax.specs.Tree.{Tree, Letter, AnyLetter, OneOf, LineStart, LineEnd, Then, Either, Many, Several, Maybe, Group, tree, nodes, repeated, is_either, is_part}
+use Rattle.re_syntax.specs.Tree.{Tree, Then, Either, Group, tree, nodes, repeated, is_either, is_part}
 use Rattle.re_syntax.specs.Grammar.{Has, Writes}
-use Rattle.re_syntax.specs.Build.{Level, Stack, chain, choice, built, finished}
+use Rattle.re_syntax.specs.Build.{Level, Stack, chain, choice, built}
 use Rattle.re_syntax.specs.declared.re.Re.{Re}
 use Rattle.re_syntax.specs.declared.sign.Repeat.{Repeat}
 use Rattle.re_syntax.specs.declared.sign.Repeat.TheVariants.{Star, Plus, Opt}

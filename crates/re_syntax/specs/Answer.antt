@@ -1,6 +1,6 @@
 -- What reading an expression answers.
-use Rattle.std.specs.Prelude.{◌≡◌, ◌≤◌, ◌<◌, ◌+◌, ℕ, List, length, slice_range, Option}
-use Rattle.re_syntax.specs.Tree.{Tree, tree, nodes}
+use Rattle.std.specs.Prelude.{◌≤◌, ◌<◌, ◌+◌, ℕ, List, length, slice_range, Option}
+use Rattle.re_syntax.specs.Tree.{Tree, nodes}
 use Rattle.re_syntax.specs.Grammar.{IsExpression, GoesOn, MayEnd}
 use Rattle.re_syntax.specs.declared.re.ReFault.{ReFault}
 use Rattle.re_syntax.specs.declared.re.ReFault.TheVariants.{Bad, Nodes, NoMemory}

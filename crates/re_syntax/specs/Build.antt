@@ -1,6 +1,6 @@
 -- How a tree is built from tokens.
 use Rattle.std.specs.Prelude.{ℕ, ◌+◌, List, [], ◌∷◌, map, Option, Some, None}
-use Rattle.re_syntax.specs.Tree.{Tree, Then, Either, Group, tree, repeated, nodes}
+use Rattle.re_syntax.specs.Tree.{Tree, Then, Either, Group, tree, repeated}
 use Rattle.re_syntax.specs.declared.scanner.Token.{Token}
 use Rattle.re_syntax.specs.declared.scanner.Token.TheVariants.{Leaf, Often, Or, Enter, Leave}
 use Rattle.re_syntax.specs.declared.builder.Frame as frame

@@ -1,10 +1,10 @@
 -- How expressions are written.
-use Rattle.std.specs.Prelude.{◌≡◌, ◌≤◌, ◌<◌, ◌+◌, ◌⊎◌, ℕ, zero, suc, Bool, true, false, not, List, [], ◌∷◌, ◌++◌, length, slice_index, slice_range, Option, IsTrue}
+use Rattle.std.specs.Prelude.{◌≡◌, ◌≤◌, ◌<◌, ◌+◌, ◌⊎◌, ℕ, Bool, true, false, not, List, [], ◌∷◌, ◌++◌, length, slice_index, Option, IsTrue}
 use Rattle.re_syntax.specs.Tree.{Tree, Letter, AnyLetter, OneOf, LineStart, LineEnd, Then, Either, Many, Several, Maybe, Group, is_either, is_part}
 use Rattle.re_syntax.specs.Signs.{is_stop, sign_of, class_sign_of, escaped}
 use Rattle.re_syntax.specs.declared.sign.Repeat.TheVariants.{Star, Plus, Opt}
 use Rattle.re_syntax.specs.declared.sign.Sign.{Sign}
-use Rattle.re_syntax.specs.declared.sign.Sign.TheVariants.{Stop, Lone, Escape, Bar, Repeats, Open, Close, Dot, Caret, Dollar, OpenClass, Plain}
+use Rattle.re_syntax.specs.declared.sign.Sign.TheVariants.{Escape, Bar, Repeats, Open, Close, Dot, Caret, Dollar, OpenClass, Plain}
 use Rattle.re_syntax.specs.declared.sign.ClassSign.{ClassSign}
 use Rattle.re_syntax.specs.declared.sign.ClassSign.TheVariants.{Ends, Escapes, Dash, Closes, Hat, Member}
 

@@ -3,7 +3,7 @@ use Rattle.std.specs.Prelude.{◌≡◌, ◌≤◌, ◌<◌, ◌+◌, ◌==◌, 
 use Rattle.re_syntax.specs.Scan.{Scanned, scan, start}
 use Rattle.re_syntax.specs.Build.{Stack, stack_of, finished, built, nothing, weight}
 use Rattle.re_syntax.specs.declared.scanner.Mode.{Mode}
-use Rattle.re_syntax.specs.declared.scanner.Mode.TheVariants.{Outside, Escaped, Opened, Next, NextEscaped, Low, Upto, UptoEscaped}
+use Rattle.re_syntax.specs.declared.scanner.Mode.TheVariants.{Outside, Escaped, NextEscaped, UptoEscaped}
 use Rattle.re_syntax.specs.declared.scanner.Scanner.{Scanner}
 use Rattle.re_syntax.specs.declared.parser.Parser.{Parser}
 use Rattle.re_syntax.specs.declared.re.Re.{Re}

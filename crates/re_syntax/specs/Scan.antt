@@ -1,5 +1,5 @@
 -- What each rune does, where an expression is read from left to right.
-use Rattle.std.specs.Prelude.{◌==◌, ◌||◌, ◌+◌, ◌-◌, ℕ, Bool, true, false, List, [], ◌∷◌, ◌++◌, Option, Some, None, nat_lt, if◌then◌else◌}
+use Rattle.std.specs.Prelude.{◌==◌, ◌||◌, ◌+◌, ◌-◌, ℕ, true, false, [], ◌∷◌, ◌++◌, Option, Some, None, nat_lt, if◌then◌else◌}
 use Rattle.re_syntax.specs.Signs.{sign_of, class_sign_of, escaped}
 use Rattle.re_syntax.specs.declared.re.Re.{Re, Lit, Any, Class, Start, End}
 use Rattle.re_syntax.specs.declared.sign.Repeat.{Repeat}

@@ -10,5 +10,5 @@ mod sign;
 pub use parser::{a_text_has_one_tree, parse_re};
 pub use re::{Groups, Re, ReFault, RuneSpans};
 
-
-
+#[cfg(test)]
+mod tests;

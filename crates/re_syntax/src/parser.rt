@@ -104,7 +104,10 @@ fn is_outside(mode: Mode) -> bool
 fn is_escaped(mode: Mode) -> bool
     ensures { result ≡ is_escaped mode }
 {
-    matches!(mode, Mode::Escaped | Mode::NextEscaped | Mode::UptoEscaped(_))
+    matches!(
+        mode,
+        Mode::Escaped | Mode::NextEscaped | Mode::UptoEscaped(_)
+    )
 }
 
 fn is_complete(scanner: &Scanner) -> bool
@@ -166,5 +169,4 @@ pub fn parse_re(
 #[tactic(auto, using(crate::proofs::Complete::one_tree))]
 pub fn a_text_has_one_tree()
     ensures { (stop : Option ℕ) (text : List ℕ) (r s : Tree) → IsExpression stop text r → IsExpression stop text s → r ≡ s }
-{
-}
+{}

@@ -1,7 +1,5 @@
-use Rattle.std.proofs.Common.{◌≡◌, ◌≤◌, ◌<◌, ◌+◌, ◌⊎◌, ℕ, Bool, true, false, Some, None, length, get_or, arith, sym, ap, ◌∙◌, subst, inl, inr, refl}
+use Rattle.std.proofs.Common.{◌≡◌, ◌≤◌, length, get_or, arith, sym, inl, inr}
 use Rattle.std.proofs.lemmas.Result.{IfOk-weaker, IfErr-weaker}
-use Rattle.re_syntax.specs.Grammar.{MayEnd}
-use Rattle.re_syntax.specs.Read.{Reading, read}
 use Rattle.re_syntax.proofs.Answered.{more_here, read_near, stop_here, behind_here, refused_here, finished_here, fails_here}
 use Rattle.re_syntax.proofs.parser.parse_re.Goals as goal
 use Rattle.re_syntax.proofs.parser.parse_re.Goals.{else-is_stop-via-then-is_stop+else-not-is_escaped, else-is_stop-via-else-is_stop}
