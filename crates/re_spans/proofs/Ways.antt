@@ -222,3 +222,57 @@ found_all way R from found new on f clear j l = (
       let s = repeats_steps way R p.0 j p.2 in
       closed_has way R found (length from) on f.long (λ m k h lk q. f.closed m k h (clear m) lk q) s.0 p.0 j (f.begun p.0 p.1) l s.1,
 )
+
+-- ---- a repetition of a repetition is one
+
+repeats_put : (R : ℕ → ℕ → Type 0) (n i k j : ℕ) → Pieces R n i k → Repeats R k j → Repeats R i j
+repeats_put R zero i k j p r = subst (λ (x : ℕ). Repeats R x j) p r
+repeats_put R (suc n) i k j p r = let rest = repeats_put R n p.0 k j p.3 r in (suc rest.0, (p.0, p.1, p.2, rest.1))
+
+pub repeats_flat : (Q R : ℕ → ℕ → Type 0) → ((i j : ℕ) → Q i j → Repeats R i j) → (n i j : ℕ) → Pieces Q n i j → Repeats R i j
+repeats_flat Q R inner zero i j p = (zero, p)
+repeats_flat Q R inner (suc n) i j p =
+    let first = inner i p.0 p.2 in repeats_put R first.0 i p.0 j first.1 (repeats_flat Q R inner n p.0 j p.3)
+
+pub pieces_are : (Q R : ℕ → ℕ → Type 0) → ((i j : ℕ) → R i j → Q i j) → (n i j : ℕ) → Pieces R n i j → Pieces Q n i j
+pieces_are Q R one zero i j p = p
+pieces_are Q R one (suc n) i j p = (p.0, p.1, one i p.0 p.2, pieces_are Q R one n p.0 j p.3)
+
+-- the pieces of Q are made of pieces of R, and each of those is one of Q
+pub same_repeats : (way : Way) (Q R : ℕ → ℕ → Type 0) (from out : List Bool) → ((i j : ℕ) → Q i j → Repeats R i j) → ((i j : ℕ) → R i j → Q i j) → AreReached way (Repeats R) from out → AreReached way (Repeats Q) from out
+same_repeats On Q R from out inner one reached j l = (
+  λ h. let p = (reached j l).0 h in (p.0, p.1, (p.2.0, pieces_are Q R one p.2.0 p.0 j p.2.1)),
+  λ p. (reached j l).1 (p.0, p.1, repeats_flat Q R inner p.2.0 p.0 j p.2.1),
+)
+same_repeats Back Q R from out inner one reached j l = (
+  λ h. let p = (reached j l).0 h in (p.0, p.1, (p.2.0, pieces_are Q R one p.2.0 j p.0 p.2.1)),
+  λ p. (reached j l).1 (p.0, p.1, repeats_flat Q R inner p.2.0 j p.0 p.2.1),
+)
+
+-- one piece is a repetition
+pub one_repeats : (R : ℕ → ℕ → Type 0) → LeadsOn R → (i j : ℕ) → R i j → Repeats R i j
+one_repeats R on i j r = steps_pieces R on 1 i j (j, r, refl)
+
+pub joined_repeats : (R : ℕ → ℕ → Type 0) → LeadsOn R → (i j : ℕ) → Joins R (Repeats R) i j → Repeats R i j
+joined_repeats R on i j p = let one = one_repeats R on i p.0 p.1 in repeats_put R one.0 i p.0 j one.1 p.2
+
+pub maybe_repeats : (R : ℕ → ℕ → Type 0) → LeadsOn R → (i j : ℕ) → (R i j ⊎ (j ≡ i)) → Repeats R i j
+maybe_repeats R on i j p = elim p [ inl r ↦ one_repeats R on i j r | inr e ↦ (zero, e) ]
+
+-- ---- the same, where the way is known
+
+pub on_is : (way : Way) (R : ℕ → ℕ → Type 0) (from out : List Bool) → way ≡ On → AreReached On R from out → AreReached way R from out
+on_is On R from out e x = x
+on_is Back R from out e x = absurd cc
+
+pub back_is : (way : Way) (R : ℕ → ℕ → Type 0) (from out : List Bool) → way ≡ Back → AreReached Back R from out → AreReached way R from out
+back_is Back R from out e x = x
+back_is On R from out e x = absurd cc
+
+pub on_then_at : (way : Way) (R S : ℕ → ℕ → Type 0) (from middle out : List Bool) → way ≡ On → LeadsOn S → length middle ≡ length from → AreReached way R from middle → AreReached way S middle out → AreReached way (Joins R S) from out
+on_then_at On R S from middle out w on_s e first second = on_then R S from middle out on_s e first second
+on_then_at Back R S from middle out w on_s e first second = absurd cc
+
+pub back_then_at : (way : Way) (R S : ℕ → ℕ → Type 0) (from middle out : List Bool) → way ≡ Back → LeadsOn S → length middle ≡ length from → AreReached way S from middle → AreReached way R middle out → AreReached way (Joins R S) from out
+back_then_at Back R S from middle out w on_s e first second = back_then R S from middle out on_s e first second
+back_then_at On R S from middle out w on_s e first second = absurd cc

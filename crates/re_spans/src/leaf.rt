@@ -87,12 +87,7 @@ fn has_end(from: &Places, place: Option<usize>) -> bool
     }
 }
 
-fn leaf_on<T: Letters>(
-    alloc: Global,
-    re: &Re,
-    text: &T,
-    from: &Places,
-) -> Result<Places, NoMemory>
+fn leaf_on<T: Letters>(alloc: Global, re: &Re, text: &T, from: &Places) -> Result<Places, NoMemory>
     requires { length from.now ≤ length (T.letters text.now) + 1 }
     ensures count { IfOk result (λ out. length out ≡ length from.now) }
     ensures places { IfOk result (λ out. AreReached On (LeafEnds (tree re.now) (T.letters text.now)) from.now out) }

@@ -2,9 +2,14 @@
 #![tactic(auto)]
 
 mod choice;
+mod filling;
 mod leaf;
 mod places;
 mod reach;
 
-pub use choice::matches_span;
+pub use choice::{first_match, last_match, matches_span};
+pub use filling::groups;
 pub use re_syntax::{Groups, Re};
+
+#[cfg(test)]
+mod tests;

@@ -21,7 +21,7 @@ impl Model for Places {
     ghost view = { λ s. s.cells.items };
 }
 
-// What was in the one is taken over into the other, and what the other had leaves the one.
+// What is in the one is taken over into the other, and what the other had leaves the one.
 fn move_new(found: &mut [bool], next: &mut [bool])
     requires { length found.old ≡ length next.old }
     ensures found { (j : ℕ) → has found.new j ≡ (has found.old j || has next.old j) }

@@ -18,32 +18,6 @@ pub enum Way {
     Back,
 }
 
-// One tree after the other.
-#[cycle(reach)]
-fn both<T: Letters>(
-    alloc: Global,
-    a: &Re,
-    b: &Re,
-    text: &T,
-    way: Way,
-    from: Places,
-) -> Result<Places, NoMemory>
-    requires { length from ≤ length (T.letters text.now) + 1 }
-    ensures count { IfOk result (λ out. length out ≡ length from) }
-    ensures places { IfOk result (λ out. AreReached way (Joins (Matches (tree a.now) (T.letters text.now)) (Matches (tree b.now) (T.letters text.now))) from out) }
-{
-    match way {
-        Way::On => {
-            let middle = reach(alloc, a, text, way, from)?;
-            reach(alloc, b, text, way, middle)
-        }
-        Way::Back => {
-            let middle = reach(alloc, b, text, way, from)?;
-            reach(alloc, a, text, way, middle)
-        }
-    }
-}
-
 /// The places that any number of matches of the tree lead to.
 #[cycle(reach)]
 pub fn many<T: Letters>(
@@ -57,9 +31,32 @@ pub fn many<T: Letters>(
     ensures count { IfOk result (λ out. length out ≡ length from) }
     ensures places { IfOk result (λ out. AreReached way (Repeats (Matches (tree re.now) (T.letters text.now))) from out) }
 {
+    // A repetition of a repetition is one.
+    match re {
+        Re::Star(a) => many(alloc, a, text, way, from),
+        Re::Plus(a) => many(alloc, a, text, way, from),
+        Re::Opt(a) => many(alloc, a, text, way, from),
+        Re::Group(_, a) => many(alloc, a, text, way, from),
+        _ => again(alloc, re, text, way, from),
+    }
+}
+
+// The places that matches of the tree lead to, again and again, in rounds until no new place is found.
+#[cycle(reach)]
+fn again<T: Letters>(
+    alloc: Global,
+    re: &Re,
+    text: &T,
+    way: Way,
+    from: Places,
+) -> Result<Places, NoMemory>
+    requires { length from ≤ length (T.letters text.now) + 1 }
+    ensures count { IfOk result (λ out. length out ≡ length from) }
+    ensures places { IfOk result (λ out. AreReached way (Repeats (Matches (tree re.now) (T.letters text.now))) from out) }
+{
     let mut found = from.copied(alloc)?;
     let mut new = from;
-    while !new.is_empty() {
+    'rounds: while !new.is_empty() {
         new = reach(alloc, re, text, way, new)?;
         found.move_new(&mut new);
     }
@@ -110,7 +107,16 @@ pub fn reach<T: Letters>(
         Re::Class { .. } => leaf(alloc, re, text, way, &from),
         Re::Start => leaf(alloc, re, text, way, &from),
         Re::End => leaf(alloc, re, text, way, &from),
-        Re::Cat(a, b) => both(alloc, a, b, text, way, from),
+        Re::Cat(a, b) => match way {
+            Way::On => {
+                let middle = reach(alloc, a, text, way, from)?;
+                reach(alloc, b, text, way, middle)
+            }
+            Way::Back => {
+                let middle = reach(alloc, b, text, way, from)?;
+                reach(alloc, a, text, way, middle)
+            }
+        },
         Re::Alt(a, b) => {
             let mut out = reach(alloc, a, text, way, from.copied(alloc)?)?;
             let second = reach(alloc, b, text, way, from)?;
