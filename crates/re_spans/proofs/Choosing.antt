@@ -1,13 +1,12 @@
 -- Which of the spans is taken.
-use Rattle.std.proofs.Common.{◌≡◌, ◌≢◌, ℕ, zero, suc, ◌+◌, ◌-◌, ◌<◌, ◌≤◌, ◌⊎◌, ◌==◌, ◌&&◌, Bool, true, false, not, List, [], ◌∷◌, length, get_or, set, replicate, Option, Some, None, refl, sym, ap, subst, ◌∙◌, inl, inr, arith, get_or-set_same, get_or-set_other}
+use Rattle.std.proofs.Common.{◌≡◌, ◌≢◌, ℕ, zero, suc, ◌+◌, ◌<◌, ◌≤◌, ◌==◌, ◌&&◌, Bool, true, false, not, List, length, set, replicate, Option, Some, None, refl, sym, ap, subst, ◌∙◌, inl, inr, arith, get_or-set_same, get_or-set_other}
 use Rattle.std.specs.Prelude.{IsTrue, IfNone, ◌↔◌}
 use Rattle.std.proofs.lemmas.Bool.{cases_lt, eqb-true, eq-eqb}
 use Rattle.std.proofs.lemmas.List.{length-set, length-replicate}
 use Rattle.re_syntax.specs.Tree.{Tree}
-use Rattle.re_syntax.specs.Match.{Matches, IsSpan, IsFirst, IsLast, HasNoSpan}
-use Rattle.am_text.specs.declared.range.Range.{Range}
+use Rattle.re_syntax.specs.Match.{Matches, IsSpan, IsFirst, IsLast}
 use Rattle.re_spans.specs.Places.{has}
-use Rattle.re_spans.specs.Reached.{Along, Reached, AreReached}
+use Rattle.re_spans.specs.Reached.{AreReached}
 use Rattle.re_spans.specs.declared.reach.Way.TheVariants.{On, Back}
 use Rattle.re_spans.specs.Choice.{passes, is_at, IsAllowed, IsLongestFrom, IsLongestTo}
 use Rattle.re_spans.proofs.Ways.{has_within, Matches-on}

@@ -1,12 +1,12 @@
 -- Matches of leaves.
-use Rattle.std.proofs.Common.{◌≡◌, ◌≢◌, ℕ, zero, suc, ◌+◌, ◌-◌, ◌<◌, ◌≤◌, ◌⊎◌, ◌==◌, ◌&&◌, ◌||◌, Bool, true, false, not, List, [], ◌∷◌, length, get_or, set, Option, Some, None, refl, sym, ap, subst, ◌∙◌, inl, inr, arith, get_or-set_same, get_or-set_other}
+use Rattle.std.proofs.Common.{◌≡◌, ◌≢◌, ℕ, ◌+◌, ◌-◌, ◌<◌, ◌≤◌, ◌⊎◌, ◌==◌, ◌&&◌, ◌||◌, Bool, true, false, not, List, length, get_or, set, Option, Some, refl, sym, ap, subst, ◌∙◌, inl, inr, arith, get_or-set_same, get_or-set_other}
 use Rattle.std.specs.Prelude.{IsTrue, ◌↔◌, nat_lt}
 use Rattle.std.proofs.lemmas.Bool.{cases_lt, eqb-true, eq-eqb}
 use Rattle.re_syntax.specs.Tree.{Tree, Letter, AnyLetter, OneOf, LineStart, LineEnd, Then, Either, Many, Several, Maybe, Group}
 use Rattle.re_syntax.specs.Match.{Matches, is_in_class}
 use Rattle.re_spans.specs.Places.{has}
-use Rattle.re_spans.specs.Reached.{Along, Reached, AreReached}
-use Rattle.re_spans.specs.Leaves.{one_if, null_if, leaf_end, LeafEnds, is_leaf}
+use Rattle.re_spans.specs.Reached.{AreReached}
+use Rattle.re_spans.specs.Leaves.{one_if, null_if, LeafEnds, is_leaf}
 use Rattle.re_spans.specs.declared.reach.Way.{Way}
 use Rattle.re_spans.specs.declared.reach.Way.TheVariants.{On, Back}
 

@@ -1,5 +1,5 @@
 -- Where the first part of a span ends.
-use Rattle.std.proofs.Common.{◌≡◌, ℕ, zero, suc, ◌+◌, ◌-◌, ◌<◌, ◌≤◌, Bool, List, length, Option, Some, None, refl, subst, arith}
+use Rattle.std.proofs.Common.{◌≡◌, ℕ, zero, suc, ◌+◌, ◌<◌, ◌≤◌, Bool, List, length, Option, Some, None, arith}
 use Rattle.std.specs.Prelude.{IsTrue, ◌↔◌}
 use Rattle.re_syntax.specs.Match.{Repeats, Pieces, Joins}
 use Rattle.re_syntax.specs.Groups.{IsLongest, AheadBy, Walk}

@@ -1,9 +1,7 @@
-use Rattle.std.proofs.Common.{◌≡◌, ◌<◌, ◌≤◌, ◌+◌, ℕ, Some, None, length, sym, ap, ◌∙◌, arith}
-use Rattle.std.proofs.lemmas.Option.{IfSome_then}
+use Rattle.std.proofs.Common.{◌≡◌, ◌+◌, sym, ◌∙◌, arith}
 use Rattle.re_syntax.specs.Tree.{tree}
-use Rattle.re_syntax.specs.Match.{Matches, Repeats}
 use Rattle.re_spans.proofs.Ways.{Matches-on}
-use Rattle.re_spans.proofs.Choosing.{first_is, none_from, no_start, none_here}
+use Rattle.re_spans.proofs.Choosing.{none_from, no_start, none_here}
 use Rattle.re_spans.proofs.choice.first_match.Goals as goal
 use Rattle.re_spans.proofs.choice.first_match.Goals.{then-has+in_ok-j+in_default-2, else-has}
 

@@ -1,9 +1,7 @@
-use Rattle.std.proofs.Common.{◌≡◌, ◌<◌, ◌≤◌, ◌+◌, ◌-◌, ℕ, Some, None, length, sym, ap, ◌∙◌, arith}
-use Rattle.std.proofs.lemmas.Option.{IfSome_then}
+use Rattle.std.proofs.Common.{◌≡◌, ◌+◌, ◌-◌, sym, ◌∙◌, arith}
 use Rattle.re_syntax.specs.Tree.{tree}
-use Rattle.re_syntax.specs.Match.{Matches, Repeats}
 use Rattle.re_spans.proofs.Ways.{Matches-on}
-use Rattle.re_spans.proofs.Choosing.{last_is, none_to, no_end, none_there}
+use Rattle.re_spans.proofs.Choosing.{none_to, no_end}
 use Rattle.re_spans.proofs.choice.last_match.Goals as goal
 
 pub returns-clause-none : goal.returns-clause-none

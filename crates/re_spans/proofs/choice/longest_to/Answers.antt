@@ -1,7 +1,7 @@
-use Rattle.std.proofs.Common.{◌≡◌, ◌<◌, ◌≤◌, ◌+◌, ℕ, Some, None, length, sym, ap, ◌∙◌, arith}
+use Rattle.std.proofs.Common.{length, ap, ◌∙◌}
 use Rattle.std.proofs.lemmas.Option.{IfSome_then}
 use Rattle.re_syntax.specs.Tree.{tree}
-use Rattle.re_syntax.specs.Match.{Matches, Repeats}
+use Rattle.re_syntax.specs.Match.{Matches}
 use Rattle.re_spans.proofs.Ways.{Matches-on}
 use Rattle.re_spans.proofs.Choosing.{IfNone_then, one_long, one_back, longest_to_is, longest_to_none}
 use Rattle.re_spans.proofs.choice.longest_to.Goals as goal

@@ -1,8 +1,7 @@
-use Rattle.std.proofs.Common.{◌≡◌, ◌<◌, ◌≤◌, ◌+◌, ℕ, Some, None, length, sym, ap, ◌∙◌, arith}
-use Rattle.std.proofs.lemmas.Option.{IfSome_then}
+use Rattle.std.proofs.Common.{◌≡◌, ◌+◌, arith}
 use Rattle.re_syntax.specs.Tree.{tree}
-use Rattle.re_syntax.specs.Match.{Matches, Repeats}
-use Rattle.re_spans.proofs.Choosing.{one_long, one_on}
+use Rattle.re_syntax.specs.Match.{Matches}
+use Rattle.re_spans.proofs.Choosing.{one_on}
 use Rattle.re_spans.proofs.choice.matches_span.Goals as goal
 
 pub returns : goal.returns

@@ -1,7 +1,6 @@
-use Rattle.std.proofs.Common.{◌≡◌, ◌<◌, ◌≤◌, ◌+◌, ℕ, Some, None, length, sym, ap, ◌∙◌, arith}
-use Rattle.std.proofs.lemmas.Option.{IfSome_then}
+use Rattle.std.proofs.Common.{length, ap, ◌∙◌, arith}
 use Rattle.re_syntax.specs.Tree.{tree}
-use Rattle.re_syntax.specs.Match.{Matches, Repeats}
+use Rattle.re_syntax.specs.Match.{Matches}
 use Rattle.re_spans.proofs.Ways.{Matches-on}
 use Rattle.re_spans.proofs.Choosing.{one_long, one_on, one_back}
 use Rattle.re_spans.proofs.Splitting.{split_some, split_none, joins_past, ahead_zero}

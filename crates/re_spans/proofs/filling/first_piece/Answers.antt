@@ -1,5 +1,4 @@
-use Rattle.std.proofs.Common.{◌≡◌, ◌<◌, ◌≤◌, ◌+◌, ℕ, Some, None, length, sym, ap, ◌∙◌, arith}
-use Rattle.std.proofs.lemmas.Option.{IfSome_then}
+use Rattle.std.proofs.Common.{length, ap, ◌∙◌, arith}
 use Rattle.re_syntax.specs.Tree.{tree}
 use Rattle.re_syntax.specs.Match.{Matches, Repeats}
 use Rattle.re_spans.proofs.Ways.{Matches-on, Repeats-on}

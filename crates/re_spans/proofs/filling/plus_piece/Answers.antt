@@ -1,8 +1,7 @@
 use Rattle.re_syntax.specs.Tree.{tree}
 use Rattle.re_syntax.specs.Match.{Matches, Repeats}
-use Rattle.std.proofs.lemmas.Result.{IfOk-weaker}
 use Rattle.re_spans.proofs.Ways.{Matches-on}
-use Rattle.re_spans.proofs.Splitting.{joins_past, ahead_zero, walk_some}
+use Rattle.re_spans.proofs.Splitting.{joins_past, walk_some}
 use Rattle.re_spans.proofs.filling.plus_piece.Goals as goal
 
 pub first_piece-requires-clause-joins : goal.first_piece-requires-clause-joins

@@ -1,4 +1,4 @@
-use Rattle.std.proofs.Common.{◌≡◌, ◌<◌, ◌≤◌, ℕ, length, sym, ◌∙◌, arith, true, false}
+use Rattle.std.proofs.Common.{◌<◌, length, ◌∙◌, arith, true}
 use Rattle.std.proofs.lemmas.List.{length-set}
 use Rattle.re_syntax.specs.Tree.{tree}
 use Rattle.re_spans.specs.Leaves.{leaf_end}

@@ -1,4 +1,4 @@
-use Rattle.std.proofs.Common.{◌≡◌, ◌<◌, ℕ, length, sym, ◌∙◌, arith}
+use Rattle.std.proofs.Common.{length, sym, ◌∙◌, arith}
 use Rattle.re_syntax.specs.Tree.{tree}
 use Rattle.re_spans.specs.Leaves.{leaf_end}
 use Rattle.re_spans.proofs.LeafLemmas.{on_put, on_skip}

@@ -1,4 +1,4 @@
-use Rattle.std.proofs.Common.{◌≡◌, ◌<◌, ◌≤◌, length, arith}
+use Rattle.std.proofs.Common.{◌<◌, length, arith}
 use Rattle.re_spans.proofs.Counting.{moving_first, moving_none, moving_known, moving_new, moved_found, moved_next, moved_count}
 use Rattle.re_spans.proofs.places.move_new.Goals as goal
 use Rattle.re_spans.proofs.places.move_new.Goals.{then-next-j+then-found-j, then-next-j+else-found-j, else-next-j}

@@ -1,4 +1,4 @@
-use Rattle.std.proofs.Common.{◌≡◌, ◌⊎◌, ℕ, refl, sym, inl, arith}
+use Rattle.std.proofs.Common.{◌≡◌, ◌⊎◌, refl, inl}
 use Rattle.std.proofs.lemmas.Result.{IfOk-weaker}
 use Rattle.re_syntax.specs.Tree.{tree}
 use Rattle.re_syntax.specs.Match.{Matches, Repeats, Joins}
