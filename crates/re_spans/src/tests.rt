@@ -175,36 +175,40 @@ fn last(
 }
 
 #[test]
-fn first_and_last_spans(rt: HostRuntime) -> Result<(), Fail> {
+fn spans_of_whole_texts(rt: HostRuntime) -> Result<(), Fail> {
     let alloc = rt.alloc();
     for (expression, text, want_first, want_last) in WHOLE {
         let re = tree(alloc, expression)?;
         let text = runes(alloc, text)?;
         let len = text.len();
-        assert!(rt;
-            first(alloc, &re, &text, 0, len, None)? == want_first,
-            "{expression}"
-        );
-        assert!(rt;
-            last(alloc, &re, &text, 0, len, None)? == want_last,
-            "{expression}"
-        );
+        let found = first(alloc, &re, &text, 0, len, None)?;
+        assert!(rt; found == want_first, "{expression}");
+        let found = last(alloc, &re, &text, 0, len, None)?;
+        assert!(rt; found == want_last, "{expression}");
     }
+    Ok(())
+}
+
+#[test]
+fn first_spans(rt: HostRuntime) -> Result<(), Fail> {
+    let alloc = rt.alloc();
     for (expression, text, from, end, no_null, want) in FIRST {
         let re = tree(alloc, expression)?;
         let text = runes(alloc, text)?;
-        assert!(rt;
-            first(alloc, &re, &text, from, end, no_null)? == want,
-            "{expression}"
-        );
+        let found = first(alloc, &re, &text, from, end, no_null)?;
+        assert!(rt; found == want, "{expression}");
     }
+    Ok(())
+}
+
+#[test]
+fn last_spans(rt: HostRuntime) -> Result<(), Fail> {
+    let alloc = rt.alloc();
     for (expression, text, start, to, no_null, want) in LAST {
         let re = tree(alloc, expression)?;
         let text = runes(alloc, text)?;
-        assert!(rt;
-            last(alloc, &re, &text, start, to, no_null)? == want,
-            "{expression}"
-        );
+        let found = last(alloc, &re, &text, start, to, no_null)?;
+        assert!(rt; found == want, "{expression}");
     }
     Ok(())
 }
