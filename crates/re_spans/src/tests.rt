@@ -7,7 +7,7 @@ use std::test::Fail;
 type Span = Option<(usize, usize)>;
 
 // An expression, a text, and its first and last span.
-const WHOLE: [(&str, &str, Span, Span); 69] = [
+const LETTERS: [(&str, &str, Span, Span); 12] = [
     ("a", "xaab", Some((1, 2)), Some((2, 3))),
     ("ab", "xab", Some((1, 3)), Some((1, 3))),
     ("a|ab", "ab", Some((0, 2)), Some((0, 2))),
@@ -20,6 +20,9 @@ const WHOLE: [(&str, &str, Span, Span); 69] = [
     ("a?b", "aab", Some((1, 3)), Some((1, 3))),
     ("a*b", "xaab\nab", Some((1, 4)), Some((5, 7))),
     ("(a|b)*c", "abac", Some((0, 4)), Some((0, 4))),
+];
+
+const REPEATS: [(&str, &str, Span, Span); 12] = [
     ("(a|b)*c", "xabcab", Some((1, 4)), Some((1, 4))),
     ("(a*)*", "aab", Some((0, 2)), Some((3, 3))),
     ("(a*)*b", "aab", Some((0, 3)), Some((0, 3))),
@@ -32,6 +35,9 @@ const WHOLE: [(&str, &str, Span, Span); 69] = [
     ("a??b", "ab", Some((0, 2)), Some((0, 2))),
     (".", "\na", Some((1, 2)), Some((1, 2))),
     (".*", "ab\ncd", Some((0, 2)), Some((3, 5))),
+];
+
+const CLASSES: [(&str, &str, Span, Span); 12] = [
     (".+", "\n\nab", Some((2, 4)), Some((2, 4))),
     ("a.b", "a\nb axb", Some((4, 7)), Some((4, 7))),
     ("[a-c]+", "xabcabcd", Some((1, 7)), Some((1, 7))),
@@ -44,6 +50,9 @@ const WHOLE: [(&str, &str, Span, Span); 69] = [
     ("[a\\]]", "]", Some((0, 1)), Some((0, 1))),
     ("a]", "xa]", Some((1, 3)), Some((1, 3))),
     ("[\\n]", "a\nb", Some((1, 2)), Some((1, 2))),
+];
+
+const PLACES: [(&str, &str, Span, Span); 12] = [
     ("[b-d]", "abcde", Some((1, 2)), Some((3, 4))),
     ("[0-9]+", "a12b345", Some((1, 3)), Some((4, 7))),
     ("[a-z]+\\.c", "see main.c now", Some((4, 10)), Some((4, 10))),
@@ -56,6 +65,9 @@ const WHOLE: [(&str, &str, Span, Span); 69] = [
     ("$", "ab\ncd", Some((2, 2)), Some((5, 5))),
     ("b$", "ab\nb", Some((1, 2)), Some((3, 4))),
     ("a$", "ab\nba\n", Some((4, 5)), Some((4, 5))),
+];
+
+const MIXED: [(&str, &str, Span, Span); 12] = [
     ("^$", "a\n\nb", Some((2, 2)), Some((2, 2))),
     ("^$", "\n", Some((0, 0)), Some((0, 0))),
     ("$^", "\na", Some((0, 0)), Some((0, 0))),
@@ -68,6 +80,9 @@ const WHOLE: [(&str, &str, Span, Span); 69] = [
     ("\\*+", "a**b", Some((1, 3)), Some((1, 3))),
     ("x*", "aaa", Some((0, 0)), Some((3, 3))),
     ("(x*)(y*)", "ab", Some((0, 0)), Some((2, 2))),
+];
+
+const OTHERS: [(&str, &str, Span, Span); 9] = [
     ("t.o", "one\ntwo\n", Some((4, 7)), Some((4, 7))),
     ("o", "one\ntwo\n", Some((0, 1)), Some((6, 7))),
     ("zz", "one\ntwo\n", None, None),
@@ -174,40 +189,114 @@ fn last(
     Ok(span_of(found))
 }
 
+// The first and the last span in the whole text.
+fn spans_of(alloc: Global, expression: &str, text: &str) -> Result<(Span, Span), AllocError> {
+    let re = tree(alloc, expression)?;
+    let text = runes(alloc, text)?;
+    let begins = first(alloc, &re, &text, 0, text.len(), None)?;
+    let ends = last(alloc, &re, &text, 0, text.len(), None)?;
+    Ok((begins, ends))
+}
+
 #[test]
-fn spans_of_whole_texts(rt: HostRuntime) -> Result<(), Fail> {
+fn spans_of_letters(rt: HostRuntime) -> Result<(), Fail> {
     let alloc = rt.alloc();
-    for (expression, text, want_first, want_last) in WHOLE {
-        let re = tree(alloc, expression)?;
-        let text = runes(alloc, text)?;
-        let len = text.len();
-        let found = first(alloc, &re, &text, 0, len, None)?;
-        assert!(rt; found == want_first, "{expression}");
-        let found = last(alloc, &re, &text, 0, len, None)?;
-        assert!(rt; found == want_last, "{expression}");
+    for (expression, text, want_first, want_last) in LETTERS {
+        let spans = spans_of(alloc, expression, text)?;
+        assert!(rt; spans == (want_first, want_last), "{expression}");
     }
     Ok(())
 }
 
 #[test]
-fn first_spans(rt: HostRuntime) -> Result<(), Fail> {
+fn spans_of_repeats(rt: HostRuntime) -> Result<(), Fail> {
+    let alloc = rt.alloc();
+    for (expression, text, want_first, want_last) in REPEATS {
+        let spans = spans_of(alloc, expression, text)?;
+        assert!(rt; spans == (want_first, want_last), "{expression}");
+    }
+    Ok(())
+}
+
+#[test]
+fn spans_of_classes(rt: HostRuntime) -> Result<(), Fail> {
+    let alloc = rt.alloc();
+    for (expression, text, want_first, want_last) in CLASSES {
+        let spans = spans_of(alloc, expression, text)?;
+        assert!(rt; spans == (want_first, want_last), "{expression}");
+    }
+    Ok(())
+}
+
+#[test]
+fn spans_of_places(rt: HostRuntime) -> Result<(), Fail> {
+    let alloc = rt.alloc();
+    for (expression, text, want_first, want_last) in PLACES {
+        let spans = spans_of(alloc, expression, text)?;
+        assert!(rt; spans == (want_first, want_last), "{expression}");
+    }
+    Ok(())
+}
+
+#[test]
+fn spans_of_mixed(rt: HostRuntime) -> Result<(), Fail> {
+    let alloc = rt.alloc();
+    for (expression, text, want_first, want_last) in MIXED {
+        let spans = spans_of(alloc, expression, text)?;
+        assert!(rt; spans == (want_first, want_last), "{expression}");
+    }
+    Ok(())
+}
+
+#[test]
+fn spans_of_others(rt: HostRuntime) -> Result<(), Fail> {
+    let alloc = rt.alloc();
+    for (expression, text, want_first, want_last) in OTHERS {
+        let spans = spans_of(alloc, expression, text)?;
+        assert!(rt; spans == (want_first, want_last), "{expression}");
+    }
+    Ok(())
+}
+
+fn first_in(
+    alloc: Global,
+    expression: &str,
+    text: &str,
+    bounds: (usize, usize),
+    no_null: Option<usize>,
+) -> Result<Span, AllocError> {
+    let re = tree(alloc, expression)?;
+    let text = runes(alloc, text)?;
+    first(alloc, &re, &text, bounds.0, bounds.1, no_null)
+}
+
+#[test]
+fn first_spans_in_bounds(rt: HostRuntime) -> Result<(), Fail> {
     let alloc = rt.alloc();
     for (expression, text, from, end, no_null, want) in FIRST {
-        let re = tree(alloc, expression)?;
-        let text = runes(alloc, text)?;
-        let found = first(alloc, &re, &text, from, end, no_null)?;
+        let found = first_in(alloc, expression, text, (from, end), no_null)?;
         assert!(rt; found == want, "{expression}");
     }
     Ok(())
 }
 
+fn last_in(
+    alloc: Global,
+    expression: &str,
+    text: &str,
+    bounds: (usize, usize),
+    no_null: Option<usize>,
+) -> Result<Span, AllocError> {
+    let re = tree(alloc, expression)?;
+    let text = runes(alloc, text)?;
+    last(alloc, &re, &text, bounds.0, bounds.1, no_null)
+}
+
 #[test]
-fn last_spans(rt: HostRuntime) -> Result<(), Fail> {
+fn last_spans_in_bounds(rt: HostRuntime) -> Result<(), Fail> {
     let alloc = rt.alloc();
     for (expression, text, start, to, no_null, want) in LAST {
-        let re = tree(alloc, expression)?;
-        let text = runes(alloc, text)?;
-        let found = last(alloc, &re, &text, start, to, no_null)?;
+        let found = last_in(alloc, expression, text, (start, to), no_null)?;
         assert!(rt; found == want, "{expression}");
     }
     Ok(())
@@ -245,7 +334,7 @@ fn many_of(alloc: Global, rune: Rune, count: usize, all: &mut Runes) -> Result<(
     Ok(())
 }
 
-// The trees of 2,048 nodes, or nearly so, are a****.., aaa.., ((..a..)), and a|a|a...
+// Trees of 2,048 nodes, or one less: a****.., aaa.., and ((..a..)).
 #[test]
 fn deep_trees(rt: HostRuntime) -> Result<(), Fail> {
     let alloc = rt.alloc();
