@@ -1,5 +1,0 @@
-pub mod Places
-pub mod Reached
-pub mod Leaves
-pub mod Choice
-pub mod Pieces
