@@ -1,0 +1,5 @@
+pub mod Counting
+pub mod Ways
+pub mod Choosing
+pub mod Splitting
+pub mod LeafLemmas

@@ -1,0 +1,15 @@
+//! Which spans of a text an expression matches, by sets of places.
+#![tactic(auto)]
+
+mod choice;
+mod filling;
+mod leaf;
+mod places;
+mod reach;
+
+pub use choice::{first_match, last_match, matches_span};
+pub use filling::groups;
+pub use re_syntax::{Groups, Re};
+
+#[cfg(test)]
+mod tests;

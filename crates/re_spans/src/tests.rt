@@ -1,0 +1,360 @@
+use crate::{first_match, groups, last_match, matches_span};
+use am_text::{Items, Range, Rune, Runes, decode_whole};
+use re_syntax::{Re, parse_re};
+use std::alloc::{AllocError, Global};
+use std::test::Fail;
+
+type Span = Option<(usize, usize)>;
+
+// An expression, a text, and its first and last span.
+const LETTERS: [(&str, &str, Span, Span); 12] = [
+    ("a", "xaab", Some((1, 2)), Some((2, 3))),
+    ("ab", "xab", Some((1, 3)), Some((1, 3))),
+    ("a|ab", "ab", Some((0, 2)), Some((0, 2))),
+    ("ab|a", "ab", Some((0, 2)), Some((0, 2))),
+    ("a|ab", "xabab", Some((1, 3)), Some((3, 5))),
+    ("a*", "aab", Some((0, 2)), Some((3, 3))),
+    ("a*", "xaa", Some((0, 0)), Some((1, 3))),
+    ("a+", "xaab", Some((1, 3)), Some((1, 3))),
+    ("a?", "ab", Some((0, 1)), Some((2, 2))),
+    ("a?b", "aab", Some((1, 3)), Some((1, 3))),
+    ("a*b", "xaab\nab", Some((1, 4)), Some((5, 7))),
+    ("(a|b)*c", "abac", Some((0, 4)), Some((0, 4))),
+];
+
+const REPEATS: [(&str, &str, Span, Span); 12] = [
+    ("(a|b)*c", "xabcab", Some((1, 4)), Some((1, 4))),
+    ("(a*)*", "aab", Some((0, 2)), Some((3, 3))),
+    ("(a*)*b", "aab", Some((0, 3)), Some((0, 3))),
+    ("(a*)+b", "aab", Some((0, 3)), Some((0, 3))),
+    ("((a)|b)*", "abba", Some((0, 4)), Some((0, 4))),
+    ("(a|ab)(c|bcd)", "abcd", Some((0, 4)), Some((0, 4))),
+    ("(ab|a)(bc|c)?", "abc", Some((0, 3)), Some((0, 3))),
+    ("a**", "aa", Some((0, 2)), Some((0, 2))),
+    ("a+?", "aa", Some((0, 2)), Some((0, 2))),
+    ("a??b", "ab", Some((0, 2)), Some((0, 2))),
+    (".", "\na", Some((1, 2)), Some((1, 2))),
+    (".*", "ab\ncd", Some((0, 2)), Some((3, 5))),
+];
+
+const CLASSES: [(&str, &str, Span, Span); 12] = [
+    (".+", "\n\nab", Some((2, 4)), Some((2, 4))),
+    ("a.b", "a\nb axb", Some((4, 7)), Some((4, 7))),
+    ("[a-c]+", "xabcabcd", Some((1, 7)), Some((1, 7))),
+    ("[^a-c]+", "abxy\nz", Some((2, 4)), Some((5, 6))),
+    ("[^x]", "x\ny", Some((2, 3)), Some((2, 3))),
+    ("[^^a]", "a^b", Some((2, 3)), Some((2, 3))),
+    ("[a^]+", "b^a", Some((1, 3)), Some((1, 3))),
+    ("[\\-a]+", "b-a-", Some((1, 4)), Some((1, 4))),
+    ("[\\]a]+", "b]a]", Some((1, 4)), Some((1, 4))),
+    ("[a\\]]", "]", Some((0, 1)), Some((0, 1))),
+    ("a]", "xa]", Some((1, 3)), Some((1, 3))),
+    ("[\\n]", "a\nb", Some((1, 2)), Some((1, 2))),
+];
+
+const PLACES: [(&str, &str, Span, Span); 12] = [
+    ("[b-d]", "abcde", Some((1, 2)), Some((3, 4))),
+    ("[0-9]+", "a12b345", Some((1, 3)), Some((4, 7))),
+    ("[a-z]+\\.c", "see main.c now", Some((4, 10)), Some((4, 10))),
+    ("^a", "ba\nab", Some((3, 4)), Some((3, 4))),
+    ("^", "ab\ncd", Some((0, 0)), Some((3, 3))),
+    ("^", "\n", Some((0, 0)), Some((0, 0))),
+    ("^", "ab\n", Some((0, 0)), Some((0, 0))),
+    ("^ab", "ab\nab", Some((0, 2)), Some((3, 5))),
+    ("$", "ab", Some((2, 2)), Some((2, 2))),
+    ("$", "ab\ncd", Some((2, 2)), Some((5, 5))),
+    ("b$", "ab\nb", Some((1, 2)), Some((3, 4))),
+    ("a$", "ab\nba\n", Some((4, 5)), Some((4, 5))),
+];
+
+const MIXED: [(&str, &str, Span, Span); 12] = [
+    ("^$", "a\n\nb", Some((2, 2)), Some((2, 2))),
+    ("^$", "\n", Some((0, 0)), Some((0, 0))),
+    ("$^", "\na", Some((0, 0)), Some((0, 0))),
+    ("a^b", "ab", None, None),
+    ("a$b", "ab", None, None),
+    ("a$\\nb", "a\nb", Some((0, 3)), Some((0, 3))),
+    ("\\nb", "a\nb", Some((1, 3)), Some((1, 3))),
+    ("\\.", "a.b", Some((1, 2)), Some((1, 2))),
+    ("\\\\", "a\\b", Some((1, 2)), Some((1, 2))),
+    ("\\*+", "a**b", Some((1, 3)), Some((1, 3))),
+    ("x*", "aaa", Some((0, 0)), Some((3, 3))),
+    ("(x*)(y*)", "ab", Some((0, 0)), Some((2, 2))),
+];
+
+const OTHERS: [(&str, &str, Span, Span); 9] = [
+    ("t.o", "one\ntwo\n", Some((4, 7)), Some((4, 7))),
+    ("o", "one\ntwo\n", Some((0, 1)), Some((6, 7))),
+    ("zz", "one\ntwo\n", None, None),
+    ("a|b|c", "xcba", Some((1, 2)), Some((3, 4))),
+    ("(a|b)(c|d)", "xadbc", Some((1, 3)), Some((3, 5))),
+    ("(aa|a)(aa|a)", "aaa", Some((0, 3)), Some((0, 3))),
+    ("a(b|c)*d", "abcbd acd", Some((0, 5)), Some((6, 9))),
+    ("(^a|b)+", "ab\nab", Some((0, 2)), Some((3, 5))),
+    ("b", "", None, None),
+];
+
+// An expression, a text, bounds, the place of the null span left out, and the first span.
+const FIRST: [(&str, &str, usize, usize, Option<usize>, Span); 11] = [
+    ("a*", "xaab", 0, 4, Some(0), Some((1, 3))),
+    ("a*", "xaab", 0, 4, None, Some((0, 0))),
+    ("a*", "xaab", 1, 4, Some(1), Some((1, 3))),
+    ("a*", "baa", 3, 3, Some(3), None),
+    ("^", "ab\ncd", 0, 5, Some(0), Some((3, 3))),
+    ("$", "ab\ncd", 3, 5, None, Some((5, 5))),
+    ("a", "abab", 1, 3, None, Some((2, 3))),
+    ("b*", "abb", 0, 2, Some(0), Some((1, 2))),
+    ("(ab)*", "abab", 1, 4, Some(1), Some((2, 4))),
+    ("^a", "aab", 1, 3, None, None),
+    (".*", "ab\ncd", 1, 4, None, Some((1, 2))),
+];
+
+// The same with the last span.
+const LAST: [(&str, &str, usize, usize, Option<usize>, Span); 9] = [
+    ("a*", "aax", 0, 3, Some(3), Some((0, 2))),
+    ("a*", "aax", 0, 3, None, Some((3, 3))),
+    ("a*", "baa", 1, 3, None, Some((1, 3))),
+    ("^", "ab\ncd", 0, 5, Some(3), Some((0, 0))),
+    ("$", "ab", 0, 2, Some(2), None),
+    ("b", "abab", 0, 3, None, Some((1, 2))),
+    ("b*", "abb", 1, 3, Some(3), Some((1, 3))),
+    ("(ab)*", "abab", 0, 3, Some(3), Some((0, 2))),
+    ("a$", "aab", 0, 1, None, None),
+];
+
+// An expression, a text that it matches whole or from its start, and the ranges of groups 1 to 3.
+const GROUPS: [(&str, &str, [Span; 3]); 14] = [
+    ("(a)(b)", "ab", [Some((0, 1)), Some((1, 2)), None]),
+    ("((a)|b)*", "ab", [Some((1, 2)), None, None]),
+    ("(a)|(a)", "a", [Some((0, 1)), None, None]),
+    ("(a|ab)(c|bcd)", "abcd", [Some((0, 1)), Some((1, 4)), None]),
+    ("(a*)(a*)", "aaa", [Some((0, 3)), Some((3, 3)), None]),
+    ("(a)?b", "b", [None, None, None]),
+    ("(a)?b", "ab", [Some((0, 1)), None, None]),
+    ("(a|b)+", "aba", [Some((2, 3)), None, None]),
+    ("(a*)*", "b", [None, None, None]),
+    ("(a*)+", "b", [Some((0, 0)), None, None]),
+    ("((a)(b))", "ab", [Some((0, 2)), Some((0, 1)), Some((1, 2))]),
+    ("(a)|b", "b", [None, None, None]),
+    ("(ab|a)(bc|c)", "abc", [Some((0, 2)), Some((2, 3)), None]),
+    ("(a*)?", "b", [Some((0, 0)), None, None]),
+];
+
+fn runes(alloc: Global, text: &str) -> Result<Runes, AllocError> {
+    decode_whole(alloc, text.as_bytes()).map_err(|_| AllocError)
+}
+
+fn tree(alloc: Global, text: &str) -> Result<Re, AllocError> {
+    let text = runes(alloc, text)?;
+    match parse_re(alloc, text.as_slice(), 0, None) {
+        Ok((re, _)) => Ok(re),
+        Err(_) => Err(AllocError),
+    }
+}
+
+fn span_of(range: Option<Range>) -> Span {
+    match range {
+        Some(r) => Some((r.q0, r.q1)),
+        None => None,
+    }
+}
+
+fn first(
+    alloc: Global,
+    re: &Re,
+    text: &Runes,
+    from: usize,
+    end: usize,
+    no_null: Option<usize>,
+) -> Result<Span, AllocError> {
+    if from > end || end > text.len() {
+        return Err(AllocError);
+    }
+    let found = first_match(alloc, re, text, from, end, no_null).map_err(|_| AllocError)?;
+    Ok(span_of(found))
+}
+
+fn last(
+    alloc: Global,
+    re: &Re,
+    text: &Runes,
+    start: usize,
+    to: usize,
+    no_null: Option<usize>,
+) -> Result<Span, AllocError> {
+    if start > to || to > text.len() {
+        return Err(AllocError);
+    }
+    let found = last_match(alloc, re, text, start, to, no_null).map_err(|_| AllocError)?;
+    Ok(span_of(found))
+}
+
+// The first and the last span in the whole text.
+fn spans_of(alloc: Global, expression: &str, text: &str) -> Result<(Span, Span), AllocError> {
+    let re = tree(alloc, expression)?;
+    let text = runes(alloc, text)?;
+    let begins = first(alloc, &re, &text, 0, text.len(), None)?;
+    let ends = last(alloc, &re, &text, 0, text.len(), None)?;
+    Ok((begins, ends))
+}
+
+#[test]
+fn spans_of_letters(rt: HostRuntime) -> Result<(), Fail> {
+    let alloc = rt.alloc();
+    for (expression, text, want_first, want_last) in LETTERS {
+        let spans = spans_of(alloc, expression, text)?;
+        assert!(rt; spans == (want_first, want_last), "{expression}");
+    }
+    Ok(())
+}
+
+#[test]
+fn spans_of_repeats(rt: HostRuntime) -> Result<(), Fail> {
+    let alloc = rt.alloc();
+    for (expression, text, want_first, want_last) in REPEATS {
+        let spans = spans_of(alloc, expression, text)?;
+        assert!(rt; spans == (want_first, want_last), "{expression}");
+    }
+    Ok(())
+}
+
+#[test]
+fn spans_of_classes(rt: HostRuntime) -> Result<(), Fail> {
+    let alloc = rt.alloc();
+    for (expression, text, want_first, want_last) in CLASSES {
+        let spans = spans_of(alloc, expression, text)?;
+        assert!(rt; spans == (want_first, want_last), "{expression}");
+    }
+    Ok(())
+}
+
+#[test]
+fn spans_of_places(rt: HostRuntime) -> Result<(), Fail> {
+    let alloc = rt.alloc();
+    for (expression, text, want_first, want_last) in PLACES {
+        let spans = spans_of(alloc, expression, text)?;
+        assert!(rt; spans == (want_first, want_last), "{expression}");
+    }
+    Ok(())
+}
+
+#[test]
+fn spans_of_mixed(rt: HostRuntime) -> Result<(), Fail> {
+    let alloc = rt.alloc();
+    for (expression, text, want_first, want_last) in MIXED {
+        let spans = spans_of(alloc, expression, text)?;
+        assert!(rt; spans == (want_first, want_last), "{expression}");
+    }
+    Ok(())
+}
+
+#[test]
+fn spans_of_others(rt: HostRuntime) -> Result<(), Fail> {
+    let alloc = rt.alloc();
+    for (expression, text, want_first, want_last) in OTHERS {
+        let spans = spans_of(alloc, expression, text)?;
+        assert!(rt; spans == (want_first, want_last), "{expression}");
+    }
+    Ok(())
+}
+
+fn first_in(
+    alloc: Global,
+    expression: &str,
+    text: &str,
+    bounds: (usize, usize),
+    no_null: Option<usize>,
+) -> Result<Span, AllocError> {
+    let re = tree(alloc, expression)?;
+    let text = runes(alloc, text)?;
+    first(alloc, &re, &text, bounds.0, bounds.1, no_null)
+}
+
+#[test]
+fn first_spans_in_bounds(rt: HostRuntime) -> Result<(), Fail> {
+    let alloc = rt.alloc();
+    for (expression, text, from, end, no_null, want) in FIRST {
+        let found = first_in(alloc, expression, text, (from, end), no_null)?;
+        assert!(rt; found == want, "{expression}");
+    }
+    Ok(())
+}
+
+fn last_in(
+    alloc: Global,
+    expression: &str,
+    text: &str,
+    bounds: (usize, usize),
+    no_null: Option<usize>,
+) -> Result<Span, AllocError> {
+    let re = tree(alloc, expression)?;
+    let text = runes(alloc, text)?;
+    last(alloc, &re, &text, bounds.0, bounds.1, no_null)
+}
+
+#[test]
+fn last_spans_in_bounds(rt: HostRuntime) -> Result<(), Fail> {
+    let alloc = rt.alloc();
+    for (expression, text, start, to, no_null, want) in LAST {
+        let found = last_in(alloc, expression, text, (start, to), no_null)?;
+        assert!(rt; found == want, "{expression}");
+    }
+    Ok(())
+}
+
+#[test]
+fn groups_of_matches(rt: HostRuntime) -> Result<(), Fail> {
+    let alloc = rt.alloc();
+    for (expression, text, want) in GROUPS {
+        let re = tree(alloc, expression)?;
+        let text = runes(alloc, text)?;
+        let Some((0, to)) = first(alloc, &re, &text, 0, text.len(), None)? else {
+            return Err(AllocError.into());
+        };
+        if to > text.len() || !matches_span(alloc, &re, &text, 0, to).map_err(|_| AllocError)? {
+            return Err(AllocError.into());
+        }
+        let span = Range { q0: 0, q1: to };
+        let all = groups(alloc, &re, &text, span).map_err(|_| AllocError)?;
+        let ranges = all.as_slice();
+        assert_eq!(rt; ranges.len(), 10);
+        assert!(rt; span_of(ranges[0]) == Some((0, to)));
+        for n in 0..3 {
+            assert!(rt; span_of(ranges[n + 1]) == want[n], "{expression}");
+        }
+    }
+    Ok(())
+}
+
+// So many of one rune.
+fn many_of(alloc: Global, rune: Rune, count: usize, all: &mut Runes) -> Result<(), AllocError> {
+    for _ in 0..count {
+        all.push(rune).map_err(|_| AllocError)?;
+    }
+    Ok(())
+}
+
+// Trees of 2,048 nodes, or one less: a****.., aaa.., and ((..a..)).
+#[test]
+fn deep_trees(rt: HostRuntime) -> Result<(), Fail> {
+    let alloc = rt.alloc();
+    for (open, pairs, close) in [
+        (0, 0, (2047, 42)),
+        (0, 1023, (0, 42)),
+        (2047, 0, (2047, 41)),
+    ] {
+        let mut expression = Items::new(alloc);
+        many_of(alloc, 40, open, &mut expression)?;
+        many_of(alloc, 97, pairs + 1, &mut expression)?;
+        many_of(alloc, close.1, close.0, &mut expression)?;
+        let (re, _) = match parse_re(alloc, expression.as_slice(), 0, None) {
+            Ok(answer) => answer,
+            Err(_) => return Err(AllocError.into()),
+        };
+        let mut text = Items::new(alloc);
+        many_of(alloc, 97, pairs + 1, &mut text)?;
+        let want = Some((0, pairs + 1));
+        assert!(rt; first(alloc, &re, &text, 0, text.len(), None)? == want);
+    }
+    Ok(())
+}
