@@ -1,0 +1,136 @@
+//! The messages of an event.
+
+ghost use Rattle.std.specs.Prelude.{◌≡◌, ◌++◌, ◌∷◌, [], length, IfOk, OnOk, OnErr};
+ghost use Rattle.win_events.specs.Spelling.{origin_letter, sort_letter, is_deletion, shown, field, message, first_text, expansion, argument, spelling};
+
+use crate::item::{Item, Origin, Sort};
+use am_text::{Bytes, NoMemory, Range, Runes, decimal, encode};
+use std::alloc::Global;
+
+fn origin_letter(origin: Origin) -> u8
+    ensures { result ≡ origin_letter origin }
+{
+    match origin {
+        Origin::E => b'E',
+        Origin::F => b'F',
+        Origin::K => b'K',
+        Origin::M => b'M',
+    }
+}
+
+fn sort_letter(sort: Sort) -> u8
+    ensures { result ≡ sort_letter sort }
+{
+    match sort {
+        Sort::BodyDel => b'D',
+        Sort::TagDel => b'd',
+        Sort::BodyIns => b'I',
+        Sort::TagIns => b'i',
+        Sort::BodyLook => b'L',
+        Sort::TagLook => b'l',
+        Sort::BodyExec => b'X',
+        Sort::TagExec => b'x',
+    }
+}
+
+fn is_deletion(sort: Sort) -> bool
+    ensures { result ≡ is_deletion sort }
+{
+    match sort {
+        Sort::BodyDel => true,
+        Sort::TagDel => true,
+        _ => false,
+    }
+}
+
+// Puts a number and a blank at the end.
+fn push_field(alloc: Global, bytes: &mut Bytes, n: u64) -> Result<(), NoMemory>
+    ensures { OnOk result (bytes.new ≡ bytes.old ++ field n) }
+{
+    let mut digits = decimal(alloc, n)?;
+    digits.push(b' ')?;
+    bytes.append(digits.as_slice())?;
+    Ok(())
+}
+
+// The text that a message shows.
+fn shown(alloc: Global, sort: Sort, text: &[u32]) -> Result<Runes, NoMemory>
+    ensures { IfOk result (λ runes. runes ≡ shown sort text.now) }
+{
+    if is_deletion(sort) || text.len() >= 256 {
+        return Ok(Runes::new(alloc));
+    }
+    Runes::copied(alloc, text)
+}
+
+// One message.
+#[tactic(auto, unfolding(crate::specs::Spelling::message))]
+fn message(
+    alloc: Global,
+    item: &Item,
+    range: Range,
+    flag: u32,
+    text: &[u32],
+) -> Result<Bytes, NoMemory>
+    ensures { IfOk result (λ bytes. bytes ≡ message item.now.origin item.now.sort range flag text.now) }
+{
+    let shown = shown(alloc, item.sort, text)?;
+    let mut bytes = Bytes::new(alloc);
+    bytes.push(origin_letter(item.origin))?;
+    bytes.push(sort_letter(item.sort))?;
+    push_field(alloc, &mut bytes, range.q0 as u64)?;
+    push_field(alloc, &mut bytes, range.q1 as u64)?;
+    push_field(alloc, &mut bytes, u64::from(flag))?;
+    push_field(alloc, &mut bytes, shown.len() as u64)?;
+    bytes.append(encode(alloc, &shown)?.as_slice())?;
+    bytes.push(b'\n')?;
+    Ok(bytes)
+}
+
+// The message of the expansion, if there is one.
+fn expansion(alloc: Global, item: &Item) -> Result<Bytes, NoMemory>
+    ensures { IfOk result (λ bytes. bytes ≡ expansion item.now item.now.expanded) }
+{
+    match &item.expanded {
+        None => Ok(Bytes::new(alloc)),
+        Some((range, text)) => message(alloc, item, *range, 0, text.as_slice()),
+    }
+}
+
+// The messages of the argument and its place, if there is one.
+fn argument(alloc: Global, item: &Item) -> Result<Bytes, NoMemory>
+    ensures { IfOk result (λ bytes. bytes ≡ argument item.now item.now.argument) }
+{
+    match &item.argument {
+        None => Ok(Bytes::new(alloc)),
+        Some((text, place)) => {
+            let none = Range { q0: 0, q1: 0 };
+            let mut bytes = message(alloc, item, none, 0, text.as_slice())?;
+            bytes.append(message(alloc, item, none, 0, place.as_slice())?.as_slice())?;
+            Ok(bytes)
+        }
+    }
+}
+
+// The text of the first message: none where the click was expanded.
+fn first_text(item: &Item) -> &[u32]
+    ensures { result.now ≡ first_text item.now item.now.expanded }
+{
+    match &item.expanded {
+        None => item.text.as_slice(),
+        Some(_) => &[],
+    }
+}
+
+/// The messages of an event as its readers get them: the event, its expansion if the range is
+/// null, and the argument and its place if there is one. A message shows its text where it has
+/// fewer than 256 runes and is no deletion.
+#[tactic(auto, unfolding(crate::specs::Spelling::spelling))]
+pub fn spell(alloc: Global, item: &Item) -> Result<Bytes, NoMemory>
+    ensures { IfOk result (λ bytes. bytes ≡ spelling item.now) }
+{
+    let mut bytes = message(alloc, item, item.range, item.flag, first_text(item))?;
+    bytes.append(expansion(alloc, item)?.as_slice())?;
+    bytes.append(argument(alloc, item)?.as_slice())?;
+    Ok(bytes)
+}
