@@ -1,5 +1,9 @@
+pub mod Column
+pub mod Escapes
 pub mod Lines
 pub mod Number
+pub mod Part
+pub mod Pieces
 pub mod Room
 pub mod Twice
 pub mod Utf8

@@ -33,6 +33,9 @@ pub type Names = Items<Bytes>;
 /// A list of words.
 pub type Words = Items<Bytes>;
 
+/// A list of names as texts.
+pub type NameList = Items<Runes>;
+
 impl<T> Model for Items<T> {
     ghost use Rattle.std.specs.Prelude.{List};
 

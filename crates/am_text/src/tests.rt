@@ -67,3 +67,32 @@ fn room(rt: HostRuntime) -> Result<(), Fail> {
     assert_eq!(rt; list.into_items().as_slice(), [7, 3].as_slice());
     Ok(())
 }
+
+#[test]
+fn pieces(rt: HostRuntime) -> Result<(), Fail> {
+    let alloc = rt.alloc();
+    let (text, held) = decode_part(alloc, &Part::empty(), b"\xFFa\xC3")?;
+    assert_eq!(rt; text.as_slice(), [0xFFFD, 0x61].as_slice());
+    assert!(rt; !held.is_empty());
+    let (text, held) = decode_part(alloc, &held, b"\xA9b\xE2")?;
+    assert_eq!(rt; text.as_slice(), [0xE9, 0x62].as_slice());
+    let (text, held) = decode_part(alloc, &held, b"\x82")?;
+    assert!(rt; text.is_empty());
+    let (text, held) = decode_part(alloc, &held, b"\xAC")?;
+    assert_eq!(rt; text.as_slice(), [0x20AC].as_slice());
+    assert_eq!(rt; held, Part::empty());
+    Ok(())
+}
+
+#[test]
+fn fields(rt: HostRuntime) -> Result<(), Fail> {
+    let alloc = rt.alloc();
+    assert_eq!(rt; column11(alloc, 1)?.as_slice(), b"          1 ".as_slice());
+    let text = unescape(alloc, b"a\\n\\\\\xC3\xA9")?;
+    assert!(rt; text.is_some_and(|t| t.as_slice() == [0x61, 10, 92, 0xE9]));
+    assert!(rt; unescape(alloc, b"a\n")?.is_none());
+    assert!(rt; unescape(alloc, b"a\\")?.is_none());
+    assert!(rt; unescape(alloc, b"\\a")?.is_none());
+    assert!(rt; unescape(alloc, b"\xFF")?.is_none());
+    Ok(())
+}

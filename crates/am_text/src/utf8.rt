@@ -15,19 +15,19 @@ use crate::memory::NoMemory;
 use std::alloc::Global;
 
 // A byte, or 0 past the end.
-fn byte_at(bytes: &[u8], i: usize) -> u8
+pub(crate) fn byte_at(bytes: &[u8], i: usize) -> u8
     ensures { result ≡ slice_index bytes.now i }
 {
     if i < bytes.len() { bytes[i] } else { 0 }
 }
 
-fn is_within(low: u8, high: u8, b: u8) -> bool
+pub(crate) fn is_within(low: u8, high: u8, b: u8) -> bool
     ensures { result ≡ is_in_range low high b }
 {
     low <= b && b <= high
 }
 
-fn is_second(a: u8, b: u8) -> bool
+pub(crate) fn is_second(a: u8, b: u8) -> bool
     ensures { result ≡ is_in_range (second_byte_min a) (second_byte_max a) b }
 {
     match a {
