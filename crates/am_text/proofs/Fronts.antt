@@ -1,5 +1,5 @@
 -- What is begun is a proper front of a sequence, and each such front is begun.
-use Rattle.std.proofs.Common.{◌≡◌, ◌↔◌, ℕ, ◌+◌, ◌<◌, ◌≤◌, Bool, true, false, cond, ◌&&◌, leb, eqb, List, [], ◌∷◌, ◌++◌, length, get_or, refl, sym, arith, inl, inr}
+use Rattle.std.proofs.Common.{◌≡◌, ◌↔◌, ℕ, ◌<◌, ◌≤◌, Bool, true, false, cond, ◌&&◌, leb, eqb, List, [], ◌∷◌, ◌++◌, length, refl, arith, inl, inr}
 use Rattle.std.specs.Int.{is_in_range}
 use Rattle.std.specs.Str.Lossy.{second_byte_min, second_byte_max}
 use Rattle.std.proofs.lemmas.Bool.{and_parts, and_from, false≢true, leb-true, le-leb, lt-leb, eqb-true, cases_lt}
@@ -36,25 +36,28 @@ four_from p s l m e f g h = rw (e, f, g, h) refl
 
 -- ---- a front is begun
 
-is_two : (t u v : Bool) → cond t 2 (cond u 3 (cond v 4 1)) ≡ 2 → t ≡ true
+abbrev width_of : Bool → Bool → Bool → ℕ
+width_of t u v = cond t 2 (cond u 3 (cond v 4 1))
+
+is_two : (t u v : Bool) → width_of t u v ≡ 2 → t ≡ true
 is_two true u v e = refl
 is_two false true v e = absurd (omega arith)
 is_two false false true e = absurd (omega arith)
 is_two false false false e = absurd (omega arith)
 
-is_three : (t u v : Bool) → cond t 2 (cond u 3 (cond v 4 1)) ≡ 3 → u ≡ true
+is_three : (t u v : Bool) → width_of t u v ≡ 3 → u ≡ true
 is_three true u v e = absurd (omega arith)
 is_three false true v e = refl
 is_three false false true e = absurd (omega arith)
 is_three false false false e = absurd (omega arith)
 
-is_four : (t u v : Bool) → cond t 2 (cond u 3 (cond v 4 1)) ≡ 4 → v ≡ true
+is_four : (t u v : Bool) → width_of t u v ≡ 4 → v ≡ true
 is_four true u v e = absurd (omega arith)
 is_four false true v e = absurd (omega arith)
 is_four false false true e = refl
 is_four false false false e = absurd (omega arith)
 
-at_most_four : (t u v : Bool) → cond t 2 (cond u 3 (cond v 4 1)) ≤ 4
+at_most_four : (t u v : Bool) → width_of t u v ≤ 4
 at_most_four true u v = omega arith
 at_most_four false true v = omega arith
 at_most_four false false true = omega arith

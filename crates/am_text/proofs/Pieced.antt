@@ -467,7 +467,7 @@ rest-utf8 (c ∷ cs) s =
     ap (λ (l : List ℕ). rest_of (l ++ utf8 cs)) bytes
     ∙ rest-append (encode_utf8 c) (utf8 cs)
     ∙ ap (λ (l : List ℕ). rest_of (l ++ utf8 cs)) (rest-encode c)
-    ∙ rest-utf8 cs s
+    ∙ rest-utf8 cs s.1
 
 pub leaves_none : (text : List ℕ) → AllByRecursion IsScalar text → decode_part (utf8 text) ≡ record { text = text; rest = [] }
 leaves_none text s =

@@ -1,8 +1,8 @@
 -- Reading undoes escaping, and nothing else is read.
-use Rattle.std.proofs.Common.{◌≡◌, ℕ, Bool, true, false, cond, ◌&&◌, eqb, List, [], ◌∷◌, ◌++◌, Option, Some, None, refl, sym, ap, subst, ◌∙◌, append_assoc}
+use Rattle.std.proofs.Common.{◌≡◌, ℕ, Bool, true, false, cond, eqb, List, [], ◌∷◌, ◌++◌, Option, Some, None, refl, sym, ap, subst, ◌∙◌, append_assoc}
 use Rattle.std.specs.Char.{encode_utf8, IsScalar}
 use Rattle.std.specs.List.{AllByRecursion, flat_map}
-use Rattle.std.specs.Str.{IsUtf8, is_utf8, encode_utf8_all}
+use Rattle.std.specs.Str.{is_utf8, encode_utf8_all}
 use Rattle.std.proofs.lemmas.Bool.{and_parts, and_from, eqb-true}
 use Rattle.std.proofs.lemmas.List.{append-nil}
 use Rattle.std.proofs.lemmas.Grind.{flat_map-append}
@@ -10,7 +10,7 @@ use Rattle.std.proofs.lemmas.Str.{IsUtf8-from_is_utf8, is_utf8-from_IsUtf8}
 use lib.Utf8.{scalar, scalars}
 use Rattle.am_text.specs.Utf8.{decode, rune_bytes, utf8}
 use Rattle.am_text.specs.Lines.{escaped}
-use Rattle.am_text.specs.Escapes.{unescaped_after, unescaped}
+use Rattle.am_text.specs.Escapes.{unescaped_after, unescaped, IsEscape}
 use Rattle.am_text.proofs.Encoded.{decode_encode_all}
 
 -- ---- an escape as runes
@@ -82,7 +82,7 @@ unfolding unescaped_after
 after-marks [] text = ap (λ (l : List ℕ). Some l) (sym (append-nil text))
 after-marks (c ∷ t) text =
     let put : (d : ℕ) → c ≡ d → unescaped_after (text ++ d ∷ []) false (marks t) ≡ Some (text ++ c ∷ t) =
-        λ d e. after-marks t (text ++ d ∷ []) ∙ ap (λ (l : List ℕ). Some l) (append_assoc text (d ∷ []) t) ∙ ap (λ (x : ℕ). Some (text ++ x ∷ t)) (sym e)
+    λ d e. after-marks t (text ++ d ∷ []) ∙ ap (λ (l : List ℕ). Some l) (append_assoc text (d ∷ []) t) ∙ ap (λ (x : ℕ). Some (text ++ x ∷ t)) (sym e)
     in
     elim (eqb c 10) as (λ b. eqb c 10 ≡ b → unescaped_after text false (cond b (92 ∷ 110 ∷ []) (cond (eqb c 92) (92 ∷ 92 ∷ []) (c ∷ [])) ++ marks t) ≡ Some (text ++ c ∷ t)) [
       | true ↦ λ e. put 10 (eqb-true c 10 e)
@@ -152,7 +152,7 @@ guard_some : (b : Bool) (o : Option (List ℕ)) (text : List ℕ) → cond b o N
 guard_some true o text e = (refl, e)
 guard_some false o text e = absurd cc
 
-pub reads_only : (bytes text : List ℕ) → unescaped bytes ≡ Some text → AllByRecursion IsScalar text × (bytes ≡ flat_map escaped text)
+pub reads_only : (bytes text : List ℕ) → unescaped bytes ≡ Some text → IsEscape text bytes
 unfolding unescaped
 reads_only bytes text e =
     let g = guard_some (is_utf8 bytes) (unescaped_after [] false (decode bytes)) text e in
@@ -164,7 +164,7 @@ reads_only bytes text e =
     let same : u.0 ≡ marks text = sym runes ∙ r.spelled ∙ ap marks (sym r.whole) in
     (scalar_text text (subst (AllByRecursion IsScalar) same each), spelled ∙ ap utf8 same ∙ sym (escaped-marks text))
 
-pub reads_none : (bytes text : List ℕ) → unescaped bytes ≡ None → AllByRecursion IsScalar text → bytes ≡ flat_map escaped text → ⊥
-reads_none bytes text e s h = let k = ap unescaped h ∙ reads_again text s in cc
+pub reads_none : (bytes text : List ℕ) → unescaped bytes ≡ None → ¬ IsEscape text bytes
+reads_none bytes text e s = let k = ap unescaped s.1 ∙ reads_again text s.0 in cc
 
 pub ruleset reading = (reads_only, reads_none)

@@ -20,6 +20,10 @@ unescaped_after text true (c ∷ cs) =
 unfoldable pub unescaped : List ℕ → Option (List ℕ)
 unescaped bytes = if is_utf8 bytes then unescaped_after [] false (decode bytes) else None
 
+-- the bytes are the escape of this text, a list of Unicode scalar values
+abbrev pub IsEscape : List ℕ → List ℕ → Type 0
+IsEscape text bytes = AllByRecursion IsScalar text × (bytes ≡ flat_map escaped text)
+
 -- ---- laws
 
 -- What was escaped is read again.
@@ -28,4 +32,4 @@ ReadsAgain = (text : List ℕ) → AllByRecursion IsScalar text → unescaped (f
 
 -- Nothing else is read.
 abbrev pub ReadsOnly : Type 0
-ReadsOnly = (bytes text : List ℕ) → unescaped bytes ≡ Some text → AllByRecursion IsScalar text × (bytes ≡ flat_map escaped text)
+ReadsOnly = (bytes text : List ℕ) → unescaped bytes ≡ Some text → IsEscape text bytes

@@ -1,10 +1,7 @@
 //! Reading a text that stands in one line.
 
 ghost use Rattle.std.specs.Prelude.{◌≡◌, ◌<◌, ◌++◌, ◌∷◌, [], List, ℕ, false, length, IfOk, IfSome, IfNone, Some, None};
-ghost use Rattle.std.specs.Char.{IsScalar};
-ghost use Rattle.std.specs.List.{AllByRecursion, flat_map};
-ghost use Rattle.am_text.specs.Lines.{escaped};
-ghost use Rattle.am_text.specs.Escapes.{unescaped_after, unescaped, ReadsAgain, ReadsOnly};
+ghost use Rattle.am_text.specs.Escapes.{unescaped_after, unescaped, IsEscape, ReadsAgain, ReadsOnly};
 
 use crate::items::{Items, Rune, Runes};
 use crate::memory::NoMemory;
@@ -15,7 +12,8 @@ use std::alloc::Global;
 #[tactic(auto, unfolding(crate::specs::Escapes::unescaped_after))]
 fn first_unescaped(runes: &[Rune]) -> Option<(Rune, &[Rune])>
     requires { 0 < length runes.now }
-    ensures some { IfSome result (λ first. (text : List ℕ) → unescaped_after text false runes.now ≡ unescaped_after (text ++ first.0 ∷ []) false first.1.now) }
+    ensures some { IfSome result (λ first. (text : List ℕ)
+        → unescaped_after text false runes.now ≡ unescaped_after (text ++ first.0 ∷ []) false first.1.now) }
     ensures none { IfNone result ((text : List ℕ) → unescaped_after text false runes.now ≡ None) }
     ensures shorter { IfSome result (λ first. length first.1.now < length runes.now) }
 {
@@ -64,8 +62,8 @@ fn text_of_line(alloc: Global, bytes: &[u8]) -> Result<Option<Runes>, NoMemory>
 #[tactic(auto, using(crate::proofs::Unescaped::reading))]
 pub fn unescape(alloc: Global, bytes: &[u8]) -> Result<Option<Runes>, NoMemory>
     ensures exact { IfOk result (λ answer. answer ≡ unescaped bytes.now) }
-    ensures some { IfOk result (λ answer. IfSome answer (λ text. AllByRecursion IsScalar text × (bytes.now ≡ flat_map escaped text))) }
-    ensures none { IfOk result (λ answer. IfNone answer ((text : List ℕ) → AllByRecursion IsScalar text → bytes.now ≡ flat_map escaped text → ⊥)) }
+    ensures some { IfOk result (λ answer. IfSome answer (λ text. IsEscape text bytes.now)) }
+    ensures none { IfOk result (λ answer. IfNone answer ((text : List ℕ) → ¬ IsEscape text bytes.now)) }
 {
     text_of_line(alloc, bytes)
 }

@@ -24,7 +24,7 @@ pub use letters::Letters;
 pub use line::{escape, lines, split_line};
 pub use memory::NoMemory;
 pub use number::{decimal, read_decimal};
-pub use part::{begun_is_front, decode_part, pieces_are_joined, Part};
+pub use part::{Part, begun_is_front, decode_part, pieces_are_joined};
 pub use range::{Range, Spans};
 pub use roomy::Roomy;
 pub use utf8::{decode_whole, encode, is_utf8, utf8_slice};

@@ -2,7 +2,8 @@
 
 ghost use Rattle.std.specs.Prelude.{◌≡◌, ◌<◌, ◌≤◌, ◌++◌, ◌==◌, [], length, IfOk, OnOk};
 ghost use Rattle.am_text.specs.Part.{part_bytes, part_of};
-ghost use Rattle.am_text.specs.Pieces.{is_begun, rest_of, whole_of, decode_part, BegunIsFront, JoinsTexts, JoinsRests, EndsWhole, LeavesNone, LeavesFew};
+ghost use Rattle.am_text.specs.Pieces.{is_begun, rest_of, whole_of, decode_part};
+ghost use Rattle.am_text.specs.Pieces.{BegunIsFront, JoinsTexts, JoinsRests, EndsWhole, LeavesNone, LeavesFew};
 
 use crate::items::{Bytes, Items, Runes};
 use crate::memory::NoMemory;

@@ -89,7 +89,7 @@ fn fields(rt: HostRuntime) -> Result<(), Fail> {
     let alloc = rt.alloc();
     assert_eq!(rt; column11(alloc, 1)?.as_slice(), b"          1 ".as_slice());
     let text = unescape(alloc, b"a\\n\\\\\xC3\xA9")?;
-    assert!(rt; text.is_some_and(|t| t.as_slice() == [0x61, 10, 92, 0xE9]));
+    assert!(rt; text.is_some_and(|t| t.as_slice() == [0x61, 10, 92, 0xE9].as_slice()));
     assert!(rt; unescape(alloc, b"a\n")?.is_none());
     assert!(rt; unescape(alloc, b"a\\")?.is_none());
     assert!(rt; unescape(alloc, b"\\a")?.is_none());
