@@ -29,6 +29,18 @@ t_version_at input = do
   version ← string_at msize.1
   Ok (t.Version msize.0 version.0, version.1)
 
+unfoldable pub t_auth_at : List ℕ → Result (TBody × List ℕ) WireFault
+t_auth_at input = do
+  afid ← number_at w32 input
+  uname ← string_at afid.1
+  aname ← string_at uname.1
+  Ok (t.Auth afid.0 uname.0 aname.0, aname.1)
+
+unfoldable pub t_flush_at : List ℕ → Result (TBody × List ℕ) WireFault
+t_flush_at input = do
+  oldtag ← number_at w16 input
+  Ok (t.Flush oldtag.0, oldtag.1)
+
 unfoldable pub t_attach_at : List ℕ → Result (TBody × List ℕ) WireFault
 t_attach_at input = do
   fid ← number_at w32 input
@@ -50,6 +62,14 @@ t_open_at input = do
   mode ← byte_at fid.1
   Ok (t.Open fid.0 mode.0, mode.1)
 
+unfoldable pub t_create_at : List ℕ → Result (TBody × List ℕ) WireFault
+t_create_at input = do
+  fid ← number_at w32 input
+  name ← string_at fid.1
+  perm ← number_at w32 name.1
+  mode ← byte_at perm.1
+  Ok (t.Create fid.0 name.0 perm.0 mode.0, mode.1)
+
 unfoldable pub t_read_at : List ℕ → Result (TBody × List ℕ) WireFault
 t_read_at input = do
   fid ← number_at w32 input
@@ -69,8 +89,24 @@ t_clunk_at input = do
   fid ← number_at w32 input
   Ok (t.Clunk fid.0, fid.1)
 
+unfoldable pub t_remove_at : List ℕ → Result (TBody × List ℕ) WireFault
+t_remove_at input = do
+  fid ← number_at w32 input
+  Ok (t.Remove fid.0, fid.1)
+
+unfoldable pub t_stat_at : List ℕ → Result (TBody × List ℕ) WireFault
+t_stat_at input = do
+  fid ← number_at w32 input
+  Ok (t.Stat fid.0, fid.1)
+
+unfoldable pub t_wstat_at : List ℕ → Result (TBody × List ℕ) WireFault
+t_wstat_at input = do
+  fid ← number_at w32 input
+  stat ← counted_at w16 fid.1
+  Ok (t.Wstat fid.0 stat.0, stat.1)
+
 abbrev pub t_readers : List (ℕ × (List ℕ → Result (TBody × List ℕ) WireFault))
-t_readers = (100, t_version_at) ∷ (104, t_attach_at) ∷ (110, t_walk_at) ∷ (112, t_open_at) ∷ (116, t_read_at) ∷ (118, t_write_at) ∷ (120, t_clunk_at) ∷ []
+t_readers = (100, t_version_at) ∷ (102, t_auth_at) ∷ (104, t_attach_at) ∷ (108, t_flush_at) ∷ (110, t_walk_at) ∷ (112, t_open_at) ∷ (114, t_create_at) ∷ (116, t_read_at) ∷ (118, t_write_at) ∷ (120, t_clunk_at) ∷ (122, t_remove_at) ∷ (124, t_stat_at) ∷ (126, t_wstat_at) ∷ []
 
 -- the fields of the message of a type byte
 unfoldable pub t_body_at : ℕ → List ℕ → Result (TBody × List ℕ) WireFault
@@ -90,10 +126,18 @@ r_version_at input = do
   version ← string_at msize.1
   Ok (r.Version msize.0 version.0, version.1)
 
+unfoldable pub r_auth_at : List ℕ → Result (RBody × List ℕ) WireFault
+r_auth_at input = do
+  aqid ← qid_at input
+  Ok (r.Auth aqid.0, aqid.1)
+
 unfoldable pub r_error_at : List ℕ → Result (RBody × List ℕ) WireFault
 r_error_at input = do
   ename ← string_at input
   Ok (r.Error ename.0, ename.1)
+
+abbrev pub r_flush_at : List ℕ → Result (RBody × List ℕ) WireFault
+r_flush_at input = Ok (r.Flush, input)
 
 unfoldable pub r_attach_at : List ℕ → Result (RBody × List ℕ) WireFault
 r_attach_at input = do
@@ -111,6 +155,12 @@ r_open_at input = do
   iounit ← number_at w32 qid.1
   Ok (r.Open qid.0 iounit.0, iounit.1)
 
+unfoldable pub r_create_at : List ℕ → Result (RBody × List ℕ) WireFault
+r_create_at input = do
+  qid ← qid_at input
+  iounit ← number_at w32 qid.1
+  Ok (r.Create qid.0 iounit.0, iounit.1)
+
 unfoldable pub r_read_at : List ℕ → Result (RBody × List ℕ) WireFault
 r_read_at input = do
   bytes ← counted_at w32 input
@@ -124,8 +174,19 @@ r_write_at input = do
 abbrev pub r_clunk_at : List ℕ → Result (RBody × List ℕ) WireFault
 r_clunk_at input = Ok (r.Clunk, input)
 
+abbrev pub r_remove_at : List ℕ → Result (RBody × List ℕ) WireFault
+r_remove_at input = Ok (r.Remove, input)
+
+unfoldable pub r_stat_at : List ℕ → Result (RBody × List ℕ) WireFault
+r_stat_at input = do
+  stat ← counted_at w16 input
+  Ok (r.Stat stat.0, stat.1)
+
+abbrev pub r_wstat_at : List ℕ → Result (RBody × List ℕ) WireFault
+r_wstat_at input = Ok (r.Wstat, input)
+
 abbrev pub r_readers : List (ℕ × (List ℕ → Result (RBody × List ℕ) WireFault))
-r_readers = (101, r_version_at) ∷ (105, r_attach_at) ∷ (107, r_error_at) ∷ (111, r_walk_at) ∷ (113, r_open_at) ∷ (117, r_read_at) ∷ (119, r_write_at) ∷ (121, r_clunk_at) ∷ []
+r_readers = (101, r_version_at) ∷ (103, r_auth_at) ∷ (105, r_attach_at) ∷ (107, r_error_at) ∷ (109, r_flush_at) ∷ (111, r_walk_at) ∷ (113, r_open_at) ∷ (115, r_create_at) ∷ (117, r_read_at) ∷ (119, r_write_at) ∷ (121, r_clunk_at) ∷ (123, r_remove_at) ∷ (125, r_stat_at) ∷ (127, r_wstat_at) ∷ []
 
 -- the fields of the message of a type byte
 unfoldable pub r_body_at : ℕ → List ℕ → Result (RBody × List ℕ) WireFault

@@ -33,6 +33,16 @@ pub enum TBody {
         msize: u32,
         version: Bytes,
     },
+    /// attach(5): asks for `afid`, by which `uname` shows that it is allowed the tree `aname`.
+    Auth {
+        afid: u32,
+        uname: Bytes,
+        aname: Bytes,
+    },
+    /// flush(5): the answer of the request with the tag `oldtag` is no longer wanted.
+    Flush {
+        oldtag: u16,
+    },
     /// attach(5): makes `fid` the root of the tree `aname`.
     Attach {
         fid: u32,
@@ -51,6 +61,13 @@ pub enum TBody {
         fid: u32,
         mode: u8,
     },
+    /// open(5): makes the file `name` in the directory of `fid`, and opens it as `fid`.
+    Create {
+        fid: u32,
+        name: Bytes,
+        perm: u32,
+        mode: u8,
+    },
     /// read(5): asks for at most `count` bytes from `offset` on.
     Read {
         fid: u32,
@@ -66,6 +83,19 @@ pub enum TBody {
     /// clunk(5): forgets `fid`.
     Clunk {
         fid: u32,
+    },
+    /// remove(5): removes the file of `fid`, and forgets `fid`.
+    Remove {
+        fid: u32,
+    },
+    /// stat(5): asks for the stat record of the file.
+    Stat {
+        fid: u32,
+    },
+    /// stat(5): changes the stat record of the file to `stat`, which is carried as bytes.
+    Wstat {
+        fid: u32,
+        stat: Bytes,
     },
 }
 
@@ -83,18 +113,30 @@ pub struct RMsg {
 pub enum RBody {
     /// version(5): the largest message of this connection, and its protocol.
     Version { msize: u32, version: Bytes },
+    /// attach(5): the file that is read and written to show that the user is allowed the tree.
+    Auth { aqid: Qid },
     /// error(5): the request failed, and why.
     Error { ename: Bytes },
+    /// flush(5): the request will not be answered, or was answered before.
+    Flush,
     /// attach(5): the root.
     Attach { qid: Qid },
     /// walk(5): the file that each name led to.
     Walk { qids: Qids },
     /// open(5): the file, and how many bytes pass whole; 0 where nothing is said.
     Open { qid: Qid, iounit: u32 },
+    /// open(5): the file that was made, and how many bytes pass whole; 0 where nothing is said.
+    Create { qid: Qid, iounit: u32 },
     /// read(5): the bytes that were read.
     Read { bytes: Bytes },
     /// read(5): how many bytes were written.
     Write { count: u32 },
     /// clunk(5): the fid is forgotten.
     Clunk,
+    /// remove(5): the file is removed, and the fid forgotten.
+    Remove,
+    /// stat(5): the stat record of the file, carried as bytes.
+    Stat { stat: Bytes },
+    /// stat(5): the record is changed.
+    Wstat,
 }
