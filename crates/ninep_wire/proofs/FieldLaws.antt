@@ -44,7 +44,7 @@ pub guard_then : {A : Type 0} (b : Bool) (d : WireFault) (r : Result A WireFault
 guard_then true d r y e = (refl, e)
 guard_then false d r y e = absurd cc
 
-abbrev done : {A : Type 0} → A → Result A WireFault
+abbrev pub done : {A : Type 0} → A → Result A WireFault
 done x = Ok x
 
 pub ok_is : {A : Type 0} (x y : A) → done x ≡ done y → x ≡ y

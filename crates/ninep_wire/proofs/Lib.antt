@@ -4,6 +4,8 @@ pub mod Joins
 pub mod Lists
 pub mod Loops
 pub mod Prefixes
+pub mod RBodies
 pub mod RLaws
 pub mod Sizes
+pub mod TBodies
 pub mod TLaws

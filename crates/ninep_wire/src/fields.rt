@@ -100,6 +100,16 @@ pub(crate) fn take_data(alloc: Global, bytes: &[u8]) -> Result<(Bytes, &[u8]), W
     Ok((Items::copied(alloc, text)?, rest))
 }
 
+/// A stat record, carried as bytes: two bytes of their number, and the bytes.
+#[tactic(auto, unfolding(crate::specs::Fields::counted_at))]
+pub(crate) fn take_stat(alloc: Global, bytes: &[u8]) -> Result<(Bytes, &[u8]), WireError>
+    ensures { Gives (λ x. (x.0, x.1.now)) result (counted_at w16 bytes.now) }
+{
+    let (len, rest) = take_u16(bytes)?;
+    let (stat, rest) = take_bytes(rest, len as usize)?;
+    Ok((Items::copied(alloc, stat)?, rest))
+}
+
 /// A qid: type[1] vers[4] path[8].
 #[tactic(auto, unfolding(crate::specs::Fields::qid_at))]
 pub(crate) fn take_qid(bytes: &[u8]) -> Result<(Qid, &[u8]), WireError>

@@ -44,6 +44,14 @@ pub(crate) fn put_data(out: &mut Bytes, bytes: &[u8]) -> Result<(), NoMemory>
     out.append(bytes)
 }
 
+pub(crate) fn put_stat(out: &mut Bytes, stat: &[u8]) -> Result<(), NoMemory>
+    requires { length stat.now < 2 ^ 16 }
+    ensures { OnOk result (out.new ≡ out.old ++ counted w16 stat.now) }
+{
+    put_u16(out, stat.len() as u16)?;
+    out.append(stat)
+}
+
 #[tactic(auto, using(crate::proofs::Joins::joins))]
 pub(crate) fn put_qid(out: &mut Bytes, qid: Qid) -> Result<(), NoMemory>
     ensures { OnOk result (out.new ≡ out.old ++ qid_bytes qid) }

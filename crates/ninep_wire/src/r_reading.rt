@@ -3,11 +3,11 @@
 ghost use Rattle.std.specs.Prelude.{◌≡◌, IfOk, Ok};
 ghost use Rattle.ninep_wire.specs.declared.message.RMsg.{RMsg};
 ghost use Rattle.ninep_wire.specs.Fields.{Gives};
-ghost use Rattle.ninep_wire.specs.Reading.{r_version_at, r_error_at, r_attach_at, r_walk_at, r_open_at, r_read_at, r_write_at, r_body_at, r_of};
+ghost use Rattle.ninep_wire.specs.Reading.{r_version_at, r_auth_at, r_error_at, r_attach_at, r_walk_at, r_open_at, r_create_at, r_read_at, r_write_at, r_stat_at, r_body_at, r_of};
 ghost use Rattle.ninep_wire.specs.Spelling.{spelling_r, Fits_r, InRange_r};
 
 use crate::fault::{WireError, WireFault};
-use crate::fields::{take_data, take_head, take_qid, take_qids, take_string, take_u32};
+use crate::fields::{take_data, take_head, take_qid, take_qids, take_stat, take_string, take_u32};
 use crate::message::{RBody, RMsg};
 use std::alloc::Global;
 
@@ -18,6 +18,14 @@ fn take_r_version(alloc: Global, rest: &[u8]) -> Result<(RBody, &[u8]), WireErro
     let (msize, rest) = take_u32(rest)?;
     let (version, rest) = take_string(alloc, rest)?;
     Ok((RBody::Version { msize, version }, rest))
+}
+
+#[tactic(auto, unfolding(crate::specs::Reading::r_auth_at))]
+fn take_r_auth(rest: &[u8]) -> Result<(RBody, &[u8]), WireError>
+    ensures { Gives (λ x. (x.0, x.1.now)) result (r_auth_at rest.now) }
+{
+    let (aqid, rest) = take_qid(rest)?;
+    Ok((RBody::Auth { aqid }, rest))
 }
 
 #[tactic(auto, unfolding(crate::specs::Reading::r_error_at))]
@@ -53,6 +61,15 @@ fn take_r_open(rest: &[u8]) -> Result<(RBody, &[u8]), WireError>
     Ok((RBody::Open { qid, iounit }, rest))
 }
 
+#[tactic(auto, unfolding(crate::specs::Reading::r_create_at))]
+fn take_r_create(rest: &[u8]) -> Result<(RBody, &[u8]), WireError>
+    ensures { Gives (λ x. (x.0, x.1.now)) result (r_create_at rest.now) }
+{
+    let (qid, rest) = take_qid(rest)?;
+    let (iounit, rest) = take_u32(rest)?;
+    Ok((RBody::Create { qid, iounit }, rest))
+}
+
 #[tactic(auto, unfolding(crate::specs::Reading::r_read_at))]
 fn take_r_read(alloc: Global, rest: &[u8]) -> Result<(RBody, &[u8]), WireError>
     ensures { Gives (λ x. (x.0, x.1.now)) result (r_read_at rest.now) }
@@ -69,19 +86,33 @@ fn take_r_write(rest: &[u8]) -> Result<(RBody, &[u8]), WireError>
     Ok((RBody::Write { count }, rest))
 }
 
+#[tactic(auto, unfolding(crate::specs::Reading::r_stat_at))]
+fn take_r_stat(alloc: Global, rest: &[u8]) -> Result<(RBody, &[u8]), WireError>
+    ensures { Gives (λ x. (x.0, x.1.now)) result (r_stat_at rest.now) }
+{
+    let (stat, rest) = take_stat(alloc, rest)?;
+    Ok((RBody::Stat { stat }, rest))
+}
+
 #[tactic(auto, unfolding(crate::specs::Reading::r_body_at))]
 fn take_r_body(alloc: Global, kind: u8, rest: &[u8]) -> Result<(RBody, &[u8]), WireError>
     ensures { Gives (λ x. (x.0, x.1.now)) result (r_body_at kind rest.now) }
 {
     match kind {
         101 => take_r_version(alloc, rest),
+        103 => take_r_auth(rest),
         105 => take_r_attach(rest),
         107 => take_r_error(alloc, rest),
+        109 => Ok((RBody::Flush, rest)),
         111 => take_r_walk(alloc, rest),
         113 => take_r_open(rest),
+        115 => take_r_create(rest),
         117 => take_r_read(alloc, rest),
         119 => take_r_write(rest),
         121 => Ok((RBody::Clunk, rest)),
+        123 => Ok((RBody::Remove, rest)),
+        125 => take_r_stat(alloc, rest),
+        127 => Ok((RBody::Wstat, rest)),
         _ => Err(WireError::Fault(WireFault::Kind)),
     }
 }

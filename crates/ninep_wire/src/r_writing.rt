@@ -4,7 +4,7 @@ ghost use Rattle.std.specs.Prelude.{◌≡◌, ◌<◌, ◌≤◌, ◌^◌, ◌+
 ghost use Rattle.ninep_wire.specs.Spelling.{kind_r, fields_r, size_r, spelling_r, Fits_r, BodyFits_r, IsString};
 
 use crate::message::{Qid, RBody, RMsg};
-use crate::puts::{begun, put_data, put_qid, put_qids, put_string, put_u32};
+use crate::puts::{begun, put_data, put_qid, put_qids, put_stat, put_string, put_u32};
 use am_text::{Bytes, NoMemory};
 use std::alloc::Global;
 
@@ -15,6 +15,14 @@ fn put_r_version(out: &mut Bytes, msize: u32, version: &[u8]) -> Result<(), NoMe
 {
     put_u32(out, msize)?;
     put_string(out, version)?;
+    Ok(())
+}
+
+#[tactic(auto, using(crate::proofs::Joins::joins))]
+fn put_r_auth(out: &mut Bytes, aqid: Qid) -> Result<(), NoMemory>
+    ensures { OnOk result (out.new ≡ out.old ++ fields_r (RBody.Auth aqid)) }
+{
+    put_qid(out, aqid)?;
     Ok(())
 }
 
@@ -54,6 +62,15 @@ fn put_r_open(out: &mut Bytes, qid: Qid, iounit: u32) -> Result<(), NoMemory>
 }
 
 #[tactic(auto, using(crate::proofs::Joins::joins))]
+fn put_r_create(out: &mut Bytes, qid: Qid, iounit: u32) -> Result<(), NoMemory>
+    ensures { OnOk result (out.new ≡ out.old ++ fields_r (RBody.Create qid iounit)) }
+{
+    put_qid(out, qid)?;
+    put_u32(out, iounit)?;
+    Ok(())
+}
+
+#[tactic(auto, using(crate::proofs::Joins::joins))]
 fn put_r_read(out: &mut Bytes, bytes: &[u8]) -> Result<(), NoMemory>
     requires { length bytes.now < 2 ^ 32 }
     ensures { OnOk result (out.new ≡ out.old ++ fields_r (RBody.Read bytes.now)) }
@@ -70,19 +87,34 @@ fn put_r_write(out: &mut Bytes, count: u32) -> Result<(), NoMemory>
     Ok(())
 }
 
+#[tactic(auto, using(crate::proofs::Joins::joins))]
+fn put_r_stat(out: &mut Bytes, stat: &[u8]) -> Result<(), NoMemory>
+    requires { length stat.now < 2 ^ 16 }
+    ensures { OnOk result (out.new ≡ out.old ++ fields_r (RBody.Stat stat.now)) }
+{
+    put_stat(out, stat)?;
+    Ok(())
+}
+
 fn put_r_body(out: &mut Bytes, body: &RBody) -> Result<(), NoMemory>
     requires { BodyFits_r body.now }
     ensures { OnOk result (out.new ≡ out.old ++ fields_r body.now) }
 {
     match body {
         RBody::Version { msize, version } => put_r_version(out, *msize, version.as_slice()),
+        RBody::Auth { aqid } => put_r_auth(out, *aqid),
         RBody::Error { ename } => put_r_error(out, ename.as_slice()),
+        RBody::Flush => Ok(()),
         RBody::Attach { qid } => put_r_attach(out, *qid),
         RBody::Walk { qids } => put_r_walk(out, qids.as_slice()),
         RBody::Open { qid, iounit } => put_r_open(out, *qid, *iounit),
+        RBody::Create { qid, iounit } => put_r_create(out, *qid, *iounit),
         RBody::Read { bytes } => put_r_read(out, bytes.as_slice()),
         RBody::Write { count } => put_r_write(out, *count),
         RBody::Clunk => Ok(()),
+        RBody::Remove => Ok(()),
+        RBody::Stat { stat } => put_r_stat(out, stat.as_slice()),
+        RBody::Wstat => Ok(()),
     }
 }
 
@@ -92,13 +124,19 @@ fn r_kind(body: &RBody) -> u8
 {
     match body {
         RBody::Version { .. } => 101,
+        RBody::Auth { .. } => 103,
         RBody::Error { .. } => 107,
+        RBody::Flush => 109,
         RBody::Attach { .. } => 105,
         RBody::Walk { .. } => 111,
         RBody::Open { .. } => 113,
+        RBody::Create { .. } => 115,
         RBody::Read { .. } => 117,
         RBody::Write { .. } => 119,
         RBody::Clunk => 121,
+        RBody::Remove => 123,
+        RBody::Stat { .. } => 125,
+        RBody::Wstat => 127,
     }
 }
 
@@ -109,13 +147,19 @@ fn r_size(body: &RBody) -> usize
 {
     match body {
         RBody::Version { version, .. } => 13 + version.len(),
+        RBody::Auth { .. } => 20,
         RBody::Error { ename } => 9 + ename.len(),
+        RBody::Flush => 7,
         RBody::Attach { .. } => 20,
         RBody::Walk { qids } => 9 + 13 * qids.len(),
         RBody::Open { .. } => 24,
+        RBody::Create { .. } => 24,
         RBody::Read { bytes } => 11 + bytes.len(),
         RBody::Write { .. } => 11,
         RBody::Clunk => 7,
+        RBody::Remove => 7,
+        RBody::Stat { stat } => 9 + stat.len(),
+        RBody::Wstat => 7,
     }
 }
 

@@ -3,11 +3,11 @@
 ghost use Rattle.std.specs.Prelude.{◌≡◌, IfOk, Ok};
 ghost use Rattle.ninep_wire.specs.declared.message.TMsg.{TMsg};
 ghost use Rattle.ninep_wire.specs.Fields.{Gives};
-ghost use Rattle.ninep_wire.specs.Reading.{t_version_at, t_attach_at, t_walk_at, t_open_at, t_read_at, t_write_at, t_clunk_at, t_body_at, t_of};
+ghost use Rattle.ninep_wire.specs.Reading.{t_version_at, t_auth_at, t_flush_at, t_attach_at, t_walk_at, t_open_at, t_create_at, t_read_at, t_write_at, t_clunk_at, t_remove_at, t_stat_at, t_wstat_at, t_body_at, t_of};
 ghost use Rattle.ninep_wire.specs.Spelling.{spelling_t, Fits_t, InRange_t};
 
 use crate::fault::{WireError, WireFault};
-use crate::fields::{take_data, take_head, take_names, take_string, take_u8, take_u32, take_u64};
+use crate::fields::{take_data, take_head, take_names, take_stat, take_string, take_u8, take_u16, take_u32, take_u64};
 use crate::message::{TBody, TMsg};
 use std::alloc::Global;
 
@@ -20,6 +20,24 @@ fn take_t_version(alloc: Global, rest: &[u8]) -> Result<(TBody, &[u8]), WireErro
     Ok((TBody::Version { msize, version }, rest))
 }
 
+#[tactic(auto, unfolding(crate::specs::Reading::t_auth_at))]
+fn take_t_auth(alloc: Global, rest: &[u8]) -> Result<(TBody, &[u8]), WireError>
+    ensures { Gives (λ x. (x.0, x.1.now)) result (t_auth_at rest.now) }
+{
+    let (afid, rest) = take_u32(rest)?;
+    let (uname, rest) = take_string(alloc, rest)?;
+    let (aname, rest) = take_string(alloc, rest)?;
+    Ok((TBody::Auth { afid, uname, aname }, rest))
+}
+
+#[tactic(auto, unfolding(crate::specs::Reading::t_flush_at))]
+fn take_t_flush(rest: &[u8]) -> Result<(TBody, &[u8]), WireError>
+    ensures { Gives (λ x. (x.0, x.1.now)) result (t_flush_at rest.now) }
+{
+    let (oldtag, rest) = take_u16(rest)?;
+    Ok((TBody::Flush { oldtag }, rest))
+}
+
 #[tactic(auto, unfolding(crate::specs::Reading::t_attach_at))]
 fn take_t_attach(alloc: Global, rest: &[u8]) -> Result<(TBody, &[u8]), WireError>
     ensures { Gives (λ x. (x.0, x.1.now)) result (t_attach_at rest.now) }
@@ -28,15 +46,7 @@ fn take_t_attach(alloc: Global, rest: &[u8]) -> Result<(TBody, &[u8]), WireError
     let (afid, rest) = take_u32(rest)?;
     let (uname, rest) = take_string(alloc, rest)?;
     let (aname, rest) = take_string(alloc, rest)?;
-    Ok((
-        TBody::Attach {
-            fid,
-            afid,
-            uname,
-            aname,
-        },
-        rest,
-    ))
+    Ok((TBody::Attach { fid, afid, uname, aname }, rest))
 }
 
 #[tactic(auto, unfolding(crate::specs::Reading::t_walk_at))]
@@ -56,6 +66,17 @@ fn take_t_open(rest: &[u8]) -> Result<(TBody, &[u8]), WireError>
     let (fid, rest) = take_u32(rest)?;
     let (mode, rest) = take_u8(rest)?;
     Ok((TBody::Open { fid, mode }, rest))
+}
+
+#[tactic(auto, unfolding(crate::specs::Reading::t_create_at))]
+fn take_t_create(alloc: Global, rest: &[u8]) -> Result<(TBody, &[u8]), WireError>
+    ensures { Gives (λ x. (x.0, x.1.now)) result (t_create_at rest.now) }
+{
+    let (fid, rest) = take_u32(rest)?;
+    let (name, rest) = take_string(alloc, rest)?;
+    let (perm, rest) = take_u32(rest)?;
+    let (mode, rest) = take_u8(rest)?;
+    Ok((TBody::Create { fid, name, perm, mode }, rest))
 }
 
 #[tactic(auto, unfolding(crate::specs::Reading::t_read_at))]
@@ -86,18 +107,49 @@ fn take_t_clunk(rest: &[u8]) -> Result<(TBody, &[u8]), WireError>
     Ok((TBody::Clunk { fid }, rest))
 }
 
+#[tactic(auto, unfolding(crate::specs::Reading::t_remove_at))]
+fn take_t_remove(rest: &[u8]) -> Result<(TBody, &[u8]), WireError>
+    ensures { Gives (λ x. (x.0, x.1.now)) result (t_remove_at rest.now) }
+{
+    let (fid, rest) = take_u32(rest)?;
+    Ok((TBody::Remove { fid }, rest))
+}
+
+#[tactic(auto, unfolding(crate::specs::Reading::t_stat_at))]
+fn take_t_stat(rest: &[u8]) -> Result<(TBody, &[u8]), WireError>
+    ensures { Gives (λ x. (x.0, x.1.now)) result (t_stat_at rest.now) }
+{
+    let (fid, rest) = take_u32(rest)?;
+    Ok((TBody::Stat { fid }, rest))
+}
+
+#[tactic(auto, unfolding(crate::specs::Reading::t_wstat_at))]
+fn take_t_wstat(alloc: Global, rest: &[u8]) -> Result<(TBody, &[u8]), WireError>
+    ensures { Gives (λ x. (x.0, x.1.now)) result (t_wstat_at rest.now) }
+{
+    let (fid, rest) = take_u32(rest)?;
+    let (stat, rest) = take_stat(alloc, rest)?;
+    Ok((TBody::Wstat { fid, stat }, rest))
+}
+
 #[tactic(auto, unfolding(crate::specs::Reading::t_body_at))]
 fn take_t_body(alloc: Global, kind: u8, rest: &[u8]) -> Result<(TBody, &[u8]), WireError>
     ensures { Gives (λ x. (x.0, x.1.now)) result (t_body_at kind rest.now) }
 {
     match kind {
         100 => take_t_version(alloc, rest),
+        102 => take_t_auth(alloc, rest),
         104 => take_t_attach(alloc, rest),
+        108 => take_t_flush(rest),
         110 => take_t_walk(alloc, rest),
         112 => take_t_open(rest),
+        114 => take_t_create(alloc, rest),
         116 => take_t_read(rest),
         118 => take_t_write(alloc, rest),
         120 => take_t_clunk(rest),
+        122 => take_t_remove(rest),
+        124 => take_t_stat(rest),
+        126 => take_t_wstat(alloc, rest),
         _ => Err(WireError::Fault(WireFault::Kind)),
     }
 }
