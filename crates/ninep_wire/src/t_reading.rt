@@ -7,7 +7,9 @@ ghost use Rattle.ninep_wire.specs.Reading.{t_version_at, t_auth_at, t_flush_at, 
 ghost use Rattle.ninep_wire.specs.Spelling.{spelling_t, Fits_t, InRange_t};
 
 use crate::fault::{WireError, WireFault};
-use crate::fields::{take_data, take_head, take_names, take_stat, take_string, take_u8, take_u16, take_u32, take_u64};
+use crate::fields::{
+    take_data, take_head, take_names, take_stat, take_string, take_u8, take_u16, take_u32, take_u64,
+};
 use crate::message::{TBody, TMsg};
 use std::alloc::Global;
 
@@ -46,7 +48,15 @@ fn take_t_attach(alloc: Global, rest: &[u8]) -> Result<(TBody, &[u8]), WireError
     let (afid, rest) = take_u32(rest)?;
     let (uname, rest) = take_string(alloc, rest)?;
     let (aname, rest) = take_string(alloc, rest)?;
-    Ok((TBody::Attach { fid, afid, uname, aname }, rest))
+    Ok((
+        TBody::Attach {
+            fid,
+            afid,
+            uname,
+            aname,
+        },
+        rest,
+    ))
 }
 
 #[tactic(auto, unfolding(crate::specs::Reading::t_walk_at))]
@@ -76,7 +86,15 @@ fn take_t_create(alloc: Global, rest: &[u8]) -> Result<(TBody, &[u8]), WireError
     let (name, rest) = take_string(alloc, rest)?;
     let (perm, rest) = take_u32(rest)?;
     let (mode, rest) = take_u8(rest)?;
-    Ok((TBody::Create { fid, name, perm, mode }, rest))
+    Ok((
+        TBody::Create {
+            fid,
+            name,
+            perm,
+            mode,
+        },
+        rest,
+    ))
 }
 
 #[tactic(auto, unfolding(crate::specs::Reading::t_read_at))]

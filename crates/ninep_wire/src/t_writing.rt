@@ -4,7 +4,9 @@ ghost use Rattle.std.specs.Prelude.{◌≡◌, ◌<◌, ◌≤◌, ◌^◌, ◌+
 ghost use Rattle.ninep_wire.specs.Spelling.{kind_t, fields_t, size_t, spelling_t, Fits_t, BodyFits_t, IsString, AreNames};
 
 use crate::message::{TBody, TMsg};
-use crate::puts::{begun, put_data, put_names, put_stat, put_string, put_u16, put_u32, put_u64, strings_len};
+use crate::puts::{
+    begun, put_data, put_names, put_stat, put_string, put_u16, put_u32, put_u64, strings_len,
+};
 use am_text::{Bytes, NoMemory};
 use std::alloc::Global;
 
@@ -38,7 +40,13 @@ fn put_t_flush(out: &mut Bytes, oldtag: u16) -> Result<(), NoMemory>
 }
 
 #[tactic(auto, using(crate::proofs::Joins::joins))]
-fn put_t_attach(out: &mut Bytes, fid: u32, afid: u32, uname: &[u8], aname: &[u8]) -> Result<(), NoMemory>
+fn put_t_attach(
+    out: &mut Bytes,
+    fid: u32,
+    afid: u32,
+    uname: &[u8],
+    aname: &[u8],
+) -> Result<(), NoMemory>
     requires { IsString uname.now × IsString aname.now }
     ensures { OnOk result (out.new ≡ out.old ++ fields_t (TBody.Attach fid afid uname.now aname.now)) }
 {
@@ -142,12 +150,27 @@ fn put_t_body(out: &mut Bytes, body: &TBody) -> Result<(), NoMemory>
 {
     match body {
         TBody::Version { msize, version } => put_t_version(out, *msize, version.as_slice()),
-        TBody::Auth { afid, uname, aname } => put_t_auth(out, *afid, uname.as_slice(), aname.as_slice()),
+        TBody::Auth { afid, uname, aname } => put_t_auth(
+            out,
+            *afid,
+            uname.as_slice(),
+            aname.as_slice(),
+        ),
         TBody::Flush { oldtag } => put_t_flush(out, *oldtag),
-        TBody::Attach { fid, afid, uname, aname } => put_t_attach(out, *fid, *afid, uname.as_slice(), aname.as_slice()),
+        TBody::Attach {
+            fid,
+            afid,
+            uname,
+            aname,
+        } => put_t_attach(out, *fid, *afid, uname.as_slice(), aname.as_slice()),
         TBody::Walk { fid, newfid, names } => put_t_walk(out, *fid, *newfid, names.as_slice()),
         TBody::Open { fid, mode } => put_t_open(out, *fid, *mode),
-        TBody::Create { fid, name, perm, mode } => put_t_create(out, *fid, name.as_slice(), *perm, *mode),
+        TBody::Create {
+            fid,
+            name,
+            perm,
+            mode,
+        } => put_t_create(out, *fid, name.as_slice(), *perm, *mode),
         TBody::Read { fid, offset, count } => put_t_read(out, *fid, *offset, *count),
         TBody::Write { fid, offset, bytes } => put_t_write(out, *fid, *offset, bytes.as_slice()),
         TBody::Clunk { fid } => put_t_clunk(out, *fid),
