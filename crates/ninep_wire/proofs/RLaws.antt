@@ -1,12 +1,11 @@
 -- The laws of whole messages from the server: what is read is spelled so, and what is spelled so is read.
-use Rattle.std.proofs.Common.{◌≡◌, ℕ, ◌+◌, ◌^◌, ◌<◌, cond, eqb, List, [], ◌++◌, length, Result, Ok, Err, refl, sym, ap, subst, ◌∙◌, append_assoc, arith}
+use Rattle.std.proofs.Common.{◌≡◌, ℕ, ◌+◌, ◌^◌, ◌<◌, cond, eqb, List, [], ◌++◌, length, Result, Ok, Err, refl, sym, ap, subst, ◌∙◌, arith}
 use Rattle.std.specs.Prelude.{IfOk}
 use Rattle.std.proofs.lemmas.Bool.{eqb-true}
 use Rattle.std.proofs.lemmas.List.{append-nil, nil_from_length}
 use Rattle.ninep_wire.specs.declared.fault.WireFault.TheVariants.{Long}
 use Rattle.ninep_wire.specs.declared.fault.WireError.{WireError}
 use Rattle.ninep_wire.specs.declared.message.RMsg.{RMsg}
-use Rattle.ninep_wire.specs.declared.message.RBody.{RBody}
 use Rattle.ninep_wire.specs.Fields.{◌>>=◌, Gives}
 use Rattle.ninep_wire.specs.Reading.{head_at, r_body_at, r_of}
 use Rattle.ninep_wire.specs.Spelling.{kind_r, fields_r, head, framed, spelling_r, Fits_r, InRange_r}

@@ -1,12 +1,11 @@
 -- The laws of whole messages to the server: what is read is spelled so, and what is spelled so is read.
-use Rattle.std.proofs.Common.{◌≡◌, ℕ, ◌+◌, ◌^◌, ◌<◌, cond, eqb, List, [], ◌∷◌, ◌++◌, length, Result, Ok, Err, refl, sym, ap, subst, ◌∙◌, append_assoc, arith}
+use Rattle.std.proofs.Common.{◌≡◌, ℕ, ◌+◌, ◌^◌, ◌<◌, cond, eqb, List, [], ◌++◌, length, Result, Ok, Err, refl, sym, ap, subst, ◌∙◌, arith}
 use Rattle.std.specs.Prelude.{IfOk}
 use Rattle.std.proofs.lemmas.Bool.{eqb-true}
 use Rattle.std.proofs.lemmas.List.{append-nil, nil_from_length}
 use Rattle.ninep_wire.specs.declared.fault.WireFault.TheVariants.{Long}
 use Rattle.ninep_wire.specs.declared.fault.WireError.{WireError}
 use Rattle.ninep_wire.specs.declared.message.TMsg.{TMsg}
-use Rattle.ninep_wire.specs.declared.message.TBody.{TBody}
 use Rattle.ninep_wire.specs.Fields.{◌>>=◌, Gives}
 use Rattle.ninep_wire.specs.Reading.{head_at, t_body_at, t_of}
 use Rattle.ninep_wire.specs.Spelling.{kind_t, fields_t, head, framed, spelling_t, Fits_t, InRange_t}
