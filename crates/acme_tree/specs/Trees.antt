@@ -1,0 +1,191 @@
+-- The nodes of the trees: what each is, its path, mode and name, and what a directory lists.
+use Rattle.std.specs.Prelude.{ℕ, ◌+◌, ◌*◌, ◌^◌, Bool, true, false, ◌&&◌, ◌||◌, ◌==◌, nat_le, nat_lt, List, [], ◌∷◌, ◌++◌, length, map, take, codes, slice_index_or, if◌then◌else◌}
+use Rattle.std.specs.Fmt.{decimal}
+use Rattle.std.specs.List.{list_any}
+use Rattle.ninep_wire.specs.declared.message.Qid.{Qid}
+use Rattle.ninep_frame.specs.declared.stat.Stat.{Stat}
+use Rattle.acme_tree.specs.declared.node.Node.{Node}
+use Rattle.acme_tree.specs.declared.node.Node.TheVariants.{Root, Cons, ConsCtl, Index, Label, NewDir, Window, File, PlumbRoot, Send, Rules, Port}
+use Rattle.acme_tree.specs.declared.node.WinFile.{WinFile}
+use Rattle.acme_tree.specs.declared.node.WinFile.TheVariants.{Addr, Body, Ctl, Data, Errors, Event, Tag, Xdata}
+use Rattle.acme_tree.specs.declared.node.World.{World}
+
+-- ---- what is there
+
+abbrev pub is_window : World → ℕ → Bool
+is_window world w = list_any (λ v. v == w) world.windows
+
+-- The window of the node is live, or the node is one of the ports; all else is always there.
+abbrev pub is_live : World → Node → Bool
+is_live world Root = true
+is_live world Cons = true
+is_live world ConsCtl = true
+is_live world Index = true
+is_live world Label = true
+is_live world NewDir = true
+is_live world (Window w) = is_window world w
+is_live world (File w file) = is_window world w
+is_live world PlumbRoot = true
+is_live world Send = true
+is_live world Rules = true
+is_live world (Port k) = nat_lt k (length world.ports)
+
+-- No window can be made: 4,096 live, or the next number is the one that is never given.
+abbrev pub is_full : World → Bool
+is_full world = nat_le 4096 (length world.windows) || (world.next == 4294967295)
+
+-- ---- directories, and how files may be opened
+
+abbrev pub is_dir : Node → Bool
+is_dir Root = true
+is_dir Cons = false
+is_dir ConsCtl = false
+is_dir Index = false
+is_dir Label = false
+is_dir NewDir = true
+is_dir (Window w) = true
+is_dir (File w file) = false
+is_dir PlumbRoot = true
+is_dir Send = false
+is_dir Rules = false
+is_dir (Port k) = false
+
+-- the append-only files of a window
+abbrev pub is_append : WinFile → Bool
+is_append Addr = false
+is_append Body = true
+is_append Ctl = false
+is_append Data = false
+is_append Errors = false
+is_append Event = false
+is_append Tag = true
+is_append Xdata = false
+
+-- ---- qids and modes
+
+-- the number of a file in its window's directory, from 1
+abbrev pub file_number : WinFile → ℕ
+file_number Addr = 1
+file_number Body = 2
+file_number Ctl = 3
+file_number Data = 4
+file_number Errors = 5
+file_number Event = 6
+file_number Tag = 7
+file_number Xdata = 8
+
+abbrev pub path_of : Node → ℕ
+path_of Root = 0
+path_of Cons = 1
+path_of ConsCtl = 2
+path_of Index = 3
+path_of Label = 4
+path_of NewDir = 5
+path_of (Window w) = w * 256
+path_of (File w file) = w * 256 + file_number file
+path_of PlumbRoot = 16
+path_of Send = 17
+path_of Rules = 18
+path_of (Port k) = 2 ^ 40 + k
+
+-- the mode of a window's file: append-only, or read and written, or written alone
+abbrev pub file_mode : WinFile → ℕ
+file_mode Addr = 0x180
+file_mode Body = 0x40000180
+file_mode Ctl = 0x180
+file_mode Data = 0x180
+file_mode Errors = 0x80
+file_mode Event = 0x180
+file_mode Tag = 0x40000180
+file_mode Xdata = 0x180
+
+-- 0x80000000 is a directory, 0x40000000 append-only, 0x100 reading, 0x80 writing and 0x40 walking (stat(5))
+abbrev pub mode_of : Node → ℕ
+mode_of Root = 0x80000140
+mode_of Cons = 0x180
+mode_of ConsCtl = 0x100
+mode_of Index = 0x100
+mode_of Label = 0x180
+mode_of NewDir = 0x80000140
+mode_of (Window w) = 0x80000140
+mode_of (File w file) = file_mode file
+mode_of PlumbRoot = 0x80000140
+mode_of Send = 0x80
+mode_of Rules = 0x180
+mode_of (Port k) = 0x100
+
+-- a qid's type is the top byte of the mode: 128 of a directory, 64 of an append-only file
+abbrev pub file_kind : WinFile → ℕ
+file_kind file = if is_append file then 64 else 0
+
+abbrev pub kind_of : Node → ℕ
+kind_of Root = 128
+kind_of Cons = 0
+kind_of ConsCtl = 0
+kind_of Index = 0
+kind_of Label = 0
+kind_of NewDir = 128
+kind_of (Window w) = 128
+kind_of (File w file) = file_kind file
+kind_of PlumbRoot = 128
+kind_of Send = 0
+kind_of Rules = 0
+kind_of (Port k) = 0
+
+abbrev pub qid_of : Node → Qid
+qid_of node = record { kind = kind_of node; vers = 0; path = path_of node }
+
+-- ---- names
+
+abbrev pub file_name : WinFile → List ℕ
+file_name Addr = codes "addr"
+file_name Body = codes "body"
+file_name Ctl = codes "ctl"
+file_name Data = codes "data"
+file_name Errors = codes "errors"
+file_name Event = codes "event"
+file_name Tag = codes "tag"
+file_name Xdata = codes "xdata"
+
+abbrev pub name_of : World → Node → List ℕ
+name_of world Root = codes "acme"
+name_of world Cons = codes "cons"
+name_of world ConsCtl = codes "consctl"
+name_of world Index = codes "index"
+name_of world Label = codes "label"
+name_of world NewDir = codes "new"
+name_of world (Window w) = decimal w
+name_of world (File w file) = file_name file
+name_of world PlumbRoot = codes "plumb"
+name_of world Send = codes "send"
+name_of world Rules = codes "rules"
+name_of world (Port k) = slice_index_or world.ports k []
+
+-- lengths are 0
+abbrev pub stat_of : World → Node → Stat
+stat_of world node = record { qid = qid_of node; mode = mode_of node; length = 0; name = name_of world node }
+
+-- ---- what directories list, in order
+
+abbrev pub files : List WinFile
+files = Addr ∷ Body ∷ Ctl ∷ Data ∷ Errors ∷ Event ∷ Tag ∷ Xdata ∷ []
+
+-- the ports of the names, from this number on
+abbrev pub ports_from : ℕ → List (List ℕ) → List Node
+ports_from k [] = []
+ports_from k (name ∷ names) = Port k ∷ ports_from (k + 1) names
+
+-- `new` lists nothing; a port's number is below 2 ^ 32
+abbrev pub entries : World → Node → List Node
+entries world Root = Cons ∷ ConsCtl ∷ Index ∷ Label ∷ NewDir ∷ map Window world.windows
+entries world Cons = []
+entries world ConsCtl = []
+entries world Index = []
+entries world Label = []
+entries world NewDir = []
+entries world (Window w) = map (File w) files
+entries world (File w file) = []
+entries world PlumbRoot = Send ∷ Rules ∷ ports_from 0 (take (2 ^ 32) world.ports)
+entries world Send = []
+entries world Rules = []
+entries world (Port k) = []

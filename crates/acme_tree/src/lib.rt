@@ -1,0 +1,19 @@
+//! The trees that the editor serves: their nodes, walks between them, and how each may be opened.
+//!
+//! `docs/formats/trees.md` has the table of nodes.
+#![tactic(auto)]
+
+mod access;
+mod listing;
+mod node;
+#[cfg(test)]
+mod tests;
+mod walk;
+
+pub use access::{May, may_open};
+pub use am_text::{Bytes, Ids, Items, Names, NoMemory};
+pub use listing::{children, qid_of, stat_of};
+pub use ninep_frame::{Stat, Stats};
+pub use ninep_wire::Qid;
+pub use node::{Node, WinFile, World, is_dir, is_full, is_live};
+pub use walk::{Step, walk_one};

@@ -1,0 +1,18 @@
+//! Stat records and directory reads of 9P2000, after stat(5) and read(5) of the Plan 9 manual.
+//!
+//! A stat record is size[2] type[2] dev[4] qid[13] mode[4] atime[4] mtime[4] length[8] name[s] uid[s]
+//! gid[s] muid[s]. Here type, dev and the times are 0, and the owners are `acme`.
+#![tactic(auto)]
+
+mod directory;
+mod laws;
+mod puts;
+mod stat;
+#[cfg(test)]
+mod tests;
+
+pub use am_text::{Bytes, Items, NoMemory};
+pub use directory::dir_read;
+pub use laws::{directory_parts_are_longest, records_are_prefix_free, records_have_their_size};
+pub use ninep_wire::Qid;
+pub use stat::{Stat, Stats, stat_read, stat_write};

@@ -1,0 +1,1 @@
+//! The kinds of fields, each put at the end of the bytes.
