@@ -1,12 +1,12 @@
 -- How nodes may be opened, after open(5).
-use Rattle.std.specs.Prelude.{ℕ, Bool, true, false, ◌&&◌, ◌||◌, ◌==◌, not, bit_and, if◌then◌else◌}
+use Rattle.std.specs.Prelude.{ℕ, Bool, true, false, ◌&&◌, ◌==◌, not, bit_and, if◌then◌else◌}
 use Rattle.acme_tree.specs.declared.node.Node.{Node}
 use Rattle.acme_tree.specs.declared.access.May.{May}
 use Rattle.acme_tree.specs.declared.access.May.TheVariants.{Yes, BadMode, Denied}
 use Rattle.acme_tree.specs.Trees.{is_dir, mode_of}
 
--- Bits of an open mode: two say how (0 to read, 1 to write, 2 for both, 3 to execute), 0x10 truncates, and 0x40 removes
--- on close. No mode has another.
+-- The bits of an open mode: two say how (0 to read, 1 to write, 2 for both, 3 to execute), 0x10 truncates, and 0x40
+-- removes on close. No mode has another.
 abbrev pub is_open_mode : ℕ → Bool
 is_open_mode mode = bit_and mode 0x53 == mode
 
@@ -14,29 +14,29 @@ abbrev pub how : ℕ → ℕ
 how mode = bit_and mode 3
 
 abbrev pub truncates : ℕ → Bool
-truncates mode = bit_and mode 0x10 == 0x10
+truncates mode = not (bit_and mode 0x10 == 0)
 
 abbrev pub removes : ℕ → Bool
-removes mode = bit_and mode 0x40 == 0x40
+removes mode = not (bit_and mode 0x40 == 0)
 
--- the file's own mode allows reading, and writing
+-- what the mode of the file itself lets its owner do
 abbrev pub is_readable : Node → Bool
-is_readable node = bit_and (mode_of node) 0x100 == 0x100
+is_readable node = not (bit_and (mode_of node) 0x100 == 0)
 
 abbrev pub is_writable : Node → Bool
-is_writable node = bit_and (mode_of node) 0x80 == 0x80
+is_writable node = not (bit_and (mode_of node) 0x80 == 0)
 
 -- a file may be opened so; none is executed
 abbrev pub allows : Node → ℕ → Bool
-allows node 0 = is_readable node
-allows node 1 = is_writable node
-allows node 2 = is_readable node && is_writable node
-allows node _ = false
+allows node way = if way == 0 then is_readable node
+    else (if way == 1 then is_writable node
+    else (if way == 2 then is_readable node && is_writable node else false))
 
--- Nothing is removed on close, and what is only read isn't truncated. A directory is opened with 0 alone.
+-- nothing is removed on close, and what is only read isn't truncated
 abbrev pub file_allows : Node → ℕ → Bool
 file_allows node mode = not (removes mode) && not (truncates mode && (how mode == 0)) && allows node (how mode)
 
+-- a directory is opened with 0 alone
 abbrev pub is_allowed : Node → ℕ → Bool
 is_allowed node mode = if is_dir node then mode == 0 else file_allows node mode
 

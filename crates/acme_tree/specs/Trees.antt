@@ -17,53 +17,25 @@ is_window world w = list_any (λ v. v == w) world.windows
 
 -- The window of the node is live, or the node is one of the ports; all else is always there.
 abbrev pub is_live : World → Node → Bool
-is_live world Root = true
-is_live world Cons = true
-is_live world ConsCtl = true
-is_live world Index = true
-is_live world Label = true
-is_live world NewDir = true
 is_live world (Window w) = is_window world w
 is_live world (File w file) = is_window world w
-is_live world PlumbRoot = true
-is_live world Send = true
-is_live world Rules = true
 is_live world (Port k) = nat_lt k (length world.ports)
+is_live world node = true
 
--- No window can be made: 4,096 live, or the next number is the one that is never given.
+-- No window can be made: 4,096 are live, or the next number is the one that is never given.
 abbrev pub is_full : World → Bool
 is_full world = nat_le 4096 (length world.windows) || (world.next == 4294967295)
 
--- ---- directories, and how files may be opened
+-- ---- qids and modes
 
 abbrev pub is_dir : Node → Bool
 is_dir Root = true
-is_dir Cons = false
-is_dir ConsCtl = false
-is_dir Index = false
-is_dir Label = false
 is_dir NewDir = true
 is_dir (Window w) = true
-is_dir (File w file) = false
 is_dir PlumbRoot = true
-is_dir Send = false
-is_dir Rules = false
-is_dir (Port k) = false
+is_dir node = false
 
--- the append-only files of a window
-abbrev pub is_append : WinFile → Bool
-is_append Addr = false
-is_append Body = true
-is_append Ctl = false
-is_append Data = false
-is_append Errors = false
-is_append Event = false
-is_append Tag = true
-is_append Xdata = false
-
--- ---- qids and modes
-
--- the number of a file in its window's directory, from 1
+-- the number of a file in its window's directory
 abbrev pub file_number : WinFile → ℕ
 file_number Addr = 1
 file_number Body = 2
@@ -88,18 +60,14 @@ path_of Send = 17
 path_of Rules = 18
 path_of (Port k) = 2 ^ 40 + k
 
--- the mode of a window's file: append-only, or read and written, or written alone
+-- The bits of a mode (stat(5)): 0x80000000 is a directory, 0x40000000 append-only, 0x100 is read by its owner, 0x80
+-- written, and 0x40 walked.
 abbrev pub file_mode : WinFile → ℕ
-file_mode Addr = 0x180
 file_mode Body = 0x40000180
-file_mode Ctl = 0x180
-file_mode Data = 0x180
-file_mode Errors = 0x80
-file_mode Event = 0x180
 file_mode Tag = 0x40000180
-file_mode Xdata = 0x180
+file_mode Errors = 0x80
+file_mode file = 0x180
 
--- 0x80000000 is a directory, 0x40000000 append-only, 0x100 reading, 0x80 writing and 0x40 walking (stat(5))
 abbrev pub mode_of : Node → ℕ
 mode_of Root = 0x80000140
 mode_of Cons = 0x180
@@ -114,23 +82,19 @@ mode_of Send = 0x80
 mode_of Rules = 0x180
 mode_of (Port k) = 0x100
 
--- a qid's type is the top byte of the mode: 128 of a directory, 64 of an append-only file
+-- the type of a qid: 128 of a directory, 64 of an append-only file
 abbrev pub file_kind : WinFile → ℕ
-file_kind file = if is_append file then 64 else 0
+file_kind Body = 64
+file_kind Tag = 64
+file_kind file = 0
 
 abbrev pub kind_of : Node → ℕ
 kind_of Root = 128
-kind_of Cons = 0
-kind_of ConsCtl = 0
-kind_of Index = 0
-kind_of Label = 0
 kind_of NewDir = 128
 kind_of (Window w) = 128
 kind_of (File w file) = file_kind file
 kind_of PlumbRoot = 128
-kind_of Send = 0
-kind_of Rules = 0
-kind_of (Port k) = 0
+kind_of node = 0
 
 abbrev pub qid_of : Node → Qid
 qid_of node = record { kind = kind_of node; vers = 0; path = path_of node }
@@ -178,14 +142,6 @@ ports_from k (name ∷ names) = Port k ∷ ports_from (k + 1) names
 -- `new` lists nothing; a port's number is below 2 ^ 32
 abbrev pub entries : World → Node → List Node
 entries world Root = Cons ∷ ConsCtl ∷ Index ∷ Label ∷ NewDir ∷ map Window world.windows
-entries world Cons = []
-entries world ConsCtl = []
-entries world Index = []
-entries world Label = []
-entries world NewDir = []
 entries world (Window w) = map (File w) files
-entries world (File w file) = []
 entries world PlumbRoot = Send ∷ Rules ∷ ports_from 0 (take (2 ^ 32) world.ports)
-entries world Send = []
-entries world Rules = []
-entries world (Port k) = []
+entries world node = []

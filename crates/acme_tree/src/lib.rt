@@ -4,7 +4,9 @@
 #![tactic(auto)]
 
 mod access;
+mod entries;
 mod listing;
+mod names;
 mod node;
 #[cfg(test)]
 mod tests;

@@ -2,20 +2,115 @@
 
 ghost use Rattle.std.specs.Prelude.{◌≡◌, All, IfOk, map, true};
 ghost use Rattle.ninep_frame.specs.Records.{HasName, IsName};
-ghost use Rattle.acme_tree.specs.Trees.{entries, is_dir, is_live, qid_of, stat_of};
+ghost use Rattle.acme_tree.specs.Trees.{entries, file_kind, file_mode, file_number, is_dir, is_live, kind_of, mode_of, path_of, qid_of, stat_of};
 
-use crate::node::{Node, World};
-use am_text::NoMemory;
+use crate::entries::entries;
+use crate::names::name_of;
+use crate::node::{Node, WinFile, World};
+use am_text::{Items, NoMemory};
 use ninep_frame::{Stat, Stats};
 use ninep_wire::Qid;
 use std::alloc::Global;
+
+/// The mode of a directory.
+const DIR: u32 = 0x80000140;
+
+/// The mode of an append-only file, which is read and written.
+const APPEND: u32 = 0x40000180;
+
+/// The mode of a file that is read and written.
+const READ_WRITE: u32 = 0x180;
+
+/// The mode of a file that is read.
+const READ: u32 = 0x100;
+
+/// The mode of a file that is written.
+const WRITE: u32 = 0x80;
+
+fn file_mode(file: WinFile) -> u32
+    ensures { result ≡ file_mode file }
+{
+    match file {
+        WinFile::Body | WinFile::Tag => APPEND,
+        WinFile::Errors => WRITE,
+        _ => READ_WRITE,
+    }
+}
+
+pub(crate) fn mode_of(node: Node) -> u32
+    ensures { result ≡ mode_of node }
+{
+    match node {
+        Node::Root | Node::NewDir | Node::Window(_) | Node::PlumbRoot => DIR,
+        Node::Cons | Node::Label | Node::Rules => READ_WRITE,
+        Node::ConsCtl | Node::Index | Node::Port(_) => READ,
+        Node::Send => WRITE,
+        Node::File(_, file) => file_mode(file),
+    }
+}
+
+fn file_number(file: WinFile) -> u64
+    ensures { result ≡ file_number file }
+{
+    match file {
+        WinFile::Addr => 1,
+        WinFile::Body => 2,
+        WinFile::Ctl => 3,
+        WinFile::Data => 4,
+        WinFile::Errors => 5,
+        WinFile::Event => 6,
+        WinFile::Tag => 7,
+        WinFile::Xdata => 8,
+    }
+}
+
+fn path_of(node: Node) -> u64
+    ensures { result ≡ path_of node }
+{
+    match node {
+        Node::Root => 0,
+        Node::Cons => 1,
+        Node::ConsCtl => 2,
+        Node::Index => 3,
+        Node::Label => 4,
+        Node::NewDir => 5,
+        Node::Window(window) => u64::from(window) * 256,
+        Node::File(window, file) => u64::from(window) * 256 + file_number(file),
+        Node::PlumbRoot => 16,
+        Node::Send => 17,
+        Node::Rules => 18,
+        Node::Port(port) => (1 << 40) + u64::from(port),
+    }
+}
+
+fn file_kind(file: WinFile) -> u8
+    ensures { result ≡ file_kind file }
+{
+    match file {
+        WinFile::Body | WinFile::Tag => 64,
+        _ => 0,
+    }
+}
+
+fn kind_of(node: Node) -> u8
+    ensures { result ≡ kind_of node }
+{
+    match node {
+        Node::Root | Node::NewDir | Node::Window(_) | Node::PlumbRoot => 128,
+        Node::File(_, file) => file_kind(file),
+        _ => 0,
+    }
+}
 
 /// The qid of a node.
 pub fn qid_of(node: Node) -> Qid
     ensures { result ≡ qid_of node }
 {
-    let _ = node;
-    todo!()
+    Qid {
+        kind: kind_of(node),
+        vers: 0,
+        path: path_of(node),
+    }
 }
 
 /// The stat of a live node.
@@ -25,8 +120,12 @@ pub fn stat_of(alloc: Global, world: &World, node: Node) -> Result<Stat, NoMemor
     // It has a record.
     ensures named { All IsName world.now.ports → IfOk result HasName }
 {
-    let _ = (alloc, world, node);
-    Err(NoMemory)
+    Ok(Stat {
+        qid: qid_of(node),
+        mode: mode_of(node),
+        length: 0,
+        name: name_of(alloc, world, node)?,
+    })
 }
 
 /// The stats of what a live directory lists, in order.
@@ -37,6 +136,10 @@ pub fn children(alloc: Global, world: &World, node: Node) -> Result<Stats, NoMem
     // Each has a record.
     ensures named { All IsName world.now.ports → IfOk result (λ stats. All HasName stats) }
 {
-    let _ = (alloc, world, node);
-    Err(NoMemory)
+    let nodes = entries(alloc, world, node)?;
+    let mut stats = Items::new(alloc);
+    for node in nodes.as_slice() {
+        stats.push(stat_of(alloc, world, *node)?)?;
+    }
+    Ok(stats)
 }

@@ -1,9 +1,15 @@
 //! The nodes of the trees.
 
 ghost use Rattle.std.specs.Prelude.{◌≡◌};
-ghost use Rattle.acme_tree.specs.Trees.{is_dir, is_full, is_live};
+ghost use Rattle.acme_tree.specs.Trees.{is_dir, is_full, is_live, is_window};
 
 use am_text::{Ids, Names};
+
+/// The most windows that may be live.
+const WINDOWS: usize = 4096;
+
+/// The number that no window gets.
+const NEVER_GIVEN: u32 = 4294967295;
 
 /// A file of a window's directory.
 #[derive(Clone, Copy, Debug, PartialEq, Eq)]
@@ -54,22 +60,33 @@ pub struct World {
 pub fn is_dir(node: Node) -> bool
     ensures { result ≡ is_dir node }
 {
-    let _ = node;
-    todo!()
+    match node {
+        Node::Root | Node::NewDir | Node::Window(_) | Node::PlumbRoot => true,
+        _ => false,
+    }
 }
 
-/// Whether the node is there: its window is live, or it is one of the ports.
+fn is_window(world: &World, window: u32) -> bool
+    ensures { result ≡ is_window world.now window }
+{
+    world.windows.as_slice().contains(&window)
+}
+
+/// Whether the node is there: its window is live, or it is one of the ports. All else is always there.
 pub fn is_live(world: &World, node: Node) -> bool
     ensures { result ≡ is_live world.now node }
 {
-    let _ = (world, node);
-    todo!()
+    match node {
+        Node::Window(window) => is_window(world, window),
+        Node::File(window, _) => is_window(world, window),
+        Node::Port(port) => (port as usize) < world.ports.len(),
+        _ => true,
+    }
 }
 
 /// Whether no window can be made: 4,096 are live, or the next number is the one that is never given.
 pub fn is_full(world: &World) -> bool
     ensures { result ≡ is_full world.now }
 {
-    let _ = world;
-    todo!()
+    WINDOWS <= world.windows.len() || world.next == NEVER_GIVEN
 }

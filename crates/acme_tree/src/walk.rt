@@ -1,9 +1,12 @@
 //! Walks.
 
-ghost use Rattle.std.specs.Prelude.{◌≡◌};
-ghost use Rattle.acme_tree.specs.Walks.{walk_one};
+ghost use Rattle.std.specs.Prelude.{◌≡◌, find, position};
+ghost use Rattle.std.specs.Fmt.{decimal};
+ghost use Rattle.std.specs.Str.{bytes_eq};
+ghost use Rattle.acme_tree.specs.Walks.{above, below, entry_named, file_named, to_entry, to_new, walk_one};
 
-use crate::node::{Node, WinFile, World};
+use crate::node::{Node, WinFile, World, is_dir, is_full, is_live};
+use am_text::{Bytes, read_decimal};
 
 /// Where one name of a walk leads.
 #[derive(Clone, Copy, Debug, PartialEq, Eq)]
@@ -22,6 +25,136 @@ pub enum Step {
     Windows,
 }
 
+fn file_named(name: &[u8]) -> Option<WinFile>
+    ensures { result ≡ file_named name.now }
+{
+    if name == b"addr".as_slice() {
+        Some(WinFile::Addr)
+    } else if name == b"body".as_slice() {
+        Some(WinFile::Body)
+    } else if name == b"ctl".as_slice() {
+        Some(WinFile::Ctl)
+    } else if name == b"data".as_slice() {
+        Some(WinFile::Data)
+    } else if name == b"errors".as_slice() {
+        Some(WinFile::Errors)
+    } else if name == b"event".as_slice() {
+        Some(WinFile::Event)
+    } else if name == b"tag".as_slice() {
+        Some(WinFile::Tag)
+    } else if name == b"xdata".as_slice() {
+        Some(WinFile::Xdata)
+    } else {
+        None
+    }
+}
+
+/// The first of the windows whose number is this.
+fn numbered(windows: &[u32], number: u64) -> Option<u32>
+    ensures { result ≡ find (λ w. w == number) windows.now }
+{
+    windows.iter().copied().find(|w| u64::from(*w) == number)
+}
+
+/// The window whose decimal the name is.
+#[tactic(auto, using(crate::proofs::Named::windows))]
+fn window_named(windows: &[u32], name: &[u8]) -> Option<u32>
+    ensures { result ≡ find (λ w. bytes_eq name.now (decimal w)) windows.now }
+{
+    numbered(windows, read_decimal(name)?)
+}
+
+/// The number of the port of this name.
+fn port_named(ports: &[Bytes], name: &[u8]) -> Option<u32>
+    ensures { result ≡ position (λ port. bytes_eq name.now port) (take (2 ^ 32) ports.now) }
+{
+    let port = ports.iter().position(|port| name == port.as_slice())?;
+    u32::try_from(port).ok()
+}
+
+fn in_root(world: &World, name: &[u8]) -> Option<Node>
+    ensures { result ≡ entry_named world.now Node.Root name.now }
+{
+    if name == b"cons".as_slice() {
+        Some(Node::Cons)
+    } else if name == b"consctl".as_slice() {
+        Some(Node::ConsCtl)
+    } else if name == b"index".as_slice() {
+        Some(Node::Index)
+    } else if name == b"label".as_slice() {
+        Some(Node::Label)
+    } else if name == b"new".as_slice() {
+        Some(Node::NewDir)
+    } else {
+        window_named(world.windows.as_slice(), name).map(Node::Window)
+    }
+}
+
+fn in_plumber(world: &World, name: &[u8]) -> Option<Node>
+    ensures { result ≡ entry_named world.now Node.PlumbRoot name.now }
+{
+    if name == b"send".as_slice() {
+        Some(Node::Send)
+    } else if name == b"rules".as_slice() {
+        Some(Node::Rules)
+    } else {
+        port_named(world.ports.as_slice(), name).map(Node::Port)
+    }
+}
+
+fn entry_named(world: &World, dir: Node, name: &[u8]) -> Option<Node>
+    ensures { result ≡ entry_named world.now dir name.now }
+{
+    match dir {
+        Node::Root => in_root(world, name),
+        Node::Window(window) => file_named(name).map(|file| Node::File(window, file)),
+        Node::PlumbRoot => in_plumber(world, name),
+        _ => None,
+    }
+}
+
+fn to_entry(found: Option<Node>) -> Step
+    ensures { result ≡ to_entry found }
+{
+    match found {
+        Some(node) => Step::Found(node),
+        None => Step::NotFound,
+    }
+}
+
+fn to_new(world: &World, last: bool, found: Option<WinFile>) -> Step
+    ensures { result ≡ to_new world.now last found }
+{
+    match found {
+        Some(file) if last => {
+            if is_full(world) {
+                Step::Windows
+            } else {
+                Step::Make(file)
+            }
+        }
+        _ => Step::NotFound,
+    }
+}
+
+fn above(dir: Node) -> Node
+    ensures { result ≡ above dir }
+{
+    match dir {
+        Node::PlumbRoot => Node::PlumbRoot,
+        _ => Node::Root,
+    }
+}
+
+fn below(world: &World, dir: Node, name: &[u8], last: bool) -> Step
+    ensures { result ≡ below world.now dir name.now last }
+{
+    match dir {
+        Node::NewDir => to_new(world, last, file_named(name)),
+        _ => to_entry(entry_named(world, dir, name)),
+    }
+}
+
 /// Where a name leads from a node. `last` says whether it is the last name of its walk: only as such a window's
 /// file is found in `new`.
 ///
@@ -29,6 +162,14 @@ pub enum Step {
 pub fn walk_one(world: &World, from: Node, name: &[u8], last: bool) -> Step
     ensures { result ≡ walk_one world.now from name.now last }
 {
-    let _ = (world, from, name, last);
-    todo!()
+    if !is_dir(from) {
+        return Step::NotDir;
+    }
+    if !is_live(world, from) {
+        return Step::Deleted;
+    }
+    if name == b"..".as_slice() {
+        return Step::Found(above(from));
+    }
+    below(world, from, name, last)
 }

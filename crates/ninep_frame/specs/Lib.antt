@@ -1,3 +1,4 @@
 pub mod Directories
 pub mod Laws
+pub mod Places
 pub mod Records

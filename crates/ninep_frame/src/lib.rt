@@ -6,7 +6,9 @@
 
 mod directory;
 mod laws;
+mod places;
 mod puts;
+mod record;
 mod stat;
 #[cfg(test)]
 mod tests;

@@ -1,9 +1,12 @@
 //! Stat records.
 
-ghost use Rattle.std.specs.Prelude.{◌≡◌, IfOk, IfSome, Some};
+ghost use Rattle.std.specs.Prelude.{◌≡◌, ◌<◌, ◌+◌, ◌^◌, IfOk, IfSome, Some, length};
 ghost use Rattle.ninep_frame.specs.declared.stat.Stat.{Stat};
+ghost use Rattle.ninep_frame.specs.Places.{stat_of};
 ghost use Rattle.ninep_frame.specs.Records.{record_of, HasName, IsRecord, InRange};
 
+use crate::places::{is_formed, stat_at};
+use crate::record::{put_record, record_size};
 use am_text::{Bytes, Items, NoMemory};
 use ninep_wire::Qid;
 use std::alloc::Global;
@@ -24,13 +27,35 @@ pub struct Stat {
 /// A list of stats, as of the files of a directory.
 pub type Stats = Items<Stat>;
 
-/// The record of a stat.
+fn written(alloc: Global, stat: &Stat) -> Result<Bytes, NoMemory>
+    requires { 59 + length stat.now.name < 2 ^ 16 }
+    ensures { IfOk result (λ bytes. bytes ≡ record_of stat.now) }
+{
+    let mut out = Items::from_vec(Vec::with_capacity(alloc, record_size(stat))?);
+    put_record(&mut out, stat)?;
+    Ok(out)
+}
+
+/// The record of a stat. It takes memory once, for all of its bytes.
 pub fn stat_write(alloc: Global, stat: &Stat) -> Result<Bytes, NoMemory>
     requires { HasName stat.now }
     ensures { IfOk result (λ bytes. bytes ≡ record_of stat.now) }
 {
-    let _ = (alloc, stat);
-    Err(NoMemory)
+    written(alloc, stat)
+}
+
+#[tactic(auto, unfolding(crate::specs::Places::stat_of))]
+fn read(alloc: Global, bytes: &[u8]) -> Result<Option<Stat>, NoMemory>
+    ensures { IfOk result (λ found. found ≡ stat_of bytes.now) }
+{
+    if !is_formed(bytes) {
+        return Ok(None);
+    }
+    let stat = stat_at(alloc, bytes)?;
+    if written(alloc, &stat)?.as_slice() != bytes {
+        return Ok(None);
+    }
+    Ok(Some(stat))
 }
 
 /// The stat whose record the bytes are, all of them; `None` where they are no record of a stat.
@@ -42,6 +67,5 @@ pub fn stat_read(alloc: Global, bytes: &[u8]) -> Result<Option<Stat>, NoMemory>
     // A record is read as its stat.
     ensures only { (stat : Stat) → InRange stat → IsRecord stat bytes.now → IfOk result (λ found. found ≡ Some stat) }
 {
-    let _ = (alloc, bytes);
-    Err(NoMemory)
+    read(alloc, bytes)
 }

@@ -1,0 +1,80 @@
+//! The nodes that a directory lists.
+
+ghost use Rattle.std.specs.Prelude.{◌≡◌, ◌++◌, IfOk, OnOk, map, take, ◌^◌};
+ghost use Rattle.acme_tree.specs.Trees.{entries, files, ports_from};
+
+use crate::node::{Node, WinFile, World};
+use am_text::{Bytes, Items, NoMemory};
+use std::alloc::Global;
+
+fn put_windows(nodes: &mut Items<Node>, windows: &[u32]) -> Result<(), NoMemory>
+    ensures { OnOk result (nodes.new ≡ nodes.old ++ map Node.Window windows.now) }
+{
+    for window in windows {
+        nodes.push(Node::Window(*window))?;
+    }
+    Ok(())
+}
+
+fn put_ports(nodes: &mut Items<Node>, ports: &[Bytes]) -> Result<(), NoMemory>
+    ensures { OnOk result (nodes.new ≡ nodes.old ++ ports_from 0 (take (2 ^ 32) ports.now)) }
+{
+    for k in 0..ports.len() {
+        let Ok(port) = u32::try_from(k) else {
+            break;
+        };
+        nodes.push(Node::Port(port))?;
+    }
+    Ok(())
+}
+
+fn of_root(alloc: Global, world: &World) -> Result<Items<Node>, NoMemory>
+    ensures { IfOk result (λ nodes. nodes ≡ entries world.now Node.Root) }
+{
+    let fixed = [
+        Node::Cons,
+        Node::ConsCtl,
+        Node::Index,
+        Node::Label,
+        Node::NewDir,
+    ];
+    let mut nodes = Items::copied(alloc, &fixed)?;
+    put_windows(&mut nodes, world.windows.as_slice())?;
+    Ok(nodes)
+}
+
+fn of_window(alloc: Global, window: u32) -> Result<Items<Node>, NoMemory>
+    ensures { IfOk result (λ nodes. nodes ≡ map (Node.File window) files) }
+{
+    let fixed = [
+        Node::File(window, WinFile::Addr),
+        Node::File(window, WinFile::Body),
+        Node::File(window, WinFile::Ctl),
+        Node::File(window, WinFile::Data),
+        Node::File(window, WinFile::Errors),
+        Node::File(window, WinFile::Event),
+        Node::File(window, WinFile::Tag),
+        Node::File(window, WinFile::Xdata),
+    ];
+    Items::copied(alloc, &fixed)
+}
+
+fn of_plumber(alloc: Global, world: &World) -> Result<Items<Node>, NoMemory>
+    ensures { IfOk result (λ nodes. nodes ≡ entries world.now Node.PlumbRoot) }
+{
+    let mut nodes = Items::copied(alloc, &[Node::Send, Node::Rules])?;
+    put_ports(&mut nodes, world.ports.as_slice())?;
+    Ok(nodes)
+}
+
+/// The nodes that a directory lists, in order.
+pub(crate) fn entries(alloc: Global, world: &World, dir: Node) -> Result<Items<Node>, NoMemory>
+    ensures { IfOk result (λ nodes. nodes ≡ entries world.now dir) }
+{
+    match dir {
+        Node::Root => of_root(alloc, world),
+        Node::Window(window) => of_window(alloc, window),
+        Node::PlumbRoot => of_plumber(alloc, world),
+        _ => Ok(Items::new(alloc)),
+    }
+}

@@ -1,0 +1,98 @@
+//! The fields of a record, each taken from its place.
+
+ghost use Rattle.std.specs.Prelude.{◌≡◌, ◌≤◌, ◌<◌, ◌+◌, ◌^◌, IfOk, IsTrue, length, take, drop, true};
+ghost use Rattle.ninep_wire.specs.Fields.{is_text};
+ghost use Rattle.ninep_frame.specs.Places.{u16_at, u32_at, u64_at, name_at, stat_at, is_formed};
+
+use crate::stat::Stat;
+use am_text::{Items, NoMemory, is_utf8};
+use ninep_wire::Qid;
+use std::alloc::Global;
+
+/// The place of the name's length.
+const NAME_LEN: usize = 41;
+
+/// The place of the name.
+const NAME: usize = 43;
+
+/// How many bytes a record has beside its name.
+const UNNAMED: usize = 61;
+
+// So many bytes from a place on.
+fn part_at(bytes: &[u8], at: usize, len: usize) -> &[u8]
+    requires { at + len ≤ length bytes.now }
+    ensures { result.now ≡ take len (drop at bytes.now) }
+{
+    let (_, rest) = bytes.split_at(at);
+    let (part, _) = rest.split_at(len);
+    part
+}
+
+fn u16_at(bytes: &[u8], at: usize) -> u16
+    requires { at + 2 ≤ length bytes.now }
+    ensures { result ≡ u16_at at bytes.now }
+{
+    let part = part_at(bytes, at, 2);
+    u16::from_le_bytes([part[0], part[1]])
+}
+
+fn u32_at(bytes: &[u8], at: usize) -> u32
+    requires { at + 4 ≤ length bytes.now }
+    ensures { result ≡ u32_at at bytes.now }
+{
+    let part = part_at(bytes, at, 4);
+    u32::from_le_bytes([part[0], part[1], part[2], part[3]])
+}
+
+fn u64_at(bytes: &[u8], at: usize) -> u64
+    requires { at + 8 ≤ length bytes.now }
+    ensures { result ≡ u64_at at bytes.now }
+{
+    let part = part_at(bytes, at, 8);
+    u64::from_le_bytes([
+        part[0], part[1], part[2], part[3], part[4], part[5], part[6], part[7],
+    ])
+}
+
+#[tactic(auto, unfolding(ninep_wire::specs::Fields::is_text))]
+fn is_text(bytes: &[u8]) -> bool
+    ensures { result ≡ is_text bytes.now }
+{
+    is_utf8(bytes) && !bytes.contains(&0)
+}
+
+/// Whether the size and the length of the name are those of a record, and the name is UTF-8 without NUL.
+#[tactic(auto, unfolding(crate::specs::Places::is_formed))]
+pub(crate) fn is_formed(bytes: &[u8]) -> bool
+    ensures exact { result ≡ is_formed bytes.now }
+    ensures short { IsTrue result → 59 + u16_at 41 bytes.now < 2 ^ 16 }
+{
+    if bytes.len() < UNNAMED {
+        return false;
+    }
+    let size = u16_at(bytes, 0) as usize;
+    let len = u16_at(bytes, NAME_LEN) as usize;
+    bytes.len() == 2 + size
+        && bytes.len() == UNNAMED + len
+        && is_text(part_at(bytes, NAME, len))
+}
+
+/// The stat that the fields say at their places, whatever the other bytes are.
+#[tactic(auto, unfolding(crate::specs::Places::is_formed, crate::specs::Places::stat_at))]
+pub(crate) fn stat_at(alloc: Global, bytes: &[u8]) -> Result<Stat, NoMemory>
+    requires { is_formed bytes.now ≡ true }
+    ensures exact { IfOk result (λ stat. stat ≡ stat_at bytes.now) }
+    ensures name { IfOk result (λ stat. length stat.name ≡ u16_at 41 bytes.now) }
+{
+    let len = u16_at(bytes, NAME_LEN) as usize;
+    Ok(Stat {
+        qid: Qid {
+            kind: bytes[8],
+            vers: u32_at(bytes, 9),
+            path: u64_at(bytes, 13),
+        },
+        mode: u32_at(bytes, 21),
+        length: u64_at(bytes, 33),
+        name: Items::copied(alloc, part_at(bytes, NAME, len))?,
+    })
+}
