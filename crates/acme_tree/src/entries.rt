@@ -1,12 +1,16 @@
 //! The nodes that a directory lists.
 
-ghost use Rattle.std.specs.Prelude.{◌≡◌, ◌++◌, IfOk, OnOk, map, take, ◌^◌};
+ghost use Rattle.std.specs.Prelude.{◌≡◌, ◌≤◌, ◌^◌, ◌++◌, IfOk, OnOk, length, map, take};
 ghost use Rattle.acme_tree.specs.Trees.{entries, files, ports_from};
 
 use crate::node::{Node, WinFile, World};
 use am_text::{Bytes, Items, NoMemory};
 use std::alloc::Global;
 
+/// How many ports have a number: it has 32 bits.
+const PORTS: usize = 1 << 32;
+
+#[tactic(auto, using(crate::proofs::Entries::steps))]
 fn put_windows(nodes: &mut Items<Node>, windows: &[u32]) -> Result<(), NoMemory>
     ensures { OnOk result (nodes.new ≡ nodes.old ++ map Node.Window windows.now) }
 {
@@ -16,16 +20,24 @@ fn put_windows(nodes: &mut Items<Node>, windows: &[u32]) -> Result<(), NoMemory>
     Ok(())
 }
 
+#[tactic(auto, using(crate::proofs::Entries::steps))]
 fn put_ports(nodes: &mut Items<Node>, ports: &[Bytes]) -> Result<(), NoMemory>
-    ensures { OnOk result (nodes.new ≡ nodes.old ++ ports_from 0 (take (2 ^ 32) ports.now)) }
+    requires { length ports.now ≤ 2 ^ 32 }
+    ensures { OnOk result (nodes.new ≡ nodes.old ++ ports_from 0 ports.now) }
 {
     for k in 0..ports.len() {
-        let Ok(port) = u32::try_from(k) else {
-            break;
-        };
-        nodes.push(Node::Port(port))?;
+        nodes.push(Node::Port(k as u32))?;
     }
     Ok(())
+}
+
+/// The ports that have a number.
+pub(crate) fn numbered_ports(ports: &[Bytes]) -> &[Bytes]
+    ensures ports { result.now ≡ take (2 ^ 32) ports.now }
+    ensures len { length result.now ≤ 2 ^ 32 }
+{
+    let (numbered, _) = ports.split_at(ports.len().min(PORTS));
+    numbered
 }
 
 fn of_root(alloc: Global, world: &World) -> Result<Items<Node>, NoMemory>
@@ -63,7 +75,7 @@ fn of_plumber(alloc: Global, world: &World) -> Result<Items<Node>, NoMemory>
     ensures { IfOk result (λ nodes. nodes ≡ entries world.now Node.PlumbRoot) }
 {
     let mut nodes = Items::copied(alloc, &[Node::Send, Node::Rules])?;
-    put_ports(&mut nodes, world.ports.as_slice())?;
+    put_ports(&mut nodes, numbered_ports(world.ports.as_slice()))?;
     Ok(nodes)
 }
 

@@ -114,6 +114,7 @@ pub fn qid_of(node: Node) -> Qid
 }
 
 /// The stat of a live node.
+#[tactic(auto, using(crate::proofs::Names::named))]
 pub fn stat_of(alloc: Global, world: &World, node: Node) -> Result<Stat, NoMemory>
     requires { is_live world.now node ≡ true }
     ensures exact { IfOk result (λ stat. stat ≡ stat_of world.now node) }
@@ -129,6 +130,7 @@ pub fn stat_of(alloc: Global, world: &World, node: Node) -> Result<Stat, NoMemor
 }
 
 /// The stats of what a live directory lists, in order.
+#[tactic(auto, using(crate::proofs::Children::listing))]
 pub fn children(alloc: Global, world: &World, node: Node) -> Result<Stats, NoMemory>
     requires live { is_live world.now node ≡ true }
     requires dir { is_dir node ≡ true }

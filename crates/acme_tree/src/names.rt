@@ -22,6 +22,7 @@ pub(crate) fn file_name(file: WinFile) -> &'static [u8]
     }
 }
 
+#[tactic(auto, using(std::proofs::lemmas::List::get_or_read))]
 pub(crate) fn name_of(alloc: Global, world: &World, node: Node) -> Result<Bytes, NoMemory>
     requires { is_live world.now node ≡ true }
     ensures { IfOk result (λ name. name ≡ name_of world.now node) }

@@ -1,10 +1,11 @@
 //! Walks.
 
-ghost use Rattle.std.specs.Prelude.{◌≡◌, find, position};
+ghost use Rattle.std.specs.Prelude.{◌≡◌, ◌≤◌, ◌^◌, find, length, position};
 ghost use Rattle.std.specs.Fmt.{decimal};
 ghost use Rattle.std.specs.Str.{bytes_eq};
 ghost use Rattle.acme_tree.specs.Walks.{above, below, entry_named, file_named, to_entry, to_new, walk_one};
 
+use crate::entries::numbered_ports;
 use crate::node::{Node, WinFile, World, is_dir, is_full, is_live};
 use am_text::{Bytes, read_decimal};
 
@@ -25,6 +26,7 @@ pub enum Step {
     Windows,
 }
 
+#[tactic(auto, unfolding(crate::specs::Walks::file_named))]
 fn file_named(name: &[u8]) -> Option<WinFile>
     ensures { result ≡ file_named name.now }
 {
@@ -66,12 +68,14 @@ fn window_named(windows: &[u32], name: &[u8]) -> Option<u32>
 
 /// The number of the port of this name.
 fn port_named(ports: &[Bytes], name: &[u8]) -> Option<u32>
-    ensures { result ≡ position (λ port. bytes_eq name.now port) (take (2 ^ 32) ports.now) }
+    requires { length ports.now ≤ 2 ^ 32 }
+    ensures { result ≡ position (λ port. bytes_eq name.now port) ports.now }
 {
     let port = ports.iter().position(|port| name == port.as_slice())?;
-    u32::try_from(port).ok()
+    Some(port as u32)
 }
 
+#[tactic(auto, using(crate::proofs::Named::in_dirs), unfolding(crate::specs::Walks::entry_named))]
 fn in_root(world: &World, name: &[u8]) -> Option<Node>
     ensures { result ≡ entry_named world.now Node.Root name.now }
 {
@@ -90,6 +94,7 @@ fn in_root(world: &World, name: &[u8]) -> Option<Node>
     }
 }
 
+#[tactic(auto, using(crate::proofs::Named::in_dirs), unfolding(crate::specs::Walks::entry_named))]
 fn in_plumber(world: &World, name: &[u8]) -> Option<Node>
     ensures { result ≡ entry_named world.now Node.PlumbRoot name.now }
 {
@@ -98,10 +103,11 @@ fn in_plumber(world: &World, name: &[u8]) -> Option<Node>
     } else if name == b"rules".as_slice() {
         Some(Node::Rules)
     } else {
-        port_named(world.ports.as_slice(), name).map(Node::Port)
+        port_named(numbered_ports(world.ports.as_slice()), name).map(Node::Port)
     }
 }
 
+#[tactic(auto, using(crate::proofs::Named::in_dirs), unfolding(crate::specs::Walks::entry_named, crate::specs::Walks::file_named))]
 fn entry_named(world: &World, dir: Node, name: &[u8]) -> Option<Node>
     ensures { result ≡ entry_named world.now dir name.now }
 {

@@ -1,23 +1,38 @@
 -- The part of a directory that fits, record by record.
-use Rattle.std.proofs.Common.{◌≡◌, ℕ, ◌+◌, ◌-◌, ◌<◌, ◌≤◌, suc, Bool, true, false, leb, List, [], ◌∷◌, ◌++◌, length, take, drop, get_or, refl, sym, ap, ◌∙◌, arith, add-one, append_assoc, length-append, drop-cons}
-use Rattle.std.proofs.lemmas.Bool.{cases_le, le-leb, lt-leb_false}
+use Rattle.std.proofs.Common.{◌≡◌, ℕ, ◌+◌, ◌-◌, ◌<◌, ◌≤◌, suc, Bool, true, false, cond, leb, List, [], ◌∷◌, ◌++◌, length, take, drop, get_or, refl, sym, ap, ◌∙◌, arith, append_assoc, length-append}
+use Rattle.std.specs.List.{flat_map}
+use Rattle.std.proofs.lemmas.Bool.{le-leb, lt-leb}
+use Rattle.std.proofs.lemmas.List.{drop_more, drop_all, append-nil}
 use Rattle.ninep_frame.specs.declared.stat.Stat.{Stat}
 use Rattle.ninep_frame.specs.Records.{record_of}
-use Rattle.ninep_frame.specs.Directories.{records, fitting, IsLongest}
-use Rattle.ninep_frame.specs.Laws.{Longest}
+use Rattle.ninep_frame.specs.Directories.{records, fitting}
 use Rattle.ninep_frame.proofs.Sizes.{record_len}
 
--- a record that fits, one that doesn't, and the end
-pub fitting-more : (stats : List Stat) (i room size : ℕ) (s : Stat) → i < length stats → s ≡ get_or stats i s → size ≡ 61 + length s.name → size ≤ room → fitting room (drop i stats) ≡ s ∷ fitting (room - size) (drop (i + 1) stats)
+-- the first record fits, or it doesn't
+one_fits : (s : Stat) (stats : List Stat) (room size : ℕ) → size ≡ 61 + length s.name → size ≤ room → fitting room (s ∷ stats) ≡ s ∷ fitting (room - size) stats
 unfolding fitting
-fitting-more stats i room size s lt is size-is le = ?
+one_fits s stats room size is le =
+    let len : length (record_of s) ≡ size = omega (arith, record_len s) in
+    rw (len, le-leb size room le) refl
+
+none_fits : (s : Stat) (stats : List Stat) (room : ℕ) → room < 61 + length s.name → fitting room (s ∷ stats) ≡ []
+unfolding fitting
+none_fits s stats room gt =
+    let more : room < length (record_of s) = omega (arith, record_len s) in
+    rw (lt-leb (length (record_of s)) room more) refl
+
+fitting-nil : (room : ℕ) → fitting room [] ≡ []
+unfolding fitting
+fitting-nil room = refl
+
+-- at a place of a directory: a record that fits, one that doesn't, and the end
+pub fitting-more : (stats : List Stat) (i room size : ℕ) (s : Stat) → i < length stats → s ≡ get_or stats i s → size ≡ 61 + length s.name → size ≤ room → fitting room (drop i stats) ≡ s ∷ fitting (room - size) (drop (i + 1) stats)
+fitting-more stats i room size s lt is size-is le = rw (drop_more stats i s lt, ← is) (one_fits s (drop (i + 1) stats) room size size-is le)
 
 pub fitting-full : (stats : List Stat) (i room : ℕ) (s : Stat) → i < length stats → s ≡ get_or stats i s → room < 61 + length s.name → fitting room (drop i stats) ≡ []
-unfolding fitting
-fitting-full stats i room s lt is gt = ?
+fitting-full stats i room s lt is gt = rw (drop_more stats i s lt, ← is) (none_fits s (drop (i + 1) stats) room gt)
 
 pub fitting-end : (stats : List Stat) (i room : ℕ) → length stats ≤ i → fitting room (drop i stats) ≡ []
-unfolding fitting
-fitting-end stats i room le = ?
+fitting-end stats i room le = rw (drop_all i stats le) (fitting-nil room)
 
-pub ruleset fits = (fitting-more, fitting-full, fitting-end, append_assoc)
+pub ruleset fits = (fitting-more, fitting-full, fitting-end, append_assoc, append-nil)

@@ -1,0 +1,77 @@
+-- The entry of a name.
+use Rattle.std.proofs.Common.{◌≡◌, ℕ, ◌+◌, ◌<◌, ◌≤◌, ◌^◌, zero, suc, Bool, true, false, cond, not, eqb, ltb, List, [], ◌∷◌, ◌++◌, length, take, get_or, Option, Some, None, refl, sym, ap, ◌∙◌, arith, inl, inr}
+use Rattle.std.specs.Prelude.{map, find, position, All}
+use Rattle.std.specs.List.{position_or_len}
+use Rattle.std.specs.Fmt.{decimal}
+use Rattle.std.specs.Option.{option_map}
+use Rattle.std.specs.Str.{bytes_eq}
+use Rattle.std.proofs.lemmas.Bool.{eqb-true, eq-eqb, lt-ltb, le-ltb, cases_lt, false_from_ne_true}
+use Rattle.std.proofs.lemmas.Bool.Decides.{same_from_decides}
+use Rattle.std.proofs.lemmas.Fmt.{decimal_injective}
+use Rattle.std.proofs.lemmas.List.Elements.{All-head, All-tail}
+use Rattle.std.proofs.lemmas.Slice.Eq.{bytes_eq-Decides}
+use Rattle.acme_tree.specs.declared.node.Node.{Node}
+use Rattle.acme_tree.specs.declared.node.Node.TheVariants.{Window, Port}
+use Rattle.acme_tree.specs.declared.node.World.{World}
+use Rattle.acme_tree.specs.Trees.{name_of, ports_from}
+
+-- ---- windows
+
+-- a name is the decimal of a window just where it is that of the window's number
+same_name : (name : List ℕ) (n w : ℕ) → n < 2 ^ 64 → w < 2 ^ 32 → name ≡ decimal n → eqb w n ≡ bytes_eq name (decimal w)
+same_name name n w n-fits w-fits is =
+    same_from_decides {P = name ≡ decimal w} (eqb w n) (bytes_eq name (decimal w)) (λ e. is ∙ ap decimal (sym (eqb-true w n e)), λ (h : name ≡ decimal w). eq-eqb w n (decimal_injective w n (omega arith) n-fits (sym h ∙ is))) (bytes_eq-Decides name (decimal w))
+
+pub windows_named : (name : List ℕ) (n : ℕ) (windows : List ℕ) → n < 2 ^ 64 → All (λ w. w < 2 ^ 32) windows → name ≡ decimal n → find (λ w. eqb w n) windows ≡ find (λ w. bytes_eq name (decimal w)) windows
+windows_named name n [] n-fits fits is = refl
+windows_named name n (w ∷ windows) n-fits fits is =
+    rw (same_name name n w n-fits (All-head (λ (v : ℕ). v < 2 ^ 32) w windows fits) is)
+    (ap (λ (rest : Option ℕ). cond (bytes_eq name (decimal w)) (Some w) rest) (windows_named name n windows n-fits (All-tail (λ (v : ℕ). v < 2 ^ 32) w windows fits) is))
+
+pub no_window_named : (name : List ℕ) (windows : List ℕ) → All (λ w. w < 2 ^ 32) windows → ((n : ℕ) → n < 2 ^ 64 → name ≡ decimal n → ⊥) → find (λ w. bytes_eq name (decimal w)) windows ≡ None
+no_window_named name [] fits none = refl
+no_window_named name (w ∷ windows) fits none =
+    let head = All-head (λ (v : ℕ). v < 2 ^ 32) w windows fits in
+    let here : bytes_eq name (decimal w) ≡ false = false_from_ne_true (bytes_eq name (decimal w)) (λ e. none w (omega (arith, head)) ((bytes_eq-Decides name (decimal w)).0 e)) in
+    rw here (no_window_named name windows (All-tail (λ (v : ℕ). v < 2 ^ 32) w windows fits) none)
+
+-- ---- entries
+
+pub find-map : {A B : Type 0} (p : B → Bool) (f : A → B) (xs : List A) → find p (map f xs) ≡ option_map f (find (λ x. p (f x)) xs)
+find-map {A} {B} p f [] = refl
+find-map {A} {B} p f (x ∷ xs) =
+    elim (p (f x)) as (λ b. cond b (Some (f x)) (find p (map f xs)) ≡ option_map f (cond b (Some x) (find (λ y. p (f y)) xs))) [
+      | true ↦ refl
+      | false ↦ find-map p f xs
+    ]
+
+first_passes : {A : Type 0} (p : A → Bool) (x : A) (xs : List A) → p x ≡ true → position p (x ∷ xs) ≡ Some 0
+first_passes p x xs e = rw e refl
+
+first_fails : {A : Type 0} (p : A → Bool) (x : A) (xs : List A) → p x ≡ false → position p (x ∷ xs) ≡ option_map (λ i. 1 + i) (position p xs)
+first_fails p x xs e =
+    let m : ℕ = position_or_len p xs in
+    elim (cases_lt m (length xs)) [
+      | inl lt ↦ let here : ltb (1 + m) (suc (length xs)) ≡ true = lt-ltb _ _ (omega arith) in let there : ltb m (length xs) ≡ true = lt-ltb _ _ lt in rw (e, here, there) refl
+      | inr le ↦ let here : ltb (1 + m) (suc (length xs)) ≡ false = le-ltb _ _ (omega arith) in let there : ltb m (length xs) ≡ false = le-ltb _ _ le in rw (e, here, there) refl
+    ]
+
+-- the ports from a number on
+abbrev Port_after : ℕ → ℕ → Node
+Port_after k i = Port (k + i)
+
+shifted : (k : ℕ) (o : Option ℕ) → option_map (Port_after (k + 1)) o ≡ option_map (Port_after k) (option_map (λ i. 1 + i) o)
+shifted k None = refl
+shifted k (Some i) = let e : k + 1 + i ≡ k + (1 + i) = omega arith in ap (λ (n : ℕ). Some (Port n)) e
+
+pub ports_named : (world : World) (name : List ℕ) (k : ℕ) (names : List (List ℕ)) → ((i : ℕ) → i < length names → get_or world.ports (k + i) [] ≡ get_or names i [])
+    → find (λ node. bytes_eq name (name_of world node)) (ports_from k names) ≡ option_map (Port_after k) (position (λ port. bytes_eq name port) names)
+ports_named world name k [] same = refl
+ports_named world name k (port ∷ names) same =
+    let zero-add : k + 0 ≡ k = omega arith in
+    let here : get_or world.ports k [] ≡ port = ap (λ (n : ℕ). get_or world.ports n []) (sym zero-add) ∙ same 0 (omega arith) in
+    let later = ports_named world name (k + 1) names (λ i lt. let e : k + 1 + i ≡ k + suc i = omega arith in ap (λ (n : ℕ). get_or world.ports n []) e ∙ same (suc i) (omega arith)) in
+    elim (bytes_eq name port) as (λ b. bytes_eq name port ≡ b → cond (bytes_eq name (get_or world.ports k [])) (Some (Port k)) (find (λ node. bytes_eq name (name_of world node)) (ports_from (k + 1) names)) ≡ option_map (Port_after k) (position (λ p. bytes_eq name p) (port ∷ names))) [
+      | true ↦ λ e. rw (here, e, first_passes (λ p. bytes_eq name p) port names e) (ap (λ (n : ℕ). Some (Port n)) (sym zero-add))
+      | false ↦ λ e. rw (here, e, first_fails (λ p. bytes_eq name p) port names e) (later ∙ shifted k (position (λ p. bytes_eq name p) names))
+    ] refl
