@@ -35,4 +35,16 @@ fitting-full stats i room s lt is gt = rw (drop_more stats i s lt, ← is) (none
 pub fitting-end : (stats : List Stat) (i room : ℕ) → length stats ≤ i → fitting room (drop i stats) ≡ []
 fitting-end stats i room le = rw (drop_all i stats le) (fitting-nil room)
 
+-- what was put, and what fits of the rest, stays the same by a record that fits
+pub goes_on : (stats : List Stat) (i room size : ℕ) (s : Stat) (total : List Stat) (bytes new : List ℕ) → i < length stats → s ≡ get_or stats i s → size ≡ 61 + length s.name → size ≤ room → new ≡ bytes ++ record_of s
+    → bytes ++ records (fitting room (drop i stats)) ≡ records total → new ++ records (fitting (room - size) (drop (i + 1) stats)) ≡ records total
+goes_on stats i room size s total bytes new lt is size-is le new-is so_far =
+    let e = fitting-more stats i room size s lt is size-is le in
+    rw (new-is, append_assoc) (ap (λ (l : List Stat). bytes ++ records l) (sym e) ∙ so_far)
+
+pub counts_on : (stats : List Stat) (i room size : ℕ) (s : Stat) (total : List Stat) → i < length stats → s ≡ get_or stats i s → size ≡ 61 + length s.name → size ≤ room
+    → i + length (fitting room (drop i stats)) ≡ length total → i + 1 + length (fitting (room - size) (drop (i + 1) stats)) ≡ length total
+counts_on stats i room size s total lt is size-is le so_far =
+    omega (arith, ap (λ (l : List Stat). length l) (fitting-more stats i room size s lt is size-is le))
+
 pub ruleset fits = (fitting-more, fitting-full, fitting-end, append_assoc, append-nil)

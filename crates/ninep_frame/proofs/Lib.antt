@@ -1,5 +1,7 @@
 pub mod Fits
 pub mod Joins
 pub mod Longest
-pub mod Reads
+pub mod PrefixFree
+pub mod Reading
 pub mod Sizes
+pub mod Tested

@@ -21,7 +21,8 @@ const UNNAMED: usize = 61;
 // So many bytes from a place on.
 fn part_at(bytes: &[u8], at: usize, len: usize) -> &[u8]
     requires { at + len ≤ length bytes.now }
-    ensures { result.now ≡ take len (drop at bytes.now) }
+    ensures part { result.now ≡ take len (drop at bytes.now) }
+    ensures len { length result.now ≡ len }
 {
     let (_, rest) = bytes.split_at(at);
     let (part, _) = rest.split_at(len);

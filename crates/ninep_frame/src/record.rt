@@ -37,11 +37,11 @@ fn put_fields(out: &mut Bytes, stat: &Stat) -> Result<(), NoMemory>
 }
 
 /// The record of a stat.
-#[tactic(auto, using(crate::proofs::Sizes::sizes))]
 pub(crate) fn put_record(out: &mut Bytes, stat: &Stat) -> Result<(), NoMemory>
     requires { 59 + length stat.now.name < 2 ^ 16 }
     ensures { OnOk result (out.new ≡ out.old ++ record_of stat.now) }
 {
     put_u16(out, (FIXED + stat.name.len()) as u16)?;
-    put_fields(out, stat)
+    put_fields(out, stat)?;
+    Ok(())
 }
