@@ -1,3 +1,4 @@
-pub mod Entries
+pub mod Listed
+pub mod Live
 pub mod Named
-pub mod Names
+pub mod Spelled

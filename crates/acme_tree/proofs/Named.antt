@@ -1,5 +1,5 @@
 -- The entry of a name.
-use Rattle.std.proofs.Common.{◌≡◌, ℕ, ◌+◌, ◌<◌, ◌≤◌, ◌^◌, zero, suc, Bool, true, false, cond, not, eqb, ltb, List, [], ◌∷◌, ◌++◌, length, take, get_or, Option, Some, None, refl, sym, ap, ◌∙◌, arith, inl, inr}
+use Rattle.std.proofs.Common.{◌≡◌, ℕ, ◌+◌, ◌<◌, ◌≤◌, ◌^◌, zero, suc, Bool, true, false, cond, not, eqb, ltb, List, [], ◌∷◌, ◌++◌, length, take, get_or, Option, Some, None, codes, refl, sym, ap, ◌∙◌, arith, inl, inr}
 use Rattle.std.specs.Prelude.{map, find, position, All}
 use Rattle.std.specs.List.{position_or_len}
 use Rattle.std.specs.Fmt.{decimal}
@@ -8,12 +8,15 @@ use Rattle.std.specs.Str.{bytes_eq}
 use Rattle.std.proofs.lemmas.Bool.{eqb-true, eq-eqb, lt-ltb, le-ltb, cases_lt, false_from_ne_true}
 use Rattle.std.proofs.lemmas.Bool.Decides.{same_from_decides}
 use Rattle.std.proofs.lemmas.Fmt.{decimal_injective}
+use Rattle.std.proofs.lemmas.List.{get_or_read, get_or-take, length-take}
 use Rattle.std.proofs.lemmas.List.Elements.{All-head, All-tail}
+use Rattle.std.proofs.lemmas.List.Sums.{position_or_len_is}
 use Rattle.std.proofs.lemmas.Slice.Eq.{bytes_eq-Decides}
 use Rattle.acme_tree.specs.declared.node.Node.{Node}
-use Rattle.acme_tree.specs.declared.node.Node.TheVariants.{Window, Port}
+use Rattle.acme_tree.specs.declared.node.Node.TheVariants.{Root, PlumbRoot, Window, Port}
 use Rattle.acme_tree.specs.declared.node.World.{World}
 use Rattle.acme_tree.specs.Trees.{name_of, ports_from}
+use Rattle.acme_tree.specs.Walks.{entry_named}
 
 -- ---- windows
 
@@ -46,15 +49,37 @@ find-map {A} {B} p f (x ∷ xs) =
     ]
 
 first_passes : {A : Type 0} (p : A → Bool) (x : A) (xs : List A) → p x ≡ true → position p (x ∷ xs) ≡ Some 0
-first_passes p x xs e = rw e refl
+first_passes p x xs e = let lt : ltb 0 (suc (length xs)) ≡ true = lt-ltb 0 (suc (length xs)) (omega arith) in rw (e, lt) refl
 
 first_fails : {A : Type 0} (p : A → Bool) (x : A) (xs : List A) → p x ≡ false → position p (x ∷ xs) ≡ option_map (λ i. 1 + i) (position p xs)
 first_fails p x xs e =
-    let m : ℕ = position_or_len p xs in
-    elim (cases_lt m (length xs)) [
-      | inl lt ↦ let here : ltb (1 + m) (suc (length xs)) ≡ true = lt-ltb _ _ (omega arith) in let there : ltb m (length xs) ≡ true = lt-ltb _ _ lt in rw (e, here, there) refl
-      | inr le ↦ let here : ltb (1 + m) (suc (length xs)) ≡ false = le-ltb _ _ (omega arith) in let there : ltb m (length xs) ≡ false = le-ltb _ _ le in rw (e, here, there) refl
+    elim (cases_lt (position_or_len p xs) (length xs)) [
+      | inl lt ↦ let here : ltb (1 + position_or_len p xs) (suc (length xs)) ≡ true = lt-ltb _ _ (omega arith) in let there : ltb (position_or_len p xs) (length xs) ≡ true = lt-ltb _ _ lt in rw (e, here, there) refl
+      | inr le ↦ let here : ltb (1 + position_or_len p xs) (suc (length xs)) ≡ false = le-ltb _ _ (omega arith) in let there : ltb (position_or_len p xs) (length xs) ≡ false = le-ltb _ _ le in rw (e, here, there) refl
     ]
+
+position_found : {A : Type 0} (p : A → Bool) (xs : List A) (k : ℕ) (d : A) → k < length xs → p (get_or xs k d) ≡ true → ((j : ℕ) → j < k → p (get_or xs j d) ≡ false) → position p xs ≡ Some k
+position_found p xs k d lt here before =
+    let at : position_or_len p xs ≡ k = position_or_len_is p xs k d (omega arith) before (λ _. here) in
+    let within : ltb k (length xs) ≡ true = lt-ltb k (length xs) lt in
+    ap (λ (i : ℕ). cond (ltb i (length xs)) (Some i) None) at ∙ rw within refl
+
+position_none : {A : Type 0} (p : A → Bool) (xs : List A) (d : A) → ((j : ℕ) → j < length xs → p (get_or xs j d) ≡ false) → position p xs ≡ None
+position_none p xs d before =
+    let at : position_or_len p xs ≡ length xs = position_or_len_is p xs (length xs) d (omega arith) before (λ lt. absurd (omega arith)) in
+    let past : ltb (length xs) (length xs) ≡ false = le-ltb (length xs) (length xs) (omega arith) in
+    ap (λ (i : ℕ). cond (ltb i (length xs)) (Some i) None) at ∙ rw past refl
+
+pub port_found : (name : List ℕ) (ports : List (List ℕ)) (k : ℕ) (port : List ℕ) → k < length ports → port ≡ get_or ports k port → bytes_eq name port ≡ true → ((j : ℕ) → j < k → bytes_eq name (get_or ports j []) ≡ false) → position (λ p. bytes_eq name p) ports ≡ Some k
+port_found name ports k port lt is here before = position_found (λ p. bytes_eq name p) ports k [] lt (ap (λ p. bytes_eq name p) (sym (get_or_read ports k port lt is [])) ∙ here) before
+
+pub port_missing : (name : List ℕ) (ports : List (List ℕ)) → ((j : ℕ) → j < length ports → bytes_eq name (get_or ports j []) ≡ false) → position (λ p. bytes_eq name p) ports ≡ None
+port_missing name ports before = position_none (λ p. bytes_eq name p) ports [] before
+
+pub port_passed : (name : List ℕ) (ports : List (List ℕ)) (k : ℕ) (port : List ℕ) → k < length ports → port ≡ get_or ports k port → bytes_eq name port ≡ false → bytes_eq name (get_or ports k []) ≡ false
+port_passed name ports k port lt is here = ap (λ p. bytes_eq name p) (sym (get_or_read ports k port lt is [])) ∙ here
+
+pub ruleset positions = port_passed
 
 -- the ports from a number on
 abbrev Port_after : ℕ → ℕ → Node
@@ -64,6 +89,16 @@ shifted : (k : ℕ) (o : Option ℕ) → option_map (Port_after (k + 1)) o ≡ o
 shifted k None = refl
 shifted k (Some i) = let e : k + 1 + i ≡ k + (1 + i) = omega arith in ap (λ (n : ℕ). Some (Port n)) e
 
+-- a port, and those behind it
+port_step : (world : World) (name port : List ℕ) (k : ℕ) (names : List (List ℕ)) (b : Bool) → bytes_eq name port ≡ b
+    → find (λ node. bytes_eq name (name_of world node)) (ports_from (k + 1) names) ≡ option_map (Port_after (k + 1)) (position (λ p. bytes_eq name p) names)
+    → cond b (Some (Port k)) (find (λ node. bytes_eq name (name_of world node)) (ports_from (k + 1) names)) ≡ option_map (Port_after k) (position (λ p. bytes_eq name p) (port ∷ names))
+port_step world name port k names true e later =
+    let zero-add : k + 0 ≡ k = omega arith in
+    ap (λ (n : ℕ). Some (Port n)) (sym zero-add) ∙ sym (ap (option_map (Port_after k)) (first_passes (λ p. bytes_eq name p) port names e))
+port_step world name port k names false e later =
+    later ∙ shifted k (position (λ p. bytes_eq name p) names) ∙ sym (ap (option_map (Port_after k)) (first_fails (λ p. bytes_eq name p) port names e))
+
 pub ports_named : (world : World) (name : List ℕ) (k : ℕ) (names : List (List ℕ)) → ((i : ℕ) → i < length names → get_or world.ports (k + i) [] ≡ get_or names i [])
     → find (λ node. bytes_eq name (name_of world node)) (ports_from k names) ≡ option_map (Port_after k) (position (λ port. bytes_eq name port) names)
 ports_named world name k [] same = refl
@@ -71,7 +106,29 @@ ports_named world name k (port ∷ names) same =
     let zero-add : k + 0 ≡ k = omega arith in
     let here : get_or world.ports k [] ≡ port = ap (λ (n : ℕ). get_or world.ports n []) (sym zero-add) ∙ same 0 (omega arith) in
     let later = ports_named world name (k + 1) names (λ i lt. let e : k + 1 + i ≡ k + suc i = omega arith in ap (λ (n : ℕ). get_or world.ports n []) e ∙ same (suc i) (omega arith)) in
-    elim (bytes_eq name port) as (λ b. bytes_eq name port ≡ b → cond (bytes_eq name (get_or world.ports k [])) (Some (Port k)) (find (λ node. bytes_eq name (name_of world node)) (ports_from (k + 1) names)) ≡ option_map (Port_after k) (position (λ p. bytes_eq name p) (port ∷ names))) [
-      | true ↦ λ e. rw (here, e, first_passes (λ p. bytes_eq name p) port names e) (ap (λ (n : ℕ). Some (Port n)) (sym zero-add))
-      | false ↦ λ e. rw (here, e, first_fails (λ p. bytes_eq name p) port names e) (later ∙ shifted k (position (λ p. bytes_eq name p) names))
-    ] refl
+    ap (λ (l : List ℕ). cond (bytes_eq name l) (Some (Port k)) (find (λ node. bytes_eq name (name_of world node)) (ports_from (k + 1) names))) here ∙ port_step world name port k names (bytes_eq name port) refl later
+
+-- ---- the entries of the two roots
+
+pub in_root_rest : (world : World) (name : List ℕ) (found : Option Node) → bytes_eq name (codes "cons") ≡ false → bytes_eq name (codes "consctl") ≡ false → bytes_eq name (codes "index") ≡ false → bytes_eq name (codes "label") ≡ false → bytes_eq name (codes "new") ≡ false
+    → found ≡ option_map Window (find (λ w. bytes_eq name (decimal w)) world.windows) → found ≡ entry_named world Root name
+unfolding entry_named
+in_root_rest world name found a b c d e is = rw (a, b, c, d, e) (is ∙ sym (find-map (λ node. bytes_eq name (name_of world node)) Window world.windows))
+
+-- a port that has a number keeps its name
+numbered_same : (world : World) (i : ℕ) → i < length (take (2 ^ 32) world.ports) → get_or world.ports (0 + i) [] ≡ get_or (take (2 ^ 32) world.ports) i []
+numbered_same world i lt =
+    let within : i < 2 ^ 32 = omega (arith, length-take (2 ^ 32) world.ports) in
+    let same : 0 + i ≡ i = omega arith in
+    ap (λ (n : ℕ). get_or world.ports n []) same ∙ sym (get_or-take (2 ^ 32) world.ports i [] within)
+
+from_zero : (o : Option ℕ) → option_map (Port_after 0) o ≡ option_map Port o
+from_zero None = refl
+from_zero (Some i) = let same : 0 + i ≡ i = omega arith in ap (λ (n : ℕ). Some (Port n)) same
+
+pub in_plumber_rest : (world : World) (name : List ℕ) (found : Option Node) → bytes_eq name (codes "send") ≡ false → bytes_eq name (codes "rules") ≡ false
+    → found ≡ option_map Port (position (λ port. bytes_eq name port) (take (2 ^ 32) world.ports)) → found ≡ entry_named world PlumbRoot name
+unfolding entry_named
+in_plumber_rest world name found a b is =
+    let all = ports_named world name 0 (take (2 ^ 32) world.ports) (numbered_same world) in
+    rw (a, b) (is ∙ sym (from_zero (position (λ port. bytes_eq name port) (take (2 ^ 32) world.ports))) ∙ sym all)

@@ -10,7 +10,7 @@ use std::alloc::Global;
 /// How many ports have a number: it has 32 bits.
 const PORTS: usize = 1 << 32;
 
-#[tactic(auto, using(crate::proofs::Entries::steps))]
+#[tactic(auto, using(crate::proofs::Listed::steps))]
 fn put_windows(nodes: &mut Items<Node>, windows: &[u32]) -> Result<(), NoMemory>
     ensures { OnOk result (nodes.new ≡ nodes.old ++ map Node.Window windows.now) }
 {
@@ -20,7 +20,7 @@ fn put_windows(nodes: &mut Items<Node>, windows: &[u32]) -> Result<(), NoMemory>
     Ok(())
 }
 
-#[tactic(auto, using(crate::proofs::Entries::steps))]
+#[tactic(auto, using(crate::proofs::Listed::steps))]
 fn put_ports(nodes: &mut Items<Node>, ports: &[Bytes]) -> Result<(), NoMemory>
     requires { length ports.now ≤ 2 ^ 32 }
     ensures { OnOk result (nodes.new ≡ nodes.old ++ ports_from 0 ports.now) }

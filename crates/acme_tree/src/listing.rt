@@ -114,7 +114,6 @@ pub fn qid_of(node: Node) -> Qid
 }
 
 /// The stat of a live node.
-#[tactic(auto, using(crate::proofs::Names::named))]
 pub fn stat_of(alloc: Global, world: &World, node: Node) -> Result<Stat, NoMemory>
     requires { is_live world.now node ≡ true }
     ensures exact { IfOk result (λ stat. stat ≡ stat_of world.now node) }
@@ -129,19 +128,27 @@ pub fn stat_of(alloc: Global, world: &World, node: Node) -> Result<Stat, NoMemor
     })
 }
 
+fn stats_of(alloc: Global, world: &World, nodes: &[Node]) -> Result<Stats, NoMemory>
+    requires { All (λ node. is_live world.now node ≡ true) nodes.now }
+    ensures exact { IfOk result (λ stats. stats ≡ map (stat_of world.now) nodes.now) }
+    ensures named { All IsName world.now.ports → IfOk result (All HasName) }
+{
+    let mut stats = Items::new(alloc);
+    for node in nodes {
+        stats.push(stat_of(alloc, world, *node)?)?;
+    }
+    Ok(stats)
+}
+
 /// The stats of what a live directory lists, in order.
-#[tactic(auto, using(crate::proofs::Children::listing))]
+#[tactic(auto, using(crate::proofs::Live::entries_live))]
 pub fn children(alloc: Global, world: &World, node: Node) -> Result<Stats, NoMemory>
     requires live { is_live world.now node ≡ true }
     requires dir { is_dir node ≡ true }
     ensures exact { IfOk result (λ stats. stats ≡ map (stat_of world.now) (entries world.now node)) }
     // Each has a record.
-    ensures named { All IsName world.now.ports → IfOk result (λ stats. All HasName stats) }
+    ensures named { All IsName world.now.ports → IfOk result (All HasName) }
 {
     let nodes = entries(alloc, world, node)?;
-    let mut stats = Items::new(alloc);
-    for node in nodes.as_slice() {
-        stats.push(stat_of(alloc, world, *node)?)?;
-    }
-    Ok(stats)
+    stats_of(alloc, world, nodes.as_slice())
 }

@@ -1,6 +1,7 @@
 //! The names of nodes.
 
-ghost use Rattle.std.specs.Prelude.{◌≡◌, IfOk, true};
+ghost use Rattle.std.specs.Prelude.{◌≡◌, ◌<◌, [], All, IfOk, length, slice_index_or, true};
+ghost use Rattle.ninep_frame.specs.Records.{IsName};
 ghost use Rattle.acme_tree.specs.Trees.{file_name, name_of, is_live};
 
 use crate::node::{Node, WinFile, World};
@@ -22,24 +23,34 @@ pub(crate) fn file_name(file: WinFile) -> &'static [u8]
     }
 }
 
-#[tactic(auto, using(std::proofs::lemmas::List::get_or_read))]
+#[tactic(auto, using(crate::proofs::Spelled::spelled))]
+fn port_name(alloc: Global, world: &World, port: u32) -> Result<Bytes, NoMemory>
+    requires { port < length world.now.ports }
+    ensures exact { IfOk result (λ name. name ≡ slice_index_or world.now.ports port []) }
+    ensures named { All IsName world.now.ports → IfOk result IsName }
+{
+    Items::copied(alloc, world.ports.as_slice()[port as usize].as_slice())
+}
+
+/// The name of a live node. Where those of the ports have records, it has one.
+#[tactic(auto, using(crate::proofs::Spelled::spelled))]
 pub(crate) fn name_of(alloc: Global, world: &World, node: Node) -> Result<Bytes, NoMemory>
     requires { is_live world.now node ≡ true }
-    ensures { IfOk result (λ name. name ≡ name_of world.now node) }
+    ensures exact { IfOk result (λ name. name ≡ name_of world.now node) }
+    ensures named { All IsName world.now.ports → IfOk result IsName }
 {
-    let name: &[u8] = match node {
-        Node::Root => b"acme",
-        Node::Cons => b"cons",
-        Node::ConsCtl => b"consctl",
-        Node::Index => b"index",
-        Node::Label => b"label",
-        Node::NewDir => b"new",
-        Node::Window(window) => return decimal(alloc, u64::from(window)),
-        Node::File(_, file) => file_name(file),
-        Node::PlumbRoot => b"plumb",
-        Node::Send => b"send",
-        Node::Rules => b"rules",
-        Node::Port(port) => world.ports.as_slice()[port as usize].as_slice(),
-    };
-    Items::copied(alloc, name)
+    match node {
+        Node::Root => Items::copied(alloc, b"acme"),
+        Node::Cons => Items::copied(alloc, b"cons"),
+        Node::ConsCtl => Items::copied(alloc, b"consctl"),
+        Node::Index => Items::copied(alloc, b"index"),
+        Node::Label => Items::copied(alloc, b"label"),
+        Node::NewDir => Items::copied(alloc, b"new"),
+        Node::Window(window) => decimal(alloc, u64::from(window)),
+        Node::File(_, file) => Items::copied(alloc, file_name(file)),
+        Node::PlumbRoot => Items::copied(alloc, b"plumb"),
+        Node::Send => Items::copied(alloc, b"send"),
+        Node::Rules => Items::copied(alloc, b"rules"),
+        Node::Port(port) => port_name(alloc, world, port),
+    }
 }

@@ -1,7 +1,8 @@
 //! Walks.
 
-ghost use Rattle.std.specs.Prelude.{◌≡◌, ◌≤◌, ◌^◌, find, length, position};
+ghost use Rattle.std.specs.Prelude.{◌≡◌, ◌==◌, ◌≤◌, ◌^◌, find, length, position};
 ghost use Rattle.std.specs.Fmt.{decimal};
+ghost use Rattle.std.specs.Option.{option_map};
 ghost use Rattle.std.specs.Str.{bytes_eq};
 ghost use Rattle.acme_tree.specs.Walks.{above, below, entry_named, file_named, to_entry, to_new, walk_one};
 
@@ -59,23 +60,42 @@ fn numbered(windows: &[u32], number: u64) -> Option<u32>
 }
 
 /// The window whose decimal the name is.
-#[tactic(auto, using(crate::proofs::Named::windows))]
 fn window_named(windows: &[u32], name: &[u8]) -> Option<u32>
     ensures { result ≡ find (λ w. bytes_eq name.now (decimal w)) windows.now }
 {
-    numbered(windows, read_decimal(name)?)
+    match read_decimal(name) {
+        Some(number) => numbered(windows, number),
+        None => None,
+    }
 }
 
 /// The number of the port of this name.
+#[tactic(auto, using(crate::proofs::Named::positions))]
 fn port_named(ports: &[Bytes], name: &[u8]) -> Option<u32>
     requires { length ports.now ≤ 2 ^ 32 }
     ensures { result ≡ position (λ port. bytes_eq name.now port) ports.now }
 {
-    let port = ports.iter().position(|port| name == port.as_slice())?;
-    Some(port as u32)
+    for (k, port) in ports.iter().enumerate() {
+        if name == port.as_slice() {
+            return Some(k as u32);
+        }
+    }
+    None
 }
 
-#[tactic(auto, using(crate::proofs::Named::in_dirs), unfolding(crate::specs::Walks::entry_named))]
+fn to_window(found: Option<u32>) -> Option<Node>
+    ensures { result ≡ option_map Node.Window found }
+{
+    found.map(Node::Window)
+}
+
+fn to_port(found: Option<u32>) -> Option<Node>
+    ensures { result ≡ option_map Node.Port found }
+{
+    found.map(Node::Port)
+}
+
+#[tactic(auto, unfolding(crate::specs::Walks::entry_named))]
 fn in_root(world: &World, name: &[u8]) -> Option<Node>
     ensures { result ≡ entry_named world.now Node.Root name.now }
 {
@@ -90,11 +110,11 @@ fn in_root(world: &World, name: &[u8]) -> Option<Node>
     } else if name == b"new".as_slice() {
         Some(Node::NewDir)
     } else {
-        window_named(world.windows.as_slice(), name).map(Node::Window)
+        to_window(window_named(world.windows.as_slice(), name))
     }
 }
 
-#[tactic(auto, using(crate::proofs::Named::in_dirs), unfolding(crate::specs::Walks::entry_named))]
+#[tactic(auto, unfolding(crate::specs::Walks::entry_named))]
 fn in_plumber(world: &World, name: &[u8]) -> Option<Node>
     ensures { result ≡ entry_named world.now Node.PlumbRoot name.now }
 {
@@ -103,11 +123,11 @@ fn in_plumber(world: &World, name: &[u8]) -> Option<Node>
     } else if name == b"rules".as_slice() {
         Some(Node::Rules)
     } else {
-        port_named(numbered_ports(world.ports.as_slice()), name).map(Node::Port)
+        to_port(port_named(numbered_ports(world.ports.as_slice()), name))
     }
 }
 
-#[tactic(auto, using(crate::proofs::Named::in_dirs), unfolding(crate::specs::Walks::entry_named, crate::specs::Walks::file_named))]
+#[tactic(auto, unfolding(crate::specs::Walks::entry_named, crate::specs::Walks::file_named))]
 fn entry_named(world: &World, dir: Node, name: &[u8]) -> Option<Node>
     ensures { result ≡ entry_named world.now dir name.now }
 {
