@@ -39,17 +39,19 @@ const NODES: [(Node, u8, u64, u32); 19] = [
     (Node::File(1, WinFile::Xdata), 0, 264, 0x180),
 ];
 
-fn has_stat(
-    alloc: Global,
-    world: &World,
-    row: (Node, u8, u64, u32),
-) -> Result<bool, NoMemory> {
+fn has_stat(alloc: Global, world: &World, row: (Node, u8, u64, u32)) -> Result<bool, NoMemory> {
     if !is_live(world, row.0) {
         return Ok(false);
     }
     let stat = stat_of(alloc, world, row.0)?;
     let qid = qid_of(row.0);
-    Ok(qid.kind == row.1 && qid.vers == 0 && qid.path == row.2 && stat.qid == qid && stat.mode == row.3)
+    Ok(
+        qid.kind == row.1
+            && qid.vers == 0
+            && qid.path == row.2
+            && stat.qid == qid
+            && stat.mode == row.3,
+    )
 }
 
 fn have_stats(alloc: Global) -> Result<bool, NoMemory> {
@@ -74,7 +76,12 @@ const WALKS: [(Node, &[u8], bool, Step); 13] = [
     (Node::NewDir, b"ctl", false, Step::NotFound),
     (Node::NewDir, b"ctl", true, Step::Make(WinFile::Ctl)),
     (Node::Root, b"1", false, Step::Found(Node::Window(1))),
-    (Node::Window(1), b"ctl", true, Step::Found(Node::File(1, WinFile::Ctl))),
+    (
+        Node::Window(1),
+        b"ctl",
+        true,
+        Step::Found(Node::File(1, WinFile::Ctl)),
+    ),
     (Node::File(1, WinFile::Ctl), b"x", true, Step::NotDir),
     (Node::Root, b"nothere", true, Step::NotFound),
     (Node::Root, b"01", true, Step::NotFound),
@@ -86,9 +93,7 @@ const WALKS: [(Node, &[u8], bool, Step); 13] = [
 ];
 
 fn lead(world: &World) -> bool {
-    WALKS
-        .iter()
-        .all(|(from, name, last, step)| walk_one(world, *from, name, *last) == *step)
+    WALKS.iter().all(|(from, name, last, step)| walk_one(world, *from, name, *last) == *step)
 }
 
 #[test]
@@ -103,10 +108,16 @@ fn names_lead_to_nodes(rt: HostRuntime) -> Result<(), Fail> {
 #[test]
 fn nodes_are_opened_in_their_ways(rt: HostRuntime) -> Result<(), Fail> {
     assert!(rt; may_open(Node::Root, 0) == May::Yes && may_open(Node::Root, 2) == May::Denied);
-    assert!(rt; may_open(Node::Rules, 0x12) == May::Yes && may_open(Node::Rules, 0x10) == May::Denied);
-    assert!(rt; may_open(Node::Cons, 3) == May::Denied && may_open(Node::Cons, 0x42) == May::Denied);
+    assert!(rt;
+        may_open(Node::Rules, 0x12) == May::Yes && may_open(Node::Rules, 0x10) == May::Denied
+    );
+    assert!(rt;
+        may_open(Node::Cons, 3) == May::Denied && may_open(Node::Cons, 0x42) == May::Denied
+    );
     assert!(rt; may_open(Node::Send, 0) == May::Denied && may_open(Node::Index, 1) == May::Denied);
-    assert!(rt; may_open(Node::Cons, 4) == May::BadMode && may_open(Node::Cons, 0x20) == May::BadMode);
+    assert!(rt;
+        may_open(Node::Cons, 4) == May::BadMode && may_open(Node::Cons, 0x20) == May::BadMode
+    );
     Ok(())
 }
 

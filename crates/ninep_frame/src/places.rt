@@ -73,9 +73,7 @@ pub(crate) fn is_formed(bytes: &[u8]) -> bool
     }
     let size = u16_at(bytes, 0) as usize;
     let len = u16_at(bytes, NAME_LEN) as usize;
-    bytes.len() == 2 + size
-        && bytes.len() == UNNAMED + len
-        && is_text(part_at(bytes, NAME, len))
+    bytes.len() == 2 + size && bytes.len() == UNNAMED + len && is_text(part_at(bytes, NAME, len))
 }
 
 /// The stat that the fields say at their places, whatever the other bytes are.
