@@ -1,7 +1,6 @@
 -- What a live directory lists is live.
-use Rattle.std.proofs.Common.{◌≡◌, ℕ, ◌+◌, ◌<◌, ◌≤◌, ◌^◌, zero, suc, true, eqb, ltb, List, [], ◌∷◌, ◌++◌, length, take, get_or, refl, sym, ap, ◌∙◌, arith}
+use Rattle.std.proofs.Common.{◌≡◌, ℕ, ◌+◌, ◌≤◌, ◌^◌, true, eqb, List, [], ◌∷◌, length, take, get_or, refl, arith}
 use Rattle.std.specs.Prelude.{All, map}
-use Rattle.std.specs.List.{list_any}
 use Rattle.std.proofs.lemmas.Bool.{eq-eqb, lt-ltb}
 use Rattle.std.proofs.lemmas.List.{length-take}
 use Rattle.std.proofs.lemmas.List.Elements.{All-nil, All-cons, All-map, All-from_recursion, recursion_from_All}
@@ -9,7 +8,7 @@ use Rattle.std.proofs.lemmas.List.Folds.{list_any_at}
 use Rattle.acme_tree.specs.declared.node.Node.{Node}
 use Rattle.acme_tree.specs.declared.node.Node.TheVariants.{Root, Window, PlumbRoot, Port}
 use Rattle.acme_tree.specs.declared.node.World.{World}
-use Rattle.acme_tree.specs.Trees.{is_window, is_live, ports_from, entries}
+use Rattle.acme_tree.specs.Trees.{is_live, ports_from, entries}
 
 abbrev IsThere : World → Node → Type 0
 IsThere world node = is_live world node ≡ true

@@ -1,5 +1,5 @@
 -- How nodes may be opened, after open(5).
-use Rattle.std.specs.Prelude.{ℕ, Bool, true, false, ◌&&◌, ◌==◌, not, bit_and, if◌then◌else◌}
+use Rattle.std.specs.Prelude.{ℕ, Bool, false, ◌&&◌, ◌==◌, not, bit_and, if◌then◌else◌}
 use Rattle.acme_tree.specs.declared.node.Node.{Node}
 use Rattle.acme_tree.specs.declared.access.May.{May}
 use Rattle.acme_tree.specs.declared.access.May.TheVariants.{Yes, BadMode, Denied}

@@ -1,14 +1,13 @@
 -- A record is read as its stat, and what is read is a record.
-use Rattle.std.proofs.Common.{◌≡◌, ℕ, ◌+◌, ◌^◌, ◌<◌, ◌≤◌, Bool, true, false, cond, ◌&&◌, eqb, leb, List, [], ◌∷◌, ◌++◌, length, get_or, take, drop, Option, Some, None, refl, sym, ap, subst, ◌∙◌, append_assoc, arith, inl, inr}
+use Rattle.std.proofs.Common.{◌≡◌, ℕ, ◌+◌, ◌^◌, ◌<◌, Bool, true, false, cond, ◌&&◌, eqb, leb, List, ◌++◌, length, get_or, take, drop, Option, Some, None, refl, sym, ap, subst, ◌∙◌, arith, inl, inr}
 use Rattle.std.specs.Prelude.{Result, Ok, Err, IfOk, IfSome}
 use Rattle.std.specs.Int.{w16, w32, w64, from_le_bytes, to_le_bytes}
 use Rattle.std.specs.Str.{bytes_eq}
 use Rattle.std.proofs.lemmas.Bool.{eqb-true, eq-eqb, le-leb, cases_lt}
-use Rattle.std.proofs.lemmas.List.{take_at, length-append, length-take, get_or-drop, get_or-take, get_or_past}
+use Rattle.std.proofs.lemmas.List.{take_at, length-take, get_or-drop, get_or-take, get_or_past}
 use Rattle.std.proofs.lemmas.Nat.{from_le_bytes-to_le_bytes_2, from_le_bytes-to_le_bytes_4, from_le_bytes-to_le_bytes_8}
 use Rattle.std.proofs.lemmas.Slice.Eq.{bytes_eq-Decides}
-use Rattle.ninep_wire.specs.declared.message.Qid.{Qid}
-use Rattle.ninep_wire.specs.Fields.{string, qid_bytes, is_text}
+use Rattle.ninep_wire.specs.Fields.{is_text}
 use Rattle.ninep_frame.specs.declared.stat.Stat.{Stat}
 use Rattle.ninep_frame.specs.Places.{u16_at, u32_at, u64_at, name_at, stat_at, is_formed, stat_of}
 use Rattle.ninep_frame.specs.Records.{owners, no_device, no_times, stat_fields, record_of, IsRecord, InRange}

@@ -1,5 +1,5 @@
 -- The stats of the tests have names.
-use Rattle.std.proofs.Common.{◌≡◌, true, List, codes, refl, arith}
+use Rattle.std.proofs.Common.{codes, refl, arith}
 use Rattle.std.specs.Str.{is_utf8, chars}
 use Rattle.std.specs.Char.{encode_utf8}
 use Rattle.std.proofs.lemmas.List.Elements.{All-nil, All-push}

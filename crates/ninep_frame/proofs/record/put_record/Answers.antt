@@ -1,4 +1,4 @@
-use Rattle.std.proofs.Common.{◌+◌, length, arith}
+use Rattle.std.proofs.Common.{◌+◌, arith}
 use Rattle.ninep_frame.specs.Records.{stat_fields}
 use Rattle.ninep_frame.proofs.Joins.{sized}
 use Rattle.ninep_frame.proofs.Sizes.{fields_len}
