@@ -21,6 +21,7 @@ ports_there world k [] le = All-nil (IsThere world)
 ports_there world k (name ∷ names) le = All-cons (IsThere world) (Port k) (ports_from (k + 1) names) (lt-ltb k (length world.ports) (omega arith)) (ports_there world (k + 1) names (omega arith))
 
 pub entries_live : (world : World) (dir : Node) → is_live world dir ≡ true → All (λ node. is_live world node ≡ true) (entries world dir)
+unfolding entries
 entries_live world Root h = All-from_recursion (IsThere world) (entries world Root) (refl, (refl, (refl, (refl, (refl, recursion_from_All (IsThere world) (map Window world.windows) (windows_there world))))))
 entries_live world (Window w) h = All-from_recursion (IsThere world) (entries world (Window w)) (h, (h, (h, (h, (h, (h, (h, (h, tt))))))))
 entries_live world PlumbRoot h =

@@ -15,7 +15,7 @@ use Rattle.std.proofs.lemmas.Slice.Eq.{bytes_eq-Decides}
 use Rattle.acme_tree.specs.declared.node.Node.{Node}
 use Rattle.acme_tree.specs.declared.node.Node.TheVariants.{Root, PlumbRoot, Window, Port}
 use Rattle.acme_tree.specs.declared.node.World.{World}
-use Rattle.acme_tree.specs.Trees.{name_of, ports_from}
+use Rattle.acme_tree.specs.Trees.{name_of, ports_from, entries}
 use Rattle.acme_tree.specs.Walks.{entry_named}
 
 -- ---- windows
@@ -112,7 +112,7 @@ ports_named world name k (port ∷ names) same =
 
 pub in_root_rest : (world : World) (name : List ℕ) (found : Option Node) → bytes_eq name (codes "cons") ≡ false → bytes_eq name (codes "consctl") ≡ false → bytes_eq name (codes "index") ≡ false → bytes_eq name (codes "label") ≡ false → bytes_eq name (codes "new") ≡ false
     → found ≡ option_map Window (find (λ w. bytes_eq name (decimal w)) world.windows) → found ≡ entry_named world Root name
-unfolding entry_named
+unfolding entry_named entries
 in_root_rest world name found a b c d e is = rw (a, b, c, d, e) (is ∙ sym (find-map (λ node. bytes_eq name (name_of world node)) Window world.windows))
 
 -- a port that has a number keeps its name
@@ -128,7 +128,7 @@ from_zero (Some i) = let same : 0 + i ≡ i = omega arith in ap (λ (n : ℕ). S
 
 pub in_plumber_rest : (world : World) (name : List ℕ) (found : Option Node) → bytes_eq name (codes "send") ≡ false → bytes_eq name (codes "rules") ≡ false
     → found ≡ option_map Port (position (λ port. bytes_eq name port) (take (2 ^ 32) world.ports)) → found ≡ entry_named world PlumbRoot name
-unfolding entry_named
+unfolding entry_named entries
 in_plumber_rest world name found a b is =
     let all = ports_named world name 0 (take (2 ^ 32) world.ports) (numbered_same world) in
     rw (a, b) (is ∙ sym (from_zero (position (λ port. bytes_eq name port) (take (2 ^ 32) world.ports))) ∙ sym all)

@@ -40,5 +40,5 @@ file_allows node mode = not (removes mode) && not (truncates mode && (how mode =
 abbrev pub is_allowed : Node → ℕ → Bool
 is_allowed node mode = if is_dir node then mode == 0 else file_allows node mode
 
-abbrev pub may_open : Node → ℕ → May
+unfoldable pub may_open : Node → ℕ → May
 may_open node mode = if is_open_mode mode then (if is_allowed node mode then Yes else Denied) else BadMode

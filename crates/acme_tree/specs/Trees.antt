@@ -96,7 +96,7 @@ kind_of (File w file) = file_kind file
 kind_of PlumbRoot = 128
 kind_of node = 0
 
-abbrev pub qid_of : Node → Qid
+unfoldable pub qid_of : Node → Qid
 qid_of node = record { kind = kind_of node; vers = 0; path = path_of node }
 
 -- ---- names
@@ -126,7 +126,7 @@ name_of world Rules = codes "rules"
 name_of world (Port k) = slice_index_or world.ports k []
 
 -- lengths are 0
-abbrev pub stat_of : World → Node → Stat
+unfoldable pub stat_of : World → Node → Stat
 stat_of world node = record { qid = qid_of node; mode = mode_of node; length = 0; name = name_of world node }
 
 -- ---- what directories list, in order
@@ -140,7 +140,7 @@ ports_from k [] = []
 ports_from k (name ∷ names) = Port k ∷ ports_from (k + 1) names
 
 -- `new` lists nothing; a port's number is below 2 ^ 32
-abbrev pub entries : World → Node → List Node
+unfoldable pub entries : World → Node → List Node
 entries world Root = Cons ∷ ConsCtl ∷ Index ∷ Label ∷ NewDir ∷ map Window world.windows
 entries world (Window w) = map (File w) files
 entries world PlumbRoot = Send ∷ Rules ∷ ports_from 0 (take (2 ^ 32) world.ports)

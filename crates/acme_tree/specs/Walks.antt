@@ -37,7 +37,7 @@ below world dir name last = to_entry (entry_named world dir name)
 
 -- Where a name leads: from the directory of a deleted window no name leads, from a file none does, and `..` leads to the
 -- directory above.
-abbrev pub walk_one : World → Node → List ℕ → Bool → Step
+unfoldable pub walk_one : World → Node → List ℕ → Bool → Step
 walk_one world from name last =
     if not (is_dir from) then NotDir
     else (if not (is_live world from) then Deleted

@@ -90,6 +90,7 @@ fn is_allowed(node: Node, mode: u8) -> bool
 
 /// Whether a node may be opened with a mode, after open(5): the low two bits are 0 to read, 1 to write, 2 for
 /// both and 3 to execute; 0x10 truncates, and 0x40 removes on close.
+#[tactic(auto, unfolding(crate::specs::Access::may_open))]
 pub fn may_open(node: Node, mode: u8) -> May
     ensures { result ≡ may_open node mode }
 {

@@ -40,6 +40,7 @@ pub(crate) fn numbered_ports(ports: &[Bytes]) -> &[Bytes]
     numbered
 }
 
+#[tactic(auto, unfolding(crate::specs::Trees::entries))]
 fn of_root(alloc: Global, world: &World) -> Result<Items<Node>, NoMemory>
     ensures { IfOk result (λ nodes. nodes ≡ entries world.now Node.Root) }
 {
@@ -71,6 +72,7 @@ fn of_window(alloc: Global, window: u32) -> Result<Items<Node>, NoMemory>
     Items::copied(alloc, &fixed)
 }
 
+#[tactic(auto, unfolding(crate::specs::Trees::entries))]
 fn of_plumber(alloc: Global, world: &World) -> Result<Items<Node>, NoMemory>
     ensures { IfOk result (λ nodes. nodes ≡ entries world.now Node.PlumbRoot) }
 {
@@ -80,6 +82,7 @@ fn of_plumber(alloc: Global, world: &World) -> Result<Items<Node>, NoMemory>
 }
 
 /// The nodes that a directory lists, in order.
+#[tactic(auto, unfolding(crate::specs::Trees::entries))]
 pub(crate) fn entries(alloc: Global, world: &World, dir: Node) -> Result<Items<Node>, NoMemory>
     ensures { IfOk result (λ nodes. nodes ≡ entries world.now dir) }
 {

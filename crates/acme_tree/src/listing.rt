@@ -103,6 +103,7 @@ fn kind_of(node: Node) -> u8
 }
 
 /// The qid of a node.
+#[tactic(auto, unfolding(crate::specs::Trees::qid_of))]
 pub fn qid_of(node: Node) -> Qid
     ensures { result ≡ qid_of node }
 {
@@ -114,6 +115,7 @@ pub fn qid_of(node: Node) -> Qid
 }
 
 /// The stat of a live node.
+#[tactic(auto, unfolding(crate::specs::Trees::stat_of))]
 pub fn stat_of(alloc: Global, world: &World, node: Node) -> Result<Stat, NoMemory>
     requires { is_live world.now node ≡ true }
     ensures exact { IfOk result (λ stat. stat ≡ stat_of world.now node) }

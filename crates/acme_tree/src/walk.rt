@@ -95,7 +95,7 @@ fn to_port(found: Option<u32>) -> Option<Node>
     found.map(Node::Port)
 }
 
-#[tactic(auto, unfolding(crate::specs::Walks::entry_named))]
+#[tactic(auto, unfolding(crate::specs::Trees::entries, crate::specs::Walks::entry_named))]
 fn in_root(world: &World, name: &[u8]) -> Option<Node>
     ensures { result ≡ entry_named world.now Node.Root name.now }
 {
@@ -114,7 +114,7 @@ fn in_root(world: &World, name: &[u8]) -> Option<Node>
     }
 }
 
-#[tactic(auto, unfolding(crate::specs::Walks::entry_named))]
+#[tactic(auto, unfolding(crate::specs::Trees::entries, crate::specs::Walks::entry_named))]
 fn in_plumber(world: &World, name: &[u8]) -> Option<Node>
     ensures { result ≡ entry_named world.now Node.PlumbRoot name.now }
 {
@@ -127,7 +127,7 @@ fn in_plumber(world: &World, name: &[u8]) -> Option<Node>
     }
 }
 
-#[tactic(auto, unfolding(crate::specs::Walks::entry_named, crate::specs::Walks::file_named))]
+#[tactic(auto, unfolding(crate::specs::Trees::entries, crate::specs::Walks::entry_named, crate::specs::Walks::file_named))]
 fn entry_named(world: &World, dir: Node, name: &[u8]) -> Option<Node>
     ensures { result ≡ entry_named world.now dir name.now }
 {
@@ -185,6 +185,7 @@ fn below(world: &World, dir: Node, name: &[u8], last: bool) -> Step
 /// file is found in `new`.
 ///
 /// It takes no memory.
+#[tactic(auto, unfolding(crate::specs::Walks::walk_one))]
 pub fn walk_one(world: &World, from: Node, name: &[u8], last: bool) -> Step
     ensures { result ≡ walk_one world.now from name.now last }
 {

@@ -1,5 +1,5 @@
 -- The part of a directory read is the longest that fits.
-use Rattle.std.proofs.Common.{◌≡◌, ℕ, ◌+◌, ◌-◌, ◌<◌, ◌≤◌, zero, suc, Bool, true, false, cond, leb, List, [], ◌∷◌, length, take, refl, ap, arith, length-append}
+use Rattle.std.proofs.Common.{◌≡◌, ℕ, ◌+◌, ◌-◌, ◌<◌, ◌≤◌, zero, suc, Bool, true, false, cond, leb, List, [], ◌∷◌, length, take, drop, refl, ap, arith, length-append, length-take, length-drop}
 use Rattle.std.proofs.lemmas.Bool.{leb-true, leb-false}
 use Rattle.ninep_frame.specs.declared.stat.Stat.{Stat}
 use Rattle.ninep_frame.specs.Records.{record_of}
@@ -39,3 +39,14 @@ pub longest : Longest
 unfolding fitting
 longest room [] = record { front = refl; fits = omega arith; longest = λ n lt within. absurd (omega arith) }
 longest room (s ∷ stats) = longest_one s stats room (leb (length (record_of s)) room) refl (longest (room - length (record_of s)) stats)
+
+-- at most so many bytes, and at most as many records as there are
+pub fits_count : (room : ℕ) (stats : List Stat) → length (records (fitting room stats)) ≤ room
+fits_count room stats = (longest room stats).fits
+
+pub fits_few : (room skip : ℕ) (all : List Stat) → length (fitting room (drop skip all)) ≤ length all - skip
+fits_few room skip all =
+    let front = (longest room (drop skip all)).front in
+    omega (arith, ap (λ (l : List Stat). length l) front, length-take (length (fitting room (drop skip all))) (drop skip all), length-drop skip all)
+
+pub ruleset bounds = (fits_count, fits_few)

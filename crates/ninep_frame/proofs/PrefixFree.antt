@@ -15,6 +15,7 @@ some_is s t e = cc
 
 -- records with the same two bytes in front have names of one length
 same_len : (s t : Stat) (rest more : List ℕ) → 59 + length s.name < 2 ^ 16 → 59 + length t.name < 2 ^ 16 → record_of s ++ rest ≡ record_of t ++ more → length s.name ≡ length t.name
+unfolding record_of
 same_len s t rest more s-fits t-fits e =
     let fronts : to_le_bytes w16 (length (stat_fields s)) ≡ to_le_bytes w16 (length (stat_fields t)) = ap (λ (l : List ℕ). take 2 l) e in
     let sizes = sym (from_le_bytes-to_le_bytes_2 (length (stat_fields s)) (omega (arith, fields_len s))) ∙ ap (λ (l : List ℕ). from_le_bytes w16 l) fronts ∙ from_le_bytes-to_le_bytes_2 (length (stat_fields t)) (omega (arith, fields_len t)) in

@@ -30,37 +30,38 @@ four_all a b c d e =
 -- ---- a record is read as its stat
 
 size_at : (s : Stat) → u16_at 0 (record_of s) ≡ from_le_bytes w16 (to_le_bytes w16 (length (stat_fields s)))
+unfolding record_of
 size_at s = refl
 
 name_len_at : (s : Stat) → u16_at 41 (record_of s) ≡ from_le_bytes w16 (to_le_bytes w16 (length s.name))
-unfolding stat_fields owners no_device no_times
+unfolding record_of stat_fields owners no_device no_times
 name_len_at s = refl
 
 name_part : (s : Stat) → drop 43 (record_of s) ≡ s.name ++ owners
-unfolding stat_fields no_device no_times
+unfolding record_of stat_fields no_device no_times
 name_part s = refl
 
 read_name : (s : Stat) → length s.name < 2 ^ 16 → name_at (record_of s) ≡ s.name
 read_name s lt = rw (name_len_at s, from_le_bytes-to_le_bytes_2 (length s.name) lt, name_part s) (take_at s.name owners (length s.name) refl)
 
 read_vers : (s : Stat) → u32_at 9 (record_of s) ≡ from_le_bytes w32 (to_le_bytes w32 s.qid.vers)
-unfolding stat_fields no_device no_times
+unfolding record_of stat_fields no_device no_times
 read_vers s = refl
 
 read_path : (s : Stat) → u64_at 13 (record_of s) ≡ from_le_bytes w64 (to_le_bytes w64 s.qid.path)
-unfolding stat_fields no_device no_times
+unfolding record_of stat_fields no_device no_times
 read_path s = refl
 
 read_mode : (s : Stat) → u32_at 21 (record_of s) ≡ from_le_bytes w32 (to_le_bytes w32 s.mode)
-unfolding stat_fields no_device no_times
+unfolding record_of stat_fields no_device no_times
 read_mode s = refl
 
 read_length : (s : Stat) → u64_at 33 (record_of s) ≡ from_le_bytes w64 (to_le_bytes w64 s.length)
-unfolding stat_fields no_device no_times
+unfolding record_of stat_fields no_device no_times
 read_length s = refl
 
 read_kind : (s : Stat) → get_or (record_of s) 8 0 ≡ s.qid.kind
-unfolding stat_fields no_device no_times
+unfolding record_of stat_fields no_device no_times
 read_kind s = refl
 
 pub stat_at-record : (s : Stat) → InRange s → length s.name < 2 ^ 16 → stat_at (record_of s) ≡ s

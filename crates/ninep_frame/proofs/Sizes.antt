@@ -13,6 +13,7 @@ unfolding stat_fields owners no_device no_times
 fields_len s = simp length-append (omega (arith, string_len s.name))
 
 pub record_len : (s : Stat) → length (record_of s) ≡ 61 + length s.name
+unfolding record_of
 record_len s = omega (arith, fields_len s, length-append (to_le_bytes w16 (length (stat_fields s))) (stat_fields s))
 
 pub ruleset sizes = (fields_len, record_len)

@@ -22,7 +22,7 @@ unfoldable pub stat_fields : Stat → List ℕ
 stat_fields s = no_device ++ (qid_bytes s.qid ++ (to_le_bytes w32 s.mode ++ (no_times ++ (to_le_bytes w64 s.length ++ (string s.name ++ owners)))))
 
 -- the record of a stat; its size doesn't count its own two bytes
-abbrev pub record_of : Stat → List ℕ
+unfoldable pub record_of : Stat → List ℕ
 record_of s = counted w16 (stat_fields s)
 
 -- how many bytes it has

@@ -1,6 +1,6 @@
 //! Directory reads.
 
-ghost use Rattle.std.specs.Prelude.{◌≡◌, All, IfOk, drop, length};
+ghost use Rattle.std.specs.Prelude.{◌≡◌, ◌≤◌, ◌-◌, All, IfOk, drop, length};
 ghost use Rattle.ninep_frame.specs.Records.{HasName};
 ghost use Rattle.ninep_frame.specs.Directories.{fitting, records};
 
@@ -33,6 +33,7 @@ fn part_of(alloc: Global, stats: &[Stat], count: usize) -> Result<(Bytes, usize)
 /// many whole ones as fit into `count` bytes, and how many they are.
 ///
 /// It looks at the stats that it gives, and at one more.
+#[tactic(auto, using(crate::proofs::Longest::bounds))]
 pub fn dir_read(
     alloc: Global,
     all: &Stats,
@@ -42,6 +43,9 @@ pub fn dir_read(
     requires { All HasName all.now }
     ensures bytes { IfOk result (λ part. part.0 ≡ records (fitting count (drop skip all.now))) }
     ensures given { IfOk result (λ part. part.1 ≡ length (fitting count (drop skip all.now))) }
+    // They are at most as many bytes, and records, as there are.
+    ensures fits { IfOk result (λ part. length part.0 ≤ count) }
+    ensures within { IfOk result (λ part. part.1 ≤ length all.now - skip) }
 {
     let stats = all.as_slice();
     let (_, rest) = stats.split_at(skip.min(stats.len()));

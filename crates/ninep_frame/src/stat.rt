@@ -3,7 +3,7 @@
 ghost use Rattle.std.specs.Prelude.{◌≡◌, ◌<◌, ◌+◌, ◌^◌, IfOk, IfSome, Some, length};
 ghost use Rattle.ninep_frame.specs.declared.stat.Stat.{Stat};
 ghost use Rattle.ninep_frame.specs.Places.{stat_of};
-ghost use Rattle.ninep_frame.specs.Records.{record_of, HasName, IsRecord, InRange};
+ghost use Rattle.ninep_frame.specs.Records.{record_of, record_size, HasName, IsRecord, InRange};
 
 use crate::places::{is_formed, stat_at};
 use crate::record::{put_record, record_size};
@@ -37,9 +37,11 @@ fn written(alloc: Global, stat: &Stat) -> Result<Bytes, NoMemory>
 }
 
 /// The record of a stat. It takes memory once, for all of its bytes.
+#[tactic(auto, using(crate::proofs::Sizes::sizes))]
 pub fn stat_write(alloc: Global, stat: &Stat) -> Result<Bytes, NoMemory>
     requires { HasName stat.now }
-    ensures { IfOk result (λ bytes. bytes ≡ record_of stat.now) }
+    ensures record { IfOk result (λ bytes. bytes ≡ record_of stat.now) }
+    ensures size { IfOk result (λ bytes. length bytes ≡ record_size stat.now) }
 {
     written(alloc, stat)
 }
