@@ -1,0 +1,4 @@
+pub mod Fids
+pub mod Tables
+pub mod Undo
+pub mod Laws
