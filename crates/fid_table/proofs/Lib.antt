@@ -1,0 +1,4 @@
+pub mod FidLemmas
+pub mod PlaceLemmas
+pub mod UndoLemmas
+pub mod LawLemmas

@@ -54,7 +54,7 @@ impl Sessions {
     pub fn keep(&mut self)
         ensures { self.new ≡ both self.old.present }
     {
-        self.trail.clear();
+        self.trail.clear(); // nothing is left to take back
     }
 
     /// The kept state becomes the present one again. It takes no memory, and time for what was
