@@ -14,11 +14,11 @@ use Rattle.fid_table.proofs.PlaceLemmas.{find_changed, find_other}
 
 any_found : (ss : List Session) (conn : ℕ) → list_any (is_session conn) ss ≡ true → IsSome (find (is_session conn) ss)
 any_found [] conn h = h
-any_found (s ∷ ss) conn h = by (is_session conn s) refl
+any_found (s ∷ ss) conn h = by (is_session conn s) refl (λ g. any_found ss conn g)
   where
-    by : (b : Bool) → is_session conn s ≡ b → IsSome (find (is_session conn) (s ∷ ss))
-    by true e = rw e refl
-    by false e = rw e (any_found ss conn (rw e at h))
+    by : (b : Bool) → is_session conn s ≡ b → (list_any (is_session conn) ss ≡ true → IsSome (find (is_session conn) ss)) → IsSome (find (is_session conn) (s ∷ ss))
+    by true e later = rw e refl
+    by false e later = rw e (later (rw e at h))
 
 put_found : (fid : ℕ) (value : Fid) (o : Option Session) → IsSome o → lookup (nat_eq fid) (fids_in (option_map (put_in fid value) o)) ≡ Some value
 put_found fid value None h = cc
@@ -42,21 +42,21 @@ begun_none msize (Some s) = refl
 
 none_waits : (ws : List Waiting) (conn : ℕ) → filter (is_waiting_on conn) (filter (λ w. not (is_waiting_on conn w)) ws) ≡ []
 none_waits [] conn = refl
-none_waits (w ∷ ws) conn = by (is_waiting_on conn w) refl
+none_waits (w ∷ ws) conn = by (is_waiting_on conn w) refl (none_waits ws conn)
   where
-    by : (b : Bool) → is_waiting_on conn w ≡ b → filter (is_waiting_on conn) (filter (λ v. not (is_waiting_on conn v)) (w ∷ ws)) ≡ []
-    by true e = rw e (none_waits ws conn)
-    by false e = rw (e, e) (none_waits ws conn)
+    by : (b : Bool) → is_waiting_on conn w ≡ b → filter (is_waiting_on conn) (filter (λ v. not (is_waiting_on conn v)) ws) ≡ [] → filter (is_waiting_on conn) (filter (λ v. not (is_waiting_on conn v)) (w ∷ ws)) ≡ []
+    by true e later = rw e later
+    by false e later = rw (e, e) later
 
 others_wait : (ws : List Waiting) (conn other : ℕ) → other ≢ conn → filter (is_waiting_on other) (filter (λ w. not (is_waiting_on conn w)) ws) ≡ filter (is_waiting_on other) ws
 others_wait [] conn other n = refl
-others_wait (w ∷ ws) conn other n = by (is_waiting_on conn w) refl
+others_wait (w ∷ ws) conn other n = by (is_waiting_on conn w) refl (others_wait ws conn other n)
   where
-    by : (b : Bool) → is_waiting_on conn w ≡ b → filter (is_waiting_on other) (filter (λ v. not (is_waiting_on conn v)) (w ∷ ws)) ≡ filter (is_waiting_on other) (w ∷ ws)
-    by true e =
+    by : (b : Bool) → is_waiting_on conn w ≡ b → filter (is_waiting_on other) (filter (λ v. not (is_waiting_on conn v)) ws) ≡ filter (is_waiting_on other) ws → filter (is_waiting_on other) (filter (λ v. not (is_waiting_on conn v)) (w ∷ ws)) ≡ filter (is_waiting_on other) (w ∷ ws)
+    by true e later =
         let apart : is_waiting_on other w ≡ false = ne_eqb w.conn other (λ h. n (sym h ∙ eqb-true w.conn conn e)) in
-        rw (e, apart) (others_wait ws conn other n)
-    by false e = rw e (ap (λ r. cond (is_waiting_on other w) (w ∷ r) r) (others_wait ws conn other n))
+        rw (e, apart) later
+    by false e later = rw e (ap (λ r. cond (is_waiting_on other w) (w ∷ r) r) later)
 
 pub finds : FindsWhatWasPut
 finds t conn fid value h =
@@ -72,7 +72,7 @@ leaves = record {
   put_number = λ t conn fid other value n. ap (λ o. lookup (nat_eq other) (fids_in o)) (find_changed (put_in fid value) (λ s. refl) t.sessions conn) ∙ put_other fid other value _ n;
   put_conn = λ t conn fid other value n. ap fids_in (find_other (put_in fid value) (λ s. refl) t.sessions conn other n);
   take_number = λ t conn fid other n. ap (λ o. lookup (nat_eq other) (fids_in o)) (find_changed (taken_from fid) (λ s. refl) t.sessions conn) ∙ taken_other fid other _ n;
-  take_conn = λ t conn fid other n. ap fids_in (find_other (taken_from fid) (λ s. refl) t.sessions conn other n)
+  take_conn = λ t conn fid other n. ap fids_in (find_other (taken_from fid) (λ s. refl) t.sessions conn other n);
 }
 
 pub drops : DropsAllFids
@@ -80,5 +80,5 @@ drops = record {
   fids = λ t conn msize. ap fids_in (find_changed (begun msize) (λ s. refl) t.sessions conn) ∙ begun_none msize _;
   waiting = λ t conn msize. none_waits t.waiting conn;
   other_fids = λ t conn other msize n. ap fids_in (find_other (begun msize) (λ s. refl) t.sessions conn other n);
-  other_waiting = λ t conn other msize n. others_wait t.waiting conn other n
+  other_waiting = λ t conn other msize n. others_wait t.waiting conn other n;
 }

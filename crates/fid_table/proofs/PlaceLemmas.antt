@@ -5,8 +5,9 @@ use Rattle.std.proofs.lemmas.Bool.Decides.{nat_tests}
 use Rattle.std.proofs.lemmas.List.Quantifiers.{position-Some}
 use Rattle.std.proofs.lemmas.List.Sums.{fails_before_first}
 use Rattle.std.specs.List.{position}
-use Rattle.fid_table.specs.Tables.{is_session, on_session}
+use Rattle.fid_table.specs.Tables.{Tables, is_session, on_session}
 use Rattle.fid_table.specs.declared.session.Session.{Session}
+use Rattle.fid_table.specs.declared.session.Waiting.{Waiting}
 
 none_is : (ss : List Session) (conn : ℕ) → position (is_session conn) ss ≡ None → (k : ℕ) (d : Session) → k < length ss → is_session conn (get_or ss k d) ≡ false
 none_is ss conn h k d l = fails_before_first (is_session conn) ss k d (grind (arith, nat_tests))
@@ -46,25 +47,31 @@ module _ (f : Session → Session) where
   changed ss conn k d v h e r =
       let p = position-Some (is_session conn) ss k d h in found ss conn k d v p.0 p.1 p.2 (r ∙ ap f e)
 
+  pub missing_table : (ss : List Session) (ws : List Waiting) (conn : ℕ) → position (is_session conn) ss ≡ None → ◌≡◌ {A = Tables} (record { sessions = ss; waiting = ws }) (record { sessions = on_session f conn ss; waiting = ws })
+  missing_table ss ws conn h = ap (λ (r : List Session). record { sessions = r; waiting = ws }) (unchanged ss conn h)
+
+  pub changed_table : (ss : List Session) (ws : List Waiting) (conn k : ℕ) (d v : Session) → position (is_session conn) ss ≡ Some k → d ≡ get_or ss k d → v ≡ f d → ◌≡◌ {A = Tables} (record { sessions = set ss k v; waiting = ws }) (record { sessions = on_session f conn ss; waiting = ws })
+  changed_table ss ws conn k d v h e r = ap (λ (r : List Session). record { sessions = r; waiting = ws }) (changed ss conn k d v h e r)
+
 module _ (f : Session → Session) (same : (s : Session) → (f s).conn ≡ s.conn) where
   -- the changed session is found, and any other as before
   pub find_changed : (ss : List Session) (conn : ℕ) → find (is_session conn) (on_session f conn ss) ≡ option_map f (find (is_session conn) ss)
   find_changed [] conn = refl
-  find_changed (s ∷ ss) conn = by (is_session conn s) refl
+  find_changed (s ∷ ss) conn = by (is_session conn s) refl (find_changed ss conn)
     where
-      by : (b : Bool) → is_session conn s ≡ b → find (is_session conn) (on_session f conn (s ∷ ss)) ≡ option_map f (find (is_session conn) (s ∷ ss))
-      by true e =
+      by : (b : Bool) → is_session conn s ≡ b → find (is_session conn) (on_session f conn ss) ≡ option_map f (find (is_session conn) ss) → find (is_session conn) (on_session f conn (s ∷ ss)) ≡ option_map f (find (is_session conn) (s ∷ ss))
+      by true e later =
           let there : is_session conn (f s) ≡ true = ap (λ c. c == conn) (same s) ∙ e in
           rw (e, there)
-      by false e = rw (e, e) (find_changed ss conn)
+      by false e later = rw (e, e) later
 
   pub find_other : (ss : List Session) (conn other : ℕ) → other ≢ conn → find (is_session other) (on_session f conn ss) ≡ find (is_session other) ss
   find_other [] conn other n = refl
-  find_other (s ∷ ss) conn other n = by (is_session conn s) refl
+  find_other (s ∷ ss) conn other n = by (is_session conn s) refl (find_other ss conn other n)
     where
-      by : (b : Bool) → is_session conn s ≡ b → find (is_session other) (on_session f conn (s ∷ ss)) ≡ find (is_session other) (s ∷ ss)
-      by true e =
+      by : (b : Bool) → is_session conn s ≡ b → find (is_session other) (on_session f conn ss) ≡ find (is_session other) ss → find (is_session other) (on_session f conn (s ∷ ss)) ≡ find (is_session other) (s ∷ ss)
+      by true e later =
           let apart : is_session other s ≡ false = ne_eqb s.conn other (λ h. n (sym h ∙ eqb-true s.conn conn e)) in
           let there : is_session other (f s) ≡ false = ap (λ c. c == other) (same s) ∙ apart in
           rw (e, there, apart)
-      by false e = rw e (ap (λ r. cond (is_session other s) (Some s) r) (find_other ss conn other n))
+      by false e later = rw e (ap (λ r. cond (is_session other s) (Some s) r) later)

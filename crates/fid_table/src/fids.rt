@@ -84,9 +84,10 @@ impl Fids {
     pub fn restore(&mut self, fid: u32, value: Fid)
         ensures { self.new ≡ set_value (nat_eq fid) self.old value }
     {
-        if let Some(slot) = self.map.get_mut(&fid) {
-            *slot = value;
-        }
+        let Some(slot) = self.map.get_mut(&fid) else {
+            return;
+        };
+        *slot = value;
     }
 
     /// Drops all. It takes no memory.

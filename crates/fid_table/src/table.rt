@@ -1,6 +1,6 @@
 //! The tables of sessions and of waiting reads, in one state.
 
-ghost use Rattle.std.specs.Prelude.{◌≡◌, ◌==◌, ◌-◌, nat_eq, take, length, slice_get, option_copied, option_map, count_by, IfOk, OnOk, OnErr};
+ghost use Rattle.std.specs.Prelude.{◌≡◌, ◌==◌, ◌-◌, nat_eq, not, filter, take, length, slice_get, option_copied, option_map, count_by, IfOk, OnOk, OnErr};
 ghost use Rattle.std.specs.List.{list_any};
 ghost use Rattle.fid_table.specs.Fids.{AreDistinct, seen};
 ghost use Rattle.fid_table.specs.Tables.{nothing, has_joined, msize_of, fids_of, fid_of, is_waiting, is_waiting_on, as_triple, after_join, after_version, after_put, after_take, after_wait, after_done};
@@ -12,6 +12,18 @@ use crate::types::Fid;
 use am_text::NoMemory;
 use std::alloc::Global;
 use std::marker::Model;
+
+fn drop_reads_on(waiting: &mut Vec<Waiting>, conn: u32)
+    ensures { waiting.new.items ≡ filter (λ w. not (is_waiting_on conn w)) waiting.old.items }
+{
+    waiting.retain(|w| w.conn != conn);
+}
+
+fn drop_read(waiting: &mut Vec<Waiting>, conn: u32, tag: u16)
+    ensures { waiting.new.items ≡ filter (λ w. not (is_waiting conn tag w)) waiting.old.items }
+{
+    waiting.retain(|w| !(w.conn == conn && w.tag == tag));
+}
 
 /// The connections that joined, and the reads that wait, in the order of asking.
 #[derive(Drop)]
@@ -101,9 +113,7 @@ impl Table {
     pub fn waits(&self, conn: u32, tag: u16) -> bool
         ensures { result ≡ list_any (is_waiting conn tag) self.now.waiting }
     {
-        self.waiting
-            .iter()
-            .any(|w| w.conn == conn && w.tag == tag)
+        self.waiting.iter().any(|w| w.conn == conn && w.tag == tag)
     }
 
     /// How many reads of the connection wait.
@@ -137,7 +147,7 @@ impl Table {
     pub fn version(&mut self, conn: u32, msize: Option<u32>)
         ensures { self.new ≡ after_version self.old conn msize }
     {
-        self.waiting.retain(|w| w.conn != conn);
+        drop_reads_on(&mut self.waiting, conn);
         let Some(place) = place_of(self.sessions.as_slice(), conn) else {
             return;
         };
@@ -202,6 +212,6 @@ impl Table {
     pub fn done(&mut self, conn: u32, tag: u16)
         ensures { self.new ≡ after_done self.old conn tag }
     {
-        self.waiting.retain(|w| !(w.conn == conn && w.tag == tag));
+        drop_read(&mut self.waiting, conn, tag);
     }
 }
