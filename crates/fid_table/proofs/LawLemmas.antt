@@ -1,10 +1,9 @@
 -- What holds of all sessions.
-use Rattle.std.proofs.Common.{◌≡◌, ◌≢◌, ◌==◌, ◌||◌, ℕ, Bool, true, false, cond, not, List, [], ◌∷◌, filter, find, nat_eq, Option, Some, None, option_map, IsSome, IsTrue, refl, sym, ap, ◌∙◌, arith}
+use Rattle.std.proofs.Common.{◌≡◌, ◌≢◌, ℕ, Bool, true, false, cond, not, List, [], ◌∷◌, filter, find, nat_eq, Option, Some, None, option_map, IsSome, refl, sym, ap, ◌∙◌}
 use Rattle.std.proofs.lemmas.Bool.{eqb-true, ne_eqb}
 use Rattle.std.specs.List.{list_any}
 use Rattle.std.specs.Map.{lookup}
-use Rattle.fid_table.specs.Fids.{with_fid}
-use Rattle.fid_table.specs.Tables.{Tables, HasJoined, is_session, is_waiting_on, fids_in, put_in, taken_from, begun}
+use Rattle.fid_table.specs.Tables.{is_session, is_waiting_on, fids_in, put_in, taken_from, begun}
 use Rattle.fid_table.specs.Laws.{FindsWhatWasPut, ForgetsWhatWasTaken, LeavesOtherFids, DropsAllFids}
 use Rattle.fid_table.specs.declared.types.Fid.{Fid}
 use Rattle.fid_table.specs.declared.session.Session.{Session}

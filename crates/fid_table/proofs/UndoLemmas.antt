@@ -1,5 +1,5 @@
 -- Taking a growth back gives the state before it.
-use Rattle.std.proofs.Common.{◌≡◌, ◌==◌, ℕ, ◌-◌, Bool, true, false, List, [], ◌∷◌, ◌++◌, length, take, find, nat_eq, Option, Some, None, refl, sym, ap, ◌∙◌, arith, length-append}
+use Rattle.std.proofs.Common.{◌≡◌, ℕ, ◌-◌, Bool, true, false, List, [], ◌∷◌, ◌++◌, length, take, find, nat_eq, Option, Some, None, refl, sym, ap, ◌∙◌, arith, length-append}
 use Rattle.std.specs.Map.{lookup}
 use Rattle.am_text.specs.Twice.{Twice}
 use Rattle.fid_table.specs.Tables.{Tables, is_session, on_session, put_in, taken_from, fids_in, fid_of, after_join, after_put, after_wait}
@@ -7,7 +7,7 @@ use Rattle.fid_table.specs.Undo.{undone, all_undone, restored_in, unset}
 use Rattle.fid_table.specs.declared.types.Fid.{Fid}
 use Rattle.fid_table.specs.declared.session.Session.{Session}
 use Rattle.fid_table.specs.declared.undo.Undo.{Undo}
-use Rattle.fid_table.specs.declared.undo.Undo.TheVariants.{Leave, Free, Restore, Unwait}
+use Rattle.fid_table.specs.declared.undo.Undo.TheVariants.{Leave, Unwait}
 use Rattle.fid_table.proofs.FidLemmas.{put_taken, put_restored}
 
 -- the newest is the first to be taken back

@@ -1,8 +1,8 @@
 //! The sessions of all connections, in two states.
 
-ghost use Rattle.std.specs.Prelude.{◌≡◌, false, nat_eq, length, slice_get, option_copied, option_map, count_by, IfOk, OnOk, OnErr};
+ghost use Rattle.std.specs.Prelude.{◌≡◌, false, length, slice_get, option_copied, option_map, count_by, IfOk, OnOk, OnErr};
 ghost use Rattle.std.specs.List.{list_any};
-ghost use Rattle.am_text.specs.Twice.{Twice, both, IsSteady};
+ghost use Rattle.am_text.specs.Twice.{both, IsSteady};
 ghost use Rattle.fid_table.specs.Fids.{AreDistinct, seen};
 ghost use Rattle.fid_table.specs.Tables.{nothing, has_joined, HasJoined, msize_of, fids_of, fid_of, is_waiting, is_waiting_on, as_triple, after_join, after_version, after_hangup, after_put, after_take, after_wait, after_done};
 

@@ -1,6 +1,6 @@
 //! The tables of sessions and of waiting reads, in one state.
 
-ghost use Rattle.std.specs.Prelude.{◌≡◌, ◌==◌, ◌-◌, nat_eq, not, filter, take, length, slice_get, option_copied, option_map, count_by, IfOk, OnOk, OnErr};
+ghost use Rattle.std.specs.Prelude.{◌≡◌, not, filter, length, slice_get, option_copied, option_map, count_by, IfOk, OnOk, OnErr};
 ghost use Rattle.std.specs.List.{list_any};
 ghost use Rattle.fid_table.specs.Fids.{AreDistinct, seen};
 ghost use Rattle.fid_table.specs.Tables.{nothing, has_joined, msize_of, fids_of, fid_of, is_waiting, is_waiting_on, as_triple, after_join, after_version, after_put, after_take, after_wait, after_done};

@@ -1,5 +1,4 @@
 use Rattle.std.proofs.Common.{◌≡◌, ◌++◌, ◌∷◌, []}
-use Rattle.fid_table.specs.Tables.{after_join}
 use Rattle.fid_table.specs.declared.undo.Undo.TheVariants.{Leave}
 use Rattle.fid_table.proofs.UndoLemmas.{grown, join_undone}
 use Rattle.fid_table.proofs.sessions.Sessions.try_join.Goals as goal

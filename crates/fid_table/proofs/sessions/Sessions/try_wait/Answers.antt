@@ -1,5 +1,4 @@
 use Rattle.std.proofs.Common.{◌≡◌, ◌++◌, ◌∷◌, []}
-use Rattle.fid_table.specs.Tables.{after_wait}
 use Rattle.fid_table.specs.declared.undo.Undo.TheVariants.{Unwait}
 use Rattle.fid_table.proofs.UndoLemmas.{grown, wait_undone}
 use Rattle.fid_table.proofs.sessions.Sessions.try_wait.Goals as goal
