@@ -2,38 +2,29 @@
 use Rattle.std.proofs.Common.{◌≡◌, ℕ, zero, suc, ◌+◌, ◌<◌, ◌≤◌, List, [], ◌∷◌, ◌++◌, length, map, get_or, Option, Some, None, refl, sym, ap, ◌∙◌, subst, arith}
 use Rattle.std.specs.Prelude.{slice_set, slice_get, replicate}
 use Rattle.std.specs.Option.{option_map}
-use Rattle.std.proofs.lemmas.List.{map-set, map-append, get_or-set_same, length-set, length-append, replicate-append-replicate}
+use Rattle.std.proofs.lemmas.List.{map-set, map-append, get_or-set_same, length-set, length-append, length-map, replicate-append-replicate}
 use Rattle.std.proofs.lemmas.Option.{slice_get_past, slice_get-get_or, slice_get-map}
 use Rattle.std.proofs.Math.Seq.{map-set_same}
-use Rattle.am_text.specs.Room.{Room}
-use Rattle.acme_core.specs.declared.session.Session.{Session}
+use Rattle.acme_core.specs.declared.connection.Connection.{Connection}
 use Rattle.acme_core.specs.declared.window.Pane.{Pane}
 use Rattle.acme_core.specs.Panes.{windows_of, window_of}
 use Rattle.acme_core.specs.Panes as panes
 use Rattle.acme_core.specs.Windows.{Window, appended, append_to}
-use Rattle.acme_core.specs.declared.output.Reply.{Reply}
-use Rattle.acme_core.specs.Run.{output_at}
-use Rattle.acme_core.specs.Outputs.{texts_of, replies_of}
-use Rattle.acme_core.specs.Outputs as outputs
+use Rattle.acme_core.specs.declared.unsent.Reply.{Reply}
+use Rattle.acme_core.specs.Unsent.{Unsent, UnsentRoom, unsent_of, without_room, unsent_at, with_reply, nothing_unsent, replies_of}
+use Rattle.acme_core.specs.Unsent as unsent
 
 -- past the end nothing is set
-pub set_past : (xs : List Session) (k : ℕ) (x : Session) → length xs ≤ k → xs ≡ slice_set xs k x
-set_past [] k x h = refl
-set_past (y ∷ ys) zero x h = absurd (omega arith)
-set_past (y ∷ ys) (suc k) x h = ap (λ (l : List Session). y ∷ l) (set_past ys k x (omega arith))
+module _ {X : Type 0} where
+  past_end : (xs : List X) (k : ℕ) (x : X) → length xs ≤ k → xs ≡ slice_set xs k x
+  past_end [] k x h = refl
+  past_end (y ∷ ys) zero x h = absurd (omega arith)
+  past_end (y ∷ ys) (suc k) x h = ap (λ (l : List X). y ∷ l) (past_end ys k x (omega arith))
 
--- another room, the same text
-pub same_texts : (os : List (Room ℕ)) (k : ℕ) (o d : Room ℕ) → o.items ≡ (get_or os k d).items → texts_of (slice_set os k o) ≡ texts_of os
-same_texts os k o d e = map-set_same (λ (r : Room ℕ). r.items) os k o d e
+pub set_past : (xs : List Connection) (k : ℕ) (x : Connection) → length xs ≤ k → xs ≡ slice_set xs k x
+set_past xs k x h = past_end xs k x h
 
-pub room_set : (os : List (Room ℕ)) (k more : ℕ) (o : Room ℕ) → k < length os → more ≤ o.spare → outputs.HasRoomFor (slice_get (slice_set os k o) k) more
-room_set os k more o h r =
-    let within : k < length (slice_set os k o) = omega (arith, length-set os k o) in
-    let e : slice_get (slice_set os k o) k ≡ Some o = slice_get-get_or (slice_set os k o) k o within ∙ ap (λ (x : Room ℕ). Some x) (get_or-set_same os k o o h) in
-    subst (λ (x : _). outputs.HasRoomFor x more) (sym e) r
-
-pub room_past : (os : List (Room ℕ)) (k more : ℕ) → length os ≤ k → outputs.HasRoomFor (slice_get os k) more
-room_past os k more h = subst (λ (x : _). outputs.HasRoomFor x more) (sym (slice_get_past os k h)) tt
+-- ---- windows
 
 pub same_windows : (ps : List Pane) (k : ℕ) (p d : Pane) → window_of p ≡ window_of (get_or ps k d) → windows_of (slice_set ps k p) ≡ windows_of ps
 same_windows ps k p d e = map-set_same window_of ps k p d e
@@ -47,27 +38,7 @@ pane_set ps k more p h r =
 pub pane_past : (ps : List Pane) (k more : ℕ) → length ps ≤ k → panes.HasRoomFor (slice_get ps k) more
 pane_past ps k more h = subst (λ (x : _). panes.HasRoomFor x more) (sym (slice_get_past ps k h)) tt
 
-pub ruleset places = (same_texts, room_set, room_past, same_windows, pane_set, pane_past)
-
--- one empty output more
-pub more_outputs : (os : List (Room ℕ)) (o : Room ℕ) → texts_of os ≡ replicate (length os) [] → o.items ≡ [] → texts_of (os ++ o ∷ []) ≡ replicate (length (os ++ o ∷ [])) []
-more_outputs os o e h =
-    let n : length (os ++ o ∷ []) ≡ length os + 1 = length-append os (o ∷ []) in
-    let joined : map (λ (r : Room ℕ). r.items) (os ++ o ∷ []) ≡ texts_of os ++ o.items ∷ [] = map-append (λ (r : Room ℕ). r.items) os (o ∷ []) in
-    let one : List (List ℕ) = replicate (length os) [] in
-    joined ∙ ap (λ (x : List (List ℕ)). x ++ o.items ∷ []) e ∙ ap (λ (y : List ℕ). one ++ y ∷ []) h
-    ∙ replicate-append-replicate (length os) 1 [] ∙ ap (λ (x : ℕ). replicate x []) (sym n)
-
-item_at : (os : List (Room ℕ)) (k : ℕ) (d : Room ℕ) → k < length os → (get_or os k d).items ≡ output_at (texts_of os) k
-item_at [] k d h = absurd (omega arith)
-item_at (o ∷ os) zero d h = refl
-item_at (o ∷ os) (suc k) d h = item_at os k d (omega arith)
-
--- bytes put at one place
-pub put_text : (os : List (Room ℕ)) (k : ℕ) (o d : Room ℕ) (bytes : List ℕ) → k < length os → o.items ≡ (get_or os k d).items ++ bytes
-    → texts_of (slice_set os k o) ≡ slice_set (texts_of os) k (output_at (texts_of os) k ++ bytes)
-put_text os k o d bytes h e =
-    map-set (λ (r : Room ℕ). r.items) os k o ∙ ap (λ (x : List ℕ). slice_set (texts_of os) k x) (e ∙ ap (λ (x : List ℕ). x ++ bytes) (item_at os k d h))
+pub ruleset places = (same_windows, pane_set, pane_past)
 
 -- a text put at one window's end
 pub put_runes : (ps : List Pane) (k : ℕ) (p d : Pane) (text : List ℕ) → k < length ps → window_of p ≡ appended (window_of (get_or ps k d)) text
@@ -75,6 +46,44 @@ pub put_runes : (ps : List Pane) (k : ℕ) (p d : Pane) (text : List ℕ) → k 
 put_runes ps k p d text h e =
     let there : slice_get (windows_of ps) k ≡ Some (window_of (get_or ps k d)) = slice_get-map window_of ps k ∙ ap (λ (o : _). option_map window_of o) (slice_get-get_or ps k d h) in
     map-set window_of ps k p ∙ ap (λ (x : Window). slice_set (windows_of ps) k x) e ∙ ap (λ (o : Option Window). append_to (windows_of ps) k o text) (sym there)
+
+-- ---- unsent replies
+
+-- those of one connection more, which has none
+pub more_unsent : (us : List UnsentRoom) (u : UnsentRoom) → unsent_of us ≡ replicate (length us) nothing_unsent → without_room u ≡ nothing_unsent
+    → unsent_of (us ++ u ∷ []) ≡ replicate (length (us ++ u ∷ [])) nothing_unsent
+more_unsent us u e h =
+    let n : length (us ++ u ∷ []) ≡ length us + 1 = length-append us (u ∷ []) in
+    let joined : map without_room (us ++ u ∷ []) ≡ unsent_of us ++ without_room u ∷ [] = map-append without_room us (u ∷ []) in
+    let some : List Unsent = replicate (length us) nothing_unsent in
+    joined ∙ ap (λ (x : List Unsent). x ++ without_room u ∷ []) e ∙ ap (λ (y : Unsent). some ++ y ∷ []) h
+    ∙ replicate-append-replicate (length us) 1 nothing_unsent ∙ ap (λ (x : ℕ). replicate x nothing_unsent) (sym n)
+
+pub there_at : (us : List UnsentRoom) (k : ℕ) (d : UnsentRoom) → k < length us → without_room (get_or us k d) ≡ unsent_at (unsent_of us) k
+there_at [] k d h = absurd (omega arith)
+there_at (u ∷ us) zero d h = refl
+there_at (u ∷ us) (suc k) d h = there_at us k d (omega arith)
+
+pub same_unsent : (us : List UnsentRoom) (k : ℕ) (u d : UnsentRoom) → without_room u ≡ without_room (get_or us k d) → unsent_of (slice_set us k u) ≡ unsent_of us
+same_unsent us k u d e = map-set_same without_room us k u d e
+
+pub unsent_set : (us : List UnsentRoom) (k more : ℕ) (u : UnsentRoom) → k < length us → more ≤ u.spare → unsent.HasRoomFor (slice_get (slice_set us k u) k) more
+unsent_set us k more u h r =
+    let within : k < length (slice_set us k u) = omega (arith, length-set us k u) in
+    let e : slice_get (slice_set us k u) k ≡ Some u = slice_get-get_or (slice_set us k u) k u within ∙ ap (λ (x : UnsentRoom). Some x) (get_or-set_same us k u u h) in
+    subst (λ (x : _). unsent.HasRoomFor x more) (sym e) r
+
+pub unsent_past : (us : List UnsentRoom) (k more : ℕ) → length us ≤ k → unsent.HasRoomFor (slice_get us k) more
+unsent_past us k more h = subst (λ (x : _). unsent.HasRoomFor x more) (sym (slice_get_past us k h)) tt
+
+-- what stands at one place
+pub unsent_put : (us : List UnsentRoom) (k : ℕ) (u : UnsentRoom) (x : Unsent) → without_room u ≡ x → unsent_of (slice_set us k u) ≡ slice_set (unsent_of us) k x
+unsent_put us k u x e = map-set without_room us k u ∙ ap (λ (y : Unsent). slice_set (unsent_of us) k y) e
+
+pub unsent_not_put : (us : List UnsentRoom) (k : ℕ) (x : Unsent) → length us ≤ k → unsent_of us ≡ slice_set (unsent_of us) k x
+unsent_not_put us k x h = past_end (unsent_of us) k x (omega (arith, length-map us without_room))
+
+pub ruleset unsent_places = (there_at, same_unsent, unsent_set, unsent_past, unsent_put, unsent_not_put)
 
 -- there is one reply at most
 pub one_reply : (reply : Option Reply) (k : ℕ) → 0 < k → slice_get (replies_of reply) k ≡ None

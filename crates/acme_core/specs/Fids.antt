@@ -1,80 +1,51 @@
--- Fids in use: the session's table, one list over all connections.
-use Rattle.std.specs.Prelude.{ℕ, ◌<◌, Bool, true, false, ◌&&◌, ◌==◌, not, List, [], ◌∷◌, ◌++◌, map, filter, find, count_by, Option, Some, None, if◌then◌else◌}
-use Rattle.std.specs.List.{list_any}
-use Rattle.acme_core.specs.declared.fid.Fid.{Fid}
-use Rattle.acme_core.specs.declared.fid.Node.{Node}
-use Rattle.acme_core.specs.declared.fid.Node.TheVariants.{Root, Body}
-use Rattle.acme_core.specs.declared.change.Change.{Change}
-use Rattle.acme_core.specs.declared.change.Change.TheVariants as change
+-- Fids: which numbers may be given, and what a message makes of a fid.
+use Rattle.std.specs.Prelude.{ℕ, ◌-◌, ◌^◌, Bool, true, false, ◌==◌, not, nat_le, min, [], length, Option, Some, None}
+use Rattle.am_text.specs.Part.{part_of}
+use Rattle.am_text.specs.declared.part.Part.{Part}
+use Rattle.acme_tree.specs.declared.node.Node.{Node}
+use Rattle.acme_tree.specs.Access.{how}
+use Rattle.fid_table.specs.declared.types.Fid.{Fid}
+use Rattle.fid_table.specs.Tables.{Tables, fids_of, fid_of}
 
-abbrev pub is_fid : ℕ → ℕ → Fid → Bool
-is_fid conn number f = (f.conn == conn) && (f.number == number)
+-- NOFID, the number that is no fid
+abbrev pub nofid : ℕ
+nofid = 0xFFFFFFFF
 
--- the fid of that number, where it is in use
-abbrev pub fid_at : List Fid → ℕ → ℕ → Option Fid
-fid_at fids conn number = find (is_fid conn number) fids
+abbrev pub is_there : {A : Type 0} → Option A → Bool
+is_there None = false
+is_there (Some a) = true
 
-abbrev pub is_used : List Fid → ℕ → ℕ → Bool
-is_used fids conn number = list_any (is_fid conn number) fids
+abbrev pub is_used : Tables → ℕ → ℕ → Bool
+is_used tables conn number = is_there (fid_of tables conn number)
 
--- how many fids of a connection are in use
-abbrev pub fids_of : List Fid → ℕ → ℕ
-fids_of fids conn = count_by (λ f. f.conn == conn) fids
+-- a connection has 1,024 fids at most
+abbrev pub is_full : Tables → ℕ → Bool
+is_full tables conn = nat_le 1024 (length (fids_of tables conn))
 
--- an unopened fid of the root
-abbrev pub is_root : Node → Bool
-is_root Root = true
-is_root (Body w) = false
+-- a fid of a node, not opened
+abbrev pub fresh : Node → Fid
+fresh node = record { node = node; mode = None; opening = None; given = 0; skip = 0; part = part_of []; held = [] }
 
-abbrev pub stands_at_root : Option Fid → Bool
-stands_at_root None = false
-stands_at_root (Some f) = if is_root f.node then not f.opened else false
+abbrev pub is_open : Fid → Bool
+is_open fid = is_there fid.mode
 
--- the window whose body a node is
-abbrev pub window_of : Node → Option ℕ
-window_of Root = None
-window_of (Body w) = Some w
+-- the modes with which a file is read, and written
+abbrev pub is_for_reading : ℕ → Bool
+is_for_reading mode = not (how mode == 1)
 
--- the window whose body it is an opened fid of, or an unopened one
-abbrev pub body_of : Option Fid → Option ℕ
-body_of None = None
-body_of (Some f) = if f.opened then window_of f.node else None
+abbrev pub is_for_writing : ℕ → Bool
+is_for_writing mode = not (how mode == 0)
 
-abbrev pub unopened_body : Option Fid → Option ℕ
-unopened_body None = None
-unopened_body (Some f) = if f.opened then None else window_of f.node
+abbrev pub opened : Fid → ℕ → Fid
+opened fid mode = record fid { mode = Some mode }
 
--- the fids without one, without those of a connection, and with one opened
-abbrev pub without : ℕ → ℕ → List Fid → List Fid
-without conn number fids = filter (λ f. not (is_fid conn number f)) fids
+-- the bytes of a rune that a write left unfinished
+abbrev pub holding : Fid → Part → Fid
+holding fid part = record fid { part = part }
 
-abbrev pub without_all : ℕ → List Fid → List Fid
-without_all conn fids = filter (λ f. not (f.conn == conn)) fids
+-- the place in a directory at which the next read goes on; numbers end at 2^64 - 1
+abbrev pub capped : ℕ → ℕ
+capped n = min n (2 ^ 64 - 1)
 
-abbrev pub open_at : ℕ → ℕ → Fid → Fid
-open_at conn number f = if is_fid conn number f then record f { opened = true } else f
-
-abbrev pub opened : ℕ → ℕ → List Fid → List Fid
-opened conn number fids = map (open_at conn number) fids
-
--- the fids after a change
-abbrev pub fids_after : List Fid → Change → List Fid
-fids_after fids change.Nothing = fids
-fids_after fids (change.Dials conn) = fids
-fids_after fids (change.Opens conn msize) = without_all conn fids
-fids_after fids (change.Gives fid) = fids ++ fid ∷ []
-fids_after fids (change.Makes fid) = fids ++ fid ∷ []
-fids_after fids (change.OpensFid conn fid) = opened conn fid fids
-fids_after fids (change.Appends window text) = fids
-fids_after fids (change.Frees conn fid) = without conn fid fids
-
--- a list of so many fids, for which there is so much room, has room for what a change gives
-abbrev pub HasFidRoom : ℕ → ℕ → Change → Type 0
-HasFidRoom len capacity change.Nothing = Unit {0}
-HasFidRoom len capacity (change.Dials conn) = Unit {0}
-HasFidRoom len capacity (change.Opens conn msize) = Unit {0}
-HasFidRoom len capacity (change.Gives fid) = len < capacity
-HasFidRoom len capacity (change.Makes fid) = len < capacity
-HasFidRoom len capacity (change.OpensFid conn fid) = Unit {0}
-HasFidRoom len capacity (change.Appends window text) = Unit {0}
-HasFidRoom len capacity (change.Frees conn fid) = Unit {0}
+abbrev pub placed : Fid → ℕ → ℕ → Fid
+placed fid given skip = record fid { given = capped given; skip = capped skip }

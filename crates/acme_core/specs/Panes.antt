@@ -1,7 +1,8 @@
 -- The windows that the editor keeps, with the room for what they will get.
-use Rattle.std.specs.Prelude.{ℕ, ◌<◌, ◌≤◌, ◌-◌, List, length, map, slice_get, Option, Some, None}
-use Rattle.acme_core.specs.declared.change.Change.{Change}
-use Rattle.acme_core.specs.declared.change.Change.TheVariants as change
+use Rattle.std.specs.Prelude.{◌≡◌, ℕ, Bool, true, false, [], ◌∷◌, ◌++◌, ◌<◌, ◌≤◌, ◌-◌, List, length, map, slice_get, Option, Some, None}
+use Rattle.acme_core.specs.declared.effect.Effect.{Effect}
+use Rattle.acme_core.specs.declared.effect.Effect.TheVariants as effect
+use Rattle.acme_core.specs.declared.window.Trees.{Trees}
 use Rattle.acme_core.specs.declared.window.Pane.{Pane}
 use Rattle.acme_core.specs.Windows.{Window}
 
@@ -17,13 +18,16 @@ abbrev pub HasRoomFor : Option Pane → ℕ → Type 0
 HasRoomFor None more = Unit {0}
 HasRoomFor (Some pane) more = more ≤ pane.text.spare
 
--- the windows, of which there is room for so many, have room for what a change puts
-abbrev pub HasPaneRoom : List Pane → ℕ → Change → Type 0
-HasPaneRoom panes capacity change.Nothing = Unit {0}
-HasPaneRoom panes capacity (change.Dials conn) = Unit {0}
-HasPaneRoom panes capacity (change.Opens conn msize) = Unit {0}
-HasPaneRoom panes capacity (change.Gives fid) = Unit {0}
-HasPaneRoom panes capacity (change.Makes fid) = length panes < capacity
-HasPaneRoom panes capacity (change.OpensFid conn fid) = Unit {0}
-HasPaneRoom panes capacity (change.Appends w text) = HasRoomFor (slice_get panes (w - 1)) (length text)
-HasPaneRoom panes capacity (change.Frees conn fid) = Unit {0}
+-- the windows have room for what a message puts
+abbrev pub HasTextRoom : List Pane → Effect → Type 0
+HasTextRoom panes effect.Nothing = Unit {0}
+HasTextRoom panes (effect.Begins msize) = Unit {0}
+HasTextRoom panes (effect.Puts number fid) = Unit {0}
+HasTextRoom panes (effect.Makes number fid) = Unit {0}
+HasTextRoom panes (effect.Appends number fid w text) = HasRoomFor (slice_get panes (w - 1)) (length text)
+HasTextRoom panes (effect.Frees number) = Unit {0}
+
+-- there is room for a window more among so many, and the numbers that the tree then lists are ready
+abbrev pub HasWindowRoom : Bool → ℕ → ℕ → Trees → Type 0
+HasWindowRoom false len capacity trees = Unit {0}
+HasWindowRoom true len capacity trees = (len < capacity) × (trees.longer ≡ Some (trees.world.windows ++ trees.world.next ∷ []))

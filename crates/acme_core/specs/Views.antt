@@ -1,24 +1,24 @@
 -- What the report tells of the editor after a journal.
-use Rattle.std.specs.Prelude.{ℕ, ◌+◌, List, [], ◌∷◌, length, Option, None}
-use Rattle.am_text.specs.declared.range.Range.{Range}
+use Rattle.std.specs.Prelude.{ℕ, ◌+◌, List, [], ◌∷◌, length, Option, Some, None}
 use Rattle.am_journal.specs.declared.event.Event.{Event}
 use Rattle.am_journal.specs.declared.view.ConnView.{ConnView}
 use Rattle.am_journal.specs.declared.view.WindowView.{WindowView}
 use Rattle.am_journal.specs.declared.view.View.{View}
-use Rattle.acme_core.specs.declared.session.Session.{Session}
-use Rattle.acme_core.specs.declared.session.Session.TheVariants.{Undialed, Dialed, Open}
+use Rattle.am_journal.specs.declared.ending.Ending.{Ending}
+use Rattle.acme_core.specs.declared.connection.Connection.{Connection}
+use Rattle.acme_core.specs.declared.connection.Connection.TheVariants.{Undialed, Live, Ended}
 use Rattle.acme_core.specs.Windows.{Window}
 use Rattle.acme_core.specs.Run.{State, run}
 
-abbrev pub live_conn : ℕ → ConnView
-live_conn c = record { conn = c; ending = None }
+abbrev pub conn_view : ℕ → Option Ending → ConnView
+conn_view c ending = record { conn = c; ending = ending }
 
 -- the dialled connections, of which the first has this number
-unfoldable pub conn_views : ℕ → List Session → List ConnView
+unfoldable pub conn_views : ℕ → List Connection → List ConnView
 conn_views c [] = []
-conn_views c (Undialed ∷ ss) = conn_views (c + 1) ss
-conn_views c (Dialed ∷ ss) = live_conn c ∷ conn_views (c + 1) ss
-conn_views c (Open msize ∷ ss) = live_conn c ∷ conn_views (c + 1) ss
+conn_views c (Undialed ∷ cs) = conn_views (c + 1) cs
+conn_views c (Live ∷ cs) = conn_view c None ∷ conn_views (c + 1) cs
+conn_views c (Ended why ∷ cs) = conn_view c (Some why) ∷ conn_views (c + 1) cs
 
 -- a window: dot stays at the front of its body, and it has no name
 abbrev pub window_view : ℕ → Window → WindowView
@@ -30,7 +30,7 @@ window_views w [] = []
 window_views w (window ∷ ws) = window_view w window ∷ window_views (w + 1) ws
 
 abbrev pub view_at : ℕ → State → View
-view_at entries s = record { entries = entries; conns = conn_views 0 s.sessions; windows = window_views 1 s.windows }
+view_at entries s = record { entries = entries; conns = conn_views 0 s.connections; windows = window_views 1 s.windows }
 
 unfoldable pub view_of : List Event → View
 view_of journal = view_at (length journal) (run journal)

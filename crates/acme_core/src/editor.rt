@@ -2,31 +2,17 @@
 
 ghost use Rattle.std.specs.Prelude.{◌≡◌, ◌<◌, ◌≤◌, ◌+◌, ◌^◌, ◌++◌, ◌∷◌, [], Some, None, length, slice_get, IsSome, OnSome, IfOk, IfSome, OnOk, OnErr, IfErr, MatchOption};
 ghost use Rattle.am_journal.specs.Lawful.{IsLawful};
-ghost use Rattle.ninep_wire.specs.Spelling.{Fits_t};
-ghost use Rattle.acme_core.specs.Outputs.{replies_of};
-ghost use Rattle.acme_core.specs.Parts.{state_of};
-ghost use Rattle.acme_core.specs.Run.{change_of, replies_to, reply_to, deed_at, enabled, run, output_at, Refuses, settled, ready};
+ghost use Rattle.acme_core.specs.Run.{enabled, run, output_at, Refuses, IsHang, IsWhy, settled, ready};
 ghost use Rattle.acme_core.specs.Views.{view_of};
 
-use crate::answer::deed_of;
-use crate::change::{Change, Deed};
-use crate::output::{Reply, output_of, reply_at};
 use crate::parts::Parts;
-use crate::session::why_not;
+use crate::planning::{Prepared, prepare};
+use crate::unsent::{output_of, reply_at};
 use crate::view::view_of;
 use am_journal::{Event, Journal, Refused, View};
 use am_text::{NoMemory, Roomy};
-use ninep_wire::{RMsg, TMsg, write_r};
 use std::alloc::Global;
 use std::marker::Model;
-
-/// An event with all that its step will do, made ready beforehand.
-#[derive(Drop)]
-pub struct Prepared {
-    pub event: Event,
-    pub change: Change,
-    pub reply: Option<Reply>,
-}
 
 /// An editor of one thread. Its journal tells all that it is.
 #[derive(Drop)]
@@ -52,7 +38,7 @@ impl Model for Core {
 /// A plan that can be committed, by the number that its entry will have.
 #[derive(Drop)]
 pub struct Plan {
-    number: u64,
+    before: usize,
 }
 
 impl Model for Plan {
@@ -60,49 +46,9 @@ impl Model for Plan {
 
     ghost Value = { ℕ };
 
-    ghost view = { λ p. p.number };
-}
+    ghost use Rattle.std.specs.Prelude.{◌+◌};
 
-fn reply_of(
-    alloc: Global,
-    parts: &Parts,
-    conn: u32,
-    msg: &TMsg,
-) -> Result<(Change, Option<Reply>), NoMemory>
-    requires { Fits_t msg.now }
-    ensures { IfOk result (λ made. (made.0 ≡ (deed_at (state_of parts.now) conn msg.now).change)
-        × (replies_of made.1 ≡ reply_to conn msg.now (deed_at (state_of parts.now) conn msg.now).answer ∷ [])) }
-{
-    let Deed { change, answer } = deed_of(
-        alloc,
-        &parts.sessions,
-        &parts.fids,
-        &parts.panes,
-        conn,
-        &msg.body,
-    )?;
-    let message = RMsg {
-        tag: msg.tag,
-        body: answer,
-    };
-    let bytes = write_r(alloc, &message)?;
-    Ok((change, Some(Reply { conn, bytes })))
-}
-
-// What the step of an enabled event will do.
-fn effect_of(
-    alloc: Global,
-    parts: &Parts,
-    event: &Event,
-) -> Result<(Change, Option<Reply>), NoMemory>
-    requires { IsLawful event.now }
-    ensures { IfOk result (λ made. (made.0 ≡ change_of (state_of parts.now) event.now)
-        × (replies_of made.1 ≡ replies_to (state_of parts.now) event.now)) }
-{
-    match event {
-        Event::Dial { conn } => Ok((Change::Dials { conn: *conn }, None)),
-        Event::Msg { conn, msg } => reply_of(alloc, parts, *conn, msg),
-    }
+    ghost view = { λ p. p.before + 1 };
 }
 
 impl Core {
@@ -127,22 +73,14 @@ impl Core {
         ensures ready { OnOk result (self.new ≡ ready self.old.journal event) }
         ensures refused { IfErr result (λ e. Refuses e (enabled self.old.journal event)) }
         ensures err { OnErr result (self.new ≡ settled self.old.journal) }
+        // A hang-up is never refused for memory.
+        ensures hang { IsHang event → IfErr result IsWhy }
     {
         self.prepared = None;
-        if let Some(why) = why_not(&self.parts.sessions, &event) {
-            return Err(Refused::NotEnabled(why));
-        }
-        let (change, reply) = effect_of(self.alloc, &self.parts, &event)?;
-        self.parts.reserve(&change, &reply)?;
-        self.journal.reserve(1)?;
-        self.prepared = Some(Prepared {
-            event,
-            change,
-            reply,
-        });
-        Ok(Plan {
-            number: self.journal.len() as u64 + 1,
-        })
+        let before = self.journal.len();
+        let prepared = prepare(self.alloc, &mut self.journal, &mut self.parts, event)?;
+        self.prepared = Some(prepared);
+        Ok(Plan { before })
     }
 
     /// Does the step of the last plan, and answers the number of its entry. It takes no memory.
@@ -152,18 +90,18 @@ impl Core {
         ensures new { IfSome self.old.planned (λ event. self.new ≡ settled (self.old.journal ++ event ∷ [])) }
         ensures number { result ≡ length self.new.journal }
     {
-        let Plan { number } = plan;
+        let Plan { .. } = plan;
         let Some(prepared) = self.prepared.take() else {
             unreachable!()
         };
         let Prepared {
             event,
-            change,
+            effect,
             reply,
         } = prepared;
-        self.parts.apply(self.alloc, &change, reply);
+        self.parts.apply(self.alloc, &event, &effect, reply);
         self.journal.put(event);
-        number
+        self.journal.len() as u64
     }
 
     /// Does an event, if it is enabled, and answers the number of its entry. A refusal changes nothing.
@@ -173,6 +111,8 @@ impl Core {
         ensures done { OnOk result (self.new ≡ settled (self.old.journal ++ event ∷ [])) }
         ensures refused { IfErr result (λ e. Refuses e (enabled self.old.journal event)) }
         ensures err { OnErr result (self.new ≡ settled self.old.journal) }
+        // A hang-up is never refused for memory.
+        ensures hang { IsHang event → IfErr result IsWhy }
     {
         let plan = self.plan(event)?;
         Ok(self.commit(plan))
@@ -180,9 +120,9 @@ impl Core {
 
     /// The unsent replies of a connection, as bytes. There are none where it was never dialled.
     pub fn output(&self, conn: u32) -> &[u8]
-        ensures { result.now ≡ output_at (run self.now.journal).outputs conn }
+        ensures { result.now ≡ output_at self.now.journal conn }
     {
-        output_of(&self.parts.outputs, conn)
+        output_of(&self.parts.unsent, conn)
     }
 
     /// The replies that the last entry made, in order: the connection and the bytes of number `k`.

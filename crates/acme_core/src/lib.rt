@@ -2,21 +2,34 @@
 #![tactic(auto)]
 
 mod answer;
-mod change;
+mod attach;
+mod connection;
+mod content;
+mod directory;
 mod editor;
-mod fid;
-mod output;
+mod effect;
+mod enabled;
+mod fids;
+mod laws;
+mod open;
 mod parts;
-mod session;
+mod planning;
+mod read;
+mod refusal;
+mod size;
 #[cfg(test)]
 mod tests;
+mod unsent;
 mod view;
+mod walk;
 mod window;
+mod write;
 
 pub use am_journal::{
     ConnView, ConnViews, Event, Journal, Refused, View, Why, WindowView, WindowViews,
 };
 pub use am_text::{Bytes, Items, NoMemory, Range, Rune, Runes};
 pub use editor::{Core, Plan};
+pub use laws::messages_are_answered;
 pub use ninep_wire::{RBody, RMsg, TBody, TMsg};
-pub use output::Reply;
+pub use unsent::Reply;

@@ -46,3 +46,23 @@ fn plan_and_commit(rt: HostRuntime) -> Result<(), Fail> {
     assert_eq!(rt; core.into_journal().len(), 1);
     Ok(())
 }
+
+#[test]
+fn connections_end(rt: HostRuntime) -> Result<(), Fail> {
+    let alloc = rt.alloc();
+    let mut core = Core::new(alloc)?;
+    assert_eq!(rt; step(alloc, &mut core, b"dial 3"), 1);
+    assert_eq!(rt; step(alloc, &mut core, b"took 3"), 0);
+    let version = b"msg 3 1300000064ffff002000000600395032303030";
+    assert_eq!(rt; step(alloc, &mut core, version), 2);
+    assert_eq!(rt; step(alloc, &mut core, b"hang 3 torn"), 3);
+    assert_eq!(rt; step(alloc, &mut core, version), 0);
+    assert_eq!(rt; core.output(3).len(), 19);
+    assert_eq!(rt; step(alloc, &mut core, b"took 3"), 4);
+    assert_eq!(rt; core.output(3).len(), 0);
+    assert_eq!(rt; step(alloc, &mut core, b"new"), 5);
+    let view = core.view()?;
+    assert_eq!(rt; (view.conns.len(), view.windows.len()), (1, 1));
+    messages_are_answered();
+    Ok(())
+}

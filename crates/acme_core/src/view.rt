@@ -5,26 +5,29 @@ ghost use Rattle.acme_core.specs.Panes.{windows_of, window_of};
 ghost use Rattle.acme_core.specs.Parts.{state_of};
 ghost use Rattle.acme_core.specs.Views.{conn_views, window_views, window_view, view_at};
 
+use crate::connection::Connection;
 use crate::parts::Parts;
-use crate::session::Session;
 use crate::window::Pane;
 use am_journal::{ConnView, ConnViews, View, WindowView, WindowViews};
 use am_text::{Items, NoMemory, Range};
 use std::alloc::Global;
 
 #[tactic(auto, using(crate::proofs::Viewed::viewing), unfolding(crate::specs::Views::conn_views))]
-fn conn_views(alloc: Global, sessions: &[Session]) -> Result<ConnViews, NoMemory>
-    requires { length sessions.now < 2 ^ 32 }
-    ensures { IfOk result (λ views. views ≡ conn_views 0 sessions.now) }
+fn conn_views(alloc: Global, connections: &[Connection]) -> Result<ConnViews, NoMemory>
+    requires { length connections.now < 2 ^ 32 }
+    ensures { IfOk result (λ views. views ≡ conn_views 0 connections.now) }
 {
     let mut views = Items::new(alloc);
-    let mut rest = sessions;
+    let mut rest = connections;
     let mut conn: u32 = 0;
-    while let [session, after @ ..] = rest {
-        match session {
-            Session::Undialed => {}
-            Session::Dialed => views.push(ConnView { conn, ending: None })?,
-            Session::Open(_) => views.push(ConnView { conn, ending: None })?,
+    while let [connection, after @ ..] = rest {
+        match connection {
+            Connection::Undialed => {}
+            Connection::Live => views.push(ConnView { conn, ending: None })?,
+            Connection::Ended(why) => views.push(ConnView {
+                conn,
+                ending: Some(*why),
+            })?,
         }
         rest = after;
         conn += 1;
@@ -62,13 +65,13 @@ fn window_views(alloc: Global, panes: &[Pane]) -> Result<WindowViews, NoMemory>
 
 /// The view of the tables after so many entries.
 pub(crate) fn view_of(alloc: Global, entries: u64, parts: &Parts) -> Result<View, NoMemory>
-    requires conns { length parts.now.sessions.items ≡ 64 }
+    requires conns { length parts.now.connections.items ≡ 64 }
     requires few { length parts.now.panes.items ≤ 4096 }
     ensures { IfOk result (λ view. view ≡ view_at entries (state_of parts.now)) }
 {
     Ok(View {
         entries,
-        conns: conn_views(alloc, &parts.sessions)?,
+        conns: conn_views(alloc, &parts.connections)?,
         windows: window_views(alloc, &parts.panes)?,
     })
 }

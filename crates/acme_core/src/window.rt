@@ -1,11 +1,13 @@
 //! Windows and the texts of their bodies.
 
-ghost use Rattle.std.specs.Prelude.{◌≡◌, ◌==◌, ◌||◌, not, ◌<◌, ◌≤◌, ◌+◌, ◌-◌, ◌++◌, ◌∷◌, [], length, map, slice_get, IfOk, OnOk, vec_capacity};
-ghost use Rattle.acme_core.specs.Windows.{text_at, windows_after, append_to, new_window};
-ghost use Rattle.acme_core.specs.Panes.{windows_of, window_of, HasPaneRoom, HasRoomFor};
+ghost use Rattle.std.specs.Prelude.{◌≡◌, ◌==◌, ◌||◌, not, ◌<◌, ◌≤◌, ◌+◌, ◌-◌, ◌++◌, ◌∷◌, [], length, map, slice_get, IfOk, OnOk, vec_len, vec_capacity, ◌^◌};
+ghost use Rattle.acme_core.specs.Windows.{text_at, edited, append_to, new_window, makes_window, is_making, with_new, world_of, world_after};
+ghost use Rattle.acme_core.specs.Panes.{windows_of, window_of, HasTextRoom, HasWindowRoom, HasRoomFor};
 
-use crate::change::Change;
-use am_text::{NoMemory, Roomy, Rune};
+use crate::effect::Effect;
+use acme_tree::World;
+use am_journal::Event;
+use am_text::{Ids, Items, NoMemory, Roomy, Rune};
 use std::alloc::Global;
 
 /// A window: the text of its body, and whether it is modified.
@@ -43,24 +45,19 @@ fn reserve_text(panes: &mut [Pane], place: usize, more: usize) -> Result<(), NoM
     Ok(())
 }
 
-/// Makes room for what a change puts.
-pub(crate) fn reserve_panes(panes: &mut Vec<Pane>, change: &Change) -> Result<(), NoMemory>
-    ensures windows { windows_of panes.new.items ≡ windows_of panes.old.items }
-    ensures room { OnOk result (HasPaneRoom panes.new.items (vec_capacity panes.new) change.now) }
+/// Makes room for what a message puts.
+pub(crate) fn reserve_edit(panes: &mut [Pane], effect: &Effect) -> Result<(), NoMemory>
+    ensures windows { windows_of panes.new ≡ windows_of panes.old }
+    ensures room { OnOk result (HasTextRoom panes.new effect.now) }
 {
-    match change {
-        Change::Nothing => {}
-        Change::Dials { .. } => {}
-        Change::Opens { .. } => {}
-        Change::Gives { .. } => {}
-        Change::Makes { .. } => panes.reserve(1)?,
-        Change::OpensFid { .. } => {}
-        Change::Appends { window, text } => {
-            reserve_text(panes.as_mut_slice(), place_of(*window), text.len())?
-        }
-        Change::Frees { .. } => {}
+    match effect {
+        Effect::Appends { window, text, .. } => reserve_text(panes, place_of(*window), text.len()),
+        Effect::Nothing => Ok(()),
+        Effect::Begins { .. } => Ok(()),
+        Effect::Puts { .. } => Ok(()),
+        Effect::Makes { .. } => Ok(()),
+        Effect::Frees { .. } => Ok(()),
     }
-    Ok(())
 }
 
 // An empty text is no edit.
@@ -91,21 +88,104 @@ fn new_pane(alloc: Global) -> Pane
     }
 }
 
-/// Does a change to the windows. It takes no memory.
-pub(crate) fn change_panes(alloc: Global, panes: &mut Vec<Pane>, change: &Change)
-    requires { HasPaneRoom panes.old.items (vec_capacity panes.old) change.now }
-    ensures { windows_of panes.new.items ≡ windows_after (windows_of panes.old.items) change.now }
+/// Does to a window's text what a message does. It takes no memory.
+pub(crate) fn edit(panes: &mut [Pane], effect: &Effect)
+    requires { HasTextRoom panes.old effect.now }
+    ensures { windows_of panes.new ≡ edited (windows_of panes.old) effect.now }
 {
-    match change {
-        Change::Nothing => {}
-        Change::Dials { .. } => {}
-        Change::Opens { .. } => {}
-        Change::Gives { .. } => {}
-        Change::Makes { .. } => panes.push_reserved(new_pane(alloc)),
-        Change::OpensFid { .. } => {}
-        Change::Appends { window, text } => {
-            append(panes.as_mut_slice(), place_of(*window), text.as_slice())
+    match effect {
+        Effect::Appends { window, text, .. } => append(panes, place_of(*window), text.as_slice()),
+        Effect::Nothing => {}
+        Effect::Begins { .. } => {}
+        Effect::Puts { .. } => {}
+        Effect::Makes { .. } => {}
+        Effect::Frees { .. } => {}
+    }
+}
+
+/// Whether a window is made.
+pub(crate) fn makes_window(event: &Event, effect: &Effect) -> bool
+    ensures { result ≡ makes_window event.now effect.now }
+{
+    match event {
+        Event::New => true,
+        Event::Msg { .. } => is_making(effect),
+        Event::Dial { .. } => false,
+        Event::Hang { .. } => false,
+        Event::Took { .. } => false,
+    }
+}
+
+fn is_making(effect: &Effect) -> bool
+    ensures { result ≡ is_making effect.now }
+{
+    match effect {
+        Effect::Makes { .. } => true,
+        Effect::Nothing => false,
+        Effect::Begins { .. } => false,
+        Effect::Puts { .. } => false,
+        Effect::Appends { .. } => false,
+        Effect::Frees { .. } => false,
+    }
+}
+
+/// What the trees are made of, and the windows' numbers with one more, where one is to be made.
+#[derive(Drop)]
+pub struct Trees {
+    pub world: World,
+    pub longer: Option<Ids>,
+}
+
+impl Trees {
+    /// No window, and the ports that are there from the start.
+    pub(crate) fn new(alloc: Global) -> Result<Trees, NoMemory>
+        ensures { IfOk result (λ trees. trees.world ≡ world_of []) }
+    {
+        let mut ports = Items::new(alloc);
+        ports.push(Items::copied(alloc, b"edit")?)?;
+        Ok(Trees {
+            world: World {
+                windows: Items::new(alloc),
+                ports,
+                next: 1,
+            },
+            longer: None,
+        })
+    }
+}
+
+/// Makes room for a window.
+pub(crate) fn reserve_window(
+    alloc: Global,
+    panes: &mut Vec<Pane>,
+    trees: &mut Trees,
+    makes: bool,
+) -> Result<(), NoMemory>
+    ensures panes { panes.new.items ≡ panes.old.items }
+    ensures world { trees.new.world ≡ trees.old.world }
+    ensures room { OnOk result (HasWindowRoom makes (vec_len panes.new) (vec_capacity panes.new) trees.new) }
+{
+    if makes {
+        panes.reserve(1)?;
+        let mut longer = Items::copied(alloc, trees.world.windows.as_slice())?;
+        longer.push(trees.world.next)?;
+        trees.longer = Some(longer);
+    }
+    Ok(())
+}
+
+/// Makes a window, if one is to be made. It takes no memory.
+pub(crate) fn make_window(alloc: Global, panes: &mut Vec<Pane>, trees: &mut Trees, makes: bool)
+    requires room { HasWindowRoom makes (vec_len panes.old) (vec_capacity panes.old) trees.old }
+    requires few { trees.old.world.next + 1 < 2 ^ 32 }
+    ensures windows { windows_of panes.new.items ≡ with_new makes (windows_of panes.old.items) }
+    ensures world { trees.new.world ≡ world_after makes trees.old.world }
+{
+    if makes {
+        panes.push_reserved(new_pane(alloc));
+        if let Some(longer) = trees.longer.take() {
+            trees.world.windows = longer;
         }
-        Change::Frees { .. } => {}
+        trees.world.next += 1;
     }
 }

@@ -8,7 +8,7 @@ use Rattle.am_journal.specs.declared.event.Why.{Why}
 use Rattle.am_journal.specs.Line.{event_of}
 use Rattle.am_journal.specs.Report.{report_text}
 use Rattle.am_journal.specs.Texts.{reply_text, refused_text, word_of}
-use Rattle.acme_core.specs.declared.output.Reply.{Reply}
+use Rattle.acme_core.specs.declared.unsent.Reply.{Reply}
 use Rattle.acme_core.specs.Run.{State, start, step, enabled}
 use Rattle.acme_core.specs.Views.{view_of}
 

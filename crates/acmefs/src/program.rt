@@ -2,12 +2,14 @@
 
 ghost use Rattle.std.specs.Prelude.{◌≡◌, [], true, false, IfSome};
 ghost use Rattle.am_base.specs.Outside.{HasRisen};
+ghost use Rattle.acme_core.specs.Laws.{EachIsAnswered};
 ghost use Rattle.acmefs.specs.declared.replay.End.TheVariants.{Done, Script, WriteFault, NoMemory};
 ghost use Rattle.acmefs.specs.Scripts.{script_of};
 ghost use Rattle.acmefs.specs.Written.{seen};
 ghost use Rattle.acmefs.specs.Ends.{are_replay, Says, ProgramSays, IsIdle, RanTold, IsComplete, code_of};
 
 use crate::replay::{End, Ended, ReplayEnd, code, no_events, replay};
+use acme_core::messages_are_answered;
 use am_base::{Gate, Host, Link, Sink, Source};
 use am_journal::{Ending, Journal};
 use am_text::{Bytes, Items, Words};
@@ -108,8 +110,12 @@ pub fn acmefs<I: Source, O: Sink, H: Host>(
     // The same of any input, also of one that doesn't tell its bytes: some bytes were replayed so.
     ensures headline { (end : _) × (result.status ≡ code_of end)
         × ProgramSays (are_replay words.now) end (I.left input.old) (I.left input.new) (I.faults input.old) (I.faults input.new) (seen (O.held output.old) (O.held output.new) (O.faults output.old) (O.faults output.new)) result.journal }
+    // Each message of the journal is answered by its own R message, unless one of the named refusals applies, whose
+    // text is answered then.
+    ensures answered { EachIsAnswered }
     ensures served { result.served ≡ [] }
 {
+    messages_are_answered();
     let ended = run(alloc, words, input, output);
     Outcome {
         status: code(ended.end),

@@ -88,7 +88,7 @@ fn pieces(rt: HostRuntime) -> Result<(), Fail> {
 }
 
 #[test]
-fn empty_and_unserved(rt: HostRuntime) -> Result<(), Fail> {
+fn empty_and_refused(rt: HostRuntime) -> Result<(), Fail> {
     let alloc = rt.alloc();
     let words = replay_word(alloc)?;
     let empty = show(alloc, &words, b"", 100, &[], &[])?;
@@ -96,10 +96,10 @@ fn empty_and_unserved(rt: HostRuntime) -> Result<(), Fail> {
     assert_eq!(rt; empty.sink.held(), report.as_slice());
     assert_eq!(rt; (empty.status, empty.entries), (0, 0));
     let clunk = b"dial 0\nmsg 0 0b00000078010009000000\n";
-    let unserved = show(alloc, &words, clunk, 100, &[], &[])?;
-    let out = b"reply 0 170000006b01000e006e6f742073657276656420796574
+    let refused = show(alloc, &words, clunk, 100, &[], &[])?;
+    let out = b"reply 0 160000006b01000d0076657273696f6e206669727374
 report\njournal 2\nconnections 1\nconnection 0 live\nwindows 0\nitems 0\nrequests 0\n";
-    assert_eq!(rt; unserved.sink.held(), out.as_slice());
+    assert_eq!(rt; refused.sink.held(), out.as_slice());
     Ok(())
 }
 

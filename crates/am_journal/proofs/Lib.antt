@@ -2,4 +2,5 @@ pub mod Joined
 pub mod Hex
 pub mod HexLaws
 pub mod FieldWords
+pub mod CauseLaws
 pub mod LineLaws

@@ -12,9 +12,13 @@ use Rattle.am_journal.specs.declared.event.Event.{Event}
 use Rattle.am_journal.specs.declared.event.Event.TheVariants as event
 use Rattle.am_journal.specs.Hexadecimal.{hex_of, bytes_of_hex}
 use Rattle.am_journal.specs.Lawful.{IsLawful, IsInRange, AreBytes}
-use Rattle.am_journal.specs.Line.{dial_line, msg_line, line_text, first_field, after_field, conn_at, dial_from, dial_at, msg_read, msg_from, msg_at, after_front, with_front, event_of}
+use Rattle.am_journal.specs.declared.ending.Ending.{Ending}
+use Rattle.am_journal.specs.declared.ending.Ending.TheVariants as ending
+use Rattle.am_journal.specs.Causes.{cause, ending_of}
+use Rattle.am_journal.specs.Line.{dial_line, msg_line, hang_line, took_line, new_line, line_text, first_field, after_field, conn_at, dial_from, dial_at, msg_read, msg_from, msg_at, hang_from, hang_at, took_from, took_at, new_at, after_front, with_front, event_of}
 use Rattle.am_journal.specs.Parts.{around}
 use Rattle.am_journal.proofs.HexLaws.{hex-again, hex-is}
+use Rattle.am_journal.proofs.CauseLaws.{ending-again, ending-is}
 use Rattle.am_journal.proofs.FieldWords.{decimal-visible, first-is, after-is, field-split, conn-again, conn-is, front-is}
 
 -- ---- what is spelled is read
@@ -32,10 +36,21 @@ msg-again c m h k =
     ∙ ap (msg_from (Some c)) (hex-again (spelling_t m) k.2)
     ∙ msg_from-again c m h k
 
+hang-again : (c : ℕ) (why : Ending) → c < 64 → hang_at (decimal c ++ 32 ∷ cause why) ≡ Some (event.Hang c why)
+hang-again c why h =
+    let seen = decimal-visible c (omega (arith, h)) in
+    ap (λ (l : List ℕ). hang_from (conn_at l) (ending_of (after_field (decimal c ++ 32 ∷ cause why)))) (first-is (decimal c) (cause why) seen)
+    ∙ ap (λ (l : List ℕ). hang_from (conn_at (decimal c)) (ending_of l)) (after-is (decimal c) (cause why) seen)
+    ∙ ap (λ (o : Option ℕ). hang_from o (ending_of (cause why))) (conn-again c h)
+    ∙ ap (hang_from (Some c)) (ending-again why)
+
 pub line-again : (e : Event) → IsLawful e → IsInRange e → event_of (line_text e) ≡ Some e
-unfolding event_of dial_line msg_line around
+unfolding event_of dial_line msg_line hang_line took_line new_line around
 line-again (event.Dial c) h k = ap dial_from (conn-again c h)
 line-again (event.Msg c m) h k = ap msg_at (append_assoc (decimal c) (32 ∷ []) (hex_of (spelling_t m))) ∙ msg-again c m h k
+line-again (event.Hang c why) h k = ap hang_at (append_assoc (decimal c) (32 ∷ []) (cause why)) ∙ hang-again c why h
+line-again (event.Took c) h k = ap took_from (conn-again c h)
+line-again event.New h k = refl
 
 -- ---- what is read is spelled so
 
@@ -132,17 +147,110 @@ dial-is bs rest e front h =
     subst (Found bs) d.is
     (record { lawful = conn.0; in_range = omega (arith, conn.0); spelled = front ∙ ap (λ (l : List ℕ). codes "dial " ++ l) conn.1 ∙ dial_line-is d.conn })
 
+-- ---- hang-ups, what is taken, new windows
+
+record Hangs (o : Option ℕ) (w : Option Ending) (e : Event) : Type 0 where
+  conn : ℕ
+  why : Ending
+  conn-is : o ≡ Some conn
+  why-is : w ≡ Some why
+  is : event.Hang conn why ≡ e
+
+hangs_some : (o : Option ℕ) (w : Option Ending) (e : Event) → hang_from o w ≡ Some e → Hangs o w e
+hangs_some None w e h = absurd cc
+hangs_some (Some c) None e h = absurd cc
+hangs_some (Some c) (Some why) e h = record { conn = c; why = why; conn-is = refl; why-is = refl; is = event_is (event.Hang c why) e h }
+
+cause_some : (why : Ending) → 0 < length (cause why)
+cause_some ending.End = omega arith
+cause_some ending.Torn = omega arith
+cause_some ending.ReadFault = omega arith
+cause_some (ending.Broken b) = omega arith
+cause_some ending.Spent = omega arith
+cause_some ending.Gone = omega arith
+cause_some ending.NoMemory = omega arith
+
+hang_line-is : (c : ℕ) (why : Ending) → codes "hang " ++ (decimal c ++ 32 ∷ cause why) ≡ hang_line c why
+unfolding hang_line around
+hang_line-is c why = ap (λ (l : List ℕ). codes "hang " ++ l) (sym (append_assoc (decimal c) (32 ∷ []) (cause why)))
+
+hang-is : (bs rest : List ℕ) (e : Event) → bs ≡ codes "hang " ++ rest → hang_at rest ≡ Some e → Found bs e
+hang-is bs rest e front h =
+    let p = hangs_some (conn_at (first_field rest)) (ending_of (after_field rest)) e h in
+    let conn = conn-is (first_field rest) p.conn p.conn-is in
+    let words : after_field rest ≡ cause p.why = ending-is (after_field rest) p.why p.why-is in
+    let text = msg_text-is rest (cause p.why) p.conn conn.1 words (cause_some p.why) in
+    subst (Found bs) p.is
+    (record {
+      lawful = conn.0;
+      in_range = omega (arith, conn.0);
+      spelled = front ∙ ap (λ (l : List ℕ). codes "hang " ++ l) text ∙ hang_line-is p.conn p.why;
+    })
+
+record Takes (o : Option ℕ) (e : Event) : Type 0 where
+  conn : ℕ
+  conn-is : o ≡ Some conn
+  is : event.Took conn ≡ e
+
+takes_some : (o : Option ℕ) (e : Event) → took_from o ≡ Some e → Takes o e
+takes_some None e h = absurd cc
+takes_some (Some c) e h = record { conn = c; conn-is = refl; is = event_is (event.Took c) e h }
+
+took_line-is : (c : ℕ) → codes "took " ++ decimal c ≡ took_line c
+unfolding took_line
+took_line-is c = refl
+
+took-is : (bs rest : List ℕ) (e : Event) → bs ≡ codes "took " ++ rest → took_at rest ≡ Some e → Found bs e
+took-is bs rest e front h =
+    let d = takes_some (conn_at rest) e h in
+    let conn = conn-is rest d.conn d.conn-is in
+    subst (Found bs) d.is
+    (record { lawful = conn.0; in_range = omega (arith, conn.0); spelled = front ∙ ap (λ (l : List ℕ). codes "took " ++ l) conn.1 ∙ took_line-is d.conn })
+
+new_text-is : codes "new" ++ [] ≡ new_line
+unfolding new_line
+new_text-is = refl
+
+new-is : (bs rest : List ℕ) (e : Event) → bs ≡ codes "new" ++ rest → new_at rest ≡ Some e → Found bs e
+new-is bs [] e front h =
+    subst (Found bs) (event_is event.New e h) (record { lawful = tt; in_range = tt; spelled = front ∙ new_text-is })
+new-is bs (b ∷ rest) e front h = absurd cc
+
 -- ---- lines
 
 no_event : (e : Event) → None ≡ Some e → ⊥
 no_event e h = cc
 
-msg_case : (bs : List ℕ) (e : Event) (o : Option (List ℕ)) → after_front (codes "msg ") bs ≡ o → with_front o msg_at None ≡ Some e → Found bs e
-msg_case bs e None given h = absurd (no_event e h)
+-- what the other fronts give of a line
+abbrev after_took : List ℕ → Option Event
+after_took bs = with_front (after_front (codes "new") bs) new_at None
+
+abbrev after_hang : List ℕ → Option Event
+after_hang bs = with_front (after_front (codes "took ") bs) took_at (after_took bs)
+
+abbrev after_msg : List ℕ → Option Event
+after_msg bs = with_front (after_front (codes "hang ") bs) hang_at (after_hang bs)
+
+abbrev after_dial : List ℕ → Option Event
+after_dial bs = with_front (after_front (codes "msg ") bs) msg_at (after_msg bs)
+
+new_case : (bs : List ℕ) (e : Event) (o : Option (List ℕ)) → after_front (codes "new") bs ≡ o → with_front o new_at None ≡ Some e → Found bs e
+new_case bs e None given h = absurd (no_event e h)
+new_case bs e (Some rest) given h = new-is bs rest e (front-is (codes "new") bs rest given) h
+
+took_case : (bs : List ℕ) (e : Event) (o : Option (List ℕ)) → after_front (codes "took ") bs ≡ o → with_front o took_at (after_took bs) ≡ Some e → Found bs e
+took_case bs e None given h = new_case bs e (after_front (codes "new") bs) refl h
+took_case bs e (Some rest) given h = took-is bs rest e (front-is (codes "took ") bs rest given) h
+
+hang_case : (bs : List ℕ) (e : Event) (o : Option (List ℕ)) → after_front (codes "hang ") bs ≡ o → with_front o hang_at (after_hang bs) ≡ Some e → Found bs e
+hang_case bs e None given h = took_case bs e (after_front (codes "took ") bs) refl h
+hang_case bs e (Some rest) given h = hang-is bs rest e (front-is (codes "hang ") bs rest given) h
+
+msg_case : (bs : List ℕ) (e : Event) (o : Option (List ℕ)) → after_front (codes "msg ") bs ≡ o → with_front o msg_at (after_msg bs) ≡ Some e → Found bs e
+msg_case bs e None given h = hang_case bs e (after_front (codes "hang ") bs) refl h
 msg_case bs e (Some rest) given h = msg-is bs rest e (front-is (codes "msg ") bs rest given) h
 
-dial_case : (bs : List ℕ) (e : Event) (o : Option (List ℕ)) → after_front (codes "dial ") bs ≡ o
-    → with_front o dial_at (with_front (after_front (codes "msg ") bs) msg_at None) ≡ Some e → Found bs e
+dial_case : (bs : List ℕ) (e : Event) (o : Option (List ℕ)) → after_front (codes "dial ") bs ≡ o → with_front o dial_at (after_dial bs) ≡ Some e → Found bs e
 dial_case bs e None given h = msg_case bs e (after_front (codes "msg ") bs) refl h
 dial_case bs e (Some rest) given h = dial-is bs rest e (front-is (codes "dial ") bs rest given) h
 

@@ -8,6 +8,9 @@ use Rattle.am_journal.specs.declared.event.Event.TheVariants as event
 abbrev pub IsLawful : Event → Type 0
 IsLawful (event.Dial c) = c < 64
 IsLawful (event.Msg c m) = (c < 64) × Fits_t m × (length (spelling_t m) ≤ 65560)
+IsLawful (event.Hang c why) = c < 64
+IsLawful (event.Took c) = c < 64
+IsLawful event.New = Unit {0}
 
 -- each is below 256; past the end stands 0
 abbrev pub AreBytes : List ℕ → Type 0
@@ -17,3 +20,6 @@ AreBytes bytes = (i : ℕ) → slice_index bytes i < 256
 abbrev pub IsInRange : Event → Type 0
 IsInRange (event.Dial c) = c < 2 ^ 32
 IsInRange (event.Msg c m) = (c < 2 ^ 32) × InRange_t m × AreBytes (spelling_t m)
+IsInRange (event.Hang c why) = c < 2 ^ 32
+IsInRange (event.Took c) = c < 2 ^ 32
+IsInRange event.New = Unit {0}

@@ -1,6 +1,7 @@
 pub mod Lawful
 pub mod Hexadecimal
 pub mod Parts
+pub mod Causes
 pub mod Line
 pub mod Texts
 pub mod Report

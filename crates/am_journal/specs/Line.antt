@@ -10,6 +10,8 @@ use Rattle.am_journal.specs.declared.event.Event.{Event}
 use Rattle.am_journal.specs.declared.event.Event.TheVariants as event
 use Rattle.am_journal.specs.Hexadecimal.{hex_of, bytes_of_hex}
 use Rattle.am_journal.specs.Parts.{around}
+use Rattle.am_journal.specs.declared.ending.Ending.{Ending}
+use Rattle.am_journal.specs.Causes.{cause, ending_of}
 
 -- ---- spelling
 
@@ -19,10 +21,22 @@ dial_line c = codes "dial " ++ decimal c
 unfoldable pub msg_line : ℕ → List ℕ → List ℕ
 msg_line c message = around (codes "msg ") c (32 ∷ []) ++ hex_of message
 
+unfoldable pub hang_line : ℕ → Ending → List ℕ
+hang_line c why = around (codes "hang ") c (32 ∷ []) ++ cause why
+
+unfoldable pub took_line : ℕ → List ℕ
+took_line c = codes "took " ++ decimal c
+
+unfoldable pub new_line : List ℕ
+new_line = codes "new"
+
 -- the line of an event, without its newline
 abbrev pub line_text : Event → List ℕ
 line_text (event.Dial c) = dial_line c
 line_text (event.Msg c m) = msg_line c (spelling_t m)
+line_text (event.Hang c why) = hang_line c why
+line_text (event.Took c) = took_line c
+line_text event.New = new_line
 
 -- ---- reading
 
@@ -62,6 +76,26 @@ msg_from (Some c) (Some bytes) = if nat_lt 65560 (length bytes) then None else m
 abbrev pub msg_at : List ℕ → Option Event
 msg_at bs = msg_from (conn_at (first_field bs)) (bytes_of_hex (after_field bs))
 
+abbrev pub hang_from : Option ℕ → Option Ending → Option Event
+hang_from None why = None
+hang_from (Some c) None = None
+hang_from (Some c) (Some why) = Some (event.Hang c why)
+
+abbrev pub hang_at : List ℕ → Option Event
+hang_at bs = hang_from (conn_at (first_field bs)) (ending_of (after_field bs))
+
+abbrev pub took_from : Option ℕ → Option Event
+took_from None = None
+took_from (Some c) = Some (event.Took c)
+
+abbrev pub took_at : List ℕ → Option Event
+took_at bs = took_from (conn_at bs)
+
+-- nothing stands after the word
+abbrev pub new_at : List ℕ → Option Event
+new_at [] = Some event.New
+new_at (b ∷ bs) = None
+
 -- the bytes after a front, if they begin so
 abbrev pub after_front : List ℕ → List ℕ → Option (List ℕ)
 after_front [] bs = Some bs
@@ -79,4 +113,4 @@ read_by (r ∷ rs) bs = with_front (after_front r.0 bs) r.1 (read_by rs bs)
 
 -- the event of a line without its newline, if it is in the grammar
 unfoldable pub event_of : List ℕ → Option Event
-event_of bs = read_by ((codes "dial ", dial_at) ∷ (codes "msg ", msg_at) ∷ []) bs
+event_of bs = read_by ((codes "dial ", dial_at) ∷ (codes "msg ", msg_at) ∷ (codes "hang ", hang_at) ∷ (codes "took ", took_at) ∷ (codes "new", new_at) ∷ []) bs

@@ -3,40 +3,14 @@ use Rattle.std.specs.Prelude.{ℕ, Bool, true, false, List, [], ◌∷◌, ◌++
 use Rattle.std.specs.List.{flat_map}
 use Rattle.am_text.specs.Lines.{escaped}
 use Rattle.am_text.specs.declared.range.Range.{Range}
-use Rattle.ninep_wire.specs.declared.fault.WireFault.{WireFault}
-use Rattle.ninep_wire.specs.declared.fault.WireFault.TheVariants as fault
-use Rattle.am_journal.specs.declared.ending.Bad.{Bad}
-use Rattle.am_journal.specs.declared.ending.Bad.TheVariants as bad
 use Rattle.am_journal.specs.declared.ending.Ending.{Ending}
-use Rattle.am_journal.specs.declared.ending.Ending.TheVariants as ending
 use Rattle.am_journal.specs.declared.view.ConnView.{ConnView}
 use Rattle.am_journal.specs.declared.view.WindowView.{WindowView}
 use Rattle.am_journal.specs.declared.view.View.{View}
+use Rattle.am_journal.specs.Causes.{cause}
 use Rattle.am_journal.specs.Parts.{around}
 
--- ---- why a connection ended
-
-abbrev pub fault_word : WireFault → List ℕ
-fault_word fault.Size = codes "size"
-fault_word fault.Kind = codes "type"
-fault_word fault.Short = codes "short"
-fault_word fault.Long = codes "long"
-fault_word fault.Text = codes "text"
-fault_word fault.Names = codes "names"
-
-abbrev pub bad_word : Bad → List ℕ
-bad_word (bad.Wire f) = fault_word f
-bad_word bad.Size = codes "msize"
-bad_word bad.Tag = codes "tag"
-
-abbrev pub cause : Ending → List ℕ
-cause ending.End = codes "end"
-cause ending.Torn = codes "torn"
-cause ending.ReadFault = codes "fault"
-cause (ending.Broken b) = codes "broken " ++ bad_word b
-cause ending.Spent = codes "spent"
-cause ending.Gone = codes "gone"
-cause ending.NoMemory = codes "memory"
+-- ---- connections
 
 -- live, or ended with the cause
 unfoldable pub conn_state : Option Ending → List ℕ

@@ -17,3 +17,8 @@ refused_text k reason = around (codes "refused ") k (32 ∷ []) ++ reason ++ 10 
 abbrev pub word_of : Why → List ℕ
 word_of why.Conn = codes "conn"
 word_of why.Dialed = codes "dialed"
+word_of why.Ended = codes "ended"
+word_of why.Size = codes "size"
+word_of why.Replies = codes "replies"
+word_of why.Nothing = codes "nothing"
+word_of why.Windows = codes "windows"

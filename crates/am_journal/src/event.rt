@@ -3,6 +3,7 @@
 ghost use Rattle.std.specs.Prelude.{◌≡◌};
 ghost use Rattle.am_journal.specs.declared.event.Refused.TheVariants.{NoMemory};
 
+use crate::ending::Ending;
 use am_text::Items;
 use ninep_wire::TMsg;
 use std::alloc::{AllocError, AllocFailed};
@@ -14,6 +15,12 @@ pub enum Event {
     Dial { conn: u32 },
     /// A message comes on a connection.
     Msg { conn: u32, msg: TMsg },
+    /// A connection ends.
+    Hang { conn: u32, why: Ending },
+    /// The unsent replies of a connection are taken, to be sent.
+    Took { conn: u32 },
+    /// An empty window is made.
+    New,
 }
 
 /// All events that were done, in their order. Entries are numbered from 1.
@@ -26,6 +33,16 @@ pub enum Why {
     Conn,
     /// The connection was dialled before.
     Dialed,
+    /// The connection has ended.
+    Ended,
+    /// The message is larger than the connection's msize.
+    Size,
+    /// The connection has 256 unsent replies.
+    Replies,
+    /// The connection has no unsent reply.
+    Nothing,
+    /// No more windows can be made.
+    Windows,
 }
 
 /// Why an event isn't done.

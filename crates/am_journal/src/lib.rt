@@ -1,6 +1,7 @@
 //! The events of the editor, the lines of a transcript, and the report.
 #![tactic(auto)]
 
+mod causes;
 mod ending;
 mod event;
 mod fields;

@@ -4,8 +4,10 @@ ghost use Rattle.std.specs.Prelude.{◌≡◌, ◌<◌, ◌≤◌, ◌++◌, len
 ghost use Rattle.ninep_wire.specs.Spelling.{spelling_t, Fits_t};
 ghost use Rattle.am_journal.specs.declared.event.Event.{Event};
 ghost use Rattle.am_journal.specs.Lawful.{IsLawful, IsInRange};
-ghost use Rattle.am_journal.specs.Line.{dial_at, dial_line, msg_at, msg_line, line_text, event_of};
+ghost use Rattle.am_journal.specs.Line.{dial_at, dial_line, msg_at, msg_line, hang_at, hang_line, took_at, took_line, new_at, new_line, line_text, event_of};
 
+use crate::causes::{ending_of, put_cause};
+use crate::ending::Ending;
 use crate::event::Event;
 use crate::fields::{after_front, conn_of, cut_field, put_around};
 use crate::hexadecimal::{bytes_of_hex, hex_text};
@@ -45,6 +47,33 @@ fn msg_of(alloc: Global, rest: &[u8]) -> Result<Option<Event>, NoMemory>
     }
 }
 
+fn hang_of(rest: &[u8]) -> Option<Event>
+    ensures { result ≡ hang_at rest.now }
+{
+    let (field, words) = cut_field(rest);
+    let conn = conn_of(field)?;
+    let why = ending_of(words)?;
+    Some(Event::Hang { conn, why })
+}
+
+fn took_of(rest: &[u8]) -> Option<Event>
+    ensures { result ≡ took_at rest.now }
+{
+    match conn_of(rest) {
+        Some(conn) => Some(Event::Took { conn }),
+        None => None,
+    }
+}
+
+fn new_of(rest: &[u8]) -> Option<Event>
+    ensures { result ≡ new_at rest.now }
+{
+    match rest {
+        [] => Some(Event::New),
+        [_, ..] => None,
+    }
+}
+
 #[tactic(auto, unfolding(crate::specs::Line::event_of))]
 fn event_in(alloc: Global, line: &[u8]) -> Result<Option<Event>, NoMemory>
     ensures { IfOk result (λ e. e ≡ event_of line.now) }
@@ -54,6 +83,15 @@ fn event_in(alloc: Global, line: &[u8]) -> Result<Option<Event>, NoMemory>
     }
     if let Some(rest) = after_front(b"msg ", line) {
         return msg_of(alloc, rest);
+    }
+    if let Some(rest) = after_front(b"hang ", line) {
+        return Ok(hang_of(rest));
+    }
+    if let Some(rest) = after_front(b"took ", line) {
+        return Ok(took_of(rest));
+    }
+    if let Some(rest) = after_front(b"new", line) {
+        return Ok(new_of(rest));
     }
     Ok(None)
 }
@@ -91,6 +129,33 @@ fn msg_text(alloc: Global, conn: u32, message: &[u8]) -> Result<Bytes, NoMemory>
     Ok(line)
 }
 
+#[tactic(auto, unfolding(crate::specs::Line::hang_line))]
+fn hang_text(alloc: Global, conn: u32, why: Ending) -> Result<Bytes, NoMemory>
+    ensures { IfOk result (λ line. line ≡ hang_line conn why) }
+{
+    let mut line = Items::new(alloc);
+    put_around(alloc, &mut line, b"hang ", u64::from(conn), b" ")?;
+    put_cause(&mut line, why)?;
+    Ok(line)
+}
+
+#[tactic(auto, unfolding(crate::specs::Line::took_line))]
+fn took_text(alloc: Global, conn: u32) -> Result<Bytes, NoMemory>
+    ensures { IfOk result (λ line. line ≡ took_line conn) }
+{
+    let mut line = Items::new(alloc);
+    line.append(b"took ")?;
+    line.append(decimal(alloc, u64::from(conn))?.as_slice())?;
+    Ok(line)
+}
+
+#[tactic(auto, unfolding(crate::specs::Line::new_line))]
+fn new_text(alloc: Global) -> Result<Bytes, NoMemory>
+    ensures { IfOk result (λ line. line ≡ new_line) }
+{
+    Ok(Items::copied(alloc, b"new")?)
+}
+
 fn line_of(alloc: Global, event: &Event) -> Result<Bytes, NoMemory>
     requires { IsLawful event.now }
     ensures { IfOk result (λ line. line ≡ line_text event.now) }
@@ -98,6 +163,9 @@ fn line_of(alloc: Global, event: &Event) -> Result<Bytes, NoMemory>
     match event {
         Event::Dial { conn } => dial_text(alloc, *conn),
         Event::Msg { conn, msg } => msg_text(alloc, *conn, write_t(alloc, msg)?.as_slice()),
+        Event::Hang { conn, why } => hang_text(alloc, *conn, *why),
+        Event::Took { conn } => took_text(alloc, *conn),
+        Event::New => new_text(alloc),
     }
 }
 

@@ -41,5 +41,10 @@ pub fn word(why: Why) -> &'static [u8]
     match why {
         Why::Conn => b"conn",
         Why::Dialed => b"dialed",
+        Why::Ended => b"ended",
+        Why::Size => b"size",
+        Why::Replies => b"replies",
+        Why::Nothing => b"nothing",
+        Why::Windows => b"windows",
     }
 }

@@ -2,59 +2,14 @@
 
 ghost use Rattle.std.specs.Prelude.{◌≡◌, ◌++◌, OnOk, IfOk, length};
 ghost use Rattle.std.specs.List.{flat_map};
-ghost use Rattle.am_journal.specs.Report.{fault_word, bad_word, cause, conn_state, conn_line, text_end, modified_word, dot_words, window_line, body_line, window_lines, title, conns_part, windows_part, rest_part, report_text};
+ghost use Rattle.am_journal.specs.Report.{conn_state, conn_line, text_end, modified_word, dot_words, window_line, body_line, window_lines, title, conns_part, windows_part, rest_part, report_text};
 
-use crate::ending::{Bad, Ending};
+use crate::causes::{put_cause, put_two};
+use crate::ending::Ending;
 use crate::fields::put_around;
 use crate::view::{ConnView, View, WindowView};
 use am_text::{Bytes, Items, NoMemory, Range, escape};
-use ninep_wire::WireFault;
 use std::alloc::Global;
-
-fn fault_word(fault: WireFault) -> &'static [u8]
-    ensures { result.now ≡ fault_word fault }
-{
-    match fault {
-        WireFault::Size => b"size",
-        WireFault::Kind => b"type",
-        WireFault::Short => b"short",
-        WireFault::Long => b"long",
-        WireFault::Text => b"text",
-        WireFault::Names => b"names",
-    }
-}
-
-fn bad_word(bad: Bad) -> &'static [u8]
-    ensures { result.now ≡ bad_word bad }
-{
-    match bad {
-        Bad::Wire(fault) => fault_word(fault),
-        Bad::Size => b"msize",
-        Bad::Tag => b"tag",
-    }
-}
-
-fn put_two(out: &mut Bytes, first: &[u8], second: &[u8]) -> Result<(), NoMemory>
-    ensures { OnOk result (out.new ≡ out.old ++ first.now ++ second.now) }
-{
-    out.append(first)?;
-    out.append(second)?;
-    Ok(())
-}
-
-fn put_cause(out: &mut Bytes, ending: Ending) -> Result<(), NoMemory>
-    ensures { OnOk result (out.new ≡ out.old ++ cause ending) }
-{
-    match ending {
-        Ending::End => out.append(b"end"),
-        Ending::Torn => out.append(b"torn"),
-        Ending::ReadFault => out.append(b"fault"),
-        Ending::Broken(bad) => put_two(out, b"broken ", bad_word(bad)),
-        Ending::Spent => out.append(b"spent"),
-        Ending::Gone => out.append(b"gone"),
-        Ending::NoMemory => out.append(b"memory"),
-    }
-}
 
 #[tactic(auto, unfolding(crate::specs::Report::conn_state))]
 fn put_state(alloc: Global, out: &mut Bytes, ending: Option<Ending>) -> Result<(), NoMemory>

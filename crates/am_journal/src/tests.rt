@@ -27,11 +27,16 @@ fn is_no_line(alloc: Global, line: &[u8]) -> bool {
 
 #[test]
 fn lines_of_events_are_written_again(rt: HostRuntime) {
-    let lines: [&[u8]; 4] = [
+    let lines: [&[u8]; 9] = [
         b"dial 0",
         b"dial 63",
         b"msg 0 1300000064ffff002000000600395032303030",
         b"msg 63 0b00000078060001000000",
+        b"hang 0 end",
+        b"hang 63 broken size",
+        b"hang 5 broken msize",
+        b"took 9",
+        b"new",
     ];
     for line in lines {
         assert!(rt; is_written_again(rt.alloc(), line));
@@ -63,6 +68,24 @@ fn other_lines_are_refused(rt: HostRuntime) {
         b"msg 0 07000000790600",
         b"report",
         b"msg 0 0b00000078060001000000\n",
+    ];
+    for line in lines {
+        assert!(rt; is_no_line(rt.alloc(), line));
+    }
+}
+
+#[test]
+fn lines_of_hang_ups_are_whole(rt: HostRuntime) {
+    let lines: [&[u8]; 9] = [
+        b"hang 0",
+        b"hang 64 end",
+        b"hang 0 ",
+        b"hang 0 ended",
+        b"hang 0 broken",
+        b"hang 0 end ",
+        b"took 64",
+        b"new ",
+        b"newer",
     ];
     for line in lines {
         assert!(rt; is_no_line(rt.alloc(), line));
@@ -196,4 +219,9 @@ fn answers_are_lines(rt: HostRuntime) {
         Err(_) => assert!(rt; false),
     }
     assert_eq!(rt; word(Why::Conn), b"conn".as_slice());
+    assert_eq!(rt; word(Why::Ended), b"ended".as_slice());
+    assert_eq!(rt; word(Why::Size), b"size".as_slice());
+    assert_eq!(rt; word(Why::Replies), b"replies".as_slice());
+    assert_eq!(rt; word(Why::Nothing), b"nothing".as_slice());
+    assert_eq!(rt; word(Why::Windows), b"windows".as_slice());
 }

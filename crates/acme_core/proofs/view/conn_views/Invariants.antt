@@ -4,8 +4,8 @@ use Rattle.acme_core.proofs.view.conn_views.Given as goal
 
 abbrev pub invariant-loop-rest : goal.invariant-loop-rest
 invariant-loop-rest l = record {
-  here : l.conn + length l.rest ≡ length l.sessions;
-  told : l.views ++ conn_views l.conn l.rest ≡ conn_views 0 l.sessions;
+  here : l.conn + length l.rest ≡ length l.connections;
+  told : l.views ++ conn_views l.conn l.rest ≡ conn_views 0 l.connections;
 }
 
 abbrev pub decreases-loop-rest : goal.decreases-loop-rest

@@ -1,0 +1,22 @@
+-- Laws of the editor.
+use Rattle.std.specs.Prelude.{◌≡◌, ◌⊎◌, ℕ, ◌+◌}
+use Rattle.ninep_wire.specs.declared.message.TMsg.{TMsg}
+use Rattle.ninep_wire.specs.declared.message.TBody.{TBody}
+use Rattle.ninep_wire.specs.declared.message.RBody.{RBody}
+use Rattle.ninep_wire.specs.declared.message.RBody.TheVariants as r
+use Rattle.ninep_wire.specs.Spelling.{kind_t, kind_r}
+use Rattle.acme_core.specs.declared.refusal.Refusal.{Refusal}
+use Rattle.acme_core.specs.Refusals.{refusal_text}
+use Rattle.acme_core.specs.Run.{State, deed_at}
+
+-- the text of a named refusal is answered
+abbrev pub IsRefused : RBody → Type 0
+IsRefused answer = (refusal : Refusal) × (answer ≡ r.Error (refusal_text refusal))
+
+-- A message is answered by its own R message, whose type byte is one more, unless it is refused.
+abbrev pub IsAnswered : TBody → RBody → Type 0
+IsAnswered asked answer = (kind_r answer ≡ kind_t asked + 1) ⊎ IsRefused answer
+
+-- In each state each message of each connection is answered.
+abbrev pub EachIsAnswered : Type 0
+EachIsAnswered = (s : State) (conn : ℕ) (msg : TMsg) → IsAnswered msg.body (deed_at s conn msg).answer
