@@ -111,14 +111,12 @@ fn number_asked<R: Env + Alloc>(rt: &R) -> io::Result<Option<usize>> {
 
 fn main(rt: HostRuntime) -> io::Result<()> {
     let asked = number_asked(&rt)?;
-    let mut number = 0;
-    for search in SEARCHES {
+    for number in 0..SEARCHES.len() {
         match asked {
-            Some(n) if n == number => run(&rt, rt.alloc(), number, search, 1, true)?,
+            Some(n) if n == number => run(&rt, rt.alloc(), number, SEARCHES[number], 1, true)?,
             Some(_) => {}
-            None => run(&rt, rt.alloc(), number, search, 20, false)?,
+            None => run(&rt, rt.alloc(), number, SEARCHES[number], 20, false)?,
         }
-        number += 1;
     }
     Ok(())
 }
