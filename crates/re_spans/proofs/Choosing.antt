@@ -7,7 +7,7 @@ use Rattle.re_syntax.specs.Tree.{Tree}
 use Rattle.re_syntax.specs.Match.{Matches, IsSpan, IsFirst, IsLast}
 use Rattle.re_spans.specs.Places.{has}
 use Rattle.re_spans.specs.Reached.{AreReached}
-use Rattle.re_spans.specs.declared.reach.Way.TheVariants.{On, Back}
+use Rattle.re_spans.specs.declared.way.Way.TheVariants.{On, Back}
 use Rattle.re_spans.specs.Choice.{passes, is_at, IsAllowed, IsLongestFrom, IsLongestTo}
 use Rattle.re_spans.proofs.Ways.{has_within, Matches-on}
 

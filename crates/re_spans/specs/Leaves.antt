@@ -1,29 +1,30 @@
--- Where the match of a leaf ends.
-use Rattle.std.specs.Prelude.{◌≡◌, ◌==◌, ◌&&◌, ◌||◌, ◌+◌, ◌-◌, ℕ, Bool, true, false, not, List, length, slice_index, nat_lt, Option, Some, None, if◌then◌else◌}
+-- What the leaves of a tree match.
+use Rattle.std.specs.Prelude.{◌==◌, ◌&&◌, ◌||◌, ◌-◌, ℕ, Bool, false, not, List, length, slice_index, nat_lt}
 use Rattle.re_syntax.specs.Match.{is_in_class}
 use Rattle.re_syntax.specs.Tree.{Tree, Letter, AnyLetter, OneOf, LineStart, LineEnd}
+use Rattle.re_spans.specs.Turns.{lower}
+use Rattle.re_spans.specs.declared.way.Way.{Way}
+use Rattle.re_spans.specs.declared.leaf.Here.{Here}
+use Rattle.re_spans.specs.declared.leaf.Read.{Read}
 
-abbrev pub one_if : Bool → ℕ → Option ℕ
-one_if passes i = if passes then Some (i + 1) else None
+-- the one rune is a match
+abbrev pub takes : Tree → ℕ → Bool
+takes (Letter c) d = d == c
+takes AnyLetter d = not (d == 10)
+takes (OneOf negated spans) d = is_in_class negated spans d
+takes _ d = false
 
-abbrev pub null_if : Bool → ℕ → Option ℕ
-null_if passes i = if passes then Some i else None
+-- the null text here is a match
+abbrev pub is_null : Tree → Here → Bool
+is_null LineStart here = here.starts
+is_null LineEnd here = here.ends
+is_null _ here = false
 
-abbrev pub leaf_end : Tree → List ℕ → ℕ → Option ℕ
-leaf_end (Letter c) t i = one_if (nat_lt i (length t) && (slice_index t i == c)) i
-leaf_end AnyLetter t i = one_if (nat_lt i (length t) && not (slice_index t i == 10)) i
-leaf_end (OneOf negated spans) t i = one_if (nat_lt i (length t) && is_in_class negated spans (slice_index t i)) i
-leaf_end LineStart t i = null_if (nat_lt i (length t) && ((i == 0) || (slice_index t (i - 1) == 10))) i
-leaf_end LineEnd t i = null_if ((i == length t) || (slice_index t i == 10)) i
-leaf_end _ t i = None
+abbrev pub here_at : List ℕ → ℕ → Here
+here_at t i = record {
+  starts = nat_lt i (length t) && ((i == 0) || (slice_index t (i - 1) == 10));
+  ends = (i == length t) || (slice_index t i == 10);
+}
 
-abbrev pub LeafEnds : Tree → List ℕ → ℕ → ℕ → Type 0
-LeafEnds r t i j = leaf_end r t i ≡ Some j
-
-abbrev pub is_leaf : Tree → Bool
-is_leaf (Letter c) = true
-is_leaf AnyLetter = true
-is_leaf (OneOf negated spans) = true
-is_leaf LineStart = true
-is_leaf LineEnd = true
-is_leaf _ = false
+abbrev pub read_at : Way → List ℕ → ℕ → ℕ → Read
+read_at way t i next = record { rune = slice_index t (lower way i next); here = here_at t next }

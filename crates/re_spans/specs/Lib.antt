@@ -1,5 +1,7 @@
 pub mod Places
-pub mod Reached
+pub mod Turns
 pub mod Leaves
+pub mod Marks
+pub mod Reached
 pub mod Choice
 pub mod Pieces

@@ -1,8 +1,13 @@
 -- Which places spans lead to.
-use Rattle.std.specs.Prelude.{◌<◌, ◌↔◌, ℕ, Bool, List, length, IsTrue}
+use Rattle.std.specs.Prelude.{◌<◌, ◌↔◌, ◌||◌, ℕ, Bool, List, length, IsTrue}
+use Rattle.re_syntax.specs.Match.{Repeats}
 use Rattle.re_spans.specs.Places.{has}
-use Rattle.re_spans.specs.declared.reach.Way.{Way}
-use Rattle.re_spans.specs.declared.reach.Way.TheVariants.{On, Back}
+use Rattle.re_spans.specs.Marks.{passes}
+use Rattle.re_spans.specs.declared.way.Way.{Way}
+use Rattle.re_spans.specs.declared.way.Way.TheVariants.{On, Back}
+use Rattle.re_spans.specs.declared.marks.Mark.{Mark}
+use Rattle.re_spans.specs.declared.reach.Times.{Times}
+use Rattle.re_spans.specs.declared.reach.Times.TheVariants.{Once, Often}
 
 -- a span, from its beginning to its end or the other way
 abbrev pub Along : Way → (ℕ → ℕ → Type 0) → ℕ → ℕ → Type 0
@@ -16,3 +21,17 @@ Reached way R s j = (i : ℕ) × IsTrue (has s i) × Along way R i j
 -- the set has the places, of those that it counts, that spans lead to from the other
 abbrev pub AreReached : Way → (ℕ → ℕ → Type 0) → List Bool → List Bool → Type 0
 AreReached way R s out = (j : ℕ) → j < length s → IsTrue (has out j) ↔ Reached way R s j
+
+-- one span, or any number
+abbrev pub taken : Times → (ℕ → ℕ → Type 0) → ℕ → ℕ → Type 0
+taken Once R = R
+taken Often R = Repeats R
+
+-- a search comes to a place from which it begins or not, where the tree has this mark: it enters the tree, and it has reached the place
+abbrev pub enters : Times → Bool → Mark → Bool
+enters Once begun k = begun
+enters Often begun k = begun || k.led
+
+abbrev pub leaves : Times → Mark → Bool → Bool
+leaves Once k entered = passes k entered
+leaves Often k entered = entered

@@ -6,7 +6,8 @@ ghost use Rattle.re_spans.specs.Choice.{passes, is_at, IsLongestFrom, IsLongestT
 ghost use Rattle.re_syntax.specs.Match.{Matches, IsSpan, IsFirst, IsLast, HasNoSpan};
 
 use crate::places::Places;
-use crate::reach::{Way, reach};
+use crate::reach::reach;
+use crate::way::Way;
 use am_text::{Letters, NoMemory, Range};
 use re_syntax::Re;
 use std::alloc::Global;
@@ -28,7 +29,7 @@ pub fn matches_span<T: Letters>(
         return Err(NoMemory);
     };
     let from = Places::one(alloc, count, i)?;
-    let ends = reach(alloc, re, text, Way::On, from)?;
+    let ends = reach(alloc, re, text, Way::On, &from)?;
     Ok(ends.has(j))
 }
 
@@ -83,7 +84,7 @@ fn longest_from<T: Letters>(
     ensures none { IfOk result (λ answer. IfNone answer ((j : ℕ) → j < count → Matches (tree re.now) (T.letters text.now) i j → (i ≡ j → no_null ≡ Some i → ⊥) → ⊥)) }
 {
     let from = Places::one(alloc, count, i)?;
-    let ends = reach(alloc, re, text, Way::On, from)?;
+    let ends = reach(alloc, re, text, Way::On, &from)?;
     Ok(last_of(&ends, i, is_at(no_null, i)))
 }
 
@@ -103,7 +104,7 @@ fn longest_to<T: Letters>(
     ensures none { IfOk result (λ answer. IfNone answer ((i : ℕ) → low ≤ i → Matches (tree re.now) (T.letters text.now) i j → (i ≡ j → no_null ≡ Some i → ⊥) → ⊥)) }
 {
     let from = Places::one(alloc, count, j)?;
-    let starts = reach(alloc, re, text, Way::Back, from)?;
+    let starts = reach(alloc, re, text, Way::Back, &from)?;
     Ok(first_of(&starts, low, j, is_at(no_null, j)))
 }
 
@@ -125,7 +126,7 @@ pub fn first_match<T: Letters>(
         return Err(NoMemory);
     };
     let ends = Places::from(alloc, count, from)?;
-    let starts = reach(alloc, re, text, Way::Back, ends)?;
+    let starts = reach(alloc, re, text, Way::Back, &ends)?;
     for i in from..count {
         if starts.has(i) {
             if let Some(j) = longest_from(alloc, re, text, i, count, no_null)? {
@@ -154,7 +155,7 @@ pub fn last_match<T: Letters>(
         return Err(NoMemory);
     };
     let starts = Places::from(alloc, count, start)?;
-    let ends = reach(alloc, re, text, Way::On, starts)?;
+    let ends = reach(alloc, re, text, Way::On, &starts)?;
     let mut rest = count;
     while start < rest {
         let j = rest - 1;

@@ -10,7 +10,8 @@ ghost use Rattle.re_spans.specs.Pieces.{IsPiece, Past};
 
 use crate::choice::matches_span;
 use crate::places::Places;
-use crate::reach::{Way, many, reach};
+use crate::reach::{many, reach};
+use crate::way::Way;
 use am_text::{Items, Letters, NoMemory, Range};
 use re_syntax::{Groups, Re};
 use std::alloc::Global;
@@ -55,9 +56,9 @@ fn first_part<T: Letters>(
 {
     let count = count_to(j)?;
     let here = Places::one(alloc, count, i)?;
-    let ends = reach(alloc, a, text, Way::On, here)?;
+    let ends = reach(alloc, a, text, Way::On, &here)?;
     let there = Places::one(alloc, count, j)?;
-    let starts = reach(alloc, b, text, Way::Back, there)?;
+    let starts = reach(alloc, b, text, Way::Back, &there)?;
     match last_common(&ends, &starts, i) {
         Some(k) => Ok(k),
         None => unreachable!(),
@@ -80,9 +81,9 @@ fn first_piece<T: Letters>(
 {
     let count = count_to(j)?;
     let here = Places::one(alloc, count, i)?;
-    let ends = reach(alloc, a, text, Way::On, here)?;
+    let ends = reach(alloc, a, text, Way::On, &here)?;
     let there = Places::one(alloc, count, j)?;
-    let starts = many(alloc, a, text, Way::Back, there)?;
+    let starts = many(alloc, a, text, Way::Back, &there)?;
     match last_common(&ends, &starts, low) {
         Some(k) => Ok(k),
         None => unreachable!(),

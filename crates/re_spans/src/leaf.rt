@@ -1,18 +1,28 @@
-//! Matches of the leaves of a tree.
+//! What the leaves of a tree match.
 
-ghost use Rattle.std.specs.Prelude.{◌≡◌, ◌<◌, ◌≤◌, ◌+◌, ◌-◌, ◌==◌, ◌&&◌, ◌||◌, ℕ, List, length, IfOk, IsTrue, slice_index, nat_lt, ◌^◌, ◌↔◌, ◌⊎◌, Some};
+ghost use Rattle.std.specs.Prelude.{◌≡◌, ◌<◌, ◌≤◌, ◌-◌, ◌==◌, ◌&&◌, ◌||◌, length, slice_index, nat_lt};
 ghost use Rattle.re_syntax.specs.Tree.{tree};
-ghost use Rattle.re_syntax.specs.Match.{Matches, is_in, is_in_class};
-ghost use Rattle.re_spans.specs.Places.{has};
-ghost use Rattle.re_spans.specs.Reached.{AreReached};
-ghost use Rattle.re_spans.specs.Leaves.{one_if, null_if, leaf_end, LeafEnds, is_leaf};
-ghost use Rattle.re_spans.specs.declared.reach.Way.TheVariants.{On, Back};
+ghost use Rattle.re_syntax.specs.Match.{is_in, is_in_class};
+ghost use Rattle.re_spans.specs.Turns.{lower};
+ghost use Rattle.re_spans.specs.Leaves.{takes, is_null, here_at, read_at};
 
-use crate::places::Places;
-use crate::reach::Way;
-use am_text::{Letters, NoMemory, Rune};
+use crate::way::{Way, lower};
+use am_text::{Letters, Rune};
 use re_syntax::{Re, RuneSpans};
-use std::alloc::Global;
+
+/// What the null text at a place is: the one before the first rune of a line, the one at its end.
+#[derive(Clone, Copy)]
+pub struct Here {
+    pub starts: bool,
+    pub ends: bool,
+}
+
+/// A step of a search: the rune that it goes over, and the place to which it comes.
+#[derive(Clone, Copy)]
+pub struct Read {
+    pub rune: Rune,
+    pub here: Here,
+}
 
 fn has_rune(spans: &[(Rune, Rune)], c: Rune) -> bool
     ensures { result ≡ is_in spans.now c }
@@ -27,17 +37,42 @@ fn is_in_class(not: bool, spans: &RuneSpans, c: Rune) -> bool
     if not { !(inside || c == 10) } else { inside }
 }
 
-fn one_if(passes: bool, i: usize) -> Option<usize>
-    requires { IsTrue passes → i + 1 < 2 ^ 64 }
-    ensures { result ≡ one_if passes i }
+/// Whether a leaf matches this one rune.
+pub fn takes(re: &Re, rune: Rune) -> bool
+    ensures { result ≡ takes (tree re.now) rune }
 {
-    if passes { Some(i + 1) } else { None }
+    match re {
+        Re::Lit(c) => rune == *c,
+        Re::Any => rune != 10,
+        Re::Class { not, spans } => is_in_class(*not, spans, rune),
+        Re::Start => false,
+        Re::End => false,
+        Re::Cat(..) => false,
+        Re::Alt(..) => false,
+        Re::Star(_) => false,
+        Re::Plus(_) => false,
+        Re::Opt(_) => false,
+        Re::Group(..) => false,
+    }
 }
 
-fn null_if(passes: bool, i: usize) -> Option<usize>
-    ensures { result ≡ null_if passes i }
+/// Whether a leaf matches the null text here.
+pub fn is_null(re: &Re, here: Here) -> bool
+    ensures { result ≡ is_null (tree re.now) here }
 {
-    if passes { Some(i) } else { None }
+    match re {
+        Re::Start => here.starts,
+        Re::End => here.ends,
+        Re::Lit(_) => false,
+        Re::Any => false,
+        Re::Class { .. } => false,
+        Re::Cat(..) => false,
+        Re::Alt(..) => false,
+        Re::Star(_) => false,
+        Re::Plus(_) => false,
+        Re::Opt(_) => false,
+        Re::Group(..) => false,
+    }
 }
 
 fn is_line_start<T: Letters>(text: &T, i: usize) -> bool
@@ -46,94 +81,31 @@ fn is_line_start<T: Letters>(text: &T, i: usize) -> bool
     i < text.len() && (i == 0 || text.at(i - 1) == 10)
 }
 
-// Where the match of a leaf from this place on ends.
-fn leaf_end<T: Letters>(re: &Re, text: &T, i: usize) -> Option<usize>
+fn is_line_end<T: Letters>(text: &T, i: usize) -> bool
     requires { i ≤ length (T.letters text.now) }
-    ensures { result ≡ leaf_end (tree re.now) (T.letters text.now) i }
+    ensures { result ≡ ((i == length (T.letters text.now)) || (slice_index (T.letters text.now) i == 10)) }
 {
-    let len = text.len();
-    match re {
-        Re::Lit(c) => one_if(i < len && text.at(i) == *c, i),
-        Re::Any => one_if(i < len && text.at(i) != 10, i),
-        Re::Class { not, spans } => one_if(i < len && is_in_class(*not, spans, text.at(i)), i),
-        Re::Start => null_if(is_line_start(text, i), i),
-        Re::End => null_if(i == len || text.at(i) == 10, i),
-        Re::Cat(..) => None,
-        Re::Alt(..) => None,
-        Re::Star(_) => None,
-        Re::Plus(_) => None,
-        Re::Opt(_) => None,
-        Re::Group(..) => None,
+    i == text.len() || text.at(i) == 10
+}
+
+pub fn here_at<T: Letters>(text: &T, i: usize) -> Here
+    requires { i ≤ length (T.letters text.now) }
+    ensures { result ≡ here_at (T.letters text.now) i }
+{
+    Here {
+        starts: is_line_start(text, i),
+        ends: is_line_end(text, i),
     }
 }
 
-fn put_end(out: &mut Places, place: Option<usize>)
-    ensures count { length out.new ≡ length out.old }
-    ensures places { (j : ℕ) → j < length out.old → IsTrue (has out.new j) ↔ (IsTrue (has out.old j) ⊎ (place ≡ Some j)) }
+/// The step from a place to the next one.
+pub fn read_at<T: Letters>(text: &T, way: Way, i: usize, next: usize) -> Read
+    requires inside { next ≤ length (T.letters text.now) }
+    requires lower { lower way i next < length (T.letters text.now) }
+    ensures { result ≡ read_at way (T.letters text.now) i next }
 {
-    if let Some(j) = place {
-        if j < out.count() {
-            out.put(j);
-        }
-    }
-}
-
-fn has_end(from: &Places, place: Option<usize>) -> bool
-    ensures { IsTrue result ↔ ((j : ℕ) × (place ≡ Some j) × IsTrue (has from.now j)) }
-{
-    match place {
-        Some(j) => j < from.count() && from.has(j),
-        None => false,
-    }
-}
-
-fn leaf_on<T: Letters>(alloc: Global, re: &Re, text: &T, from: &Places) -> Result<Places, NoMemory>
-    requires { length from.now ≤ length (T.letters text.now) + 1 }
-    ensures count { IfOk result (λ out. length out ≡ length from.now) }
-    ensures places { IfOk result (λ out. AreReached On (LeafEnds (tree re.now) (T.letters text.now)) from.now out) }
-{
-    let mut out = Places::none(alloc, from.count())?;
-    for i in 0..from.count() {
-        if from.has(i) {
-            put_end(&mut out, leaf_end(re, text, i));
-        }
-    }
-    Ok(out)
-}
-
-fn leaf_back<T: Letters>(
-    alloc: Global,
-    re: &Re,
-    text: &T,
-    from: &Places,
-) -> Result<Places, NoMemory>
-    requires { length from.now ≤ length (T.letters text.now) + 1 }
-    ensures count { IfOk result (λ out. length out ≡ length from.now) }
-    ensures places { IfOk result (λ out. AreReached Back (LeafEnds (tree re.now) (T.letters text.now)) from.now out) }
-{
-    let mut out = Places::none(alloc, from.count())?;
-    for i in 0..from.count() {
-        if has_end(from, leaf_end(re, text, i)) {
-            out.put(i);
-        }
-    }
-    Ok(out)
-}
-
-/// The places that matches of a leaf lead to.
-pub fn leaf<T: Letters>(
-    alloc: Global,
-    re: &Re,
-    text: &T,
-    way: Way,
-    from: &Places,
-) -> Result<Places, NoMemory>
-    requires { length from.now ≤ length (T.letters text.now) + 1 }
-    ensures count { IfOk result (λ out. length out ≡ length from.now) }
-    ensures places { IfOk result (λ out. IsTrue (is_leaf (tree re.now)) → AreReached way (Matches (tree re.now) (T.letters text.now)) from.now out) }
-{
-    match way {
-        Way::On => leaf_on(alloc, re, text, from),
-        Way::Back => leaf_back(alloc, re, text, from),
+    Read {
+        rune: text.at(lower(way, i, next)),
+        here: here_at(text, next),
     }
 }

@@ -4,8 +4,10 @@
 mod choice;
 mod filling;
 mod leaf;
+mod marks;
 mod places;
 mod reach;
+mod way;
 
 pub use choice::{first_match, last_match, matches_span};
 pub use filling::groups;

@@ -1,5 +1,5 @@
 use crate::{first_match, groups, last_match, matches_span};
-use am_text::{Items, Range, Rune, Runes, decode_whole};
+use am_text::{Items, Range, Runes, decode_whole};
 use re_syntax::{Re, parse_re};
 use std::alloc::{AllocError, Global};
 use std::test::Fail;
@@ -326,35 +326,51 @@ fn groups_of_matches(rt: HostRuntime) -> Result<(), Fail> {
     Ok(())
 }
 
-// So many of one rune.
-fn many_of(alloc: Global, rune: Rune, count: usize, all: &mut Runes) -> Result<(), AllocError> {
-    for _ in 0..count {
-        all.push(rune).map_err(|_| AllocError)?;
+// These runes so often.
+fn append_often(
+    alloc: Global,
+    all: &mut Runes,
+    text: &str,
+    times: usize,
+) -> Result<(), AllocError> {
+    let part = runes(alloc, text)?;
+    for _ in 0..times {
+        all.append(part.as_slice()).map_err(|_| AllocError)?;
     }
     Ok(())
 }
 
-// Trees of 2,048 nodes, or one less: a****.., aaa.., and ((..a..)).
+// What opens, what is inside, what closes, and how often it opens and closes.
+fn deep_tree(
+    alloc: Global,
+    open: &str,
+    inner: &str,
+    close: &str,
+    times: usize,
+) -> Result<Re, AllocError> {
+    let mut all = Items::new(alloc);
+    append_often(alloc, &mut all, open, times)?;
+    append_often(alloc, &mut all, inner, 1)?;
+    append_often(alloc, &mut all, close, times)?;
+    match parse_re(alloc, all.as_slice(), 0, None) {
+        Ok((re, _)) => Ok(re),
+        Err(_) => Err(AllocError),
+    }
+}
+
+// Trees of 2,048 nodes, or up to three less: a***.., a*a*..a to the right, (((a)a*)a*).. to the left, and ((..a+..)).
 #[test]
 fn deep_trees(rt: HostRuntime) -> Result<(), Fail> {
     let alloc = rt.alloc();
-    for (open, pairs, close) in [
-        (0, 0, (2047, 42)),
-        (0, 1023, (0, 42)),
-        (2047, 0, (2047, 41)),
+    let text = runes(alloc, "aaa")?;
+    for (open, inner, close, times) in [
+        ("", "a", "*", 2_047),
+        ("a*", "a", "", 682),
+        ("(", "a", ")a*", 511),
+        ("(", "a+", ")", 2_046),
     ] {
-        let mut expression = Items::new(alloc);
-        many_of(alloc, 40, open, &mut expression)?;
-        many_of(alloc, 97, pairs + 1, &mut expression)?;
-        many_of(alloc, close.1, close.0, &mut expression)?;
-        let (re, _) = match parse_re(alloc, expression.as_slice(), 0, None) {
-            Ok(answer) => answer,
-            Err(_) => return Err(AllocError.into()),
-        };
-        let mut text = Items::new(alloc);
-        many_of(alloc, 97, pairs + 1, &mut text)?;
-        let want = Some((0, pairs + 1));
-        assert!(rt; first(alloc, &re, &text, 0, text.len(), None)? == want);
+        let re = deep_tree(alloc, open, inner, close, times)?;
+        assert!(rt; first(alloc, &re, &text, 0, 3, None)? == Some((0, 3)));
     }
     Ok(())
 }

@@ -1,0 +1,248 @@
+//! What is known of each part of a tree at one place of a search.
+
+ghost use Rattle.std.specs.Prelude.{◌≡◌, ◌&&◌, IfOk};
+ghost use Rattle.re_syntax.specs.Tree.{tree};
+ghost use Rattle.re_spans.specs.Leaves.{takes};
+ghost use Rattle.re_spans.specs.Marks.{marks_of, mark_of, with_mark, passes, left_enters, right_enters, joined, pair, either, wrapped, with_part, leaf_mark, fresh, stepped, stepped_one, stepped_cat, stepped_alt, OfTwo};
+
+use crate::leaf::{Here, Read, is_null, takes};
+use crate::way::Way;
+use am_text::NoMemory;
+use re_syntax::Re;
+use std::alloc::Global;
+
+/// What is known of a part at a place: whether a match of one rune or more leads there from a place at which
+/// the part was entered, and whether the null text there is a match.
+#[derive(Clone, Copy)]
+pub struct Mark {
+    pub led: bool,
+    pub null: bool,
+}
+
+/// The marks of a tree and its parts.
+#[derive(Drop)]
+pub enum Marks {
+    Leaf(Mark),
+    One(Mark, Box<Marks>),
+    Two(Mark, Box<Marks>, Box<Marks>),
+}
+
+impl Marks {
+    pub fn mark(&self) -> Mark
+        ensures { result ≡ mark_of (marks_of self.now) }
+    {
+        match self {
+            Marks::Leaf(mark) => *mark,
+            Marks::One(mark, _) => *mark,
+            Marks::Two(mark, _, _) => *mark,
+        }
+    }
+
+    fn set(&mut self, mark: Mark)
+        ensures { marks_of self.new ≡ with_mark mark (marks_of self.old) }
+    {
+        match self {
+            Marks::Leaf(old) => *old = mark,
+            Marks::One(old, _) => *old = mark,
+            Marks::Two(old, _, _) => *old = mark,
+        }
+    }
+}
+
+/// Whether a part that is entered or not can be left here.
+pub fn passes(mark: Mark, entered: bool) -> bool
+    ensures { result ≡ passes mark entered }
+{
+    mark.led || (entered && mark.null)
+}
+
+fn left_enters(way: Way, entered: bool, right: Mark) -> bool
+    ensures { result ≡ left_enters way entered right }
+{
+    match way {
+        Way::On => entered,
+        Way::Back => passes(right, entered),
+    }
+}
+
+fn right_enters(way: Way, entered: bool, left: Mark) -> bool
+    ensures { result ≡ right_enters way entered left }
+{
+    match way {
+        Way::On => passes(left, entered),
+        Way::Back => entered,
+    }
+}
+
+// The mark of two parts one after the other.
+fn joined(first: Mark, second: Mark) -> Mark
+    ensures { result ≡ joined first second }
+{
+    Mark {
+        led: second.led || (first.led && second.null),
+        null: first.null && second.null,
+    }
+}
+
+fn pair(way: Way, left: Mark, right: Mark) -> Mark
+    ensures { result ≡ pair way left right }
+{
+    match way {
+        Way::On => joined(left, right),
+        Way::Back => joined(right, left),
+    }
+}
+
+fn either(left: Mark, right: Mark) -> Mark
+    ensures { result ≡ either left right }
+{
+    Mark {
+        led: left.led || right.led,
+        null: left.null || right.null,
+    }
+}
+
+// The mark of a tree with one part, which may be left out where optional holds.
+fn wrapped(part: Mark, optional: bool) -> Mark
+    ensures { result ≡ wrapped part optional }
+{
+    Mark {
+        led: part.led,
+        null: optional || part.null,
+    }
+}
+
+fn leaf_mark(re: &Re, here: Here, led: bool) -> Mark
+    ensures { result ≡ leaf_mark (tree re.now) here led }
+{
+    Mark {
+        led,
+        null: is_null(re, here),
+    }
+}
+
+fn one(alloc: Global, part: Marks, optional: bool) -> Result<Marks, NoMemory>
+    ensures { IfOk result (λ marks. marks_of marks ≡ with_part (marks_of part) optional) }
+{
+    let mark = wrapped(part.mark(), optional);
+    Ok(Marks::One(mark, Box::new(alloc, part)?))
+}
+
+fn two(alloc: Global, mark: Mark, left: Marks, right: Marks) -> Result<Marks, NoMemory>
+    ensures { IfOk result (λ marks. marks_of marks ≡ OfTwo mark (marks_of left) (marks_of right)) }
+{
+    Ok(Marks::Two(mark, Box::new(alloc, left)?, Box::new(alloc, right)?))
+}
+
+/// The marks at a place before which no part was entered.
+pub fn fresh(alloc: Global, re: &Re, way: Way, here: Here) -> Result<Marks, NoMemory>
+    ensures { IfOk result (λ marks. marks_of marks ≡ fresh way (tree re.now) here) }
+{
+    match re {
+        Re::Lit(_) => Ok(Marks::Leaf(leaf_mark(re, here, false))),
+        Re::Any => Ok(Marks::Leaf(leaf_mark(re, here, false))),
+        Re::Class { .. } => Ok(Marks::Leaf(leaf_mark(re, here, false))),
+        Re::Start => Ok(Marks::Leaf(leaf_mark(re, here, false))),
+        Re::End => Ok(Marks::Leaf(leaf_mark(re, here, false))),
+        Re::Cat(a, b) => {
+            let left = fresh(alloc, a, way, here)?;
+            let right = fresh(alloc, b, way, here)?;
+            two(alloc, pair(way, left.mark(), right.mark()), left, right)
+        }
+        Re::Alt(a, b) => {
+            let left = fresh(alloc, a, way, here)?;
+            let right = fresh(alloc, b, way, here)?;
+            two(alloc, either(left.mark(), right.mark()), left, right)
+        }
+        Re::Star(a) => one(alloc, fresh(alloc, a, way, here)?, true),
+        Re::Plus(a) => one(alloc, fresh(alloc, a, way, here)?, false),
+        Re::Opt(a) => one(alloc, fresh(alloc, a, way, here)?, true),
+        Re::Group(_, a) => one(alloc, fresh(alloc, a, way, here)?, false),
+    }
+}
+
+impl Marks {
+    // The marks of a tree with one part, which is entered again where again holds and its matches end.
+    #[cycle(step)]
+    fn step_one(
+        &mut self,
+        part: &Re,
+        way: Way,
+        read: Read,
+        entered: bool,
+        again: bool,
+        optional: bool,
+    )
+        ensures { marks_of self.new ≡ stepped_one (stepped way (tree part.now) read) entered again optional (marks_of self.old) }
+    {
+        match self {
+            Marks::Leaf(_) => {}
+            Marks::One(mark, below) => {
+                let enters = entered || (again && below.mark().led);
+                below.step(part, way, read, enters);
+                *mark = wrapped(below.mark(), optional);
+            }
+            Marks::Two(..) => {}
+        }
+    }
+
+    // The marks of two parts one after the other.
+    #[cycle(step)]
+    fn step_cat(&mut self, a: &Re, b: &Re, way: Way, read: Read, entered: bool)
+        ensures { marks_of self.new ≡ stepped_cat way (stepped way (tree a.now) read) (stepped way (tree b.now) read) entered (marks_of self.old) }
+    {
+        match self {
+            Marks::Leaf(_) => {}
+            Marks::One(..) => {}
+            Marks::Two(mark, left, right) => {
+                let left_entered = left_enters(way, entered, right.mark());
+                let right_entered = right_enters(way, entered, left.mark());
+                left.step(a, way, read, left_entered);
+                right.step(b, way, read, right_entered);
+                *mark = pair(way, left.mark(), right.mark());
+            }
+        }
+    }
+
+    // The marks of two parts of which either is taken.
+    #[cycle(step)]
+    fn step_alt(&mut self, a: &Re, b: &Re, way: Way, read: Read, entered: bool)
+        ensures { marks_of self.new ≡ stepped_alt (stepped way (tree a.now) read) (stepped way (tree b.now) read) entered (marks_of self.old) }
+    {
+        match self {
+            Marks::Leaf(_) => {}
+            Marks::One(..) => {}
+            Marks::Two(mark, left, right) => {
+                left.step(a, way, read, entered);
+                right.step(b, way, read, entered);
+                *mark = either(left.mark(), right.mark());
+            }
+        }
+    }
+
+    fn step_leaf(&mut self, re: &Re, read: Read, entered: bool)
+        ensures { marks_of self.new ≡ with_mark (leaf_mark (tree re.now) read.here (entered && takes (tree re.now) read.rune)) (marks_of self.old) }
+    {
+        self.set(leaf_mark(re, read.here, entered && takes(re, read.rune)));
+    }
+
+    /// The marks at the next place, where the tree is entered at this one or not.
+    #[cycle(step)]
+    pub fn step(&mut self, re: &Re, way: Way, read: Read, entered: bool)
+        ensures { marks_of self.new ≡ stepped way (tree re.now) read entered (marks_of self.old) }
+    {
+        match re {
+            Re::Lit(_) => self.step_leaf(re, read, entered),
+            Re::Any => self.step_leaf(re, read, entered),
+            Re::Class { .. } => self.step_leaf(re, read, entered),
+            Re::Start => self.step_leaf(re, read, entered),
+            Re::End => self.step_leaf(re, read, entered),
+            Re::Cat(a, b) => self.step_cat(a, b, way, read, entered),
+            Re::Alt(a, b) => self.step_alt(a, b, way, read, entered),
+            Re::Star(a) => self.step_one(a, way, read, entered, true, true),
+            Re::Plus(a) => self.step_one(a, way, read, entered, true, false),
+            Re::Opt(a) => self.step_one(a, way, read, entered, false, true),
+            Re::Group(_, a) => self.step_one(a, way, read, entered, false, false),
+        }
+    }
+}
