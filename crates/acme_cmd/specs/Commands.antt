@@ -1,5 +1,5 @@
 -- What a text that is executed asks for.
-use Rattle.std.specs.Prelude.{ℕ, Bool, true, false, ◌&&◌, ◌==◌, List, [], ◌∷◌, drop, Option, Some, None, if◌then◌else◌, codes}
+use Rattle.std.specs.Prelude.{ℕ, Bool, true, false, ◌&&◌, ◌==◌, List, [], ◌∷◌, length, drop, Option, Some, None, if◌then◌else◌, codes}
 use Rattle.am_text.specs.declared.job.JobKind.{JobKind}
 use Rattle.am_text.specs.declared.job.JobKind.TheVariants as kind
 use Rattle.acme_cmd.specs.declared.command.Builtin.{Builtin}
@@ -10,9 +10,8 @@ use Rattle.acme_cmd.specs.Blanks.{after_blanks, word, after_word, trimmed}
 
 -- the text is this name
 unfoldable pub is_name : List ℕ → List ℕ → Bool
-is_name [] [] = true
+is_name text [] = length text == 0
 is_name [] (d ∷ ds) = false
-is_name (c ∷ cs) [] = false
 is_name (c ∷ cs) (d ∷ ds) = c == d && is_name cs ds
 
 -- what the first of these names that is the text stands for

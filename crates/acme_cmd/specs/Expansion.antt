@@ -1,6 +1,5 @@
 -- The text that a click stands for.
-use Rattle.std.specs.Prelude.{ℕ, ◌+◌, ◌-◌, Bool, ◌&&◌, ◌||◌, ◌==◌, List, [], ◌∷◌, take, drop, nat_lt, nat_le, Option, Some, None, if◌then◌else◌}
-use Rattle.std.specs.Bool.{not}
+use Rattle.std.specs.Prelude.{ℕ, ◌+◌, ◌-◌, Bool, ◌&&◌, ◌||◌, ◌==◌, List, [], ◌∷◌, take, drop, nat_lt, nat_le, not, Option, Some, None, if◌then◌else◌}
 use Rattle.std.specs.Char.{is_ascii_alphanumeric}
 use Rattle.std.specs.List.{prefix_len, suffix_len}
 use Rattle.am_text.specs.declared.range.Range.{Range}

@@ -17,7 +17,8 @@ pub(crate) fn is_blank(rune: Rune) -> bool
 
 // The text after the blanks in front.
 pub(crate) fn after_blanks(text: &[Rune]) -> &[Rune]
-    ensures { result.now ≡ after_blanks text.now }
+    ensures exact { result.now ≡ after_blanks text.now }
+    ensures inside { length result.now ≤ length text.now }
 {
     let mut rest = text;
     while let [rune, after @ ..] = rest {
@@ -33,6 +34,7 @@ pub(crate) fn after_blanks(text: &[Rune]) -> &[Rune]
 pub(crate) fn split_word(text: &[Rune]) -> (&[Rune], &[Rune])
     ensures front { result.0.now ≡ word text.now }
     ensures rest { result.1.now ≡ after_word text.now }
+    ensures inside { length result.1.now ≤ length text.now }
 {
     let mut at = 0;
     for rune in text {

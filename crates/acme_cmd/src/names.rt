@@ -1,7 +1,7 @@
 //! Names of files made whole with a directory.
 
-ghost use Rattle.std.specs.Prelude.{◌≡◌, ◌<◌, ◌++◌, ◌∷◌, [], length, IfOk, OnOk, IfSome, IfNone};
-ghost use Rattle.std.specs.List.{slice_split, join_with_byte};
+ghost use Rattle.std.specs.Prelude.{◌≡◌, ◌<◌, ◌≤◌, ◌++◌, ◌∷◌, [], length, IfOk, OnOk, IfSome, IfNone};
+ghost use Rattle.std.specs.List.{slice_split, join_with_byte, position_or_len};
 ghost use Rattle.acme_cmd.specs.Names.{is_slash, begins_in_slash, ends_in_slash, with_slash, joined, is_here, is_up, but_last, after_part, left_of, path, resolved, whole_name};
 
 use am_text::{NoMemory, Rune, Runes};
@@ -85,21 +85,34 @@ fn add_part(alloc: Global, left: &mut Vec<Runes>, part: &[Rune]) -> Result<(), N
     Ok(())
 }
 
+// The place of the first `/`, or the length.
+fn first_slash(text: &[Rune]) -> usize
+    ensures exact { result ≡ position_or_len is_slash text.now }
+    ensures inside { result ≤ length text.now }
+{
+    let mut at = 0;
+    for rune in text {
+        if *rune == SLASH {
+            return at;
+        }
+        at += 1;
+    }
+    at
+}
+
 // The first part and what follows its `/`, if there is one.
+#[tactic(auto, using(crate::proofs::Cuts::cuts))]
 fn cut_part(text: &[Rune]) -> Option<(&[Rune], &[Rune])>
     ensures cut { IfSome result (λ cut. slice_split is_slash text.now ≡ cut.0.now ∷ slice_split is_slash cut.1.now) }
     ensures shorter { IfSome result (λ cut. length cut.1.now < length text.now) }
     ensures one { IfNone result (slice_split is_slash text.now ≡ text.now ∷ []) }
 {
-    let mut at = 0;
-    for rune in text {
-        if *rune == SLASH {
-            let (part, after) = text.split_at(at);
-            return Some((part, &after[1..]));
-        }
-        at += 1;
+    let at = first_slash(text);
+    if at == text.len() {
+        return None;
     }
-    None
+    let (part, rest) = text.split_at(at);
+    Some((part, rest.split_at(1).1))
 }
 
 // The parts that are left of a text.
@@ -120,11 +133,10 @@ fn left_of(alloc: Global, text: &[Rune]) -> Result<Vec<Runes>, NoMemory>
 fn with_slashes(alloc: Global, parts: &[Runes]) -> Result<Runes, NoMemory>
     ensures { IfOk result (λ text. text ≡ join_with_byte 47 parts.now) }
 {
-    let mut text = Runes::new(alloc);
     let [first, others @ ..] = parts else {
-        return Ok(text);
+        return Ok(Runes::new(alloc));
     };
-    text.append(first.as_slice())?;
+    let mut text = Runes::copied(alloc, first.as_slice())?;
     for part in others {
         text.push(SLASH)?;
         text.append(part.as_slice())?;
@@ -133,7 +145,7 @@ fn with_slashes(alloc: Global, parts: &[Runes]) -> Result<Runes, NoMemory>
 }
 
 fn path(alloc: Global, text: &[Rune]) -> Result<Runes, NoMemory>
-    ensures { IfOk result (λ path. path ≡ path text.now) }
+    ensures { IfOk result (λ made. made ≡ path text.now) }
 {
     let parts = left_of(alloc, text)?;
     with_slashes(alloc, parts.as_slice())

@@ -12,19 +12,22 @@ const LESS: Rune = 0x3C;
 const GREATER: Rune = 0x3E;
 
 // Whether a text is this name.
+#[tactic(auto, unfolding(crate::specs::Commands::is_name))]
 pub(crate) fn is_name(text: &[Rune], name: &[u8]) -> bool
     ensures { result ≡ is_name text.now name.now }
 {
     let mut rest = text;
-    let mut wanted = name;
-    while let ([rune, after @ ..], [byte, others @ ..]) = (rest, wanted) {
-        if *rune != Rune::from(*byte) {
-            return false;
+    let mut left = name;
+    while let [byte, bytes @ ..] = left {
+        match rest {
+            [rune, runes @ ..] if *rune == Rune::from(*byte) => {
+                rest = runes;
+                left = bytes;
+            }
+            _ => return false,
         }
-        rest = after;
-        wanted = others;
     }
-    rest.is_empty() && wanted.is_empty()
+    rest.is_empty()
 }
 
 // The built-in commands that do something.
