@@ -1,5 +1,5 @@
 -- Blanks, and texts cut at them.
-use Rattle.std.specs.Prelude.{ℕ, ◌+◌, ◌-◌, Bool, ◌||◌, ◌==◌, List, [], ◌∷◌, length, if◌then◌else◌}
+use Rattle.std.specs.Prelude.{ℕ, ◌+◌, ◌-◌, ◌≤◌, Bool, ◌||◌, ◌==◌, List, [], ◌∷◌, length, if◌then◌else◌}
 use Rattle.std.specs.List.{suffix_len}
 use Rattle.am_text.specs.declared.range.Range.{Range}
 
@@ -29,9 +29,13 @@ end_of text = length text - suffix_len is_blank text
 abbrev pub place_of : List ℕ → List ℕ → ℕ
 place_of text rest = length text - length rest
 
+-- the range lies in a text of this length
+abbrev pub IsIn : ℕ → Range → Type 0
+IsIn n r = (r.q0 ≤ r.q1) × (r.q1 ≤ n)
+
 -- where the end of a text stands in it, without the blanks at both its ends
 abbrev pub trimmed : List ℕ → List ℕ → Range
 trimmed text rest = record {
-    q0 = place_of text (after_blanks rest);
-    q1 = place_of text (after_blanks rest) + end_of (after_blanks rest)
-  }
+  q0 = place_of text (after_blanks rest);
+  q1 = place_of text (after_blanks rest) + end_of (after_blanks rest);
+}

@@ -1,12 +1,12 @@
 -- What a text that is executed asks for.
-use Rattle.std.specs.Prelude.{ℕ, Bool, true, false, ◌&&◌, ◌==◌, List, [], ◌∷◌, length, drop, Option, Some, None, if◌then◌else◌, codes}
+use Rattle.std.specs.Prelude.{ℕ, Bool, true, false, ◌&&◌, ◌==◌, List, [], ◌∷◌, length, drop, Option, Some, None, if◌then◌else◌, codes, ⊤}
 use Rattle.am_text.specs.declared.job.JobKind.{JobKind}
 use Rattle.am_text.specs.declared.job.JobKind.TheVariants as kind
 use Rattle.acme_cmd.specs.declared.command.Builtin.{Builtin}
 use Rattle.acme_cmd.specs.declared.command.Builtin.TheVariants as builtin
 use Rattle.acme_cmd.specs.declared.command.Command.{Command}
 use Rattle.acme_cmd.specs.declared.command.Command.TheVariants as command
-use Rattle.acme_cmd.specs.Blanks.{after_blanks, word, after_word, trimmed}
+use Rattle.acme_cmd.specs.Blanks.{after_blanks, word, after_word, IsIn, trimmed}
 
 -- the text is this name
 unfoldable pub is_name : List ℕ → List ℕ → Bool
@@ -55,6 +55,12 @@ abbrev pub command_of : List ℕ → Option JobKind → Option Builtin → Comma
 command_of text (Some k) b = command.Pipe k (trimmed text (drop 1 text))
 command_of text None (Some b) = command.Builtin b (trimmed text (after_word (after_blanks text)))
 command_of text None None = command.External
+
+-- the argument lies in a text of this length
+abbrev pub HasItsArgumentIn : ℕ → Command → Type 0
+HasItsArgumentIn n (command.Builtin b r) = IsIn n r
+HasItsArgumentIn n (command.Pipe k r) = IsIn n r
+HasItsArgumentIn n command.External = ⊤
 
 -- what a text asks for, with the range of the argument
 abbrev pub classified : List ℕ → Command

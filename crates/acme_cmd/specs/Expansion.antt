@@ -1,5 +1,5 @@
 -- The text that a click stands for.
-use Rattle.std.specs.Prelude.{ℕ, ◌+◌, ◌-◌, Bool, ◌&&◌, ◌||◌, ◌==◌, List, [], ◌∷◌, take, drop, nat_lt, nat_le, not, Option, Some, None, if◌then◌else◌}
+use Rattle.std.specs.Prelude.{ℕ, ◌+◌, ◌-◌, ◌<◌, ◌≤◌, Bool, ◌&&◌, ◌||◌, ◌==◌, List, take, drop, nat_lt, nat_le, not, Option, Some, None, if◌then◌else◌}
 use Rattle.std.specs.Char.{is_ascii_alphanumeric}
 use Rattle.std.specs.List.{prefix_len, suffix_len}
 use Rattle.am_text.specs.declared.range.Range.{Range}
@@ -27,6 +27,10 @@ run over text at = record { q0 = at - suffix_len over (take at text); q1 = at + 
 -- a range, if it isn't null
 abbrev pub not_null : Range → Option Range
 not_null r = if nat_lt r.q0 r.q1 then Some r else None
+
+-- a range that isn't null and lies in a text of this length
+abbrev pub IsFound : ℕ → Range → Type 0
+IsFound n r = (r.q0 < r.q1) × (r.q1 ≤ n)
 
 -- dot, if it isn't null and the place is in it or at one of its ends
 abbrev pub holding : Option Range → ℕ → Option Range

@@ -1,5 +1,5 @@
 -- Names of files made whole with a directory.
-use Rattle.std.specs.Prelude.{ℕ, ◌-◌, Bool, true, false, ◌&&◌, ◌==◌, List, [], ◌∷◌, ◌++◌, length, take, slice_index, fold, if◌then◌else◌}
+use Rattle.std.specs.Prelude.{ℕ, ◌-◌, Bool, false, ◌&&◌, ◌==◌, List, [], ◌∷◌, ◌++◌, length, take, slice_index, fold, if◌then◌else◌}
 use Rattle.std.specs.List.{slice_split, join_with_byte}
 
 abbrev pub is_slash : ℕ → Bool

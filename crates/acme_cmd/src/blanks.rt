@@ -1,12 +1,14 @@
 //! Blanks, and texts cut at them.
 
 ghost use Rattle.std.specs.Prelude.{◌≡◌, ◌+◌, ◌-◌, ◌≤◌, length};
-ghost use Rattle.acme_cmd.specs.Blanks.{is_blank, after_blanks, word, after_word, end_of, trimmed};
+ghost use Rattle.acme_cmd.specs.Blanks.{is_blank, after_blanks, word, after_word, end_of, trimmed, IsIn};
 
 use am_text::{Range, Rune};
 
 const BLANK: Rune = 0x20;
+
 const TAB: Rune = 0x09;
+
 const NEWLINE: Rune = 0x0A;
 
 pub(crate) fn is_blank(rune: Rune) -> bool
@@ -61,7 +63,8 @@ fn end_of(text: &[Rune]) -> usize
 // Where the end of a text stands in it, without the blanks at both its ends.
 pub(crate) fn trimmed(text: &[Rune], rest: &[Rune]) -> Range
     requires { length rest.now ≤ length text.now }
-    ensures { result ≡ trimmed text.now rest.now }
+    ensures exact { result ≡ trimmed text.now rest.now }
+    ensures inside { IsIn (length text.now) result }
 {
     let argument = after_blanks(rest);
     let q0 = text.len() - argument.len();

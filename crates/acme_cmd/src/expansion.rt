@@ -1,8 +1,8 @@
 //! The text that a click stands for.
 
-ghost use Rattle.std.specs.Prelude.{◌≡◌, ◌≤◌, ◌<◌, ◌-◌, ◌+◌, length, take, drop, IfSome};
+ghost use Rattle.std.specs.Prelude.{◌≡◌, ◌≤◌, ◌<◌, ◌-◌, ◌+◌, length, take, drop, IfSome, ℕ};
 ghost use Rattle.std.specs.List.{prefix_len, suffix_len};
-ghost use Rattle.acme_cmd.specs.Expansion.{is_sign, is_look, is_over, not_null, holding, expansion};
+ghost use Rattle.acme_cmd.specs.Expansion.{is_sign, is_look, is_over, not_null, holding, expansion, IsFound};
 
 use crate::blanks::is_blank;
 use am_text::{Letters, Range, Rune};
@@ -64,7 +64,8 @@ fn run_start<T: Letters>(text: &T, at: usize, click: Click) -> usize
 // The end of the run that begins at a place.
 fn run_end<T: Letters>(text: &T, at: usize, click: Click) -> usize
     requires { at ≤ length (T.letters text.now) }
-    ensures { result ≡ at + prefix_len (is_over click) (drop at (T.letters text.now)) }
+    ensures exact { result ≡ at + prefix_len (is_over click) (drop at (T.letters text.now)) }
+    ensures inside { result ≤ length (T.letters text.now) }
 {
     let length = text.len();
     let mut end = at;
@@ -75,14 +76,20 @@ fn run_end<T: Letters>(text: &T, at: usize, click: Click) -> usize
 }
 
 fn not_null(range: Range) -> Option<Range>
-    ensures { result ≡ not_null range }
+    ensures exact { result ≡ not_null range }
+    ensures found { IfSome result (λ r. (r.q0 < r.q1) × (r.q1 ≤ range.q1)) }
 {
-    if range.q0 < range.q1 { Some(range) } else { None }
+    if range.q0 < range.q1 {
+        Some(range)
+    } else {
+        None
+    }
 }
 
 // Dot, if it isn't null and the place is in it or at one of its ends.
 fn holding(dot: Option<Range>, at: usize) -> Option<Range>
-    ensures { result ≡ holding dot at }
+    ensures exact { result ≡ holding dot at }
+    ensures found { (n : ℕ) → IfSome dot (λ d. d.q1 ≤ n) → IfSome result (IsFound n) }
 {
     match dot {
         Some(dot) if dot.q0 < dot.q1 && dot.q0 <= at && at <= dot.q1 => Some(dot),
@@ -96,6 +103,8 @@ fn holding(dot: Option<Range>, at: usize) -> Option<Range>
 pub fn expand<T: Letters>(text: &T, dot: Option<Range>, at: usize, click: Click) -> Option<Range>
     requires place { at ≤ length (T.letters text.now) }
     ensures exact { result ≡ expansion (T.letters text.now) dot at click }
+    // Where dot lies in the text, so does what is found.
+    ensures inside { let n = length (T.letters text.now) in IfSome dot (λ d. d.q1 ≤ n) → IfSome result (IsFound n) }
 {
     match holding(dot, at) {
         Some(dot) => Some(dot),

@@ -8,6 +8,7 @@ use am_text::{NoMemory, Rune, Runes};
 use std::alloc::Global;
 
 const SLASH: Rune = 0x2F;
+
 const DOT: Rune = 0x2E;
 
 fn begins_in_slash(text: &[Rune]) -> bool

@@ -1,14 +1,16 @@
 //! Reading a text that is executed.
 
 ghost use Rattle.std.specs.Prelude.{◌≡◌, ◌<◌, ◌≤◌, length};
-ghost use Rattle.acme_cmd.specs.Commands.{is_name, done_of, is_idle, builtin_of, sign_of, classified};
+ghost use Rattle.acme_cmd.specs.Commands.{is_name, done_of, is_idle, builtin_of, sign_of, classified, HasItsArgumentIn};
 
 use crate::blanks::{after_blanks, split_word, trimmed};
 use crate::command::{Builtin, Command};
 use am_text::{JobKind, Rune};
 
 const BAR: Rune = 0x7C;
+
 const LESS: Rune = 0x3C;
+
 const GREATER: Rune = 0x3E;
 
 // Whether a text is this name.
@@ -131,6 +133,7 @@ fn sign_of(text: &[Rune]) -> Option<JobKind>
 /// command and of the argument are left out. It takes no memory.
 pub fn classify(text: &[Rune]) -> Command
     ensures exact { result ≡ classified text.now }
+    ensures inside { HasItsArgumentIn (length text.now) result }
 {
     if let Some(kind) = sign_of(text) {
         return Command::Pipe(kind, trimmed(text, &text[1..]));

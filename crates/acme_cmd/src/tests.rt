@@ -11,19 +11,21 @@ fn reads_as(alloc: Global, text: &[u8], wanted: Command) -> Result<bool, NoMemor
 
 // A built-in command with an argument, one at the text's end, and an idle one.
 fn are_builtin(alloc: Global) -> Result<bool, NoMemory> {
-    Ok(reads_as(
-        alloc,
-        b" Get\t/a b \n",
-        Command::Builtin(Builtin::Get, Range { q0: 5, q1: 9 }),
-    )? && reads_as(
-        alloc,
-        b"Delete",
-        Command::Builtin(Builtin::Delete, Range { q0: 6, q1: 6 }),
-    )? && reads_as(
-        alloc,
-        b"Zerox x",
-        Command::Builtin(Builtin::Idle, Range { q0: 6, q1: 7 }),
-    )?)
+    Ok(
+        reads_as(
+            alloc,
+            b" Get\t/a b \n",
+            Command::Builtin(Builtin::Get, Range { q0: 5, q1: 9 }),
+        )? && reads_as(
+            alloc,
+            b"Delete",
+            Command::Builtin(Builtin::Delete, Range { q0: 6, q1: 6 }),
+        )? && reads_as(
+            alloc,
+            b"Zerox x",
+            Command::Builtin(Builtin::Idle, Range { q0: 6, q1: 7 }),
+        )?,
+    )
 }
 
 #[test]
@@ -35,17 +37,19 @@ fn words_are_builtin(rt: HostRuntime) -> Result<(), Fail> {
 
 // A text with a sign, one with a sign after a blank, blanks alone, and a longer word.
 fn are_others(alloc: Global) -> Result<bool, NoMemory> {
-    Ok(reads_as(
-        alloc,
-        b"< ls -l\n",
-        Command::Pipe(JobKind::From, Range { q0: 2, q1: 7 }),
-    )? && reads_as(
-        alloc,
-        b">",
-        Command::Pipe(JobKind::To, Range { q0: 1, q1: 1 }),
-    )? && reads_as(alloc, b" |x", Command::External)?
-        && reads_as(alloc, b" \n", Command::External)?
-        && reads_as(alloc, b"Dels", Command::External)?)
+    Ok(
+        reads_as(
+            alloc,
+            b"< ls -l\n",
+            Command::Pipe(JobKind::From, Range { q0: 2, q1: 7 }),
+        )? && reads_as(
+            alloc,
+            b">",
+            Command::Pipe(JobKind::To, Range { q0: 1, q1: 1 }),
+        )? && reads_as(alloc, b" |x", Command::External)?
+            && reads_as(alloc, b" \n", Command::External)?
+            && reads_as(alloc, b"Dels", Command::External)?,
+    )
 }
 
 #[test]
@@ -62,16 +66,56 @@ struct Named {
 }
 
 const NAMES: [Named; 10] = [
-    Named { dir: b"/d/", name: b"x", whole: b"/d/x" },
-    Named { dir: b"/d", name: b"x", whole: b"/d/x" },
-    Named { dir: b"", name: b"x", whole: b"/x" },
-    Named { dir: b"/d/", name: b"/a/b/..", whole: b"/a" },
-    Named { dir: b"/d/", name: b"/a/b/../", whole: b"/a/" },
-    Named { dir: b"/d/", name: b"../../..", whole: b"/" },
-    Named { dir: b"/d/", name: b"./x/.", whole: b"/d/x" },
-    Named { dir: b"/d/", name: b"", whole: b"/d/" },
-    Named { dir: b"/d/", name: b"a//..", whole: b"/d/a" },
-    Named { dir: b"d", name: b"../x", whole: b"x" },
+    Named {
+        dir: b"/d/",
+        name: b"x",
+        whole: b"/d/x",
+    },
+    Named {
+        dir: b"/d",
+        name: b"x",
+        whole: b"/d/x",
+    },
+    Named {
+        dir: b"",
+        name: b"x",
+        whole: b"/x",
+    },
+    Named {
+        dir: b"/d/",
+        name: b"/a/b/..",
+        whole: b"/a",
+    },
+    Named {
+        dir: b"/d/",
+        name: b"/a/b/../",
+        whole: b"/a/",
+    },
+    Named {
+        dir: b"/d/",
+        name: b"../../..",
+        whole: b"/",
+    },
+    Named {
+        dir: b"/d/",
+        name: b"./x/.",
+        whole: b"/d/x",
+    },
+    Named {
+        dir: b"/d/",
+        name: b"",
+        whole: b"/d/",
+    },
+    Named {
+        dir: b"/d/",
+        name: b"a//..",
+        whole: b"/d/a",
+    },
+    Named {
+        dir: b"d",
+        name: b"../x",
+        whole: b"x",
+    },
 ];
 
 fn is_whole(alloc: Global, row: &Named) -> Result<bool, NoMemory> {
@@ -119,18 +163,22 @@ fn range(q0: usize, q1: usize) -> Option<Range> {
 
 fn runs_are_found(alloc: Global) -> Result<bool, NoMemory> {
     let text = b"a /b:3\t(c)";
-    Ok(expands(alloc, text, None, 3, Click::Exec, range(2, 6))?
-        && expands(alloc, text, None, 7, Click::Exec, range(7, 10))?
-        && expands(alloc, text, None, 6, Click::Look, range(2, 6))?
-        && expands(alloc, text, None, 9, Click::Look, range(8, 9))?
-        && expands(alloc, text, None, 10, Click::Look, None)?)
+    Ok(
+        expands(alloc, text, None, 3, Click::Exec, range(2, 6))?
+            && expands(alloc, text, None, 7, Click::Exec, range(7, 10))?
+            && expands(alloc, text, None, 6, Click::Look, range(2, 6))?
+            && expands(alloc, text, None, 9, Click::Look, range(8, 9))?
+            && expands(alloc, text, None, 10, Click::Look, None)?,
+    )
 }
 
 fn dot_is_taken(alloc: Global) -> Result<bool, NoMemory> {
     let text = b"a /b:3\t(c)";
-    Ok(expands(alloc, text, range(1, 4), 4, Click::Look, range(1, 4))?
-        && expands(alloc, text, range(1, 4), 5, Click::Look, range(2, 6))?
-        && expands(alloc, text, range(3, 3), 3, Click::Exec, range(2, 6))?)
+    Ok(
+        expands(alloc, text, range(1, 4), 4, Click::Look, range(1, 4))?
+            && expands(alloc, text, range(1, 4), 5, Click::Look, range(2, 6))?
+            && expands(alloc, text, range(3, 3), 3, Click::Exec, range(2, 6))?,
+    )
 }
 
 #[test]
