@@ -1,0 +1,4 @@
+pub mod Blanks
+pub mod Commands
+pub mod Names
+pub mod Expansion

@@ -1,0 +1,15 @@
+//! What the texts of Exec and Look are read as.
+#![tactic(auto)]
+
+mod blanks;
+mod command;
+mod expansion;
+mod names;
+mod reading;
+#[cfg(test)]
+mod tests;
+
+pub use command::{Builtin, Command};
+pub use expansion::{Click, expand};
+pub use names::whole;
+pub use reading::classify;
