@@ -1,0 +1,15 @@
+//! The tree of files and directories, a map of paths.
+#![tactic(auto)]
+
+mod listing;
+mod nodes;
+mod paths;
+mod tree;
+mod types;
+mod undo;
+
+pub use tree::Tree;
+pub use types::{Found, TreeFault};
+
+#[cfg(test)]
+mod tests;
