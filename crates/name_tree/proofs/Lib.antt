@@ -1,0 +1,3 @@
+pub mod EntryLemmas
+pub mod PathLemmas
+pub mod UndoLemmas

@@ -14,7 +14,7 @@ use std::marker::Model;
 /// Files and directories, each with its path, in the byte order of the paths.
 #[derive(Drop)]
 pub struct Nodes {
-    map: BTreeMap<Vec<u8>, Node>,
+    by_path: BTreeMap<Vec<u8>, Node>,
 }
 
 impl Model for Nodes {
@@ -23,7 +23,7 @@ impl Model for Nodes {
 
     ghost Value = { List (List ℕ × Node) };
 
-    ghost view = { λ n. map (λ e. (e.0.items, e.1)) n.map.entries };
+    ghost view = { λ n. map (λ e. (e.0.items, e.1)) n.by_path.entries };
 }
 
 impl Nodes {
@@ -32,7 +32,7 @@ impl Nodes {
         ensures { result ≡ [] }
     {
         Nodes {
-            map: BTreeMap::new(alloc),
+            by_path: BTreeMap::new(alloc),
         }
     }
 
@@ -40,7 +40,7 @@ impl Nodes {
     pub fn get(&self, path: &[u8]) -> Option<&Node>
         ensures { option_copied result ≡ entry_at self.now path.now }
     {
-        self.map.get(path)
+        self.by_path.get(path)
     }
 
     /// Puts a path that isn't there in its place. A refusal changes nothing.
@@ -48,7 +48,7 @@ impl Nodes {
         ensures ok { OnOk result (self.new ≡ inserted self.old path.items node) }
         ensures err { OnErr result (self.new ≡ self.old) }
     {
-        self.map.insert(path, node)?;
+        self.by_path.insert(path, node)?;
         Ok(())
     }
 
@@ -58,7 +58,7 @@ impl Nodes {
         ensures before { result ≡ entry_at self.old path.now }
         ensures new { self.new ≡ replaced self.old path.now node }
     {
-        let Some(slot) = self.map.get_mut(path) else {
+        let Some(slot) = self.by_path.get_mut(path) else {
             return None;
         };
         Some(std::mem::replace(slot, node))
@@ -68,7 +68,7 @@ impl Nodes {
     pub fn remove(&mut self, path: &[u8])
         ensures { self.new ≡ without self.old path.now }
     {
-        self.map.remove(path);
+        self.by_path.remove(path);
     }
 
     /// The lines of the entries whose paths are the prefix and a name.
@@ -76,7 +76,7 @@ impl Nodes {
         ensures { IfOk result (λ text. text ≡ lines_after prefix.now self.now) }
     {
         let mut text = Bytes::new(alloc);
-        for (path, node) in self.map.iter() {
+        for (path, node) in self.by_path.iter() {
             add_line(&mut text, prefix, path.as_slice(), node)?;
         }
         Ok(text)

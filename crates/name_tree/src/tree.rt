@@ -4,9 +4,9 @@ ghost use Rattle.std.specs.Prelude.{◌≡◌, ◌↔◌, [], is_some, Some, Non
 ghost use Rattle.am_text.specs.Twice.{both};
 ghost use Rattle.name_tree.specs.Entries.{entry_at, inserted, replaced, with_node};
 ghost use Rattle.name_tree.specs.Paths.{above};
-ghost use Rattle.name_tree.specs.Kinds.{is_file, is_directory, is_below_file, file_clashes, directory_clashes, with_directory, with_directories, after_file, after_directory};
+ghost use Rattle.name_tree.specs.Kinds.{is_file, is_directory, is_file_before, is_below_file, file_clashes, directory_clashes, with_directory, with_directory_before, with_directories, after_file, after_directory};
 ghost use Rattle.name_tree.specs.Listing.{found_at};
-ghost use Rattle.name_tree.specs.declared.types.TreeFault.TheVariants.{Clash, NoMemory};
+ghost use Rattle.name_tree.specs.declared.types.TreeFault.TheVariants as fault;
 ghost use Rattle.name_tree.specs.declared.types.Node.TheVariants.{File, Directory};
 
 use crate::listing::prefix_of;
@@ -83,12 +83,19 @@ impl Tree {
         is_root(path) || matches!(self.nodes.get(path), Some(Node::Directory))
     }
 
+    /// Whether the front is a file where a directory's path ends before this byte.
+    fn is_file_before(&self, front: &[u8], byte: u8) -> bool
+        ensures { result ≡ is_file_before self.now.present front.now byte }
+    {
+        ends_before(front, byte) && self.is_file(front)
+    }
+
     /// Whether a directory above the path is a file.
     fn is_below_file(&self, path: &[u8]) -> bool
         ensures { result ≡ is_below_file self.now.present path.now }
     {
         for k in 0..path.len() {
-            if ends_before(&path[..k], path[k]) && self.is_file(&path[..k]) {
+            if self.is_file_before(&path[..k], path[k]) {
                 return true;
             }
         }
@@ -143,15 +150,26 @@ impl Tree {
         self.add(path, Node::Directory)
     }
 
+    /// Makes the front a directory where a directory's path ends before this byte.
+    fn make_before(&mut self, front: &[u8], byte: u8) -> Result<(), NoMemory>
+        ensures ok { OnOk result (self.new ≡ record self.old { present = with_directory_before self.old.present front.now byte }) }
+        ensures err { OnErr result (self.new ≡ self.old) }
+    {
+        if ends_before(front, byte) {
+            self.make_directory(front)
+        } else {
+            Ok(())
+        }
+    }
+
     /// Makes the directories above the path.
+    #[tactic(auto, using(crate::proofs::PathLemmas::directories_next, crate::proofs::PathLemmas::directories_end))]
     fn make_above(&mut self, path: &[u8]) -> Result<(), NoMemory>
         ensures ok { OnOk result (self.new ≡ record self.old { present = with_directories self.old.present (above path.now) }) }
         ensures err { OnErr result (self.new.kept ≡ self.old.kept) }
     {
         for k in 0..path.len() {
-            if ends_before(&path[..k], path[k]) {
-                self.make_directory(&path[..k])?;
-            }
+            self.make_before(&path[..k], path[k])?;
         }
         Ok(())
     }
@@ -171,10 +189,10 @@ impl Tree {
     /// `Clash` comes exactly where the path is a directory or a directory above it is a file, and
     /// then nothing changes.
     pub fn file(&mut self, path: &[u8], bytes: &[u8]) -> Result<(), TreeFault>
-        ensures clash { (result ≡ Err Clash) ↔ IsTrue (file_clashes self.old.present path.now) }
-        ensures stays { result ≡ Err Clash → self.new ≡ self.old }
+        ensures clash { (result ≡ Err fault.Clash) ↔ IsTrue (file_clashes self.old.present path.now) }
+        ensures stays { result ≡ Err fault.Clash → self.new ≡ self.old }
         ensures ok { OnOk result (self.new ≡ record self.old { present = after_file self.old.present path.now bytes.now }) }
-        ensures no_memory { result ≡ Err NoMemory → self.new ≡ both self.old.kept }
+        ensures no_memory { result ≡ Err fault.NoMemory → self.new ≡ both self.old.kept }
     {
         if self.is_directory(path) || self.is_below_file(path) {
             return Err(TreeFault::Clash);
@@ -201,10 +219,10 @@ impl Tree {
     /// `Clash` comes exactly where the path is a file or a directory above it is a file, and then
     /// nothing changes.
     pub fn dir(&mut self, path: &[u8]) -> Result<(), TreeFault>
-        ensures clash { (result ≡ Err Clash) ↔ IsTrue (directory_clashes self.old.present path.now) }
-        ensures stays { result ≡ Err Clash → self.new ≡ self.old }
+        ensures clash { (result ≡ Err fault.Clash) ↔ IsTrue (directory_clashes self.old.present path.now) }
+        ensures stays { result ≡ Err fault.Clash → self.new ≡ self.old }
         ensures ok { OnOk result (self.new ≡ record self.old { present = after_directory self.old.present path.now }) }
-        ensures no_memory { result ≡ Err NoMemory → self.new ≡ both self.old.kept }
+        ensures no_memory { result ≡ Err fault.NoMemory → self.new ≡ both self.old.kept }
     {
         if self.is_file(path) || self.is_below_file(path) {
             return Err(TreeFault::Clash);
