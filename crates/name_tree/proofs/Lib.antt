@@ -1,3 +1,4 @@
 pub mod EntryLemmas
 pub mod PathLemmas
 pub mod UndoLemmas
+pub mod LawLemmas

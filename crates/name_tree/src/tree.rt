@@ -5,6 +5,7 @@ ghost use Rattle.am_text.specs.Twice.{both};
 ghost use Rattle.name_tree.specs.Entries.{entry_at, inserted, replaced, with_node};
 ghost use Rattle.name_tree.specs.Paths.{above};
 ghost use Rattle.name_tree.specs.Kinds.{is_file, is_directory, is_file_before, is_below_file, file_clashes, directory_clashes, with_directory, with_directory_before, with_directories, after_file, after_directory};
+ghost use Rattle.name_tree.specs.Laws.{IsOrdered};
 ghost use Rattle.name_tree.specs.Listing.{found_at};
 ghost use Rattle.name_tree.specs.declared.types.TreeFault.TheVariants as fault;
 ghost use Rattle.name_tree.specs.declared.types.Node.TheVariants.{File, Directory};
@@ -237,16 +238,22 @@ impl Tree {
     }
 
     /// What is at the path: a copy of a file's bytes, or a directory's listing. `Found::None` comes
-    /// exactly where the path is neither a file nor a directory.
+    /// exactly where the path is neither a file nor a directory. The tree's paths ascend in byte
+    /// order, and so do the names of a listing.
     pub fn get(&self, path: &[u8]) -> Result<Found, NoMemory>
-        ensures { IfOk result (λ found. found ≡ found_at self.now.present path.now) }
+        ensures found { IfOk result (λ found. found ≡ found_at self.now.present path.now) }
+        ensures ordered { IsOrdered self.now.present }
     {
+        let _count = self.nodes.len(); // for its clause on the order of the paths
         if self.is_directory(path) {
             let prefix = prefix_of(self.alloc, path)?;
             return Ok(Found::Dir(self.nodes.lines_after(self.alloc, prefix.as_slice())?));
         }
         match self.nodes.get(path) {
-            Some(Node::File(bytes)) => Ok(Found::File(Bytes::copied(self.alloc, bytes.as_slice())?)),
+            Some(Node::File(bytes)) => Ok(Found::File(Bytes::copied(
+                self.alloc,
+                bytes.as_slice(),
+            )?)),
             _ => Ok(Found::None),
         }
     }
