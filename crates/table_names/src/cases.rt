@@ -133,12 +133,7 @@ fn found(alloc: Global, tree: &Tree, path: &str) -> Result<Bytes, Fault> {
     }
 }
 
-fn with_fields(
-    alloc: Global,
-    tree: &mut Tree,
-    word: &str,
-    fields: &str,
-) -> Result<Bytes, Fault> {
+fn with_fields(alloc: Global, tree: &mut Tree, word: &str, fields: &str) -> Result<Bytes, Fault> {
     match word {
         "whole" => whole_name(alloc, fields),
         "classify" => command(alloc, fields),

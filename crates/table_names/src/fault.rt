@@ -4,7 +4,7 @@ use am_text::NoMemory;
 use std::alloc::AllocError;
 
 /// Why a line is not answered.
-#[derive(Clone, Copy, Debug, PartialEq, Eq)]
+#[derive(Clone, Copy, Debug)]
 pub enum Fault {
     /// It is no case.
     NoCase,
