@@ -42,22 +42,26 @@ fn are_listed(alloc: Global) -> Result<bool, NoMemory> {
     let ctl = ctl_text(alloc, 1, tag.len(), 0, false, false)?;
     let two = decode_whole(alloc, b"a\nb")?;
     let cut = index_line(alloc, 2, &two, 4, true, true)?;
-    Ok(index.as_slice() == INDEX
-        && index.len() == 79
-        && ctl.as_slice() == CTL
-        && ctl.len() == 90
-        && cut.as_slice()
-            == b"          2           3           4           1           1 a\n".as_slice())
+    Ok(
+        index.as_slice() == INDEX
+            && index.len() == 79
+            && ctl.as_slice() == CTL
+            && ctl.len() == 90
+            && cut.as_slice()
+                == b"          2           3           4           1           1 a\n".as_slice(),
+    )
 }
 
 fn are_texts(alloc: Global) -> Result<bool, NoMemory> {
-    Ok(are_listed(alloc)?
-        && is_tag(alloc, b"/a/b", false, b"/a/b Del Snarf Undo Put | Look ")?
-        && is_tag(alloc, b"", false, b" Del Snarf Undo | Look ")?
-        && is_tag(alloc, b"/a/", true, b"/a/ Del Snarf Redo Get | Look ")?
-        && is_directory(alloc, b"/a/b", b"/a/")?
-        && is_directory(alloc, b"/a/", b"/a/")?
-        && is_directory(alloc, b"b", b"/")?)
+    Ok(
+        are_listed(alloc)?
+            && is_tag(alloc, b"/a/b", false, b"/a/b Del Snarf Undo Put | Look ")?
+            && is_tag(alloc, b"", false, b" Del Snarf Undo | Look ")?
+            && is_tag(alloc, b"/a/", true, b"/a/ Del Snarf Redo Get | Look ")?
+            && is_directory(alloc, b"/a/b", b"/a/")?
+            && is_directory(alloc, b"/a/", b"/a/")?
+            && is_directory(alloc, b"b", b"/")?,
+    )
 }
 
 #[test]
@@ -106,7 +110,14 @@ fn messages(rt: HostRuntime) -> Result<(), Fail> {
     let alloc = rt.alloc();
     assert!(rt; gives_name(alloc) && is_clean(alloc));
     assert!(rt; IDLE.iter().all(|line| is_idle(alloc, line)));
-    assert!(rt; UNKNOWN.iter().all(|line| is_fault(alloc, line, CtlFault::Unknown)));
-    assert!(rt; BAD.iter().all(|line| is_fault(alloc, line, CtlFault::BadName)));
+    assert!(rt;
+        UNKNOWN
+            .iter()
+            .all(|line| is_fault(alloc, line, CtlFault::Unknown))
+    );
+    assert!(rt;
+        BAD.iter()
+            .all(|line| is_fault(alloc, line, CtlFault::BadName))
+    );
     Ok(())
 }
