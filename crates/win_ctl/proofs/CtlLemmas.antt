@@ -1,10 +1,8 @@
 -- Lemmas on control messages, tags and directories.
-use Rattle.std.proofs.Common.{◌≡◌, ◌≢◌, ℕ, ◌+◌, ◌<◌, ◌++◌, ◌∷◌, [], List, Bool, true, false, cond, eqb, length, take, get_or, append_assoc, refl, arith}
+use Rattle.std.proofs.Common.{◌≡◌, ◌≢◌, ℕ, ◌+◌, ◌<◌, ◌++◌, ◌∷◌, [], List, Bool, true, false, cond, eqb, length, take, get_or, append_assoc}
 use Rattle.std.specs.Prelude.{Result, Ok, Err}
 use Rattle.std.proofs.lemmas.List.{append-nil, take_more}
-use Rattle.win_ctl.specs.declared.message.CtlMsg.{CtlMsg}
 use Rattle.win_ctl.specs.declared.message.CtlMsg.TheVariants as msg
-use Rattle.win_ctl.specs.declared.message.CtlFault.{CtlFault}
 use Rattle.win_ctl.specs.declared.message.CtlFault.TheVariants as fault
 use Rattle.win_ctl.specs.Messages.{name_msg, is_bad_name}
 

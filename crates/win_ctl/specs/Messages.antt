@@ -53,9 +53,13 @@ after_front [] bs = Some bs
 after_front (f ∷ fs) [] = None
 after_front (f ∷ fs) (b ∷ bs) = if b == f then after_front fs bs else None
 
--- no name for a window: an empty text, or one with a rune of at most U+0020
+-- a rune is at most U+0020
+abbrev pub has_blank : List ℕ → Bool
+has_blank name = list_any (λ c. nat_le c 0x20) name
+
+-- no name for a window: an empty text, or one with such a rune
 abbrev pub is_bad_name : List ℕ → Bool
-is_bad_name name = (length name == 0) || list_any (λ c. nat_le c 0x20) name
+is_bad_name name = (length name == 0) || has_blank name
 
 abbrev pub name_msg : List ℕ → Result CtlMsg CtlFault
 name_msg name = if is_bad_name name then Err fault.BadName else Ok (msg.Name name)

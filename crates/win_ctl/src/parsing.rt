@@ -2,7 +2,7 @@
 
 ghost use Rattle.std.specs.Prelude.{◌≡◌, IfOk, IfErr, Ok};
 ghost use Rattle.am_text.specs.Utf8.{decode};
-ghost use Rattle.win_ctl.specs.Messages.{looked_up, range_messages, window_messages, idle_messages, is_dump, plain_msg, is_bad_name, name_msg, ctl_of, Refuses};
+ghost use Rattle.win_ctl.specs.Messages.{looked_up, range_messages, window_messages, idle_messages, is_dump, plain_msg, has_blank, is_bad_name, name_msg, ctl_of, Refuses};
 
 use crate::fronts::after_front;
 use crate::message::{CtlFault, CtlMsg};
@@ -91,10 +91,17 @@ fn plain_msg(line: &[u8]) -> Option<CtlMsg>
     idle_msg(line)
 }
 
+// Whether a rune is a blank or a control.
+fn has_blank(name: &[Rune]) -> bool
+    ensures { result ≡ has_blank name.now }
+{
+    name.iter().any(|rune| *rune <= 0x20)
+}
+
 fn is_bad_name(name: &[Rune]) -> bool
     ensures { result ≡ is_bad_name name.now }
 {
-    name.is_empty() || name.iter().any(|rune| *rune <= 0x20)
+    name.is_empty() || has_blank(name)
 }
 
 // The message that gives this name.
