@@ -1,0 +1,4 @@
+pub mod Messages
+pub mod Tags
+pub mod Columns
+pub mod Directory

@@ -1,0 +1,18 @@
+//! The texts of a window's files `tag`, `ctl` and `index`, after acme(4).
+#![tactic(auto)]
+
+mod columns;
+mod fronts;
+mod message;
+mod parsing;
+mod paths;
+mod tags;
+
+pub use columns::{ctl_text, index_line};
+pub use message::{CtlFault, CtlMsg};
+pub use parsing::parse_ctl;
+pub use paths::directory;
+pub use tags::{Shown, Tag, tag_text};
+
+#[cfg(test)]
+mod tests;

@@ -1,0 +1,39 @@
+//! Directories of names.
+
+ghost use Rattle.std.specs.Prelude.{◌≡◌, ◌≤◌, length, IfOk};
+ghost use Rattle.win_ctl.specs.Directory.{dir_width, directory};
+
+use am_text::{NoMemory, Rune, Runes};
+use std::alloc::Global;
+
+/// The rune `/`.
+const SLASH: Rune = 47;
+
+// How many runes a name has up to and with its last `/`.
+fn dir_width(name: &[Rune]) -> usize
+    ensures exact { result ≡ dir_width name.now }
+    ensures within { result ≤ length name.now }
+{
+    let mut end = 0;
+    let mut at = 0;
+    for rune in name {
+        at += 1;
+        if *rune == SLASH {
+            end = at;
+        }
+    }
+    end
+}
+
+/// The directory of a name: the name up to and with its last `/`, or `/` where it has none.
+#[tactic(auto, unfolding(crate::specs::Directory::directory))]
+pub fn directory(alloc: Global, name: &[Rune]) -> Result<Runes, NoMemory>
+    ensures { IfOk result (λ dir. dir ≡ directory name.now) }
+{
+    let width = dir_width(name);
+    if width == 0 {
+        return Runes::copied(alloc, &[SLASH]);
+    }
+    let (dir, _) = name.split_at(width);
+    Runes::copied(alloc, dir)
+}
