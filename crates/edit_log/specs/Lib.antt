@@ -1,0 +1,3 @@
+pub mod Edited
+pub mod Groups
+pub mod Spare

@@ -1,0 +1,13 @@
+//! What was done to a text: edits, where they move places, and the groups that Undo takes back.
+#![tactic(auto)]
+
+mod log;
+mod places;
+mod types;
+
+pub use log::UndoLog;
+pub use places::image;
+pub use types::{Done, DoneList, Edit, Edits};
+
+#[cfg(test)]
+mod tests;
