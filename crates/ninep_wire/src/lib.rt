@@ -23,4 +23,4 @@ pub use message::{Qid, Qids, RBody, RMsg, TBody, TMsg};
 pub use r_reading::read_r;
 pub use r_writing::write_r;
 pub use t_reading::read_t;
-pub use t_writing::write_t;
+pub use t_writing::{t_size, write_t};

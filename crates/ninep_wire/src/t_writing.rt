@@ -201,8 +201,8 @@ fn t_kind(body: &TBody) -> u8
     }
 }
 
-/// The number of bytes of a message.
-fn t_size(body: &TBody) -> usize
+/// The number of bytes of a message with this body.
+fn t_body_size(body: &TBody) -> usize
     requires { size_t body.now < 2 ^ 32 }
     ensures { result ≡ size_t body.now }
 {
@@ -223,6 +223,15 @@ fn t_size(body: &TBody) -> usize
     }
 }
 
+/// How many bytes the spelling of a message to the server has. It takes no memory.
+#[tactic(auto, using(crate::proofs::Sizes::t_sizes))]
+pub fn t_size(msg: &TMsg) -> usize
+    requires { Fits_t msg.now }
+    ensures exact { result ≡ length (spelling_t msg.now) }
+{
+    t_body_size(&msg.body)
+}
+
 /// The one spelling of a message to the server. It takes memory once, for all of its bytes.
 #[tactic(auto, using(crate::proofs::Sizes::t_sizes))]
 pub fn write_t(alloc: Global, msg: &TMsg) -> Result<Bytes, NoMemory>
@@ -230,7 +239,7 @@ pub fn write_t(alloc: Global, msg: &TMsg) -> Result<Bytes, NoMemory>
     ensures spelled { IfOk result (λ bytes. bytes ≡ spelling_t msg.now) }
     ensures size { IfOk result (λ bytes. length bytes ≡ size_t msg.now.body) }
 {
-    let mut out = begun(alloc, t_size(&msg.body), t_kind(&msg.body), msg.tag)?;
+    let mut out = begun(alloc, t_body_size(&msg.body), t_kind(&msg.body), msg.tag)?;
     put_t_body(&mut out, &msg.body)?;
     Ok(out)
 }
