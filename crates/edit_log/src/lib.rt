@@ -3,11 +3,13 @@
 
 mod log;
 mod places;
+mod splicing;
 mod types;
 
 pub use log::UndoLog;
 pub use places::image;
-pub use types::{Done, DoneList, Edit, Edits};
+pub use splicing::splice;
+pub use types::{Done, DoneList, Edit, Edits, SpliceFault};
 
 #[cfg(test)]
 mod tests;

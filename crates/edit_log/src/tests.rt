@@ -1,7 +1,7 @@
 ghost use Rattle.std.specs.Prelude.{◌≡◌, length, IfOk};
 
-use crate::{Done, DoneList, UndoLog, image};
-use am_text::Items;
+use crate::{Done, DoneList, Edit, Edits, SpliceFault, UndoLog, image, splice};
+use am_text::{Items, NoMemory, Rune, Runes};
 use std::alloc::{AllocError, Global};
 use std::test::Fail;
 
@@ -43,5 +43,77 @@ fn changes_are_logged(rt: HostRuntime) -> Result<(), Fail> {
     log.reserve(1).map_err(|_| AllocError)?;
     log.push(second);
     assert!(rt; log.can_undo() && !log.can_redo());
+    Ok(())
+}
+
+fn add(
+    changes: &mut Edits,
+    alloc: Global,
+    q0: usize,
+    q1: usize,
+    text: &[Rune],
+) -> Result<(), NoMemory> {
+    let text = Runes::copied(alloc, text)?;
+    changes.push(Edit { q0, q1, text })
+}
+
+fn is_edit(edit: &Edit, q0: usize, q1: usize, text: &[Rune]) -> bool {
+    edit.q0 == q0 && edit.q1 == q1 && edit.text.as_slice() == text
+}
+
+// `abcdefghij`: two runes become three, one is put before `f`, and `hi` goes.
+#[test]
+fn changes_become_edits(rt: HostRuntime) -> Result<(), Fail> {
+    let mut changes = Items::new(rt.alloc());
+    add(&mut changes, rt.alloc(), 1, 3, &[88, 89, 90])?;
+    add(&mut changes, rt.alloc(), 5, 5, &[45])?;
+    add(&mut changes, rt.alloc(), 7, 9, &[])?;
+    let edits = splice(rt.alloc(), &changes, 10)?;
+    let [first, second, third] = edits.as_slice() else {
+        assert!(rt; false);
+        return Ok(());
+    };
+    assert!(rt;
+        is_edit(first, 1, 3, &[88, 89, 90])
+            && is_edit(second, 6, 6, &[45])
+            && is_edit(third, 9, 11, &[])
+    );
+    Ok(())
+}
+
+// A deletion, a change that is null and empty, and two insertions at one place, which stay in order.
+#[test]
+fn insertions_stay_in_order(rt: HostRuntime) -> Result<(), Fail> {
+    let mut changes = Items::new(rt.alloc());
+    add(&mut changes, rt.alloc(), 0, 2, &[])?;
+    add(&mut changes, rt.alloc(), 3, 3, &[])?;
+    add(&mut changes, rt.alloc(), 4, 4, &[120])?;
+    add(&mut changes, rt.alloc(), 4, 4, &[121, 122])?;
+    add(&mut changes, rt.alloc(), 4, 5, &[119])?;
+    let edits = splice(rt.alloc(), &changes, 5)?;
+    let [first, second, third, last] = edits.as_slice() else {
+        assert!(rt; false);
+        return Ok(());
+    };
+    assert!(rt; is_edit(first, 0, 2, &[]) && is_edit(second, 2, 2, &[120]));
+    assert!(rt; is_edit(third, 3, 3, &[121, 122]) && is_edit(last, 5, 6, &[119]));
+    Ok(())
+}
+
+// The fault of a change over ten runes that comes after one of those from 2 to before 5.
+fn fault_at(alloc: Global, q0: usize, q1: usize) -> Result<Option<SpliceFault>, NoMemory> {
+    let mut changes = Items::new(alloc);
+    add(&mut changes, alloc, 2, 5, &[])?;
+    add(&mut changes, alloc, q0, q1, &[97])?;
+    Ok(splice(alloc, &changes, 10).err())
+}
+
+#[test]
+fn changes_are_at_fault(rt: HostRuntime) -> Result<(), Fail> {
+    assert!(rt; fault_at(rt.alloc(), 4, 6)? == Some(SpliceFault::Sequence(1)));
+    assert!(rt; fault_at(rt.alloc(), 4, 11)? == Some(SpliceFault::Sequence(1)));
+    assert!(rt; fault_at(rt.alloc(), 6, 11)? == Some(SpliceFault::Range(1)));
+    assert!(rt; fault_at(rt.alloc(), 6, 5)? == Some(SpliceFault::Range(1)));
+    assert!(rt; fault_at(rt.alloc(), 5, 10)? == None);
     Ok(())
 }
