@@ -1,5 +1,5 @@
 -- Fields of a line: a decimal is cut off at the first blank, and read again.
-use Rattle.std.proofs.Common.{◌≡◌, ℕ, ◌+◌, ◌%◌, ◌^◌, ◌<◌, true, false, cond, eqb, ltb, List, [], ◌∷◌, ◌++◌, length, Option, Some, None, refl, ap, ◌∙◌, arith}
+use Rattle.std.proofs.Common.{◌≡◌, ℕ, ◌+◌, ◌%◌, ◌^◌, ◌<◌, true, false, cond, eqb, ltb, List, [], ◌∷◌, ◌++◌, length, Option, Some, None, refl, ap, sym, subst, ◌∙◌, arith}
 use Rattle.std.specs.Fmt.{decimal}
 use Rattle.std.proofs.lemmas.Fmt.{decimal_by_steps}
 use Rattle.std.proofs.lemmas.Bool.{lt-ltb, ltb-true, eqb-true}
@@ -40,6 +40,10 @@ field-split (b ∷ bs) =
       | true ↦ λ e h. ap (λ (x : ℕ). x ∷ bs) (eqb-true b 32 e)
       | false ↦ λ e h. ap (λ (l : List ℕ). b ∷ l) (field-split bs h)
     ] refl
+
+pub split-is : (bs front rest : List ℕ) → first_field bs ≡ front → after_field bs ≡ rest → 0 < length rest → bs ≡ front ++ 32 ∷ rest
+split-is bs front rest f a h =
+    field-split bs (subst (λ (l : List ℕ). 0 < length l) (sym a) h) ∙ ap (λ (l : List ℕ). l ++ 32 ∷ after_field bs) f ∙ ap (λ (l : List ℕ). front ++ 32 ∷ l) a
 
 -- ---- connections
 

@@ -3,4 +3,6 @@ pub mod Hex
 pub mod HexLaws
 pub mod FieldWords
 pub mod CauseLaws
+pub mod WindowLaws
 pub mod LineLaws
+pub mod JournalLaws

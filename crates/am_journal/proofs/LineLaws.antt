@@ -10,16 +10,21 @@ use Rattle.ninep_wire.specs.Spelling.{spelling_t}
 use Rattle.ninep_wire.proofs.TLaws.{Spells, t_takes, t_again}
 use Rattle.am_journal.specs.declared.event.Event.{Event}
 use Rattle.am_journal.specs.declared.event.Event.TheVariants as event
+use Rattle.am_journal.specs.declared.event.Side.{Side}
+use Rattle.am_text.specs.declared.range.Range.{Range}
+use Rattle.am_text.specs.Lines.{escaped}
+use Rattle.std.specs.List.{flat_map}
 use Rattle.am_journal.specs.Hexadecimal.{hex_of, bytes_of_hex}
 use Rattle.am_journal.specs.Lawful.{IsLawful, IsInRange, AreBytes}
 use Rattle.am_journal.specs.declared.ending.Ending.{Ending}
 use Rattle.am_journal.specs.declared.ending.Ending.TheVariants as ending
 use Rattle.am_journal.specs.Causes.{cause, ending_of}
-use Rattle.am_journal.specs.Line.{dial_line, msg_line, hang_line, took_line, new_line, line_text, first_field, after_field, conn_at, dial_from, dial_at, msg_read, msg_from, msg_at, hang_from, hang_at, took_from, took_at, new_at, after_front, with_front, event_of}
+use Rattle.am_journal.specs.Line.{side_word, dial_line, msg_line, hang_line, took_line, new_line, line_text, first_field, after_field, conn_at, dial_from, dial_at, msg_read, msg_from, msg_at, hang_from, hang_at, took_from, took_at, new_at, key_line, key_at, sel_line, sel_at, after_front, with_front, event_of}
 use Rattle.am_journal.specs.Parts.{around}
 use Rattle.am_journal.proofs.HexLaws.{hex-again, hex-is}
 use Rattle.am_journal.proofs.CauseLaws.{ending-again, ending-is}
-use Rattle.am_journal.proofs.FieldWords.{decimal-visible, first-is, after-is, field-split, conn-again, conn-is, front-is}
+use Rattle.am_journal.proofs.FieldWords.{decimal-visible, first-is, after-is, split-is, conn-again, conn-is, front-is}
+use Rattle.am_journal.proofs.WindowLaws.{key-again, sel-again, typed, selected}
 
 -- ---- what is spelled is read
 
@@ -45,12 +50,16 @@ hang-again c why h =
     ∙ ap (hang_from (Some c)) (ending-again why)
 
 pub line-again : (e : Event) → IsLawful e → IsInRange e → event_of (line_text e) ≡ Some e
-unfolding event_of dial_line msg_line hang_line took_line new_line around
+unfolding event_of dial_line msg_line hang_line took_line new_line key_line sel_line around
 line-again (event.Dial c) h k = ap dial_from (conn-again c h)
 line-again (event.Msg c m) h k = ap msg_at (append_assoc (decimal c) (32 ∷ []) (hex_of (spelling_t m))) ∙ msg-again c m h k
 line-again (event.Hang c why) h k = ap hang_at (append_assoc (decimal c) (32 ∷ []) (cause why)) ∙ hang-again c why h
 line-again (event.Took c) h k = ap took_from (conn-again c h)
 line-again event.New h k = refl
+line-again (event.Key w on text) h k =
+    ap key_at (append_assoc (decimal w) (32 ∷ []) (side_word on ++ 32 ∷ 58 ∷ flat_map escaped text)) ∙ key-again w on text h k
+line-again (event.Sel w range) h k =
+    ap sel_at (append_assoc (decimal w) (32 ∷ []) ((decimal range.q0 ++ 32 ∷ []) ++ decimal range.q1)) ∙ sel-again w range h k
 
 -- ---- what is read is spelled so
 
@@ -98,10 +107,6 @@ hex_some (b ∷ bs) h = omega arith
 spelling_some : (m : TMsg) → 0 < length (spelling_t m)
 spelling_some m = omega arith
 
-msg_text-is : (bs hex : List ℕ) (c : ℕ) → first_field bs ≡ decimal c → after_field bs ≡ hex → 0 < length hex → bs ≡ decimal c ++ 32 ∷ hex
-msg_text-is bs hex c f a h =
-    field-split bs (subst (λ (l : List ℕ). 0 < length l) (sym a) h) ∙ ap (λ (l : List ℕ). l ++ 32 ∷ after_field bs) f ∙ ap (λ (l : List ℕ). decimal c ++ 32 ∷ l) a
-
 msg_line-is : (c : ℕ) (message : List ℕ) → codes "msg " ++ (decimal c ++ 32 ∷ hex_of message) ≡ msg_line c message
 unfolding msg_line around
 msg_line-is c message = ap (λ (l : List ℕ). codes "msg " ++ l) (sym (append_assoc (decimal c) (32 ∷ []) (hex_of message)))
@@ -115,7 +120,7 @@ msg-is bs rest e front h =
     let m = read.msg in
     let spelled = read.spells.2 in
     let hex-is-it : after_field rest ≡ hex_of (spelling_t m) = hex.0 ∙ ap hex_of spelled in
-    let text = msg_text-is rest (hex_of (spelling_t m)) p.conn conn.1 hex-is-it (hex_some (spelling_t m) (spelling_some m)) in
+    let text = split-is rest (decimal p.conn) (hex_of (spelling_t m)) conn.1 hex-is-it (hex_some (spelling_t m) (spelling_some m)) in
     let short : length (spelling_t m) ≤ 65560 = subst (λ (l : List ℕ). length l ≤ 65560) spelled p.short in
     let bytes : AreBytes (spelling_t m) = subst AreBytes spelled hex.1 in
     subst (Found bs) read.is
@@ -179,7 +184,7 @@ hang-is bs rest e front h =
     let p = hangs_some (conn_at (first_field rest)) (ending_of (after_field rest)) e h in
     let conn = conn-is (first_field rest) p.conn p.conn-is in
     let words : after_field rest ≡ cause p.why = ending-is (after_field rest) p.why p.why-is in
-    let text = msg_text-is rest (cause p.why) p.conn conn.1 words (cause_some p.why) in
+    let text = split-is rest (decimal p.conn) (cause p.why) conn.1 words (cause_some p.why) in
     subst (Found bs) p.is
     (record {
       lawful = conn.0;
@@ -216,14 +221,50 @@ new-is bs [] e front h =
     subst (Found bs) (event_is event.New e h) (record { lawful = tt; in_range = tt; spelled = front ∙ new_text-is })
 new-is bs (b ∷ rest) e front h = absurd cc
 
+-- ---- keys and selections
+
+key_line-is : (w : ℕ) (on : Side) (text : List ℕ) → codes "key " ++ (decimal w ++ 32 ∷ (side_word on ++ 32 ∷ 58 ∷ flat_map escaped text)) ≡ key_line w on text
+unfolding key_line around
+key_line-is w on text = ap (λ (l : List ℕ). codes "key " ++ l) (sym (append_assoc (decimal w) (32 ∷ []) (side_word on ++ 32 ∷ 58 ∷ flat_map escaped text)))
+
+key-is : (bs rest : List ℕ) (e : Event) → bs ≡ codes "key " ++ rest → key_at rest ≡ Some e → Found bs e
+key-is bs rest e front h =
+    let k = typed rest e h in
+    subst (Found bs) k.is
+    (record {
+      lawful = k.scalars;
+      in_range = k.small;
+      spelled = front ∙ ap (λ (l : List ℕ). codes "key " ++ l) k.spelled ∙ key_line-is k.window k.on k.text;
+    })
+
+sel_line-is : (w : ℕ) (range : Range) → codes "sel " ++ (decimal w ++ 32 ∷ ((decimal range.q0 ++ 32 ∷ []) ++ decimal range.q1)) ≡ sel_line w range
+unfolding sel_line around
+sel_line-is w range = ap (λ (l : List ℕ). codes "sel " ++ l) (sym (append_assoc (decimal w) (32 ∷ []) ((decimal range.q0 ++ 32 ∷ []) ++ decimal range.q1)))
+
+sel-is : (bs rest : List ℕ) (e : Event) → bs ≡ codes "sel " ++ rest → sel_at rest ≡ Some e → Found bs e
+sel-is bs rest e front h =
+    let s = selected rest e h in
+    subst (Found bs) s.is
+    (record {
+      lawful = s.ordered;
+      in_range = (s.small, s.from, s.to);
+      spelled = front ∙ ap (λ (l : List ℕ). codes "sel " ++ l) s.spelled ∙ sel_line-is s.window s.range;
+    })
+
 -- ---- lines
 
 no_event : (e : Event) → None ≡ Some e → ⊥
 no_event e h = cc
 
 -- what the other fronts give of a line
+abbrev after_key : List ℕ → Option Event
+after_key bs = with_front (after_front (codes "sel ") bs) sel_at None
+
+abbrev after_new : List ℕ → Option Event
+after_new bs = with_front (after_front (codes "key ") bs) key_at (after_key bs)
+
 abbrev after_took : List ℕ → Option Event
-after_took bs = with_front (after_front (codes "new") bs) new_at None
+after_took bs = with_front (after_front (codes "new") bs) new_at (after_new bs)
 
 abbrev after_hang : List ℕ → Option Event
 after_hang bs = with_front (after_front (codes "took ") bs) took_at (after_took bs)
@@ -234,8 +275,16 @@ after_msg bs = with_front (after_front (codes "hang ") bs) hang_at (after_hang b
 abbrev after_dial : List ℕ → Option Event
 after_dial bs = with_front (after_front (codes "msg ") bs) msg_at (after_msg bs)
 
-new_case : (bs : List ℕ) (e : Event) (o : Option (List ℕ)) → after_front (codes "new") bs ≡ o → with_front o new_at None ≡ Some e → Found bs e
-new_case bs e None given h = absurd (no_event e h)
+sel_case : (bs : List ℕ) (e : Event) (o : Option (List ℕ)) → after_front (codes "sel ") bs ≡ o → with_front o sel_at None ≡ Some e → Found bs e
+sel_case bs e None given h = absurd (no_event e h)
+sel_case bs e (Some rest) given h = sel-is bs rest e (front-is (codes "sel ") bs rest given) h
+
+key_case : (bs : List ℕ) (e : Event) (o : Option (List ℕ)) → after_front (codes "key ") bs ≡ o → with_front o key_at (after_key bs) ≡ Some e → Found bs e
+key_case bs e None given h = sel_case bs e (after_front (codes "sel ") bs) refl h
+key_case bs e (Some rest) given h = key-is bs rest e (front-is (codes "key ") bs rest given) h
+
+new_case : (bs : List ℕ) (e : Event) (o : Option (List ℕ)) → after_front (codes "new") bs ≡ o → with_front o new_at (after_new bs) ≡ Some e → Found bs e
+new_case bs e None given h = key_case bs e (after_front (codes "key ") bs) refl h
 new_case bs e (Some rest) given h = new-is bs rest e (front-is (codes "new") bs rest given) h
 
 took_case : (bs : List ℕ) (e : Event) (o : Option (List ℕ)) → after_front (codes "took ") bs ≡ o → with_front o took_at (after_took bs) ≡ Some e → Found bs e

@@ -1,16 +1,21 @@
 -- Events that a line of a transcript spells.
 use Rattle.std.specs.Prelude.{ℕ, ◌<◌, ◌≤◌, ◌^◌, List, length, slice_index}
+use Rattle.std.specs.Char.{IsScalar}
+use Rattle.std.specs.List.{AllByRecursion}
 use Rattle.ninep_wire.specs.Spelling.{spelling_t, Fits_t, InRange_t}
 use Rattle.am_journal.specs.declared.event.Event.{Event}
 use Rattle.am_journal.specs.declared.event.Event.TheVariants as event
 
--- A connection is one of 64, and a message has a spelling of at most 65,560 bytes.
+-- A connection is one of 64, a message has a spelling of at most 65,560 bytes, a text is of Unicode scalar values alone,
+-- and a range doesn't end before it begins.
 abbrev pub IsLawful : Event → Type 0
 IsLawful (event.Dial c) = c < 64
 IsLawful (event.Msg c m) = (c < 64) × Fits_t m × (length (spelling_t m) ≤ 65560)
 IsLawful (event.Hang c why) = c < 64
 IsLawful (event.Took c) = c < 64
 IsLawful event.New = Unit {0}
+IsLawful (event.Key w side text) = AllByRecursion IsScalar text
+IsLawful (event.Sel w range) = range.q0 ≤ range.q1
 
 -- each is below 256; past the end stands 0
 abbrev pub AreBytes : List ℕ → Type 0
@@ -23,3 +28,5 @@ IsInRange (event.Msg c m) = (c < 2 ^ 32) × InRange_t m × AreBytes (spelling_t 
 IsInRange (event.Hang c why) = c < 2 ^ 32
 IsInRange (event.Took c) = c < 2 ^ 32
 IsInRange event.New = Unit {0}
+IsInRange (event.Key w side text) = w < 2 ^ 32
+IsInRange (event.Sel w range) = (w < 2 ^ 32) × (range.q0 < 2 ^ 64) × (range.q1 < 2 ^ 64)

@@ -5,3 +5,4 @@ pub mod Causes
 pub mod Line
 pub mod Texts
 pub mod Report
+pub mod Journal

@@ -1,13 +1,20 @@
 -- Lines of a transcript: the one spelling of an event, and reading it.
-use Rattle.std.specs.Prelude.{ℕ, List, [], ◌∷◌, ◌++◌, length, Option, Some, None, Result, Ok, Err, nat_lt, ◌==◌, if◌then◌else◌, codes}
+use Rattle.std.specs.Prelude.{ℕ, List, [], ◌∷◌, ◌++◌, length, Option, Some, None, Result, Ok, Err, nat_lt, ◌^◌, ◌==◌, if◌then◌else◌, codes}
+use Rattle.std.specs.List.{flat_map}
+use Rattle.std.specs.Str.{bytes_eq}
 use Rattle.std.specs.Fmt.{decimal}
 use Rattle.am_text.specs.Number.{number_of}
+use Rattle.am_text.specs.Lines.{escaped}
+use Rattle.am_text.specs.Escapes.{unescaped}
+use Rattle.am_text.specs.declared.range.Range.{Range}
 use Rattle.ninep_wire.specs.declared.fault.WireFault.{WireFault}
 use Rattle.ninep_wire.specs.declared.message.TMsg.{TMsg}
 use Rattle.ninep_wire.specs.Spelling.{spelling_t}
 use Rattle.ninep_wire.specs.Reading.{t_of}
 use Rattle.am_journal.specs.declared.event.Event.{Event}
 use Rattle.am_journal.specs.declared.event.Event.TheVariants as event
+use Rattle.am_journal.specs.declared.event.Side.{Side}
+use Rattle.am_journal.specs.declared.event.Side.TheVariants as side
 use Rattle.am_journal.specs.Hexadecimal.{hex_of, bytes_of_hex}
 use Rattle.am_journal.specs.Parts.{around}
 use Rattle.am_journal.specs.declared.ending.Ending.{Ending}
@@ -30,6 +37,18 @@ took_line c = codes "took " ++ decimal c
 unfoldable pub new_line : List ℕ
 new_line = codes "new"
 
+abbrev pub side_word : Side → List ℕ
+side_word side.Tag = codes "tag"
+side_word side.Body = codes "body"
+
+-- `key W SIDE :TEXT`
+unfoldable pub key_line : ℕ → Side → List ℕ → List ℕ
+key_line w on text = around (codes "key ") w (32 ∷ []) ++ (side_word on ++ 32 ∷ 58 ∷ flat_map escaped text)
+
+-- `sel W Q0 Q1`
+unfoldable pub sel_line : ℕ → Range → List ℕ
+sel_line w range = around (codes "sel ") w (32 ∷ []) ++ (around [] range.q0 (32 ∷ []) ++ decimal range.q1)
+
 -- the line of an event, without its newline
 abbrev pub line_text : Event → List ℕ
 line_text (event.Dial c) = dial_line c
@@ -37,6 +56,8 @@ line_text (event.Msg c m) = msg_line c (spelling_t m)
 line_text (event.Hang c why) = hang_line c why
 line_text (event.Took c) = took_line c
 line_text event.New = new_line
+line_text (event.Key w on text) = key_line w on text
+line_text (event.Sel w range) = sel_line w range
 
 -- ---- reading
 
@@ -96,6 +117,48 @@ abbrev pub new_at : List ℕ → Option Event
 new_at [] = Some event.New
 new_at (b ∷ bs) = None
 
+-- the number of a window
+abbrev pub window_from : Option ℕ → Option ℕ
+window_from None = None
+window_from (Some n) = if nat_lt n (2 ^ 32) then Some n else None
+
+abbrev pub window_at : List ℕ → Option ℕ
+window_at bs = window_from (number_of bs)
+
+abbrev pub side_of : List ℕ → Option Side
+side_of word = if bytes_eq word (codes "tag") then Some side.Tag else (if bytes_eq word (codes "body") then Some side.Body else None)
+
+-- the text after a colon
+abbrev pub text_of : List ℕ → Option (List ℕ)
+text_of [] = None
+text_of (b ∷ bs) = if b == 58 then unescaped bs else None
+
+abbrev pub key_from : Option ℕ → Option Side → Option (List ℕ) → Option Event
+key_from None on text = None
+key_from (Some w) None text = None
+key_from (Some w) (Some on) None = None
+key_from (Some w) (Some on) (Some text) = Some (event.Key w on text)
+
+abbrev pub key_at : List ℕ → Option Event
+key_at bs = key_from (window_at (first_field bs)) (side_of (first_field (after_field bs))) (text_of (after_field (after_field bs)))
+
+-- the range from the first number to the second, which isn't less
+abbrev pub range_from : Option ℕ → Option ℕ → Option Range
+range_from None q1 = None
+range_from (Some q0) None = None
+range_from (Some q0) (Some q1) = if nat_lt q1 q0 then None else Some (record { q0 = q0; q1 = q1 })
+
+abbrev pub range_at : List ℕ → Option Range
+range_at bs = range_from (number_of (first_field bs)) (number_of (after_field bs))
+
+abbrev pub sel_from : Option ℕ → Option Range → Option Event
+sel_from None range = None
+sel_from (Some w) None = None
+sel_from (Some w) (Some range) = Some (event.Sel w range)
+
+abbrev pub sel_at : List ℕ → Option Event
+sel_at bs = sel_from (window_at (first_field bs)) (range_at (after_field bs))
+
 -- the bytes after a front, if they begin so
 abbrev pub after_front : List ℕ → List ℕ → Option (List ℕ)
 after_front [] bs = Some bs
@@ -113,4 +176,6 @@ read_by (r ∷ rs) bs = with_front (after_front r.0 bs) r.1 (read_by rs bs)
 
 -- the event of a line without its newline, if it is in the grammar
 unfoldable pub event_of : List ℕ → Option Event
-event_of bs = read_by ((codes "dial ", dial_at) ∷ (codes "msg ", msg_at) ∷ (codes "hang ", hang_at) ∷ (codes "took ", took_at) ∷ (codes "new", new_at) ∷ []) bs
+event_of bs =
+    read_by ((codes "dial ", dial_at) ∷ (codes "msg ", msg_at) ∷ (codes "hang ", hang_at) ∷ (codes "took ", took_at)
+    ∷ (codes "new", new_at) ∷ (codes "key ", key_at) ∷ (codes "sel ", sel_at) ∷ []) bs

@@ -1,11 +1,19 @@
 -- The report on the editor.
-use Rattle.std.specs.Prelude.{ℕ, Bool, true, false, List, [], ◌∷◌, ◌++◌, length, Option, Some, None, codes}
+use Rattle.std.specs.Prelude.{ℕ, ◌+◌, Bool, true, false, List, [], ◌∷◌, ◌++◌, length, Option, Some, None, codes}
 use Rattle.std.specs.List.{flat_map}
 use Rattle.am_text.specs.Lines.{escaped}
+use Rattle.std.specs.Fmt.{decimal}
+use Rattle.am_text.specs.Utf8.{decode}
 use Rattle.am_text.specs.declared.range.Range.{Range}
+use Rattle.am_text.specs.declared.job.Job.{Job}
+use Rattle.am_text.specs.declared.job.JobKind.{JobKind}
+use Rattle.am_text.specs.declared.job.JobKind.TheVariants as kind
+use Rattle.win_events.specs.declared.item.Life.{Life}
+use Rattle.win_events.specs.declared.item.Life.TheVariants as life
 use Rattle.am_journal.specs.declared.ending.Ending.{Ending}
 use Rattle.am_journal.specs.declared.view.ConnView.{ConnView}
 use Rattle.am_journal.specs.declared.view.WindowView.{WindowView}
+use Rattle.am_journal.specs.declared.view.ItemView.{ItemView}
 use Rattle.am_journal.specs.declared.view.View.{View}
 use Rattle.am_journal.specs.Causes.{cause}
 use Rattle.am_journal.specs.Parts.{around}
@@ -51,6 +59,49 @@ body_line w = codes "body " ++ text_end w.body
 abbrev pub window_lines : WindowView → List ℕ
 window_lines w = window_line w ++ body_line w
 
+-- ---- items
+
+-- `taken OPENING ENTRY`, and the like
+unfoldable pub life_words : Life → List ℕ
+life_words life.Pending = codes "pending"
+life_words (life.Taken opening at) = around (codes "taken ") opening (32 ∷ []) ++ decimal at
+life_words (life.Back opening at back) = around (codes "back ") opening (32 ∷ []) ++ (around [] at (32 ∷ []) ++ decimal back)
+life_words (life.Dropped at) = codes "dropped " ++ decimal at
+
+-- `item W K LIFE :SPELLING`
+unfoldable pub item_line : ItemView → List ℕ
+item_line v = around (codes "item ") v.window (32 ∷ []) ++ (around [] v.number (32 ∷ []) ++ (life_words v.life ++ 32 ∷ text_end (decode v.spelled)))
+
+-- ---- requests
+
+abbrev pub kind_word : JobKind → List ℕ
+kind_word kind.Run = codes "run"
+kind_word kind.Pipe = codes "pipe"
+kind_word kind.From = codes "from"
+kind_word kind.To = codes "to"
+kind_word kind.Save = codes "save"
+kind_word kind.Start = codes "start"
+
+-- `request K KIND W DIR :COMMAND`
+unfoldable pub request_line : ℕ → Job → List ℕ
+request_line k job =
+    around (codes "request ") k (32 ∷ []) ++ (kind_word job.kind ++ (around (32 ∷ []) job.window (32 ∷ [])
+    ++ (flat_map escaped job.dir ++ 32 ∷ text_end job.command)))
+
+-- `input :TEXT`
+unfoldable pub input_line : Job → List ℕ
+input_line job = codes "input " ++ text_end job.input
+
+abbrev pub request_lines : ℕ → Job → List ℕ
+request_lines k job = request_line k job ++ input_line job
+
+-- those from number k on
+abbrev pub requests_from : ℕ → List Job → List ℕ
+requests_from k [] = []
+requests_from k (job ∷ jobs) = request_lines k job ++ requests_from (k + 1) jobs
+
+-- ---- the report
+
 unfoldable pub title : List ℕ
 title = codes "report" ++ 10 ∷ []
 
@@ -60,9 +111,11 @@ conns_part v = count_line (codes "connections ") (length v.conns) ++ flat_map co
 unfoldable pub windows_part : View → List ℕ
 windows_part v = count_line (codes "windows ") (length v.windows) ++ flat_map window_lines v.windows
 
--- items and requests, of which there are none yet
-unfoldable pub rest_part : List ℕ
-rest_part = count_line (codes "items ") 0 ++ count_line (codes "requests ") 0
+unfoldable pub items_part : View → List ℕ
+items_part v = count_line (codes "items ") (length v.items) ++ flat_map item_line v.items
+
+unfoldable pub requests_part : View → List ℕ
+requests_part v = count_line (codes "requests ") (length v.jobs) ++ requests_from 1 v.jobs
 
 abbrev pub report_text : View → List ℕ
-report_text v = title ++ count_line (codes "journal ") v.entries ++ conns_part v ++ windows_part v ++ rest_part
+report_text v = title ++ count_line (codes "journal ") v.entries ++ conns_part v ++ windows_part v ++ items_part v ++ requests_part v

@@ -4,23 +4,51 @@ ghost use Rattle.std.specs.Prelude.{◌≡◌};
 ghost use Rattle.am_journal.specs.declared.event.Refused.TheVariants.{NoMemory};
 
 use crate::ending::Ending;
-use am_text::Items;
+use am_text::{Items, Range, Runes};
 use ninep_wire::TMsg;
 use std::alloc::{AllocError, AllocFailed};
+
+/// A text of a window.
+#[derive(Clone, Copy, Debug, PartialEq, Eq)]
+pub enum Side {
+    Tag,
+    Body,
+}
 
 /// What the editor takes one at a time. A transcript has a line for each.
 #[derive(Drop)]
 pub enum Event {
     /// A connection is made. There are 64 of them, numbered from 0.
-    Dial { conn: u32 },
+    Dial {
+        conn: u32,
+    },
     /// A message comes on a connection.
-    Msg { conn: u32, msg: TMsg },
+    Msg {
+        conn: u32,
+        msg: TMsg,
+    },
     /// A connection ends.
-    Hang { conn: u32, why: Ending },
+    Hang {
+        conn: u32,
+        why: Ending,
+    },
     /// The unsent replies of a connection are taken, to be sent.
-    Took { conn: u32 },
+    Took {
+        conn: u32,
+    },
     /// An empty window is made.
     New,
+    /// A text is typed into a window.
+    Key {
+        window: u32,
+        side: Side,
+        text: Runes,
+    },
+    /// Dot is set in a window's body.
+    Sel {
+        window: u32,
+        range: Range,
+    },
 }
 
 /// All events that were done, in their order. Entries are numbered from 1.
@@ -41,8 +69,14 @@ pub enum Why {
     Replies,
     /// The connection has no unsent reply.
     Nothing,
+    /// There is no live window with this number.
+    Window,
+    /// The range isn't in the body.
+    Range,
     /// No more windows can be made.
     Windows,
+    /// The text would be too long.
+    Length,
 }
 
 /// Why an event isn't done.

@@ -1,10 +1,11 @@
 //! Fields of a line.
 
-ghost use Rattle.std.specs.Prelude.{◌≡◌, ◌<◌, ◌++◌, OnOk, IfSome, option_copied};
-ghost use Rattle.am_journal.specs.Line.{after_front, conn_at, first_field, after_field};
+ghost use Rattle.std.specs.Prelude.{◌≡◌, ◌<◌, ◌++◌, OnOk, IfOk, IfSome, option_copied};
+ghost use Rattle.am_journal.specs.Line.{after_front, conn_at, first_field, after_field, window_at, side_word, side_of, text_of, range_at};
 ghost use Rattle.am_journal.specs.Parts.{around};
 
-use am_text::{Bytes, NoMemory, decimal, read_decimal};
+use crate::event::Side;
+use am_text::{Bytes, NoMemory, Range, Runes, decimal, read_decimal, unescape};
 use std::alloc::Global;
 
 /// The bytes after a front, if they begin so.
@@ -50,6 +51,65 @@ pub(crate) fn conn_of(bytes: &[u8]) -> Option<u32>
         Some(n) if n < 64 => Some(n as u32),
         _ => None,
     }
+}
+
+/// The number of a window.
+pub(crate) fn window_of(bytes: &[u8]) -> Option<u32>
+    ensures { result ≡ window_at bytes.now }
+{
+    match read_decimal(bytes) {
+        Some(n) if n < 4294967296 => Some(n as u32),
+        _ => None,
+    }
+}
+
+/// The word of a window's text.
+pub(crate) fn side_word(side: Side) -> &'static [u8]
+    ensures { result.now ≡ side_word side }
+{
+    match side {
+        Side::Tag => b"tag",
+        Side::Body => b"body",
+    }
+}
+
+/// The window's text that has this word.
+pub(crate) fn side_of(word: &[u8]) -> Option<Side>
+    ensures { result ≡ side_of word.now }
+{
+    if word == b"tag".as_slice() {
+        Some(Side::Tag)
+    } else if word == b"body".as_slice() {
+        Some(Side::Body)
+    } else {
+        None
+    }
+}
+
+/// The text after a colon.
+pub(crate) fn text_of(alloc: Global, bytes: &[u8]) -> Result<Option<Runes>, NoMemory>
+    ensures { IfOk result (λ text. text ≡ text_of bytes.now) }
+{
+    match bytes {
+        [b':', escaped @ ..] => unescape(alloc, escaped),
+        _ => Ok(None),
+    }
+}
+
+/// The range between two numbers, with a blank between them.
+pub(crate) fn range_of(bytes: &[u8]) -> Option<Range>
+    ensures { result ≡ range_at bytes.now }
+{
+    let (first, second) = cut_field(bytes);
+    let q0 = read_decimal(first)?;
+    let q1 = read_decimal(second)?;
+    if q1 < q0 {
+        return None;
+    }
+    Some(Range {
+        q0: q0 as usize,
+        q1: q1 as usize,
+    })
 }
 
 /// Puts a number between two texts at the end.

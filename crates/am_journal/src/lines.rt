@@ -4,14 +4,16 @@ ghost use Rattle.std.specs.Prelude.{◌≡◌, ◌<◌, ◌≤◌, ◌++◌, len
 ghost use Rattle.ninep_wire.specs.Spelling.{spelling_t, Fits_t};
 ghost use Rattle.am_journal.specs.declared.event.Event.{Event};
 ghost use Rattle.am_journal.specs.Lawful.{IsLawful, IsInRange};
-ghost use Rattle.am_journal.specs.Line.{dial_at, dial_line, msg_at, msg_line, hang_at, hang_line, took_at, took_line, new_at, new_line, line_text, event_of};
+ghost use Rattle.am_journal.specs.Line.{dial_at, dial_line, msg_at, msg_line, hang_at, hang_line, took_at, took_line, new_at, new_line, key_at, key_line, sel_at, sel_line, line_text, event_of};
 
 use crate::causes::{ending_of, put_cause};
 use crate::ending::Ending;
-use crate::event::Event;
-use crate::fields::{after_front, conn_of, cut_field, put_around};
+use crate::event::{Event, Side};
+use crate::fields::{
+    after_front, conn_of, cut_field, put_around, range_of, side_of, side_word, text_of, window_of,
+};
 use crate::hexadecimal::{bytes_of_hex, hex_text};
-use am_text::{Bytes, Items, NoMemory, decimal};
+use am_text::{Bytes, Items, NoMemory, Range, decimal, escape};
 use ninep_wire::{TMsg, WireError, read_t, write_t};
 use std::alloc::Global;
 
@@ -74,6 +76,32 @@ fn new_of(rest: &[u8]) -> Option<Event>
     }
 }
 
+fn key_of(alloc: Global, rest: &[u8]) -> Result<Option<Event>, NoMemory>
+    ensures { IfOk result (λ e. e ≡ key_at rest.now) }
+{
+    let (field, words) = cut_field(rest);
+    let (word, text) = cut_field(words);
+    let Some(window) = window_of(field) else {
+        return Ok(None);
+    };
+    let Some(side) = side_of(word) else {
+        return Ok(None);
+    };
+    match text_of(alloc, text)? {
+        Some(text) => Ok(Some(Event::Key { window, side, text })),
+        None => Ok(None),
+    }
+}
+
+fn sel_of(rest: &[u8]) -> Option<Event>
+    ensures { result ≡ sel_at rest.now }
+{
+    let (field, words) = cut_field(rest);
+    let window = window_of(field)?;
+    let range = range_of(words)?;
+    Some(Event::Sel { window, range })
+}
+
 #[tactic(auto, unfolding(crate::specs::Line::event_of))]
 fn event_in(alloc: Global, line: &[u8]) -> Result<Option<Event>, NoMemory>
     ensures { IfOk result (λ e. e ≡ event_of line.now) }
@@ -92,6 +120,12 @@ fn event_in(alloc: Global, line: &[u8]) -> Result<Option<Event>, NoMemory>
     }
     if let Some(rest) = after_front(b"new", line) {
         return Ok(new_of(rest));
+    }
+    if let Some(rest) = after_front(b"key ", line) {
+        return key_of(alloc, rest);
+    }
+    if let Some(rest) = after_front(b"sel ", line) {
+        return Ok(sel_of(rest));
     }
     Ok(None)
 }
@@ -156,6 +190,29 @@ fn new_text(alloc: Global) -> Result<Bytes, NoMemory>
     Ok(Items::copied(alloc, b"new")?)
 }
 
+#[tactic(auto, using(crate::proofs::Joined::joined), unfolding(crate::specs::Line::key_line))]
+fn key_text(alloc: Global, window: u32, side: Side, text: &[u32]) -> Result<Bytes, NoMemory>
+    ensures { IfOk result (λ line. line ≡ key_line window side text.now) }
+{
+    let mut line = Items::new(alloc);
+    put_around(alloc, &mut line, b"key ", u64::from(window), b" ")?;
+    line.append(side_word(side))?;
+    line.append(b" :")?;
+    line.append(escape(alloc, text)?.as_slice())?;
+    Ok(line)
+}
+
+#[tactic(auto, using(crate::proofs::Joined::joined), unfolding(crate::specs::Line::sel_line))]
+fn sel_text(alloc: Global, window: u32, range: Range) -> Result<Bytes, NoMemory>
+    ensures { IfOk result (λ line. line ≡ sel_line window range) }
+{
+    let mut line = Items::new(alloc);
+    put_around(alloc, &mut line, b"sel ", u64::from(window), b" ")?;
+    put_around(alloc, &mut line, b"", range.q0 as u64, b" ")?;
+    line.append(decimal(alloc, range.q1 as u64)?.as_slice())?;
+    Ok(line)
+}
+
 fn line_of(alloc: Global, event: &Event) -> Result<Bytes, NoMemory>
     requires { IsLawful event.now }
     ensures { IfOk result (λ line. line ≡ line_text event.now) }
@@ -166,6 +223,8 @@ fn line_of(alloc: Global, event: &Event) -> Result<Bytes, NoMemory>
         Event::Hang { conn, why } => hang_text(alloc, *conn, *why),
         Event::Took { conn } => took_text(alloc, *conn),
         Event::New => new_text(alloc),
+        Event::Key { window, side, text } => key_text(alloc, *window, *side, text.as_slice()),
+        Event::Sel { window, range } => sel_text(alloc, *window, *range),
     }
 }
 

@@ -45,6 +45,9 @@ pub fn word(why: Why) -> &'static [u8]
         Why::Size => b"size",
         Why::Replies => b"replies",
         Why::Nothing => b"nothing",
+        Why::Window => b"window",
+        Why::Range => b"range",
         Why::Windows => b"windows",
+        Why::Length => b"length",
     }
 }

@@ -2,14 +2,16 @@
 
 ghost use Rattle.std.specs.Prelude.{◌≡◌, ◌++◌, OnOk, IfOk, length};
 ghost use Rattle.std.specs.List.{flat_map};
-ghost use Rattle.am_journal.specs.Report.{conn_state, conn_line, text_end, modified_word, dot_words, window_line, body_line, window_lines, title, conns_part, windows_part, rest_part, report_text};
+ghost use Rattle.std.specs.Fmt.{decimal};
+ghost use Rattle.am_journal.specs.Report.{conn_state, conn_line, text_end, modified_word, dot_words, window_line, body_line, window_lines, title, conns_part, windows_part, life_words, item_line, items_part, kind_word, request_line, input_line, request_lines, requests_from, requests_part, report_text};
 
 use crate::causes::{put_cause, put_two};
 use crate::ending::Ending;
 use crate::fields::put_around;
-use crate::view::{ConnView, View, WindowView};
-use am_text::{Bytes, Items, NoMemory, Range, escape};
+use crate::view::{ConnView, ItemView, View, WindowView};
+use am_text::{Bytes, Items, Job, JobKind, NoMemory, Range, decimal, decode_whole, escape};
 use std::alloc::Global;
+use win_events::Life;
 
 #[tactic(auto, unfolding(crate::specs::Report::conn_state))]
 fn put_state(alloc: Global, out: &mut Bytes, ending: Option<Ending>) -> Result<(), NoMemory>
@@ -126,16 +128,123 @@ fn put_windows_part(alloc: Global, out: &mut Bytes, view: &View) -> Result<(), N
     Ok(())
 }
 
-#[tactic(auto, using(crate::proofs::Joined::joined), unfolding(crate::specs::Report::rest_part))]
-fn put_rest_part(alloc: Global, out: &mut Bytes) -> Result<(), NoMemory>
-    ensures { OnOk result (out.new ≡ out.old ++ rest_part) }
+#[tactic(auto, using(crate::proofs::Joined::joined))]
+fn put_last(alloc: Global, out: &mut Bytes, before: &[u8], n: u64) -> Result<(), NoMemory>
+    ensures { OnOk result (out.new ≡ out.old ++ (before.now ++ decimal n)) }
 {
-    put_around(alloc, out, b"items ", 0, b"\n")?;
-    put_around(alloc, out, b"requests ", 0, b"\n")?;
+    out.append(before)?;
+    out.append(decimal(alloc, n)?.as_slice())?;
     Ok(())
 }
 
-/// The report on the editor: its journal's entries, its connections, and its live windows.
+#[tactic(auto, using(crate::proofs::Joined::joined), unfolding(crate::specs::Report::life_words))]
+fn put_life(alloc: Global, out: &mut Bytes, life: Life) -> Result<(), NoMemory>
+    ensures { OnOk result (out.new ≡ out.old ++ life_words life) }
+{
+    match life {
+        Life::Pending => out.append(b"pending"),
+        Life::Taken { opening, at } => {
+            put_around(alloc, out, b"taken ", u64::from(opening), b" ")?;
+            put_last(alloc, out, b"", at)
+        }
+        Life::Back { opening, at, back } => {
+            put_around(alloc, out, b"back ", u64::from(opening), b" ")?;
+            put_around(alloc, out, b"", at, b" ")?;
+            put_last(alloc, out, b"", back)
+        }
+        Life::Dropped { at } => put_last(alloc, out, b"dropped ", at),
+    }
+}
+
+#[tactic(auto, using(crate::proofs::Joined::joined), unfolding(crate::specs::Report::item_line))]
+fn put_item(alloc: Global, out: &mut Bytes, view: &ItemView) -> Result<(), NoMemory>
+    ensures { OnOk result (out.new ≡ out.old ++ item_line view.now) }
+{
+    put_around(alloc, out, b"item ", u64::from(view.window), b" ")?;
+    put_around(alloc, out, b"", view.number, b" ")?;
+    put_life(alloc, out, view.life)?;
+    out.append(b" ")?;
+    let spelling = decode_whole(alloc, view.spelled.as_slice())?;
+    put_text_end(alloc, out, spelling.as_slice())?;
+    Ok(())
+}
+
+#[tactic(auto, using(crate::proofs::Joined::items))]
+fn put_items(alloc: Global, out: &mut Bytes, views: &[ItemView]) -> Result<(), NoMemory>
+    ensures { OnOk result (out.new ≡ out.old ++ flat_map item_line views.now) }
+{
+    for view in views {
+        put_item(alloc, out, view)?;
+    }
+    Ok(())
+}
+
+fn kind_word(kind: JobKind) -> &'static [u8]
+    ensures { result.now ≡ kind_word kind }
+{
+    match kind {
+        JobKind::Run => b"run",
+        JobKind::Pipe => b"pipe",
+        JobKind::From => b"from",
+        JobKind::To => b"to",
+        JobKind::Save => b"save",
+        JobKind::Start => b"start",
+    }
+}
+
+#[tactic(auto, using(crate::proofs::Joined::joined), unfolding(crate::specs::Report::request_line))]
+fn put_request_line(alloc: Global, out: &mut Bytes, k: u64, job: &Job) -> Result<(), NoMemory>
+    ensures { OnOk result (out.new ≡ out.old ++ request_line k job.now) }
+{
+    put_around(alloc, out, b"request ", k, b" ")?;
+    out.append(kind_word(job.kind))?;
+    put_around(alloc, out, b" ", u64::from(job.window), b" ")?;
+    out.append(escape(alloc, job.dir.as_slice())?.as_slice())?;
+    out.append(b" ")?;
+    put_text_end(alloc, out, job.command.as_slice())?;
+    Ok(())
+}
+
+#[tactic(auto, using(crate::proofs::Joined::joined), unfolding(crate::specs::Report::input_line))]
+fn put_input_line(alloc: Global, out: &mut Bytes, job: &Job) -> Result<(), NoMemory>
+    ensures { OnOk result (out.new ≡ out.old ++ input_line job.now) }
+{
+    out.append(b"input ")?;
+    put_text_end(alloc, out, job.input.as_slice())?;
+    Ok(())
+}
+
+#[tactic(auto, using(crate::proofs::Joined::requests))]
+fn put_requests(alloc: Global, out: &mut Bytes, jobs: &[Job]) -> Result<(), NoMemory>
+    ensures { OnOk result (out.new ≡ out.old ++ requests_from 1 jobs.now) }
+{
+    for (i, job) in jobs.iter().enumerate() {
+        put_request_line(alloc, out, i as u64 + 1, job)?;
+        put_input_line(alloc, out, job)?;
+    }
+    Ok(())
+}
+
+#[tactic(auto, using(crate::proofs::Joined::joined), unfolding(crate::specs::Report::items_part))]
+fn put_items_part(alloc: Global, out: &mut Bytes, view: &View) -> Result<(), NoMemory>
+    ensures { OnOk result (out.new ≡ out.old ++ items_part view.now) }
+{
+    put_around(alloc, out, b"items ", view.items.len() as u64, b"\n")?;
+    put_items(alloc, out, view.items.as_slice())?;
+    Ok(())
+}
+
+#[tactic(auto, using(crate::proofs::Joined::joined), unfolding(crate::specs::Report::requests_part))]
+fn put_requests_part(alloc: Global, out: &mut Bytes, view: &View) -> Result<(), NoMemory>
+    ensures { OnOk result (out.new ≡ out.old ++ requests_part view.now) }
+{
+    put_around(alloc, out, b"requests ", view.jobs.len() as u64, b"\n")?;
+    put_requests(alloc, out, view.jobs.as_slice())?;
+    Ok(())
+}
+
+/// The report on the editor: its journal's entries, its connections, its live windows, the items of all windows, and
+/// its requests.
 #[tactic(auto, using(crate::proofs::Joined::joined))]
 pub fn report(alloc: Global, view: &View) -> Result<Bytes, NoMemory>
     ensures { IfOk result (λ text. text ≡ report_text view.now) }
@@ -145,6 +254,7 @@ pub fn report(alloc: Global, view: &View) -> Result<Bytes, NoMemory>
     put_around(alloc, &mut out, b"journal ", view.entries, b"\n")?;
     put_conns_part(alloc, &mut out, view)?;
     put_windows_part(alloc, &mut out, view)?;
-    put_rest_part(alloc, &mut out)?;
+    put_items_part(alloc, &mut out, view)?;
+    put_requests_part(alloc, &mut out, view)?;
     Ok(out)
 }

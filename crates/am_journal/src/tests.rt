@@ -1,8 +1,9 @@
 //! Expected texts are worked out by hand from `docs/formats/transcript.md`.
 
 use crate::{
-    Bad, ConnView, Ending, Range, View, Why, WindowView, WireFault, line_law, read_line,
-    refused_line, reply_line, report, word, write_line,
+    Bad, ConnView, Ending, Event, ItemView, ItemViews, Job, JobKind, Jobs, Life, Range, View, Why,
+    WindowView, WireFault, journal_law, line_law, read_line, refused_line, reply_line, report,
+    word, write_line,
 };
 use am_text::{Bytes, Items, NoMemory, Runes};
 use std::alloc::Global;
@@ -27,7 +28,7 @@ fn is_no_line(alloc: Global, line: &[u8]) -> bool {
 
 #[test]
 fn lines_of_events_are_written_again(rt: HostRuntime) {
-    let lines: [&[u8]; 9] = [
+    let lines: [&[u8]; 15] = [
         b"dial 0",
         b"dial 63",
         b"msg 0 1300000064ffff002000000600395032303030",
@@ -37,11 +38,18 @@ fn lines_of_events_are_written_again(rt: HostRuntime) {
         b"hang 5 broken msize",
         b"took 9",
         b"new",
+        b"key 0 body :",
+        b"key 1 tag : a\\n\\\\b",
+        b"key 4294967295 body :\xC3\xA9:",
+        b"sel 1 0 0",
+        b"sel 4294967295 3 18446744073709551615",
+        b"sel 0 18446744073709551615 18446744073709551615",
     ];
     for line in lines {
         assert!(rt; is_written_again(rt.alloc(), line));
     }
     line_law();
+    journal_law();
 }
 
 #[test]
@@ -92,6 +100,40 @@ fn lines_of_hang_ups_are_whole(rt: HostRuntime) {
     }
 }
 
+#[test]
+fn lines_of_keys_and_selections_are_whole(rt: HostRuntime) {
+    let lines: [&[u8]; 14] = [
+        b"key 1 body",
+        b"key 1 body ",
+        b"key 1 body a",
+        b"key 1 Body :a",
+        b"key 1  body :a",
+        b"key 4294967296 body :a",
+        b"key 01 body :a",
+        b"key 1 body :\\",
+        b"key 1 body :\\a",
+        b"key 1 body :\xC3",
+        b"sel 1 1 0",
+        b"sel 1 0 18446744073709551616",
+        b"sel 1 0",
+        b"sel 1 0 0 ",
+    ];
+    for line in lines {
+        assert!(rt; is_no_line(rt.alloc(), line));
+    }
+}
+
+#[test]
+fn a_key_is_read_with_its_text(rt: HostRuntime) {
+    match read_line(rt.alloc(), b"key 7 body :a\\n\\\\\xC3\xA9") {
+        Ok(Some(Event::Key { window, text, .. })) => {
+            assert_eq!(rt; window, 7);
+            assert_eq!(rt; text.as_slice(), [97, 10, 92, 0xE9].as_slice());
+        }
+        _ => assert!(rt; false),
+    }
+}
+
 fn runes(alloc: Global, text: &[u32]) -> Result<Runes, NoMemory> {
     Items::copied(alloc, text)
 }
@@ -127,7 +169,63 @@ fn small_view(alloc: Global) -> Result<View, NoMemory> {
         entries: 8,
         conns,
         windows,
+        items: small_items(alloc)?,
+        jobs: small_jobs(alloc)?,
     })
+}
+
+/// An item of each life.
+fn small_items(alloc: Global) -> Result<ItemViews, NoMemory> {
+    let mut items = Items::new(alloc);
+    items.push(ItemView {
+        window: 1,
+        number: 1,
+        life: Life::Taken { opening: 1, at: 15 },
+        spelled: Items::copied(alloc, b"KI0 1 0 1 a\n")?,
+    })?;
+    items.push(ItemView {
+        window: 1,
+        number: 2,
+        life: Life::Back {
+            opening: 3,
+            at: 19,
+            back: 20,
+        },
+        spelled: Items::copied(alloc, b"MX4 5 0 1 \xC3\xA9\n")?,
+    })?;
+    items.push(ItemView {
+        window: 1,
+        number: 3,
+        life: Life::Pending,
+        spelled: Items::copied(alloc, b"KI1 2 0 1 \\\n")?,
+    })?;
+    items.push(ItemView {
+        window: 12,
+        number: 1,
+        life: Life::Dropped { at: 7 },
+        spelled: Items::copied(alloc, b"KD0 1 0 0 \n")?,
+    })?;
+    Ok(items)
+}
+
+/// A request of a window without a directory, and one of the plumber.
+fn small_jobs(alloc: Global) -> Result<Jobs, NoMemory> {
+    let mut jobs = Items::new(alloc);
+    jobs.push(Job {
+        kind: JobKind::Pipe,
+        window: 12,
+        dir: Items::new(alloc),
+        command: runes(alloc, &[97, 10, 98])?,
+        input: runes(alloc, &[120, 32, 92])?,
+    })?;
+    jobs.push(Job {
+        kind: JobKind::Start,
+        window: 0,
+        dir: runes(alloc, &[47, 92])?,
+        command: runes(alloc, &[109])?,
+        input: Items::new(alloc),
+    })?;
+    Ok(jobs)
 }
 
 const SMALL_REPORT: &[u8] = b"report
@@ -140,8 +238,16 @@ window 1 1 2 4 :/a\\\\b
 body :x\\n\\\\n\xC3\xA9\\n
 window 12 0 0 0 :
 body :
-items 0
-requests 0
+items 4
+item 1 1 taken 1 15 :KI0 1 0 1 a\\n
+item 1 2 back 3 19 20 :MX4 5 0 1 \xC3\xA9\\n
+item 1 3 pending :KI1 2 0 1 \\\\\\n
+item 12 1 dropped 7 :KD0 1 0 0 \\n
+requests 2
+request 1 pipe 12  :a\\nb
+input :x \\\\
+request 2 start 0 /\\\\ :m
+input :
 ";
 
 #[test]
@@ -165,6 +271,8 @@ fn ended_report(alloc: Global, ending: Ending) -> Result<Bytes, NoMemory> {
         entries: 0,
         conns,
         windows: Items::new(alloc),
+        items: Items::new(alloc),
+        jobs: Items::new(alloc),
     };
     report(alloc, &view)
 }
@@ -223,5 +331,8 @@ fn answers_are_lines(rt: HostRuntime) {
     assert_eq!(rt; word(Why::Size), b"size".as_slice());
     assert_eq!(rt; word(Why::Replies), b"replies".as_slice());
     assert_eq!(rt; word(Why::Nothing), b"nothing".as_slice());
+    assert_eq!(rt; word(Why::Window), b"window".as_slice());
+    assert_eq!(rt; word(Why::Range), b"range".as_slice());
     assert_eq!(rt; word(Why::Windows), b"windows".as_slice());
+    assert_eq!(rt; word(Why::Length), b"length".as_slice());
 }

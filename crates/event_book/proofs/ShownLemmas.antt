@@ -3,7 +3,7 @@ use Rattle.std.proofs.Common.{◌≡◌, ℕ, zero, suc, ◌+◌, ◌-◌, ◌<�
 use Rattle.std.proofs.lemmas.List.{append_assoc, drop_all, take-append-le, take-take, length_push, length-take-le}
 use Rattle.am_text.specs.Twice.{Twice, both}
 use Rattle.win_events.specs.Spelling.{spelling}
-use Rattle.event_book.specs.declared.item_view.ItemView.{ItemView}
+use Rattle.am_journal.specs.declared.view.ItemView.{ItemView}
 use Rattle.std.specs.Option.{option_map}
 use Rattle.std.specs.List.{list_any}
 use Rattle.win_events.specs.declared.item.Item.{Item}

@@ -6,7 +6,7 @@ use Rattle.win_events.specs.declared.item.Life.{Life}
 use Rattle.win_events.specs.declared.item.Life.TheVariants.{Pending, Taken, Back, Dropped}
 use Rattle.wait_queue.specs.declared.pending.Pending.{Pending as QueueItem}
 use Rattle.event_book.specs.declared.lives.Recorded.{Recorded}
-use Rattle.event_book.specs.declared.item_view.ItemView.{ItemView}
+use Rattle.am_journal.specs.declared.view.ItemView.{ItemView}
 
 -- whether no read has taken it, and no close has dropped it
 abbrev pub is_pending : Life → Bool

@@ -10,7 +10,7 @@ use Rattle.win_events.specs.declared.item.Life.{Life}
 use Rattle.win_events.specs.declared.item.Life.TheVariants.{Taken}
 use Rattle.event_book.specs.Lives.{fresh, take_first, all_dropped, written_back, pending_from, views_from}
 use Rattle.event_book.specs.declared.lives.Recorded.{Recorded}
-use Rattle.event_book.specs.declared.item_view.ItemView.{ItemView}
+use Rattle.am_journal.specs.declared.view.ItemView.{ItemView}
 
 -- all items of a window, and its openings with what each has left
 pub record EventFile : Type 0 where

@@ -9,8 +9,8 @@ ghost use Rattle.event_book.specs.BookState.{BookState, empty_book, is_open_wind
 ghost use Rattle.event_book.specs.Laws.{IsLawful, WindowOrder, WhatAFidGets};
 
 use crate::finding::BackFault;
-use crate::item_view::ItemViews;
 use crate::tables::Tables;
+use am_journal::ItemViews;
 use am_text::NoMemory;
 use std::alloc::Global;
 use std::marker::Model;

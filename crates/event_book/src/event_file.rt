@@ -10,8 +10,8 @@ ghost use Rattle.event_book.specs.Finding.{found_in};
 ghost use Rattle.event_book.specs.WindowFiles.{unopened, queue_of, IsQueueOf, file_in, has_opening, is_enlisted, enlisted, with_item, items_after, given, with_written, left, deleted};
 
 use crate::finding::BackFault;
-use crate::item_view::ItemViews;
 use crate::lives::ItemList;
+use am_journal::ItemViews;
 use am_text::NoMemory;
 use std::alloc::Global;
 use std::marker::Model;

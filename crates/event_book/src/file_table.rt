@@ -10,7 +10,7 @@ ghost use Rattle.event_book.specs.Table.{present_of, kept_of, files_in, Rises, p
 
 use crate::event_file::EventFile;
 use crate::finding::BackFault;
-use crate::item_view::ItemViews;
+use am_journal::ItemViews;
 use am_text::NoMemory;
 use std::alloc::Global;
 use std::marker::Model;

@@ -5,15 +5,14 @@ mod book;
 mod event_file;
 mod file_table;
 mod finding;
-mod item_view;
 mod laws;
 mod lives;
 mod owners;
 mod tables;
 
+pub use am_journal::{ItemView, ItemViews};
 pub use book::Book;
 pub use finding::BackFault;
-pub use item_view::{ItemView, ItemViews};
 pub use laws::{
     answers_append, begins_with_nothing, dropped_at_close, flushed_takes_none, nothing_else_gives,
     written_once,

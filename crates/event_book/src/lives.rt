@@ -7,7 +7,7 @@ ghost use Rattle.event_book.specs.Finding.{found_in};
 ghost use Rattle.event_book.specs.Shown.{shown, shown_life, AreSettled, dropped_after, with_life_at};
 
 use crate::finding::{BackFault, found_in};
-use crate::item_view::{ItemView, ItemViews};
+use am_journal::{ItemView, ItemViews};
 use am_text::NoMemory;
 use std::alloc::Global;
 use std::marker::Model;

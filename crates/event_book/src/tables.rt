@@ -10,8 +10,8 @@ ghost use Rattle.event_book.specs.Laws.{AllLiving};
 
 use crate::file_table::FileTable;
 use crate::finding::BackFault;
-use crate::item_view::ItemViews;
 use crate::owners::Owners;
+use am_journal::ItemViews;
 use am_text::NoMemory;
 use std::alloc::Global;
 use std::marker::Model;
