@@ -1,0 +1,152 @@
+-- The body of a window, as it is kept: its text and ranges as they are now.
+use Rattle.std.specs.Prelude.{◌≡◌, ℕ, ◌+◌, ◌<◌, ◌≤◌, ◌^◌, Bool, true, false, not, List, [], ◌∷◌, length, slice_range, Option, Some, None}
+use Rattle.am_text.specs.declared.range.Range.{Range}
+use Rattle.edit_log.specs.declared.types.Edit.{Edit}
+use Rattle.edit_log.specs.declared.types.Done.{Done}
+use Rattle.edit_log.specs.Edited.{after, text_after, images}
+use Rattle.edit_log.specs.Groups.{Log, joined}
+use Rattle.win_text.specs.declared.types.TextPlan.{TextPlan}
+
+-- ---- the groups that Undo takes back
+
+-- an undo log without its room
+pub record History : Type 0 where
+  pub past : List (List Done)
+  pub future : List (List Done)
+  -- whether each change is a group of its own
+  pub automatic : Bool
+  -- whether the last group of past takes the next change
+  pub joins : Bool
+
+abbrev pub history_of : Log → History
+history_of l = record { past = l.past; future = l.future; automatic = l.automatic; joins = l.joins }
+
+abbrev pub no_history : History
+no_history = record { past = []; future = []; automatic = true; joins = false }
+
+-- after the edits of one change were done: where there are none, nothing changed
+abbrev pub after_group : History → List Done → History
+after_group h [] = h
+after_group h (d ∷ ds) = record {
+  past = joined h.joins h.past (d ∷ ds);
+  future = [];
+  automatic = h.automatic;
+  joins = not h.automatic;
+}
+
+-- after `mark` (automatic) or `nomark`: the next change begins a group
+abbrev pub marked_history : History → Bool → History
+marked_history h automatic = record h { automatic = automatic; joins = false }
+
+-- ---- ranges
+
+-- both ends are in the text, in order
+pub record IsInside (text : List ℕ) (r : Range) : Type 0 where
+  pub order : r.q0 ≤ r.q1
+  pub bounds : r.q1 ≤ length text
+
+-- where a range is after these edits, done from first to last
+abbrev pub moved : Range → List Edit → Range
+moved r es = record { q0 = images r.q0 es; q1 = images r.q1 es }
+
+abbrev pub moved_limit : Option Range → List Edit → Option Range
+moved_limit None es = None
+moved_limit (Some r) es = Some (moved r es)
+
+abbrev pub IsLimitInside : List ℕ → Option Range → Type 0
+IsLimitInside text None = Unit {0}
+IsLimitInside text (Some r) = IsInside text r
+
+-- ---- edits
+
+-- the edit is one of this text, and not both null and empty
+pub record IsEditOf (text : List ℕ) (e : Edit) : Type 0 where
+  pub order : e.q0 ≤ e.q1
+  pub bounds : e.q1 ≤ length text
+  pub some : e.q0 < e.q1 + length e.text
+
+-- each edit is one of the text as it is when the edit is done
+abbrev pub AreInRange : List ℕ → List Edit → Type 0
+AreInRange text [] = Unit {0}
+AreInRange text (e ∷ es) = IsEditOf text e × AreInRange (after text e) es
+
+-- what an edit of this text cuts and puts
+abbrev pub done_edit : List ℕ → Edit → Done
+done_edit text e = record { q0 = e.q0; cut = slice_range text e.q0 e.q1; put = e.text }
+
+-- what the edits cut and put, each in the text as it is then
+abbrev pub done_group : List ℕ → List Edit → List Done
+done_group text [] = []
+done_group text (e ∷ es) = done_edit text e ∷ done_group (after text e) es
+
+-- how many runes they put
+abbrev pub put_length : List Edit → ℕ
+put_length [] = 0
+put_length (e ∷ es) = length e.text + put_length es
+
+-- ---- the body
+
+-- the text, the ranges dot and addr, the range that bounds searches, and the groups that Undo takes back
+pub record BodyState : Type 0 where
+  pub text : List ℕ
+  pub dot : Range
+  pub addr : Range
+  pub limit : Option Range
+  pub history : History
+
+abbrev pub null_range : Range
+null_range = record { q0 = 0; q1 = 0 }
+
+abbrev pub empty_body : BodyState
+empty_body = record { text = []; dot = null_range; addr = null_range; limit = None; history = no_history }
+
+-- the ranges are in the text
+pub record IsSound (s : BodyState) : Type 0 where
+  pub dot : IsInside s.text s.dot
+  pub addr : IsInside s.text s.addr
+  pub limit : IsLimitInside s.text s.limit
+
+abbrev pub with_dot : BodyState → Range → BodyState
+with_dot s r = record s { dot = r }
+
+abbrev pub with_addr : BodyState → Range → BodyState
+with_addr s r = record s { addr = r }
+
+abbrev pub with_limit : BodyState → Option Range → BodyState
+with_limit s r = record s { limit = r }
+
+abbrev pub marked_body : BodyState → Bool → BodyState
+marked_body s automatic = record s { history = marked_history s.history automatic }
+
+-- The plan's edits are those of the text, and its dot is in the text that they leave.
+pub record IsPlanFor (s : BodyState) (plan : TextPlan) : Type 0 where
+  pub edits : AreInRange s.text plan.edits
+  pub dot : IsInside (text_after s.text plan.edits) plan.dot
+
+-- after a plan: its edits are done as one change, addr and limit move with them, and dot is set
+abbrev pub applied : BodyState → TextPlan → BodyState
+applied s plan = record {
+  text = text_after s.text plan.edits;
+  dot = plan.dot;
+  addr = moved s.addr plan.edits;
+  limit = moved_limit s.limit plan.edits;
+  history = after_group s.history (done_group s.text plan.edits);
+}
+
+-- ---- room
+
+-- a body, and how many runes and edits can be put in without taking memory
+pub record BodyRoom : Type 0 where
+  pub state : BodyState
+  pub runes : ℕ
+  pub edits : ℕ
+
+-- there is room for the plan
+pub record IsReady (b : BodyRoom) (plan : TextPlan) : Type 0 where
+  pub runes : put_length plan.edits ≤ b.runes
+  pub edits : length plan.edits ≤ b.edits
+  pub fits : length b.state.text + put_length plan.edits < 2 ^ 64
+
+-- It stays so while the text is the same and the room doesn't fall.
+abbrev pub StaysReady : Type 0
+StaysReady = (b c : BodyRoom) (plan : TextPlan) → IsReady b plan → c.state.text ≡ b.state.text → b.runes ≤ c.runes → b.edits ≤ c.edits → IsReady c plan

@@ -1,0 +1,245 @@
+//! The body of a window.
+
+ghost use Rattle.std.specs.Prelude.{◌≡◌, ◌<◌, ◌≤◌, ◌+◌, ◌^◌, ◌==◌, not, length, slice_range, IfOk, OnOk};
+ghost use Rattle.edit_log.specs.Edited.{text_after};
+ghost use Rattle.win_text.specs.Bodies.{empty_body, IsInside, IsLimitInside, IsSound, AreInRange, moved, moved_limit, done_group, put_length, with_dot, with_addr, with_limit, marked_body, IsPlanFor, IsReady, applied};
+ghost use Rattle.win_text.specs.BodyStories.{IsChangeOf, moved_or_set, plan_of};
+
+use crate::groups::{group_of, make_edits, note_group, runes_put};
+use crate::ranges::range_after;
+use crate::types::{PlanKind, Ready, TextPlan};
+use am_text::{Letters, NoMemory, Range, Rune, Runes};
+use edit_log::{Edit, Edits, UndoLog};
+use rune_gap::RuneText;
+use std::alloc::Global;
+use std::marker::Model;
+
+/// The text of a window's body, the ranges in it, and the groups of edits that Undo takes back.
+/// Contracts see that state, and how many runes and edits can be put in without taking memory.
+#[derive(Drop)]
+pub struct Body {
+    alloc: Global,
+    text: RuneText,
+    dot: Range,
+    addr: Range,
+    limit: Option<Range>,
+    log: UndoLog,
+}
+
+impl Model for Body {
+    ghost use Rattle.win_text.specs.Bodies.{BodyRoom, IsSound};
+    ghost use Rattle.win_text.specs.Kept.{state_of};
+
+    ghost Value = { BodyRoom };
+
+    ghost view = { λ b. record { state = state_of b.text.items b.dot b.addr b.limit b.log; runes = b.text.spare; edits = b.log.room } };
+
+    ghost invariant = { λ b. IsSound (state_of b.text.items b.dot b.addr b.limit b.log) };
+}
+
+const FRONT: Range = Range { q0: 0, q1: 0 };
+
+impl Body {
+    /// The body without runes: each range is null at the front, there is no limit, and each change
+    /// will be a group of its own. It takes no memory.
+    pub fn new(alloc: Global) -> Body
+        ensures { result.state ≡ empty_body }
+    {
+        Body {
+            alloc,
+            text: RuneText::new(alloc),
+            dot: FRONT,
+            addr: FRONT,
+            limit: None,
+            log: UndoLog::new(alloc),
+        }
+    }
+
+    /// The selected range.
+    pub fn dot(&self) -> Range
+        ensures { result ≡ self.now.state.dot }
+    {
+        self.dot
+    }
+
+    /// The range that the file `addr` holds.
+    pub fn addr(&self) -> Range
+        ensures { result ≡ self.now.state.addr }
+    {
+        self.addr
+    }
+
+    /// The range that bounds searches, if there is one.
+    pub fn limit(&self) -> Option<Range>
+        ensures { result ≡ self.now.state.limit }
+    {
+        self.limit
+    }
+
+    /// Each range is in the text, in every body.
+    pub fn is_sound(&self)
+        ensures { IsSound self.now.state }
+    {
+        let _dot = self.dot;
+    }
+
+    /// Whether there is a group that Undo can take back. It takes no memory.
+    pub fn can_undo(&self) -> bool
+        ensures { result ≡ not (length self.now.state.history.past == 0) }
+    {
+        self.log.can_undo()
+    }
+
+    /// Whether there is a group that Redo can make again. It takes no memory.
+    pub fn can_redo(&self) -> bool
+        ensures { result ≡ not (length self.now.state.history.future == 0) }
+    {
+        self.log.can_redo()
+    }
+
+    /// The runes from `q0` to before `q1`.
+    pub fn slice(&self, q0: usize, q1: usize) -> Result<Runes, NoMemory>
+        requires order { q0 ≤ q1 }
+        requires bounds { q1 ≤ length self.now.state.text }
+        ensures { IfOk result (λ runes. runes ≡ slice_range self.now.state.text q0 q1) }
+    {
+        self.text.slice(q0, q1)
+    }
+
+    /// The whole text.
+    pub fn text(&self) -> Result<Runes, NoMemory>
+        ensures { IfOk result (λ runes. runes ≡ self.now.state.text) }
+    {
+        self.text.slice(0, self.text.len())
+    }
+
+    /// Sets dot. It takes no memory.
+    pub fn set_dot(&mut self, range: Range)
+        requires { IsInside self.old.state.text range }
+        ensures { self.new ≡ record self.old { state = with_dot self.old.state range } }
+    {
+        self.dot = range;
+    }
+
+    /// Sets addr. It takes no memory.
+    pub fn set_addr(&mut self, range: Range)
+        requires { IsInside self.old.state.text range }
+        ensures { self.new ≡ record self.old { state = with_addr self.old.state range } }
+    {
+        self.addr = range;
+    }
+
+    /// Sets the limit, or takes it away. It takes no memory.
+    pub fn set_limit(&mut self, range: Option<Range>)
+        requires { IsLimitInside self.old.state.text range }
+        ensures { self.new ≡ record self.old { state = with_limit self.old.state range } }
+    {
+        self.limit = range;
+    }
+
+    /// The ctl messages `mark` (automatic) and `nomark`: from now on each change is a group of its
+    /// own, or all changes until the next call are one. It takes no memory.
+    pub fn mark(&mut self, automatic: bool)
+        ensures { self.new ≡ record self.old { state = marked_body self.old.state automatic } }
+    {
+        self.log.mark(automatic);
+    }
+
+    /// The plan of a change: these edits, and dot after them, or where dot moves with them.
+    pub fn plan(&self, edits: Edits, dot: Option<Range>) -> Result<TextPlan, NoMemory>
+        requires { IsChangeOf self.now.state.text (record { edits = edits; dot = dot }) }
+        ensures plan { IfOk result (λ plan. plan ≡ plan_of self.now.state (record { edits = edits; dot = dot })) }
+        ensures sound { IfOk result (λ plan. IsPlanFor self.now.state plan) }
+    {
+        let dot = self.dot_after(edits.as_slice(), dot)?;
+        Ok(TextPlan {
+            edits,
+            dot,
+            kind: PlanKind::Change,
+        })
+    }
+
+    /// Makes ready to do a plan: room for its runes and its edits, and what it will cut and put.
+    /// The state stays, and no room is given up, whatever the answer.
+    pub fn reserve(&mut self, plan: &TextPlan) -> Result<Ready, NoMemory>
+        requires { IsPlanFor self.old.state plan.now }
+        ensures state { self.new.state ≡ self.old.state }
+        ensures runes { self.old.runes ≤ self.new.runes }
+        ensures edits { self.old.edits ≤ self.new.edits }
+        ensures room { OnOk result (IsReady self.new plan.now) }
+        ensures group { IfOk result (λ ready. ready ≡ done_group self.old.state.text plan.now.edits) }
+    {
+        let edits = plan.edits.as_slice();
+        let added = runes_put(edits)?;
+        self.text.reserve(added)?;
+        self.log.reserve(edits.len())?;
+        Ok(Ready::of(group_of(self.alloc, &self.text, edits, added)?))
+    }
+
+    /// Does a plan that was made ready: its edits are one change, addr and limit move with them,
+    /// and dot is set. A plan without edits is no change of the groups. It takes no memory.
+    pub fn apply(&mut self, plan: TextPlan, ready: Ready)
+        requires plan { IsPlanFor self.old.state plan }
+        requires room { IsReady self.old plan }
+        requires group { ready ≡ done_group self.old.state.text plan.edits }
+        ensures { self.new.state ≡ applied self.old.state plan }
+    {
+        let edits = plan.edits.as_slice();
+        let addr = self.addr_after(edits);
+        let limit = self.limit_after(edits);
+        make_edits(&mut self.text, edits);
+        note_group(&mut self.log, ready.into_group());
+        self.dot = plan.dot;
+        self.addr = addr;
+        self.limit = limit;
+    }
+
+    // Where dot is after these edits of a change, which may set it.
+    fn dot_after(&self, edits: &[Edit], dot: Option<Range>) -> Result<Range, NoMemory>
+        requires { IsChangeOf self.now.state.text (record { edits = edits.now; dot = dot }) }
+        ensures dot { IfOk result (λ after. after ≡ moved_or_set self.now.state.dot edits.now dot) }
+        ensures inside { IfOk result (λ after. IsInside (text_after self.now.state.text edits.now) after) }
+    {
+        match dot {
+            Some(range) => Ok(range),
+            None => {
+                let added = runes_put(edits)?;
+                let _end = self.dot.q1.checked_add(added).ok_or(NoMemory)?;
+                Ok(range_after(self.dot, edits))
+            }
+        }
+    }
+
+    // Where addr is after these edits.
+    fn addr_after(&self, edits: &[Edit]) -> Range
+        requires range { AreInRange self.now.state.text edits.now }
+        requires fits { length self.now.state.text + put_length edits.now < 2 ^ 64 }
+        ensures { result ≡ moved self.now.state.addr edits.now }
+    {
+        range_after(self.addr, edits)
+    }
+
+    // Where the limit is after these edits.
+    fn limit_after(&self, edits: &[Edit]) -> Option<Range>
+        requires range { AreInRange self.now.state.text edits.now }
+        requires fits { length self.now.state.text + put_length edits.now < 2 ^ 64 }
+        ensures { result ≡ moved_limit self.now.state.limit edits.now }
+    {
+        match self.limit {
+            None => None,
+            Some(range) => Some(range_after(range, edits)),
+        }
+    }
+}
+
+impl Letters for Body {
+    ghost letters = { λ body. body.state.text };
+
+    fn len(&self) -> usize {
+        self.text.len()
+    }
+
+    fn at(&self, i: usize) -> Rune {
+        self.text.get(i)
+    }
+}

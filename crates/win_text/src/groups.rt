@@ -1,0 +1,113 @@
+//! What edits do to a text, and what they will do.
+
+ghost use Rattle.std.specs.Prelude.{◌≡◌, ◌<◌, ◌≤◌, ◌+◌, ◌^◌, length, IfOk};
+ghost use Rattle.edit_log.specs.Edited.{after, text_after};
+ghost use Rattle.win_text.specs.Bodies.{IsEditOf, AreInRange, done_edit, done_group, put_length, history_of, after_group};
+
+use am_text::{Items, NoMemory, Runes};
+use edit_log::{Done, DoneList, Edit, UndoLog};
+use rune_gap::RuneText;
+use std::alloc::Global;
+
+// How many runes the edits put.
+pub(crate) fn runes_put(edits: &[Edit]) -> Result<usize, NoMemory>
+    ensures { IfOk result (λ runes. runes ≡ put_length edits.now) }
+{
+    let mut runes: usize = 0;
+    for edit in edits {
+        runes = runes.checked_add(edit.text.len()).ok_or(NoMemory)?;
+    }
+    Ok(runes)
+}
+
+// Does an edit, into the room that is there.
+fn make_edit(text: &mut RuneText, edit: &Edit)
+    requires range { IsEditOf text.old.items edit.now }
+    requires room { length edit.now.text ≤ text.old.spare }
+    ensures items { text.new.items ≡ after text.old.items edit.now }
+    ensures spare { text.old.spare ≤ text.new.spare + length edit.now.text }
+{
+    text.replace(edit.q0, edit.q1, edit.text.as_slice());
+}
+
+// Does the edits, into the room that is there.
+pub(crate) fn make_edits(text: &mut RuneText, edits: &[Edit])
+    requires range { AreInRange text.old.items edits.now }
+    requires room { put_length edits.now ≤ text.old.spare }
+    ensures { text.new.items ≡ text_after text.old.items edits.now }
+{
+    for edit in edits {
+        make_edit(text, edit);
+    }
+}
+
+// Notes the edits of a change as a group, where there are any.
+pub(crate) fn note_group(log: &mut UndoLog, group: DoneList)
+    requires { length group ≤ log.old.room }
+    ensures { history_of log.new ≡ after_group (history_of log.old) group }
+{
+    if !group.is_empty() {
+        log.push(group);
+    }
+}
+
+// What an edit of a text cuts and puts.
+fn done_by(alloc: Global, text: &RuneText, edit: &Edit) -> Result<Done, NoMemory>
+    requires { IsEditOf text.now.items edit.now }
+    ensures { IfOk result (λ done. done ≡ done_edit text.now.items edit.now) }
+{
+    Ok(Done {
+        q0: edit.q0,
+        cut: text.slice(edit.q0, edit.q1)?,
+        put: Runes::copied(alloc, edit.text.as_slice())?,
+    })
+}
+
+// A text of its own with the same runes, and room for so many more.
+fn copy_of(alloc: Global, text: &RuneText, added: usize) -> Result<RuneText, NoMemory>
+    requires { length text.now.items + added < 2 ^ 64 }
+    ensures items { IfOk result (λ copy. copy.items ≡ text.now.items) }
+    ensures room { IfOk result (λ copy. added ≤ copy.spare) }
+{
+    let runes = text.slice(0, text.len())?;
+    let mut copy = RuneText::new(alloc);
+    copy.reserve(text.len() + added)?;
+    copy.replace(0, 0, runes.as_slice());
+    Ok(copy)
+}
+
+// What the edits cut and put, found by doing them.
+fn group_over(alloc: Global, text: &mut RuneText, edits: &[Edit]) -> Result<DoneList, NoMemory>
+    requires range { AreInRange text.old.items edits.now }
+    requires room { put_length edits.now ≤ text.old.spare }
+    ensures { IfOk result (λ group. group ≡ done_group text.old.items edits.now) }
+{
+    let mut group = Items::new(alloc);
+    for edit in edits {
+        group.push(done_by(alloc, text, edit)?)?;
+        make_edit(text, edit);
+    }
+    Ok(group)
+}
+
+// What the edits will cut and put, of which there are so many runes. More than one are done in a
+// copy of the text.
+pub(crate) fn group_of(
+    alloc: Global,
+    text: &RuneText,
+    edits: &[Edit],
+    added: usize,
+) -> Result<DoneList, NoMemory>
+    requires range { AreInRange text.now.items edits.now }
+    requires runes { added ≡ put_length edits.now }
+    requires fits { length text.now.items + added < 2 ^ 64 }
+    ensures { IfOk result (λ group. group ≡ done_group text.now.items edits.now) }
+{
+    let mut group = Items::new(alloc);
+    match edits {
+        [] => {}
+        [edit] => group.push(done_by(alloc, text, edit)?)?,
+        _ => return group_over(alloc, &mut copy_of(alloc, text, added)?, edits),
+    }
+    Ok(group)
+}

@@ -1,0 +1,18 @@
+//! The body of a window: a text, the ranges that move with its edits, and its undo groups.
+#![tactic(auto)]
+
+mod body;
+mod groups;
+mod laws;
+mod ranges;
+mod types;
+
+pub use body::Body;
+pub use laws::{
+    begins_lawful, calls_are_shown, changes_are_plans, ranges_are_inside, stays_lawful,
+    stays_ready, text_is_its_history,
+};
+pub use types::{PlanKind, Ready, TextPlan};
+
+#[cfg(test)]
+mod tests;
