@@ -1,0 +1,5 @@
+pub mod Named
+pub mod PlaceLemmas
+pub mod Settings
+pub mod ShownLemmas
+pub mod Worlds

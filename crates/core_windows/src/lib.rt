@@ -1,0 +1,22 @@
+//! The windows of the editor: as they stand, by all that was done to them, and the changes that a step makes.
+#![tactic(auto)]
+
+mod change;
+mod committing;
+mod laws;
+mod pane;
+mod places;
+mod prepared;
+mod preparing;
+#[cfg(test)]
+mod tests;
+mod windows;
+
+pub use acme_tree::World;
+pub use am_text::{Bytes, Items, NoMemory, Range, Rune, Runes};
+pub use change::{Change, Setting, Settings};
+pub use edit_log::{Edit, Edits};
+pub use laws::{changes_are_lawful, changes_show};
+pub use pane::Pane;
+pub use win_text::Body;
+pub use windows::Windows;
