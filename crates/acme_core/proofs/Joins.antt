@@ -1,5 +1,9 @@
 -- The connections that joined the sessions are those that were dialled, one event further.
-use Rattle.std.proofs.Common.{◌≡◌, ◌≢◌, ℕ, ◌<◌, Bool, true, false, cond, eqb, ◌||◌, List, [], ◌∷◌, length, Option, Some, None, refl, sym, ap, ◌∙◌, arith}
+use Rattle.am_text.specs.Twice.{IsSteady}
+use Rattle.acme_core.specs.declared.parts.Parts.{Parts}
+use Rattle.acme_core.specs.Parts.{present_of}
+use Rattle.acme_core.specs.Kept.{AreSound}
+use Rattle.std.proofs.Common.{subst, ◌≡◌, ◌≢◌, ℕ, ◌<◌, Bool, true, false, cond, eqb, ◌||◌, List, [], ◌∷◌, length, Option, Some, None, refl, sym, ap, ◌∙◌, arith}
 use Rattle.std.specs.Prelude.{slice_set}
 use Rattle.std.specs.List.{list_any}
 use Rattle.std.proofs.lemmas.Bool.{eqb-true, eqb-false}
@@ -13,11 +17,11 @@ use Rattle.fid_table.specs.declared.session.Session.{Session}
 use Rattle.fid_table.specs.Tables.{Tables, is_session, has_joined, HasJoined, on_session, put_in, taken_from, begun, after_join}
 use Rattle.acme_core.specs.declared.connection.Connection.{Connection}
 use Rattle.acme_core.specs.declared.connection.Connection.TheVariants.{Undialed, Live, Ended}
-use Rattle.acme_core.specs.declared.effect.Effect.{Effect}
-use Rattle.acme_core.specs.declared.effect.Effect.TheVariants as effect
+use Rattle.core_answers.specs.declared.effect.Effect.{Effect}
+use Rattle.core_answers.specs.declared.effect.Effect.TheVariants as effect
 use Rattle.acme_core.specs.Connections.{connection_at, connections_after, was_dialed, AreJoined, IsJoinedFor, tables_with, tables_after, grown_with, ended_with}
 use Rattle.acme_core.specs.Enabled.{dial_refusal, live_refusal, first_why}
-use Rattle.acme_core.specs.Run.{State, enabled_at}
+use Rattle.acme_core.specs.Run.{Present, enabled_at}
 
 -- ---- sessions keep their connections
 
@@ -34,8 +38,6 @@ joined_with : (t : Tables) (conn x : ℕ) (f : Effect) → has_joined (tables_wi
 joined_with t conn x effect.Nothing = refl
 joined_with t conn x (effect.Begins msize) = any_kept (begun msize) (λ s. refl) conn x t.sessions
 joined_with t conn x (effect.Puts number fid) = any_kept (put_in number fid) (λ s. refl) conn x t.sessions
-joined_with t conn x (effect.Makes number fid) = any_kept (put_in number fid) (λ s. refl) conn x t.sessions
-joined_with t conn x (effect.Appends number fid window text) = any_kept (put_in number fid) (λ s. refl) conn x t.sessions
 joined_with t conn x (effect.Frees number) = any_kept (taken_from number) (λ s. refl) conn x t.sessions
 
 or_false : (b : Bool) → (b || false) ≡ b
@@ -91,7 +93,7 @@ hang_joins cs t conn v h new old all x =
       | false ↦ λ e. all x ∙ sym (ap was_dialed (elsewhere cs conn x v (λ (s : x ≡ conn). eqb-false conn x e (sym s))))
     ] refl
 
-pub joins_on : (s : State) (e : Event) (f : Effect) → length s.connections ≡ 64 → IsLawful e → enabled_at s e ≡ None → AreJoined s.connections s.tables
+pub joins_on : (s : Present) (e : Event) (f : Effect) → length s.connections ≡ 64 → IsLawful e → enabled_at s e ≡ None → AreJoined s.connections s.tables
     → AreJoined (connections_after s.connections e) (tables_after s.tables e f)
 joins_on s (event.Dial conn) f n h e all = dial_joins s.connections s.tables conn (omega (arith, n, h)) all
 joins_on s (event.Msg conn msg) f n h e all = λ x. joined_with s.tables conn x f ∙ all x
@@ -100,15 +102,19 @@ joins_on s (event.Hang conn why) f n h e all = λ x.
     ∙ hang_joins s.connections s.tables conn (Ended why) (omega (arith, n, h)) refl (dialed_live (connection_at s.connections conn) e) all x
 joins_on s (event.Took conn) f n h e all = all
 joins_on s event.New f n h e all = all
+joins_on s (event.Key w side text) f n h e all = all
+joins_on s (event.Sel w range) f n h e all = all
 
 -- ---- what an enabled event finds
 
-pub joined_for : (s : State) (e : Event) → enabled_at s e ≡ None → AreJoined s.connections s.tables → IsJoinedFor s.tables e
+pub joined_for : (s : Present) (e : Event) → enabled_at s e ≡ None → AreJoined s.connections s.tables → IsJoinedFor s.tables e
 joined_for s (event.Dial conn) e all = all conn ∙ undialed (connection_at s.connections conn) e
 joined_for s (event.Msg conn msg) e all = all conn ∙ dialed_live (connection_at s.connections conn) (first_is (live_refusal (connection_at s.connections conn)) _ e)
 joined_for s (event.Hang conn why) e all = all conn ∙ dialed_live (connection_at s.connections conn) e
 joined_for s (event.Took conn) e all = tt
 joined_for s event.New e all = tt
+joined_for s (event.Key w side text) e all = tt
+joined_for s (event.Sel w range) e all = tt
 
 -- ---- growing, and then the rest
 
@@ -116,8 +122,6 @@ grown_has : (t : Tables) (conn : ℕ) (f : Effect) → has_joined (grown_with t 
 grown_has t conn effect.Nothing = refl
 grown_has t conn (effect.Begins msize) = refl
 grown_has t conn (effect.Puts number fid) = any_kept (put_in number fid) (λ s. refl) conn conn t.sessions
-grown_has t conn (effect.Makes number fid) = any_kept (put_in number fid) (λ s. refl) conn conn t.sessions
-grown_has t conn (effect.Appends number fid window text) = any_kept (put_in number fid) (λ s. refl) conn conn t.sessions
 grown_has t conn (effect.Frees number) = refl
 
 pub grown_joined : (t : Tables) (conn : ℕ) (f : Effect) → HasJoined t conn → HasJoined (grown_with t conn f) conn
@@ -127,8 +131,12 @@ pub grown_ended : (t : Tables) (conn : ℕ) (f : Effect) → ended_with (grown_w
 grown_ended t conn effect.Nothing = refl
 grown_ended t conn (effect.Begins msize) = refl
 grown_ended t conn (effect.Puts number fid) = refl
-grown_ended t conn (effect.Makes number fid) = refl
-grown_ended t conn (effect.Appends number fid window text) = refl
 grown_ended t conn (effect.Frees number) = refl
 
 pub ruleset joining = (grown_joined, grown_ended)
+
+-- what the tables have, where nothing grew since they were kept
+pub tables_joined : (p : Parts) (e : Event) → enabled_at (present_of p) e ≡ None → AreSound p → IsSteady p.sessions → IsJoinedFor p.sessions.present e
+tables_joined p e allowed sound steady = subst (λ (t : Tables). IsJoinedFor t e) (sym steady) (joined_for (present_of p) e allowed sound.joined)
+
+pub ruleset joined = (tables_joined)

@@ -1,12 +1,6 @@
-pub mod Answers
 pub mod Few
 pub mod Joins
 pub mod Goes
 pub mod Places
-pub mod Trails
 pub mod Viewed
-pub mod Knows
-pub mod Sizes
-pub mod Entries
-pub mod Parted
-pub mod Answered
+pub mod Typed

@@ -1,15 +1,10 @@
 -- A list at one place, and what is kept there.
 use Rattle.std.proofs.Common.{◌≡◌, ℕ, zero, suc, ◌+◌, ◌<◌, ◌≤◌, List, [], ◌∷◌, ◌++◌, length, map, get_or, Option, Some, None, refl, sym, ap, ◌∙◌, subst, arith}
 use Rattle.std.specs.Prelude.{slice_set, slice_get, replicate}
-use Rattle.std.specs.Option.{option_map}
 use Rattle.std.proofs.lemmas.List.{map-set, map-append, get_or-set_same, length-set, length-append, length-map, replicate-append-replicate}
-use Rattle.std.proofs.lemmas.Option.{slice_get_past, slice_get-get_or, slice_get-map}
+use Rattle.std.proofs.lemmas.Option.{slice_get_past, slice_get-get_or}
 use Rattle.std.proofs.Math.Seq.{map-set_same}
 use Rattle.acme_core.specs.declared.connection.Connection.{Connection}
-use Rattle.acme_core.specs.declared.window.Pane.{Pane}
-use Rattle.acme_core.specs.Panes.{windows_of, window_of}
-use Rattle.acme_core.specs.Panes as panes
-use Rattle.acme_core.specs.Windows.{Window, appended, append_to}
 use Rattle.acme_core.specs.declared.unsent.Reply.{Reply}
 use Rattle.acme_core.specs.Unsent.{Unsent, UnsentRoom, unsent_of, without_room, unsent_at, with_reply, nothing_unsent, replies_of}
 use Rattle.acme_core.specs.Unsent as unsent
@@ -23,29 +18,6 @@ module _ {X : Type 0} where
 
 pub set_past : (xs : List Connection) (k : ℕ) (x : Connection) → length xs ≤ k → xs ≡ slice_set xs k x
 set_past xs k x h = past_end xs k x h
-
--- ---- windows
-
-pub same_windows : (ps : List Pane) (k : ℕ) (p d : Pane) → window_of p ≡ window_of (get_or ps k d) → windows_of (slice_set ps k p) ≡ windows_of ps
-same_windows ps k p d e = map-set_same window_of ps k p d e
-
-pub pane_set : (ps : List Pane) (k more : ℕ) (p : Pane) → k < length ps → more ≤ p.text.spare → panes.HasRoomFor (slice_get (slice_set ps k p) k) more
-pane_set ps k more p h r =
-    let within : k < length (slice_set ps k p) = omega (arith, length-set ps k p) in
-    let e : slice_get (slice_set ps k p) k ≡ Some p = slice_get-get_or (slice_set ps k p) k p within ∙ ap (λ (x : Pane). Some x) (get_or-set_same ps k p p h) in
-    subst (λ (x : _). panes.HasRoomFor x more) (sym e) r
-
-pub pane_past : (ps : List Pane) (k more : ℕ) → length ps ≤ k → panes.HasRoomFor (slice_get ps k) more
-pane_past ps k more h = subst (λ (x : _). panes.HasRoomFor x more) (sym (slice_get_past ps k h)) tt
-
-pub ruleset places = (same_windows, pane_set, pane_past)
-
--- a text put at one window's end
-pub put_runes : (ps : List Pane) (k : ℕ) (p d : Pane) (text : List ℕ) → k < length ps → window_of p ≡ appended (window_of (get_or ps k d)) text
-    → windows_of (slice_set ps k p) ≡ append_to (windows_of ps) k (slice_get (windows_of ps) k) text
-put_runes ps k p d text h e =
-    let there : slice_get (windows_of ps) k ≡ Some (window_of (get_or ps k d)) = slice_get-map window_of ps k ∙ ap (λ (o : _). option_map window_of o) (slice_get-get_or ps k d h) in
-    map-set window_of ps k p ∙ ap (λ (x : Window). slice_set (windows_of ps) k x) e ∙ ap (λ (o : Option Window). append_to (windows_of ps) k o text) (sym there)
 
 -- ---- unsent replies
 

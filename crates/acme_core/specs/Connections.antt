@@ -2,8 +2,8 @@
 use Rattle.std.specs.Prelude.{◌≡◌, ℕ, Bool, true, false, List, count_by, slice_index_or, slice_set}
 use Rattle.acme_core.specs.declared.connection.Connection.{Connection}
 use Rattle.acme_core.specs.declared.connection.Connection.TheVariants.{Undialed, Live, Ended}
-use Rattle.acme_core.specs.declared.effect.Effect.{Effect}
-use Rattle.acme_core.specs.declared.effect.Effect.TheVariants as effect
+use Rattle.core_answers.specs.declared.effect.Effect.{Effect}
+use Rattle.core_answers.specs.declared.effect.Effect.TheVariants as effect
 use Rattle.am_text.specs.Twice.{Twice}
 use Rattle.am_journal.specs.declared.event.Event.{Event}
 use Rattle.am_journal.specs.declared.event.Event.TheVariants as event
@@ -27,6 +27,8 @@ connections_after connections (event.Msg conn msg) = connections
 connections_after connections (event.Hang conn why) = slice_set connections conn (Ended why)
 connections_after connections (event.Took conn) = connections
 connections_after connections event.New = connections
+connections_after connections (event.Key w side text) = connections
+connections_after connections (event.Sel w range) = connections
 
 -- ---- their sessions
 
@@ -46,14 +48,14 @@ IsJoinedFor tables (event.Msg conn msg) = HasJoined tables conn
 IsJoinedFor tables (event.Hang conn why) = HasJoined tables conn
 IsJoinedFor tables (event.Took conn) = Unit {0}
 IsJoinedFor tables event.New = Unit {0}
+IsJoinedFor tables (event.Key w side text) = Unit {0}
+IsJoinedFor tables (event.Sel w range) = Unit {0}
 
 -- what a message does to the fids of its connection
 abbrev pub tables_with : Tables → ℕ → Effect → Tables
 tables_with tables conn effect.Nothing = tables
 tables_with tables conn (effect.Begins msize) = after_version tables conn msize
 tables_with tables conn (effect.Puts number fid) = after_put tables conn number fid
-tables_with tables conn (effect.Makes number fid) = after_put tables conn number fid
-tables_with tables conn (effect.Appends number fid window text) = after_put tables conn number fid
 tables_with tables conn (effect.Frees number) = after_take tables conn number
 
 -- the sessions and fids after an event
@@ -63,6 +65,8 @@ tables_after tables (event.Msg conn msg) effect = tables_with tables conn effect
 tables_after tables (event.Hang conn why) effect = after_hangup tables conn
 tables_after tables (event.Took conn) effect = tables
 tables_after tables event.New effect = tables
+tables_after tables (event.Key w side text) effect = tables
+tables_after tables (event.Sel w range) effect = tables
 
 -- ---- in two steps: what wants memory, and what doesn't
 
@@ -70,16 +74,12 @@ abbrev pub grown_with : Tables → ℕ → Effect → Tables
 grown_with tables conn effect.Nothing = tables
 grown_with tables conn (effect.Begins msize) = tables
 grown_with tables conn (effect.Puts number fid) = after_put tables conn number fid
-grown_with tables conn (effect.Makes number fid) = after_put tables conn number fid
-grown_with tables conn (effect.Appends number fid window text) = after_put tables conn number fid
 grown_with tables conn (effect.Frees number) = tables
 
 abbrev pub ended_with : Tables → ℕ → Effect → Tables
 ended_with tables conn effect.Nothing = tables
 ended_with tables conn (effect.Begins msize) = after_version tables conn msize
 ended_with tables conn (effect.Puts number fid) = tables
-ended_with tables conn (effect.Makes number fid) = tables
-ended_with tables conn (effect.Appends number fid window text) = tables
 ended_with tables conn (effect.Frees number) = after_take tables conn number
 
 abbrev pub grown : Tables → Event → Effect → Tables
@@ -88,6 +88,8 @@ grown tables (event.Msg conn msg) effect = grown_with tables conn effect
 grown tables (event.Hang conn why) effect = tables
 grown tables (event.Took conn) effect = tables
 grown tables event.New effect = tables
+grown tables (event.Key w side text) effect = tables
+grown tables (event.Sel w range) effect = tables
 
 -- the sessions have grown as the event wants it
 pub record HasSessions (sessions : Twice Tables) (event : Event) (effect : Effect) : Type 0 where

@@ -34,6 +34,8 @@ taken unsent (event.Msg conn msg) = unsent
 taken unsent (event.Hang conn why) = unsent
 taken unsent (event.Took conn) = slice_set unsent conn nothing_unsent
 taken unsent event.New = unsent
+taken unsent (event.Key w side text) = unsent
+taken unsent (event.Sel w range) = unsent
 
 -- ---- as the editor keeps them, with room
 

@@ -5,10 +5,10 @@ use Rattle.am_journal.specs.declared.view.ConnView.{ConnView}
 use Rattle.am_journal.specs.declared.view.WindowView.{WindowView}
 use Rattle.am_journal.specs.declared.view.View.{View}
 use Rattle.am_journal.specs.declared.ending.Ending.{Ending}
+use Rattle.core_windows.specs.Windows.{Window}
 use Rattle.acme_core.specs.declared.connection.Connection.{Connection}
 use Rattle.acme_core.specs.declared.connection.Connection.TheVariants.{Undialed, Live, Ended}
-use Rattle.acme_core.specs.Windows.{Window}
-use Rattle.acme_core.specs.Run.{State, run}
+use Rattle.acme_core.specs.Run.{Present, present_after}
 
 abbrev pub conn_view : ℕ → Option Ending → ConnView
 conn_view c ending = record { conn = c; ending = ending }
@@ -20,17 +20,18 @@ conn_views c (Undialed ∷ cs) = conn_views (c + 1) cs
 conn_views c (Live ∷ cs) = conn_view c None ∷ conn_views (c + 1) cs
 conn_views c (Ended why ∷ cs) = conn_view c (Some why) ∷ conn_views (c + 1) cs
 
--- a window: dot stays at the front of its body, and it has no name
 abbrev pub window_view : ℕ → Window → WindowView
-window_view w window = record { id = w; modified = window.modified; dot = record { q0 = 0; q1 = 0 }; name = []; body = window.text }
+window_view w window = record { id = w; modified = window.modified; dot = window.body.dot; name = window.name; body = window.body.text }
 
--- the windows, of which the first has this number
-unfoldable pub window_views : ℕ → List Window → List WindowView
+-- the live windows, of which the first in the list has this number
+unfoldable pub window_views : ℕ → List (Option Window) → List WindowView
 window_views w [] = []
-window_views w (window ∷ ws) = window_view w window ∷ window_views (w + 1) ws
+window_views w (None ∷ ws) = window_views (w + 1) ws
+window_views w (Some window ∷ ws) = window_view w window ∷ window_views (w + 1) ws
 
-abbrev pub view_at : ℕ → State → View
-view_at entries s = record { entries = entries; conns = conn_views 0 s.connections; windows = window_views 1 s.windows }
+-- there are no items and no requests yet
+abbrev pub view_at : ℕ → Present → View
+view_at entries s = record { entries = entries; conns = conn_views 0 s.connections; windows = window_views 1 s.windows; items = []; jobs = [] }
 
 unfoldable pub view_of : List Event → View
-view_of journal = view_at (length journal) (run journal)
+view_of journal = view_at (length journal) (present_after journal)

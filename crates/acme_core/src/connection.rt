@@ -5,10 +5,9 @@ ghost use Rattle.am_text.specs.Twice.{both, IsSteady};
 ghost use Rattle.fid_table.specs.Tables.{HasJoined};
 ghost use Rattle.acme_core.specs.Connections.{connection_at, connections_after, live_count, is_live, IsJoinedFor, HasSessions, grown_with, ended_with, tables_after};
 
-use crate::effect::Effect;
-use crate::fids::copy;
 use am_journal::{Ending, Event};
 use am_text::NoMemory;
+use core_answers::{Effect, copy};
 use fid_table::Sessions;
 use std::alloc::Global;
 
@@ -70,6 +69,8 @@ pub(crate) fn change_connections(connections: &mut [Connection], event: &Event)
         Event::Msg { .. } => {}
         Event::Took { .. } => {}
         Event::New => {}
+        Event::Key { .. } => {}
+        Event::Sel { .. } => {}
     }
 }
 
@@ -91,6 +92,8 @@ pub(crate) fn grow_sessions(
         Event::Hang { .. } => Ok(()),
         Event::Took { .. } => Ok(()),
         Event::New => Ok(()),
+        Event::Key { .. } => Ok(()),
+        Event::Sel { .. } => Ok(()),
     }
 }
 
@@ -107,8 +110,6 @@ fn put_fid(
 {
     match effect {
         Effect::Puts { number, fid } => sessions.put(conn, *number, copy(alloc, fid)?),
-        Effect::Makes { number, fid } => sessions.put(conn, *number, copy(alloc, fid)?),
-        Effect::Appends { number, fid, .. } => sessions.put(conn, *number, copy(alloc, fid)?),
         Effect::Nothing => Ok(()),
         Effect::Begins { .. } => Ok(()),
         Effect::Frees { .. } => Ok(()),
@@ -127,8 +128,6 @@ fn end_fids(sessions: &mut Sessions, conn: u32, effect: &Effect)
         }
         Effect::Nothing => {}
         Effect::Puts { .. } => {}
-        Effect::Makes { .. } => {}
-        Effect::Appends { .. } => {}
     }
 }
 
@@ -145,5 +144,7 @@ pub(crate) fn change_sessions(sessions: &mut Sessions, event: &Event, effect: &E
         Event::Dial { .. } => {}
         Event::Took { .. } => {}
         Event::New => {}
+        Event::Key { .. } => {}
+        Event::Sel { .. } => {}
     }
 }

@@ -3,6 +3,7 @@
 ghost use Rattle.std.specs.Prelude.{◌≡◌, ◌<◌, ◌≤◌, ◌+◌, ◌^◌, ◌++◌, ◌∷◌, [], Some, None, length, slice_get, IsSome, OnSome, IfOk, IfSome, OnOk, OnErr, IfErr, MatchOption};
 ghost use Rattle.am_journal.specs.Lawful.{IsLawful};
 ghost use Rattle.acme_core.specs.Run.{enabled, run, output_at, Refuses, IsHang, IsWhy, settled, ready};
+ghost use Rattle.core_windows.specs.Stories.{AreLawful};
 ghost use Rattle.acme_core.specs.Views.{view_of};
 
 use crate::parts::Parts;
@@ -11,6 +12,7 @@ use crate::unsent::{output_of, reply_at};
 use crate::view::view_of;
 use am_journal::{Event, Journal, Refused, View};
 use am_text::{NoMemory, Roomy};
+use core_windows::{changes_are_lawful, changes_show};
 use std::alloc::Global;
 use std::marker::Model;
 
@@ -57,6 +59,7 @@ impl Core {
     pub fn new(alloc: Global) -> Result<Core, NoMemory>
         ensures { IfOk result (λ core. core ≡ settled []) }
     {
+        changes_are_lawful();
         Ok(Core {
             alloc,
             journal: Roomy::new(alloc),
@@ -99,6 +102,8 @@ impl Core {
             effect,
             reply,
         } = prepared;
+        changes_show();
+        changes_are_lawful();
         self.parts.apply(self.alloc, &event, &effect, reply);
         self.journal.put(event);
         self.journal.len() as u64
@@ -141,6 +146,15 @@ impl Core {
         ensures { IfOk result (λ view. view ≡ view_of self.now.journal) }
     {
         view_of(self.alloc, self.journal.len() as u64, &self.parts)
+    }
+
+    /// In each journal of a core each window is lawful: each of its ranges was set inside the text of its time, and its text
+    /// is what its groups of edits make of the empty text. So each range lies in the text, where the edits made since it
+    /// was set have moved it (`win_text::ranges_are_inside`).
+    pub fn windows_are_lawful(&self)
+        ensures { AreLawful (run self.now.journal).windows }
+    {
+        let _entries = self.journal.len();
     }
 
     /// All events that were done, in order.

@@ -61,8 +61,12 @@ fn connections_end(rt: HostRuntime) -> Result<(), Fail> {
     assert_eq!(rt; step(alloc, &mut core, b"took 3"), 4);
     assert_eq!(rt; core.output(3).len(), 0);
     assert_eq!(rt; step(alloc, &mut core, b"new"), 5);
+    assert_eq!(rt; step(alloc, &mut core, b"key 1 body :ab"), 6);
+    assert_eq!(rt; step(alloc, &mut core, b"sel 1 0 1"), 7);
+    assert_eq!(rt; step(alloc, &mut core, b"sel 1 0 3"), 0);
     let view = core.view()?;
     assert_eq!(rt; (view.conns.len(), view.windows.len()), (1, 1));
+    core.windows_are_lawful();
     messages_are_answered();
     Ok(())
 }

@@ -168,6 +168,8 @@ pub(crate) fn take_unsent(alloc: Global, unsent: &mut [Unsent], event: &Event)
         Event::Msg { .. } => {}
         Event::Hang { .. } => {}
         Event::New => {}
+        Event::Key { .. } => {}
+        Event::Sel { .. } => {}
     }
 }
 

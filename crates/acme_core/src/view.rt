@@ -1,15 +1,15 @@
 //! What the report tells of the editor.
 
 ghost use Rattle.std.specs.Prelude.{◌≡◌, ◌++◌, ◌<◌, ◌≤◌, ◌+◌, ◌^◌, IfOk, length};
-ghost use Rattle.acme_core.specs.Panes.{windows_of, window_of};
-ghost use Rattle.acme_core.specs.Parts.{state_of};
+ghost use Rattle.core_windows.specs.Panes.{windows_of, window_of};
+ghost use Rattle.acme_core.specs.Parts.{present_of};
 ghost use Rattle.acme_core.specs.Views.{conn_views, window_views, window_view, view_at};
 
 use crate::connection::Connection;
 use crate::parts::Parts;
-use crate::window::Pane;
 use am_journal::{ConnView, ConnViews, View, WindowView, WindowViews};
-use am_text::{Items, NoMemory, Range};
+use am_text::{Items, NoMemory};
+use core_windows::Pane;
 use std::alloc::Global;
 
 #[tactic(auto, using(crate::proofs::Viewed::viewing), unfolding(crate::specs::Views::conn_views))]
@@ -41,22 +41,24 @@ fn window_view(alloc: Global, id: u32, pane: &Pane) -> Result<WindowView, NoMemo
     Ok(WindowView {
         id,
         modified: pane.modified,
-        dot: Range { q0: 0, q1: 0 },
-        name: Items::new(alloc),
-        body: Items::copied(alloc, pane.text.as_slice())?,
+        dot: pane.body.dot(),
+        name: Items::copied(alloc, pane.name.as_slice())?,
+        body: pane.body.text()?,
     })
 }
 
 #[tactic(auto, using(crate::proofs::Viewed::viewing), unfolding(crate::specs::Views::window_views))]
-fn window_views(alloc: Global, panes: &[Pane]) -> Result<WindowViews, NoMemory>
-    requires { length panes.now + 1 < 2 ^ 32 }
+fn window_views(alloc: Global, panes: &[Option<Pane>], next: u32) -> Result<WindowViews, NoMemory>
+    requires { next ≡ length (windows_of panes.now) + 1 }
     ensures { IfOk result (λ views. views ≡ window_views 1 (windows_of panes.now)) }
 {
     let mut views = Items::new(alloc);
     let mut rest = panes;
     let mut id: u32 = 1;
     while let [pane, after @ ..] = rest {
-        views.push(window_view(alloc, id, pane)?)?;
+        if let Some(pane) = pane {
+            views.push(window_view(alloc, id, pane)?)?;
+        }
         rest = after;
         id += 1;
     }
@@ -65,13 +67,14 @@ fn window_views(alloc: Global, panes: &[Pane]) -> Result<WindowViews, NoMemory>
 
 /// The view of the tables after so many entries.
 pub(crate) fn view_of(alloc: Global, entries: u64, parts: &Parts) -> Result<View, NoMemory>
-    requires conns { length parts.now.connections.items ≡ 64 }
-    requires few { length parts.now.panes.items ≤ 4096 }
-    ensures { IfOk result (λ view. view ≡ view_at entries (state_of parts.now)) }
+    requires { length parts.now.connections.items ≡ 64 }
+    ensures { IfOk result (λ view. view ≡ view_at entries (present_of parts.now)) }
 {
     Ok(View {
         entries,
         conns: conn_views(alloc, &parts.connections)?,
-        windows: window_views(alloc, &parts.panes)?,
+        windows: window_views(alloc, parts.windows.panes(), parts.windows.world().next)?,
+        items: Items::new(alloc),
+        jobs: Items::new(alloc),
     })
 }

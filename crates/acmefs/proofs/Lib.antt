@@ -4,3 +4,5 @@ pub mod Ran
 pub mod Replied
 pub mod Words
 pub mod Wrote
+pub mod OwnText
+pub mod RoundTrip

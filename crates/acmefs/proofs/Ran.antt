@@ -71,7 +71,7 @@ pub ran_refused : (failed : Bool) (o : Output) (text : List ℕ) → text ≡ re
 unfolding replied_from
 ran_refused failed o text e put = (refl, (record { line = 0; word = codes "input" }, refl), whole_or_cut failed o _ (subst (λ (x : List ℕ). Wrote failed o x) e put))
 
-short_script : (bytes : List ℕ) → length bytes ≤ input_limit → play [] 1 (lines_of bytes) ≡ script_of bytes
+pub short_script : (bytes : List ℕ) → length bytes ≤ input_limit → play [] 1 (lines_of bytes) ≡ script_of bytes
 unfolding script_of
 short_script bytes h = rw (le-ltb input_limit (length bytes) h) refl
 

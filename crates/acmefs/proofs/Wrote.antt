@@ -17,7 +17,7 @@ take-join : (x y : List ℕ) (i : ℕ) → take (length x + i) (x ++ y) ≡ x ++
 take-join [] y i = let e : 0 + i ≡ i = omega arith in rw e refl
 take-join (a ∷ x) y i = let e : suc (length x) + i ≡ suc (length x + i) = omega arith in rw e (ap (λ (l : List ℕ). a ∷ l) (take-join x y i))
 
-take-within : (x y : List ℕ) (i : ℕ) → i ≤ length x → take i (x ++ y) ≡ take i x
+pub take-within : (x y : List ℕ) (i : ℕ) → i ≤ length x → take i (x ++ y) ≡ take i x
 take-within x y zero h = refl
 take-within [] y (suc i) h = absurd (omega arith)
 take-within (a ∷ x) y (suc i) h = ap (λ (l : List ℕ). a ∷ l) (take-within x y i (omega arith))

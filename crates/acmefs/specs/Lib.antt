@@ -2,3 +2,4 @@ pub mod Scripts
 pub mod Written
 pub mod Playing
 pub mod Ends
+pub mod Own

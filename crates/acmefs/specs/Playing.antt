@@ -1,6 +1,7 @@
 -- The steps of a replay.
 use Rattle.std.specs.Prelude.{◌≡◌, ℕ, Bool, true, false, List, [], ◌∷◌, ◌++◌, None, if◌then◌else◌, codes}
 use Rattle.am_journal.specs.declared.event.Event.{Event}
+use Rattle.am_journal.specs.Journal.{is_report}
 use Rattle.am_journal.specs.Line.{event_of}
 use Rattle.am_journal.specs.Texts.{word_of, refused_text}
 use Rattle.acmefs.specs.declared.script.Fault.{Fault}
@@ -11,7 +12,7 @@ use Rattle.acmefs.specs.declared.script.Stop.{Stop}
 use Rattle.acmefs.specs.declared.script.Stop.TheVariants as stop
 use Rattle.acmefs.specs.declared.replay.End.{End}
 use Rattle.acmefs.specs.declared.replay.End.TheVariants as ends
-use Rattle.acmefs.specs.Scripts.{Script, ended, refused_at, is_report, play_line, end_of}
+use Rattle.acmefs.specs.Scripts.{Script, ended, refused_at, play_line, end_of}
 use Rattle.acmefs.specs.Written.{Output, Wrote, IsFront, IsCaughtUp}
 
 -- the word for a refused line

@@ -1,10 +1,10 @@
 -- What a transcript asks, and the text that its replay writes.
-use Rattle.std.specs.Prelude.{ℕ, ◌+◌, nat_lt, Bool, List, [], ◌∷◌, ◌++◌, length, Option, Some, None, if◌then◌else◌, codes}
+use Rattle.std.specs.Prelude.{ℕ, ◌+◌, nat_lt, List, [], ◌∷◌, ◌++◌, length, Option, Some, None, if◌then◌else◌, codes}
 use Rattle.std.specs.List.{flat_map}
-use Rattle.std.specs.Str.{bytes_eq}
 use Rattle.am_text.specs.Lines.{lines_of}
 use Rattle.am_journal.specs.declared.event.Event.{Event}
 use Rattle.am_journal.specs.declared.event.Why.{Why}
+use Rattle.am_journal.specs.Journal.{is_report}
 use Rattle.am_journal.specs.Line.{event_of}
 use Rattle.am_journal.specs.Report.{report_text}
 use Rattle.am_journal.specs.Texts.{reply_text, refused_text, word_of}
@@ -28,10 +28,6 @@ ended events = record { events = events; refused = None }
 abbrev pub refused_at : List Event → ℕ → List ℕ → Script
 refused_at events line word = record { events = events; refused = Some (record { line = line; word = word }) }
 
--- a line `report` ends the script
-abbrev pub is_report : List ℕ → Bool
-is_report line = bytes_eq line (codes "report")
-
 -- an event is done where it is enabled, and the script goes on behind it
 abbrev pub play_event : List Event → ℕ → Event → Option Why → (List Event → Script) → Script
 play_event events k e (Some why) go = refused_at events k (word_of why)
@@ -41,7 +37,7 @@ abbrev pub play_line : List Event → ℕ → Option Event → (List Event → S
 play_line events k None go = refused_at events k (codes "line")
 play_line events k (Some e) go = play_event events k e (enabled events e) go
 
--- the lines from number k on, where these events were done before
+-- the lines from number k on, where these events were done before; a line `report` ends the script
 unfoldable pub play : List Event → ℕ → List (List ℕ) → Script
 play events k [] = ended events
 play events k (l ∷ ls) = if is_report l then ended events else play_line events k (event_of l) (λ next. play next (k + 1) ls)

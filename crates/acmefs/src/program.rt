@@ -2,11 +2,12 @@
 
 ghost use Rattle.std.specs.Prelude.{◌≡◌, [], true, false, IfSome};
 ghost use Rattle.am_base.specs.Outside.{HasRisen};
-ghost use Rattle.acme_core.specs.Laws.{EachIsAnswered};
+ghost use Rattle.core_answers.specs.Laws.{EachIsAnswered};
 ghost use Rattle.acmefs.specs.declared.replay.End.TheVariants.{Done, Script, WriteFault, NoMemory};
 ghost use Rattle.acmefs.specs.Scripts.{script_of};
 ghost use Rattle.acmefs.specs.Written.{seen};
 ghost use Rattle.acmefs.specs.Ends.{are_replay, Says, ProgramSays, IsIdle, RanTold, IsComplete, code_of};
+ghost use Rattle.acmefs.specs.Own.{PutsOwn, RoundTrips};
 
 use crate::replay::{End, Ended, ReplayEnd, code, no_events, replay};
 use acme_core::messages_are_answered;
@@ -110,6 +111,13 @@ pub fn acmefs<I: Source, O: Sink, H: Host>(
     // The same of any input, also of one that doesn't tell its bytes: some bytes were replayed so.
     ensures headline { (end : _) × (result.status ≡ code_of end)
         × ProgramSays (are_replay words.now) end (I.left input.old) (I.left input.new) (I.faults input.old) (I.faults input.new) (seen (O.held output.old) (O.held output.new) (O.faults output.old) (O.faults output.new)) result.journal }
+    // The output got the lines of the journal's replies, and then the report of its run or a line `refused`: by the
+    // status all of it, or a front.
+    ensures own_text { (end : _) × (result.status ≡ code_of end)
+        × PutsOwn end (seen (O.held output.old) (O.held output.new) (O.faults output.old) (O.faults output.new)) result.journal }
+    // The journal's lines and then its report are a transcript, where they aren't too long, that gives the same journal
+    // and the same report.
+    ensures round_trip { RoundTrips result.journal }
     // Each message of the journal is answered by its own R message, unless one of the named refusals applies, whose
     // text is answered then.
     ensures answered { EachIsAnswered }
@@ -130,6 +138,13 @@ pub fn replay_main<I: Source, O: Sink>(alloc: Global, input: &mut I, output: &mu
         × Says end (I.left input.old) (I.faults input.old) (I.faults input.new)
         (record { held = O.held output.old; held_now = O.held output.new; faults = O.faults output.old; faults_now = O.faults output.new })
         result.journal }
+    // The output got the lines of the journal's replies, and then the report of its run or a line `refused`: by the
+    // status all of it, or a front.
+    ensures own_text { (end : _) × (result.status ≡ code_of end)
+        × PutsOwn end (seen (O.held output.old) (O.held output.new) (O.faults output.old) (O.faults output.new)) result.journal }
+    // The journal's lines and then its report are a transcript, where they aren't too long, that gives the same journal
+    // and the same report.
+    ensures round_trip { RoundTrips result.journal }
 {
     let ended = replay(alloc, input, output);
     ReplayEnd {

@@ -2,8 +2,9 @@
 
 ghost use Rattle.std.specs.Prelude.{◌≡◌, [], IfOk, OnOk, OnErr};
 ghost use Rattle.am_text.specs.Lines.{lines_of};
+ghost use Rattle.am_journal.specs.Journal.{is_report};
 ghost use Rattle.acme_core.specs.Run.{run, settled};
-ghost use Rattle.acmefs.specs.Scripts.{play, reply_lines, replied, is_report};
+ghost use Rattle.acmefs.specs.Scripts.{play, reply_lines, replied};
 ghost use Rattle.acmefs.specs.Playing.{fault_word, DidLine, Put, Stops, Shows};
 
 use acme_core::{Core, Refused, Why};

@@ -1,11 +1,11 @@
 use Rattle.std.proofs.Common.{◌≡◌, ◌+◌, ◌++◌, length}
-use Rattle.acme_core.specs.Panes.{windows_of}
+use Rattle.core_windows.specs.Panes.{windows_of}
 use Rattle.acme_core.specs.Views.{window_views}
 use Rattle.acme_core.proofs.view.window_views.Given as goal
 
 abbrev pub invariant-loop-rest : goal.invariant-loop-rest
 invariant-loop-rest l = record {
-  here : l.id + length l.rest ≡ length l.panes + 1;
+  here : l.id + length (windows_of l.rest) ≡ l.next;
   told : l.views ++ window_views l.id (windows_of l.rest) ≡ window_views 1 (windows_of l.panes);
 }
 

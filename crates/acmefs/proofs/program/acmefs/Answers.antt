@@ -1,4 +1,6 @@
+use Rattle.acmefs.proofs.OwnText.{program_own}
 use Rattle.acmefs.proofs.Promised as promised
+use Rattle.acmefs.proofs.RoundTrip.{program_trips}
 use Rattle.acmefs.proofs.program.acmefs.Goals as goal
 
 pub returns-clause-usage : goal.returns-clause-usage
@@ -36,3 +38,9 @@ returns-clause-no_memory g c = promised.no_memory c.run-ended.result.end _ _ _ _
 
 pub returns-clause-complete : goal.returns-clause-complete
 returns-clause-complete g c = promised.complete c.run-ended.result.end _ _ _ _ _ _ _ _ c.code.ensures c.run-ended.ensures
+
+pub returns-clause-own_text : goal.returns-clause-own_text
+returns-clause-own_text g c = (c.run-ended.result.end, c.code.ensures, program_own c.run-ended.result.end _ _ _ _ _ _ _ c.run-ended.ensures)
+
+pub returns-clause-round_trip : goal.returns-clause-round_trip
+returns-clause-round_trip g c = program_trips c.run-ended.result.end _ _ _ _ _ _ _ c.run-ended.ensures

@@ -1,8 +1,0 @@
-use Rattle.acme_core.proofs.Answers.{known_done, unknown_done}
-use Rattle.acme_core.proofs.attach.agree.Goals as goal
-
-pub returns-then-not-is_version-clause-done : goal.returns-then-not-is_version-clause-done
-returns-then-not-is_version-clause-done c = unknown_done _ _ _ _ c.in_ok-copied.ensures tt
-
-pub returns-clause-done : goal.returns-clause-done
-returns-clause-done c = known_done _ _ _ _ c.in_ok-copied-2.ensures tt

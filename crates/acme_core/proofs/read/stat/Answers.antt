@@ -1,5 +1,0 @@
-use Rattle.acme_core.proofs.Answers.{stat_done}
-use Rattle.acme_core.proofs.read.stat.Goals as goal
-
-pub returns-clause-done : goal.returns-clause-done
-returns-clause-done c = stat_done _ c.in_ok-stat.stat _ c.in_ok-stat_write.ensures.«record» (c.in_ok-stat.ensures.named c.requires)

@@ -1,6 +1,0 @@
-use Rattle.std.proofs.Common.{◌∙◌}
-use Rattle.acme_core.proofs.Answers.{error_done}
-use Rattle.acme_core.proofs.refusal.refuse.Goals as goal
-
-pub returns-clause-done : goal.returns-clause-done
-returns-clause-done c = error_done _ _ _ _ (c.in_ok-copied.ensures ∙ c.refusal_text.ensures) c.requires

@@ -1,0 +1,147 @@
+//! Keys and selections.
+
+ghost use Rattle.std.specs.Prelude.{◌≡◌, ◌+◌, ◌-◌, ◌≤◌, ◌<◌, ◌==◌, ◌&&◌, ◌∷◌, [], nat_le, if◌then◌else◌, IfOk, None, length};
+ghost use Rattle.core_windows.specs.Panes.{window_of};
+ghost use Rattle.core_windows.specs.Possible.{IsPossible};
+ghost use Rattle.core_windows.specs.Windows.{window_at};
+ghost use Rattle.core_answers.specs.Erring.{fits_tag};
+ghost use Rattle.acme_core.specs.Typing.{fits_body, fits_side, key_refusal, replacing, typed, key_change, sel_refusal, sel_change};
+
+use am_journal::{Side, Why};
+use am_text::{Items, Letters, NoMemory, Range, Rune, Runes};
+use core_windows::{Change, Edit, Edits, Pane, Setting, Windows};
+use std::alloc::Global;
+
+/// The most runes that a body may have.
+const RUNES: usize = 16777216;
+
+/// The most runes that the right part of a tag may have.
+const TAG_RUNES: usize = 65536;
+
+fn long(len: usize, more: usize, most: usize) -> Option<Why>
+    ensures { result ≡ if nat_le (len + more) most then None else Some Why.Length }
+{
+    if more <= most && len <= most - more {
+        None
+    } else {
+        Some(Why::Length)
+    }
+}
+
+fn fits_side(pane: &Pane, side: Side, text: &[Rune]) -> Option<Why>
+    ensures { result ≡ fits_side (window_of pane.now) side text.now }
+{
+    match side {
+        Side::Body => {
+            pane.body.is_sound();
+            let dot = pane.body.dot();
+            long(pane.body.len() - (dot.q1 - dot.q0), text.len(), RUNES)
+        }
+        Side::Tag => long(pane.right.len(), text.len(), TAG_RUNES),
+    }
+}
+
+/// Why a text can't be typed into a window.
+pub(crate) fn key_refusal(windows: &Windows, window: u32, side: Side, text: &[Rune]) -> Option<Why>
+    ensures { result ≡ key_refusal (window_at windows.now.windows window) side text.now }
+{
+    match windows.get(window) {
+        Some(pane) => fits_side(pane, side, text),
+        None => Some(Why::Window),
+    }
+}
+
+fn replacing(alloc: Global, range: Range, text: Runes) -> Result<Edits, NoMemory>
+    ensures { IfOk result (λ edits. edits ≡ replacing range text) }
+{
+    let mut edits = Items::new(alloc);
+    if range.q0 != range.q1 || !text.is_empty() {
+        edits.push(Edit {
+            q0: range.q0,
+            q1: range.q1,
+            text,
+        })?;
+    }
+    Ok(edits)
+}
+
+#[tactic(auto, using(crate::proofs::Typed::typing))]
+fn typed(
+    alloc: Global,
+    windows: &Windows,
+    window: u32,
+    pane: &Pane,
+    side: Side,
+    text: &[Rune],
+) -> Result<Change, NoMemory>
+    requires there { window_at windows.now.windows window ≡ Some (window_of pane.now) }
+    requires fits { fits_side (window_of pane.now) side text.now ≡ None }
+    ensures exact { IfOk result (λ change. change ≡ typed window (window_of pane.now) side text.now) }
+    ensures possible { IfOk result (IsPossible windows.now.windows) }
+{
+    let text = Runes::copied(alloc, text)?;
+    match side {
+        Side::Tag => Ok(Change::Adds { window, text }),
+        Side::Body => {
+            pane.body.is_sound();
+            let dot = pane.body.dot();
+            let end = dot.q0 + text.len();
+            Ok(Change::Edits {
+                window,
+                edits: replacing(alloc, dot, text)?,
+                dot: Some(Range { q0: end, q1: end }),
+            })
+        }
+    }
+}
+
+/// What typing a text does to the windows.
+pub(crate) fn key_change(
+    alloc: Global,
+    windows: &Windows,
+    window: u32,
+    side: Side,
+    text: &[Rune],
+) -> Result<Change, NoMemory>
+    requires { key_refusal (window_at windows.now.windows window) side text.now ≡ None }
+    ensures exact { IfOk result (λ change. change ≡ key_change window (window_at windows.now.windows window) side text.now) }
+    ensures possible { IfOk result (IsPossible windows.now.windows) }
+{
+    match windows.get(window) {
+        Some(pane) => typed(alloc, windows, window, pane, side, text),
+        None => Ok(Change::Nothing),
+    }
+}
+
+/// Why a range can't be selected in the body of a window.
+pub(crate) fn sel_refusal(windows: &Windows, window: u32, range: Range) -> Option<Why>
+    ensures { result ≡ sel_refusal (window_at windows.now.windows window) range }
+{
+    match windows.get(window) {
+        Some(pane) if range.q1 <= pane.body.len() => None,
+        Some(_) => Some(Why::Range),
+        None => Some(Why::Window),
+    }
+}
+
+/// What selecting a range does to the windows.
+#[tactic(auto, using(crate::proofs::Typed::typing))]
+pub(crate) fn sel_change(
+    alloc: Global,
+    windows: &Windows,
+    window: u32,
+    range: Range,
+) -> Result<Change, NoMemory>
+    requires order { range.q0 ≤ range.q1 }
+    requires inside { sel_refusal (window_at windows.now.windows window) range ≡ None }
+    ensures exact { IfOk result (λ change. change ≡ sel_change window range) }
+    ensures possible { IfOk result (IsPossible windows.now.windows) }
+{
+    let mut settings = Items::new(alloc);
+    settings.push(Setting::Dot(range))?;
+    Ok(Change::Controls {
+        window,
+        settings,
+        deletes: false,
+    })
+}

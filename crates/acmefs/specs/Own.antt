@@ -1,0 +1,42 @@
+-- A journal's own text, and a journal as a transcript.
+use Rattle.std.specs.Prelude.{◌≡◌, ◌⊎◌, ℕ, ◌≤◌, List, ◌++◌, length}
+use Rattle.am_base.specs.Outside.{PutsFront}
+use Rattle.am_journal.specs.declared.event.Event.{Event}
+use Rattle.am_journal.specs.Journal.{journal_text}
+use Rattle.am_journal.specs.Report.{report_text}
+use Rattle.acme_core.specs.Views.{view_of}
+use Rattle.acmefs.specs.declared.replay.End.{End}
+use Rattle.acmefs.specs.declared.replay.End.TheVariants.{Done, Usage, Script, ReadFault, WriteFault, NoMemory}
+use Rattle.acmefs.specs.Scripts.{Refusal, ended, refused_at, input_limit, script_of, replied, text_of}
+use Rattle.acmefs.specs.Written.{Output, IsWhole, IsCut}
+use Rattle.acmefs.specs.Ends.{IsIdle}
+
+-- the lines of the journal's replies, and then the report of its run
+abbrev pub told_text : List Event → List ℕ
+told_text journal = text_of (ended journal)
+
+-- the lines of the journal's replies, and then the line `refused`
+abbrev pub refused_after : List Event → Refusal → List ℕ
+refused_after journal refusal = text_of (refused_at journal refusal.line refusal.word)
+
+-- What the output got is the journal's own text: whole, or a front of it where the count of faults has risen or memory ran out.
+abbrev pub PutsOwn : End → Output → List Event → Type 0
+PutsOwn Done o journal = IsWhole o (told_text journal)
+PutsOwn Usage o journal = IsIdle o journal
+PutsOwn Script o journal = (refusal : Refusal) × (IsWhole o (refused_after journal refusal) ⊎ IsCut o (refused_after journal refusal))
+PutsOwn ReadFault o journal = IsIdle o journal
+PutsOwn WriteFault o journal = IsCut o (told_text journal)
+PutsOwn NoMemory o journal = PutsFront o.held (told_text journal) o.held_now
+
+-- the journal's lines, and then the report of its run
+abbrev pub transcript_of : List Event → List ℕ
+transcript_of journal = journal_text journal ++ report_text (view_of journal)
+
+-- A replay of these bytes does the journal's events and no others, and writes the same report.
+pub record GivesAgain (bytes : List ℕ) (journal : List Event) : Type 0 where
+  pub events : script_of bytes ≡ ended journal
+  pub text : text_of (script_of bytes) ≡ replied journal ++ report_text (view_of journal)
+
+-- where they are no more bytes than a transcript has
+abbrev pub RoundTrips : List Event → Type 0
+RoundTrips journal = length (transcript_of journal) ≤ input_limit → GivesAgain (transcript_of journal) journal

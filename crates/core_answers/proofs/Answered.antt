@@ -1,0 +1,204 @@
+-- Each message is answered.
+use Rattle.std.proofs.Common.{inl, inr, ℕ, Bool, true, false, cond, List, ◌++◌, length, Option, Some, None, Result, Ok, Err, refl, min}
+use Rattle.std.specs.Prelude.{codes, nat_lt, ◌==◌}
+use Rattle.am_text.specs.Part.{part_bytes, part_of}
+use Rattle.am_text.specs.Pieces.{Decoded, decode_part}
+use Rattle.ninep_frame.specs.Records.{record_of}
+use Rattle.acme_tree.specs.Trees.{is_live, stat_of}
+use Rattle.ninep_wire.specs.declared.message.Qid.{Qid}
+use Rattle.ninep_wire.specs.declared.message.TBody.{TBody}
+use Rattle.ninep_wire.specs.declared.message.TBody.TheVariants as t
+use Rattle.ninep_wire.specs.declared.message.RBody.TheVariants as r
+use Rattle.acme_tree.specs.declared.node.World.{World}
+use Rattle.fid_table.specs.declared.types.Fid.{Fid}
+use Rattle.fid_table.specs.Tables.{Tables, fid_of, msize_of}
+use Rattle.core_answers.specs.declared.content.Content.{Content}
+use Rattle.core_answers.specs.declared.content.Content.TheVariants as content
+use Rattle.core_answers.specs.declared.effect.Effect.{Effect}
+use Rattle.core_answers.specs.declared.effect.Effect.TheVariants as effect
+use Rattle.core_answers.specs.declared.effect.Deed.{Deed}
+use Rattle.core_answers.specs.declared.refusal.Refusal.{Refusal}
+use Rattle.core_answers.specs.declared.refusal.Refusal.TheVariants as refusal
+use Rattle.core_answers.specs.declared.walk.WalkEnd.{WalkEnd}
+use Rattle.core_answers.specs.declared.walk.WalkEnd.TheVariants as end
+use Rattle.core_answers.specs.Refusals.{refused_with, deed_or_refusal}
+use Rattle.core_windows.specs.declared.change.Change.TheVariants as change
+use Rattle.core_windows.specs.Windows.{Window, window_at, named, world_of}
+use Rattle.core_answers.specs.Attaching.{is_version, agreed, version_deed, attach_refusal, or_attaches}
+use Rattle.core_answers.specs.Walking.{trail, walk_refusal, arrives_at, or_walks, walk_from}
+use Rattle.core_answers.specs.Opening.{open_refusal, or_opens, open_fid, denied, clunk_fid, remove_fid}
+use Rattle.core_answers.specs.Reading.{place_at, read_dir, read_content, use_refusal, or_reads, most, read_fid, stat_fid}
+use Rattle.core_answers.specs.Writing.{written, append_deed, add_deed, or_errors, errors_deed, control_answer, write_content, write_fid}
+use Rattle.am_text.specs.Lines.{lines_of}
+use Rattle.core_answers.specs.Controls.{controls}
+use Rattle.core_answers.specs.Erring.{fits_in, fits_tag, appends, errors_of, root_errors, errors_refusal}
+use Rattle.core_answers.specs.Texts.{text_at, right_of, name_of, modified_of}
+use Rattle.core_answers.specs.Contents.{content_of}
+use Rattle.core_answers.specs.Fids.{is_for_reading, is_for_writing, holding}
+use Rattle.core_answers.specs.Deeds.{served, comes_first}
+use Rattle.core_answers.specs.Laws.{IsAnswered, EachIsAnswered}
+
+-- what is done is answered
+abbrev Answers : TBody → Result Deed Refusal → Type 0
+Answers body (Ok d) = IsAnswered body d.answer
+Answers body (Err x) = Unit {0}
+
+refusal_answers : (body : TBody) (f : Effect) (x : Refusal) → IsAnswered body (refused_with f x).answer
+refusal_answers body f x = inr (x, refl)
+
+settled : (body : TBody) (x : Result Deed Refusal) → Answers body x → IsAnswered body (deed_or_refusal x).answer
+settled body (Ok d) h = h
+settled body (Err x) h = inr (x, refl)
+
+refused_or : (body : TBody) (b : Bool) (f : Effect) (x : Refusal) (d : Deed) → IsAnswered body d.answer → IsAnswered body (cond b (refused_with f x) d).answer
+refused_or body true f x d h = inr (x, refl)
+refused_or body false f x d h = h
+
+done_or : (body : TBody) (b : Bool) (d : Deed) (x : Refusal) → IsAnswered body d.answer → Answers body (cond b (Ok d) (Err x))
+done_or body true d x h = h
+done_or body false d x h = tt
+
+or_done : (body : TBody) (b : Bool) (x : Refusal) (d : Deed) → IsAnswered body d.answer → Answers body (cond b (Err x) (Ok d))
+or_done body true x d h = tt
+or_done body false x d h = h
+
+-- ---- message by message
+
+known_answers : (asked msize : ℕ) (version : List ℕ) (known : Bool)
+    → IsAnswered (t.Version asked version) (cond {A = Deed} known (record { effect = effect.Begins (Some msize); change = change.Nothing; answer = r.Version msize (codes "9P2000") }) (record { effect = effect.Begins None; change = change.Nothing; answer = r.Version msize (codes "unknown") })).answer
+known_answers asked msize version true = inl refl
+known_answers asked msize version false = inl refl
+
+version_answers : (msize : ℕ) (version : List ℕ) → IsAnswered (t.Version msize version) (version_deed msize version).answer
+version_answers msize version =
+    refused_or (t.Version msize version) (nat_lt msize 256) (effect.Begins None) refusal.MsizeTooSmall (agreed (min msize 65560) version) (known_answers msize (min msize 65560) version (is_version version))
+
+attach_answers : (fid afid : ℕ) (uname aname : List ℕ) (o : Option Refusal) → Answers (t.Attach fid afid uname aname) (or_attaches o fid)
+attach_answers fid afid uname aname None = inl refl
+attach_answers fid afid uname aname (Some x) = tt
+
+arrives_answers : (fid newfid : ℕ) (names : List (List ℕ)) (world : World) (qids : List Qid) (e : WalkEnd) → Answers (t.Walk fid newfid names) (arrives_at newfid world qids e)
+arrives_answers fid newfid names world qids (end.At node) = inl refl
+arrives_answers fid newfid names world qids (end.Makes file) = inl refl
+arrives_answers fid newfid names world qids (end.Stops x) = or_done (t.Walk fid newfid names) (length qids == 0) x (record { effect = effect.Nothing; change = change.Nothing; answer = r.Walk qids }) (inl refl)
+
+or_walks_answers : (body : TBody) (o : Option Refusal) (x : Result Deed Refusal) → Answers body x → Answers body (or_walks o x)
+or_walks_answers body None x h = h
+or_walks_answers body (Some y) x h = tt
+
+walk_answers : (tables : Tables) (world : World) (conn fid newfid : ℕ) (names : List (List ℕ)) (o : Option Fid) → Answers (t.Walk fid newfid names) (walk_from tables world conn fid newfid names o)
+walk_answers tables world conn fid newfid names None = tt
+walk_answers tables world conn fid newfid names (Some f) =
+    or_walks_answers (t.Walk fid newfid names) (walk_refusal tables conn fid newfid f) _
+    (arrives_answers fid newfid names world (trail world f.node names).qids (trail world f.node names).end)
+
+opens_answers : (tables : Tables) (fid mode : ℕ) (f : Fid) (o : Option Refusal) → Answers (t.Open fid mode) (or_opens tables o fid f mode)
+opens_answers tables fid mode f None = inl refl
+opens_answers tables fid mode f (Some x) = tt
+
+open_answers : (tables : Tables) (world : World) (fid mode : ℕ) (o : Option Fid) → Answers (t.Open fid mode) (open_fid tables world fid mode o)
+open_answers tables world fid mode None = tt
+open_answers tables world fid mode (Some f) = opens_answers tables fid mode f (open_refusal world f mode)
+
+denied_answers : (body : TBody) (o : Option Fid) → Answers body (denied o)
+denied_answers body None = tt
+denied_answers body (Some f) = tt
+
+or_reads_answers : (body : TBody) (o : Option Refusal) (x : Result Deed Refusal) → Answers body x → Answers body (or_reads o x)
+or_reads_answers body None x h = h
+or_reads_answers body (Some y) x h = tt
+
+read_dir_answers : (world : World) (fid offset asked count : ℕ) (f : Fid) (o : Option ℕ) → Answers (t.Read fid offset asked) (read_dir world fid f offset count o)
+read_dir_answers world fid offset asked count f None = tt
+read_dir_answers world fid offset asked count f (Some skip) = inl refl
+
+read_content_answers : (world : World) (windows : List (Option Window)) (fid offset asked count : ℕ) (f : Fid) (c : Content) → Answers (t.Read fid offset asked) (read_content world windows fid f offset count c)
+read_content_answers world windows fid offset asked count f content.Directory = read_dir_answers world fid offset asked count f (place_at f offset)
+read_content_answers world windows fid offset asked count f (content.BodyText w) = inl refl
+read_content_answers world windows fid offset asked count f (content.TagText w) = inl refl
+read_content_answers world windows fid offset asked count f (content.CtlText w) = inl refl
+read_content_answers world windows fid offset asked count f content.IndexText = inl refl
+read_content_answers world windows fid offset asked count f (content.ErrorsOf w) = tt
+read_content_answers world windows fid offset asked count f content.ConsErrors = inl refl
+read_content_answers world windows fid offset asked count f content.Empty = inl refl
+read_content_answers world windows fid offset asked count f content.Unserved = tt
+
+read_answers : (world : World) (windows : List (Option Window)) (fid offset asked count : ℕ) (o : Option Fid) → Answers (t.Read fid offset asked) (read_fid world windows fid offset count o)
+read_answers world windows fid offset asked count None = tt
+read_answers world windows fid offset asked count (Some f) =
+    or_reads_answers (t.Read fid offset asked) (use_refusal world f is_for_reading) _ (read_content_answers world windows fid offset asked count f (content_of f.node))
+
+append_answers : (windows : List (Option Window)) (fid offset : ℕ) (bytes : List ℕ) (f : Fid) (w : ℕ) (decoded : Decoded) → Answers (t.Write fid offset bytes) (append_deed windows fid f w (length bytes) decoded)
+append_answers windows fid offset bytes f w decoded =
+    done_or (t.Write fid offset bytes) (fits_in (text_at windows w) decoded.text)
+    (written (appends windows w decoded.text) fid (holding f (part_of decoded.rest)) (length bytes)) refusal.TextTooLong (inl refl)
+
+add_answers : (windows : List (Option Window)) (fid offset : ℕ) (bytes : List ℕ) (f : Fid) (w : ℕ) (decoded : Decoded) → Answers (t.Write fid offset bytes) (add_deed windows fid f w (length bytes) decoded)
+add_answers windows fid offset bytes f w decoded =
+    done_or (t.Write fid offset bytes) (fits_tag (right_of (window_at windows w)) decoded.text)
+    (written (change.Adds w decoded.text) fid (holding f (part_of decoded.rest)) (length bytes)) refusal.TextTooLong (inl refl)
+
+or_errors_answers : (body : TBody) (o : Option Refusal) (d : Deed) → IsAnswered body d.answer → Answers body (or_errors o d)
+or_errors_answers body None d h = h
+or_errors_answers body (Some x) d h = tt
+
+errors_answers : (windows : List (Option Window)) (fid offset : ℕ) (bytes : List ℕ) (f : Fid) (name : List ℕ) (decoded : Decoded) → Answers (t.Write fid offset bytes) (errors_deed windows fid f name (length bytes) decoded)
+errors_answers windows fid offset bytes f name decoded =
+    or_errors_answers (t.Write fid offset bytes) (errors_refusal windows (named windows name) decoded.text) _ (inl refl)
+
+control_answers : (fid offset : ℕ) (bytes : List ℕ) (o : Option Refusal) → IsAnswered (t.Write fid offset bytes) (control_answer o (length bytes))
+control_answers fid offset bytes None = inl refl
+control_answers fid offset bytes (Some x) = inr (x, refl)
+
+write_content_answers : (windows : List (Option Window)) (fid offset : ℕ) (bytes : List ℕ) (f : Fid) (c : Content) → Answers (t.Write fid offset bytes) (write_content windows fid f bytes c)
+write_content_answers windows fid offset bytes f content.Directory = tt
+write_content_answers windows fid offset bytes f (content.BodyText w) = append_answers windows fid offset bytes f w (decode_part (part_bytes f.part ++ bytes))
+write_content_answers windows fid offset bytes f (content.TagText w) = add_answers windows fid offset bytes f w (decode_part (part_bytes f.part ++ bytes))
+write_content_answers windows fid offset bytes f (content.CtlText w) =
+    control_answers fid offset bytes (controls (lines_of bytes) (name_of (window_at windows w)) (modified_of (window_at windows w))).refusal
+write_content_answers windows fid offset bytes f content.IndexText = tt
+write_content_answers windows fid offset bytes f (content.ErrorsOf w) =
+    errors_answers windows fid offset bytes f (errors_of (window_at windows w)) (decode_part (part_bytes f.part ++ bytes))
+write_content_answers windows fid offset bytes f content.ConsErrors = errors_answers windows fid offset bytes f root_errors (decode_part (part_bytes f.part ++ bytes))
+write_content_answers windows fid offset bytes f content.Empty = inl refl
+write_content_answers windows fid offset bytes f content.Unserved = tt
+
+write_answers : (world : World) (windows : List (Option Window)) (fid offset : ℕ) (bytes : List ℕ) (o : Option Fid) → Answers (t.Write fid offset bytes) (write_fid world windows fid bytes o)
+write_answers world windows fid offset bytes None = tt
+write_answers world windows fid offset bytes (Some f) =
+    or_reads_answers (t.Write fid offset bytes) (use_refusal world f is_for_writing) _ (write_content_answers windows fid offset bytes f (content_of f.node))
+
+clunk_answers : (fid : ℕ) (o : Option Fid) → Answers (t.Clunk fid) (clunk_fid fid o)
+clunk_answers fid None = tt
+clunk_answers fid (Some f) = inl refl
+
+remove_answers : (fid : ℕ) (o : Option Fid) → Answers (t.Remove fid) (remove_fid fid o)
+remove_answers fid None = tt
+remove_answers fid (Some f) = inr (refusal.PermissionDenied, refl)
+
+stat_answers : (world : World) (fid : ℕ) (o : Option Fid) → Answers (t.Stat fid) (stat_fid world o)
+stat_answers world fid None = tt
+stat_answers world fid (Some f) =
+    done_or (t.Stat fid) (is_live world f.node) (record { effect = effect.Nothing; change = change.Nothing; answer = r.Stat (record_of (stat_of world f.node)) }) refusal.WindowDeleted (inl refl)
+
+served_answers : (tables : Tables) (world : World) (windows : List (Option Window)) (conn : ℕ) (body : TBody) → Answers body (served tables world windows conn body)
+served_answers tables world windows conn (t.Version msize version) = version_answers msize version
+served_answers tables world windows conn (t.Auth afid uname aname) = tt
+served_answers tables world windows conn (t.Flush oldtag) = inl refl
+served_answers tables world windows conn (t.Attach fid afid uname aname) = attach_answers fid afid uname aname (attach_refusal tables conn fid afid aname)
+served_answers tables world windows conn (t.Walk fid newfid names) = walk_answers tables world conn fid newfid names (fid_of tables conn fid)
+served_answers tables world windows conn (t.Open fid mode) = open_answers tables world fid mode (fid_of tables conn fid)
+served_answers tables world windows conn (t.Create fid name perm mode) = denied_answers (t.Create fid name perm mode) (fid_of tables conn fid)
+served_answers tables world windows conn (t.Read fid offset count) = read_answers world windows fid offset count (most count (msize_of tables conn)) (fid_of tables conn fid)
+served_answers tables world windows conn (t.Write fid offset bytes) = write_answers world windows fid offset bytes (fid_of tables conn fid)
+served_answers tables world windows conn (t.Clunk fid) = clunk_answers fid (fid_of tables conn fid)
+served_answers tables world windows conn (t.Remove fid) = remove_answers fid (fid_of tables conn fid)
+served_answers tables world windows conn (t.Stat fid) = stat_answers world fid (fid_of tables conn fid)
+served_answers tables world windows conn (t.Wstat fid stat) = denied_answers (t.Wstat fid stat) (fid_of tables conn fid)
+
+-- ---- all messages
+
+pub each_is_answered : EachIsAnswered
+each_is_answered tables windows conn body =
+    refused_or body (comes_first tables conn body) effect.Nothing refusal.VersionFirst _
+    (settled body (served tables (world_of windows) windows conn body) (served_answers tables (world_of windows) windows conn body))

@@ -1,0 +1,119 @@
+-- Answers have spellings.
+use Rattle.std.proofs.Common.{◌≡◌, ℕ, ◌+◌, ◌<◌, ◌≤◌, true, List, Option, codes, length, refl, ap, sym, ◌∙◌, subst, arith}
+use Rattle.std.specs.Str.{is_utf8, chars}
+use Rattle.std.specs.Char.{encode_utf8}
+use Rattle.ninep_wire.specs.declared.message.RBody.TheVariants as r
+use Rattle.ninep_wire.specs.Fields.{is_text}
+use Rattle.ninep_wire.specs.Spelling.{IsString}
+use Rattle.core_answers.specs.declared.refusal.Refusal.{Refusal}
+use Rattle.core_answers.specs.declared.refusal.Refusal.TheVariants as refusal
+use Rattle.core_answers.specs.Refusals.{refusal_text}
+use Rattle.core_answers.specs.Done.{IsSent, IsDone}
+use Rattle.core_windows.specs.Windows.{Window}
+use Rattle.core_windows.specs.declared.change.Change.TheVariants as change
+use Rattle.ninep_frame.specs.declared.stat.Stat.{Stat}
+use Rattle.ninep_frame.specs.Records.{record_of, HasName}
+use Rattle.ninep_frame.specs.Directories.{records, fitting}
+use Rattle.ninep_frame.proofs.Longest.{longest}
+use Rattle.ninep_frame.proofs.Sizes.{record_len}
+use Rattle.core_answers.specs.declared.effect.Effect.{Effect}
+use Rattle.core_answers.specs.declared.effect.Effect.TheVariants as effect
+
+-- ---- refusals
+
+text_is : (x : Refusal) → is_text (refusal_text x) ≡ true
+unfolding is_text is_utf8 chars encode_utf8
+text_is refusal.VersionFirst = refl
+text_is refusal.MsizeTooSmall = refl
+text_is refusal.AuthenticationNotRequired = refl
+text_is refusal.BadFid = refl
+text_is refusal.FidInUse = refl
+text_is refusal.TooManyFids = refl
+text_is refusal.NoSuchTree = refl
+text_is refusal.UnknownFid = refl
+text_is refusal.WindowDeleted = refl
+text_is refusal.FidIsOpen = refl
+text_is refusal.FidIsNotOpen = refl
+text_is refusal.NotADirectory = refl
+text_is refusal.FileNotFound = refl
+text_is refusal.TooManyWindows = refl
+text_is refusal.BadOpenMode = refl
+text_is refusal.PermissionDenied = refl
+text_is refusal.BadDirectoryOffset = refl
+text_is refusal.TextTooLong = refl
+text_is refusal.WindowModified = refl
+text_is refusal.BadControlMessage = refl
+text_is refusal.BadFileName = refl
+text_is refusal.NotServedYet = refl
+
+text_fits : (x : Refusal) → length (refusal_text x) < 100
+text_fits refusal.VersionFirst = omega arith
+text_fits refusal.MsizeTooSmall = omega arith
+text_fits refusal.AuthenticationNotRequired = omega arith
+text_fits refusal.BadFid = omega arith
+text_fits refusal.FidInUse = omega arith
+text_fits refusal.TooManyFids = omega arith
+text_fits refusal.NoSuchTree = omega arith
+text_fits refusal.UnknownFid = omega arith
+text_fits refusal.WindowDeleted = omega arith
+text_fits refusal.FidIsOpen = omega arith
+text_fits refusal.FidIsNotOpen = omega arith
+text_fits refusal.NotADirectory = omega arith
+text_fits refusal.FileNotFound = omega arith
+text_fits refusal.TooManyWindows = omega arith
+text_fits refusal.BadOpenMode = omega arith
+text_fits refusal.PermissionDenied = omega arith
+text_fits refusal.BadDirectoryOffset = omega arith
+text_fits refusal.TextTooLong = omega arith
+text_fits refusal.WindowModified = omega arith
+text_fits refusal.BadControlMessage = omega arith
+text_fits refusal.BadFileName = omega arith
+text_fits refusal.NotServedYet = omega arith
+
+error_is : (x : Refusal) → IsSent (r.Error (refusal_text x))
+error_is x = record { body = record { text = text_is x; len = omega (arith, text_fits x) }; size = omega (arith, text_fits x) }
+
+pub error_sent : (x : Refusal) (text : List ℕ) → text ≡ refusal_text x → IsSent (r.Error text)
+error_sent x text e = subst (λ (t : List ℕ). IsSent (r.Error t)) (sym e) (error_is x)
+
+pub error_done : (windows : List (Option Window)) (f : Effect) (x : Refusal) (text : List ℕ) → text ≡ refusal_text x
+    → IsDone windows (record { effect = f; change = change.Nothing; answer = r.Error text })
+error_done windows f x text e = record { sent = error_sent x text e; possible = tt }
+
+-- ---- versions
+
+known : IsString (codes "9P2000")
+unfolding is_text is_utf8 chars encode_utf8
+known = record { text = refl; len = omega arith }
+
+unknown : IsString (codes "unknown")
+unfolding is_text is_utf8 chars encode_utf8
+unknown = record { text = refl; len = omega arith }
+
+known_sent : (msize : ℕ) → IsSent (r.Version msize (codes "9P2000"))
+known_sent msize = record { body = known; size = omega arith }
+
+unknown_sent : (msize : ℕ) → IsSent (r.Version msize (codes "unknown"))
+unknown_sent msize = record { body = unknown; size = omega arith }
+
+pub known_done : (windows : List (Option Window)) (f : Effect) (msize : ℕ) (text : List ℕ) → text ≡ codes "9P2000"
+    → IsDone windows (record { effect = f; change = change.Nothing; answer = r.Version msize text })
+known_done windows f msize text e = record { sent = subst (λ (t : List ℕ). IsSent (r.Version msize t)) (sym e) (known_sent msize); possible = tt }
+
+pub unknown_done : (windows : List (Option Window)) (f : Effect) (msize : ℕ) (text : List ℕ) → text ≡ codes "unknown"
+    → IsDone windows (record { effect = f; change = change.Nothing; answer = r.Version msize text })
+unknown_done windows f msize text e = record { sent = subst (λ (t : List ℕ). IsSent (r.Version msize t)) (sym e) (unknown_sent msize); possible = tt }
+
+-- ---- stats
+
+pub stat_done : (windows : List (Option Window)) (s : Stat) (bytes : List ℕ) → bytes ≡ record_of s → HasName s
+    → IsDone windows (record { effect = effect.Nothing; change = change.Nothing; answer = r.Stat bytes })
+stat_done windows s bytes e name =
+    let size : length bytes ≡ 61 + length s.name = ap (λ (l : List ℕ). length l) e ∙ record_len s in
+    record { sent = record { body = omega (arith, size, name.len); size = omega (arith, size, name.len) }; possible = tt }
+
+-- what a directory read gives fits
+pub part_fits : (room : ℕ) (stats : List Stat) (bytes : List ℕ) → bytes ≡ records (fitting room stats) → length bytes ≤ room
+part_fits room stats bytes e = subst (λ (l : List ℕ). length l ≤ room) (sym e) (longest room stats).fits
+
+pub ruleset sent = (error_sent, error_done, known_done, unknown_done, stat_done, part_fits)

@@ -1,0 +1,48 @@
+-- Fids and connections that were looked at, and one more.
+use Rattle.std.proofs.Common.{◌≡◌, ℕ, zero, suc, ◌+◌, ◌<◌, ◌≤◌, Bool, true, false, ◌||◌, List, [], ◌∷◌, length, take, refl, sym, ap, ◌∙◌, arith}
+use Rattle.std.specs.Prelude.{slice_get}
+use Rattle.std.specs.List.{list_any}
+use Rattle.std.specs.Option.{option_map}
+use Rattle.fid_table.specs.declared.types.Fid.{Fid}
+use Rattle.fid_table.specs.Tables.{Tables, fids_of}
+use Rattle.core_answers.specs.Opening.{has_ctl_open, or_false, ctl_open_below}
+
+or_none : (b : Bool) → b ≡ (b || false)
+or_none true = refl
+or_none false = refl
+
+or_first : (a b c : Bool) → (a || (b || c)) ≡ ((a || b) || c)
+or_first true b c = refl
+or_first false b c = refl
+
+-- one more at the k-th place
+module _ {X : Type 0} (p : X → Bool) where
+  one_more : (xs : List X) (k : ℕ) → k < length xs → list_any p (take (suc k) xs) ≡ (list_any p (take k xs) || or_false (option_map p (slice_get xs k)))
+  one_more [] k h = absurd (omega (arith, h))
+  one_more (x ∷ xs) zero h = sym (or_none (p x))
+  one_more (x ∷ xs) (suc k) h = ap (λ (t : Bool). p x || t) (one_more xs k (omega (arith, h))) ∙ or_first (p x) (list_any p (take k xs)) (or_false (option_map p (slice_get xs k)))
+
+  no_more : (xs : List X) (k : ℕ) → length xs ≤ k → list_any p (take k xs) ≡ list_any p xs
+  no_more [] zero h = refl
+  no_more [] (suc k) h = refl
+  no_more (x ∷ xs) zero h = absurd (omega (arith, h))
+  no_more (x ∷ xs) (suc k) h = ap (λ (t : Bool). p x || t) (no_more xs k (omega (arith, h)))
+
+pub fid_more : (w : ℕ) (fids : List (ℕ × Fid)) (k : ℕ) → k < length fids
+    → list_any (has_ctl_open w) (take (k + 1) fids) ≡ (list_any (has_ctl_open w) (take k fids) || or_false (option_map (has_ctl_open w) (slice_get fids k)))
+fid_more w fids k h = let e : k + 1 ≡ suc k = omega arith in ap (λ (n : ℕ). list_any (has_ctl_open w) (take n fids)) e ∙ one_more (has_ctl_open w) fids k h
+
+pub no_fid_more : (w : ℕ) (fids : List (ℕ × Fid)) (k : ℕ) → length fids ≤ k → list_any (has_ctl_open w) (take k fids) ≡ list_any (has_ctl_open w) fids
+no_fid_more w fids k h = no_more (has_ctl_open w) fids k h
+
+pub ruleset scanning = (fid_more, no_fid_more)
+
+pub conn_more : (tables : Tables) (w conn : ℕ) → ctl_open_below tables w (conn + 1) ≡ (ctl_open_below tables w conn || list_any (has_ctl_open w) (fids_of tables conn))
+unfolding ctl_open_below
+conn_more tables w conn = let e : conn + 1 ≡ suc conn = omega arith in ap (ctl_open_below tables w) e
+
+pub none_below : (tables : Tables) (w : ℕ) → ctl_open_below tables w 0 ≡ false
+unfolding ctl_open_below
+none_below tables w = refl
+
+pub ruleset connections = (conn_more, none_below)

@@ -1,0 +1,57 @@
+-- Tversion and Tattach.
+use Rattle.std.specs.Prelude.{ℕ, Bool, ◌==◌, ◌||◌, not, nat_eq, nat_lt, min, List, length, codes, Option, Some, None, Result, Ok, Err, if◌then◌else◌}
+use Rattle.std.specs.Str.{bytes_eq}
+use Rattle.std.specs.List.{starts_with}
+use Rattle.ninep_wire.specs.declared.message.RBody.TheVariants as r
+use Rattle.acme_tree.specs.declared.node.Node.TheVariants.{Root}
+use Rattle.acme_tree.specs.Trees.{qid_of}
+use Rattle.fid_table.specs.Tables.{Tables}
+use Rattle.core_windows.specs.declared.change.Change.TheVariants as change
+use Rattle.core_answers.specs.declared.effect.Effect.TheVariants as effect
+use Rattle.core_answers.specs.declared.effect.Deed.{Deed}
+use Rattle.core_answers.specs.declared.refusal.Refusal.{Refusal}
+use Rattle.core_answers.specs.declared.refusal.Refusal.TheVariants as refusal
+use Rattle.core_answers.specs.Fids.{is_used, is_full, fresh, nofid}
+use Rattle.core_answers.specs.Refusals.{refused_with}
+
+-- ---- Tversion
+
+-- `9P2000`, or that and more after a full stop
+abbrev pub is_version : List ℕ → Bool
+is_version version = bytes_eq version (codes "9P2000") || starts_with nat_eq version (codes "9P2000.")
+
+-- Fids are freed in each case. The msize is at least 256, and at most 65560 is answered; a version that isn't known opens no
+-- session.
+abbrev pub agreed : ℕ → List ℕ → Deed
+agreed msize version = if is_version version
+    then record { effect = effect.Begins (Some msize); change = change.Nothing; answer = r.Version msize (codes "9P2000") }
+    else record { effect = effect.Begins None; change = change.Nothing; answer = r.Version msize (codes "unknown") }
+
+abbrev pub version_deed : ℕ → List ℕ → Deed
+version_deed msize version = if nat_lt msize 256
+    then refused_with (effect.Begins None) refusal.MsizeTooSmall
+    else agreed (min msize 65560) version
+
+-- ---- Tattach
+
+-- the editor's tree, of which `acme` is the name, or none
+abbrev pub is_editor : List ℕ → Bool
+is_editor aname = (length aname == 0) || bytes_eq aname (codes "acme")
+
+abbrev pub tree_refusal : List ℕ → Option Refusal
+tree_refusal aname = if is_editor aname then None else
+    (if bytes_eq aname (codes "plumb") then Some refusal.NotServedYet else Some refusal.NoSuchTree)
+
+abbrev pub attach_refusal : Tables → ℕ → ℕ → ℕ → List ℕ → Option Refusal
+attach_refusal tables conn fid afid aname =
+    if fid == nofid then Some refusal.BadFid else
+    (if is_used tables conn fid then Some refusal.FidInUse else
+    (if not (afid == nofid) then Some refusal.AuthenticationNotRequired else
+    (if is_full tables conn then Some refusal.TooManyFids else tree_refusal aname)))
+
+abbrev pub or_attaches : Option Refusal → ℕ → Result Deed Refusal
+or_attaches None fid = Ok (record { effect = effect.Puts fid (fresh Root); change = change.Nothing; answer = r.Attach (qid_of Root) })
+or_attaches (Some refusal) fid = Err refusal
+
+abbrev pub attach_deed : Tables → ℕ → ℕ → ℕ → List ℕ → Result Deed Refusal
+attach_deed tables conn fid afid aname = or_attaches (attach_refusal tables conn fid afid aname) fid

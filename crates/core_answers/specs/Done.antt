@@ -1,0 +1,26 @@
+-- What holds of each deed: its answer has a spelling, and its change of the windows can be made.
+use Rattle.std.specs.Prelude.{◌≡◌, ◌<◌, ◌^◌, false, List, Option}
+use Rattle.ninep_wire.specs.declared.message.RBody.{RBody}
+use Rattle.ninep_wire.specs.Spelling.{BodyFits_r, size_r}
+use Rattle.acme_tree.specs.declared.node.World.{World}
+use Rattle.acme_tree.specs.Trees.{is_full}
+use Rattle.core_windows.specs.Possible.{IsPossible}
+use Rattle.core_windows.specs.Windows.{Window}
+use Rattle.core_answers.specs.declared.effect.Deed.{Deed}
+use Rattle.core_answers.specs.declared.walk.WalkEnd.{WalkEnd}
+use Rattle.core_answers.specs.declared.walk.WalkEnd.TheVariants as end
+
+-- an answer that has a spelling, whatever its tag
+pub record IsSent (answer : RBody) : Type 0 where
+  pub body : BodyFits_r answer
+  pub size : size_r answer < 2 ^ 32
+
+pub record IsDone (windows : List (Option Window)) (deed : Deed) : Type 0 where
+  pub sent : IsSent deed.answer
+  pub possible : IsPossible windows deed.change
+
+-- a walk that makes a window ends only where one more may live
+abbrev pub MayEnd : World → WalkEnd → Type 0
+MayEnd world (end.At node) = Unit {0}
+MayEnd world (end.Makes file) = is_full world ≡ false
+MayEnd world (end.Stops refusal) = Unit {0}

@@ -1,0 +1,23 @@
+-- Laws of messages.
+use Rattle.std.specs.Prelude.{◌≡◌, ◌⊎◌, ℕ, ◌+◌, List, Option}
+use Rattle.ninep_wire.specs.declared.message.TBody.{TBody}
+use Rattle.ninep_wire.specs.declared.message.RBody.{RBody}
+use Rattle.ninep_wire.specs.declared.message.RBody.TheVariants as r
+use Rattle.ninep_wire.specs.Spelling.{kind_t, kind_r}
+use Rattle.fid_table.specs.Tables.{Tables}
+use Rattle.core_windows.specs.Windows.{Window}
+use Rattle.core_answers.specs.declared.refusal.Refusal.{Refusal}
+use Rattle.core_answers.specs.Deeds.{deed}
+use Rattle.core_answers.specs.Refusals.{refusal_text}
+
+-- the text of a named refusal is answered
+abbrev pub IsRefused : RBody → Type 0
+IsRefused answer = (refusal : Refusal) × (answer ≡ r.Error (refusal_text refusal))
+
+-- A message is answered by its own R message, whose type byte is one more, unless it is refused.
+abbrev pub IsAnswered : TBody → RBody → Type 0
+IsAnswered asked answer = (kind_r answer ≡ kind_t asked + 1) ⊎ IsRefused answer
+
+-- In each state each message of each connection is answered.
+abbrev pub EachIsAnswered : Type 0
+EachIsAnswered = (tables : Tables) (windows : List (Option Window)) (conn : ℕ) (body : TBody) → IsAnswered body (deed tables windows conn body).answer

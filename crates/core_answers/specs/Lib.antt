@@ -1,0 +1,15 @@
+pub mod Fids
+pub mod Contents
+pub mod Texts
+pub mod Refusals
+pub mod Controls
+pub mod Plain
+pub mod Erring
+pub mod Done
+pub mod Attaching
+pub mod Walking
+pub mod Opening
+pub mod Reading
+pub mod Writing
+pub mod Deeds
+pub mod Laws

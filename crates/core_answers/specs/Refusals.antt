@@ -1,0 +1,52 @@
+-- Named refusals: their texts, and what a message that may be refused does.
+use Rattle.std.specs.Prelude.{◌≡◌, ℕ, List, codes, Result, Ok, Err}
+use Rattle.ninep_wire.specs.declared.message.RBody.TheVariants as r
+use Rattle.core_windows.specs.declared.change.Change.TheVariants as change
+use Rattle.core_answers.specs.declared.effect.Effect.{Effect}
+use Rattle.core_answers.specs.declared.effect.Effect.TheVariants as effect
+use Rattle.core_answers.specs.declared.effect.Deed.{Deed}
+use Rattle.core_answers.specs.declared.refusal.Refusal.{Refusal}
+use Rattle.core_answers.specs.declared.refusal.Refusal.TheVariants as refusal
+use Rattle.core_answers.specs.declared.refusal.Fault.{Fault}
+use Rattle.core_answers.specs.declared.refusal.Fault.TheVariants as fault
+
+abbrev pub refusal_text : Refusal → List ℕ
+refusal_text refusal.VersionFirst = codes "version first"
+refusal_text refusal.MsizeTooSmall = codes "msize too small"
+refusal_text refusal.AuthenticationNotRequired = codes "authentication not required"
+refusal_text refusal.BadFid = codes "bad fid"
+refusal_text refusal.FidInUse = codes "fid in use"
+refusal_text refusal.TooManyFids = codes "too many fids"
+refusal_text refusal.NoSuchTree = codes "no such tree"
+refusal_text refusal.UnknownFid = codes "unknown fid"
+refusal_text refusal.WindowDeleted = codes "window deleted"
+refusal_text refusal.FidIsOpen = codes "fid is open"
+refusal_text refusal.FidIsNotOpen = codes "fid is not open"
+refusal_text refusal.NotADirectory = codes "not a directory"
+refusal_text refusal.FileNotFound = codes "file not found"
+refusal_text refusal.TooManyWindows = codes "too many windows"
+refusal_text refusal.BadOpenMode = codes "bad open mode"
+refusal_text refusal.PermissionDenied = codes "permission denied"
+refusal_text refusal.BadDirectoryOffset = codes "bad directory offset"
+refusal_text refusal.TextTooLong = codes "text too long"
+refusal_text refusal.WindowModified = codes "window modified"
+refusal_text refusal.BadControlMessage = codes "bad control message"
+refusal_text refusal.BadFileName = codes "bad file name"
+refusal_text refusal.NotServedYet = codes "not served yet"
+
+-- the deed of a refusal: its text is answered, and nothing changes but what is said here
+abbrev pub refused_with : Effect → Refusal → Deed
+refused_with effect refusal = record { effect = effect; change = change.Nothing; answer = r.Error (refusal_text refusal) }
+
+abbrev pub refused : Refusal → Deed
+refused refusal = refused_with effect.Nothing refusal
+
+-- a message that may be refused
+abbrev pub deed_or_refusal : Result Deed Refusal → Deed
+deed_or_refusal (Ok deed) = deed
+deed_or_refusal (Err refusal) = refused refusal
+
+-- the fault of a message that is refused so; want of memory may come anywhere
+abbrev pub Gives : {A : Type 0} → Fault → Result A Refusal → Type 0
+Gives (fault.Refused refusal) wanted = wanted ≡ Err refusal
+Gives fault.NoMemory wanted = Unit {0}

@@ -1,0 +1,95 @@
+-- Twrite.
+use Rattle.std.specs.Prelude.{ℕ, List, ◌++◌, length, Option, Some, None, Result, Ok, Err, if◌then◌else◌}
+use Rattle.am_text.specs.Lines.{lines_of}
+use Rattle.am_text.specs.Part.{part_bytes, part_of}
+use Rattle.am_text.specs.Pieces.{Decoded, decode_part}
+use Rattle.ninep_wire.specs.declared.message.RBody.{RBody}
+use Rattle.ninep_wire.specs.declared.message.RBody.TheVariants as r
+use Rattle.acme_tree.specs.declared.node.World.{World}
+use Rattle.fid_table.specs.declared.types.Fid.{Fid}
+use Rattle.fid_table.specs.Tables.{Tables, fid_of}
+use Rattle.core_windows.specs.declared.change.Change.{Change}
+use Rattle.core_windows.specs.declared.change.Change.TheVariants as change
+use Rattle.core_windows.specs.Windows.{Window, window_at, named}
+use Rattle.core_answers.specs.declared.effect.Effect.TheVariants as effect
+use Rattle.core_answers.specs.declared.effect.Deed.{Deed}
+use Rattle.core_answers.specs.declared.refusal.Refusal.{Refusal}
+use Rattle.core_answers.specs.declared.refusal.Refusal.TheVariants as refusal
+use Rattle.core_answers.specs.declared.content.Content.{Content}
+use Rattle.core_answers.specs.declared.content.Content.TheVariants as content
+use Rattle.core_answers.specs.declared.control.Controls.{Controls}
+use Rattle.core_answers.specs.Contents.{content_of}
+use Rattle.core_answers.specs.Controls.{controls}
+use Rattle.core_answers.specs.Erring.{fits_in, fits_tag, appends, errors_of, root_errors, errors_change, errors_refusal}
+use Rattle.core_answers.specs.Fids.{is_for_writing, holding}
+use Rattle.core_answers.specs.Reading.{use_refusal, or_reads}
+use Rattle.core_answers.specs.Refusals.{refusal_text}
+use Rattle.core_answers.specs.Texts.{text_at, right_of, name_of, modified_of}
+
+-- the whole count is answered
+abbrev pub written : Change → ℕ → Fid → ℕ → Deed
+written change number fid count = record { effect = effect.Puts number fid; change = change; answer = r.Write count }
+
+-- ---- texts: whole runes are put at the end, and the bytes of an unfinished one are held for the fid
+
+abbrev pub append_deed : List (Option Window) → ℕ → Fid → ℕ → ℕ → Decoded → Result Deed Refusal
+append_deed windows number fid w count decoded = if fits_in (text_at windows w) decoded.text
+    then Ok (written (appends windows w decoded.text) number (holding fid (part_of decoded.rest)) count)
+    else Err refusal.TextTooLong
+
+-- the right part of the tag alone can be written
+abbrev pub add_deed : List (Option Window) → ℕ → Fid → ℕ → ℕ → Decoded → Result Deed Refusal
+add_deed windows number fid w count decoded = if fits_tag (right_of (window_at windows w)) decoded.text
+    then Ok (written (change.Adds w decoded.text) number (holding fid (part_of decoded.rest)) count)
+    else Err refusal.TextTooLong
+
+abbrev pub or_errors : Option Refusal → Deed → Result Deed Refusal
+or_errors None deed = Ok deed
+or_errors (Some refusal) deed = Err refusal
+
+-- what is written to `errors` or `cons` goes to the errors window of that name
+abbrev pub errors_deed : List (Option Window) → ℕ → Fid → List ℕ → ℕ → Decoded → Result Deed Refusal
+errors_deed windows number fid name count decoded =
+    or_errors (errors_refusal windows (named windows name) decoded.text)
+    (written (errors_change windows name (named windows name) decoded.text) number (holding fid (part_of decoded.rest)) count)
+
+-- ---- control messages
+
+abbrev pub control_answer : Option Refusal → ℕ → RBody
+control_answer None count = r.Write count
+control_answer (Some refusal) count = r.Error (refusal_text refusal)
+
+-- what was done before a refusal stays done
+abbrev pub control_deed : ℕ → ℕ → Controls → Deed
+control_deed w count controls = record {
+  effect = effect.Nothing;
+  change = change.Controls w controls.settings controls.deletes;
+  answer = control_answer controls.refusal count;
+}
+
+abbrev pub ctl_deed : ℕ → List ℕ → Option Window → Deed
+ctl_deed w bytes window = control_deed w (length bytes) (controls (lines_of bytes) (name_of window) (modified_of window))
+
+-- ---- all files
+
+-- what is written to a file that holds nothing is dropped
+abbrev pub write_content : List (Option Window) → ℕ → Fid → List ℕ → Content → Result Deed Refusal
+write_content windows number fid bytes content.Directory = Err refusal.PermissionDenied
+write_content windows number fid bytes (content.BodyText w) = append_deed windows number fid w (length bytes) (decode_part (part_bytes fid.part ++ bytes))
+write_content windows number fid bytes (content.TagText w) = add_deed windows number fid w (length bytes) (decode_part (part_bytes fid.part ++ bytes))
+write_content windows number fid bytes (content.CtlText w) = Ok (ctl_deed w bytes (window_at windows w))
+write_content windows number fid bytes content.IndexText = Err refusal.PermissionDenied
+write_content windows number fid bytes (content.ErrorsOf w) =
+    errors_deed windows number fid (errors_of (window_at windows w)) (length bytes) (decode_part (part_bytes fid.part ++ bytes))
+write_content windows number fid bytes content.ConsErrors =
+    errors_deed windows number fid root_errors (length bytes) (decode_part (part_bytes fid.part ++ bytes))
+write_content windows number fid bytes content.Empty = Ok (record { effect = effect.Nothing; change = change.Nothing; answer = r.Write (length bytes) })
+write_content windows number fid bytes content.Unserved = Err refusal.NotServedYet
+
+abbrev pub write_fid : World → List (Option Window) → ℕ → List ℕ → Option Fid → Result Deed Refusal
+write_fid world windows number bytes None = Err refusal.UnknownFid
+write_fid world windows number bytes (Some fid) =
+    or_reads (use_refusal world fid is_for_writing) (write_content windows number fid bytes (content_of fid.node))
+
+abbrev pub write_deed : Tables → World → List (Option Window) → ℕ → ℕ → List ℕ → Result Deed Refusal
+write_deed tables world windows conn number bytes = write_fid world windows number bytes (fid_of tables conn number)

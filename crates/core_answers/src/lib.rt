@@ -1,0 +1,26 @@
+//! What each message of a connection does, and its answer, by the rules of the files.
+#![tactic(auto)]
+
+mod answer;
+mod attach;
+mod content;
+mod control;
+mod directory;
+mod effect;
+mod erring;
+mod fids;
+mod laws;
+mod open;
+mod read;
+mod refusal;
+mod texts;
+mod walk;
+mod write;
+
+pub use am_text::{Bytes, Items, NoMemory, Rune, Runes};
+pub use answer::deed_of;
+pub use core_windows::{Change, Windows};
+pub use effect::{Deed, Effect};
+pub use fids::copy;
+pub use laws::messages_are_answered;
+pub use ninep_wire::{RBody, TBody};

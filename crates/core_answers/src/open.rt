@@ -1,0 +1,252 @@
+//! Opening and freeing fids, after open(5), clunk(5), remove(5) and stat(5).
+
+ghost use Rattle.std.specs.Prelude.{◌≡◌, ◌||◌, IfOk, IfErr, Ok};
+ghost use Rattle.std.specs.List.{list_any};
+ghost use Rattle.std.specs.Option.{option_map};
+ghost use Rattle.std.specs.Prelude.{slice_get};
+ghost use Rattle.fid_table.specs.Tables.{fid_of, fids_of};
+ghost use Rattle.core_windows.specs.Possible.{IsPossible};
+ghost use Rattle.core_answers.specs.Refusals.{Gives};
+ghost use Rattle.core_answers.specs.Done.{IsDone};
+ghost use Rattle.core_answers.specs.Opening.{mode_refusal, content_refusal, first_refusal, open_refusal, is_ctl_of, has_ctl_open, or_false, ctl_open_below, clears_limit, opening_change, open_deed, denied, clunk_fid, remove_fid};
+
+use crate::content::{Content, content_of};
+use crate::effect::{Deed, Effect};
+use crate::fids::{is_open, opened};
+use crate::refusal::{Fault, Refusal, refuse};
+use acme_tree::{May, Node, WinFile, World, is_live, may_open, qid_of};
+use am_text::{Items, NoMemory};
+use core_windows::{Change, Setting, Windows};
+use fid_table::{Fid, Sessions};
+use ninep_wire::RBody;
+use std::alloc::Global;
+
+/// How many connections there are.
+const CONNS: u32 = 64;
+
+fn mode_refusal(may: May) -> Option<Refusal>
+    ensures { result ≡ mode_refusal may }
+{
+    match may {
+        May::Yes => None,
+        May::BadMode => Some(Refusal::BadOpenMode),
+        May::Denied => Some(Refusal::PermissionDenied),
+    }
+}
+
+fn content_refusal(content: Content) -> Option<Refusal>
+    ensures { result ≡ content_refusal content }
+{
+    match content {
+        Content::Directory => None,
+        Content::BodyText(_) => None,
+        Content::TagText(_) => None,
+        Content::CtlText(_) => None,
+        Content::IndexText => None,
+        Content::ErrorsOf(_) => None,
+        Content::ConsErrors => None,
+        Content::Empty => None,
+        Content::Unserved => Some(Refusal::NotServedYet),
+    }
+}
+
+fn first_refusal(first: Option<Refusal>, later: Option<Refusal>) -> Option<Refusal>
+    ensures { result ≡ first_refusal first later }
+{
+    match first {
+        Some(refusal) => Some(refusal),
+        None => later,
+    }
+}
+
+fn open_refusal(world: &World, fid: &Fid, mode: u8) -> Option<Refusal>
+    ensures { result ≡ open_refusal world.now fid.now mode }
+{
+    let node = fid.node;
+    if !is_live(world, node) {
+        Some(Refusal::WindowDeleted)
+    } else if is_open(fid) {
+        Some(Refusal::FidIsOpen)
+    } else {
+        first_refusal(
+            mode_refusal(may_open(node, mode)),
+            content_refusal(content_of(node)),
+        )
+    }
+}
+
+fn is_ctl_of(window: u32, node: Node) -> bool
+    ensures { result ≡ is_ctl_of window node }
+{
+    match node {
+        Node::File(of, WinFile::Ctl) => of == window,
+        _ => false,
+    }
+}
+
+// Whether the k-th fid of a connection has the `ctl` of the window open.
+fn open_at(sessions: &Sessions, conn: u32, window: u32, k: usize) -> bool
+    ensures { result ≡ or_false (option_map (has_ctl_open window) (slice_get (fids_of sessions.now.present conn) k)) }
+{
+    match sessions.fid_at(conn, k) {
+        Some((_, fid)) => is_open(fid) && is_ctl_of(window, fid.node),
+        None => false,
+    }
+}
+
+fn either(a: bool, b: bool) -> bool
+    ensures { result ≡ (a || b) }
+{
+    a || b
+}
+
+// Whether one of the connection's fids has it open.
+#[tactic(auto, using(crate::proofs::Scanned::scanning))]
+fn has_ctl_open(sessions: &Sessions, conn: u32, window: u32) -> bool
+    ensures { result ≡ list_any (has_ctl_open window) (fids_of sessions.now.present conn) }
+{
+    let count = sessions.count(conn);
+    let mut found = false;
+    let mut k = 0;
+    while k < count {
+        found = either(found, open_at(sessions, conn, window, k));
+        k += 1;
+    }
+    found
+}
+
+// Whether one of all connections has a fid that has it open.
+#[tactic(auto, using(crate::proofs::Scanned::connections))]
+fn someone_has_ctl_open(sessions: &Sessions, window: u32) -> bool
+    ensures { result ≡ ctl_open_below sessions.now.present window 64 }
+{
+    let mut found = false;
+    let mut conn = 0;
+    while conn < CONNS {
+        found = either(found, has_ctl_open(sessions, conn, window));
+        conn += 1;
+    }
+    found
+}
+
+fn clears_limit(alloc: Global, sessions: &Sessions, window: u32) -> Result<Change, NoMemory>
+    ensures { IfOk result (λ change. change ≡ clears_limit sessions.now.present window) }
+{
+    if someone_has_ctl_open(sessions, window) {
+        return Ok(Change::Nothing);
+    }
+    let mut settings = Items::new(alloc);
+    settings.push(Setting::NoLimit)?;
+    Ok(Change::Controls {
+        window,
+        settings,
+        deletes: false,
+    })
+}
+
+#[tactic(auto, using(crate::proofs::Possibly::possibly))]
+fn opening_change(
+    alloc: Global,
+    sessions: &Sessions,
+    windows: &Windows,
+    content: Content,
+) -> Result<Change, NoMemory>
+    ensures exact { IfOk result (λ change. change ≡ opening_change sessions.now.present content) }
+    ensures possible { IfOk result (IsPossible windows.now.windows) }
+{
+    match content {
+        Content::CtlText(window) => clears_limit(alloc, sessions, window),
+        Content::Directory => Ok(Change::Nothing),
+        Content::BodyText(_) => Ok(Change::Nothing),
+        Content::TagText(_) => Ok(Change::Nothing),
+        Content::IndexText => Ok(Change::Nothing),
+        Content::ErrorsOf(_) => Ok(Change::Nothing),
+        Content::ConsErrors => Ok(Change::Nothing),
+        Content::Empty => Ok(Change::Nothing),
+        Content::Unserved => Ok(Change::Nothing),
+    }
+}
+
+/// What a Topen does.
+pub(crate) fn open(
+    alloc: Global,
+    sessions: &Sessions,
+    windows: &Windows,
+    world: &World,
+    conn: u32,
+    number: u32,
+    mode: u8,
+) -> Result<Deed, Fault>
+    ensures exact { IfOk result (λ d. open_deed sessions.now.present world.now conn number mode ≡ Ok d) }
+    ensures refused { IfErr result (λ e. Gives e (open_deed sessions.now.present world.now conn number mode)) }
+    ensures done { IfOk result (IsDone windows.now.windows) }
+{
+    let Some(fid) = sessions.fid(conn, number) else {
+        return Err(Fault::Refused(Refusal::UnknownFid));
+    };
+    if let Some(refusal) = open_refusal(world, fid, mode) {
+        return Err(Fault::Refused(refusal));
+    }
+    Ok(Deed {
+        effect: Effect::Puts {
+            number,
+            fid: opened(alloc, fid, mode)?,
+        },
+        change: opening_change(alloc, sessions, windows, content_of(fid.node))?,
+        answer: RBody::Open {
+            qid: qid_of(fid.node),
+            iounit: 0,
+        },
+    })
+}
+
+/// What a Tcreate or a Twstat does.
+pub(crate) fn deny(sessions: &Sessions, conn: u32, number: u32) -> Refusal
+    ensures { denied (fid_of sessions.now.present conn number) ≡ Err result }
+{
+    if sessions.fid(conn, number).is_some() {
+        Refusal::PermissionDenied
+    } else {
+        Refusal::UnknownFid
+    }
+}
+
+/// What a Tclunk does.
+pub(crate) fn clunk(
+    sessions: &Sessions,
+    windows: &Windows,
+    conn: u32,
+    number: u32,
+) -> Result<Deed, Fault>
+    ensures exact { IfOk result (λ d. clunk_fid number (fid_of sessions.now.present conn number) ≡ Ok d) }
+    ensures refused { IfErr result (λ e. Gives e (clunk_fid number (fid_of sessions.now.present conn number))) }
+    ensures done { IfOk result (IsDone windows.now.windows) }
+{
+    if sessions.fid(conn, number).is_none() {
+        return Err(Fault::Refused(Refusal::UnknownFid));
+    }
+    Ok(Deed {
+        effect: Effect::Frees { number },
+        change: Change::Nothing,
+        answer: RBody::Clunk,
+    })
+}
+
+/// What a Tremove does.
+pub(crate) fn remove(
+    alloc: Global,
+    sessions: &Sessions,
+    windows: &Windows,
+    conn: u32,
+    number: u32,
+) -> Result<Deed, Fault>
+    ensures exact { IfOk result (λ d. remove_fid number (fid_of sessions.now.present conn number) ≡ Ok d) }
+    ensures refused { IfErr result (λ e. Gives e (remove_fid number (fid_of sessions.now.present conn number))) }
+    ensures done { IfOk result (IsDone windows.now.windows) }
+{
+    if sessions.fid(conn, number).is_none() {
+        return Err(Fault::Refused(Refusal::UnknownFid));
+    }
+    let effect = Effect::Frees { number };
+    Ok(refuse(alloc, windows, effect, Refusal::PermissionDenied)?)
+}
