@@ -1,0 +1,11 @@
+pub mod Attributes
+pub mod Counts
+pub mod LineKinds
+pub mod Lines
+pub mod MessageLaws
+pub mod Readers
+pub mod TextFronts
+pub mod TextEnds
+pub mod TextLemmas
+pub mod ScanLemmas
+pub mod SpellLemmas

@@ -1,0 +1,7 @@
+pub mod Attributes
+pub mod Fields
+pub mod Grammar
+pub mod Laws
+pub mod Reading
+pub mod Spelling
+pub mod Texts

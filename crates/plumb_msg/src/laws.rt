@@ -1,0 +1,21 @@
+//! Laws of reading and writing. Each function has laws as its contract, and does nothing.
+
+ghost use Rattle.plumb_msg.specs.Laws.{ReadAgain, WholeStays, BadStays, WholeIsExact, MoreIsExact, BadIsExact};
+
+/// What is written is read again, whatever follows it.
+pub fn messages_are_read_again()
+    ensures { ReadAgain }
+{}
+
+/// What is read at the front of bytes stays so as bytes are added.
+pub fn reading_goes_on()
+    ensures whole { WholeStays }
+    ensures bad { BadStays }
+{}
+
+/// The three answers of reading, by the grammar of messages.
+pub fn answers_are_exact()
+    ensures whole { WholeIsExact }
+    ensures more { MoreIsExact }
+    ensures bad { BadIsExact }
+{}

@@ -1,0 +1,19 @@
+//! Plumb messages, after plumb(6).
+#![tactic(auto)]
+
+mod laws;
+mod message;
+mod reading;
+mod scanning;
+mod texts;
+mod unread;
+mod writing;
+
+pub use laws::{answers_are_exact, messages_are_read_again, reading_goes_on};
+pub use message::{Attr, Attrs, PlumbMsg, PlumbRead};
+pub use reading::read_msg;
+pub use scanning::read_attrs;
+pub use writing::{can_spell, write_msg};
+
+#[cfg(test)]
+mod tests;

@@ -1,0 +1,6 @@
+use Rattle.std.proofs.Common.{◌≡◌, map, take, drop, ◌++◌}
+use Rattle.plumb_ports.specs.Shown.{with_present}
+use Rattle.plumb_ports.proofs.opening_table.keep_each.Given as goal
+
+abbrev pub invariant-loop-queue : goal.invariant-loop-queue
+invariant-loop-queue l = l.all ≡ map with_present (take l.queue-index l.initial.all) ++ drop l.queue-index l.initial.all

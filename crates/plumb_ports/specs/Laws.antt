@@ -1,0 +1,151 @@
+-- What holds of all that openings are given.
+use Rattle.std.specs.Prelude.{◌≡◌, ◌≢◌, ◌==◌, ◌≤◌, length, ℕ, Bool, true, false, List, [], ◌∷◌, ◌++◌, Option, Some, None, if◌then◌else◌}
+use Rattle.wait_queue.specs.Reads.{is_read}
+use Rattle.wait_queue.specs.declared.types.Asker.{Asker}
+use Rattle.plumb_ports.specs.PortList.{number_of, kept_of}
+use Rattle.plumb_ports.specs.Inboxes.{Inbox, inbox_of, is_on}
+use Rattle.plumb_ports.specs.PortsState.{PortsState, beginning, HasJoined, has_joined, is_open, read_waits, piece_for, next_of, refusal, after_add, after_join, after_deliver, delivered_at, after_ask, after_serve, after_cancel, after_leave, after_answer}
+
+-- a call that isn't refused
+pub data Call : Type 0 where
+  Add : List ℕ → Call
+  Join : ℕ → ℕ → Call
+  Deliver : List ℕ → List ℕ → Bool → Call
+  Ask : Asker → Call
+  Serve : Call
+  Cancel : ℕ → ℕ → Call
+  Leave : ℕ → Call
+
+-- an opening joins once, and a refused message isn't delivered
+abbrev pub IsAllowed : PortsState → Call → Type 0
+IsAllowed s (Add name) = Unit {0}
+IsAllowed s (Join port opening) = has_joined s opening ≡ false
+IsAllowed s (Deliver name message keep) = refusal s name keep ≡ None
+IsAllowed s (Ask r) = Unit {0}
+IsAllowed s Serve = Unit {0}
+IsAllowed s (Cancel conn tag) = Unit {0}
+IsAllowed s (Leave opening) = Unit {0}
+
+abbrev pub after_call : PortsState → Call → PortsState
+after_call s (Add name) = after_add s name
+after_call s (Join port opening) = after_join s port opening
+after_call s (Deliver name message keep) = after_deliver s name message
+after_call s (Ask r) = after_ask s r
+after_call s Serve = after_serve s
+after_call s (Cancel conn tag) = after_cancel s conn tag
+after_call s (Leave opening) = after_leave s opening
+
+-- messages one after another
+abbrev pub joined : List (List ℕ) → List ℕ
+joined [] = []
+joined (m ∷ ms) = m ++ joined ms
+
+-- what is still to come for an opening: what it has left, and then its messages
+abbrev pub owed_in : Inbox → List ℕ
+owed_in o = o.carry ++ joined o.messages
+
+abbrev pub owed : PortsState → ℕ → List ℕ
+owed s opening = owed_in (inbox_of s.openings opening)
+
+-- the bytes of an answer to this read, where it is one on the opening
+abbrev pub answer_to : PortsState → Asker → ℕ → List ℕ
+answer_to s r opening = if r.opening == opening then (piece_for s r).bytes else []
+
+abbrev pub served_to : PortsState → Option Asker → ℕ → List ℕ
+served_to s None opening = []
+served_to s (Some r) opening = answer_to s r opening
+
+-- the bytes that the call gives to the opening: only an answer to a read gives any
+abbrev pub given_by : PortsState → Call → ℕ → List ℕ
+given_by s (Add name) opening = []
+given_by s (Join port o) opening = []
+given_by s (Deliver name message keep) opening = []
+given_by s (Ask r) opening = if read_waits s r then [] else answer_to s r opening
+given_by s Serve opening = served_to s (next_of s) opening
+given_by s (Cancel conn tag) opening = []
+given_by s (Leave o) opening = []
+
+-- a message to a port is for each of its openings
+abbrev pub message_to : Option ℕ → List ℕ → Inbox → List ℕ
+message_to None message o = []
+message_to (Some port) message o = if is_on port o then message else []
+
+-- what the call delivers to the opening: what the port keeps, where it is the one that joins, or the message
+abbrev pub delivered_by : PortsState → Call → ℕ → List ℕ
+delivered_by s (Add name) opening = []
+delivered_by s (Join port o) opening = if o == opening then joined (kept_of s.ports port) else []
+delivered_by s (Deliver name message keep) opening = message_to (number_of s.ports name) message (inbox_of s.openings opening)
+delivered_by s (Ask r) opening = []
+delivered_by s Serve opening = []
+delivered_by s (Cancel conn tag) opening = []
+delivered_by s (Leave o) opening = []
+
+-- What a call gives to an opening that is there after it, with what is then still to come, is what was
+-- to come before with what the call delivers.
+abbrev pub LosesNothing : Type 0
+LosesNothing =
+    (s : PortsState) (c : Call) (opening : ℕ) → IsAllowed s c → HasJoined (after_call s c) opening →
+    given_by s c opening ++ owed (after_call s c) opening ≡ owed s opening ++ delivered_by s c opening
+
+-- ---- many calls
+
+abbrev pub run : PortsState → List Call → PortsState
+run s [] = s
+run s (c ∷ cs) = run (after_call s c) cs
+
+abbrev pub AreAllowed : PortsState → List Call → Type 0
+AreAllowed s [] = Unit {0}
+AreAllowed s (c ∷ cs) = IsAllowed s c × AreAllowed (after_call s c) cs
+
+-- the opening is there after each call
+abbrev pub Stays : PortsState → List Call → ℕ → Type 0
+Stays s [] opening = Unit {0}
+Stays s (c ∷ cs) opening = HasJoined (after_call s c) opening × Stays (after_call s c) cs opening
+
+abbrev pub all_given : PortsState → List Call → ℕ → List ℕ
+all_given s [] opening = []
+all_given s (c ∷ cs) opening = given_by s c opening ++ all_given (after_call s c) cs opening
+
+abbrev pub all_delivered : PortsState → List Call → ℕ → List ℕ
+all_delivered s [] opening = []
+all_delivered s (c ∷ cs) opening = delivered_by s c opening ++ all_delivered (after_call s c) cs opening
+
+-- Each opening of a port gets each message that is delivered while it is there, in order: what it was
+-- given, with what is still to come, is what was to come at first with all that was delivered since.
+abbrev pub GetsEachMessage : Type 0
+GetsEachMessage =
+    (s : PortsState) (cs : List Call) (opening : ℕ) → AreAllowed s cs → Stays s cs opening →
+    all_given s cs opening ++ owed (run s cs) opening ≡ owed s opening ++ all_delivered s cs opening
+
+-- before it joins, nothing is to come for an opening
+abbrev pub BeginsWithNothing : Type 0
+BeginsWithNothing = (s : PortsState) (opening : ℕ) → has_joined s opening ≡ false → owed s opening ≡ []
+
+-- A kept message is delivered once: the opening that takes it leaves the port none, the other ports
+-- theirs, and what is copied to openings isn't kept, nor what is kept copied.
+pub record KeptOnce : Type 0 where
+  pub taken : (s : PortsState) (port opening : ℕ) → kept_of (after_join s port opening).ports port ≡ []
+  pub others : (s : PortsState) (port other opening : ℕ) → other ≢ port → kept_of (after_join s port opening).ports other ≡ kept_of s.ports other
+  pub copied : (s : PortsState) (port : ℕ) (message : List ℕ) → is_open s port ≡ true → (delivered_at s port message).ports ≡ s.ports
+  pub kept : (s : PortsState) (port : ℕ) (message : List ℕ) → is_open s port ≡ false → (delivered_at s port message).openings ≡ s.openings
+
+-- an answer to a read leaves the other openings
+abbrev pub LeavesOthers : Type 0
+LeavesOthers =
+    (s : PortsState) (r : Asker) (other : ℕ) → other ≢ r.opening →
+    inbox_of (after_answer s r).openings other ≡ inbox_of s.openings other
+
+-- a read that was cancelled is never the next one
+abbrev pub CancelledIsGone : Type 0
+CancelledIsGone =
+    (s : PortsState) (conn tag : ℕ) (r : Asker) →
+    next_of (after_cancel s conn tag) ≡ Some r → is_read conn tag r ≡ false
+
+-- no port keeps more than 64 messages, and one with an opening keeps none
+pub record IsLawful (s : PortsState) : Type 0 where
+  pub few : (port : ℕ) → length (kept_of s.ports port) ≤ 64
+  pub none : (port : ℕ) → is_open s port ≡ true → kept_of s.ports port ≡ []
+
+-- that holds from the beginning on, whatever calls are made
+abbrev pub StaysLawful : Type 0
+StaysLawful = (cs : List Call) → AreAllowed beginning cs → IsLawful (run beginning cs)

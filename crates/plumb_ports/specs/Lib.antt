@@ -1,0 +1,6 @@
+pub mod PortList
+pub mod Inboxes
+pub mod PortsState
+pub mod Undo
+pub mod Shown
+pub mod Laws

@@ -1,0 +1,37 @@
+//! What holds of all that openings are given.
+
+ghost use Rattle.plumb_ports.specs.Laws.{LosesNothing, GetsEachMessage, BeginsWithNothing, KeptOnce, StaysLawful, LeavesOthers, CancelledIsGone};
+
+/// What a call gives to an opening, with what is then still to come, is what was to come before with
+/// what the call delivers. So no byte of a message is lost or given twice.
+pub fn loses_nothing()
+    ensures { LosesNothing }
+{}
+
+/// Each opening of a port gets what the port keeps when it joins, and each message that is delivered
+/// while it is there, in order, whatever calls are made.
+pub fn gets_each_message()
+    ensures begins { BeginsWithNothing }
+    ensures gets { GetsEachMessage }
+{}
+
+/// A kept message is delivered once: the opening that takes it leaves none to the port, and a
+/// message is either copied to openings or kept.
+pub fn kept_once()
+    ensures { KeptOnce }
+{}
+
+/// No port ever keeps more than 64 messages, and one with an opening keeps none.
+pub fn keeps_at_most_64()
+    ensures { StaysLawful }
+{}
+
+/// An answer to a read leaves the messages and carries of other openings.
+pub fn leaves_others()
+    ensures { LeavesOthers }
+{}
+
+/// A read that was cancelled is never answered, so it takes nothing.
+pub fn cancelled_is_gone()
+    ensures { CancelledIsGone }
+{}
