@@ -1,0 +1,6 @@
+mod Sides
+mod Starts
+mod Places
+mod Tested
+mod Chosen
+mod LawLemmas

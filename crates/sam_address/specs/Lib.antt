@@ -1,0 +1,4 @@
+pub mod Search
+pub mod Lines
+pub mod Value
+pub mod Laws

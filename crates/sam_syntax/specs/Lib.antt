@@ -1,0 +1,9 @@
+pub mod Tree
+pub mod Marks
+pub mod Pieces
+pub mod Joined
+pub mod Grammar
+pub mod Answer
+pub mod Read
+pub mod Scan
+pub mod Laws
