@@ -141,6 +141,39 @@ fn a_cancelled_read_takes_nothing(rt: HostRuntime) -> Result<(), Fail> {
     Ok(())
 }
 
+// A read that waited is answered; cancelled then, it isn't there any more.
+fn cancelled_late(alloc: Global) -> Result<Option<Book>, NoMemory> {
+    let mut book = Book::new(alloc);
+    added(&mut book, 1)?;
+    let waits = asked(&mut book, read(7, 1, 256), 1)?.is_none();
+    put(&mut book, 1, key(alloc, 0, b"a")?)?;
+    let given = is_bytes(served(&mut book, 7, 2)?, b"KI0 1 0 1 a\n");
+    book.keep();
+    if waits && given && !book.cancel(0, 7) {
+        return Ok(Some(book));
+    }
+    Ok(None)
+}
+
+// Its item stays taken.
+fn stays_taken(alloc: Global) -> Result<bool, NoMemory> {
+    let Some(book) = cancelled_late(alloc)? else {
+        return Ok(false);
+    };
+    let taken = Life::Taken { opening: 1, at: 2 };
+    match book.ledger()?.as_slice() {
+        [view] => Ok(is_view(view, 1, taken, b"KI0 1 0 1 a\n")),
+        _ => Ok(false),
+    }
+}
+
+#[test]
+fn an_answered_read_keeps_its_item(rt: HostRuntime) -> Result<(), Fail> {
+    let all = stays_taken(rt.alloc()).map_err(|_| AllocError)?;
+    assert!(rt; all);
+    Ok(())
+}
+
 // Two connections wait, the first of them on another window's file too: the oldest is served first.
 fn two_readers(alloc: Global) -> Result<bool, NoMemory> {
     let mut book = Book::new(alloc);
