@@ -2,7 +2,7 @@
 #![tactic(auto)]
 
 use am_text::{Items, Range, Runes, decode_whole};
-use re_spans::{Re, first_match};
+use re_spans::{Re, first_match, groups, matches_span, successive_matches};
 use re_syntax::parse_re;
 use std::alloc::{AllocError, Global};
 use std::rt::{Clock, Env};
@@ -20,7 +20,7 @@ type Search = (
     usize,
 );
 
-const SEARCHES: [Search; 8] = [
+const SEARCHES: [Search; 9] = [
     ("", "(a|b)*c", "", 0, "ab", 2_000),
     ("", "(a|b)*c", "", 0, "ab", 4_000),
     ("", "[a-z]+\\.c", "", 0, "main", 100_000),
@@ -29,7 +29,36 @@ const SEARCHES: [Search; 8] = [
     ("a", "a", "", 1_023, "a", 100_000),
     ("(", "a", ")a", 682, "a", 100_000),
     ("", "a", "*", 2_047, "a", 100_000),
+    ("", "main", "", 0, "main", 100_000),
 ];
+
+// Searches for all matches one after another.
+const SUCCESSIVE: [Search; 3] = [
+    ("", ".", "", 0, "main", 20_000),
+    ("", ".", "", 0, "main", 40_000),
+    ("", "[a-z]+ ", "", 0, "main ", 40_000),
+];
+
+// Searches for the groups of the whole text.
+const GROUPS: [Search; 2] = [
+    ("", "(.)*", "", 0, "main", 20_000),
+    ("", "(.)*", "", 0, "main", 40_000),
+];
+
+// What a search asks for.
+#[derive(Clone, Copy)]
+enum Call {
+    First,
+    Successive,
+    Groups,
+}
+
+// What it finds: a range, or how many.
+#[derive(Clone, Copy)]
+enum Found {
+    Span(Option<Range>),
+    Count(usize),
+}
 
 fn runes(alloc: Global, text: &str) -> Result<Runes, AllocError> {
     decode_whole(alloc, text.as_bytes()).map_err(|_| AllocError)
@@ -72,8 +101,39 @@ fn tree(alloc: Global, expression: &Runes) -> Result<Re, AllocError> {
     }
 }
 
-fn first(alloc: Global, re: &Re, text: &Runes) -> Result<Option<Range>, AllocError> {
-    first_match(alloc, re, text, 0, text.len(), None).map_err(|_| AllocError)
+fn first(alloc: Global, re: &Re, text: &Runes) -> Result<Found, AllocError> {
+    let found = first_match(alloc, re, text, 0, text.len(), None).map_err(|_| AllocError)?;
+    Ok(Found::Span(found))
+}
+
+fn successive(alloc: Global, re: &Re, text: &Runes) -> Result<Found, AllocError> {
+    let all = successive_matches(alloc, re, text, 0, text.len()).map_err(|_| AllocError)?;
+    Ok(Found::Count(all.len()))
+}
+
+// The first group of the whole text.
+fn first_group(alloc: Global, re: &Re, text: &Runes) -> Result<Found, AllocError> {
+    let span = Range {
+        q0: 0,
+        q1: text.len(),
+    };
+    if !matches_span(alloc, re, text, 0, text.len()).map_err(|_| AllocError)? {
+        return Ok(Found::Span(None));
+    }
+    let all = groups(alloc, re, text, span).map_err(|_| AllocError)?;
+    let ranges = all.as_slice();
+    if ranges.len() < 2 {
+        return Ok(Found::Span(None));
+    }
+    Ok(Found::Span(ranges[1]))
+}
+
+fn answer(alloc: Global, call: Call, re: &Re, text: &Runes) -> Result<Found, AllocError> {
+    match call {
+        Call::First => first(alloc, re, text),
+        Call::Successive => successive(alloc, re, text),
+        Call::Groups => first_group(alloc, re, text),
+    }
 }
 
 // A line for a search, with its time if that is asked for.
@@ -81,6 +141,7 @@ fn run<R: Clock + Print>(
     rt: &R,
     alloc: Global,
     number: usize,
+    call: Call,
     search: Search,
     part: usize,
     is_timed: bool,
@@ -88,12 +149,13 @@ fn run<R: Clock + Print>(
     let re = tree(alloc, &expression(alloc, search)?)?;
     let text = repeated(alloc, search.4, search.5 / part.max(1))?;
     let start = Instant::now(rt)?;
-    let found = first(alloc, &re, &text)?;
+    let found = answer(alloc, call, &re, &text)?;
     let micros = start.elapsed(rt)?.as_micros();
     print!(rt; "search {number}, {} runes: ", text.len())?;
     match found {
-        Some(span) => print!(rt; "{} to {}", span.q0, span.q1)?,
-        None => print!(rt; "no match")?,
+        Found::Span(Some(span)) => print!(rt; "{} to {}", span.q0, span.q1)?,
+        Found::Span(None) => print!(rt; "no match")?,
+        Found::Count(count) => print!(rt; "{count} matches")?,
     }
     if is_timed {
         print!(rt; ", {micros} microseconds")?;
@@ -109,14 +171,35 @@ fn number_asked<R: Env + Alloc>(rt: &R) -> io::Result<Option<usize>> {
     Ok(word.as_str().parse().ok())
 }
 
+// The line of this search, or of a twentieth of it where none is asked for.
+fn run_asked<R: Clock + Print>(
+    rt: &R,
+    alloc: Global,
+    asked: Option<usize>,
+    number: usize,
+    call: Call,
+    search: Search,
+) -> io::Result<()> {
+    match asked {
+        Some(n) if n == number => run(rt, alloc, number, call, search, 1, true),
+        Some(_) => Ok(()),
+        None => run(rt, alloc, number, call, search, 20, false),
+    }
+}
+
 fn main(rt: HostRuntime) -> io::Result<()> {
     let asked = number_asked(&rt)?;
-    for number in 0..SEARCHES.len() {
-        match asked {
-            Some(n) if n == number => run(&rt, rt.alloc(), number, SEARCHES[number], 1, true)?,
-            Some(_) => {}
-            None => run(&rt, rt.alloc(), number, SEARCHES[number], 20, false)?,
-        }
+    let alloc = rt.alloc();
+    for n in 0..SEARCHES.len() {
+        run_asked(&rt, alloc, asked, n, Call::First, SEARCHES[n])?;
+    }
+    for n in 0..SUCCESSIVE.len() {
+        let number = SEARCHES.len() + n;
+        run_asked(&rt, alloc, asked, number, Call::Successive, SUCCESSIVE[n])?;
+    }
+    for n in 0..GROUPS.len() {
+        let number = SEARCHES.len() + SUCCESSIVE.len() + n;
+        run_asked(&rt, alloc, asked, number, Call::Groups, GROUPS[n])?;
     }
     Ok(())
 }

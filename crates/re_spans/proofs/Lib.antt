@@ -3,6 +3,15 @@ pub mod Orders
 pub mod Marking
 pub mod LeafMarks
 pub mod Stepping
+pub mod Sets
 pub mod Searching
+pub mod Walking
 pub mod Choosing
 pub mod Splitting
+pub mod Least
+pub mod Tested
+pub mod Chosen
+pub mod Following
+pub mod Around
+pub mod LawLemmas
+pub mod Grouped

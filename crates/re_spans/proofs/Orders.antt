@@ -1,8 +1,9 @@
 -- Places in the order of a search.
-use Rattle.std.proofs.Common.{◌≡◌, ℕ, ◌<◌, ◌≤◌, ◌⊎◌, ◌+◌, inl, inr, refl, arith}
+use Rattle.std.proofs.Common.{◌≡◌, ℕ, ◌<◌, ◌≤◌, ◌⊎◌, ◌+◌, ◌-◌, length, inl, inr, arith}
 use Rattle.std.proofs.lemmas.Bool.{cases_lt}
 use Rattle.re_spans.specs.Reached.{Along}
-use Rattle.re_spans.specs.Turns.{place_at, lower}
+use Rattle.re_spans.specs.Places.{Cells, past}
+use Rattle.re_spans.specs.Turns.{place_at, StaysInside, first, lower}
 use Rattle.re_spans.specs.declared.way.Way.{Way}
 use Rattle.re_spans.specs.declared.way.Way.TheVariants.{On, Back}
 use Rattle.re_spans.proofs.Ways.{LeadsOn}
@@ -62,27 +63,53 @@ before_next Back k i n e l = elim (cases_lt i k) [ inl x ↦ inl x | inr y ↦ i
 
 -- ---- turns
 
-pub turns_next : (way : Way) (w n : ℕ) → n + 1 < w → Next way (place_at way w n) (place_at way w (n + 1))
-turns_next On w n l = refl
-turns_next Back w n l = omega arith
+pub turns_next : (way : Way) (at n count : ℕ) → StaysInside way at (n + 1) count → Next way (place_at way at n) (place_at way at (n + 1))
+turns_next On at n count f = omega arith
+turns_next Back at n count f = omega (arith, f.0)
 
-pub turns_lower : (way : Way) (w n m : ℕ) → n + 1 < w → w ≤ m + 1 → lower way (place_at way w n) (place_at way w (n + 1)) < m
-turns_lower On w n m l h = omega arith
-turns_lower Back w n m l h = omega arith
+pub turns_lower : (way : Way) (at n count : ℕ) → StaysInside way at (n + 1) count → lower way (place_at way at n) (place_at way at (n + 1)) < count
+turns_lower On at n count f = omega (arith, f)
+turns_lower Back at n count f = omega (arith, f.0, f.1)
 
-pub turn_of : (way : Way) (w j : ℕ) → j < w → (place_at way w j < w) × (place_at way w (place_at way w j) ≡ j)
-turn_of On w j l = (l, refl)
-turn_of Back w j l = (omega arith, omega arith)
+pub turns_inside : (way : Way) (at n count : ℕ) → StaysInside way at n count → place_at way at n ≤ count
+turns_inside On at n count f = f
+turns_inside Back at n count f = omega (arith, f.0, f.1)
 
-pub turns_before : (way : Way) (w k n : ℕ) → k < w → Before way k (place_at way w n) → place_at way w k < n
-turns_before On w k n l b = b
-turns_before Back w k n l b = omega arith
+pub fewer_turns : (way : Way) (at m n count : ℕ) → m ≤ n → StaysInside way at n count → StaysInside way at m count
+fewer_turns On at m n count l f = omega (arith, l, f)
+fewer_turns Back at m n count l f = (omega (arith, l, f.0), f.1)
 
--- the place of a turn, and the turn of a place
-pub turn_is : (way : Way) (w n j : ℕ) → n < w → j < w → place_at way w j ≡ n → j ≡ place_at way w n
-turn_is On w n j l m e = e
-turn_is Back w n j l m e = omega arith
+pub longer_text : (way : Way) (at n count more : ℕ) → count ≤ more → StaysInside way at n count → StaysInside way at n more
+longer_text On at n count more l f = omega (arith, l, f)
+longer_text Back at n count more l f = (f.0, omega (arith, l, f.1))
 
-pub turn_there : (way : Way) (w n : ℕ) → n < w → place_at way w (place_at way w n) ≡ n
-turn_there On w n l = refl
-turn_there Back w n l = omega arith
+pub no_turn : (way : Way) (at : ℕ) → place_at way at 0 ≡ at
+no_turn On at = omega arith
+no_turn Back at = omega arith
+
+pub turns_before : (way : Way) (at n count : ℕ) → 0 < n → StaysInside way at n count → Before way at (place_at way at n)
+turns_before On at n count l f = omega (arith, l)
+turns_before Back at n count l f = omega (arith, l, f.0)
+
+-- ---- the turns of a search through a set
+
+pub first_fits : (way : Way) (s : Cells) (n count : ℕ) → n < length s.cells → past s ≤ count + 1 → StaysInside way (first way s) n count
+first_fits On s n count l p = omega (arith, l, p)
+first_fits Back s n count l p = (omega (arith, l), omega (arith, l, p))
+
+pub spot_inside : (way : Way) (s : Cells) (n : ℕ) → n < length s.cells → (s.low ≤ place_at way (first way s) n) × (place_at way (first way s) n < past s)
+spot_inside On s n l = (omega (arith, l), omega (arith, l))
+spot_inside Back s n l = (omega (arith, l), omega (arith, l))
+
+pub spot_other : (way : Way) (s : Cells) (m n : ℕ) → m < length s.cells → n < length s.cells → place_at way (first way s) m ≡ place_at way (first way s) n → m ≡ n
+spot_other On s m n l k e = omega (arith, l, k, e)
+spot_other Back s m n l k e = omega (arith, l, k, e)
+
+-- each place of the set has its turn
+pub turn_of : (way : Way) (s : Cells) (j : ℕ) → s.low ≤ j → j < past s → (n : ℕ) × (n < length s.cells) × (place_at way (first way s) n ≡ j)
+turn_of On s j l p = (j - s.low, omega (arith, l, p), omega (arith, l, p))
+turn_of Back s j l p = (past s - 1 - j, omega (arith, l, p), omega (arith, l, p))
+
+pub first_is_first : (way : Way) (s : Cells) (k : ℕ) → s.low ≤ k → k < past s → Before way k (place_at way (first way s) 0) → ⊥
+first_is_first On s k l p b = omega (arith, l, p, b)
+first_is_first Back s k l p b = omega (arith, l, p, b)

@@ -1,34 +1,42 @@
 -- Where the first part of a span ends.
-use Rattle.std.proofs.Common.{◌≡◌, ℕ, zero, suc, ◌+◌, ◌<◌, ◌≤◌, Bool, List, length, Option, Some, None, arith}
-use Rattle.std.specs.Prelude.{IsTrue, ◌↔◌}
+use Rattle.std.proofs.Common.{◌≡◌, ℕ, zero, suc, ◌+◌, ◌-◌, ◌<◌, ◌≤◌, Option, Some, None, subst, arith}
+use Rattle.std.specs.Prelude.{IsTrue}
 use Rattle.re_syntax.specs.Match.{Repeats, Pieces, Joins}
 use Rattle.re_syntax.specs.Groups.{IsLongest, AheadBy, Walk}
 use Rattle.am_text.specs.declared.range.Range.{Range}
-use Rattle.re_spans.specs.Places.{has}
-use Rattle.re_spans.specs.Pieces.{Past}
-use Rattle.re_spans.proofs.Ways.{LeadsOn, has_within}
+use Rattle.re_spans.specs.Places.{Cells, has}
+use Rattle.re_spans.specs.Pieces.{Past, AreStartsOf}
+use Rattle.re_spans.specs.Choice.{LeadsTo, AmongThose, IsGreatestOf, HasNone}
+use Rattle.re_spans.specs.declared.way.Way.TheVariants.{On}
+use Rattle.re_spans.proofs.Ways.{LeadsOn}
 
-module _ (R S : ℕ → ℕ → Type 0) (i j count low : ℕ) (ends starts : List Bool) (on_r : LeadsOn R) (on_s : LeadsOn S) (wide : count ≡ j + 1) (long : length ends ≡ count) (te : (k : ℕ) → k < count → IsTrue (has ends k) ↔ R i k) (ts : (k : ℕ) → k < count → IsTrue (has starts k) ↔ S k j) where
-  pub split_some : (k : ℕ) → low ≤ k → IsTrue (has ends k) → IsTrue (has starts k) → ((m : ℕ) → low ≤ m → IsTrue (has ends m) → IsTrue (has starts m) → m ≤ k) → (i ≤ k) × (k ≤ j) × IsLongest (Past low R) S i j k
-  split_some k l he hs most =
-      let inside : k < count = omega (arith, long, has_within ends k he) in
-      let r : R i k = (te k inside).0 he in
-      let s : S k j = (ts k inside).0 hs in (
-        on_r i k r,
-        on_s k j s,
+module _ (R S : ℕ → ℕ → Type 0) (i j low : ℕ) (starts : Cells) (on_r : LeadsOn R) (on_s : LeadsOn S) (order : i ≤ j) (tells : AreStartsOf S i j starts) where
+  -- a first part is as many places long
+  parted : (m : ℕ) → Past low R i m → S m j → (m - i ≤ j - i) × LeadsTo On R i (AmongThose starts low i) (m - i)
+  parted m p s =
+      let after : i ≤ m = on_r i m p.1 in
+      let same : m ≡ i + (m - i) = omega (arith, after) in
+      let inside : m ≤ j = on_s m j s in
+      (omega (arith, inside), (subst (λ (x : ℕ). R i x) same p.1, (omega (arith, p.0, after), subst (λ (x : ℕ). IsTrue (has starts x)) same ((tells m after inside).1 s))))
+
+  pub split_some : (d : ℕ) → IsGreatestOf (LeadsTo On R i (AmongThose starts low i)) (j - i) d → (i ≤ i + d) × (i + d ≤ j) × IsLongest (Past low R) S i j (i + d)
+  split_some d g =
+      let inside : i + d ≤ j = omega (arith, g.inside, order) in (
+        omega arith,
+        inside,
         (
-          (l, r),
-          s,
-          λ m p q.
-              let here : m < count = omega (arith, on_s m j q) in
-              most m p.0 ((te m here).1 p.1) ((ts m here).1 q),
+          (g.has.1.0, g.has.0),
+          (tells (i + d) (omega arith) inside).0 g.has.1.1,
+          λ m p s. let x = parted m p s in omega (arith, g.most (m - i) x.0 x.1, on_r i m p.1),
         ),
       )
 
-  pub split_none : ((m : ℕ) → low ≤ m → IsTrue (has ends m) → IsTrue (has starts m) → ⊥) → Joins (Past low R) S i j → ⊥
-  split_none none p =
-      let here : p.0 < count = omega (arith, on_s p.0 j p.2) in
-      none p.0 p.1.0 ((te p.0 here).1 p.1.1) ((ts p.0 here).1 p.2)
+  pub split_none : HasNone (LeadsTo On R i (AmongThose starts low i)) (j - i) → Joins (Past low R) S i j → ⊥
+  split_none none p = let x = parted p.0 p.1 p.2 in none (p.0 - i) x.0 x.1
+
+-- the same set tells of a later part of the span
+pub later_starts : (S : ℕ → ℕ → Type 0) (i k j : ℕ) (s : Cells) → i ≤ k → AreStartsOf S i j s → AreStartsOf S k j s
+later_starts S i k j s l tells m a b = tells m (omega (arith, l, a)) b
 
 pub joins_past : (R S : ℕ → ℕ → Type 0) (i j : ℕ) → LeadsOn R → Joins R S i j → Joins (Past i R) S i j
 joins_past R S i j on p = (p.0, (on i p.0 p.1, p.1), p.2)

@@ -1,12 +1,10 @@
 -- No match ends before it begins; pieces one after another.
-use Rattle.std.proofs.Common.{◌≡◌, ℕ, zero, suc, ◌<◌, ◌≤◌, ◌⊎◌, ◌==◌, Bool, false, not, List, length, refl, sym, subst, inl, inr, arith}
+use Rattle.std.proofs.Common.{◌≡◌, ℕ, zero, suc, ◌<◌, ◌≤◌, ◌⊎◌, ◌==◌, Bool, not, List, refl, sym, subst, inl, inr, arith}
 use Rattle.std.specs.Prelude.{IsTrue}
-use Rattle.std.proofs.lemmas.List.{get_or_past}
 use Rattle.std.proofs.lemmas.Bool.{cases_lt}
 use Rattle.std.proofs.lemmas.Bool.Decides.{nat_tests}
 use Rattle.re_syntax.specs.Tree.{Tree, Letter, AnyLetter, OneOf, LineStart, LineEnd, Then, Either, Many, Several, Maybe, Group}
 use Rattle.re_syntax.specs.Match.{Matches, Pieces, Repeats, Joins, one_rune, line_start, line_end, is_in_class}
-use Rattle.re_spans.specs.Places.{has}
 
 -- ---- no match ends before it begins
 
@@ -44,15 +42,6 @@ Matches-on (Many a) t i j m = Pieces-on (Matches a t) m.0 i j m.1
 Matches-on (Several a) t i j m = omega (arith, Matches-on a t i m.0 m.1, Pieces-on (Matches a t) m.2.0 m.0 j m.2.1)
 Matches-on (Maybe a) t i j m = elim m [ inl x ↦ Matches-on a t i j x | inr e ↦ omega arith ]
 Matches-on (Group n a) t i j m = Matches-on a t i j m
-
--- ---- sets
-
-pub has_within : (s : List Bool) (j : ℕ) → IsTrue (has s j) → j < length s
-has_within s j t =
-    elim (cases_lt j (length s)) [
-      | inl l ↦ l
-      | inr m ↦ absurd (cc (get_or_past s j false m, t))
-    ]
 
 -- ---- pieces
 

@@ -5,3 +5,8 @@ pub mod Marks
 pub mod Reached
 pub mod Choice
 pub mod Pieces
+pub mod Search
+pub mod Successive
+pub mod Over
+pub mod Laws
+pub mod Groups

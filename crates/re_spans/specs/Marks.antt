@@ -31,6 +31,12 @@ with_mark k (OfLeaf old) = OfLeaf k
 with_mark k (OfOne old s) = OfOne k s
 with_mark k (OfTwo old s u) = OfTwo k s u
 
+-- a match of some part can go on from here
+abbrev pub is_alive : Marking → Bool
+is_alive (OfLeaf k) = k.led
+is_alive (OfOne k s) = k.led || is_alive s
+is_alive (OfTwo k s u) = k.led || (is_alive s || is_alive u)
+
 -- the part is left here, where it is entered or not
 abbrev pub passes : Mark → Bool → Bool
 passes k entered = k.led || (entered && k.null)

@@ -1,16 +1,70 @@
-//! Which of the spans is taken.
+//! Which of the matches is taken.
 
-ghost use Rattle.std.specs.Prelude.{◌≡◌, ◌<◌, ◌≤◌, ◌+◌, ℕ, length, IfOk, IfSome, IfNone, IsTrue, Some, ◌↔◌};
+ghost use Rattle.std.specs.Prelude.{◌≡◌, ◌<◌, ◌≤◌, ◌+◌, ℕ, length, IfOk, IfSome, IfNone, IsTrue, ◌↔◌};
 ghost use Rattle.re_syntax.specs.Tree.{tree};
-ghost use Rattle.re_spans.specs.Choice.{passes, is_at, IsLongestFrom, IsLongestTo};
-ghost use Rattle.re_syntax.specs.Match.{Matches, IsSpan, IsFirst, IsLast, HasNoSpan};
+ghost use Rattle.re_syntax.specs.Match.{Matches, IsFirst, IsLast, HasNoSpan};
+ghost use Rattle.re_spans.specs.Places.{past};
+ghost use Rattle.re_spans.specs.Choice.{is_at, IsAllowed, IsLongestFrom, IsLongestTo, HasStarts, HasEnds};
+ghost use Rattle.re_spans.specs.Search.{first_span, last_span, IsBetween};
 
-use crate::places::Places;
+use crate::places::{Places, count_of};
 use crate::reach::reach;
+use crate::walk::farthest;
 use crate::way::Way;
 use am_text::{Letters, NoMemory, Range};
 use re_syntax::Re;
 use std::alloc::Global;
+
+fn is_at(place: Option<usize>, at: usize) -> bool
+    ensures { result ≡ is_at place at }
+{
+    match place {
+        Some(p) => p == at,
+        None => false,
+    }
+}
+
+/// The end of the longest match from i on that ends at high or before, but not the null one at no_null.
+pub fn longest_from<T: Letters>(
+    alloc: Global,
+    re: &Re,
+    text: &T,
+    i: usize,
+    high: usize,
+    no_null: Option<usize>,
+) -> Result<Option<usize>, NoMemory>
+    requires order { i ≤ high }
+    requires within { high ≤ length (T.letters text.now) }
+    ensures some { IfOk result (λ answer. IfSome answer (IsLongestFrom (Matches (tree re.now) (T.letters text.now)) i high no_null)) }
+    ensures none { IfOk result (λ answer. IfNone answer ((j : ℕ) → j ≤ high → Matches (tree re.now) (T.letters text.now) i j → IsAllowed no_null i j → ⊥)) }
+{
+    let found = farthest(alloc, re, text, Way::On, i, high - i, is_at(no_null, i))?;
+    match found {
+        Some(turns) => Ok(Some(i + turns)),
+        None => Ok(None),
+    }
+}
+
+// The beginning of the longest match up to j from low on, but not the null one at no_null.
+fn longest_to<T: Letters>(
+    alloc: Global,
+    re: &Re,
+    text: &T,
+    low: usize,
+    j: usize,
+    no_null: Option<usize>,
+) -> Result<Option<usize>, NoMemory>
+    requires order { low ≤ j }
+    requires within { j ≤ length (T.letters text.now) }
+    ensures some { IfOk result (λ answer. IfSome answer (IsLongestTo (Matches (tree re.now) (T.letters text.now)) low j no_null)) }
+    ensures none { IfOk result (λ answer. IfNone answer ((i : ℕ) → low ≤ i → Matches (tree re.now) (T.letters text.now) i j → IsAllowed no_null i j → ⊥)) }
+{
+    let found = farthest(alloc, re, text, Way::Back, j, j - low, is_at(no_null, j))?;
+    match found {
+        Some(turns) => Ok(Some(j - turns)),
+        None => Ok(None),
+    }
+}
 
 /// Whether the tree matches the text from i up to j.
 pub fn matches_span<T: Letters>(
@@ -24,112 +78,74 @@ pub fn matches_span<T: Letters>(
     requires within { j ≤ length (T.letters text.now) }
     ensures { IfOk result (λ yes. IsTrue yes ↔ Matches (tree re.now) (T.letters text.now) i j) }
 {
-    let _len = text.len();
-    let Some(count) = j.checked_add(1) else {
-        return Err(NoMemory);
-    };
-    let from = Places::one(alloc, count, i)?;
-    let ends = reach(alloc, re, text, Way::On, &from)?;
-    Ok(ends.has(j))
-}
-
-// The last place of the set; where skip holds, i doesn't count.
-fn last_of(places: &Places, i: usize, skip: bool) -> Option<usize>
-    ensures some { IfSome result (λ j. IsTrue (passes places.now i skip j) × ((k : ℕ) → IsTrue (passes places.now i skip k) → k ≤ j)) }
-    ensures none { IfNone result ((k : ℕ) → IsTrue (passes places.now i skip k) → ⊥) }
-{
-    let mut best = None;
-    for j in 0..places.count() {
-        if places.has(j) && !(skip && j == i) {
-            best = Some(j);
-        }
-    }
-    best
-}
-
-// The first place of the set from low on; where skip holds, j doesn't count.
-fn first_of(places: &Places, low: usize, j: usize, skip: bool) -> Option<usize>
-    ensures some { IfSome result (λ i. (low ≤ i) × IsTrue (passes places.now j skip i) × ((k : ℕ) → low ≤ k → IsTrue (passes places.now j skip k) → i ≤ k)) }
-    ensures none { IfNone result ((k : ℕ) → low ≤ k → IsTrue (passes places.now j skip k) → ⊥) }
-{
-    for i in low..places.count() {
-        if places.has(i) && !(skip && i == j) {
-            return Some(i);
-        }
-    }
-    None
-}
-
-fn is_at(place: Option<usize>, at: usize) -> bool
-    ensures { result ≡ is_at place at }
-{
-    match place {
-        Some(p) => p == at,
-        None => false,
+    let found = longest_from(alloc, re, text, i, j, None)?;
+    match found {
+        Some(end) => Ok(end == j),
+        None => Ok(false),
     }
 }
 
-// The end of the longest match from i on among so many places, but not the null one at no_null.
-fn longest_from<T: Letters>(
+/// The places at which the matches begin that are inside these bounds.
+pub fn starts<T: Letters>(
     alloc: Global,
     re: &Re,
     text: &T,
-    i: usize,
-    count: usize,
-    no_null: Option<usize>,
-) -> Result<Option<usize>, NoMemory>
-    requires inside { i < count }
-    requires within { count ≤ length (T.letters text.now) + 1 }
-    ensures some { IfOk result (λ answer. IfSome answer (IsLongestFrom (Matches (tree re.now) (T.letters text.now)) i count no_null)) }
-    ensures none { IfOk result (λ answer. IfNone answer ((j : ℕ) → j < count → Matches (tree re.now) (T.letters text.now) i j → (i ≡ j → no_null ≡ Some i → ⊥) → ⊥)) }
+    from: usize,
+    end: usize,
+) -> Result<Places, NoMemory>
+    requires order { from ≤ end }
+    requires within { end ≤ length (T.letters text.now) }
+    ensures low { IfOk result (λ set. set.low ≡ from) }
+    ensures past { IfOk result (λ set. past set ≡ end + 1) }
+    ensures starts { IfOk result (HasStarts (Matches (tree re.now) (T.letters text.now)) from end) }
 {
-    let from = Places::one(alloc, count, i)?;
-    let ends = reach(alloc, re, text, Way::On, &from)?;
-    Ok(last_of(&ends, i, is_at(no_null, i)))
+    let ends = Places::all(alloc, from, end)?;
+    let set = reach(alloc, re, text, Way::Back, &ends)?;
+    Ok(set)
 }
 
-// The beginning of the longest match up to j from low on, but not the null one at no_null.
-fn longest_to<T: Letters>(
+// The places at which the matches end that are inside these bounds.
+fn ends<T: Letters>(
     alloc: Global,
     re: &Re,
     text: &T,
-    low: usize,
-    j: usize,
-    count: usize,
-    no_null: Option<usize>,
-) -> Result<Option<usize>, NoMemory>
-    requires inside { j < count }
-    requires within { count ≤ length (T.letters text.now) + 1 }
-    ensures some { IfOk result (λ answer. IfSome answer (IsLongestTo (Matches (tree re.now) (T.letters text.now)) low j no_null)) }
-    ensures none { IfOk result (λ answer. IfNone answer ((i : ℕ) → low ≤ i → Matches (tree re.now) (T.letters text.now) i j → (i ≡ j → no_null ≡ Some i → ⊥) → ⊥)) }
+    start: usize,
+    to: usize,
+) -> Result<Places, NoMemory>
+    requires order { start ≤ to }
+    requires within { to ≤ length (T.letters text.now) }
+    ensures low { IfOk result (λ set. set.low ≡ start) }
+    ensures past { IfOk result (λ set. past set ≡ to + 1) }
+    ensures ends { IfOk result (HasEnds (Matches (tree re.now) (T.letters text.now)) start to) }
 {
-    let from = Places::one(alloc, count, j)?;
-    let starts = reach(alloc, re, text, Way::Back, &from)?;
-    Ok(first_of(&starts, low, j, is_at(no_null, j)))
+    let starts = Places::all(alloc, start, to)?;
+    let set = reach(alloc, re, text, Way::On, &starts)?;
+    Ok(set)
 }
 
-/// The span that begins first, and of those the longest, inside from and end, leaving out the null one at no_null.
-pub fn first_match<T: Letters>(
+// The match that begins first, and of those the longest. The set has each place at which one begins.
+fn earliest<T: Letters>(
     alloc: Global,
     re: &Re,
     text: &T,
+    starts: &Places,
     from: usize,
     end: usize,
     no_null: Option<usize>,
 ) -> Result<Option<Range>, NoMemory>
     requires order { from ≤ end }
     requires within { end ≤ length (T.letters text.now) }
+    requires low { starts.now.low ≤ from }
+    requires past { past starts.now ≡ end + 1 }
+    requires starts { HasStarts (Matches (tree re.now) (T.letters text.now)) from end starts.now }
     ensures found { IfOk result (λ answer. IfSome answer (IsFirst (tree re.now) (T.letters text.now) from end no_null)) }
     ensures none { IfOk result (λ answer. IfNone answer (HasNoSpan (tree re.now) (T.letters text.now) from end no_null)) }
 {
-    let Some(count) = end.checked_add(1) else {
-        return Err(NoMemory);
-    };
-    let ends = Places::from(alloc, count, from)?;
-    let starts = reach(alloc, re, text, Way::Back, &ends)?;
-    for i in from..count {
+    let count = count_of(from, end)?;
+    for n in 0..count {
+        let i = from + n;
         if starts.has(i) {
-            if let Some(j) = longest_from(alloc, re, text, i, count, no_null)? {
+            if let Some(j) = longest_from(alloc, re, text, i, end, no_null)? {
                 return Ok(Some(Range { q0: i, q1: j }));
             }
         }
@@ -137,8 +153,8 @@ pub fn first_match<T: Letters>(
     Ok(None)
 }
 
-/// The span that ends last, and of those the longest, inside start and to, leaving out the null one at no_null.
-pub fn last_match<T: Letters>(
+// The match that ends last, and of those the longest.
+fn latest<T: Letters>(
     alloc: Global,
     re: &Re,
     text: &T,
@@ -151,20 +167,83 @@ pub fn last_match<T: Letters>(
     ensures found { IfOk result (λ answer. IfSome answer (IsLast (tree re.now) (T.letters text.now) start to no_null)) }
     ensures none { IfOk result (λ answer. IfNone answer (HasNoSpan (tree re.now) (T.letters text.now) start to no_null)) }
 {
-    let Some(count) = to.checked_add(1) else {
-        return Err(NoMemory);
-    };
-    let starts = Places::from(alloc, count, start)?;
-    let ends = reach(alloc, re, text, Way::On, &starts)?;
-    let mut rest = count;
-    while start < rest {
-        let j = rest - 1;
+    let ends = ends(alloc, re, text, start, to)?;
+    let count = count_of(start, to)?;
+    for n in 0..count {
+        let j = to - n;
         if ends.has(j) {
-            if let Some(i) = longest_to(alloc, re, text, start, j, count, no_null)? {
+            if let Some(i) = longest_to(alloc, re, text, start, j, no_null)? {
                 return Ok(Some(Range { q0: i, q1: j }));
             }
         }
-        rest = j;
     }
     Ok(None)
+}
+
+/// The match that begins first, and of those the longest. The set has each place at which one begins.
+pub fn first_among<T: Letters>(
+    alloc: Global,
+    re: &Re,
+    text: &T,
+    starts: &Places,
+    from: usize,
+    end: usize,
+    no_null: Option<usize>,
+) -> Result<Option<Range>, NoMemory>
+    requires order { from ≤ end }
+    requires within { end ≤ length (T.letters text.now) }
+    requires low { starts.now.low ≤ from }
+    requires past { past starts.now ≡ end + 1 }
+    requires starts { HasStarts (Matches (tree re.now) (T.letters text.now)) from end starts.now }
+    ensures found { IfOk result (λ answer. IfSome answer (IsFirst (tree re.now) (T.letters text.now) from end no_null)) }
+    ensures none { IfOk result (λ answer. IfNone answer (HasNoSpan (tree re.now) (T.letters text.now) from end no_null)) }
+    ensures value { IfOk result (λ answer. answer ≡ first_span (tree re.now) (T.letters text.now) from end no_null) }
+    ensures inside { IfOk result (λ answer. IfSome answer (IsBetween from end)) }
+{
+    let found = earliest(alloc, re, text, starts, from, end, no_null)?;
+    Ok(found)
+}
+
+/// The match that begins first, and of those the longest, inside from and end, leaving out the null one at no_null.
+///
+/// There is none only where no match is inside these bounds.
+pub fn first_match<T: Letters>(
+    alloc: Global,
+    re: &Re,
+    text: &T,
+    from: usize,
+    end: usize,
+    no_null: Option<usize>,
+) -> Result<Option<Range>, NoMemory>
+    requires order { from ≤ end }
+    requires within { end ≤ length (T.letters text.now) }
+    ensures found { IfOk result (λ answer. IfSome answer (IsFirst (tree re.now) (T.letters text.now) from end no_null)) }
+    ensures none { IfOk result (λ answer. IfNone answer (HasNoSpan (tree re.now) (T.letters text.now) from end no_null)) }
+    ensures value { IfOk result (λ answer. answer ≡ first_span (tree re.now) (T.letters text.now) from end no_null) }
+    ensures inside { IfOk result (λ answer. IfSome answer (IsBetween from end)) }
+{
+    let starts = starts(alloc, re, text, from, end)?;
+    first_among(alloc, re, text, &starts, from, end, no_null)
+}
+
+/// The match that ends last, and of those the longest, inside start and to, leaving out the null one at no_null.
+///
+/// There is none only where no match is inside these bounds.
+pub fn last_match<T: Letters>(
+    alloc: Global,
+    re: &Re,
+    text: &T,
+    start: usize,
+    to: usize,
+    no_null: Option<usize>,
+) -> Result<Option<Range>, NoMemory>
+    requires order { start ≤ to }
+    requires within { to ≤ length (T.letters text.now) }
+    ensures found { IfOk result (λ answer. IfSome answer (IsLast (tree re.now) (T.letters text.now) start to no_null)) }
+    ensures none { IfOk result (λ answer. IfNone answer (HasNoSpan (tree re.now) (T.letters text.now) start to no_null)) }
+    ensures value { IfOk result (λ answer. answer ≡ last_span (tree re.now) (T.letters text.now) start to no_null) }
+    ensures inside { IfOk result (λ answer. IfSome answer (IsBetween start to)) }
+{
+    let found = latest(alloc, re, text, start, to, no_null)?;
+    Ok(found)
 }

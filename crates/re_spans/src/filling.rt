@@ -5,40 +5,18 @@ ghost use Rattle.re_syntax.specs.Tree.{tree};
 ghost use Rattle.re_syntax.specs.Match.{Matches, Repeats, Joins};
 ghost use Rattle.re_syntax.specs.Groups.{Sets, AreGroups, IsLongest, AheadBy, Walk, PlusWalk};
 ghost use Rattle.am_text.specs.declared.range.Range.{Range};
-ghost use Rattle.re_spans.specs.Places.{has};
-ghost use Rattle.re_spans.specs.Pieces.{IsPiece, Past};
+ghost use Rattle.re_spans.specs.Places.{past};
+ghost use Rattle.re_spans.specs.Pieces.{IsPiece, Past, AreStartsOf};
+ghost use Rattle.re_spans.specs.Groups.{groups_of};
 
 use crate::choice::matches_span;
 use crate::places::Places;
 use crate::reach::{many, reach};
+use crate::walk::farthest_among;
 use crate::way::Way;
 use am_text::{Items, Letters, NoMemory, Range};
 use re_syntax::{Groups, Re};
 use std::alloc::Global;
-
-// The last place from low on that both sets have.
-fn last_common(a: &Places, b: &Places, low: usize) -> Option<usize>
-    requires { length a.now ≡ length b.now }
-    ensures some { IfSome result (λ k. (low ≤ k) × IsTrue (has a.now k) × IsTrue (has b.now k) × ((m : ℕ) → low ≤ m → IsTrue (has a.now m) → IsTrue (has b.now m) → m ≤ k)) }
-    ensures none { IfNone result ((m : ℕ) → low ≤ m → IsTrue (has a.now m) → IsTrue (has b.now m) → ⊥) }
-{
-    let mut best = None;
-    for k in low..a.count() {
-        if a.has(k) && b.has(k) {
-            best = Some(k);
-        }
-    }
-    best
-}
-
-fn count_to(place: usize) -> Result<usize, NoMemory>
-    ensures { IfOk result (λ count. count ≡ place + 1) }
-{
-    match place.checked_add(1) {
-        Some(count) => Ok(count),
-        None => Err(NoMemory),
-    }
-}
 
 // Where the first of two parts ends, where it is as long as it can be.
 fn first_part<T: Letters>(
@@ -54,15 +32,32 @@ fn first_part<T: Letters>(
     requires joins { Joins (Matches (tree a.now) (T.letters text.now)) (Matches (tree b.now) (T.letters text.now)) i j }
     ensures { IfOk result (λ k. (i ≤ k) × (k ≤ j) × IsLongest (AheadBy 0 (Matches (tree a.now) (T.letters text.now))) (Matches (tree b.now) (T.letters text.now)) i j k) }
 {
-    let count = count_to(j)?;
-    let here = Places::one(alloc, count, i)?;
-    let ends = reach(alloc, a, text, Way::On, &here)?;
-    let there = Places::one(alloc, count, j)?;
-    let starts = reach(alloc, b, text, Way::Back, &there)?;
-    match last_common(&ends, &starts, i) {
-        Some(k) => Ok(k),
+    let end = Places::one(alloc, i, j, j)?;
+    let starts = reach(alloc, b, text, Way::Back, &end)?;
+    let found = farthest_among(alloc, a, text, i, j, &starts, i)?;
+    match found {
+        Some(turns) => Ok(i + turns),
         None => unreachable!(),
     }
+}
+
+// From which of the places from i to j any number of pieces lead to j.
+fn rests<T: Letters>(
+    alloc: Global,
+    a: &Re,
+    text: &T,
+    i: usize,
+    j: usize,
+) -> Result<Places, NoMemory>
+    requires order { i ≤ j }
+    requires within { j ≤ length (T.letters text.now) }
+    ensures low { IfOk result (λ set. set.low ≡ i) }
+    ensures past { IfOk result (λ set. past set ≡ j + 1) }
+    ensures starts { IfOk result (AreStartsOf (Repeats (Matches (tree a.now) (T.letters text.now))) i j) }
+{
+    let end = Places::one(alloc, i, j, j)?;
+    let set = many(alloc, a, text, Way::Back, &end)?;
+    Ok(set)
 }
 
 // Where the first of the pieces of a span ends, which is not below low, and is as long as it can be.
@@ -72,20 +67,20 @@ fn first_piece<T: Letters>(
     text: &T,
     i: usize,
     j: usize,
+    rests: &Places,
     low: usize,
 ) -> Result<usize, NoMemory>
     requires order { i ≤ j }
     requires within { j ≤ length (T.letters text.now) }
+    requires low { rests.now.low ≤ i }
+    requires past { j < past rests.now }
+    requires rests { AreStartsOf (Repeats (Matches (tree a.now) (T.letters text.now))) i j rests.now }
     requires joins { Joins (Past low (Matches (tree a.now) (T.letters text.now))) (Repeats (Matches (tree a.now) (T.letters text.now))) i j }
     ensures { IfOk result (λ k. (i ≤ k) × (k ≤ j) × IsLongest (Past low (Matches (tree a.now) (T.letters text.now))) (Repeats (Matches (tree a.now) (T.letters text.now))) i j k) }
 {
-    let count = count_to(j)?;
-    let here = Places::one(alloc, count, i)?;
-    let ends = reach(alloc, a, text, Way::On, &here)?;
-    let there = Places::one(alloc, count, j)?;
-    let starts = many(alloc, a, text, Way::Back, &there)?;
-    match last_common(&ends, &starts, low) {
-        Some(k) => Ok(k),
+    let found = farthest_among(alloc, a, text, i, j, rests, low)?;
+    match found {
+        Some(turns) => Ok(i + turns),
         None => unreachable!(),
     }
 }
@@ -97,10 +92,14 @@ fn last_piece<T: Letters>(
     text: &T,
     i: usize,
     j: usize,
+    rests: &Places,
     before: Option<Range>,
 ) -> Result<Option<Range>, NoMemory>
     requires order { i ≤ j }
     requires within { j ≤ length (T.letters text.now) }
+    requires low { rests.now.low ≤ i }
+    requires past { j < past rests.now }
+    requires rests { AreStartsOf (Repeats (Matches (tree a.now) (T.letters text.now))) i j rests.now }
     requires repeats { Repeats (Matches (tree a.now) (T.letters text.now)) i j }
     ensures walk { IfOk result (λ last. (n : ℕ) × Walk (Matches (tree a.now) (T.letters text.now)) n i j before last) }
     ensures piece { IfOk result (λ last. (last ≡ before) ⊎ IfSome last (IsPiece (Matches (tree a.now) (T.letters text.now)) j)) }
@@ -108,7 +107,7 @@ fn last_piece<T: Letters>(
     let mut last = before;
     let mut at = i;
     while at < j {
-        let k = first_piece(alloc, a, text, at, j, at + 1)?;
+        let k = first_piece(alloc, a, text, at, j, rests, at + 1)?;
         last = Some(Range { q0: at, q1: k });
         at = k;
     }
@@ -129,7 +128,8 @@ fn star_piece<T: Letters>(
     ensures walk { IfOk result (λ last. (n : ℕ) × Walk (Matches (tree a.now) (T.letters text.now)) n i j None last) }
     ensures piece { IfOk result (λ last. IfSome last (IsPiece (Matches (tree a.now) (T.letters text.now)) j)) }
 {
-    last_piece(alloc, a, text, i, j, None)
+    let rests = rests(alloc, a, text, i, j)?;
+    last_piece(alloc, a, text, i, j, &rests, None)
 }
 
 // The last piece of a plus.
@@ -146,9 +146,10 @@ fn plus_piece<T: Letters>(
     ensures walk { IfOk result (λ last. PlusWalk (Matches (tree a.now) (T.letters text.now)) i j last) }
     ensures piece { IfOk result (IsPiece (Matches (tree a.now) (T.letters text.now)) j) }
 {
-    let k = first_piece(alloc, a, text, i, j, i)?;
+    let rests = rests(alloc, a, text, i, j)?;
+    let k = first_piece(alloc, a, text, i, j, &rests, i)?;
     let first = Range { q0: i, q1: k };
-    match last_piece(alloc, a, text, k, j, Some(first))? {
+    match last_piece(alloc, a, text, k, j, &rests, Some(first))? {
         Some(last) => Ok(last),
         None => unreachable!(),
     }
@@ -212,8 +213,7 @@ fn fill<T: Letters>(
     }
 }
 
-/// The ten ranges of a match: the span itself, and those of the groups from 1 to 9. A group that took no part has none.
-pub fn groups<T: Letters>(alloc: Global, re: &Re, text: &T, span: Range) -> Result<Groups, NoMemory>
+fn ten_ranges<T: Letters>(alloc: Global, re: &Re, text: &T, span: Range) -> Result<Groups, NoMemory>
     requires order { span.q0 ≤ span.q1 }
     requires within { span.q1 ≤ length (T.letters text.now) }
     requires matches { Matches (tree re.now) (T.letters text.now) span.q0 span.q1 }
@@ -223,4 +223,17 @@ pub fn groups<T: Letters>(alloc: Global, re: &Re, text: &T, span: Range) -> Resu
     fill(alloc, re, text, span.q0, span.q1, all.as_mut_slice())?;
     all[0] = Some(span);
     Ok(Items::from_vec(all))
+}
+
+/// The ten ranges of a match: the span itself, and those of the groups from 1 to 9. A group that took no part has none.
+pub fn groups<T: Letters>(alloc: Global, re: &Re, text: &T, span: Range) -> Result<Groups, NoMemory>
+    requires order { span.q0 ≤ span.q1 }
+    requires within { span.q1 ≤ length (T.letters text.now) }
+    requires matches { Matches (tree re.now) (T.letters text.now) span.q0 span.q1 }
+    ensures groups { IfOk result (AreGroups (tree re.now) (T.letters text.now) span) }
+    // A match has one answer.
+    ensures value { IfOk result (λ all. all ≡ groups_of (tree re.now) (T.letters text.now) span) }
+{
+    let all = ten_ranges(alloc, re, text, span)?;
+    Ok(all)
 }

@@ -3,15 +3,22 @@
 
 mod choice;
 mod filling;
+mod laws;
 mod leaf;
 mod marks;
+mod over;
 mod places;
 mod reach;
+mod successive;
+mod walk;
 mod way;
 
 pub use choice::{first_match, last_match, matches_span};
 pub use filling::groups;
+pub use laws::{searches_choose_a_match, successive_matches_follow};
+pub use over::match_over;
 pub use re_syntax::{Groups, Re};
+pub use successive::successive_matches;
 
 #[cfg(test)]
 mod tests;

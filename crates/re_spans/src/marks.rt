@@ -3,7 +3,7 @@
 ghost use Rattle.std.specs.Prelude.{◌≡◌, ◌&&◌, IfOk};
 ghost use Rattle.re_syntax.specs.Tree.{tree};
 ghost use Rattle.re_spans.specs.Leaves.{takes};
-ghost use Rattle.re_spans.specs.Marks.{marks_of, mark_of, with_mark, passes, left_enters, right_enters, joined, pair, either, wrapped, with_part, leaf_mark, fresh, stepped, stepped_one, stepped_cat, stepped_alt, OfTwo};
+ghost use Rattle.re_spans.specs.Marks.{marks_of, mark_of, is_alive, with_mark, passes, left_enters, right_enters, joined, pair, either, wrapped, with_part, leaf_mark, fresh, stepped, stepped_one, stepped_cat, stepped_alt, OfTwo};
 
 use crate::leaf::{Here, Read, is_null, takes};
 use crate::way::Way;
@@ -35,6 +35,18 @@ impl Marks {
             Marks::Leaf(mark) => *mark,
             Marks::One(mark, _) => *mark,
             Marks::Two(mark, _, _) => *mark,
+        }
+    }
+
+    /// Whether a match of some part can go on from here: where none can, and nothing is entered any more, no place
+    /// further on is led to.
+    pub fn is_alive(&self) -> bool
+        ensures { result ≡ is_alive (marks_of self.now) }
+    {
+        match self {
+            Marks::Leaf(mark) => mark.led,
+            Marks::One(mark, below) => mark.led || below.is_alive(),
+            Marks::Two(mark, left, right) => mark.led || left.is_alive() || right.is_alive(),
         }
     }
 

@@ -1,4 +1,4 @@
-use crate::{first_match, groups, last_match, matches_span};
+use crate::{first_match, groups, last_match, match_over, matches_span, successive_matches};
 use am_text::{Items, Range, Runes, decode_whole};
 use re_syntax::{Re, parse_re};
 use std::alloc::{AllocError, Global};
@@ -138,6 +138,78 @@ const GROUPS: [(&str, &str, [Span; 3]); 14] = [
     ("(a)|b", "b", [None, None, None]),
     ("(ab|a)(bc|c)", "abc", [Some((0, 2)), Some((2, 3)), None]),
     ("(a*)?", "b", [Some((0, 0)), None, None]),
+];
+
+// An expression, a text, bounds, and the matches between them one after another.
+const SUCCESSIVE: [(&str, &str, usize, usize, [Span; 4]); 12] = [
+    (
+        ".",
+        "ab\nc",
+        0,
+        4,
+        [Some((0, 1)), Some((1, 2)), Some((3, 4)), None],
+    ),
+    (
+        "a*",
+        "baac",
+        0,
+        4,
+        [Some((0, 0)), Some((1, 3)), Some((4, 4)), None],
+    ),
+    ("a*", "aab", 0, 3, [Some((0, 2)), Some((3, 3)), None, None]),
+    (
+        "a|ab",
+        "abab",
+        0,
+        4,
+        [Some((0, 2)), Some((2, 4)), None, None],
+    ),
+    (
+        "^",
+        "ab\ncd\n",
+        0,
+        6,
+        [Some((0, 0)), Some((3, 3)), None, None],
+    ),
+    ("$", "a\nb", 0, 3, [Some((1, 1)), Some((3, 3)), None, None]),
+    ("zz", "one", 0, 3, [None, None, None, None]),
+    (
+        ".*\\n",
+        "a\nb\nc",
+        0,
+        5,
+        [Some((0, 2)), Some((2, 4)), None, None],
+    ),
+    ("b", "abab", 0, 3, [Some((1, 2)), None, None, None]),
+    ("a", "aaa", 1, 2, [Some((1, 2)), None, None, None]),
+    (
+        "(ab)*",
+        "ababa",
+        0,
+        5,
+        [Some((0, 4)), Some((5, 5)), None, None],
+    ),
+    ("x*", "ab", 1, 2, [Some((1, 1)), Some((2, 2)), None, None]),
+];
+
+// An expression, a text, a place, and the match that has the place.
+const OVER: [(&str, &str, usize, Span); 16] = [
+    ("[a-z]+\\.c", "see main.c now", 6, Some((4, 10))),
+    ("[a-z]+\\.c", "see main.c now", 4, Some((4, 10))),
+    ("[a-z]+\\.c", "see main.c now", 10, Some((4, 10))),
+    ("[a-z]+\\.c", "see main.c now", 11, None),
+    ("[a-z]+\\.c", "see main.c now", 3, None),
+    ("a|ab", "ab", 1, Some((0, 2))),
+    ("a*", "baab", 1, Some((1, 3))),
+    ("a*", "baab", 4, None),
+    ("a*", "b", 0, None),
+    ("b", "abab", 2, Some((1, 2))),
+    ("b", "abb", 2, Some((1, 2))),
+    ("a+b?", "aab", 2, Some((0, 3))),
+    ("ab|b+", "abb", 2, Some((0, 2))),
+    ("ab|bc", "abc", 3, Some((1, 3))),
+    ("^b", "a\nb", 2, Some((2, 3))),
+    ("[a-z]+", "", 0, None),
 ];
 
 fn runes(alloc: Global, text: &str) -> Result<Runes, AllocError> {
@@ -322,6 +394,59 @@ fn groups_of_matches(rt: HostRuntime) -> Result<(), Fail> {
         for n in 0..3 {
             assert!(rt; span_of(ranges[n + 1]) == want[n], "{expression}");
         }
+    }
+    Ok(())
+}
+
+// The first four of the matches one after another, where there are no more.
+fn successive_in(
+    alloc: Global,
+    expression: &str,
+    text: &str,
+    bounds: (usize, usize),
+) -> Result<[Span; 4], AllocError> {
+    let re = tree(alloc, expression)?;
+    let text = runes(alloc, text)?;
+    let (from, end) = bounds;
+    if from > end || end > text.len() {
+        return Err(AllocError);
+    }
+    let all = successive_matches(alloc, &re, &text, from, end).map_err(|_| AllocError)?;
+    let mut spans = [None; 4];
+    for (n, found) in all.as_slice().iter().enumerate() {
+        if n >= 4 {
+            return Err(AllocError);
+        }
+        spans[n] = Some((found.q0, found.q1));
+    }
+    Ok(spans)
+}
+
+#[test]
+fn matches_one_after_another(rt: HostRuntime) -> Result<(), Fail> {
+    let alloc = rt.alloc();
+    for (expression, text, from, end, want) in SUCCESSIVE {
+        let spans = successive_in(alloc, expression, text, (from, end))?;
+        assert!(rt; spans == want, "{expression}");
+    }
+    Ok(())
+}
+
+fn over(alloc: Global, expression: &str, text: &str, at: usize) -> Result<Span, AllocError> {
+    let re = tree(alloc, expression)?;
+    let text = runes(alloc, text)?;
+    if at > text.len() {
+        return Err(AllocError);
+    }
+    let found = match_over(alloc, &re, &text, at).map_err(|_| AllocError)?;
+    Ok(span_of(found))
+}
+
+#[test]
+fn matches_over_a_place(rt: HostRuntime) -> Result<(), Fail> {
+    let alloc = rt.alloc();
+    for (expression, text, at, want) in OVER {
+        assert!(rt; over(alloc, expression, text, at)? == want, "{expression}");
     }
     Ok(())
 }

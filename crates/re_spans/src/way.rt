@@ -1,7 +1,7 @@
 //! Which way a search goes through the text.
 
-ghost use Rattle.std.specs.Prelude.{◌≡◌, ◌<◌, ◌≤◌, ◌+◌, length};
-ghost use Rattle.re_spans.specs.Turns.{place_at, lower};
+ghost use Rattle.std.specs.Prelude.{◌≡◌, ◌-◌, ◌^◌};
+ghost use Rattle.re_spans.specs.Turns.{place_at, StaysInside, lower};
 
 /// Which way a search goes through the text.
 #[derive(Clone, Copy)]
@@ -10,15 +10,14 @@ pub enum Way {
     Back,
 }
 
-/// The place at which a search through so many places is at this turn.
-pub fn place_at(way: Way, count: usize, turn: usize) -> usize
-    requires { turn < count }
-    ensures place { result ≡ place_at way count turn }
-    ensures inside { result < count }
+/// The place to which a search that begins at a place comes after so many turns.
+pub fn place_at(way: Way, at: usize, turn: usize) -> usize
+    requires { StaysInside way at turn (2 ^ 64 - 1) }
+    ensures { result ≡ place_at way at turn }
 {
     match way {
-        Way::On => turn,
-        Way::Back => count - 1 - turn,
+        Way::On => at + turn,
+        Way::Back => at - turn,
     }
 }
 

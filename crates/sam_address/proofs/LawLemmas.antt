@@ -5,21 +5,8 @@ use Rattle.std.specs.List.{list_any, All, AllPairs}
 use Rattle.std.proofs.lemmas.Bool.{le-leb, lt-leb, eq-eqb, ne_eqb, cases_eq, cases_lt}
 use Rattle.std.proofs.lemmas.List.Elements.{All-cons}
 use Rattle.std.proofs.lemmas.List.Kept.{AllPairs-cons}
-use Rattle.sam_address.specs.Laws.{TestTells, FindsTheFirst, FindsTheLast, LineStartsAreThose, LineStartsRise}
+use Rattle.sam_address.specs.Laws.{LineStartsAreThose, LineStartsRise}
 use Rattle.sam_address.specs.Lines.{after_newlines}
-use Rattle.sam_address.proofs.Tested.{matches_tell, matches_from}
-use Rattle.sam_address.proofs.Chosen.{first_is, first_none, last_is, last_none}
-
-pub test_tells : TestTells
-test_tells r t i j = (matches_tell r t i j, matches_from r t i j)
-
-pub finds_the_first : FindsTheFirst
-finds_the_first r t low high no_null = (first_is r t low high no_null, first_none r t low high no_null)
-
-pub finds_the_last : FindsTheLast
-finds_the_last r t low high no_null = (last_is r t low high no_null, last_none r t low high no_null)
-
--- ---- line starts
 
 abbrev has : List ℕ → ℕ → Bool
 has xs p = list_any (λ s. s == p) xs

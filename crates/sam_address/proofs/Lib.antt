@@ -1,6 +1,3 @@
 mod Sides
 mod Starts
-mod Places
-mod Tested
-mod Chosen
 mod LawLemmas

@@ -1,7 +1,7 @@
 -- The sides of a tree.
 use Rattle.std.proofs.Common.{◌≡◌, refl}
-use Rattle.sam_syntax.specs.Tree.{tree}
-use Rattle.sam_syntax.specs.declared.address.Addr.{Addr, Here, Zero, Last, Char, Line, Fore, Back, Plus', Minus', Comma', Semi'}
+use Rattle.addr_syntax.specs.Tree.{tree}
+use Rattle.addr_syntax.specs.declared.address.Addr.{Addr, Here, Zero, Last, Char, Line, Fore, Back, Plus', Minus', Comma', Semi'}
 use Rattle.sam_address.specs.Value.{Outcome, written_or}
 
 -- the tree of an address is written

@@ -4,7 +4,7 @@ use Rattle.am_text.specs.declared.range.Range.{Range}
 use Rattle.sam_address.specs.declared.fault.AddrFault.{AddrFault}
 use Rattle.sam_address.specs.declared.fault.AddrFault.TheVariants as fault
 use Rattle.sam_address.specs.declared.fault.AddrFault.TheVariants.{NoMatch, Order, NoMemory}
-use Rattle.sam_syntax.specs.Tree.{Tree, Missing, Dot, Front, End, RuneAt, LineAt, Forward, Backward, Sum, Difference, Span, MovingSpan}
+use Rattle.addr_syntax.specs.Tree.{Tree, Missing, Dot, Front, End, RuneAt, LineAt, Forward, Backward, Sum, Difference, Span, MovingSpan}
 use Rattle.sam_address.specs.Search.{forward, backward}
 use Rattle.sam_address.specs.Lines.{line_starts, starts_from, starts_back, nth, line_at}
 
@@ -108,9 +108,3 @@ IsFault NoMemory outcome = Unit {0}
 pub record IsInside (t : List ℕ) (r : Range) : Type 0 where
   pub order : r.q0 ≤ r.q1
   pub within : r.q1 ≤ length t
-
--- the range lies between two places
-pub record IsBetween (low high : ℕ) (r : Range) : Type 0 where
-  pub above : low ≤ r.q0
-  pub order : r.q0 ≤ r.q1
-  pub below : r.q1 ≤ high

@@ -9,7 +9,8 @@ mod search;
 mod tests;
 mod tree;
 
+pub use addr_syntax::Addr;
 pub use fault::AddrFault;
-pub use laws::{line_starts_follow_newlines, searches_choose_a_match};
-pub use sam_syntax::Addr;
+pub use laws::line_starts_follow_newlines;
+pub use re_spans::searches_choose_a_match;
 pub use tree::value;

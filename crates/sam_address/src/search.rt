@@ -1,50 +1,15 @@
 //! Searches inside a limit.
 
-ghost use Rattle.std.specs.Prelude.{◌≡◌, ◌<◌, ◌≤◌, length, IfOk, IfErr, IfSome, Some, None, Ok};
+ghost use Rattle.std.specs.Prelude.{◌≡◌, ◌<◌, ◌≤◌, length, IfOk, IfErr, Ok};
 ghost use Rattle.re_syntax.specs.Tree.{tree};
-ghost use Rattle.sam_address.specs.Search.{first_span, last_span, forward, backward, brought};
-ghost use Rattle.sam_address.specs.Value.{match_or_fault, IsFault, IsInside, IsBetween};
+ghost use Rattle.re_spans.specs.Search.{IsBetween};
+ghost use Rattle.sam_address.specs.Search.{forward, backward, brought};
+ghost use Rattle.sam_address.specs.Value.{match_or_fault, IsFault, IsInside};
 
 use crate::fault::AddrFault;
-use am_text::{Letters, NoMemory, Range};
+use am_text::{Letters, Range};
 use re_spans::{Re, first_match, last_match};
 use std::alloc::Global;
-
-// The match that begins first between two places, and of those the longest, but not the null one at no_null.
-fn first_span<T: Letters>(
-    alloc: Global,
-    re: &Re,
-    text: &T,
-    low: usize,
-    high: usize,
-    no_null: Option<usize>,
-) -> Result<Option<Range>, NoMemory>
-    requires order { low ≤ high }
-    requires within { high ≤ length (T.letters text.now) }
-    ensures value { IfOk result (λ found. found ≡ first_span (tree re.now) (T.letters text.now) low high no_null) }
-    ensures inside { IfOk result (λ found. IfSome found (IsBetween low high)) }
-{
-    let found = first_match(alloc, re, text, low, high, no_null)?;
-    Ok(found)
-}
-
-// The match that ends last between two places, and of those the longest, but not the null one at no_null.
-fn last_span<T: Letters>(
-    alloc: Global,
-    re: &Re,
-    text: &T,
-    low: usize,
-    high: usize,
-    no_null: Option<usize>,
-) -> Result<Option<Range>, NoMemory>
-    requires order { low ≤ high }
-    requires within { high ≤ length (T.letters text.now) }
-    ensures value { IfOk result (λ found. found ≡ last_span (tree re.now) (T.letters text.now) low high no_null) }
-    ensures inside { IfOk result (λ found. IfSome found (IsBetween low high)) }
-{
-    let found = last_match(alloc, re, text, low, high, no_null)?;
-    Ok(found)
-}
 
 // The place, or the nearest one inside the limit.
 fn brought(limit: Range, place: usize) -> usize
@@ -75,10 +40,10 @@ pub fn forward<T: Letters>(
     ensures inside { IfOk result (IsBetween limit.q0 limit.q1) }
 {
     let from = brought(limit, place);
-    if let Some(found) = first_span(alloc, re, text, from, limit.q1, Some(from))? {
+    if let Some(found) = first_match(alloc, re, text, from, limit.q1, Some(from))? {
         return Ok(found);
     }
-    match first_span(alloc, re, text, limit.q0, limit.q1, None)? {
+    match first_match(alloc, re, text, limit.q0, limit.q1, None)? {
         Some(found) => Ok(found),
         None => Err(AddrFault::NoMatch),
     }
@@ -98,10 +63,10 @@ pub fn backward<T: Letters>(
     ensures inside { IfOk result (IsBetween limit.q0 limit.q1) }
 {
     let to = brought(limit, place);
-    if let Some(found) = last_span(alloc, re, text, limit.q0, to, Some(to))? {
+    if let Some(found) = last_match(alloc, re, text, limit.q0, to, Some(to))? {
         return Ok(found);
     }
-    match last_span(alloc, re, text, limit.q0, limit.q1, None)? {
+    match last_match(alloc, re, text, limit.q0, limit.q1, None)? {
         Some(found) => Ok(found),
         None => Err(AddrFault::NoMatch),
     }

@@ -1,15 +1,15 @@
 //! The value of a tree.
 
 ghost use Rattle.std.specs.Prelude.{◌≡◌, ◌<◌, ◌≤◌, ◌+◌, length, IfOk, IfErr, Ok};
-ghost use Rattle.sam_syntax.specs.Tree.{tree};
+ghost use Rattle.addr_syntax.specs.Tree.{tree};
 ghost use Rattle.sam_address.specs.Value.{value, after, before, rune_at, runes_back, joined, IsFault, IsInside, line_from};
 ghost use Rattle.sam_address.specs.Lines.{line_starts, nth};
 
 use crate::fault::AddrFault;
 use crate::lines::{line_from, lines_back, lines_on, null_at};
 use crate::search::{backward, forward};
+use addr_syntax::Addr;
 use am_text::{Letters, Range};
-use sam_syntax::Addr;
 use std::alloc::Global;
 
 // The null range so many runes after a place.

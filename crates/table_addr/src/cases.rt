@@ -12,9 +12,9 @@ ghost use Rattle.std.specs.Prelude.{IsTrue};
 ghost use Rattle.sam_address.specs.Value.{IsInside};
 
 use crate::fault::Fault;
+use addr_syntax::{SynFault, parse_addr};
 use am_text::{Bytes, Items, Range, Runes, unescape};
 use sam_address::{Addr, AddrFault, value};
-use sam_syntax::{SynFault, parse_addr};
 use std::alloc::Global;
 
 fn cut(fields: &str, at: char) -> Result<(&str, &str), Fault> {

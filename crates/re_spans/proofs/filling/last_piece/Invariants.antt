@@ -12,6 +12,7 @@ abbrev pub invariant-loop-at : goal.invariant-loop-at
 invariant-loop-at g l =
     let R = Matches (tree l.a) (g.T.Letters.letters l.text) in
     record {
+      above : l.fn.i ≤ l.at;
       inside : l.at ≤ l.j;
       repeats : Repeats R l.at l.j;
       walk : (n : ℕ) (out : Option Range) → Walk R n l.at l.j l.last out → (m : ℕ) × Walk R m l.fn.i l.j l.fn.before out;

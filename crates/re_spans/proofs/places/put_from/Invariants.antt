@@ -1,9 +1,9 @@
-use Rattle.std.proofs.Common.{◌≡◌, ◌<◌, ◌≤◌, ℕ, true}
-use Rattle.re_spans.specs.Places.{has}
+use Rattle.std.proofs.Common.{◌≡◌, ◌<◌, ◌≤◌, ℕ, true, false}
+use Rattle.std.specs.Prelude.{slice_index_or}
 use Rattle.re_spans.proofs.places.put_from.Given as goal
 
-abbrev pub invariant-loop-j : goal.invariant-loop-j
-invariant-loop-j l = record {
-  before : (k : ℕ) → k < l.low → has l.cells k ≡ has l.initial.cells k;
-  done : (k : ℕ) → l.low ≤ k → k < l.j → has l.cells k ≡ true;
+abbrev pub invariant-loop-k : goal.invariant-loop-k
+invariant-loop-k l = record {
+  before : (m : ℕ) → m < l.first → slice_index_or l.tests m false ≡ slice_index_or l.initial.tests m false;
+  done : (m : ℕ) → l.first ≤ m → m < l.k → slice_index_or l.tests m false ≡ true;
 }

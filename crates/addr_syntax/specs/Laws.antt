@@ -1,0 +1,26 @@
+-- Laws over the grammar of addresses.
+use Rattle.std.specs.Prelude.{◌≡◌, Bool, true, false, List, [], ◌∷◌, ◌++◌, Some}
+use Rattle.addr_syntax.specs.Tree.{Tree}
+use Rattle.addr_syntax.specs.Pieces.{Piece, Part, Adds, Splits}
+use Rattle.addr_syntax.specs.Joined.{Reading, begin, added, spanned, may_follow, whole, joined_on}
+use Rattle.addr_syntax.specs.declared.mark.Sign.{Sign}
+use Rattle.addr_syntax.specs.declared.mark.Separator.{Separator}
+
+-- there is no separator among the pieces
+abbrev pub is_row : List Piece → Bool
+is_row [] = true
+is_row (Part a ∷ ps) = is_row ps
+is_row (Adds k ∷ ps) = is_row ps
+is_row (Splits k ∷ ps) = false
+
+-- a separator has the tree of all before it on its left, and that of the row behind it on its right
+abbrev pub SeparatorsJoinLast : Type 0
+SeparatorsJoinLast =
+    (ps qs : List Piece) (k : Separator) (r s : Reading) → is_row qs ≡ true → joined_on (Some begin) ps ≡ Some r → joined_on (Some begin) qs ≡ Some s →
+    (t : Reading) × (joined_on (Some begin) (ps ++ Splits k ∷ qs) ≡ Some t) × (whole t ≡ spanned k (whole r) (whole s))
+
+-- a sign has the tree of the row before it on its left, and the part behind it on its right
+abbrev pub SignsJoinFromTheLeft : Type 0
+SignsJoinFromTheLeft =
+    (ps : List Piece) (k : Sign) (q : Tree) (r : Reading) → is_row ps ≡ true → may_follow q ≡ true → joined_on (Some begin) ps ≡ Some r →
+    (t : Reading) × (joined_on (Some begin) (ps ++ Adds k ∷ Part q ∷ []) ≡ Some t) × (whole t ≡ added k (whole r) q)
