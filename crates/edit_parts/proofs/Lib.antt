@@ -1,0 +1,10 @@
+pub mod Parts
+pub mod Ends
+pub mod Quotes
+pub mod Written
+pub mod Loops
+pub mod Once
+pub mod Substitutions
+pub mod Acts
+pub mod Tokens
+pub mod Closes

@@ -1,0 +1,18 @@
+//! The parts of Edit's commands: their trees, and how the pieces of a command are written.
+#![tactic(auto)]
+
+mod action;
+mod command;
+mod expression;
+mod kind;
+mod scan;
+mod text;
+mod token;
+
+pub use addr_syntax::{Addr, Limited, SynFault};
+pub use command::{Act, Cmd, Cmds};
+pub use kind::{Kind, Letter, Loop, Place, Request, Way, kind_of};
+pub use token::{Token, a_piece_may_end_a_line, a_text_begins_with_one_piece, token_at};
+
+#[cfg(test)]
+mod tests;

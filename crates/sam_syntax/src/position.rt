@@ -1,0 +1,117 @@
+//! Where in a command the reader is.
+
+ghost use Rattle.std.specs.Prelude.{◌≡◌, ◌+◌, ◌<◌, ◌^◌};
+ghost use Rattle.sam_syntax.specs.Position.{begun, addressed, closed, ended, passed, is_end};
+
+use edit_parts::Kind;
+
+/// What kind of line is read.
+#[derive(Clone, Copy)]
+pub enum Place {
+    /// Behind `{`.
+    Opened,
+    /// At the beginning of a line.
+    Begins,
+    /// Behind a loop.
+    Looping,
+    /// Behind an address.
+    Addressed,
+    /// Behind the line's command.
+    Ended,
+}
+
+/// How many blocks are open, and what kind of line is read.
+#[derive(Clone, Copy)]
+pub struct Position {
+    pub blocks: usize,
+    pub place: Place,
+}
+
+fn to(blocks: usize, place: Place) -> Option<Position>
+    ensures { result ≡ Some (record { blocks = blocks; place = place }) }
+{
+    Some(Position { blocks, place })
+}
+
+// Behind something that begins or is a command.
+fn begun(position: Position, blocks: usize, place: Place) -> Option<Position>
+    ensures { result ≡ begun position.place blocks place }
+{
+    match position.place {
+        Place::Begins => to(blocks, place),
+        Place::Looping => to(blocks, place),
+        Place::Addressed => to(blocks, place),
+        Place::Opened => None,
+        Place::Ended => None,
+    }
+}
+
+// Behind an address.
+fn addressed(position: Position) -> Option<Position>
+    ensures { result ≡ addressed position.place position.blocks }
+{
+    match position.place {
+        Place::Begins => to(position.blocks, Place::Addressed),
+        Place::Looping => to(position.blocks, Place::Addressed),
+        Place::Addressed => None,
+        Place::Opened => None,
+        Place::Ended => None,
+    }
+}
+
+fn closed(position: Position) -> Option<Position>
+    ensures { result ≡ closed position.place position.blocks }
+{
+    if position.blocks == 0 {
+        return None;
+    }
+    match position.place {
+        Place::Begins => to(position.blocks - 1, Place::Ended),
+        Place::Looping => None,
+        Place::Addressed => None,
+        Place::Opened => None,
+        Place::Ended => None,
+    }
+}
+
+fn ended(position: Position) -> Option<Position>
+    ensures { result ≡ ended position.blocks }
+{
+    if position.blocks == 0 {
+        None
+    } else {
+        to(position.blocks, Place::Begins)
+    }
+}
+
+/// Where the reader is behind a piece of this kind; `None` where none can stand.
+pub fn passed(position: Position, kind: Kind) -> Option<Position>
+    ensures { position.blocks + 1 < 2 ^ 64 → result ≡ passed position kind }
+{
+    match kind {
+        Kind::Blank => Some(position),
+        Kind::EndsLine => ended(position),
+        Kind::Address => addressed(position),
+        Kind::Loops(_) => begun(position, position.blocks, Place::Looping),
+        Kind::Opens => begun(position, position.blocks.saturating_add(1), Place::Opened),
+        Kind::Closes => closed(position),
+        Kind::Acts(_) => begun(position, position.blocks, Place::Ended),
+        Kind::Other => None,
+    }
+}
+
+/// Whether a command may end here.
+pub fn is_end(position: Position) -> bool
+    ensures { result ≡ is_end position }
+{
+    if position.blocks > 0 {
+        return false;
+    }
+    match position.place {
+        Place::Opened => false,
+        Place::Begins => true,
+        Place::Looping => true,
+        Place::Addressed => true,
+        Place::Ended => true,
+    }
+}
