@@ -1,0 +1,27 @@
+use Rattle.std.proofs.Common.{◌≡◌, length, drop}
+use Rattle.edit_parts.specs.Tree.{command}
+use Rattle.edit_run.specs.Ranges.{AreInside}
+use Rattle.edit_run.specs.Meaning.{meaning, for_each, list_done}
+use Rattle.edit_run.specs.Within.{IsWithin}
+use Rattle.edit_run.proofs.running.+command.Given as goal
+
+abbrev pub invariant-run_all-loop-cmd : goal.invariant-run_all-loop-cmd
+invariant-run_all-loop-cmd g l =
+    let t = g.T.Letters.letters l.text in
+    record {
+      within : IsWithin t l.effects;
+      same : list_done (drop l.cmd-index l.commands) t l.site l.dot l.effects ≡ list_done l.commands t l.site l.dot l.fn.effects;
+    }
+
+abbrev pub invariant-run_each-loop-rest : goal.invariant-run_each-loop-rest
+invariant-run_each-loop-rest g l =
+    let t = g.T.Letters.letters l.text in
+    let body = meaning (command l.cmd) t l.site in
+    record {
+      ranges : AreInside t l.rest;
+      within : IsWithin t l.effects;
+      same : for_each body l.rest l.effects ≡ for_each body l.ranges l.fn.effects;
+    }
+
+abbrev pub decreases-run_each-loop-rest : goal.decreases-run_each-loop-rest
+decreases-run_each-loop-rest g l = length l.rest

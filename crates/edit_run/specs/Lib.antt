@@ -1,0 +1,9 @@
+pub mod Effects
+pub mod Faults
+pub mod Within
+pub mod Ranges
+pub mod Replacing
+pub mod Told
+pub mod Meaning
+pub mod Plan
+pub mod Laws

@@ -1,0 +1,26 @@
+//! What Edit's commands do to a text.
+#![tactic(auto)]
+
+mod acts;
+mod effects;
+mod fault;
+mod laws;
+mod matching;
+mod planning;
+mod replacing;
+mod running;
+mod telling;
+mod texts;
+mod types;
+
+pub use am_text::{Job, JobKind, Jobs};
+pub use edit_log::{Edit, Edits};
+pub use edit_parts::{Act, Addr, Cmd, Cmds};
+pub use effects::Effects;
+pub use fault::EditFault;
+pub use laws::{no_match_wants_nothing, texts_and_matches_are_the_range};
+pub use planning::changes;
+pub use types::{EditPlan, Site};
+
+#[cfg(test)]
+mod tests;

@@ -1,0 +1,150 @@
+//! The commands of a tree, one after another.
+
+ghost use Rattle.std.specs.Prelude.{◌≡◌, ◌≤◌, length, Ok, IfOk, IfErr, OnOk};
+ghost use Rattle.addr_syntax.specs.Tree.{tree_of};
+ghost use Rattle.edit_parts.specs.Tree.{action, command};
+ghost use Rattle.sam_address.specs.Value.{IsInside};
+ghost use Rattle.edit_run.specs.Faults.{IsFault};
+ghost use Rattle.edit_run.specs.Ranges.{AreInside};
+ghost use Rattle.edit_run.specs.Meaning.{acted, meaning, for_each, list_done};
+ghost use Rattle.edit_run.specs.Within.{IsWithin};
+
+use crate::acts::{
+    ask_with, ask_without, copy_text, delete, move_text, print, print_lines, print_places,
+    put_text, range_of, replace_all,
+};
+use crate::effects::Effects;
+use crate::fault::EditFault;
+use crate::matching::{
+    chosen, each_between, each_match, matches_in, where_matching, where_not_matching,
+};
+use crate::types::Site;
+use am_text::{JobKind, Letters, Range};
+use edit_parts::{Act, Cmd};
+use std::alloc::Global;
+
+// Does a command for each of these ranges.
+#[cycle(command)]
+fn run_each<T: Letters>(
+    alloc: Global,
+    cmd: &Cmd,
+    text: &T,
+    site: &Site,
+    ranges: &[Range],
+    effects: &mut Effects,
+) -> Result<(), EditFault>
+    requires ranges { AreInside (T.letters text.now) ranges.now }
+    requires within { IsWithin (T.letters text.now) effects.old }
+    ensures value { OnOk result (for_each (meaning (command cmd.now) (T.letters text.now) site.now) ranges.now effects.old ≡ Ok effects.new) }
+    ensures fault { IfErr result (λ e. IsFault e (for_each (meaning (command cmd.now) (T.letters text.now) site.now) ranges.now effects.old)) }
+    ensures within { OnOk result (IsWithin (T.letters text.now) effects.new) }
+{
+    let mut rest = ranges;
+    while let [range, after @ ..] = rest {
+        run(alloc, cmd, text, site, *range, effects)?;
+        rest = after;
+    }
+    Ok(())
+}
+
+// Does commands one after another, each over the same dot.
+#[cycle(command)]
+#[tactic(auto, using(crate::proofs::Blocks::listing))]
+fn run_all<T: Letters>(
+    alloc: Global,
+    commands: &[Cmd],
+    text: &T,
+    site: &Site,
+    dot: Range,
+    effects: &mut Effects,
+) -> Result<(), EditFault>
+    requires dot { IsInside (T.letters text.now) dot }
+    requires within { IsWithin (T.letters text.now) effects.old }
+    ensures value { OnOk result (list_done commands.now (T.letters text.now) site.now dot effects.old ≡ Ok effects.new) }
+    ensures fault { IfErr result (λ e. IsFault e (list_done commands.now (T.letters text.now) site.now dot effects.old)) }
+    ensures within { OnOk result (IsWithin (T.letters text.now) effects.new) }
+{
+    for cmd in commands {
+        run(alloc, cmd, text, site, dot, effects)?;
+    }
+    Ok(())
+}
+
+// Does what a command does with its range.
+#[cycle(command)]
+#[tactic(auto, using(crate::proofs::Inside::chosen_matches))]
+fn act<T: Letters>(
+    alloc: Global,
+    act: &Act,
+    text: &T,
+    site: &Site,
+    dot: Range,
+    range: Range,
+    effects: &mut Effects,
+) -> Result<(), EditFault>
+    requires dot { IsInside (T.letters text.now) dot }
+    requires range { IsInside (T.letters text.now) range }
+    requires within { IsWithin (T.letters text.now) effects.old }
+    ensures value { OnOk result (acted (action act.now) (T.letters text.now) site.now dot range effects.old ≡ Ok effects.new) }
+    ensures fault { IfErr result (λ e. IsFault e (acted (action act.now) (T.letters text.now) site.now dot range effects.old)) }
+    ensures within { OnOk result (IsWithin (T.letters text.now) effects.new) }
+{
+    match act {
+        Act::Nothing => Ok(()),
+        Act::Append(put) => put_text(alloc, range.q1, range.q1, put, effects),
+        Act::Change(put) => put_text(alloc, range.q0, range.q1, put, effects),
+        Act::Insert(put) => put_text(alloc, range.q0, range.q0, put, effects),
+        Act::Delete => delete(alloc, range, effects),
+        Act::Subst { nth, re, with, all } => {
+            let spans = matches_in(alloc, re, text, range)?;
+            let spans = chosen(spans.as_slice(), *nth, *all);
+            replace_all(alloc, re, with.as_slice(), text, spans, effects)
+        }
+        Act::Move(to) => move_text(alloc, to, text, dot, range, effects),
+        Act::Copy(to) => copy_text(alloc, to, text, dot, range, effects),
+        Act::Print => print(alloc, text, range, effects),
+        Act::LineNo => print_lines(alloc, site, text, range, effects),
+        Act::CharNo => print_places(alloc, site, range, effects),
+        Act::Each(re, cmd) => {
+            let ranges = each_match(alloc, re, text, range)?;
+            run_each(alloc, cmd, text, site, ranges.as_slice(), effects)
+        }
+        Act::Between(re, cmd) => {
+            let ranges = each_between(alloc, re, text, range)?;
+            run_each(alloc, cmd, text, site, ranges.as_slice(), effects)
+        }
+        Act::If(re, cmd) => {
+            let ranges = where_matching(alloc, re, text, range)?;
+            run_each(alloc, cmd, text, site, ranges.as_slice(), effects)
+        }
+        Act::Unless(re, cmd) => {
+            let ranges = where_not_matching(alloc, re, text, range)?;
+            run_each(alloc, cmd, text, site, ranges.as_slice(), effects)
+        }
+        Act::Block(all) => run_all(alloc, all.as_slice(), text, site, range, effects),
+        Act::Pipe(command) => ask_with(alloc, JobKind::Pipe, command, site, text, range, effects),
+        Act::From(command) => ask_without(alloc, command, site, effects),
+        Act::To(command) => ask_with(alloc, JobKind::To, command, site, text, range, effects),
+    }
+}
+
+/// Does a command, where dot is this range.
+#[cycle(command)]
+pub fn run<T: Letters>(
+    alloc: Global,
+    cmd: &Cmd,
+    text: &T,
+    site: &Site,
+    dot: Range,
+    effects: &mut Effects,
+) -> Result<(), EditFault>
+    requires dot { IsInside (T.letters text.now) dot }
+    requires within { IsWithin (T.letters text.now) effects.old }
+    ensures value { OnOk result (meaning (command cmd.now) (T.letters text.now) site.now dot effects.old ≡ Ok effects.new) }
+    ensures fault { IfErr result (λ e. IsFault e (meaning (command cmd.now) (T.letters text.now) site.now dot effects.old)) }
+    ensures within { OnOk result (IsWithin (T.letters text.now) effects.new) }
+{
+    let range = range_of(alloc, &cmd.addr, text, dot)?;
+    effects.begin(range);
+    act(alloc, &cmd.act, text, site, dot, range, effects)
+}

@@ -1,0 +1,98 @@
+//! What `=` and `=#` print.
+
+ghost use Rattle.std.specs.Prelude.{◌≡◌, ◌≤◌, ◌++◌, length, IfOk, OnOk};
+ghost use Rattle.std.specs.Fmt.{decimal};
+ghost use Rattle.sam_address.specs.Value.{IsInside};
+ghost use Rattle.edit_run.specs.Told.{line_of, one_or_two, lines_told, places_told, told};
+
+use am_text::{Items, Letters, NoMemory, Range, Rune, Runes, decimal};
+use std::alloc::Global;
+
+const NEWLINE: Rune = 10;
+
+const COLON: Rune = 58;
+
+const COMMA: Rune = 44;
+
+const SHARP: Rune = 35;
+
+// The number of the line that has a place, counted from 1.
+#[tactic(auto, using(crate::proofs::Slices::counting), unfolding(crate::specs::Told::line_of))]
+fn line_of<T: Letters>(text: &T, place: usize) -> Result<u64, NoMemory>
+    requires { place ≤ length (T.letters text.now) }
+    ensures { IfOk result (λ line. line ≡ line_of (T.letters text.now) place) }
+{
+    let mut before: u64 = 0;
+    for at in 0..place {
+        if text.at(at) == NEWLINE {
+            before += 1;
+        }
+    }
+    match before.checked_add(1) {
+        Some(line) => Ok(line),
+        None => Err(NoMemory),
+    }
+}
+
+// Puts a number in decimal at the end, behind a mark.
+#[tactic(auto, using(crate::proofs::Slices::putting))]
+fn put_number(alloc: Global, mark: &[Rune], n: u64, made: &mut Runes) -> Result<(), NoMemory>
+    ensures { OnOk result (made.new ≡ made.old ++ mark.now ++ decimal n) }
+{
+    made.append(mark)?;
+    let digits = decimal(alloc, n)?;
+    for digit in digits.as_slice() {
+        made.push(Rune::from(*digit))?;
+    }
+    Ok(())
+}
+
+// One number, or two where they differ, each behind a mark.
+#[tactic(auto, using(crate::proofs::Slices::putting))]
+fn one_or_two(alloc: Global, mark: &[Rune], a: u64, b: u64) -> Result<Runes, NoMemory>
+    ensures { IfOk result (λ made. made ≡ one_or_two mark.now a b) }
+{
+    let mut made = Items::new(alloc);
+    put_number(alloc, mark, a, &mut made)?;
+    if a != b {
+        made.push(COMMA)?;
+        put_number(alloc, mark, b, &mut made)?;
+    }
+    Ok(made)
+}
+
+// The name, what is told of it, and a newline.
+#[tactic(auto, using(crate::proofs::Slices::putting))]
+fn told(alloc: Global, name: &[Rune], place: &[Rune]) -> Result<Runes, NoMemory>
+    ensures { IfOk result (λ made. made ≡ told name.now place.now) }
+{
+    let mut made = Items::copied(alloc, name)?;
+    made.push(COLON)?;
+    made.append(place)?;
+    made.push(NEWLINE)?;
+    Ok(made)
+}
+
+/// The lines of a range: of its first and its last rune, or the one that has its place where it is null.
+pub fn lines_told<T: Letters>(
+    alloc: Global,
+    name: &[Rune],
+    text: &T,
+    range: Range,
+) -> Result<Runes, NoMemory>
+    requires { IsInside (T.letters text.now) range }
+    ensures { IfOk result (λ made. made ≡ told name.now (lines_told (T.letters text.now) range)) }
+{
+    let first = line_of(text, range.q0)?;
+    let last = line_of(text, range.q0.max(range.q1.saturating_sub(1)))?;
+    let lines = one_or_two(alloc, &[], first, last)?;
+    told(alloc, name, lines.as_slice())
+}
+
+/// The places of a range.
+pub fn places_told(alloc: Global, name: &[Rune], range: Range) -> Result<Runes, NoMemory>
+    ensures { IfOk result (λ made. made ≡ told name.now (places_told range)) }
+{
+    let places = one_or_two(alloc, &[SHARP], range.q0 as u64, range.q1 as u64)?;
+    told(alloc, name, places.as_slice())
+}
