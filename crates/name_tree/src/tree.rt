@@ -72,13 +72,15 @@ impl Tree {
         take_all_back(&mut self.nodes, &mut self.trail);
     }
 
-    fn is_file(&self, path: &[u8]) -> bool
+    /// Whether the path is that of a file.
+    pub fn is_file(&self, path: &[u8]) -> bool
         ensures { result ≡ is_file self.now.present path.now }
     {
         !is_root(path) && matches!(self.nodes.get(path), Some(Node::File(_)))
     }
 
-    fn is_directory(&self, path: &[u8]) -> bool
+    /// Whether the path is that of a directory.
+    pub fn is_directory(&self, path: &[u8]) -> bool
         ensures { result ≡ is_directory self.now.present path.now }
     {
         is_root(path) || matches!(self.nodes.get(path), Some(Node::Directory))

@@ -13,7 +13,7 @@ pub use laws::{answers_are_exact, messages_are_read_again, reading_goes_on};
 pub use message::{Attr, Attrs, PlumbMsg, PlumbRead};
 pub use reading::read_msg;
 pub use scanning::read_attrs;
-pub use writing::{can_spell, write_msg};
+pub use writing::{attrs_text, can_spell, write_msg};
 
 #[cfg(test)]
 mod tests;

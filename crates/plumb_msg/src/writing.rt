@@ -66,7 +66,9 @@ fn put_attrs(alloc: Global, out: &mut Bytes, attrs: &[Attr]) -> Result<(), NoMem
     Ok(())
 }
 
-fn attrs_text(alloc: Global, attrs: &[Attr]) -> Result<Bytes, NoMemory>
+/// The line of attributes, without its newline: `name=value` with single blanks between. A value stands in quotes where it
+/// has a blank, a tab, a quote or `=`.
+pub fn attrs_text(alloc: Global, attrs: &[Attr]) -> Result<Bytes, NoMemory>
     ensures { IfOk result (λ text. text ≡ attrs_text attrs.now) }
 {
     let mut text = Bytes::new(alloc);

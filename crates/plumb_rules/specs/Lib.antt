@@ -1,5 +1,6 @@
-pub mod Arguments
-pub mod Expressions
-pub mod Parsing
+pub mod Attributes
+pub mod Laws
+pub mod Patterns
+pub mod Routes
+pub mod Texts
 pub mod Verbs
-pub mod Words

@@ -1,157 +1,130 @@
--- Objects and verbs of rules, and what their arguments have to be.
-use Rattle.std.specs.Prelude.{ℕ, Bool, true, false, ◌&&◌, ◌||◌, ◌==◌, not, nat_lt, nat_le, List, [], ◌∷◌, length, Option, Some, None, if◌then◌else◌, codes}
-use Rattle.std.specs.List.{list_all, list_any}
+-- What each verb does. None where the rule doesn't hold.
+use Rattle.std.specs.Prelude.{ℕ, Bool, List, [], length, slice_range, Option, Some, None, if◌then◌else◌}
 use Rattle.std.specs.Str.{bytes_eq}
-use Rattle.plumb_rules.specs.Words.{is_name_rune}
-use Rattle.plumb_rules.specs.Arguments.{is_literal, runes_of}
-use Rattle.plumb_rules.specs.Expressions.{size_of}
-use Rattle.plumb_rules.specs.declared.rule.Field.{Field}
-use Rattle.plumb_rules.specs.declared.rule.Field.TheVariants.{Src, Dst, Wdir, Sort, Data}
-use Rattle.plumb_rules.specs.declared.rule.Verb.{Verb}
-use Rattle.plumb_rules.specs.declared.rule.Verb.TheVariants as verb
-use Rattle.plumb_rules.specs.declared.rule.Piece.{Piece}
-use Rattle.plumb_rules.specs.declared.rule.Rule.{Rule}
+use Rattle.am_text.specs.Utf8.{decode, utf8}
+use Rattle.am_text.specs.declared.range.Range.{Range}
+use Rattle.name_tree.specs.Kinds.{is_file, is_directory}
+use Rattle.name_tree.specs.declared.types.Node.{Node}
+use Rattle.plumb_msg.specs.Attributes.{attrs_of}
+use Rattle.plumb_msg.specs.declared.message.Attr.{Attr}
+use Rattle.plumb_msg.specs.declared.message.PlumbMsg.{PlumbMsg}
+use Rattle.re_spans.specs.Groups.{span, groups_of}
+use Rattle.re_syntax.specs.Tree.{Tree}
+use Rattle.rule_syntax.specs.declared.rule.Field.{Field}
+use Rattle.rule_syntax.specs.declared.rule.Field.TheVariants.{Src, Dst, Wdir, Sort, Data}
+use Rattle.rule_syntax.specs.declared.rule.Rule.{Rule}
+use Rattle.rule_syntax.specs.declared.rule.Verb.{Verb}
+use Rattle.rule_syntax.specs.declared.rule.Verb.TheVariants as verb
+use Rattle.plumb_rules.specs.Attributes.{with_attrs, without_attr, click_of, unclicked}
+use Rattle.plumb_rules.specs.Patterns.{pattern_of, is_whole, click_span}
+use Rattle.plumb_rules.specs.Texts.{field_text, with_field, whole_name, data_name, argument_text}
+use Rattle.plumb_rules.specs.declared.answer.Way.{Way}
+use Rattle.plumb_rules.specs.declared.answer.Way.TheVariants.{Start, Client}
+use Rattle.plumb_rules.specs.declared.state.State.{State}
 
--- ---- the table of objects and verbs
+-- files and directories, each with its path
+abbrev pub Nodes : Type 0
+Nodes = List (List ℕ × Node)
 
-module _ {A : Type 0} where
-  abbrev pub found : List (List ℕ × A) → List ℕ → Option A
-  found [] word = None
-  found (r ∷ rs) word = if bytes_eq word r.0 then Some r.1 else found rs word
+-- ---- `is`, `set`
 
-  abbrev pub or_else : Option A → Option A → Option A
-  or_else None other = other
-  or_else (Some a) other = Some a
+abbrev pub is_text : State → Field → List ℕ → Option State
+is_text s f text = if bytes_eq (field_text s.msg f) text then Some s else None
 
-unfoldable pub field_of : List ℕ → Option Field
-field_of object = found ((codes "src", Src) ∷ (codes "dst", Dst) ∷ (codes "wdir", Wdir) ∷ (codes "type", Sort) ∷ (codes "data", Data) ∷ []) object
+abbrev pub set : State → Field → List ℕ → Option State
+set s f text = Some (record s { msg = with_field s.msg f text })
 
-unfoldable pub text_verb : Field → List ℕ → Option Verb
-text_verb f word = found ((codes "is", verb.Is f) ∷ (codes "matches", verb.Matches f) ∷ (codes "set", verb.Set f) ∷ []) word
+-- ---- `matches`
 
-unfoldable pub data_verb : List ℕ → Option Verb
-data_verb word = found ((codes "isfile", verb.DataIsFile) ∷ (codes "isdir", verb.DataIsDir) ∷ []) word
+-- with the match of a text
+abbrev pub with_match : State → Tree → List ℕ → Range → State
+with_match s r text found = record s { matched = Some (record { text = text; groups = groups_of r text found }) }
 
-abbrev pub field_verb : Option Field → List ℕ → Option Verb
-field_verb None word = None
-field_verb (Some Src) word = text_verb Src word
-field_verb (Some Dst) word = text_verb Dst word
-field_verb (Some Wdir) word = text_verb Wdir word
-field_verb (Some Sort) word = text_verb Sort word
-field_verb (Some Data) word = or_else (text_verb Data word) (data_verb word)
+-- the whole data match
+abbrev pub whole_data : State → Tree → List ℕ → Option State
+whole_data s r text = if is_whole r text then Some (with_match s r text (span 0 (length text))) else None
 
-unfoldable pub arg_verb : List ℕ → Option Verb
-arg_verb word = found ((codes "isfile", verb.ArgIsFile) ∷ (codes "isdir", verb.ArgIsDir) ∷ []) word
+-- the data become the match at the click, and the click goes
+abbrev pub clicked_msg : PlumbMsg → List ℕ → Range → PlumbMsg
+clicked_msg m text found = record m { attrs = unclicked m.attrs; body = utf8 (slice_range text found.q0 found.q1) }
 
-unfoldable pub attr_verb : List ℕ → Option Verb
-attr_verb word = found ((codes "add", verb.Add) ∷ (codes "delete", verb.Delete) ∷ []) word
+abbrev pub clicked : State → Tree → List ℕ → Option Range → Option State
+clicked s r text None = None
+clicked s r text (Some found) = Some (with_match (record s { msg = clicked_msg s.msg text found }) r text found)
 
-unfoldable pub plumb_verb : List ℕ → Option Verb
-plumb_verb word = found ((codes "to", verb.To) ∷ (codes "start", verb.Start) ∷ (codes "client", verb.Client) ∷ []) word
+abbrev pub click_data : State → Tree → List ℕ → Option (Option ℕ) → Option State
+click_data s r text None = whole_data s r text
+click_data s r text (Some None) = None
+click_data s r text (Some (Some n)) = clicked s r text (click_span r text n)
 
-unfoldable pub verb_of : List ℕ → List ℕ → Option Verb
-verb_of object word =
-    if bytes_eq object (codes "arg") then arg_verb word
-    else (if bytes_eq object (codes "attr") then attr_verb word
-    else (if bytes_eq object (codes "plumb") then plumb_verb word
-    else field_verb (field_of object) word))
+abbrev pub data_matches : State → Tree → Option State
+data_matches s r = click_data s r (decode s.msg.body) (click_of s.msg.attrs)
 
--- ---- arguments
+abbrev pub field_matches : State → Field → Tree → Option State
+field_matches s f r = if is_whole r (field_text s.msg f) then Some s else None
 
--- whether the rule may stand without an argument
-abbrev pub needs_none : Verb → Bool
-needs_none (verb.Is f) = false
-needs_none (verb.Matches f) = false
-needs_none (verb.Set f) = false
-needs_none verb.ArgIsFile = false
-needs_none verb.ArgIsDir = false
-needs_none verb.DataIsFile = true
-needs_none verb.DataIsDir = true
-needs_none verb.Add = false
-needs_none verb.Delete = false
-needs_none verb.To = false
-needs_none verb.Start = false
-needs_none verb.Client = false
+abbrev pub tree_matches : State → Field → Tree → Option State
+tree_matches s Src r = field_matches s Src r
+tree_matches s Dst r = field_matches s Dst r
+tree_matches s Wdir r = field_matches s Wdir r
+tree_matches s Sort r = field_matches s Sort r
+tree_matches s Data r = data_matches s r
 
-abbrev pub is_port_rune : ℕ → Bool
-is_port_rune c = is_name_rune c || c == 46 || c == 45
+abbrev pub pattern_matches : State → Field → Option Tree → Option State
+pattern_matches s f None = None
+pattern_matches s f (Some r) = tree_matches s f r
 
-abbrev pub are_port_runes : List ℕ → Bool
-are_port_runes name = list_all is_port_rune name
+abbrev pub matches : State → Field → List ℕ → Option State
+matches s f text = pattern_matches s f (pattern_of text)
 
-abbrev pub is_taken : List ℕ → Bool
-is_taken name = bytes_eq name (codes "send") || bytes_eq name (codes "rules")
+-- ---- `isfile`, `isdir`
 
--- 1 to 64 letters of ASCII, digits, `_`, `.` and `-`, and neither `send` nor `rules`
-unfoldable pub is_port_name : List ℕ → Bool
-is_port_name name = if nat_le 1 (length name) && nat_le (length name) 64 then are_port_runes name && not (is_taken name) else false
+abbrev pub isfile : Nodes → State → List ℕ → Option State
+isfile tree s name = if is_file tree (utf8 name) then Some (record s { file = Some name }) else None
 
--- whether the expression is too large; there is none where it is no expression
-abbrev pub large_of : Option ℕ → Option Bool
-large_of None = None
-large_of (Some n) = Some (nat_lt 2049 n)
+abbrev pub isdir : Nodes → State → List ℕ → Option State
+isdir tree s name = if is_directory tree (utf8 name) then Some (record s { dir = Some name }) else None
 
--- an expression with variables is read when matched
-abbrev pub large_pattern : List Piece → Option Bool
-large_pattern pieces = if is_literal pieces then large_of (size_of (runes_of pieces)) else Some false
+-- ---- `add`, `delete`
 
-abbrev pub port_told : List Piece → Option Bool
-port_told pieces = if is_literal pieces && is_port_name (runes_of pieces) then Some false else None
+abbrev pub with_attributes : State → List Attr → State
+with_attributes s attrs = record s { msg = record s.msg { attrs = attrs } }
 
--- whether the expression of the rule is too large; there is none where the argument is none for the verb
-abbrev pub checked : Verb → List Piece → Option Bool
-checked (verb.Is f) pieces = Some false
-checked (verb.Matches f) pieces = large_pattern pieces
-checked (verb.Set f) pieces = Some false
-checked verb.ArgIsFile pieces = Some false
-checked verb.ArgIsDir pieces = Some false
-checked verb.DataIsFile pieces = Some false
-checked verb.DataIsDir pieces = Some false
-checked verb.Add pieces = Some false
-checked verb.Delete pieces = Some false
-checked verb.To pieces = port_told pieces
-checked verb.Start pieces = Some false
-checked verb.Client pieces = Some false
+abbrev pub added : State → Option (List Attr) → Option State
+added s None = None
+added s (Some more) = Some (with_attributes s (with_attrs s.msg.attrs more))
 
--- ---- what a set has once
+-- the argument is a line of attributes
+abbrev pub add : State → List ℕ → Option State
+add s text = added s (attrs_of (utf8 text))
 
-abbrev pub is_to : Verb → Bool
-is_to (verb.Is f) = false
-is_to (verb.Matches f) = false
-is_to (verb.Set f) = false
-is_to verb.ArgIsFile = false
-is_to verb.ArgIsDir = false
-is_to verb.DataIsFile = false
-is_to verb.DataIsDir = false
-is_to verb.Add = false
-is_to verb.Delete = false
-is_to verb.To = true
-is_to verb.Start = false
-is_to verb.Client = false
+abbrev pub delete : State → List ℕ → Option State
+delete s text = Some (with_attributes s (without_attr (utf8 text) s.msg.attrs))
 
-abbrev pub is_request : Verb → Bool
-is_request (verb.Is f) = false
-is_request (verb.Matches f) = false
-is_request (verb.Set f) = false
-is_request verb.ArgIsFile = false
-is_request verb.ArgIsDir = false
-is_request verb.DataIsFile = false
-is_request verb.DataIsDir = false
-is_request verb.Add = false
-is_request verb.Delete = false
-is_request verb.To = false
-is_request verb.Start = true
-is_request verb.Client = true
+-- ---- `plumb`
 
-abbrev pub any_to : List Rule → Bool
-any_to rules = list_any (λ r. is_to r.verb) rules
+abbrev pub to : State → List ℕ → Option State
+to s text = Some (record s { port = Some (utf8 text) })
 
-abbrev pub any_request : List Rule → Bool
-any_request rules = list_any (λ r. is_request r.verb) rules
+abbrev pub by_way : State → Way → Option State
+by_way s way = Some (record s { way = way })
 
--- a set has at most one port, and at most one command
-abbrev pub is_repeated : Verb → List Rule → Bool
-is_repeated v rules = (is_to v && any_to rules) || (is_request v && any_request rules)
+-- ---- a rule
 
-abbrev pub plumbs : List Rule → Bool
-plumbs rules = any_to rules || any_request rules
+-- with the text of the argument
+abbrev pub verb_done : Nodes → State → Verb → List ℕ → Option State
+verb_done tree s (verb.Is f) text = is_text s f text
+verb_done tree s (verb.Matches f) text = matches s f text
+verb_done tree s (verb.Set f) text = set s f text
+verb_done tree s verb.ArgIsFile text = isfile tree s (whole_name s.msg text)
+verb_done tree s verb.ArgIsDir text = isdir tree s (whole_name s.msg text)
+verb_done tree s verb.DataIsFile text = isfile tree s (data_name s.msg)
+verb_done tree s verb.DataIsDir text = isdir tree s (data_name s.msg)
+verb_done tree s verb.Add text = add s text
+verb_done tree s verb.Delete text = delete s text
+verb_done tree s verb.To text = to s text
+verb_done tree s verb.Start text = by_way s (Start text)
+verb_done tree s verb.Client text = by_way s (Client text)
+
+abbrev pub rule_done : Nodes → State → Rule → Option State
+rule_done tree s r = verb_done tree s r.verb (argument_text s r.argument)

@@ -1,8 +1,22 @@
-//! Laws of the definitions. The function does nothing.
+//! What holds of all patterns and routes. Each function has laws as its contract, and does nothing.
 
-ghost use Rattle.plumb_rules.specs.Expressions.{HasSize};
+ghost use Rattle.plumb_rules.specs.Laws.{TreesAreThose, FirstSetIsTaken, ElseToItsPort, PortIsDst, SpelledStaysSo, DataAreKept};
 
-/// A text has a size exactly where it is an expression, and that is one more than the nodes of its tree.
-pub fn expressions_have_sizes()
-    ensures { HasSize }
+/// A text has a tree exactly where it is an expression with that tree.
+pub fn expressions_have_trees()
+    ensures { TreesAreThose }
+{}
+
+/// The first set that holds is taken, whatever follows it; where none holds the message goes to the port that it names.
+pub fn first_set_is_taken()
+    ensures first { FirstSetIsTaken }
+    ensures own { ElseToItsPort }
+{}
+
+/// The message that is delivered to a port has it as dst; a message that can be spelled is delivered as one that can; and data
+/// that no rule sets are delivered as they came, where there is no click.
+pub fn messages_are_delivered_whole()
+    ensures port { PortIsDst }
+    ensures spelled { SpelledStaysSo }
+    ensures kept { DataAreKept }
 {}

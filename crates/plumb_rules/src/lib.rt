@@ -1,19 +1,24 @@
-//! Rules of the plumber, after plumb(6).
+//! The plumber's rules, after plumb(6), and the route of a message by them.
 #![tactic(auto)]
 
-mod argument;
-mod expression;
-mod fault;
+mod answer;
+mod attributes;
+mod click;
 mod laws;
-mod parsing;
-mod rule;
+mod message;
+mod pattern;
+mod routing;
+mod sets;
+mod state;
+mod texts;
 mod verbs;
-mod words;
 
-pub use fault::RuleFault;
-pub use laws::expressions_have_sizes;
-pub use parsing::parse_rules;
-pub use rule::{Argument, Field, Late, Piece, Rule, RuleSets, Rules, Var, Vars, Verb};
+pub use answer::{Route, Way};
+pub use laws::{expressions_have_trees, first_set_is_taken, messages_are_delivered_whole};
+pub use routing::route;
+pub use rule_syntax::{
+    Argument, Field, Late, Piece, Rule, RuleFault, RuleSets, Rules, Var, Vars, Verb, parse_rules,
+};
 
 #[cfg(test)]
 mod tests;

@@ -1,249 +1,308 @@
-//! Objects and verbs of rules, and what their arguments have to be.
+//! What each verb does. `None` where the rule doesn't hold.
 
 ghost use Rattle.std.specs.Prelude.{◌≡◌, IfOk};
-ghost use Rattle.plumb_rules.specs.Verbs.{field_of, text_verb, data_verb, field_verb, arg_verb, attr_verb, plumb_verb, verb_of, needs_none, is_port_rune, are_port_runes, is_taken, is_port_name, large_pattern, port_told, checked, is_to, is_request, any_to, any_request, is_repeated, plumbs};
+ghost use Rattle.re_syntax.specs.Tree.{tree};
+ghost use Rattle.plumb_rules.specs.Patterns.{click_span, IsMatchIn};
+ghost use Rattle.plumb_rules.specs.Verbs.{is_text, set, with_match, whole_data, clicked_msg, clicked, click_data, data_matches, field_matches, tree_matches, matches, isfile, isdir, add, delete, to, by_way, verb_done, rule_done};
 
-use crate::argument::{is_literal, runes_of};
-use crate::expression::is_large;
-use crate::rule::{Field, Piece, Rule, Verb};
-use crate::words::{is_name_rune, is_word};
-use am_text::{NoMemory, Rune};
+use crate::answer::Way;
+use crate::attributes::{click_of, unclicked, with_attrs, without_attr};
+use crate::click::click_span;
+use crate::pattern::{is_whole, pattern_of};
+use crate::state::{Matched, State};
+use crate::texts::{argument_text, data_name, field_text, part_of, whole_name, with_field};
+use am_text::{Items, NoMemory, Range, Runes, encode};
+use name_tree::Tree;
+use plumb_msg::{PlumbMsg, read_attrs};
+use re_spans::groups;
+use re_syntax::Re;
+use rule_syntax::{Field, Rule, Verb};
 use std::alloc::Global;
 
-#[tactic(auto, unfolding(crate::specs::Verbs::field_of))]
-fn field_of(object: &[Rune]) -> Option<Field>
-    ensures { result ≡ field_of object.now }
+// The text is that of the field.
+fn is_text(
+    alloc: Global,
+    state: State,
+    field: Field,
+    text: &Runes,
+) -> Result<Option<State>, NoMemory>
+    ensures { IfOk result (λ s. s ≡ is_text state field text.now) }
 {
-    if is_word(object, b"src") {
-        Some(Field::Src)
-    } else if is_word(object, b"dst") {
-        Some(Field::Dst)
-    } else if is_word(object, b"wdir") {
-        Some(Field::Wdir)
-    } else if is_word(object, b"type") {
-        Some(Field::Sort)
-    } else if is_word(object, b"data") {
-        Some(Field::Data)
-    } else {
-        None
+    let present = field_text(alloc, &state.msg, field)?;
+    if present.as_slice() == text.as_slice() {
+        return Ok(Some(state));
     }
+    Ok(None)
 }
 
-#[tactic(auto, unfolding(crate::specs::Verbs::text_verb))]
-fn text_verb(field: Field, word: &[Rune]) -> Option<Verb>
-    ensures { result ≡ text_verb field word.now }
+// The field gets the text.
+fn set(alloc: Global, state: State, field: Field, text: &Runes) -> Result<Option<State>, NoMemory>
+    ensures { IfOk result (λ s. s ≡ set state field text.now) }
 {
-    if is_word(word, b"is") {
-        Some(Verb::Is(field))
-    } else if is_word(word, b"matches") {
-        Some(Verb::Matches(field))
-    } else if is_word(word, b"set") {
-        Some(Verb::Set(field))
-    } else {
-        None
-    }
+    let msg = with_field(alloc, state.msg, field, text)?;
+    Ok(Some(State { msg, ..state }))
 }
 
-#[tactic(auto, unfolding(crate::specs::Verbs::data_verb))]
-fn data_verb(word: &[Rune]) -> Option<Verb>
-    ensures { result ≡ data_verb word.now }
+// With the match of a text.
+fn with_match(
+    alloc: Global,
+    state: State,
+    re: &Re,
+    text: Runes,
+    found: Range,
+) -> Result<State, NoMemory>
+    requires { IsMatchIn (tree re.now) text found }
+    ensures { IfOk result (λ s. s ≡ with_match state (tree re.now) text found) }
 {
-    if is_word(word, b"isfile") {
-        Some(Verb::DataIsFile)
-    } else if is_word(word, b"isdir") {
-        Some(Verb::DataIsDir)
-    } else {
-        None
-    }
+    let groups = groups(alloc, re, &text, found)?;
+    Ok(State {
+        matched: Some(Matched { text, groups }),
+        ..state
+    })
 }
 
-fn field_verb(field: Option<Field>, word: &[Rune]) -> Option<Verb>
-    ensures { result ≡ field_verb field word.now }
+// The whole data match.
+fn whole_data(alloc: Global, state: State, re: &Re, text: Runes) -> Result<Option<State>, NoMemory>
+    ensures { IfOk result (λ s. s ≡ whole_data state (tree re.now) text) }
 {
-    match field {
-        None => None,
-        Some(Field::Src) => text_verb(Field::Src, word),
-        Some(Field::Dst) => text_verb(Field::Dst, word),
-        Some(Field::Wdir) => text_verb(Field::Wdir, word),
-        Some(Field::Sort) => text_verb(Field::Sort, word),
-        Some(Field::Data) => match text_verb(Field::Data, word) {
-            Some(verb) => Some(verb),
-            None => data_verb(word),
-        },
-    }
-}
-
-#[tactic(auto, unfolding(crate::specs::Verbs::arg_verb))]
-fn arg_verb(word: &[Rune]) -> Option<Verb>
-    ensures { result ≡ arg_verb word.now }
-{
-    if is_word(word, b"isfile") {
-        Some(Verb::ArgIsFile)
-    } else if is_word(word, b"isdir") {
-        Some(Verb::ArgIsDir)
-    } else {
-        None
-    }
-}
-
-#[tactic(auto, unfolding(crate::specs::Verbs::attr_verb))]
-fn attr_verb(word: &[Rune]) -> Option<Verb>
-    ensures { result ≡ attr_verb word.now }
-{
-    if is_word(word, b"add") {
-        Some(Verb::Add)
-    } else if is_word(word, b"delete") {
-        Some(Verb::Delete)
-    } else {
-        None
-    }
-}
-
-#[tactic(auto, unfolding(crate::specs::Verbs::plumb_verb))]
-fn plumb_verb(word: &[Rune]) -> Option<Verb>
-    ensures { result ≡ plumb_verb word.now }
-{
-    if is_word(word, b"to") {
-        Some(Verb::To)
-    } else if is_word(word, b"start") {
-        Some(Verb::Start)
-    } else if is_word(word, b"client") {
-        Some(Verb::Client)
-    } else {
-        None
-    }
-}
-
-/// What an object and a verb are together.
-#[tactic(auto, unfolding(crate::specs::Verbs::verb_of))]
-pub(crate) fn verb_of(object: &[Rune], word: &[Rune]) -> Option<Verb>
-    ensures { result ≡ verb_of object.now word.now }
-{
-    if is_word(object, b"arg") {
-        arg_verb(word)
-    } else if is_word(object, b"attr") {
-        attr_verb(word)
-    } else if is_word(object, b"plumb") {
-        plumb_verb(word)
-    } else {
-        field_verb(field_of(object), word)
-    }
-}
-
-/// Whether a rule may stand without an argument.
-pub(crate) fn needs_none(verb: Verb) -> bool
-    ensures { result ≡ needs_none verb }
-{
-    match verb {
-        Verb::DataIsFile => true,
-        Verb::DataIsDir => true,
-        _ => false,
-    }
-}
-
-fn is_port_rune(c: Rune) -> bool
-    ensures { result ≡ is_port_rune c }
-{
-    is_name_rune(c) || c == 0x2E || c == 0x2D
-}
-
-fn are_port_runes(name: &[Rune]) -> bool
-    ensures { result ≡ are_port_runes name.now }
-{
-    name.iter().all(|c| is_port_rune(*c))
-}
-
-fn is_taken(name: &[Rune]) -> bool
-    ensures { result ≡ is_taken name.now }
-{
-    is_word(name, b"send") || is_word(name, b"rules")
-}
-
-#[tactic(auto, unfolding(crate::specs::Verbs::is_port_name))]
-fn is_port_name(name: &[Rune]) -> bool
-    ensures { result ≡ is_port_name name.now }
-{
-    if 1 <= name.len() && name.len() <= 64 {
-        are_port_runes(name) && !is_taken(name)
-    } else {
-        false
-    }
-}
-
-fn large_pattern(alloc: Global, pieces: &[Piece]) -> Result<Option<bool>, NoMemory>
-    ensures { IfOk result (λ large. large ≡ large_pattern pieces.now) }
-{
-    if !is_literal(pieces) {
-        return Ok(Some(false));
-    }
-    is_large(alloc, runes_of(alloc, pieces)?.as_slice())
-}
-
-fn port_told(alloc: Global, pieces: &[Piece]) -> Result<Option<bool>, NoMemory>
-    ensures { IfOk result (λ told. told ≡ port_told pieces.now) }
-{
-    if !is_literal(pieces) {
+    if !is_whole(alloc, re, &text)? {
         return Ok(None);
     }
-    if is_port_name(runes_of(alloc, pieces)?.as_slice()) {
-        Ok(Some(false))
-    } else {
-        Ok(None)
+    let found = Range {
+        q0: 0,
+        q1: text.len(),
+    };
+    Ok(Some(with_match(alloc, state, re, text, found)?))
+}
+
+// The data become the match at the click, and the click goes.
+fn clicked_msg(
+    alloc: Global,
+    msg: PlumbMsg,
+    text: &Runes,
+    found: Range,
+) -> Result<PlumbMsg, NoMemory>
+    ensures { IfOk result (λ new. new ≡ clicked_msg msg text.now found) }
+{
+    let part = Items::copied(alloc, part_of(text.as_slice(), found))?;
+    let body = encode(alloc, &part)?;
+    let attrs = unclicked(msg.attrs);
+    Ok(PlumbMsg { attrs, body, ..msg })
+}
+
+fn clicked(
+    alloc: Global,
+    state: State,
+    re: &Re,
+    text: Runes,
+    at: u64,
+) -> Result<Option<State>, NoMemory>
+    ensures { IfOk result (λ s. s ≡ clicked state (tree re.now) text (click_span (tree re.now) text at)) }
+{
+    let Some(found) = click_span(alloc, re, &text, at)? else {
+        return Ok(None);
+    };
+    let msg = clicked_msg(alloc, state.msg, &text, found)?;
+    let state = State { msg, ..state };
+    Ok(Some(with_match(alloc, state, re, text, found)?))
+}
+
+fn data_matches(alloc: Global, state: State, re: &Re) -> Result<Option<State>, NoMemory>
+    ensures { IfOk result (λ s. s ≡ data_matches state (tree re.now)) }
+{
+    let text = field_text(alloc, &state.msg, Field::Data)?;
+    match click_of(state.msg.attrs.as_slice()) {
+        None => whole_data(alloc, state, re, text),
+        Some(None) => Ok(None),
+        Some(Some(at)) => clicked(alloc, state, re, text, at),
     }
 }
 
-/// Whether the expression of a rule is too large. There is none where the argument is none for the verb.
-pub(crate) fn checked(alloc: Global, verb: Verb, pieces: &[Piece]) -> Result<Option<bool>, NoMemory>
-    ensures { IfOk result (λ large. large ≡ checked verb pieces.now) }
+fn field_matches(
+    alloc: Global,
+    state: State,
+    field: Field,
+    re: &Re,
+) -> Result<Option<State>, NoMemory>
+    ensures { IfOk result (λ s. s ≡ field_matches state field (tree re.now)) }
+{
+    let text = field_text(alloc, &state.msg, field)?;
+    if is_whole(alloc, re, &text)? {
+        return Ok(Some(state));
+    }
+    Ok(None)
+}
+
+fn tree_matches(
+    alloc: Global,
+    state: State,
+    field: Field,
+    re: &Re,
+) -> Result<Option<State>, NoMemory>
+    ensures { IfOk result (λ s. s ≡ tree_matches state field (tree re.now)) }
+{
+    match field {
+        Field::Src => field_matches(alloc, state, Field::Src, re),
+        Field::Dst => field_matches(alloc, state, Field::Dst, re),
+        Field::Wdir => field_matches(alloc, state, Field::Wdir, re),
+        Field::Sort => field_matches(alloc, state, Field::Sort, re),
+        Field::Data => data_matches(alloc, state, re),
+    }
+}
+
+// The text is a pattern that matches.
+fn matches(
+    alloc: Global,
+    state: State,
+    field: Field,
+    text: &Runes,
+) -> Result<Option<State>, NoMemory>
+    ensures { IfOk result (λ s. s ≡ matches state field text.now) }
+{
+    match pattern_of(alloc, text.as_slice())? {
+        None => Ok(None),
+        Some(re) => tree_matches(alloc, state, field, &re),
+    }
+}
+
+// The name is that of a file.
+fn isfile(alloc: Global, tree: &Tree, state: State, name: Runes) -> Result<Option<State>, NoMemory>
+    ensures { IfOk result (λ s. s ≡ isfile tree.now.present state name) }
+{
+    if !tree.is_file(encode(alloc, &name)?.as_slice()) {
+        return Ok(None);
+    }
+    Ok(Some(State {
+        file: Some(name),
+        ..state
+    }))
+}
+
+// The name is that of a directory.
+fn isdir(alloc: Global, tree: &Tree, state: State, name: Runes) -> Result<Option<State>, NoMemory>
+    ensures { IfOk result (λ s. s ≡ isdir tree.now.present state name) }
+{
+    if !tree.is_directory(encode(alloc, &name)?.as_slice()) {
+        return Ok(None);
+    }
+    Ok(Some(State {
+        dir: Some(name),
+        ..state
+    }))
+}
+
+// The attributes of a line are put.
+fn add(alloc: Global, state: State, text: &Runes) -> Result<Option<State>, NoMemory>
+    ensures { IfOk result (λ s. s ≡ add state text.now) }
+{
+    let line = encode(alloc, text)?;
+    let Some(more) = read_attrs(alloc, line.as_slice())? else {
+        return Ok(None);
+    };
+    let State {
+        msg,
+        matched,
+        file,
+        dir,
+        port,
+        way,
+    } = state;
+    let attrs = with_attrs(alloc, msg.attrs, more.as_slice())?;
+    let msg = PlumbMsg { attrs, ..msg };
+    Ok(Some(State {
+        msg,
+        matched,
+        file,
+        dir,
+        port,
+        way,
+    }))
+}
+
+// The attribute with this name goes.
+fn delete(alloc: Global, state: State, text: &Runes) -> Result<Option<State>, NoMemory>
+    ensures { IfOk result (λ s. s ≡ delete state text.now) }
+{
+    let name = encode(alloc, text)?;
+    let State {
+        msg,
+        matched,
+        file,
+        dir,
+        port,
+        way,
+    } = state;
+    let attrs = without_attr(msg.attrs, name.as_slice());
+    let msg = PlumbMsg { attrs, ..msg };
+    Ok(Some(State {
+        msg,
+        matched,
+        file,
+        dir,
+        port,
+        way,
+    }))
+}
+
+fn to(alloc: Global, state: State, text: &Runes) -> Result<Option<State>, NoMemory>
+    ensures { IfOk result (λ s. s ≡ to state text.now) }
+{
+    let port = Some(encode(alloc, text)?);
+    Ok(Some(State { port, ..state }))
+}
+
+fn by_way(state: State, way: Way) -> Option<State>
+    ensures { result ≡ by_way state way }
+{
+    Some(State { way, ..state })
+}
+
+fn verb_done(
+    alloc: Global,
+    tree: &Tree,
+    state: State,
+    verb: Verb,
+    text: Runes,
+) -> Result<Option<State>, NoMemory>
+    ensures { IfOk result (λ s. s ≡ verb_done tree.now.present state verb text) }
 {
     match verb {
-        Verb::Matches(_) => large_pattern(alloc, pieces),
-        Verb::To => port_told(alloc, pieces),
-        _ => Ok(Some(false)),
+        Verb::Is(field) => is_text(alloc, state, field, &text),
+        Verb::Matches(field) => matches(alloc, state, field, &text),
+        Verb::Set(field) => set(alloc, state, field, &text),
+        Verb::ArgIsFile => {
+            let name = whole_name(alloc, &state.msg, text.as_slice())?;
+            isfile(alloc, tree, state, name)
+        }
+        Verb::ArgIsDir => {
+            let name = whole_name(alloc, &state.msg, text.as_slice())?;
+            isdir(alloc, tree, state, name)
+        }
+        Verb::DataIsFile => {
+            let name = data_name(alloc, &state.msg)?;
+            isfile(alloc, tree, state, name)
+        }
+        Verb::DataIsDir => {
+            let name = data_name(alloc, &state.msg)?;
+            isdir(alloc, tree, state, name)
+        }
+        Verb::Add => add(alloc, state, &text),
+        Verb::Delete => delete(alloc, state, &text),
+        Verb::To => to(alloc, state, &text),
+        Verb::Start => Ok(by_way(state, Way::Start(text))),
+        Verb::Client => Ok(by_way(state, Way::Client(text))),
     }
 }
 
-fn is_to(verb: Verb) -> bool
-    ensures { result ≡ is_to verb }
+/// The state after a rule, where the rule holds.
+pub fn rule_done(
+    alloc: Global,
+    tree: &Tree,
+    state: State,
+    rule: &Rule,
+) -> Result<Option<State>, NoMemory>
+    ensures { IfOk result (λ s. s ≡ rule_done tree.now.present state rule.now) }
 {
-    match verb {
-        Verb::To => true,
-        _ => false,
-    }
-}
-
-fn is_request(verb: Verb) -> bool
-    ensures { result ≡ is_request verb }
-{
-    match verb {
-        Verb::Start => true,
-        Verb::Client => true,
-        _ => false,
-    }
-}
-
-fn any_to(rules: &[Rule]) -> bool
-    ensures { result ≡ any_to rules.now }
-{
-    rules.iter().any(|rule| is_to(rule.verb))
-}
-
-fn any_request(rules: &[Rule]) -> bool
-    ensures { result ≡ any_request rules.now }
-{
-    rules.iter().any(|rule| is_request(rule.verb))
-}
-
-/// Whether a set has a rule already that it may have once: a port, or a command.
-pub(crate) fn is_repeated(verb: Verb, rules: &[Rule]) -> bool
-    ensures { result ≡ is_repeated verb rules.now }
-{
-    (is_to(verb) && any_to(rules)) || (is_request(verb) && any_request(rules))
-}
-
-/// Whether a set has a port or a command.
-pub(crate) fn plumbs(rules: &[Rule]) -> bool
-    ensures { result ≡ plumbs rules.now }
-{
-    any_to(rules) || any_request(rules)
+    let text = argument_text(alloc, &state, rule.argument.as_slice())?;
+    verb_done(alloc, tree, state, rule.verb, text)
 }

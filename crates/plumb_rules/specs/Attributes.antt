@@ -1,0 +1,51 @@
+-- Attributes of a message: the value of one, put in place of one, and taken away.
+use Rattle.std.specs.Prelude.{ℕ, ◌+◌, Bool, not, List, [], ◌∷◌, ◌++◌, slice_set, Option, Some, None, if◌then◌else◌, codes}
+use Rattle.std.specs.List.{filter}
+use Rattle.std.specs.Str.{bytes_eq}
+use Rattle.am_text.specs.Number.{number_of}
+use Rattle.plumb_msg.specs.declared.message.Attr.{Attr}
+
+abbrev pub has_name : List ℕ → Attr → Bool
+has_name name a = bytes_eq a.name name
+
+-- the value of the attribute with this name
+abbrev pub attr_value : List Attr → List ℕ → Option (List ℕ)
+attr_value [] name = None
+attr_value (a ∷ attrs) name = if has_name name a then Some a.value else attr_value attrs name
+
+-- the place of the attribute with this name, the first place being n
+abbrev pub place_from : ℕ → List Attr → List ℕ → Option ℕ
+place_from n [] name = None
+place_from n (a ∷ attrs) name = if has_name name a then Some n else place_from (n + 1) attrs name
+
+-- with an attribute at a place, or at the end
+abbrev pub put_at : Option ℕ → List Attr → Attr → List Attr
+put_at None attrs a = attrs ++ a ∷ []
+put_at (Some n) attrs a = slice_set attrs n a
+
+-- with an attribute in place of the one with its name, or at the end
+abbrev pub with_attr : List Attr → Attr → List Attr
+with_attr attrs a = put_at (place_from 0 attrs a.name) attrs a
+
+-- with these attributes, in order
+abbrev pub with_attrs : List Attr → List Attr → List Attr
+with_attrs attrs [] = attrs
+with_attrs attrs (a ∷ more) = with_attrs (with_attr attrs a) more
+
+-- without the attribute with this name
+abbrev pub without_attr : List ℕ → List Attr → List Attr
+without_attr name attrs = filter (λ a. not (has_name name a)) attrs
+
+-- ---- a click
+
+-- what a decimal is
+abbrev pub click_told : Option (List ℕ) → Option (Option ℕ)
+click_told None = None
+click_told (Some value) = Some (number_of value)
+
+-- whether the message has a click, and its place where that is a decimal
+unfoldable pub click_of : List Attr → Option (Option ℕ)
+click_of attrs = click_told (attr_value attrs (codes "click"))
+
+unfoldable pub unclicked : List Attr → List Attr
+unclicked attrs = without_attr (codes "click") attrs

@@ -1,0 +1,5 @@
+pub mod Arguments
+pub mod Expressions
+pub mod Parsing
+pub mod Verbs
+pub mod Words

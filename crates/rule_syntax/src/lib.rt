@@ -1,0 +1,19 @@
+//! Rules of the plumber, after plumb(6).
+#![tactic(auto)]
+
+mod argument;
+mod expression;
+mod fault;
+mod laws;
+mod parsing;
+mod rule;
+mod verbs;
+mod words;
+
+pub use fault::RuleFault;
+pub use laws::expressions_have_sizes;
+pub use parsing::parse_rules;
+pub use rule::{Argument, Field, Late, Piece, Rule, RuleSets, Rules, Var, Vars, Verb};
+
+#[cfg(test)]
+mod tests;

@@ -1,0 +1,249 @@
+//! Objects and verbs of rules, and what their arguments have to be.
+
+ghost use Rattle.std.specs.Prelude.{◌≡◌, IfOk};
+ghost use Rattle.rule_syntax.specs.Verbs.{field_of, text_verb, data_verb, field_verb, arg_verb, attr_verb, plumb_verb, verb_of, needs_none, is_port_rune, are_port_runes, is_taken, is_port_name, large_pattern, port_told, checked, is_to, is_request, any_to, any_request, is_repeated, plumbs};
+
+use crate::argument::{is_literal, runes_of};
+use crate::expression::is_large;
+use crate::rule::{Field, Piece, Rule, Verb};
+use crate::words::{is_name_rune, is_word};
+use am_text::{NoMemory, Rune};
+use std::alloc::Global;
+
+#[tactic(auto, unfolding(crate::specs::Verbs::field_of))]
+fn field_of(object: &[Rune]) -> Option<Field>
+    ensures { result ≡ field_of object.now }
+{
+    if is_word(object, b"src") {
+        Some(Field::Src)
+    } else if is_word(object, b"dst") {
+        Some(Field::Dst)
+    } else if is_word(object, b"wdir") {
+        Some(Field::Wdir)
+    } else if is_word(object, b"type") {
+        Some(Field::Sort)
+    } else if is_word(object, b"data") {
+        Some(Field::Data)
+    } else {
+        None
+    }
+}
+
+#[tactic(auto, unfolding(crate::specs::Verbs::text_verb))]
+fn text_verb(field: Field, word: &[Rune]) -> Option<Verb>
+    ensures { result ≡ text_verb field word.now }
+{
+    if is_word(word, b"is") {
+        Some(Verb::Is(field))
+    } else if is_word(word, b"matches") {
+        Some(Verb::Matches(field))
+    } else if is_word(word, b"set") {
+        Some(Verb::Set(field))
+    } else {
+        None
+    }
+}
+
+#[tactic(auto, unfolding(crate::specs::Verbs::data_verb))]
+fn data_verb(word: &[Rune]) -> Option<Verb>
+    ensures { result ≡ data_verb word.now }
+{
+    if is_word(word, b"isfile") {
+        Some(Verb::DataIsFile)
+    } else if is_word(word, b"isdir") {
+        Some(Verb::DataIsDir)
+    } else {
+        None
+    }
+}
+
+fn field_verb(field: Option<Field>, word: &[Rune]) -> Option<Verb>
+    ensures { result ≡ field_verb field word.now }
+{
+    match field {
+        None => None,
+        Some(Field::Src) => text_verb(Field::Src, word),
+        Some(Field::Dst) => text_verb(Field::Dst, word),
+        Some(Field::Wdir) => text_verb(Field::Wdir, word),
+        Some(Field::Sort) => text_verb(Field::Sort, word),
+        Some(Field::Data) => match text_verb(Field::Data, word) {
+            Some(verb) => Some(verb),
+            None => data_verb(word),
+        },
+    }
+}
+
+#[tactic(auto, unfolding(crate::specs::Verbs::arg_verb))]
+fn arg_verb(word: &[Rune]) -> Option<Verb>
+    ensures { result ≡ arg_verb word.now }
+{
+    if is_word(word, b"isfile") {
+        Some(Verb::ArgIsFile)
+    } else if is_word(word, b"isdir") {
+        Some(Verb::ArgIsDir)
+    } else {
+        None
+    }
+}
+
+#[tactic(auto, unfolding(crate::specs::Verbs::attr_verb))]
+fn attr_verb(word: &[Rune]) -> Option<Verb>
+    ensures { result ≡ attr_verb word.now }
+{
+    if is_word(word, b"add") {
+        Some(Verb::Add)
+    } else if is_word(word, b"delete") {
+        Some(Verb::Delete)
+    } else {
+        None
+    }
+}
+
+#[tactic(auto, unfolding(crate::specs::Verbs::plumb_verb))]
+fn plumb_verb(word: &[Rune]) -> Option<Verb>
+    ensures { result ≡ plumb_verb word.now }
+{
+    if is_word(word, b"to") {
+        Some(Verb::To)
+    } else if is_word(word, b"start") {
+        Some(Verb::Start)
+    } else if is_word(word, b"client") {
+        Some(Verb::Client)
+    } else {
+        None
+    }
+}
+
+/// What an object and a verb are together.
+#[tactic(auto, unfolding(crate::specs::Verbs::verb_of))]
+pub(crate) fn verb_of(object: &[Rune], word: &[Rune]) -> Option<Verb>
+    ensures { result ≡ verb_of object.now word.now }
+{
+    if is_word(object, b"arg") {
+        arg_verb(word)
+    } else if is_word(object, b"attr") {
+        attr_verb(word)
+    } else if is_word(object, b"plumb") {
+        plumb_verb(word)
+    } else {
+        field_verb(field_of(object), word)
+    }
+}
+
+/// Whether a rule may stand without an argument.
+pub(crate) fn needs_none(verb: Verb) -> bool
+    ensures { result ≡ needs_none verb }
+{
+    match verb {
+        Verb::DataIsFile => true,
+        Verb::DataIsDir => true,
+        _ => false,
+    }
+}
+
+fn is_port_rune(c: Rune) -> bool
+    ensures { result ≡ is_port_rune c }
+{
+    is_name_rune(c) || c == 0x2E || c == 0x2D
+}
+
+fn are_port_runes(name: &[Rune]) -> bool
+    ensures { result ≡ are_port_runes name.now }
+{
+    name.iter().all(|c| is_port_rune(*c))
+}
+
+fn is_taken(name: &[Rune]) -> bool
+    ensures { result ≡ is_taken name.now }
+{
+    is_word(name, b"send") || is_word(name, b"rules")
+}
+
+#[tactic(auto, unfolding(crate::specs::Verbs::is_port_name))]
+fn is_port_name(name: &[Rune]) -> bool
+    ensures { result ≡ is_port_name name.now }
+{
+    if 1 <= name.len() && name.len() <= 64 {
+        are_port_runes(name) && !is_taken(name)
+    } else {
+        false
+    }
+}
+
+fn large_pattern(alloc: Global, pieces: &[Piece]) -> Result<Option<bool>, NoMemory>
+    ensures { IfOk result (λ large. large ≡ large_pattern pieces.now) }
+{
+    if !is_literal(pieces) {
+        return Ok(Some(false));
+    }
+    is_large(alloc, runes_of(alloc, pieces)?.as_slice())
+}
+
+fn port_told(alloc: Global, pieces: &[Piece]) -> Result<Option<bool>, NoMemory>
+    ensures { IfOk result (λ told. told ≡ port_told pieces.now) }
+{
+    if !is_literal(pieces) {
+        return Ok(None);
+    }
+    if is_port_name(runes_of(alloc, pieces)?.as_slice()) {
+        Ok(Some(false))
+    } else {
+        Ok(None)
+    }
+}
+
+/// Whether the expression of a rule is too large. There is none where the argument is none for the verb.
+pub(crate) fn checked(alloc: Global, verb: Verb, pieces: &[Piece]) -> Result<Option<bool>, NoMemory>
+    ensures { IfOk result (λ large. large ≡ checked verb pieces.now) }
+{
+    match verb {
+        Verb::Matches(_) => large_pattern(alloc, pieces),
+        Verb::To => port_told(alloc, pieces),
+        _ => Ok(Some(false)),
+    }
+}
+
+fn is_to(verb: Verb) -> bool
+    ensures { result ≡ is_to verb }
+{
+    match verb {
+        Verb::To => true,
+        _ => false,
+    }
+}
+
+fn is_request(verb: Verb) -> bool
+    ensures { result ≡ is_request verb }
+{
+    match verb {
+        Verb::Start => true,
+        Verb::Client => true,
+        _ => false,
+    }
+}
+
+fn any_to(rules: &[Rule]) -> bool
+    ensures { result ≡ any_to rules.now }
+{
+    rules.iter().any(|rule| is_to(rule.verb))
+}
+
+fn any_request(rules: &[Rule]) -> bool
+    ensures { result ≡ any_request rules.now }
+{
+    rules.iter().any(|rule| is_request(rule.verb))
+}
+
+/// Whether a set has a rule already that it may have once: a port, or a command.
+pub(crate) fn is_repeated(verb: Verb, rules: &[Rule]) -> bool
+    ensures { result ≡ is_repeated verb rules.now }
+{
+    (is_to(verb) && any_to(rules)) || (is_request(verb) && any_request(rules))
+}
+
+/// Whether a set has a port or a command.
+pub(crate) fn plumbs(rules: &[Rule]) -> bool
+    ensures { result ≡ plumbs rules.now }
+{
+    any_to(rules) || any_request(rules)
+}
