@@ -27,9 +27,16 @@ fn step(
     ensures err { IfErr result (λ e. (r : Reading) → Reaches text.now at r → Follows progress r → Refuses text.now e) }
 {
     let Some(next) = passed(position_of(&progress), kind_of(text[at])) else {
+        drop(progress);
         return Err(SynFault::Bad(at));
     };
-    let (token, end) = token_at(alloc, text, at)?;
+    let (token, end) = match token_at(alloc, text, at) {
+        Ok(read) => read,
+        Err(fault) => {
+            drop(progress);
+            return Err(fault);
+        }
+    };
     match join(alloc, progress, token, next)? {
         Some(more) => Ok((more, end)),
         None => Err(SynFault::Bad(at)),

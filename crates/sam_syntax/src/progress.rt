@@ -75,9 +75,10 @@ pub fn position_of(progress: &Progress) -> Position
 }
 
 // Past a limit all that is built is let go.
-fn past(_sheet: Sheet, next: Position, limit: Limit) -> Option<Progress>
+fn past(sheet: Sheet, next: Position, limit: Limit) -> Option<Progress>
     ensures { result ≡ Some (Progress.Past next limit) }
 {
+    drop(sheet);
     Some(Progress::Past(next, limit))
 }
 
@@ -227,7 +228,9 @@ fn worse(limit: Limit, large: bool) -> Limit
 fn past_on(limit: Limit, token: Token, next: Position) -> Progress
     ensures { (p : Piece) → IsToken token p → result ≡ Progress.Past next (if piece_large p then Limit.Large else limit) }
 {
-    Progress::Past(next, worse(limit, is_large(&token)))
+    let large = is_large(&token);
+    drop(token);
+    Progress::Past(next, worse(limit, large))
 }
 
 /// What is read with one token more, behind which the reader is at the position; `None` where no command goes on so.
@@ -265,9 +268,10 @@ fn whole(alloc: Global, progress: Progress) -> Result<Cmd, SynFault>
 }
 
 // All that is read is let go.
-fn short(_progress: Progress, end: usize) -> Result<Cmd, SynFault>
+fn short(progress: Progress, end: usize) -> Result<Cmd, SynFault>
     ensures { result ≡ Err (SynFault.Bad end) }
 {
+    drop(progress);
     Err(SynFault::Bad(end))
 }
 

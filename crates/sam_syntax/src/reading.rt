@@ -97,9 +97,10 @@ fn alone(act: Act) -> Cmd
 }
 
 // The command is let go.
-fn no_start(_cmd: Cmd) -> Option<Start>
+fn no_start(cmd: Cmd) -> Option<Start>
     ensures { result ≡ None }
 {
+    drop(cmd);
     None
 }
 
@@ -189,10 +190,12 @@ fn block_of(alloc: Global, block: OpenBlock) -> Result<Cmd, NoMemory>
     )
 }
 
-// The line is let go.
-fn no_sheet(_line: Line) -> Option<Sheet>
+// The line and the address are let go.
+fn no_sheet(line: Line, addr: Addr) -> Option<Sheet>
     ensures { result ≡ None }
 {
+    drop(line);
+    drop(addr);
     None
 }
 
@@ -212,9 +215,9 @@ pub fn join_address(sheet: Sheet, addr: Addr) -> Option<Sheet>
             line: Line::Addressed(heads, addr),
             depth,
         }),
-        Line::Opened => None,
-        Line::Addressed(heads, other) => no_sheet(Line::Addressed(heads, other)),
-        Line::Ended(cmd) => no_sheet(Line::Ended(cmd)),
+        Line::Opened => no_sheet(Line::Opened, addr),
+        Line::Addressed(heads, other) => no_sheet(Line::Addressed(heads, other), addr),
+        Line::Ended(cmd) => no_sheet(Line::Ended(cmd), addr),
     }
 }
 
@@ -251,6 +254,7 @@ pub fn join_action(alloc: Global, sheet: Sheet, act: Act) -> Result<Option<Sheet
         depth,
     } = sheet;
     let Some(Start { heads, addr }) = start_of(line) else {
+        drop(act);
         return Ok(None);
     };
     let depth = depth.saturating_sub(heads.len());
@@ -310,6 +314,7 @@ pub fn end_line(alloc: Global, sheet: Sheet) -> Result<Option<Sheet>, NoMemory>
         depth,
     } = sheet;
     let Some(block) = blocks.pop_front() else {
+        drop(line);
         return Ok(None);
     };
     let depth = depth.saturating_sub(loops_of(&line));

@@ -1,5 +1,4 @@
 use Rattle.std.proofs.Common.{◌≡◌, ◌<◌, ◌^◌, length, None, sym, ap, ◌∙◌, rules}
-use Rattle.std.proofs.lemmas.Result.{err_from_is_err_and}
 use Rattle.sam_syntax.specs.Position.{positioned}
 use Rattle.sam_syntax.proofs.Places.{passes_on, unjoined_here, token_refuses, piece_leads, step_reaches}
 use Rattle.sam_syntax.proofs.parser.step.Goals as goal
@@ -11,27 +10,26 @@ returns-in_default-clause-err c = λ r x f.
     unjoined_here c.args.text.now c.args.at r x c.requires
     (passes_on c.args.text.now c.args.at r c.position_of.result c.kind_of.result c.passed.result x c.requires bound (c.position_of.ensures r f) c.kind_of.ensures c.passed.ensures ∙ none)
 
-pub returns-in_err-token-clause-err : goal.returns-in_err-token-clause-err
-returns-in_err-token-clause-err c =
-    let p = err_from_is_err_and c.from_residual.result c.from_residual.ensures.1 in
+pub returns-in-Err-clause-err : goal.returns-in-Err-clause-err
+returns-in-Err-clause-err c = λ r x f.
     let bound : length c.args.text.now < 2 ^ 64 = search rules in
-    rw (p.1, p.2) (λ r x f. token_refuses c.args.text.now c.args.at r c.in-Some.next x c.requires
+    token_refuses c.args.text.now c.args.at r c.in-Some.next x c.requires
     (passes_on c.args.text.now c.args.at r c.position_of.result c.kind_of.result c.passed.result x c.requires bound (c.position_of.ensures r f) c.kind_of.ensures c.passed.ensures ∙ c.in-Some.is)
-    c.in_err-token.field-0.0 c.in_err-token.ensures.refused)
+    c.in-Err.fault c.in-Err.ensures.refused
 
 pub returns-in-Some-2-clause-ok : goal.returns-in-Some-2-clause-ok
 returns-in-Some-2-clause-ok c = λ r x f.
     let bound : length c.args.text.now < 2 ^ 64 = search rules in
-    let token = c.in_ok-token.ensures.read in
-    let lead = piece_leads c.args.text.now c.args.at c.in_ok-token.end r token.0 token.2 in
+    let token = c.in-Ok.ensures.read in
+    let lead = piece_leads c.args.text.now c.args.at c.in-Ok.read.1 r token.0 token.2 in
     let pass = passes_on c.args.text.now c.args.at r c.position_of.result c.kind_of.result c.passed.result x c.requires bound (c.position_of.ensures r f) c.kind_of.ensures c.passed.ensures ∙ c.in-Some.is in
     let joins = rw c.in-Some-2.is at c.in_ok-more.ensures in
     let on = joins token.0 token.1 lead.0 r f (lead.1 ∙ pass) in
-    (on.0, step_reaches c.args.text.now c.args.at c.in_ok-token.end r on.0 token.0 x token.2 on.1, on.2)
+    (on.0, step_reaches c.args.text.now c.args.at c.in-Ok.read.1 r on.0 token.0 x token.2 on.1, on.2)
 
 pub returns-in-None-clause-err : goal.returns-in-None-clause-err
 returns-in-None-clause-err c = λ r x f.
-    let token = c.in_ok-token.ensures.read in
-    let lead = piece_leads c.args.text.now c.args.at c.in_ok-token.end r token.0 token.2 in
+    let token = c.in-Ok.ensures.read in
+    let lead = piece_leads c.args.text.now c.args.at c.in-Ok.read.1 r token.0 token.2 in
     let joins = rw c.in-None.is at c.in_ok-more.ensures in
     unjoined_here c.args.text.now c.args.at r x c.requires (sym lead.1 ∙ ap positioned (joins token.0 token.1 lead.0 r f))
