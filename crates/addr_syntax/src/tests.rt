@@ -1,4 +1,4 @@
-use crate::{Addr, SynFault, addr_at, delimiter_at, number, parse_addr};
+use crate::{Addr, SynFault, addr_at, begins_piece, delimiter_at, expression, number, parse_addr};
 use am_text::{Items, Rune, Runes, decode_whole};
 use std::alloc::{AllocError, Global};
 use std::test::Fail;
@@ -126,6 +126,16 @@ fn slash_from(text: &[Rune], from: usize) -> usize {
     delimiter_at(text, from.min(text.len()), 47)
 }
 
+// Where the expression ends that begins at a place and stands before a `/`.
+fn expression_end(alloc: Global, text: &[Rune], from: usize) -> Result<usize, SynFault> {
+    let from = from.min(text.len());
+    match expression(alloc, text, from, 47) {
+        Ok((Some(_), end)) => Ok(end),
+        Ok((None, _)) => Err(SynFault::Nodes),
+        Err(fault) => Err(fault),
+    }
+}
+
 #[test]
 fn addresses_at_the_beginning(rt: HostRuntime) -> Result<(), Fail> {
     let alloc = rt.alloc();
@@ -136,5 +146,8 @@ fn addresses_at_the_beginning(rt: HostRuntime) -> Result<(), Fail> {
     let text = runes(alloc, "12/a\\//")?;
     assert_eq!(rt; number(text.as_slice(), 0), Ok((12, 2)));
     assert_eq!(rt; slash_from(text.as_slice(), 3), 6);
+    assert_eq!(rt; expression_end(alloc, text.as_slice(), 3), Ok(6));
+    // # and p
+    assert!(rt; begins_piece(35) && !begins_piece(112));
     Ok(())
 }

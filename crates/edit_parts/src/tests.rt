@@ -1,4 +1,4 @@
-use crate::{Act, Limited, SynFault, Token, token_at};
+use crate::{Act, Kind, Limited, Loop, SynFault, Token, kind_of, token_at};
 use am_text::{Rune, Runes, decode_whole};
 use std::alloc::{AllocError, Global};
 use std::test::Fail;
@@ -131,5 +131,14 @@ fn pieces_of_commands(rt: HostRuntime) -> Result<(), Fail> {
         let text_runes = runes(alloc, text)?;
         assert_eq!(rt; first_piece(alloc, text_runes.as_slice()), want, "{text}");
     }
+    Ok(())
+}
+
+#[test]
+fn kinds_of_pieces(rt: HostRuntime) -> Result<(), Fail> {
+    // x, # and k
+    assert!(rt; matches!(kind_of(120), Kind::Loops(Loop::ForEach)));
+    assert!(rt; matches!(kind_of(35), Kind::Address));
+    assert!(rt; matches!(kind_of(107), Kind::Other));
     Ok(())
 }

@@ -1,4 +1,6 @@
-use crate::{Attr, PlumbMsg, PlumbRead, can_spell, read_attrs, read_msg, write_msg};
+use crate::{
+    Attr, Attrs, PlumbMsg, PlumbRead, attrs_text, can_spell, read_attrs, read_msg, write_msg,
+};
 use am_text::{Bytes, Items, NoMemory};
 use std::alloc::{AllocError, Global};
 use std::test::Fail;
@@ -124,11 +126,17 @@ fn attr(alloc: Global, name: &[u8], value: &[u8]) -> Result<Attr, NoMemory> {
     })
 }
 
-// A message with two attributes of these names.
-fn can_name(alloc: Global, first: &[u8], second: &[u8]) -> Result<bool, NoMemory> {
+// Two attributes of these names.
+fn pair(alloc: Global, first: &[u8], second: &[u8]) -> Result<Attrs, NoMemory> {
     let mut attrs = Items::new(alloc);
     attrs.push(attr(alloc, first, b"it's")?)?;
     attrs.push(attr(alloc, second, b"")?)?;
+    Ok(attrs)
+}
+
+// A message with two attributes of these names.
+fn can_name(alloc: Global, first: &[u8], second: &[u8]) -> Result<bool, NoMemory> {
+    let attrs = pair(alloc, first, second)?;
     let msg = PlumbMsg {
         src: Bytes::new(alloc),
         dst: Bytes::new(alloc),
@@ -149,6 +157,12 @@ fn are_named(alloc: Global) -> Result<bool, NoMemory> {
     )
 }
 
+fn is_their_line(alloc: Global) -> Result<bool, NoMemory> {
+    let attrs = pair(alloc, b"a", b"b")?;
+    let text = attrs_text(alloc, attrs.as_slice())?;
+    Ok(text.as_slice() == b"a='it''s' b=".as_slice())
+}
+
 fn is_attribute(alloc: Global) -> Result<bool, NoMemory> {
     let Some(attrs) = read_attrs(alloc, b"click='it''s 5'")? else {
         return Ok(false);
@@ -167,6 +181,7 @@ fn attributes(rt: HostRuntime) -> Result<(), Fail> {
     let alloc = rt.alloc();
     let named = are_named(alloc).map_err(|_| AllocError)?;
     let read = is_attribute(alloc).map_err(|_| AllocError)?;
-    assert!(rt; named && read);
+    let written = is_their_line(alloc).map_err(|_| AllocError)?;
+    assert!(rt; named && read && written);
     Ok(())
 }
