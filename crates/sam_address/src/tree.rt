@@ -1,8 +1,9 @@
 //! The value of a tree.
 
 ghost use Rattle.std.specs.Prelude.{◌≡◌, ◌<◌, ◌≤◌, ◌+◌, length, IfOk, IfErr, Ok};
-ghost use Rattle.addr_syntax.specs.Tree.{tree};
-ghost use Rattle.sam_address.specs.Value.{value, after, before, rune_at, runes_back, joined, IsFault, IsInside, line_from};
+ghost use Rattle.addr_syntax.specs.Tree.{tree, side};
+ghost use Rattle.addr_syntax.specs.declared.address.Addr.{back-Addr-Plus-0};
+ghost use Rattle.sam_address.specs.Value.{value, after, before, written_or, rune_at, runes_back, joined, IsFault, IsInside, line_from};
 ghost use Rattle.sam_address.specs.Lines.{line_starts, nth};
 
 use crate::fault::AddrFault;
@@ -110,11 +111,35 @@ fn before<T: Letters>(
     }
 }
 
+// The value of a side, or the range that stands for a side that isn't written.
+#[cycle(address)]
+#[tactic(auto, using(crate::proofs::Sides::written_tree))]
+fn side<T: Letters>(
+    alloc: Global,
+    addr: &Option<Box<Addr>>,
+    text: &T,
+    missing: Range,
+    dot: Range,
+    limit: Range,
+) -> Result<Range, AddrFault>
+    requires missing { IsInside (T.letters text.now) missing }
+    requires dot { IsInside (T.letters text.now) dot }
+    requires limit { IsInside (T.letters text.now) limit }
+    ensures value { IfOk result (λ r. written_or (side (back-Addr-Plus-0 addr.now)) (Ok missing) (value (side (back-Addr-Plus-0 addr.now)) (T.letters text.now) limit dot) ≡ Ok r) }
+    ensures fault { IfErr result (λ e. IsFault e (written_or (side (back-Addr-Plus-0 addr.now)) (Ok missing) (value (side (back-Addr-Plus-0 addr.now)) (T.letters text.now) limit dot))) }
+    ensures inside { IfOk result (IsInside (T.letters text.now)) }
+{
+    match addr {
+        Some(addr) => value(alloc, addr, text, dot, limit),
+        None => Ok(missing),
+    }
+}
+
 /// The value of an address in a text, where dot is this range and searches stay inside the limit.
 ///
 /// It is a range inside the text, or the first fault from left to right, as sam(1) has it.
 #[cycle(address)]
-#[tactic(auto, using(crate::proofs::Sides::written_tree))]
+#[tactic(auto, using(crate::proofs::Sides::written_dot))]
 pub fn value<T: Letters>(
     alloc: Global,
     addr: &Addr,
@@ -137,45 +162,27 @@ pub fn value<T: Letters>(
         Addr::Fore(re) => forward(alloc, re, text, limit, dot.q1),
         Addr::Back(re) => backward(alloc, re, text, limit, dot.q0),
         Addr::Plus(a, b) => {
-            let left = match a {
-                Some(a) => value(alloc, a, text, dot, limit)?,
-                None => dot,
-            };
+            let left = side(alloc, a, text, dot, dot, limit)?;
             match b {
                 Some(b) => after(alloc, b, text, left, limit),
                 None => lines_on(text, left.q1, 1),
             }
         }
         Addr::Minus(a, b) => {
-            let left = match a {
-                Some(a) => value(alloc, a, text, dot, limit)?,
-                None => dot,
-            };
+            let left = side(alloc, a, text, dot, dot, limit)?;
             match b {
                 Some(b) => before(alloc, b, text, left, limit),
                 None => lines_back(text, left.q0, 1),
             }
         }
         Addr::Comma(a, b) => {
-            let left = match a {
-                Some(a) => value(alloc, a, text, dot, limit)?,
-                None => null_at(0),
-            };
-            let right = match b {
-                Some(b) => value(alloc, b, text, dot, limit)?,
-                None => null_at(text.len()),
-            };
+            let left = side(alloc, a, text, null_at(0), dot, limit)?;
+            let right = side(alloc, b, text, null_at(text.len()), dot, limit)?;
             joined(left, right)
         }
         Addr::Semi(a, b) => {
-            let left = match a {
-                Some(a) => value(alloc, a, text, dot, limit)?,
-                None => null_at(0),
-            };
-            let right = match b {
-                Some(b) => value(alloc, b, text, left, limit)?,
-                None => null_at(text.len()),
-            };
+            let left = side(alloc, a, text, null_at(0), dot, limit)?;
+            let right = side(alloc, b, text, null_at(text.len()), left, limit)?;
             joined(left, right)
         }
     }
