@@ -65,6 +65,8 @@ pub enum Why {
     Ended,
     /// The message is larger than the connection's msize.
     Size,
+    /// A read of the connection with the message's tag waits.
+    Tag,
     /// The connection has 256 unsent replies.
     Replies,
     /// The connection has no unsent reply.

@@ -43,6 +43,7 @@ pub fn word(why: Why) -> &'static [u8]
         Why::Dialed => b"dialed",
         Why::Ended => b"ended",
         Why::Size => b"size",
+        Why::Tag => b"tag",
         Why::Replies => b"replies",
         Why::Nothing => b"nothing",
         Why::Window => b"window",

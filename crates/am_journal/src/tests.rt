@@ -329,6 +329,7 @@ fn answers_are_lines(rt: HostRuntime) {
     assert_eq!(rt; word(Why::Conn), b"conn".as_slice());
     assert_eq!(rt; word(Why::Ended), b"ended".as_slice());
     assert_eq!(rt; word(Why::Size), b"size".as_slice());
+    assert_eq!(rt; word(Why::Tag), b"tag".as_slice());
     assert_eq!(rt; word(Why::Replies), b"replies".as_slice());
     assert_eq!(rt; word(Why::Nothing), b"nothing".as_slice());
     assert_eq!(rt; word(Why::Window), b"window".as_slice());

@@ -212,6 +212,13 @@ impl Book {
         self.tables.ledger()
     }
 
+    /// All items of the kept state with their lives and spellings, by window and number.
+    pub fn kept_ledger(&self) -> Result<ItemViews, NoMemory>
+        ensures { IfOk result (λ views. views ≡ ledger_of self.now.kept.files) }
+    {
+        self.tables.kept_ledger()
+    }
+
     /// What the laws of the calls ask of a state holds of every book, in both states.
     pub fn is_lawful(&self)
         ensures present { IsLawful self.now.present }

@@ -255,4 +255,16 @@ impl EventFile {
     {
         self.items.append_views(alloc, window, views)
     }
+
+    /// Puts all kept items with their kept lives and their spellings into a ledger.
+    pub fn append_kept_views(
+        &self,
+        alloc: Global,
+        window: u32,
+        views: &mut ItemViews,
+    ) -> Result<(), NoMemory>
+        ensures { OnOk result (views.new ≡ views.old ++ views_from window 1 self.now.kept.items) }
+    {
+        self.items.append_kept_views(alloc, window, views)
+    }
 }

@@ -272,6 +272,15 @@ fn append_ledger(alloc: Global, all: &[FileAt], views: &mut ItemViews) -> Result
     Ok(())
 }
 
+fn append_kept_ledger(alloc: Global, all: &[FileAt], views: &mut ItemViews) -> Result<(), NoMemory>
+    ensures { OnOk result (views.new ≡ views.old ++ ledger_of (files_in kept_of all.now)) }
+{
+    for at in all {
+        at.file.append_kept_views(alloc, at.window, views)?;
+    }
+    Ok(())
+}
+
 impl FileTable {
     /// No files. It takes no memory.
     pub fn new(alloc: Global) -> Self
@@ -360,6 +369,15 @@ impl FileTable {
     {
         let mut views = ItemViews::new(self.alloc);
         append_ledger(self.alloc, self.all.as_slice(), &mut views)?;
+        Ok(views)
+    }
+
+    /// The same of the kept state.
+    pub fn kept_ledger(&self) -> Result<ItemViews, NoMemory>
+        ensures { IfOk result (λ views. views ≡ ledger_of self.now.kept) }
+    {
+        let mut views = ItemViews::new(self.alloc);
+        append_kept_ledger(self.alloc, self.all.as_slice(), &mut views)?;
         Ok(views)
     }
 

@@ -247,6 +247,19 @@ impl ItemList {
         append_views(alloc, window, self.all.as_slice(), self.settled, views)
     }
 
+    /// Puts all kept items with their kept lives and their spellings into a ledger.
+    pub fn append_kept_views(
+        &self,
+        alloc: Global,
+        window: u32,
+        views: &mut ItemViews,
+    ) -> Result<(), NoMemory>
+        ensures { OnOk result (views.new ≡ views.old ++ views_from window 1 self.now.kept) }
+    {
+        let kept = &self.all.as_slice()[..self.kept];
+        append_views(alloc, window, kept, self.kept_settled, views)
+    }
+
     /// The present state becomes the kept one. It takes no memory.
     pub fn keep(&mut self)
         ensures { self.new ≡ both self.old.present }

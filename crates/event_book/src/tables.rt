@@ -360,4 +360,11 @@ impl Tables {
     {
         self.files.ledger()
     }
+
+    /// The same of the kept state.
+    pub fn kept_ledger(&self) -> Result<ItemViews, NoMemory>
+        ensures { IfOk result (λ views. views ≡ ledger_of self.now.kept.files) }
+    {
+        self.files.kept_ledger()
+    }
 }

@@ -101,8 +101,15 @@ impl Sessions {
         self.table.fid_at(conn, k)
     }
 
+    /// How many reads of all connections wait.
+    pub fn waiters(&self) -> usize
+        ensures { result ≡ length self.now.present.waiting }
+    {
+        self.table.waiters()
+    }
+
     /// Connection, tag and fid of the k-th waiting read of all connections, from 0 in the order of
-    /// asking: None exactly where k isn't below their number.
+    /// asking: None exactly where k isn't below `waiters`.
     pub fn waiter(&self, k: usize) -> Option<(u32, u16, u32)>
         ensures { result ≡ option_map as_triple (slice_get self.now.present.waiting k) }
     {
@@ -222,8 +229,7 @@ impl Sessions {
 
     /// The read with this tag of the connection waits no more. It takes no memory.
     pub fn done(&mut self, conn: u32, tag: u16)
-        requires joined { HasJoined self.old.present conn }
-        requires steady { IsSteady self.old }
+        requires { IsSteady self.old }
         ensures { self.new ≡ both (after_done self.old.present conn tag) }
     {
         self.trail.clear();

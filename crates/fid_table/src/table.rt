@@ -109,6 +109,13 @@ impl Table {
         }
     }
 
+    /// How many reads wait.
+    pub fn waiters(&self) -> usize
+        ensures { result ≡ length self.now.waiting }
+    {
+        self.waiting.len()
+    }
+
     /// Whether a read with this tag of this connection waits.
     pub fn waits(&self, conn: u32, tag: u16) -> bool
         ensures { result ≡ list_any (is_waiting conn tag) self.now.waiting }
