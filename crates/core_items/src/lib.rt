@@ -1,0 +1,13 @@
+//! The items that a change of the windows makes, for the windows' event files.
+#![tactic(auto)]
+
+mod edits;
+mod making;
+mod plain;
+mod size;
+mod tags;
+#[cfg(test)]
+mod tests;
+
+pub use making::items_of;
+pub use plain::NewItems;
