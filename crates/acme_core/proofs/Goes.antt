@@ -1,23 +1,26 @@
 -- A run goes on, and what is kept goes on with it.
-use Rattle.std.proofs.Common.{◌≡◌, ℕ, zero, suc, false, ◌-◌, ◌≤◌, List, [], ◌∷◌, ◌++◌, length, Option, Some, None, refl, sym, ap, subst, ◌∙◌, arith}
+use Rattle.std.proofs.Common.{◌≡◌, ℕ, zero, suc, false, ◌+◌, ◌-◌, List, [], ◌∷◌, ◌++◌, length, Option, Some, None, refl, sym, ap, subst, ◌∙◌, arith}
 use Rattle.std.specs.Prelude.{replicate}
+use Rattle.std.specs.List.{fold}
 use Rattle.std.proofs.lemmas.Grind.{fold-append}
+use Rattle.std.proofs.lemmas.List.{length-append}
 use Rattle.am_text.specs.Room.{Room}
 use Rattle.am_journal.specs.declared.event.Event.{Event}
 use Rattle.core_windows.specs.Possible.{IsPossible}
 use Rattle.core_windows.specs.Windows.{Window}
 use Rattle.core_windows.specs.Stories.{AreLawful}
 use Rattle.core_windows.specs.WindowLaws.{ChangesShow, ChangesAreLawful}
-use Rattle.core_answers.specs.declared.effect.Effect.{Effect}
-use Rattle.acme_core.specs.declared.planning.Prepared.{Prepared}
+use Rattle.core_events.specs.Sound.{IsSound}
+use Rattle.acme_core.specs.declared.prepared.Prepared.{Prepared}
 use Rattle.acme_core.specs.declared.parts.Parts.{Parts}
-use Rattle.acme_core.specs.declared.unsent.Reply.{Reply}
 use Rattle.acme_core.specs.declared.connection.Connection.TheVariants.{Undialed}
 use Rattle.acme_core.specs.Connections.{connection_at, connections_after, live_count, was_dialed, AreJoined}
+use Rattle.acme_core.specs.Doings.{doing_of}
 use Rattle.acme_core.specs.Kept.{IsKept, IsReady, IsPrepared, AreSound}
 use Rattle.acme_core.specs.Parts.{present_of}
-use Rattle.acme_core.specs.Run.{Present, State, present, start, step, run, present_after, after, effect_of, change_of, replies_to}
-use Rattle.acme_core.specs.Unsent.{replies_of}
+use Rattle.acme_core.specs.Run.{step, run, present_after}
+use Rattle.acme_core.specs.Stages.{after}
+use Rattle.acme_core.specs.States.{Present, State, present, start}
 use Rattle.acme_core.proofs.Few.{length-connections}
 use Rattle.acme_core.proofs.Joins.{joins_on}
 
@@ -26,52 +29,56 @@ unfolding run
 run-push journal e = fold-append step start journal (e ∷ [])
 
 -- what a step makes of the editor as it stands is what it makes of the story
-stands_on : ChangesShow → (s : State) (e : Event) → AreLawful s.windows → IsPossible (present s).windows (change_of (present s) e)
-    → present (step s e) ≡ after (present s) e (effect_of (present s) e) (change_of (present s) e) (replies_to (present s) e)
+stands_on : ChangesShow → (s : State) (e : Event) → AreLawful s.windows → IsPossible (present s).windows (doing_of (present s) e).change
+    → present (step s e) ≡ after (present s) e (doing_of (present s) e)
 unfolding step
 stands_on show s e lawful possible =
-    ap (λ (ws : List (Option Window)). record (after (present s) e (effect_of (present s) e) (change_of (present s) e) (replies_to (present s) e)) { windows = ws })
-    (show s.windows (change_of (present s) e) lawful possible)
+    ap (λ (ws : List (Option Window)). record (after (present s) e (doing_of (present s) e)) { windows = ws })
+    (show s.windows (doing_of (present s) e).change lawful possible)
 
-lawful_on : ChangesAreLawful → (s : State) (e : Event) → AreLawful s.windows → IsPossible (present s).windows (change_of (present s) e) → AreLawful (step s e).windows
+lawful_on : ChangesAreLawful → (s : State) (e : Event) → AreLawful s.windows → IsPossible (present s).windows (doing_of (present s) e).change → AreLawful (step s e).windows
 unfolding step
-lawful_on laws s e lawful possible = laws.stays s.windows (change_of (present s) e) lawful possible
+lawful_on laws s e lawful possible = laws.stays s.windows (doing_of (present s) e).change lawful possible
 
 -- the tables stay sound
 sound_on : (old new : Parts) (spare : ℕ) (p : Prepared) → AreSound old → IsPrepared (present_of old) spare old p
-    → present_of new ≡ after (present_of old) p.event p.effect (change_of (present_of old) p.event) (replies_of p.reply)
+    → present_of new ≡ after (present_of old) p.event (doing_of (present_of old) p.event) → IsSound new.entries new.book.kept
     → AreSound new
-sound_on old new spare p was ready changed = record {
+sound_on old new spare p was ready changed book = record {
   conns = ap (λ (x : Present). length x.connections) changed ∙ length-connections old.connections.items p.event ∙ was.conns;
-  joined = subst (λ (x : Present). AreJoined x.connections x.tables) (sym changed) (joins_on (present_of old) p.event p.effect was.conns ready.lawful ready.allowed was.joined);
+  joined = subst (λ (x : Present). AreJoined x.connections x.tables) (sym changed) (joins_on (present_of old) p.event (doing_of (present_of old) p.event) was.conns ready.lawful ready.allowed was.joined);
+  book = book;
 }
 
 -- what is kept goes on with a step
-pub kept_on : ChangesShow → ChangesAreLawful → (entries next : Room Event) (old new : Parts) (p : Prepared) (left : Option Prepared)
-    → IsKept entries old (Some p) → next.items ≡ entries.items ++ p.event ∷ [] → next.spare ≡ entries.spare - 1
-    → present_of new ≡ after (present_of old) p.event p.effect (change_of (present_after entries.items) p.event) (replies_of p.reply) → left ≡ None
+pub kept_on : ChangesShow → ChangesAreLawful → (entries next : Room Event) (old new : Parts) (p : Prepared) (e : Event) (left : Option Prepared)
+    → IsKept entries old (Some p) → e ≡ p.event → next.items ≡ entries.items ++ e ∷ [] → next.spare ≡ entries.spare - 1
+    → present_of new ≡ after (present_of old) p.event (doing_of (present_after entries.items) p.event) → IsSound new.entries new.book.kept → left ≡ None
     → IsKept next new left
-kept_on show laws entries next old new p left was grown spare changed none =
+kept_on show laws entries next old new p e left was is grown spare changed book none =
     let s : State = run entries.items in
     let ready : IsPrepared (present s) entries.spare old p = was.ready in
-    let stood : present_of new ≡ after (present s) p.event (effect_of (present s) p.event) (change_of (present s) p.event) (replies_to (present s) p.event) =
-    changed ∙ ap (λ (x : Present). after x p.event p.effect (change_of (present s) p.event) (replies_of p.reply)) was.state
-    ∙ ap (λ (x : Effect). after (present s) p.event x (change_of (present s) p.event) (replies_of p.reply)) ready.does
-    ∙ ap (λ (x : List Reply). after (present s) p.event (effect_of (present s) p.event) (change_of (present s) p.event) x) ready.answers
+    let pushed : next.items ≡ entries.items ++ p.event ∷ [] = grown ∙ ap (λ (x : Event). entries.items ++ x ∷ []) is in
+    let stood : present_of new ≡ after (present s) p.event (doing_of (present s) p.event) =
+    changed ∙ ap (λ (x : Present). after x p.event (doing_of (present s) p.event)) was.state
     in
     let stepped : present_of new ≡ present (step s p.event) = stood ∙ sym (stands_on show s p.event was.lawful ready.possible) in
-    let ran : step s p.event ≡ run next.items = sym (run-push entries.items p.event) ∙ ap run (sym grown) in
+    let ran : step s p.event ≡ run next.items = sym (run-push entries.items p.event) ∙ ap run (sym pushed) in
     let readied : IsPrepared (present_of old) entries.spare old p = subst (λ (x : Present). IsPrepared x entries.spare old p) (sym was.state) ready in
-    let same : present_of new ≡ after (present_of old) p.event p.effect (change_of (present_of old) p.event) (replies_of p.reply) =
-    changed ∙ ap (λ (x : Present). after (present_of old) p.event p.effect (change_of x p.event) (replies_of p.reply)) (sym was.state)
+    let same : present_of new ≡ after (present_of old) p.event (doing_of (present_of old) p.event) =
+    changed ∙ ap (λ (x : Present). after (present_of old) p.event (doing_of x p.event)) (sym was.state)
     in
     let lives : new.connections.items ≡ connections_after old.connections.items p.event = ap (λ (x : Present). x.connections) changed in
-    let count : live_count (connections_after old.connections.items p.event) ≤ next.spare = omega (arith, ready.entries, spare) in
+    let count : live_count new.connections.items ≡ live_count (connections_after old.connections.items p.event) = ap live_count lives in
+    let numbered : new.entries ≡ old.entries + 1 = ap (λ (x : Present). x.entries) changed in
+    let had : (present s).entries ≡ old.entries = sym (ap (λ (x : Present). x.entries) was.state) in
+    let longer : length next.items ≡ length entries.items + 1 = ap (λ (l : List Event). length l) pushed ∙ length-append entries.items (p.event ∷ []) in
     record {
       state = stepped ∙ ap present ran;
       lawful = subst (λ (x : State). AreLawful x.windows) ran (lawful_on laws s p.event was.lawful ready.possible);
-      sound = sound_on old new entries.spare p was.sound readied same;
-      hangs = subst (λ (cs : _). live_count cs ≤ next.spare) (sym lives) count;
+      counted = omega (arith, numbered, was.counted, longer);
+      sound = sound_on old new entries.spare p was.sound readied same book;
+      hangs = record { room = omega (arith, count, spare, ready.entries.room); numbers = omega (arith, count, numbered, had, ready.entries.numbers) };
       ready = subst (λ (x : Option Prepared). IsReady (present_after next.items) next.spare new x) (sym none) tt;
     }
 
@@ -89,13 +96,28 @@ none_live (suc n) = none_live n
 pub kept_start : ChangesAreLawful → (entries : Room Event) (parts : Parts) → entries.items ≡ [] → present_of parts ≡ present start → IsKept entries parts None
 unfolding run
 kept_start laws entries parts empty state =
+    let none : live_count parts.connections.items ≡ 0 = ap (λ (x : Present). live_count x.connections) state ∙ none_live 64 in
+    let first : parts.entries ≡ 0 = ap (λ (x : Present). x.entries) state in
     record {
       state = state ∙ ap present_after (sym empty);
       lawful = subst (λ (x : List Event). AreLawful (run x).windows) (sym empty) laws.begins;
+      counted = first ∙ ap (λ (l : List Event). length l) (sym empty);
       sound = record {
         conns = ap (λ (x : Present). length x.connections) state;
         joined = subst (λ (x : Present). AreJoined x.connections x.tables) (sym state) (undialed_at 64);
+        book = subst (λ (x : Present). IsSound x.entries x.book) (sym state) (record { latest = omega arith; small = refl });
       };
-      hangs = subst (λ (cs : _). live_count cs ≤ entries.spare) (sym (ap (λ (x : Present). x.connections) state)) (omega (arith, none_live 64));
+      hangs = record { room = omega (arith, none); numbers = omega (arith, none, first) };
       ready = tt;
     }
+
+-- ---- the number of an entry
+
+counts : (s : State) (journal : List Event) → (fold step s journal).entries ≡ s.entries + length journal
+unfolding step
+counts s [] = omega arith
+counts s (e ∷ journal) = omega (arith, counts (step s e) journal)
+
+pub entries_counted : (journal : List Event) → (run journal).entries ≡ length journal
+unfolding run
+entries_counted journal = omega (arith, counts start journal)

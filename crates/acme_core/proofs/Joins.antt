@@ -1,9 +1,8 @@
 -- The connections that joined the sessions are those that were dialled, one event further.
-use Rattle.am_text.specs.Twice.{IsSteady}
 use Rattle.acme_core.specs.declared.parts.Parts.{Parts}
 use Rattle.acme_core.specs.Parts.{present_of}
 use Rattle.acme_core.specs.Kept.{AreSound}
-use Rattle.std.proofs.Common.{subst, ◌≡◌, ◌≢◌, ℕ, ◌<◌, Bool, true, false, cond, eqb, ◌||◌, List, [], ◌∷◌, length, Option, Some, None, refl, sym, ap, ◌∙◌, arith}
+use Rattle.std.proofs.Common.{◌≡◌, ◌≢◌, ℕ, ◌<◌, Bool, true, false, cond, eqb, ◌||◌, List, [], ◌∷◌, length, Option, Some, None, refl, sym, ap, ◌∙◌, arith}
 use Rattle.std.specs.Prelude.{slice_set}
 use Rattle.std.specs.List.{list_any}
 use Rattle.std.proofs.lemmas.Bool.{eqb-true, eqb-false}
@@ -14,14 +13,26 @@ use Rattle.am_journal.specs.declared.event.Event.TheVariants as event
 use Rattle.am_journal.specs.declared.event.Why.{Why}
 use Rattle.am_journal.specs.Lawful.{IsLawful}
 use Rattle.fid_table.specs.declared.session.Session.{Session}
-use Rattle.fid_table.specs.Tables.{Tables, is_session, has_joined, HasJoined, on_session, put_in, taken_from, begun, after_join}
+use Rattle.fid_table.specs.Tables.{Tables, is_session, has_joined, on_session, put_in, taken_from, begun, after_join, after_done}
 use Rattle.acme_core.specs.declared.connection.Connection.{Connection}
 use Rattle.acme_core.specs.declared.connection.Connection.TheVariants.{Undialed, Live, Ended}
 use Rattle.core_answers.specs.declared.effect.Effect.{Effect}
 use Rattle.core_answers.specs.declared.effect.Effect.TheVariants as effect
-use Rattle.acme_core.specs.Connections.{connection_at, connections_after, was_dialed, AreJoined, IsJoinedFor, tables_with, tables_after, grown_with, ended_with}
+use Rattle.acme_core.specs.Connections.{connection_at, connections_after, was_dialed, AreJoined, IsJoinedFor, IsOfJoined, grown, grown_with, ended_with}
 use Rattle.acme_core.specs.Enabled.{dial_refusal, live_refusal, first_why}
-use Rattle.acme_core.specs.Run.{Present, enabled_at}
+use Rattle.acme_core.specs.States.{Present}
+use Rattle.acme_core.specs.Doings.{enabled_at}
+use Rattle.acme_core.specs.Stages.{asker_of, answer_tables, event_tables, said, tables_after}
+use Rattle.acme_core.specs.declared.doing.Doing.{Doing}
+use Rattle.ninep_wire.specs.declared.message.RBody.{RBody}
+use Rattle.event_book.specs.BookState.{BookState}
+use Rattle.core_answers.specs.declared.effect.Answer.{Answer}
+use Rattle.core_answers.specs.declared.effect.Answer.TheVariants.{Says, Reads}
+use Rattle.core_answers.specs.declared.effect.EventChange.{EventChange}
+use Rattle.core_answers.specs.declared.effect.EventChange.TheVariants as events
+use Rattle.core_events.specs.declared.response.Response.{Response}
+use Rattle.core_events.specs.Asking.{read_said, waits_unless}
+use Rattle.core_events.specs.Waits.{ended, without_cancelled}
 
 -- ---- sessions keep their connections
 
@@ -34,11 +45,35 @@ module _ (change : Session → Session) (keeps : (s : Session) → (change s).co
         | false ↦ ap (λ (b : Bool). eqb s.conn x || b) (any_kept conn x ss)
       ]
 
-joined_with : (t : Tables) (conn x : ℕ) (f : Effect) → has_joined (tables_with t conn f) x ≡ has_joined t x
-joined_with t conn x effect.Nothing = refl
-joined_with t conn x (effect.Begins msize) = any_kept (begun msize) (λ s. refl) conn x t.sessions
-joined_with t conn x (effect.Puts number fid) = any_kept (put_in number fid) (λ s. refl) conn x t.sessions
-joined_with t conn x (effect.Frees number) = any_kept (taken_from number) (λ s. refl) conn x t.sessions
+grown_keeps : (t : Tables) (conn x : ℕ) (f : Effect) → has_joined (grown_with t conn f) x ≡ has_joined t x
+grown_keeps t conn x effect.Nothing = refl
+grown_keeps t conn x (effect.Begins msize) = refl
+grown_keeps t conn x (effect.Puts number fid) = any_kept (put_in number fid) (λ s. refl) conn x t.sessions
+grown_keeps t conn x (effect.Frees number) = refl
+
+ended_with_keeps : (t : Tables) (conn x : ℕ) (f : Effect) → has_joined (ended_with t conn f) x ≡ has_joined t x
+ended_with_keeps t conn x effect.Nothing = refl
+ended_with_keeps t conn x (effect.Begins msize) = any_kept (begun msize) (λ s. refl) conn x t.sessions
+ended_with_keeps t conn x (effect.Puts number fid) = refl
+ended_with_keeps t conn x (effect.Frees number) = any_kept (taken_from number) (λ s. refl) conn x t.sessions
+
+ended_keeps : (t : Tables) (x : ℕ) (responses : List Response) → has_joined (ended t responses) x ≡ has_joined t x
+ended_keeps t x [] = refl
+ended_keeps t x (r ∷ rs) = ended_keeps (after_done t r.conn r.message.tag) x rs
+
+cancelled_keeps : (t : Tables) (conn x : ℕ) (v : EventChange) → has_joined (without_cancelled t conn v) x ≡ has_joined t x
+cancelled_keeps t conn x events.Nothing = refl
+cancelled_keeps t conn x (events.Opens w) = refl
+cancelled_keeps t conn x (events.Cancels tag) = refl
+
+waits_keeps : (t : Tables) (conn tag fid x : ℕ) (o : Option RBody) → has_joined (waits_unless o t conn tag fid) x ≡ has_joined t x
+waits_keeps t conn tag fid x None = refl
+waits_keeps t conn tag fid x (Some body) = refl
+
+answer_keeps : (t : Tables) (b : BookState) (conn tag x : ℕ) (a : Option Answer) → has_joined (answer_tables t b conn tag a) x ≡ has_joined t x
+answer_keeps t b conn tag x None = refl
+answer_keeps t b conn tag x (Some (Says body)) = refl
+answer_keeps t b conn tag x (Some (Reads fid opening count)) = waits_keeps t conn tag fid x (read_said t b (asker_of conn tag opening count))
 
 or_false : (b : Bool) → (b || false) ≡ b
 or_false true = refl
@@ -93,17 +128,24 @@ hang_joins cs t conn v h new old all x =
       | false ↦ λ e. all x ∙ sym (ap was_dialed (elsewhere cs conn x v (λ (s : x ≡ conn). eqb-false conn x e (sym s))))
     ] refl
 
-pub joins_on : (s : Present) (e : Event) (f : Effect) → length s.connections ≡ 64 → IsLawful e → enabled_at s e ≡ None → AreJoined s.connections s.tables
-    → AreJoined (connections_after s.connections e) (tables_after s.tables e f)
-joins_on s (event.Dial conn) f n h e all = dial_joins s.connections s.tables conn (omega (arith, n, h)) all
-joins_on s (event.Msg conn msg) f n h e all = λ x. joined_with s.tables conn x f ∙ all x
-joins_on s (event.Hang conn why) f n h e all = λ x.
+pub joins_on : (s : Present) (e : Event) (d : Doing) → length s.connections ≡ 64 → IsLawful e → enabled_at s e ≡ None → AreJoined s.connections s.tables
+    → AreJoined (connections_after s.connections e) (tables_after s e d)
+joins_on s (event.Dial conn) d n h e all = λ x.
+    ended_keeps (after_join s.tables conn) x (said s (event.Dial conn) d) ∙ dial_joins s.connections s.tables conn (omega (arith, n, h)) all x
+joins_on s (event.Msg conn msg) d n h e all = λ x.
+    let put : Tables = grown_with s.tables conn d.effect in
+    let read : Tables = answer_tables put s.book conn msg.tag d.answer in
+    let left : Tables = ended_with read conn d.effect in
+    let responses : List Response = said s (event.Msg conn msg) d in
+    cancelled_keeps (ended left responses) conn x d.events ∙ ended_keeps left x responses ∙ ended_with_keeps read conn x d.effect
+    ∙ answer_keeps put s.book conn msg.tag x d.answer ∙ grown_keeps s.tables conn x d.effect ∙ all x
+joins_on s (event.Hang conn why) d n h e all = λ x.
     any_kept (begun None) (λ s. refl) conn x s.tables.sessions
     ∙ hang_joins s.connections s.tables conn (Ended why) (omega (arith, n, h)) refl (dialed_live (connection_at s.connections conn) e) all x
-joins_on s (event.Took conn) f n h e all = all
-joins_on s event.New f n h e all = all
-joins_on s (event.Key w side text) f n h e all = all
-joins_on s (event.Sel w range) f n h e all = all
+joins_on s (event.Took conn) d n h e all = λ x. ended_keeps s.tables x (said s (event.Took conn) d) ∙ all x
+joins_on s event.New d n h e all = λ x. ended_keeps s.tables x (said s event.New d) ∙ all x
+joins_on s (event.Key w side text) d n h e all = λ x. ended_keeps s.tables x (said s (event.Key w side text) d) ∙ all x
+joins_on s (event.Sel w range) d n h e all = λ x. ended_keeps s.tables x (said s (event.Sel w range) d) ∙ all x
 
 -- ---- what an enabled event finds
 
@@ -118,25 +160,29 @@ joined_for s (event.Sel w range) e all = tt
 
 -- ---- growing, and then the rest
 
-grown_has : (t : Tables) (conn : ℕ) (f : Effect) → has_joined (grown_with t conn f) conn ≡ has_joined t conn
-grown_has t conn effect.Nothing = refl
-grown_has t conn (effect.Begins msize) = refl
-grown_has t conn (effect.Puts number fid) = any_kept (put_in number fid) (λ s. refl) conn conn t.sessions
-grown_has t conn (effect.Frees number) = refl
+-- the connection of a message joined, also once its fid is put and its read waits
+pub grown_joined : (t : Tables) (e : Event) (f : Effect) → IsJoinedFor t e → IsOfJoined (grown t e f) e
+grown_joined t (event.Dial conn) f h = tt
+grown_joined t (event.Msg conn msg) f h = grown_keeps t conn conn f ∙ h
+grown_joined t (event.Hang conn why) f h = h
+grown_joined t (event.Took conn) f h = tt
+grown_joined t event.New f h = tt
+grown_joined t (event.Key w side text) f h = tt
+grown_joined t (event.Sel w range) f h = tt
 
-pub grown_joined : (t : Tables) (conn : ℕ) (f : Effect) → HasJoined t conn → HasJoined (grown_with t conn f) conn
-grown_joined t conn f h = grown_has t conn f ∙ h
+pub read_joined : (t : Tables) (b : BookState) (e : Event) (a : Option Answer) → IsOfJoined t e → IsOfJoined (event_tables t b e a) e
+read_joined t b (event.Dial conn) a h = tt
+read_joined t b (event.Msg conn msg) a h = answer_keeps t b conn msg.tag conn a ∙ h
+read_joined t b (event.Hang conn why) a h = h
+read_joined t b (event.Took conn) a h = tt
+read_joined t b event.New a h = tt
+read_joined t b (event.Key w side text) a h = tt
+read_joined t b (event.Sel w range) a h = tt
 
-pub grown_ended : (t : Tables) (conn : ℕ) (f : Effect) → ended_with (grown_with t conn f) conn f ≡ tables_with t conn f
-grown_ended t conn effect.Nothing = refl
-grown_ended t conn (effect.Begins msize) = refl
-grown_ended t conn (effect.Puts number fid) = refl
-grown_ended t conn (effect.Frees number) = refl
+pub ruleset joining = (grown_joined, read_joined)
 
-pub ruleset joining = (grown_joined, grown_ended)
-
--- what the tables have, where nothing grew since they were kept
-pub tables_joined : (p : Parts) (e : Event) → enabled_at (present_of p) e ≡ None → AreSound p → IsSteady p.sessions → IsJoinedFor p.sessions.present e
-tables_joined p e allowed sound steady = subst (λ (t : Tables). IsJoinedFor t e) (sym steady) (joined_for (present_of p) e allowed sound.joined)
+-- what the tables have, where nothing is ready
+pub tables_joined : (p : Parts) (e : Event) → enabled_at (present_of p) e ≡ None → AreSound p → IsJoinedFor p.sessions.kept e
+tables_joined p e allowed sound = joined_for (present_of p) e allowed sound.joined
 
 pub ruleset joined = (tables_joined)

@@ -1,6 +1,9 @@
 pub mod Few
 pub mod Joins
 pub mod Goes
+pub mod Hangs
+pub mod Ordered
+pub mod Saids
 pub mod Places
 pub mod Viewed
 pub mod Typed

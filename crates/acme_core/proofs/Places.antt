@@ -1,13 +1,11 @@
 -- A list at one place, and what is kept there.
-use Rattle.std.proofs.Common.{◌≡◌, ℕ, zero, suc, ◌+◌, ◌<◌, ◌≤◌, List, [], ◌∷◌, ◌++◌, length, map, get_or, Option, Some, None, refl, sym, ap, ◌∙◌, subst, arith}
-use Rattle.std.specs.Prelude.{slice_set, slice_get, replicate}
-use Rattle.std.proofs.lemmas.List.{map-set, map-append, get_or-set_same, length-set, length-append, length-map, replicate-append-replicate}
-use Rattle.std.proofs.lemmas.Option.{slice_get_past, slice_get-get_or}
+use Rattle.std.proofs.Common.{◌≡◌, ℕ, zero, suc, ◌+◌, ◌<◌, ◌≤◌, List, [], ◌∷◌, ◌++◌, length, map, get_or, refl, sym, ap, ◌∙◌, arith}
+use Rattle.std.specs.Prelude.{slice_set, replicate}
+use Rattle.std.proofs.lemmas.List.{map-set, length-append, length-map, replicate-append-replicate}
 use Rattle.std.proofs.Math.Seq.{map-set_same}
+use Rattle.am_text.specs.Twice.{Twice, both}
 use Rattle.acme_core.specs.declared.connection.Connection.{Connection}
-use Rattle.acme_core.specs.declared.unsent.Reply.{Reply}
-use Rattle.acme_core.specs.Unsent.{Unsent, UnsentRoom, unsent_of, without_room, unsent_at, with_reply, nothing_unsent, replies_of}
-use Rattle.acme_core.specs.Unsent as unsent
+use Rattle.acme_core.specs.Unsent.{Unsent, unsent_at, with_reply, nothing_unsent, present_of, kept_of, with_present, with_kept}
 
 -- past the end nothing is set
 module _ {X : Type 0} where
@@ -19,45 +17,94 @@ module _ {X : Type 0} where
 pub set_past : (xs : List Connection) (k : ℕ) (x : Connection) → length xs ≤ k → xs ≡ slice_set xs k x
 set_past xs k x h = past_end xs k x h
 
--- ---- unsent replies
+-- ---- unsent replies, in two states
 
 -- those of one connection more, which has none
-pub more_unsent : (us : List UnsentRoom) (u : UnsentRoom) → unsent_of us ≡ replicate (length us) nothing_unsent → without_room u ≡ nothing_unsent
-    → unsent_of (us ++ u ∷ []) ≡ replicate (length (us ++ u ∷ [])) nothing_unsent
+pub more_unsent : (us : List (Twice Unsent)) (u : Twice Unsent) → us ≡ replicate (length us) (both nothing_unsent) → u ≡ both nothing_unsent
+    → us ++ u ∷ [] ≡ replicate (length (us ++ u ∷ [])) (both nothing_unsent)
 more_unsent us u e h =
     let n : length (us ++ u ∷ []) ≡ length us + 1 = length-append us (u ∷ []) in
-    let joined : map without_room (us ++ u ∷ []) ≡ unsent_of us ++ without_room u ∷ [] = map-append without_room us (u ∷ []) in
-    let some : List Unsent = replicate (length us) nothing_unsent in
-    joined ∙ ap (λ (x : List Unsent). x ++ without_room u ∷ []) e ∙ ap (λ (y : Unsent). some ++ y ∷ []) h
-    ∙ replicate-append-replicate (length us) 1 nothing_unsent ∙ ap (λ (x : ℕ). replicate x nothing_unsent) (sym n)
+    ap (λ (x : List (Twice Unsent)). x ++ u ∷ []) e ∙ ap (λ (y : Twice Unsent). replicate (length us) (both nothing_unsent) ++ y ∷ []) h
+    ∙ replicate-append-replicate (length us) 1 (both nothing_unsent) ∙ ap (λ (x : ℕ). replicate x (both nothing_unsent)) (sym n)
 
-pub there_at : (us : List UnsentRoom) (k : ℕ) (d : UnsentRoom) → k < length us → without_room (get_or us k d) ≡ unsent_at (unsent_of us) k
-there_at [] k d h = absurd (omega arith)
-there_at (u ∷ us) zero d h = refl
-there_at (u ∷ us) (suc k) d h = there_at us k d (omega arith)
+present_none : (n : ℕ) → map present_of (replicate n (both nothing_unsent)) ≡ replicate n nothing_unsent
+present_none zero = refl
+present_none (suc n) = ap (λ (l : List Unsent). nothing_unsent ∷ l) (present_none n)
 
-pub same_unsent : (us : List UnsentRoom) (k : ℕ) (u d : UnsentRoom) → without_room u ≡ without_room (get_or us k d) → unsent_of (slice_set us k u) ≡ unsent_of us
-same_unsent us k u d e = map-set_same without_room us k u d e
+kept_none : (n : ℕ) → map kept_of (replicate n (both nothing_unsent)) ≡ replicate n nothing_unsent
+kept_none zero = refl
+kept_none (suc n) = ap (λ (l : List Unsent). nothing_unsent ∷ l) (kept_none n)
 
-pub unsent_set : (us : List UnsentRoom) (k more : ℕ) (u : UnsentRoom) → k < length us → more ≤ u.spare → unsent.HasRoomFor (slice_get (slice_set us k u) k) more
-unsent_set us k more u h r =
-    let within : k < length (slice_set us k u) = omega (arith, length-set us k u) in
-    let e : slice_get (slice_set us k u) k ≡ Some u = slice_get-get_or (slice_set us k u) k u within ∙ ap (λ (x : UnsentRoom). Some x) (get_or-set_same us k u u h) in
-    subst (λ (x : _). unsent.HasRoomFor x more) (sym e) r
+-- 64 connections without a reply
+pub none_unsent : (us : List (Twice Unsent)) → us ≡ replicate 64 (both nothing_unsent)
+    → ◌≡◌ {A = Twice (List Unsent)} (record { present = map present_of us; kept = map kept_of us }) (both (replicate 64 nothing_unsent))
+none_unsent us e = rw (e, present_none 64, kept_none 64) refl
 
-pub unsent_past : (us : List UnsentRoom) (k more : ℕ) → length us ≤ k → unsent.HasRoomFor (slice_get us k) more
-unsent_past us k more h = subst (λ (x : _). unsent.HasRoomFor x more) (sym (slice_get_past us k h)) tt
+present-present : (us : List (Twice Unsent)) → map present_of (map with_present us) ≡ map present_of us
+present-present [] = refl
+present-present (u ∷ us) = ap (λ (l : List Unsent). u.present ∷ l) (present-present us)
+
+kept-present : (us : List (Twice Unsent)) → map kept_of (map with_present us) ≡ map present_of us
+kept-present [] = refl
+kept-present (u ∷ us) = ap (λ (l : List Unsent). u.present ∷ l) (kept-present us)
+
+present-kept : (us : List (Twice Unsent)) → map present_of (map with_kept us) ≡ map kept_of us
+present-kept [] = refl
+present-kept (u ∷ us) = ap (λ (l : List Unsent). u.kept ∷ l) (present-kept us)
+
+kept-kept : (us : List (Twice Unsent)) → map kept_of (map with_kept us) ≡ map kept_of us
+kept-kept [] = refl
+kept-kept (u ∷ us) = ap (λ (l : List Unsent). u.kept ∷ l) (kept-kept us)
+
+-- all kept, and all taken back
+pub all_kept : (us vs : List (Twice Unsent)) → vs ≡ map with_present us
+    → ◌≡◌ {A = Twice (List Unsent)} (record { present = map present_of vs; kept = map kept_of vs }) (both (map present_of us))
+all_kept us vs e = rw (e, present-present us, kept-present us) refl
+
+pub all_back : (us vs : List (Twice Unsent)) → vs ≡ map with_kept us
+    → ◌≡◌ {A = Twice (List Unsent)} (record { present = map present_of vs; kept = map kept_of vs }) (both (map kept_of us))
+all_back us vs e = rw (e, present-kept us, kept-kept us) refl
 
 -- what stands at one place
-pub unsent_put : (us : List UnsentRoom) (k : ℕ) (u : UnsentRoom) (x : Unsent) → without_room u ≡ x → unsent_of (slice_set us k u) ≡ slice_set (unsent_of us) k x
-unsent_put us k u x e = map-set without_room us k u ∙ ap (λ (y : Unsent). slice_set (unsent_of us) k y) e
+pub present_at : (us : List (Twice Unsent)) (k : ℕ) (d : Twice Unsent) → k < length us → (get_or us k d).present ≡ unsent_at (map present_of us) k
+present_at [] k d h = absurd (omega arith)
+present_at (u ∷ us) zero d h = refl
+present_at (u ∷ us) (suc k) d h = present_at us k d (omega arith)
 
-pub unsent_not_put : (us : List UnsentRoom) (k : ℕ) (x : Unsent) → length us ≤ k → unsent_of us ≡ slice_set (unsent_of us) k x
-unsent_not_put us k x h = past_end (unsent_of us) k x (omega (arith, length-map us without_room))
+pub kept_at : (us : List (Twice Unsent)) (k : ℕ) (d : Twice Unsent) → k < length us → (get_or us k d).kept ≡ unsent_at (map kept_of us) k
+kept_at [] k d h = absurd (omega arith)
+kept_at (u ∷ us) zero d h = refl
+kept_at (u ∷ us) (suc k) d h = kept_at us k d (omega arith)
 
-pub ruleset unsent_places = (there_at, same_unsent, unsent_set, unsent_past, unsent_put, unsent_not_put)
+nothing_past : (us : List Unsent) (k : ℕ) → length us ≤ k → unsent_at us k ≡ nothing_unsent
+nothing_past [] k h = refl
+nothing_past (u ∷ us) zero h = absurd (omega arith)
+nothing_past (u ∷ us) (suc k) h = nothing_past us k (omega arith)
 
--- there is one reply at most
-pub one_reply : (reply : Option Reply) (k : ℕ) → 0 < k → slice_get (replies_of reply) k ≡ None
-one_reply None k h = slice_get_past [] k (omega arith)
-one_reply (Some r) k h = slice_get_past (r ∷ []) k (omega arith)
+pub kept_past : (us : List (Twice Unsent)) (k : ℕ) → length us ≤ k → unsent_at (map kept_of us) k ≡ nothing_unsent
+kept_past us k h = nothing_past (map kept_of us) k (omega (arith, length-map us kept_of))
+
+-- a reply more at one place
+pub put_there : (us : List (Twice Unsent)) (k : ℕ) (u d : Twice Unsent) (reply : List ℕ) → k < length us → u.present ≡ with_reply (get_or us k d).present reply
+    → map present_of (slice_set us k u) ≡ slice_set (map present_of us) k (with_reply (unsent_at (map present_of us) k) reply)
+put_there us k u d reply h e =
+    map-set present_of us k u ∙ ap (λ (y : Unsent). slice_set (map present_of us) k y) (e ∙ ap (λ (y : Unsent). with_reply y reply) (present_at us k d h))
+
+pub put_nowhere : (us : List (Twice Unsent)) (k : ℕ) (x : Unsent) → length us ≤ k → map present_of us ≡ slice_set (map present_of us) k x
+put_nowhere us k x h = past_end (map present_of us) k x (omega (arith, length-map us present_of))
+
+pub kept_there : (us : List (Twice Unsent)) (k : ℕ) (u d : Twice Unsent) → u.kept ≡ (get_or us k d).kept → map kept_of (slice_set us k u) ≡ map kept_of us
+kept_there us k u d e = map-set_same kept_of us k u d e
+
+pub ruleset putting = (put_there, put_nowhere, kept_there)
+
+-- no replies at one place
+pub empty_past : (us : List (Twice Unsent)) (k : ℕ) (x : Twice Unsent) → length us ≤ k → us ≡ slice_set us k x
+empty_past us k x h = past_end us k x h
+
+pub emptied : (us vs : List (Twice Unsent)) (k : ℕ) → map present_of us ≡ map kept_of us → vs ≡ slice_set us k (both nothing_unsent)
+    → ◌≡◌ {A = Twice (List Unsent)} (record { present = map present_of vs; kept = map kept_of vs }) (both (slice_set (map present_of us) k nothing_unsent))
+emptied us vs k steady e =
+    rw (e, map-set present_of us k (both nothing_unsent), map-set kept_of us k (both nothing_unsent), sym steady) refl
+
+pub ruleset unsent_places = (present_at, kept_at, kept_past, empty_past)

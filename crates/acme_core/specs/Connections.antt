@@ -4,10 +4,9 @@ use Rattle.acme_core.specs.declared.connection.Connection.{Connection}
 use Rattle.acme_core.specs.declared.connection.Connection.TheVariants.{Undialed, Live, Ended}
 use Rattle.core_answers.specs.declared.effect.Effect.{Effect}
 use Rattle.core_answers.specs.declared.effect.Effect.TheVariants as effect
-use Rattle.am_text.specs.Twice.{Twice}
 use Rattle.am_journal.specs.declared.event.Event.{Event}
 use Rattle.am_journal.specs.declared.event.Event.TheVariants as event
-use Rattle.fid_table.specs.Tables.{Tables, has_joined, HasJoined, after_join, after_put, after_take, after_version, after_hangup}
+use Rattle.fid_table.specs.Tables.{Tables, has_joined, HasJoined, after_join, after_put, after_take, after_version}
 
 abbrev pub connection_at : List Connection → ℕ → Connection
 connection_at connections conn = slice_index_or connections conn Undialed
@@ -51,24 +50,17 @@ IsJoinedFor tables event.New = Unit {0}
 IsJoinedFor tables (event.Key w side text) = Unit {0}
 IsJoinedFor tables (event.Sel w range) = Unit {0}
 
--- what a message does to the fids of its connection
-abbrev pub tables_with : Tables → ℕ → Effect → Tables
-tables_with tables conn effect.Nothing = tables
-tables_with tables conn (effect.Begins msize) = after_version tables conn msize
-tables_with tables conn (effect.Puts number fid) = after_put tables conn number fid
-tables_with tables conn (effect.Frees number) = after_take tables conn number
+-- the connection of a message or a hang-up joined
+abbrev pub IsOfJoined : Tables → Event → Type 0
+IsOfJoined tables (event.Dial conn) = Unit {0}
+IsOfJoined tables (event.Msg conn msg) = HasJoined tables conn
+IsOfJoined tables (event.Hang conn why) = HasJoined tables conn
+IsOfJoined tables (event.Took conn) = Unit {0}
+IsOfJoined tables event.New = Unit {0}
+IsOfJoined tables (event.Key w side text) = Unit {0}
+IsOfJoined tables (event.Sel w range) = Unit {0}
 
--- the sessions and fids after an event
-abbrev pub tables_after : Tables → Event → Effect → Tables
-tables_after tables (event.Dial conn) effect = after_join tables conn
-tables_after tables (event.Msg conn msg) effect = tables_with tables conn effect
-tables_after tables (event.Hang conn why) effect = after_hangup tables conn
-tables_after tables (event.Took conn) effect = tables
-tables_after tables event.New effect = tables
-tables_after tables (event.Key w side text) effect = tables
-tables_after tables (event.Sel w range) effect = tables
-
--- ---- in two steps: what wants memory, and what doesn't
+-- ---- what an event does to them: first what wants memory, and then what doesn't
 
 abbrev pub grown_with : Tables → ℕ → Effect → Tables
 grown_with tables conn effect.Nothing = tables
@@ -90,8 +82,3 @@ grown tables (event.Took conn) effect = tables
 grown tables event.New effect = tables
 grown tables (event.Key w side text) effect = tables
 grown tables (event.Sel w range) effect = tables
-
--- the sessions have grown as the event wants it
-pub record HasSessions (sessions : Twice Tables) (event : Event) (effect : Effect) : Type 0 where
-  pub joined : IsJoinedFor sessions.kept event
-  pub present : sessions.present ≡ grown sessions.kept event effect

@@ -33,8 +33,13 @@ size_refusal msize size = if nat_lt (most_bytes msize) size then Some why.Size e
 abbrev pub replies_refusal : ℕ → Option Why
 replies_refusal count = if nat_le 256 count then Some why.Replies else None
 
-abbrev pub msg_refusal : Connection → Option ℕ → ℕ → ℕ → Option Why
-msg_refusal connection msize count size = first_why (live_refusal connection) (first_why (size_refusal msize size) (replies_refusal count))
+-- none comes with the tag of a read that waits
+abbrev pub tag_refusal : Bool → Option Why
+tag_refusal used = if used then Some why.Tag else None
+
+abbrev pub msg_refusal : Connection → Option ℕ → Bool → ℕ → ℕ → Option Why
+msg_refusal connection msize used count size =
+    first_why (live_refusal connection) (first_why (size_refusal msize size) (first_why (tag_refusal used) (replies_refusal count)))
 
 -- replies are taken of a connection that ended, too
 abbrev pub took_refusal : Connection → ℕ → Option Why

@@ -2,6 +2,10 @@ pub mod Connections
 pub mod Unsent
 pub mod Enabled
 pub mod Typing
+pub mod Origins
+pub mod States
+pub mod Doings
+pub mod Stages
 pub mod Run
 pub mod Parts
 pub mod Kept

@@ -1,33 +1,53 @@
--- The state that the editor's tables stand for, and their room.
+-- The state that the editor's tables stand for, and what is ready in them.
 use Rattle.std.specs.Prelude.{◌≡◌, Bool, true, false, Option, Some}
-use Rattle.am_journal.specs.declared.event.Event.{Event}
+use Rattle.am_text.specs.Twice.{IsSteady}
 use Rattle.core_windows.specs.declared.change.Change.{Change}
 use Rattle.core_windows.specs.declared.change.Change.TheVariants as change
-use Rattle.core_answers.specs.declared.effect.Effect.{Effect}
+use Rattle.core_events.specs.Sound.{IsSound}
+use Rattle.core_events.specs.Waits.{deleted_by}
+use Rattle.acme_core.specs.declared.doing.Doing.{Doing}
 use Rattle.acme_core.specs.declared.parts.Parts.{Parts}
-use Rattle.acme_core.specs.declared.unsent.Reply.{Reply}
-use Rattle.acme_core.specs.Run.{Present, is_hang}
-use Rattle.acme_core.specs.Connections.{HasSessions}
-use Rattle.acme_core.specs.Unsent.{unsent_of, replies_of, HasUnsentRoom, IsReply}
+use Rattle.acme_core.specs.declared.prepared.Prepared.{Prepared}
+use Rattle.acme_core.specs.Connections.{IsOfJoined}
+use Rattle.acme_core.specs.Run.{is_hang}
+use Rattle.acme_core.specs.Stages.{grown_tables, grown_book, said}
+use Rattle.acme_core.specs.States.{Present, next_entry}
+use Rattle.acme_core.specs.Unsent.{replies_of, put_replies}
 
--- the sessions as they are kept
+-- the tables as they are kept
 abbrev pub present_of : Parts → Present
 present_of p = record {
+  entries = p.entries;
   connections = p.connections.items;
   tables = p.sessions.kept;
   windows = p.windows.windows;
-  unsent = unsent_of p.unsent.items;
-  replies = replies_of p.reply;
+  book = p.book.kept;
+  unsent = p.outputs.kept;
+  replies = p.replies.items;
 }
+
+-- nothing is ready
+pub record AreSteady (p : Parts) : Type 0 where
+  pub sessions : IsSteady p.sessions
+  pub book : IsSteady p.book
+  pub outputs : IsSteady p.outputs
 
 -- a hang-up changes no window, and every other event has its change made ready
 abbrev pub HasChange : Bool → Option Change → Change → Type 0
 HasChange true prepared c = c ≡ change.Nothing
 HasChange false prepared c = prepared ≡ Some c
 
--- there is room for an event that does this, and for its reply
-pub record HasRoom (p : Parts) (event : Event) (effect : Effect) (change : Change) (reply : Option Reply) : Type 0 where
-  pub sessions : HasSessions p.sessions event effect
-  pub windows : HasChange (is_hang event) p.windows.prepared change
-  pub unsent : HasUnsentRoom p.unsent.items reply
-  pub some : IsReply reply
+-- All that a step makes is ready, and what it ends is known, where its event does this.
+pub record HasReady (p : Parts) (prepared : Prepared) (d : Doing) : Type 0 where
+  pub at : prepared.at ≡ next_entry (present_of p)
+  pub effect : prepared.effect ≡ d.effect
+  pub events : prepared.events ≡ d.events
+  pub deletes : prepared.deletes ≡ deleted_by d.change
+  pub answers : prepared.said ≡ said (present_of p) prepared.event d
+  pub replies : prepared.replies.items ≡ replies_of (said (present_of p) prepared.event d)
+  pub joined : IsOfJoined p.sessions.present prepared.event
+  pub sessions : p.sessions.present ≡ grown_tables (present_of p) prepared.event d
+  pub book : p.book.present ≡ grown_book (present_of p) prepared.event d
+  pub sound : IsSound prepared.at p.book.present
+  pub windows : HasChange (is_hang prepared.event) p.windows.prepared d.change
+  pub outputs : p.outputs.present ≡ put_replies p.outputs.kept (replies_of (said (present_of p) prepared.event d))

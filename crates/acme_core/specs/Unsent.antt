@@ -1,8 +1,19 @@
--- The unsent replies of the connections.
-use Rattle.std.specs.Prelude.{ℕ, ◌<◌, ◌≤◌, ◌+◌, List, [], ◌∷◌, ◌++◌, length, map, slice_get, slice_set, slice_index_or, Option, Some, None}
+-- Replies, and those of each connection that aren't taken yet.
+use Rattle.std.specs.Prelude.{ℕ, ◌<◌, ◌+◌, List, [], ◌++◌, length, map, slice_set, slice_index_or, All}
+use Rattle.std.specs.List.{fold}
+use Rattle.am_text.specs.Twice.{Twice}
+use Rattle.ninep_wire.specs.Spelling.{spelling_r}
+use Rattle.core_events.specs.declared.response.Response.{Response}
 use Rattle.acme_core.specs.declared.unsent.Reply.{Reply}
 use Rattle.am_journal.specs.declared.event.Event.{Event}
 use Rattle.am_journal.specs.declared.event.Event.TheVariants as event
+
+-- the bytes of what is said to a connection
+abbrev pub reply_of : Response → Reply
+reply_of response = record { conn = response.conn; bytes = spelling_r response.message }
+
+abbrev pub replies_of : List Response → List Reply
+replies_of said = map reply_of said
 
 -- the unsent replies of a connection: how many there are, and their bytes, one after another
 pub record Unsent : Type 0 where
@@ -24,8 +35,7 @@ abbrev pub put_reply : List Unsent → Reply → List Unsent
 put_reply unsent reply = slice_set unsent reply.conn (with_reply (unsent_at unsent reply.conn) reply.bytes)
 
 abbrev pub put_replies : List Unsent → List Reply → List Unsent
-put_replies unsent [] = unsent
-put_replies unsent (r ∷ rs) = put_replies (put_reply unsent r) rs
+put_replies unsent replies = fold put_reply unsent replies
 
 -- without those that an event takes
 abbrev pub taken : List Unsent → Event → List Unsent
@@ -37,33 +47,23 @@ taken unsent event.New = unsent
 taken unsent (event.Key w side text) = unsent
 taken unsent (event.Sel w range) = unsent
 
--- ---- as the editor keeps them, with room
+-- ---- as the editor keeps them, in two states
 
-pub record UnsentRoom : Type 0 where
-  pub count : ℕ
-  pub bytes : List ℕ
-  pub spare : ℕ
+abbrev pub present_of : Twice Unsent → Unsent
+present_of t = t.present
 
-abbrev pub without_room : UnsentRoom → Unsent
-without_room u = record { count = u.count; bytes = u.bytes }
+abbrev pub kept_of : Twice Unsent → Unsent
+kept_of t = t.kept
 
-abbrev pub unsent_of : List UnsentRoom → List Unsent
-unsent_of us = map without_room us
+abbrev pub with_present : Twice Unsent → Twice Unsent
+with_present t = record { present = t.present; kept = t.present }
 
--- an event makes one reply, or none
-abbrev pub replies_of : Option Reply → List Reply
-replies_of None = []
-replies_of (Some reply) = reply ∷ []
+abbrev pub with_kept : Twice Unsent → Twice Unsent
+with_kept t = record { present = t.kept; kept = t.kept }
 
-abbrev pub HasRoomFor : Option UnsentRoom → ℕ → Type 0
-HasRoomFor None more = Unit {0}
-HasRoomFor (Some u) more = more ≤ u.spare
+-- each reply has bytes
+abbrev pub HasBytes : Reply → Type 0
+HasBytes reply = 0 < length reply.bytes
 
--- there is room for a reply behind those of its connection, and the reply has bytes
-abbrev pub HasUnsentRoom : List UnsentRoom → Option Reply → Type 0
-HasUnsentRoom us None = Unit {0}
-HasUnsentRoom us (Some reply) = HasRoomFor (slice_get us reply.conn) (length reply.bytes)
-
-abbrev pub IsReply : Option Reply → Type 0
-IsReply None = Unit {0}
-IsReply (Some reply) = 0 < length reply.bytes
+abbrev pub HaveBytes : List Reply → Type 0
+HaveBytes replies = All HasBytes replies

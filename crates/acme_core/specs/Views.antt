@@ -3,12 +3,15 @@ use Rattle.std.specs.Prelude.{ℕ, ◌+◌, List, [], ◌∷◌, length, Option,
 use Rattle.am_journal.specs.declared.event.Event.{Event}
 use Rattle.am_journal.specs.declared.view.ConnView.{ConnView}
 use Rattle.am_journal.specs.declared.view.WindowView.{WindowView}
+use Rattle.am_journal.specs.declared.view.ItemView.{ItemView}
 use Rattle.am_journal.specs.declared.view.View.{View}
 use Rattle.am_journal.specs.declared.ending.Ending.{Ending}
 use Rattle.core_windows.specs.Windows.{Window}
 use Rattle.acme_core.specs.declared.connection.Connection.{Connection}
 use Rattle.acme_core.specs.declared.connection.Connection.TheVariants.{Undialed, Live, Ended}
-use Rattle.acme_core.specs.Run.{Present, present_after}
+use Rattle.event_book.specs.WindowFiles.{ledger_of}
+use Rattle.acme_core.specs.Run.{run, present_after}
+use Rattle.acme_core.specs.States.{Present}
 
 abbrev pub conn_view : ℕ → Option Ending → ConnView
 conn_view c ending = record { conn = c; ending = ending }
@@ -29,9 +32,13 @@ window_views w [] = []
 window_views w (None ∷ ws) = window_views (w + 1) ws
 window_views w (Some window ∷ ws) = window_view w window ∷ window_views (w + 1) ws
 
--- there are no items and no requests yet
+-- each item that was ever made, with its life, by window and number
+abbrev pub ledger : List Event → List ItemView
+ledger journal = ledger_of (run journal).book.files
+
+-- there are no requests yet
 abbrev pub view_at : ℕ → Present → View
-view_at entries s = record { entries = entries; conns = conn_views 0 s.connections; windows = window_views 1 s.windows; items = []; jobs = [] }
+view_at entries s = record { entries = entries; conns = conn_views 0 s.connections; windows = window_views 1 s.windows; items = ledger_of s.book.files; jobs = [] }
 
 unfoldable pub view_of : List Event → View
 view_of journal = view_at (length journal) (present_after journal)

@@ -3,11 +3,14 @@
 ghost use Rattle.std.specs.Prelude.{◌≡◌, ◌+◌, ◌≤◌, slice_set, count_by, OnOk, OnErr};
 ghost use Rattle.am_text.specs.Twice.{both, IsSteady};
 ghost use Rattle.fid_table.specs.Tables.{HasJoined};
-ghost use Rattle.acme_core.specs.Connections.{connection_at, connections_after, live_count, is_live, IsJoinedFor, HasSessions, grown_with, ended_with, tables_after};
+ghost use Rattle.acme_core.specs.Connections.{connection_at, connections_after, live_count, is_live, IsJoinedFor, IsOfJoined, grown, grown_with, ended_with};
+ghost use Rattle.acme_core.specs.Stages.{ended_tables};
+ghost use Rattle.acme_core.specs.declared.doing.Doing.{Doing};
 
 use am_journal::{Ending, Event};
 use am_text::NoMemory;
-use core_answers::{Effect, copy};
+use core_answers::{Effect, EventChange, copy};
+use core_events::{Response, end_reads, forget_cancelled};
 use fid_table::Sessions;
 use std::alloc::Global;
 
@@ -82,9 +85,8 @@ pub(crate) fn grow_sessions(
     effect: &Effect,
 ) -> Result<(), NoMemory>
     requires joined { IsJoinedFor sessions.old.present event.now }
-    requires steady { IsSteady sessions.old }
     ensures kept { sessions.new.kept ≡ sessions.old.kept }
-    ensures ok { OnOk result (HasSessions sessions.new event.now effect.now) }
+    ensures ok { OnOk result (sessions.new.present ≡ grown sessions.old.present event.now effect.now) }
 {
     match event {
         Event::Dial { conn } => sessions.join(*conn),
@@ -103,8 +105,7 @@ fn put_fid(
     conn: u32,
     effect: &Effect,
 ) -> Result<(), NoMemory>
-    requires joined { HasJoined sessions.old.present conn }
-    requires steady { IsSteady sessions.old }
+    requires { HasJoined sessions.old.present conn }
     ensures kept { sessions.new.kept ≡ sessions.old.kept }
     ensures ok { OnOk result (sessions.new.present ≡ grown_with sessions.old.present conn effect.now) }
 {
@@ -131,20 +132,29 @@ fn end_fids(sessions: &mut Sessions, conn: u32, effect: &Effect)
     }
 }
 
-/// Does an event to the sessions, which have grown as it wants it. It takes no memory.
-#[tactic(auto, using(crate::proofs::Joins::joining))]
-pub(crate) fn change_sessions(sessions: &mut Sessions, event: &Event, effect: &Effect)
-    requires { HasSessions sessions.old event.now effect.now }
-    ensures { sessions.new ≡ both (tables_after sessions.old.kept event.now effect.now) }
+/// Ends the fids that an event frees, and the reads that were answered, in sessions that have grown as it wants it. It takes no memory.
+pub(crate) fn change_sessions(
+    sessions: &mut Sessions,
+    event: &Event,
+    effect: &Effect,
+    events: EventChange,
+    said: &[Response],
+)
+    requires { IsOfJoined sessions.old.present event.now }
+    ensures { (d : Doing) → d.effect ≡ effect.now → d.events ≡ events → sessions.new ≡ both (ended_tables sessions.old.present event.now d said.now) }
 {
     sessions.keep();
     match event {
-        Event::Msg { conn, .. } => end_fids(sessions, *conn, effect),
+        Event::Msg { conn, .. } => {
+            end_fids(sessions, *conn, effect);
+            end_reads(sessions, said);
+            forget_cancelled(sessions, *conn, events);
+        }
         Event::Hang { conn, .. } => sessions.hangup(*conn),
-        Event::Dial { .. } => {}
-        Event::Took { .. } => {}
-        Event::New => {}
-        Event::Key { .. } => {}
-        Event::Sel { .. } => {}
+        Event::Dial { .. } => end_reads(sessions, said),
+        Event::Took { .. } => end_reads(sessions, said),
+        Event::New => end_reads(sessions, said),
+        Event::Key { .. } => end_reads(sessions, said),
+        Event::Sel { .. } => end_reads(sessions, said),
     }
 }

@@ -4,13 +4,15 @@ ghost use Rattle.std.specs.Prelude.{◌≡◌, ◌<◌, ◌≤◌, ◌+◌, ◌^
 ghost use Rattle.am_journal.specs.Lawful.{IsLawful};
 ghost use Rattle.acme_core.specs.Run.{enabled, run, output_at, Refuses, IsHang, IsWhy, settled, ready};
 ghost use Rattle.core_windows.specs.Stories.{AreLawful};
-ghost use Rattle.acme_core.specs.Views.{view_of};
+ghost use Rattle.event_book.specs.Laws.{WindowOrder, WhatAFidGets};
+ghost use Rattle.acme_core.specs.Views.{ledger, view_of};
 
 use crate::parts::Parts;
-use crate::planning::{Prepared, prepare};
-use crate::unsent::{output_of, reply_at};
+use crate::planning::prepare;
+use crate::prepared::Prepared;
+use crate::unsent::reply_at;
 use crate::view::view_of;
-use am_journal::{Event, Journal, Refused, View};
+use am_journal::{Event, ItemViews, Journal, Refused, View};
 use am_text::{NoMemory, Roomy};
 use core_windows::{changes_are_lawful, changes_show};
 use std::alloc::Global;
@@ -97,14 +99,9 @@ impl Core {
         let Some(prepared) = self.prepared.take() else {
             unreachable!()
         };
-        let Prepared {
-            event,
-            effect,
-            reply,
-        } = prepared;
         changes_show();
         changes_are_lawful();
-        self.parts.apply(self.alloc, &event, &effect, reply);
+        let event = self.parts.apply(self.alloc, prepared);
         self.journal.put(event);
         self.journal.len() as u64
     }
@@ -127,7 +124,7 @@ impl Core {
     pub fn output(&self, conn: u32) -> &[u8]
         ensures { result.now ≡ output_at self.now.journal conn }
     {
-        output_of(&self.parts.unsent, conn)
+        self.parts.outputs.bytes(conn)
     }
 
     /// The replies that the last entry made, in order: the connection and the bytes of number `k`.
@@ -137,7 +134,7 @@ impl Core {
             (λ reply. slice_get (run self.now.journal).replies k ≡ Some (record { conn = reply.0; bytes = reply.1.now })) }
         ensures counted { OnSome result (k + 1 < 2 ^ 64) }
     {
-        reply_at(&self.parts.reply, k)
+        reply_at(self.parts.replies.as_slice(), k)
     }
 
     /// What the report tells of the editor.
@@ -148,11 +145,44 @@ impl Core {
         view_of(self.alloc, self.journal.len() as u64, &self.parts)
     }
 
+    /// All items that were ever made, each with its life and its spelling, by window and number.
+    pub fn ledger(&self) -> Result<ItemViews, NoMemory>
+        ensures { IfOk result (λ views. views ≡ ledger self.now.journal) }
+    {
+        self.parts.book.kept_ledger()
+    }
+
     /// In each journal of a core each window is lawful: each of its ranges was set inside the text of its time, and its text
     /// is what its groups of edits make of the empty text. So each range lies in the text, where the edits made since it
     /// was set have moved it (`win_text::ranges_are_inside`).
     pub fn windows_are_lawful(&self)
         ensures { AreLawful (run self.now.journal).windows }
+    {
+        let _entries = self.journal.len();
+    }
+
+    /// In each journal of a core the items of a window that nobody took are a suffix of its items; along the others the entry at which
+    /// each was taken or dropped never falls, and an item pends only while its event file is open.
+    #[tactic(auto, using(crate::proofs::Ordered::book_laws))]
+    pub fn window_order(&self)
+        ensures { WindowOrder (run self.now.journal).book }
+    {
+        self.parts.book.is_lawful();
+    }
+
+    /// In each journal of a core what an open opening was given, with what it has left, is the joined spelling of the items that it
+    /// took.
+    #[tactic(auto, using(crate::proofs::Ordered::book_laws))]
+    pub fn what_a_fid_gets(&self)
+        ensures { WhatAFidGets (run self.now.journal).book }
+    {
+        self.parts.book.is_lawful();
+    }
+
+    /// The number of an entry is its place in the journal, from 1.
+    #[tactic(auto, using(crate::proofs::Goes::entries_counted))]
+    pub fn entries_are_counted(&self)
+        ensures { (run self.now.journal).entries ≡ length self.now.journal }
     {
         let _entries = self.journal.len();
     }

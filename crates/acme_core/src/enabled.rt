@@ -1,7 +1,7 @@
 //! The reasons for which an event isn't enabled.
 
 ghost use Rattle.std.specs.Prelude.{◌≡◌};
-ghost use Rattle.acme_core.specs.Enabled.{first_why, dial_refusal, live_refusal, size_refusal, replies_refusal, msg_refusal, took_refusal, new_refusal};
+ghost use Rattle.acme_core.specs.Enabled.{first_why, dial_refusal, live_refusal, size_refusal, tag_refusal, replies_refusal, msg_refusal, took_refusal, new_refusal};
 
 use crate::connection::Connection;
 use am_journal::Why;
@@ -61,18 +61,28 @@ fn replies_refusal(count: usize) -> Option<Why>
     }
 }
 
-/// Why a message of so many bytes can't come.
+fn tag_refusal(used: bool) -> Option<Why>
+    ensures { result ≡ tag_refusal used }
+{
+    if used { Some(Why::Tag) } else { None }
+}
+
+/// Why a message of so many bytes can't come, whose tag is that of a read that waits, or isn't.
 pub(crate) fn msg_refusal(
     connection: Connection,
     msize: Option<u32>,
+    used: bool,
     count: usize,
     size: usize,
 ) -> Option<Why>
-    ensures { result ≡ msg_refusal connection msize count size }
+    ensures { result ≡ msg_refusal connection msize used count size }
 {
     first_why(
         live_refusal(connection),
-        first_why(size_refusal(msize, size), replies_refusal(count)),
+        first_why(
+            size_refusal(msize, size),
+            first_why(tag_refusal(used), replies_refusal(count)),
+        ),
     )
 }
 

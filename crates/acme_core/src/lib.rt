@@ -1,11 +1,16 @@
 //! The editor of one thread: it takes one event at a time and keeps a journal of them.
 #![tactic(auto)]
 
+mod closing;
 mod connection;
+mod doing;
 mod editor;
 mod enabled;
+mod growing;
+mod origin;
 mod parts;
 mod planning;
+mod prepared;
 #[cfg(test)]
 mod tests;
 mod typing;

@@ -1,31 +1,33 @@
 //! The tables of the editor: what is kept of the state that its journal leads to.
 
-ghost use Rattle.std.specs.Prelude.{◌≡◌, ◌+◌, ◌<◌, ◌^◌, [], false, None, OnOk, IfOk, IsSome, replicate, length};
-ghost use Rattle.ninep_wire.specs.Spelling.{Fits_t};
-ghost use Rattle.am_text.specs.Twice.{both, IsSteady};
+ghost use Rattle.std.specs.Prelude.{◌≡◌, [], false, None, IfOk, IsSome};
+ghost use Rattle.std.specs.List.{list_any};
+ghost use Rattle.am_text.specs.Twice.{both};
 ghost use Rattle.am_journal.specs.Lawful.{IsLawful};
-ghost use Rattle.acme_core.specs.Connections.{IsJoinedFor, HasSessions};
-ghost use Rattle.acme_core.specs.Parts.{present_of, HasChange, HasRoom};
+ghost use Rattle.fid_table.specs.Tables.{is_waiting};
+ghost use Rattle.core_events.specs.Sound.{IsSound};
 ghost use Rattle.core_windows.specs.Windows.{changed};
 ghost use Rattle.core_windows.specs.declared.change.Change.{Change};
-ghost use Rattle.core_windows.specs.Possible.{IsPossible};
-ghost use Rattle.core_windows.specs.declared.change.Change.TheVariants as change;
-ghost use Rattle.acme_core.specs.Unsent.{unsent_of, nothing_unsent, replies_of, IsReply};
-ghost use Rattle.acme_core.specs.Run.{after, start, present, enabled_at, is_hang};
+ghost use Rattle.acme_core.specs.declared.doing.Doing.{Doing};
+ghost use Rattle.acme_core.specs.Doings.{enabled_at, is_version, is_tag_used};
+ghost use Rattle.acme_core.specs.Parts.{present_of, AreSteady, HasChange, HasReady};
+ghost use Rattle.acme_core.specs.Run.{is_hang};
+ghost use Rattle.acme_core.specs.Stages.{after};
+ghost use Rattle.acme_core.specs.States.{start, present};
 
-use crate::connection::{
-    Connection, change_connections, change_sessions, connection_at, grow_sessions,
-};
+use crate::closing::change_book;
+use crate::connection::{Connection, change_connections, change_sessions, connection_at};
 use crate::enabled::{dial_refusal, live_refusal, msg_refusal, new_refusal, took_refusal};
+use crate::prepared::Prepared;
 use crate::typing::{key_refusal, sel_refusal};
-use crate::unsent::{Reply, Unsent, count_of, put_reply, reserve_reply, take_unsent};
+use crate::unsent::{Outputs, Reply};
 use acme_tree::is_full;
 use am_journal::{Event, Why};
 use am_text::NoMemory;
-use core_answers::Effect;
-use core_windows::{Change, Windows};
+use core_events::Book;
+use core_windows::Windows;
 use fid_table::Sessions;
-use ninep_wire::t_size;
+use ninep_wire::{TBody, TMsg, t_size};
 use std::alloc::Global;
 
 /// How many connections there are.
@@ -34,22 +36,15 @@ const CONNS: usize = 64;
 /// The tables of the editor.
 #[derive(Drop)]
 pub struct Parts {
+    /// How many entries were done.
+    pub entries: u64,
     pub connections: Vec<Connection>,
     pub sessions: Sessions,
     pub windows: Windows,
-    pub unsent: Vec<Unsent>,
-    pub reply: Option<Reply>,
-}
-
-#[tactic(auto, using(crate::proofs::Places::more_unsent))]
-fn new_unsent(alloc: Global) -> Result<Vec<Unsent>, NoMemory>
-    ensures { IfOk result (λ v. unsent_of v.items ≡ replicate 64 nothing_unsent) }
-{
-    let mut unsent = Vec::new(alloc);
-    while unsent.len() < CONNS {
-        unsent.push(Unsent::new(alloc))?;
-    }
-    Ok(unsent)
+    pub book: Book,
+    pub outputs: Outputs,
+    /// The replies that the last entry made.
+    pub replies: Vec<Reply>,
 }
 
 /// Whether the event is a hang-up.
@@ -65,6 +60,22 @@ pub(crate) fn is_hang(event: &Event) -> bool
         Event::Key { .. } => false,
         Event::Sel { .. } => false,
     }
+}
+
+fn is_version(body: &TBody) -> bool
+    ensures { result ≡ is_version body.now }
+{
+    match body {
+        TBody::Version { .. } => true,
+        _ => false,
+    }
+}
+
+// Whether a read with the message's tag waits. A Tversion drops all reads.
+fn is_tag_used(sessions: &Sessions, conn: u32, msg: &TMsg) -> bool
+    ensures { result ≡ is_tag_used sessions.now.present conn msg.now }
+{
+    !is_version(&msg.body) && sessions.waits(conn, msg.tag)
 }
 
 // Makes the change of an event that is ready. A hang-up has none.
@@ -83,26 +94,30 @@ impl Parts {
         ensures { IfOk result (λ parts. present_of parts ≡ present start) }
     {
         Ok(Parts {
+            entries: 0,
             connections: vec![in alloc; Connection::Undialed; CONNS]?,
             sessions: Sessions::new(alloc)?,
             windows: Windows::new(alloc)?,
-            unsent: new_unsent(alloc)?,
-            reply: None,
+            book: Book::new(alloc),
+            outputs: Outputs::new(alloc)?,
+            replies: Vec::new(alloc),
         })
     }
 
     /// Takes back what was made ready for an event that wasn't done. It takes no memory.
     pub(crate) fn back(&mut self)
-        ensures { self.new ≡ record self.old { sessions = both self.old.sessions.kept; windows = record self.old.windows { prepared = None } } }
+        ensures new { self.new ≡ record self.old { sessions = both self.old.sessions.kept; windows = record self.old.windows { prepared = None }; book = both self.old.book.kept; outputs = both self.old.outputs.kept } }
     {
         self.sessions.back();
         self.windows.back();
+        self.book.back();
+        self.outputs.back();
     }
 
     /// The first reason for which an event isn't enabled.
     pub(crate) fn why_not(&self, event: &Event) -> Option<Why>
         requires lawful { IsLawful event.now }
-        requires steady { IsSteady self.now.sessions }
+        requires steady { AreSteady self.now }
         ensures { result ≡ enabled_at (present_of self.now) event.now }
     {
         match event {
@@ -110,13 +125,14 @@ impl Parts {
             Event::Msg { conn, msg } => msg_refusal(
                 connection_at(&self.connections, *conn),
                 self.sessions.msize(*conn),
-                count_of(&self.unsent, *conn),
+                is_tag_used(&self.sessions, *conn, msg),
+                self.outputs.count(*conn),
                 t_size(msg),
             ),
             Event::Hang { conn, .. } => live_refusal(connection_at(&self.connections, *conn)),
             Event::Took { conn } => took_refusal(
                 connection_at(&self.connections, *conn),
-                count_of(&self.unsent, *conn),
+                self.outputs.count(*conn),
             ),
             Event::New => new_refusal(is_full(self.windows.world())),
             Event::Key { window, side, text } => {
@@ -126,45 +142,38 @@ impl Parts {
         }
     }
 
-    /// Makes room for an event and its reply. What the tables mean stays.
-    pub(crate) fn reserve(
-        &mut self,
-        alloc: Global,
-        event: &Event,
-        effect: &Effect,
-        change: Change,
-        reply: &Option<Reply>,
-    ) -> Result<(), NoMemory>
-        requires possible { IsPossible self.old.windows.windows change }
-        requires stays { is_hang event.now ≡ false }
-        requires joined { IsJoinedFor self.old.sessions.present event.now }
-        requires steady { IsSteady self.old.sessions }
-        requires some { IsReply reply.now }
-        ensures state { present_of self.new ≡ present_of self.old }
-        ensures room { OnOk result (HasRoom self.new event.now effect.now change reply.now) }
+    /// Does an event that is ready. It takes no memory.
+    pub(crate) fn apply(&mut self, alloc: Global, prepared: Prepared) -> Event
+        requires { (d : Doing) × HasReady self.old prepared d }
+        ensures event { result ≡ prepared.event }
+        ensures state { (d : Doing) → HasReady self.old prepared d → present_of self.new ≡ after (present_of self.old) prepared.event d }
+        ensures sound { IsSound self.new.entries self.new.book.kept }
     {
-        self.windows.prepare(change)?;
-        reserve_reply(self.unsent.as_mut_slice(), reply)?;
-        grow_sessions(alloc, &mut self.sessions, event, effect)?;
-        Ok(())
-    }
-
-    /// Does an event and puts its reply. It takes no memory.
-    pub(crate) fn apply(
-        &mut self,
-        alloc: Global,
-        event: &Event,
-        effect: &Effect,
-        reply: Option<Reply>,
-    )
-        requires { (change : Change) × HasRoom self.old event.now effect.now change reply }
-        ensures state { (change : Change) → HasRoom self.old event.now effect.now change reply → present_of self.new ≡ after (present_of self.old) event.now effect.now change (replies_of reply) }
-    {
-        change_connections(self.connections.as_mut_slice(), event);
-        change_sessions(&mut self.sessions, event, effect);
-        commit_windows(&mut self.windows, event);
-        put_reply(self.unsent.as_mut_slice(), &reply);
-        take_unsent(alloc, self.unsent.as_mut_slice(), event);
-        self.reply = reply;
+        let Prepared {
+            event,
+            at,
+            effect,
+            events,
+            deletes,
+            said,
+            replies,
+        } = prepared;
+        change_connections(self.connections.as_mut_slice(), &event);
+        change_book(
+            &mut self.book,
+            &self.sessions,
+            &event,
+            &effect,
+            events,
+            deletes,
+            at,
+        );
+        change_sessions(&mut self.sessions, &event, &effect, events, said.as_slice());
+        commit_windows(&mut self.windows, &event);
+        self.outputs.keep();
+        self.outputs.take(alloc, &event);
+        self.replies = replies;
+        self.entries = at;
+        event
     }
 }

@@ -67,6 +67,9 @@ fn connections_end(rt: HostRuntime) -> Result<(), Fail> {
     let view = core.view()?;
     assert_eq!(rt; (view.conns.len(), view.windows.len()), (1, 1));
     core.windows_are_lawful();
+    core.window_order();
+    core.what_a_fid_gets();
+    core.entries_are_counted();
     messages_are_answered();
     Ok(())
 }

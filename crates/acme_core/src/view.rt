@@ -74,7 +74,7 @@ pub(crate) fn view_of(alloc: Global, entries: u64, parts: &Parts) -> Result<View
         entries,
         conns: conn_views(alloc, &parts.connections)?,
         windows: window_views(alloc, parts.windows.panes(), parts.windows.world().next)?,
-        items: Items::new(alloc),
+        items: parts.book.kept_ledger()?,
         jobs: Items::new(alloc),
     })
 }

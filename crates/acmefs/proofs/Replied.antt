@@ -7,7 +7,8 @@ use Rattle.std.proofs.lemmas.Grind.{flat_map-append, fold-append}
 use Rattle.std.proofs.lemmas.Option.{slice_get_within, get_or_from_slice_get}
 use Rattle.am_journal.specs.declared.event.Event.{Event}
 use Rattle.acme_core.specs.declared.unsent.Reply.{Reply}
-use Rattle.acme_core.specs.Run.{State, start, step, run}
+use Rattle.acme_core.specs.Run.{step, run}
+use Rattle.acme_core.specs.States.{State, start}
 use Rattle.acmefs.specs.Scripts.{reply_line, reply_lines, replied_from, replied}
 
 -- one reply more

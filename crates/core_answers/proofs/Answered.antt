@@ -21,13 +21,15 @@ use Rattle.core_answers.specs.declared.refusal.Refusal.{Refusal}
 use Rattle.core_answers.specs.declared.refusal.Refusal.TheVariants as refusal
 use Rattle.core_answers.specs.declared.walk.WalkEnd.{WalkEnd}
 use Rattle.core_answers.specs.declared.walk.WalkEnd.TheVariants as end
+use Rattle.core_answers.specs.Plainly.{does}
 use Rattle.core_answers.specs.Refusals.{refused_with, deed_or_refusal}
+use Rattle.core_answers.specs.declared.effect.Answer.TheVariants.{Says}
 use Rattle.core_windows.specs.declared.change.Change.TheVariants as change
 use Rattle.core_windows.specs.Windows.{Window, window_at, named, world_of}
 use Rattle.core_answers.specs.Attaching.{is_version, agreed, version_deed, attach_refusal, or_attaches}
 use Rattle.core_answers.specs.Walking.{trail, walk_refusal, arrives_at, or_walks, walk_from}
 use Rattle.core_answers.specs.Opening.{open_refusal, or_opens, open_fid, denied, clunk_fid, remove_fid}
-use Rattle.core_answers.specs.Reading.{place_at, read_dir, read_content, use_refusal, or_reads, most, read_fid, stat_fid}
+use Rattle.core_answers.specs.Reading.{place_at, read_dir, read_opening, read_content, use_refusal, or_reads, most, read_fid, stat_fid}
 use Rattle.core_answers.specs.Writing.{written, append_deed, add_deed, or_errors, errors_deed, control_answer, write_content, write_fid}
 use Rattle.am_text.specs.Lines.{lines_of}
 use Rattle.core_answers.specs.Controls.{controls}
@@ -65,7 +67,7 @@ or_done body false x d h = h
 -- ---- message by message
 
 known_answers : (asked msize : ℕ) (version : List ℕ) (known : Bool)
-    → IsAnswered (t.Version asked version) (cond {A = Deed} known (record { effect = effect.Begins (Some msize); change = change.Nothing; answer = r.Version msize (codes "9P2000") }) (record { effect = effect.Begins None; change = change.Nothing; answer = r.Version msize (codes "unknown") })).answer
+    → IsAnswered (t.Version asked version) (cond {A = Deed} known (does (effect.Begins (Some msize)) change.Nothing (r.Version msize (codes "9P2000"))) (does (effect.Begins None) change.Nothing (r.Version msize (codes "unknown")))).answer
 known_answers asked msize version true = inl refl
 known_answers asked msize version false = inl refl
 
@@ -80,7 +82,7 @@ attach_answers fid afid uname aname (Some x) = tt
 arrives_answers : (fid newfid : ℕ) (names : List (List ℕ)) (world : World) (qids : List Qid) (e : WalkEnd) → Answers (t.Walk fid newfid names) (arrives_at newfid world qids e)
 arrives_answers fid newfid names world qids (end.At node) = inl refl
 arrives_answers fid newfid names world qids (end.Makes file) = inl refl
-arrives_answers fid newfid names world qids (end.Stops x) = or_done (t.Walk fid newfid names) (length qids == 0) x (record { effect = effect.Nothing; change = change.Nothing; answer = r.Walk qids }) (inl refl)
+arrives_answers fid newfid names world qids (end.Stops x) = or_done (t.Walk fid newfid names) (length qids == 0) x (does effect.Nothing change.Nothing (r.Walk qids)) (inl refl)
 
 or_walks_answers : (body : TBody) (o : Option Refusal) (x : Result Deed Refusal) → Answers body x → Answers body (or_walks o x)
 or_walks_answers body None x h = h
@@ -92,13 +94,13 @@ walk_answers tables world conn fid newfid names (Some f) =
     or_walks_answers (t.Walk fid newfid names) (walk_refusal tables conn fid newfid f) _
     (arrives_answers fid newfid names world (trail world f.node names).qids (trail world f.node names).end)
 
-opens_answers : (tables : Tables) (fid mode : ℕ) (f : Fid) (o : Option Refusal) → Answers (t.Open fid mode) (or_opens tables o fid f mode)
-opens_answers tables fid mode f None = inl refl
-opens_answers tables fid mode f (Some x) = tt
+opens_answers : (tables : Tables) (openings fid mode : ℕ) (f : Fid) (o : Option Refusal) → Answers (t.Open fid mode) (or_opens tables o openings fid f mode)
+opens_answers tables openings fid mode f None = inl refl
+opens_answers tables openings fid mode f (Some x) = tt
 
-open_answers : (tables : Tables) (world : World) (fid mode : ℕ) (o : Option Fid) → Answers (t.Open fid mode) (open_fid tables world fid mode o)
-open_answers tables world fid mode None = tt
-open_answers tables world fid mode (Some f) = opens_answers tables fid mode f (open_refusal world f mode)
+open_answers : (tables : Tables) (world : World) (openings fid mode : ℕ) (o : Option Fid) → Answers (t.Open fid mode) (open_fid tables world openings fid mode o)
+open_answers tables world openings fid mode None = tt
+open_answers tables world openings fid mode (Some f) = opens_answers tables openings fid mode f (open_refusal world openings f mode)
 
 denied_answers : (body : TBody) (o : Option Fid) → Answers body (denied o)
 denied_answers body None = tt
@@ -112,6 +114,10 @@ read_dir_answers : (world : World) (fid offset asked count : ℕ) (f : Fid) (o :
 read_dir_answers world fid offset asked count f None = tt
 read_dir_answers world fid offset asked count f (Some skip) = inl refl
 
+read_opening_answers : (fid offset asked count : ℕ) (o : Option ℕ) → Answers (t.Read fid offset asked) (read_opening fid count o)
+read_opening_answers fid offset asked count None = tt
+read_opening_answers fid offset asked count (Some opening) = refl
+
 read_content_answers : (world : World) (windows : List (Option Window)) (fid offset asked count : ℕ) (f : Fid) (c : Content) → Answers (t.Read fid offset asked) (read_content world windows fid f offset count c)
 read_content_answers world windows fid offset asked count f content.Directory = read_dir_answers world fid offset asked count f (place_at f offset)
 read_content_answers world windows fid offset asked count f (content.BodyText w) = inl refl
@@ -121,6 +127,7 @@ read_content_answers world windows fid offset asked count f content.IndexText = 
 read_content_answers world windows fid offset asked count f (content.ErrorsOf w) = tt
 read_content_answers world windows fid offset asked count f content.ConsErrors = inl refl
 read_content_answers world windows fid offset asked count f content.Empty = inl refl
+read_content_answers world windows fid offset asked count f (content.EventsOf w) = read_opening_answers fid offset asked count f.opening
 read_content_answers world windows fid offset asked count f content.Unserved = tt
 
 read_answers : (world : World) (windows : List (Option Window)) (fid offset asked count : ℕ) (o : Option Fid) → Answers (t.Read fid offset asked) (read_fid world windows fid offset count o)
@@ -146,7 +153,7 @@ errors_answers : (windows : List (Option Window)) (fid offset : ℕ) (bytes : Li
 errors_answers windows fid offset bytes f name decoded =
     or_errors_answers (t.Write fid offset bytes) (errors_refusal windows (named windows name) decoded.text) _ (inl refl)
 
-control_answers : (fid offset : ℕ) (bytes : List ℕ) (o : Option Refusal) → IsAnswered (t.Write fid offset bytes) (control_answer o (length bytes))
+control_answers : (fid offset : ℕ) (bytes : List ℕ) (o : Option Refusal) → IsAnswered (t.Write fid offset bytes) (Says (control_answer o (length bytes)))
 control_answers fid offset bytes None = inl refl
 control_answers fid offset bytes (Some x) = inr (x, refl)
 
@@ -161,6 +168,7 @@ write_content_answers windows fid offset bytes f (content.ErrorsOf w) =
     errors_answers windows fid offset bytes f (errors_of (window_at windows w)) (decode_part (part_bytes f.part ++ bytes))
 write_content_answers windows fid offset bytes f content.ConsErrors = errors_answers windows fid offset bytes f root_errors (decode_part (part_bytes f.part ++ bytes))
 write_content_answers windows fid offset bytes f content.Empty = inl refl
+write_content_answers windows fid offset bytes f (content.EventsOf w) = tt
 write_content_answers windows fid offset bytes f content.Unserved = tt
 
 write_answers : (world : World) (windows : List (Option Window)) (fid offset : ℕ) (bytes : List ℕ) (o : Option Fid) → Answers (t.Write fid offset bytes) (write_fid world windows fid bytes o)
@@ -179,26 +187,26 @@ remove_answers fid (Some f) = inr (refusal.PermissionDenied, refl)
 stat_answers : (world : World) (fid : ℕ) (o : Option Fid) → Answers (t.Stat fid) (stat_fid world o)
 stat_answers world fid None = tt
 stat_answers world fid (Some f) =
-    done_or (t.Stat fid) (is_live world f.node) (record { effect = effect.Nothing; change = change.Nothing; answer = r.Stat (record_of (stat_of world f.node)) }) refusal.WindowDeleted (inl refl)
+    done_or (t.Stat fid) (is_live world f.node) (does effect.Nothing change.Nothing (r.Stat (record_of (stat_of world f.node)))) refusal.WindowDeleted (inl refl)
 
-served_answers : (tables : Tables) (world : World) (windows : List (Option Window)) (conn : ℕ) (body : TBody) → Answers body (served tables world windows conn body)
-served_answers tables world windows conn (t.Version msize version) = version_answers msize version
-served_answers tables world windows conn (t.Auth afid uname aname) = tt
-served_answers tables world windows conn (t.Flush oldtag) = inl refl
-served_answers tables world windows conn (t.Attach fid afid uname aname) = attach_answers fid afid uname aname (attach_refusal tables conn fid afid aname)
-served_answers tables world windows conn (t.Walk fid newfid names) = walk_answers tables world conn fid newfid names (fid_of tables conn fid)
-served_answers tables world windows conn (t.Open fid mode) = open_answers tables world fid mode (fid_of tables conn fid)
-served_answers tables world windows conn (t.Create fid name perm mode) = denied_answers (t.Create fid name perm mode) (fid_of tables conn fid)
-served_answers tables world windows conn (t.Read fid offset count) = read_answers world windows fid offset count (most count (msize_of tables conn)) (fid_of tables conn fid)
-served_answers tables world windows conn (t.Write fid offset bytes) = write_answers world windows fid offset bytes (fid_of tables conn fid)
-served_answers tables world windows conn (t.Clunk fid) = clunk_answers fid (fid_of tables conn fid)
-served_answers tables world windows conn (t.Remove fid) = remove_answers fid (fid_of tables conn fid)
-served_answers tables world windows conn (t.Stat fid) = stat_answers world fid (fid_of tables conn fid)
-served_answers tables world windows conn (t.Wstat fid stat) = denied_answers (t.Wstat fid stat) (fid_of tables conn fid)
+served_answers : (tables : Tables) (world : World) (windows : List (Option Window)) (openings conn : ℕ) (body : TBody) → Answers body (served tables world windows openings conn body)
+served_answers tables world windows openings conn (t.Version msize version) = version_answers msize version
+served_answers tables world windows openings conn (t.Auth afid uname aname) = tt
+served_answers tables world windows openings conn (t.Flush oldtag) = inl refl
+served_answers tables world windows openings conn (t.Attach fid afid uname aname) = attach_answers fid afid uname aname (attach_refusal tables conn fid afid aname)
+served_answers tables world windows openings conn (t.Walk fid newfid names) = walk_answers tables world conn fid newfid names (fid_of tables conn fid)
+served_answers tables world windows openings conn (t.Open fid mode) = open_answers tables world openings fid mode (fid_of tables conn fid)
+served_answers tables world windows openings conn (t.Create fid name perm mode) = denied_answers (t.Create fid name perm mode) (fid_of tables conn fid)
+served_answers tables world windows openings conn (t.Read fid offset count) = read_answers world windows fid offset count (most count (msize_of tables conn)) (fid_of tables conn fid)
+served_answers tables world windows openings conn (t.Write fid offset bytes) = write_answers world windows fid offset bytes (fid_of tables conn fid)
+served_answers tables world windows openings conn (t.Clunk fid) = clunk_answers fid (fid_of tables conn fid)
+served_answers tables world windows openings conn (t.Remove fid) = remove_answers fid (fid_of tables conn fid)
+served_answers tables world windows openings conn (t.Stat fid) = stat_answers world fid (fid_of tables conn fid)
+served_answers tables world windows openings conn (t.Wstat fid stat) = denied_answers (t.Wstat fid stat) (fid_of tables conn fid)
 
 -- ---- all messages
 
 pub each_is_answered : EachIsAnswered
-each_is_answered tables windows conn body =
+each_is_answered tables windows openings conn body =
     refused_or body (comes_first tables conn body) effect.Nothing refusal.VersionFirst _
-    (settled body (served tables (world_of windows) windows conn body) (served_answers tables (world_of windows) windows conn body))
+    (settled body (served tables (world_of windows) windows openings conn body) (served_answers tables (world_of windows) windows openings conn body))

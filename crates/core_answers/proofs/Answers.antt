@@ -10,7 +10,11 @@ use Rattle.core_answers.specs.declared.refusal.Refusal.TheVariants as refusal
 use Rattle.core_answers.specs.Refusals.{refusal_text}
 use Rattle.core_answers.specs.Done.{IsSent, IsDone}
 use Rattle.core_windows.specs.Windows.{Window}
+use Rattle.core_windows.specs.declared.change.Change.{Change}
 use Rattle.core_windows.specs.declared.change.Change.TheVariants as change
+use Rattle.core_windows.specs.Possible.{IsPossible}
+use Rattle.ninep_wire.specs.declared.message.RBody.{RBody}
+use Rattle.core_answers.specs.declared.effect.Deed.{Deed}
 use Rattle.ninep_frame.specs.declared.stat.Stat.{Stat}
 use Rattle.ninep_frame.specs.Records.{record_of, HasName}
 use Rattle.ninep_frame.specs.Directories.{records, fitting}
@@ -18,6 +22,7 @@ use Rattle.ninep_frame.proofs.Longest.{longest}
 use Rattle.ninep_frame.proofs.Sizes.{record_len}
 use Rattle.core_answers.specs.declared.effect.Effect.{Effect}
 use Rattle.core_answers.specs.declared.effect.Effect.TheVariants as effect
+use Rattle.core_answers.specs.Plainly.{does}
 
 -- ---- refusals
 
@@ -37,8 +42,11 @@ text_is refusal.FidIsNotOpen = refl
 text_is refusal.NotADirectory = refl
 text_is refusal.FileNotFound = refl
 text_is refusal.TooManyWindows = refl
+text_is refusal.TooManyOpenings = refl
 text_is refusal.BadOpenMode = refl
 text_is refusal.PermissionDenied = refl
+text_is refusal.TooManyWaitingReads = refl
+text_is refusal.FidClunked = refl
 text_is refusal.BadDirectoryOffset = refl
 text_is refusal.TextTooLong = refl
 text_is refusal.WindowModified = refl
@@ -61,8 +69,11 @@ text_fits refusal.FidIsNotOpen = omega arith
 text_fits refusal.NotADirectory = omega arith
 text_fits refusal.FileNotFound = omega arith
 text_fits refusal.TooManyWindows = omega arith
+text_fits refusal.TooManyOpenings = omega arith
 text_fits refusal.BadOpenMode = omega arith
 text_fits refusal.PermissionDenied = omega arith
+text_fits refusal.TooManyWaitingReads = omega arith
+text_fits refusal.FidClunked = omega arith
 text_fits refusal.BadDirectoryOffset = omega arith
 text_fits refusal.TextTooLong = omega arith
 text_fits refusal.WindowModified = omega arith
@@ -76,9 +87,10 @@ error_is x = record { body = record { text = text_is x; len = omega (arith, text
 pub error_sent : (x : Refusal) (text : List ℕ) → text ≡ refusal_text x → IsSent (r.Error text)
 error_sent x text e = subst (λ (t : List ℕ). IsSent (r.Error t)) (sym e) (error_is x)
 
-pub error_done : (windows : List (Option Window)) (f : Effect) (x : Refusal) (text : List ℕ) → text ≡ refusal_text x
-    → IsDone windows (record { effect = f; change = change.Nothing; answer = r.Error text })
-error_done windows f x text e = record { sent = error_sent x text e; possible = tt }
+-- a deed that is answered at once
+pub plain_done : (windows : List (Option Window)) (f : Effect) (c : Change) (body : RBody) (d : Deed) → d ≡ does f c body → IsSent body → IsPossible windows c
+    → IsDone windows d
+plain_done windows f c body d e sent possible = subst (λ (x : Deed). IsDone windows x) (sym e) (record { sent = sent; possible = possible })
 
 -- ---- versions
 
@@ -96,24 +108,26 @@ known_sent msize = record { body = known; size = omega arith }
 unknown_sent : (msize : ℕ) → IsSent (r.Version msize (codes "unknown"))
 unknown_sent msize = record { body = unknown; size = omega arith }
 
-pub known_done : (windows : List (Option Window)) (f : Effect) (msize : ℕ) (text : List ℕ) → text ≡ codes "9P2000"
-    → IsDone windows (record { effect = f; change = change.Nothing; answer = r.Version msize text })
-known_done windows f msize text e = record { sent = subst (λ (t : List ℕ). IsSent (r.Version msize t)) (sym e) (known_sent msize); possible = tt }
+pub known_done : (windows : List (Option Window)) (f : Effect) (msize : ℕ) (text : List ℕ) (d : Deed) → text ≡ codes "9P2000"
+    → d ≡ does f change.Nothing (r.Version msize text) → IsDone windows d
+known_done windows f msize text d e is =
+    plain_done windows f change.Nothing (r.Version msize text) d is (subst (λ (t : List ℕ). IsSent (r.Version msize t)) (sym e) (known_sent msize)) tt
 
-pub unknown_done : (windows : List (Option Window)) (f : Effect) (msize : ℕ) (text : List ℕ) → text ≡ codes "unknown"
-    → IsDone windows (record { effect = f; change = change.Nothing; answer = r.Version msize text })
-unknown_done windows f msize text e = record { sent = subst (λ (t : List ℕ). IsSent (r.Version msize t)) (sym e) (unknown_sent msize); possible = tt }
+pub unknown_done : (windows : List (Option Window)) (f : Effect) (msize : ℕ) (text : List ℕ) (d : Deed) → text ≡ codes "unknown"
+    → d ≡ does f change.Nothing (r.Version msize text) → IsDone windows d
+unknown_done windows f msize text d e is =
+    plain_done windows f change.Nothing (r.Version msize text) d is (subst (λ (t : List ℕ). IsSent (r.Version msize t)) (sym e) (unknown_sent msize)) tt
 
 -- ---- stats
 
-pub stat_done : (windows : List (Option Window)) (s : Stat) (bytes : List ℕ) → bytes ≡ record_of s → HasName s
-    → IsDone windows (record { effect = effect.Nothing; change = change.Nothing; answer = r.Stat bytes })
-stat_done windows s bytes e name =
+pub stat_done : (windows : List (Option Window)) (s : Stat) (bytes : List ℕ) (d : Deed) → bytes ≡ record_of s → HasName s
+    → d ≡ does effect.Nothing change.Nothing (r.Stat bytes) → IsDone windows d
+stat_done windows s bytes d e name is =
     let size : length bytes ≡ 61 + length s.name = ap (λ (l : List ℕ). length l) e ∙ record_len s in
-    record { sent = record { body = omega (arith, size, name.len); size = omega (arith, size, name.len) }; possible = tt }
+    plain_done windows effect.Nothing change.Nothing (r.Stat bytes) d is (record { body = omega (arith, size, name.len); size = omega (arith, size, name.len) }) tt
 
 -- what a directory read gives fits
 pub part_fits : (room : ℕ) (stats : List Stat) (bytes : List ℕ) → bytes ≡ records (fitting room stats) → length bytes ≤ room
 part_fits room stats bytes e = subst (λ (l : List ℕ). length l ≤ room) (sym e) (longest room stats).fits
 
-pub ruleset sent = (error_sent, error_done, known_done, unknown_done, stat_done, part_fits)
+pub ruleset sent = (error_sent, known_done, unknown_done, stat_done, part_fits)

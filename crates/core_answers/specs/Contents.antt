@@ -13,7 +13,7 @@ file_content w Body = content.BodyText w
 file_content w Ctl = content.CtlText w
 file_content w Data = content.Unserved
 file_content w Errors = content.ErrorsOf w
-file_content w Event = content.Unserved
+file_content w Event = content.EventsOf w
 file_content w Tag = content.TagText w
 file_content w Xdata = content.Unserved
 

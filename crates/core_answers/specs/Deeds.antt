@@ -6,6 +6,8 @@ use Rattle.ninep_wire.specs.declared.message.RBody.TheVariants as r
 use Rattle.acme_tree.specs.declared.node.World.{World}
 use Rattle.fid_table.specs.Tables.{Tables, fid_of, msize_of}
 use Rattle.core_answers.specs.declared.effect.Effect.TheVariants as effect
+use Rattle.core_answers.specs.declared.effect.EventChange.TheVariants as events
+use Rattle.core_answers.specs.declared.effect.Answer.TheVariants.{Says}
 use Rattle.core_answers.specs.declared.effect.Deed.{Deed}
 use Rattle.core_answers.specs.declared.refusal.Refusal.{Refusal}
 use Rattle.core_answers.specs.declared.refusal.Refusal.TheVariants as refusal
@@ -19,25 +21,25 @@ use Rattle.core_answers.specs.Opening.{open_deed, denied, clunk_fid, remove_fid}
 use Rattle.core_answers.specs.Reading.{read_deed, stat_fid}
 use Rattle.core_answers.specs.Writing.{write_deed}
 
--- Tflush is never refused; no read waits yet
-abbrev pub flush_deed : Deed
-flush_deed = record { effect = effect.Nothing; change = change.Nothing; answer = r.Flush }
+-- Tflush is never refused: the read of that tag waits no more, if it did
+abbrev pub flush_deed : ℕ → Deed
+flush_deed oldtag = record { effect = effect.Nothing; events = events.Cancels oldtag; change = change.Nothing; answer = Says r.Flush }
 
--- what a message does in a session
-abbrev pub served : Tables → World → List (Option Window) → ℕ → TBody → Result Deed Refusal
-served tables world windows conn (t.Version msize version) = Ok (version_deed msize version)
-served tables world windows conn (t.Auth afid uname aname) = Err refusal.AuthenticationNotRequired
-served tables world windows conn (t.Flush oldtag) = Ok flush_deed
-served tables world windows conn (t.Attach fid afid uname aname) = attach_deed tables conn fid afid aname
-served tables world windows conn (t.Walk fid newfid names) = walk_deed tables world conn fid newfid names
-served tables world windows conn (t.Open fid mode) = open_deed tables world conn fid mode
-served tables world windows conn (t.Create fid name perm mode) = denied (fid_of tables conn fid)
-served tables world windows conn (t.Read fid offset count) = read_deed tables world windows conn fid offset count
-served tables world windows conn (t.Write fid offset bytes) = write_deed tables world windows conn fid bytes
-served tables world windows conn (t.Clunk fid) = clunk_fid fid (fid_of tables conn fid)
-served tables world windows conn (t.Remove fid) = remove_fid fid (fid_of tables conn fid)
-served tables world windows conn (t.Stat fid) = stat_fid world (fid_of tables conn fid)
-served tables world windows conn (t.Wstat fid stat) = denied (fid_of tables conn fid)
+-- what a message does in a session, where so many openings of event files were made
+abbrev pub served : Tables → World → List (Option Window) → ℕ → ℕ → TBody → Result Deed Refusal
+served tables world windows openings conn (t.Version msize version) = Ok (version_deed msize version)
+served tables world windows openings conn (t.Auth afid uname aname) = Err refusal.AuthenticationNotRequired
+served tables world windows openings conn (t.Flush oldtag) = Ok (flush_deed oldtag)
+served tables world windows openings conn (t.Attach fid afid uname aname) = attach_deed tables conn fid afid aname
+served tables world windows openings conn (t.Walk fid newfid names) = walk_deed tables world conn fid newfid names
+served tables world windows openings conn (t.Open fid mode) = open_deed tables world openings conn fid mode
+served tables world windows openings conn (t.Create fid name perm mode) = denied (fid_of tables conn fid)
+served tables world windows openings conn (t.Read fid offset count) = read_deed tables world windows conn fid offset count
+served tables world windows openings conn (t.Write fid offset bytes) = write_deed tables world windows conn fid bytes
+served tables world windows openings conn (t.Clunk fid) = clunk_fid fid (fid_of tables conn fid)
+served tables world windows openings conn (t.Remove fid) = remove_fid fid (fid_of tables conn fid)
+served tables world windows openings conn (t.Stat fid) = stat_fid world (fid_of tables conn fid)
+served tables world windows openings conn (t.Wstat fid stat) = denied (fid_of tables conn fid)
 
 -- a Tversion alone needs no session
 abbrev pub needs_session : TBody → Bool
@@ -58,7 +60,7 @@ needs_session (t.Wstat fid stat) = true
 abbrev pub comes_first : Tables → ℕ → TBody → Bool
 comes_first tables conn body = needs_session body && not (is_there (msize_of tables conn))
 
--- what a message of a connection does, and its answer
-abbrev pub deed : Tables → List (Option Window) → ℕ → TBody → Deed
-deed tables windows conn body =
-    if comes_first tables conn body then refused refusal.VersionFirst else deed_or_refusal (served tables (world_of windows) windows conn body)
+-- what a message of a connection does, and its answer, where so many openings of event files were made
+abbrev pub deed : Tables → List (Option Window) → ℕ → ℕ → TBody → Deed
+deed tables windows openings conn body =
+    if comes_first tables conn body then refused refusal.VersionFirst else deed_or_refusal (served tables (world_of windows) windows openings conn body)

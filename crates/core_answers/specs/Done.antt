@@ -1,11 +1,13 @@
--- What holds of each deed: its answer has a spelling, and its change of the windows can be made.
-use Rattle.std.specs.Prelude.{◌≡◌, ◌<◌, ◌^◌, false, List, Option}
+-- What holds of each deed: what it is answered has a spelling, and its change of the windows can be made.
+use Rattle.std.specs.Prelude.{◌≡◌, ◌<◌, ◌+◌, ◌^◌, false, List, Option}
 use Rattle.ninep_wire.specs.declared.message.RBody.{RBody}
 use Rattle.ninep_wire.specs.Spelling.{BodyFits_r, size_r}
 use Rattle.acme_tree.specs.declared.node.World.{World}
 use Rattle.acme_tree.specs.Trees.{is_full}
 use Rattle.core_windows.specs.Possible.{IsPossible}
 use Rattle.core_windows.specs.Windows.{Window}
+use Rattle.core_answers.specs.declared.effect.Answer.{Answer}
+use Rattle.core_answers.specs.declared.effect.Answer.TheVariants.{Says, Reads}
 use Rattle.core_answers.specs.declared.effect.Deed.{Deed}
 use Rattle.core_answers.specs.declared.walk.WalkEnd.{WalkEnd}
 use Rattle.core_answers.specs.declared.walk.WalkEnd.TheVariants as end
@@ -15,8 +17,13 @@ pub record IsSent (answer : RBody) : Type 0 where
   pub body : BodyFits_r answer
   pub size : size_r answer < 2 ^ 32
 
+-- a read gets so few bytes that its answer has a spelling
+abbrev pub HasSpelling : Answer → Type 0
+HasSpelling (Says body) = IsSent body
+HasSpelling (Reads fid opening count) = count + 11 < 2 ^ 32
+
 pub record IsDone (windows : List (Option Window)) (deed : Deed) : Type 0 where
-  pub sent : IsSent deed.answer
+  pub sent : HasSpelling deed.answer
   pub possible : IsPossible windows deed.change
 
 -- a walk that makes a window ends only where one more may live

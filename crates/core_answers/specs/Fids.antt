@@ -36,8 +36,9 @@ is_for_reading mode = not (how mode == 1)
 abbrev pub is_for_writing : ℕ → Bool
 is_for_writing mode = not (how mode == 0)
 
-abbrev pub opened : Fid → ℕ → Fid
-opened fid mode = record fid { mode = Some mode }
+-- opened with a mode, and where it is an opening of an event file, with its number
+abbrev pub opened : Fid → ℕ → Option ℕ → Fid
+opened fid mode opening = record fid { mode = Some mode; opening = opening }
 
 -- the bytes of a rune that a write left unfinished
 abbrev pub holding : Fid → Part → Fid

@@ -6,6 +6,8 @@ use Rattle.ninep_wire.specs.declared.message.RBody.TheVariants as r
 use Rattle.ninep_wire.specs.Spelling.{kind_t, kind_r}
 use Rattle.fid_table.specs.Tables.{Tables}
 use Rattle.core_windows.specs.Windows.{Window}
+use Rattle.core_answers.specs.declared.effect.Answer.{Answer}
+use Rattle.core_answers.specs.declared.effect.Answer.TheVariants.{Says, Reads}
 use Rattle.core_answers.specs.declared.refusal.Refusal.{Refusal}
 use Rattle.core_answers.specs.Deeds.{deed}
 use Rattle.core_answers.specs.Refusals.{refusal_text}
@@ -14,10 +16,12 @@ use Rattle.core_answers.specs.Refusals.{refusal_text}
 abbrev pub IsRefused : RBody → Type 0
 IsRefused answer = (refusal : Refusal) × (answer ≡ r.Error (refusal_text refusal))
 
--- A message is answered by its own R message, whose type byte is one more, unless it is refused.
-abbrev pub IsAnswered : TBody → RBody → Type 0
-IsAnswered asked answer = (kind_r answer ≡ kind_t asked + 1) ⊎ IsRefused answer
+-- A message is answered by its own R message, whose type byte is one more, unless it is refused. A Tread alone may be answered later.
+abbrev pub IsAnswered : TBody → Answer → Type 0
+IsAnswered asked (Says answer) = (kind_r answer ≡ kind_t asked + 1) ⊎ IsRefused answer
+IsAnswered asked (Reads fid opening count) = kind_t asked ≡ 116
 
 -- In each state each message of each connection is answered.
 abbrev pub EachIsAnswered : Type 0
-EachIsAnswered = (tables : Tables) (windows : List (Option Window)) (conn : ℕ) (body : TBody) → IsAnswered body (deed tables windows conn body).answer
+EachIsAnswered =
+    (tables : Tables) (windows : List (Option Window)) (openings conn : ℕ) (body : TBody) → IsAnswered body (deed tables windows openings conn body).answer

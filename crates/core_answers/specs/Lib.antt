@@ -1,6 +1,7 @@
 pub mod Fids
 pub mod Contents
 pub mod Texts
+pub mod Plainly
 pub mod Refusals
 pub mod Controls
 pub mod Plain

@@ -1,5 +1,5 @@
 -- Topen, and the messages that ask for what isn't given.
-use Rattle.std.specs.Prelude.{ℕ, zero, suc, Bool, false, ◌==◌, ◌&&◌, ◌||◌, not, [], ◌∷◌, Option, Some, None, Result, Ok, Err, if◌then◌else◌}
+use Rattle.std.specs.Prelude.{ℕ, zero, suc, ◌+◌, Bool, false, ◌==◌, ◌&&◌, ◌||◌, not, nat_lt, [], ◌∷◌, Option, Some, None, Result, Ok, Err, if◌then◌else◌}
 use Rattle.std.specs.List.{list_any}
 use Rattle.ninep_wire.specs.declared.message.RBody.TheVariants as r
 use Rattle.acme_tree.specs.declared.access.May.{May}
@@ -16,7 +16,11 @@ use Rattle.core_windows.specs.declared.change.Change.{Change}
 use Rattle.core_windows.specs.declared.change.Change.TheVariants as change
 use Rattle.core_windows.specs.declared.change.Setting.TheVariants as setting
 use Rattle.core_answers.specs.declared.effect.Effect.TheVariants as effect
+use Rattle.core_answers.specs.declared.effect.EventChange.{EventChange}
+use Rattle.core_answers.specs.declared.effect.EventChange.TheVariants as events
+use Rattle.core_answers.specs.declared.effect.Answer.TheVariants.{Says}
 use Rattle.core_answers.specs.declared.effect.Deed.{Deed}
+use Rattle.core_answers.specs.Plainly.{does}
 use Rattle.core_answers.specs.declared.refusal.Refusal.{Refusal}
 use Rattle.core_answers.specs.declared.refusal.Refusal.TheVariants as refusal
 use Rattle.core_answers.specs.declared.content.Content.{Content}
@@ -32,26 +36,31 @@ mode_refusal may.Yes = None
 mode_refusal may.BadMode = Some refusal.BadOpenMode
 mode_refusal may.Denied = Some refusal.PermissionDenied
 
-abbrev pub content_refusal : Content → Option Refusal
-content_refusal content.Directory = None
-content_refusal (content.BodyText w) = None
-content_refusal (content.TagText w) = None
-content_refusal (content.CtlText w) = None
-content_refusal content.IndexText = None
-content_refusal (content.ErrorsOf w) = None
-content_refusal content.ConsErrors = None
-content_refusal content.Empty = None
-content_refusal content.Unserved = Some refusal.NotServedYet
+-- openings of event files are numbered from 1, and 4,294,967,295 is the last number
+abbrev pub opening_refusal : ℕ → Option Refusal
+opening_refusal openings = if nat_lt openings 4294967295 then None else Some refusal.TooManyOpenings
+
+abbrev pub content_refusal : ℕ → Content → Option Refusal
+content_refusal openings content.Directory = None
+content_refusal openings (content.BodyText w) = None
+content_refusal openings (content.TagText w) = None
+content_refusal openings (content.CtlText w) = None
+content_refusal openings content.IndexText = None
+content_refusal openings (content.ErrorsOf w) = None
+content_refusal openings content.ConsErrors = None
+content_refusal openings content.Empty = None
+content_refusal openings (content.EventsOf w) = opening_refusal openings
+content_refusal openings content.Unserved = Some refusal.NotServedYet
 
 abbrev pub first_refusal : Option Refusal → Option Refusal → Option Refusal
 first_refusal None later = later
 first_refusal (Some refusal) later = Some refusal
 
-abbrev pub open_refusal : World → Fid → ℕ → Option Refusal
-open_refusal world fid mode =
+abbrev pub open_refusal : World → ℕ → Fid → ℕ → Option Refusal
+open_refusal world openings fid mode =
     if not (is_live world fid.node) then Some refusal.WindowDeleted else
     (if is_open fid then Some refusal.FidIsOpen else
-    first_refusal (mode_refusal (may_open fid.node mode)) (content_refusal (content_of fid.node)))
+    first_refusal (mode_refusal (may_open fid.node mode)) (content_refusal openings (content_of fid.node)))
 
 -- whether the node is the `ctl` of that window
 abbrev pub is_ctl_of : ℕ → Node → Bool
@@ -83,23 +92,51 @@ opening_change tables content.IndexText = change.Nothing
 opening_change tables (content.ErrorsOf w) = change.Nothing
 opening_change tables content.ConsErrors = change.Nothing
 opening_change tables content.Empty = change.Nothing
+opening_change tables (content.EventsOf w) = change.Nothing
 opening_change tables content.Unserved = change.Nothing
 
+-- opening an event file adds an opening of it
+abbrev pub opening_events : Content → EventChange
+opening_events content.Directory = events.Nothing
+opening_events (content.BodyText w) = events.Nothing
+opening_events (content.TagText w) = events.Nothing
+opening_events (content.CtlText w) = events.Nothing
+opening_events content.IndexText = events.Nothing
+opening_events (content.ErrorsOf w) = events.Nothing
+opening_events content.ConsErrors = events.Nothing
+opening_events content.Empty = events.Nothing
+opening_events (content.EventsOf w) = events.Opens w
+opening_events content.Unserved = events.Nothing
+
+-- its number is the next one
+abbrev pub opening_of : ℕ → Content → Option ℕ
+opening_of openings content.Directory = None
+opening_of openings (content.BodyText w) = None
+opening_of openings (content.TagText w) = None
+opening_of openings (content.CtlText w) = None
+opening_of openings content.IndexText = None
+opening_of openings (content.ErrorsOf w) = None
+opening_of openings content.ConsErrors = None
+opening_of openings content.Empty = None
+opening_of openings (content.EventsOf w) = Some (openings + 1)
+opening_of openings content.Unserved = None
+
 -- an iounit isn't given
-abbrev pub or_opens : Tables → Option Refusal → ℕ → Fid → ℕ → Result Deed Refusal
-or_opens tables None number fid mode = Ok (record {
-  effect = effect.Puts number (opened fid mode);
+abbrev pub or_opens : Tables → Option Refusal → ℕ → ℕ → Fid → ℕ → Result Deed Refusal
+or_opens tables None openings number fid mode = Ok (record {
+  effect = effect.Puts number (opened fid mode (opening_of openings (content_of fid.node)));
+  events = opening_events (content_of fid.node);
   change = opening_change tables (content_of fid.node);
-  answer = r.Open (qid_of fid.node) 0;
+  answer = Says (r.Open (qid_of fid.node) 0);
 })
-or_opens tables (Some refusal) number fid mode = Err refusal
+or_opens tables (Some refusal) openings number fid mode = Err refusal
 
-abbrev pub open_fid : Tables → World → ℕ → ℕ → Option Fid → Result Deed Refusal
-open_fid tables world number mode None = Err refusal.UnknownFid
-open_fid tables world number mode (Some fid) = or_opens tables (open_refusal world fid mode) number fid mode
+abbrev pub open_fid : Tables → World → ℕ → ℕ → ℕ → Option Fid → Result Deed Refusal
+open_fid tables world openings number mode None = Err refusal.UnknownFid
+open_fid tables world openings number mode (Some fid) = or_opens tables (open_refusal world openings fid mode) openings number fid mode
 
-abbrev pub open_deed : Tables → World → ℕ → ℕ → ℕ → Result Deed Refusal
-open_deed tables world conn number mode = open_fid tables world number mode (fid_of tables conn number)
+abbrev pub open_deed : Tables → World → ℕ → ℕ → ℕ → ℕ → Result Deed Refusal
+open_deed tables world openings conn number mode = open_fid tables world openings number mode (fid_of tables conn number)
 
 -- ---- Tcreate and Twstat, which are never done
 
@@ -111,7 +148,7 @@ denied (Some fid) = Err refusal.PermissionDenied
 
 abbrev pub clunk_fid : ℕ → Option Fid → Result Deed Refusal
 clunk_fid number None = Err refusal.UnknownFid
-clunk_fid number (Some fid) = Ok (record { effect = effect.Frees number; change = change.Nothing; answer = r.Clunk })
+clunk_fid number (Some fid) = Ok (does (effect.Frees number) change.Nothing r.Clunk)
 
 abbrev pub remove_fid : ℕ → Option Fid → Result Deed Refusal
 remove_fid number None = Err refusal.UnknownFid

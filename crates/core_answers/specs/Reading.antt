@@ -12,7 +12,10 @@ use Rattle.fid_table.specs.declared.types.Fid.{Fid}
 use Rattle.fid_table.specs.Tables.{Tables, fid_of, msize_of}
 use Rattle.core_windows.specs.declared.change.Change.TheVariants as change
 use Rattle.core_answers.specs.declared.effect.Effect.TheVariants as effect
+use Rattle.core_answers.specs.declared.effect.EventChange.TheVariants as events
+use Rattle.core_answers.specs.declared.effect.Answer.TheVariants.{Reads}
 use Rattle.core_answers.specs.declared.effect.Deed.{Deed}
+use Rattle.core_answers.specs.Plainly.{does}
 use Rattle.core_answers.specs.declared.refusal.Refusal.{Refusal}
 use Rattle.core_answers.specs.declared.refusal.Refusal.TheVariants as refusal
 use Rattle.core_answers.specs.declared.content.Content.{Content}
@@ -24,7 +27,7 @@ use Rattle.core_answers.specs.Texts.{part_at, read_of, text_at, tag_if_live, ctl
 
 -- what is answered where nothing changes
 abbrev pub shown : List ℕ → Deed
-shown bytes = record { effect = effect.Nothing; change = change.Nothing; answer = r.Read bytes }
+shown bytes = does effect.Nothing change.Nothing (r.Read bytes)
 
 -- ---- directories
 
@@ -49,11 +52,19 @@ first_record (s ∷ stats) = Some (record_of s)
 
 abbrev pub goes_on : ℕ → Fid → ℕ → ℕ → List Stat → Deed
 goes_on number fid offset skip part =
-    record { effect = effect.Puts number (placed fid (offset + length (records part)) (skip + length part)); change = change.Nothing; answer = r.Read (records part) }
+    does (effect.Puts number (placed fid (offset + length (records part)) (skip + length part))) change.Nothing (r.Read (records part))
 
 abbrev pub read_dir : World → ℕ → Fid → ℕ → ℕ → Option ℕ → Result Deed Refusal
 read_dir world number fid offset count None = Err refusal.BadDirectoryOffset
 read_dir world number fid offset count (Some skip) = Ok (goes_on number fid offset skip (dir_part world fid.node skip count))
+
+-- ---- event files
+
+-- A read of an event file gets what is there for its opening, or it waits.
+abbrev pub read_opening : ℕ → ℕ → Option ℕ → Result Deed Refusal
+read_opening number count None = Err refusal.FidIsNotOpen
+read_opening number count (Some opening) =
+    Ok (record { effect = effect.Nothing; events = events.Nothing; change = change.Nothing; answer = Reads number opening count })
 
 -- ---- Tread
 
@@ -66,6 +77,7 @@ read_content world windows number fid offset count content.IndexText = Ok (shown
 read_content world windows number fid offset count (content.ErrorsOf w) = Err refusal.PermissionDenied
 read_content world windows number fid offset count content.ConsErrors = Ok (shown [])
 read_content world windows number fid offset count content.Empty = Ok (shown [])
+read_content world windows number fid offset count (content.EventsOf w) = read_opening number count fid.opening
 read_content world windows number fid offset count content.Unserved = Err refusal.NotServedYet
 
 -- a fid is used where it was opened for that
@@ -99,4 +111,4 @@ read_deed tables world windows conn number offset count =
 abbrev pub stat_fid : World → Option Fid → Result Deed Refusal
 stat_fid world None = Err refusal.UnknownFid
 stat_fid world (Some fid) =
-    if is_live world fid.node then Ok (record { effect = effect.Nothing; change = change.Nothing; answer = r.Stat (record_of (stat_of world fid.node)) }) else Err refusal.WindowDeleted
+    if is_live world fid.node then Ok (does effect.Nothing change.Nothing (r.Stat (record_of (stat_of world fid.node)))) else Err refusal.WindowDeleted

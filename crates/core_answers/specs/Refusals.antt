@@ -5,6 +5,7 @@ use Rattle.core_windows.specs.declared.change.Change.TheVariants as change
 use Rattle.core_answers.specs.declared.effect.Effect.{Effect}
 use Rattle.core_answers.specs.declared.effect.Effect.TheVariants as effect
 use Rattle.core_answers.specs.declared.effect.Deed.{Deed}
+use Rattle.core_answers.specs.Plainly.{does}
 use Rattle.core_answers.specs.declared.refusal.Refusal.{Refusal}
 use Rattle.core_answers.specs.declared.refusal.Refusal.TheVariants as refusal
 use Rattle.core_answers.specs.declared.refusal.Fault.{Fault}
@@ -25,8 +26,11 @@ refusal_text refusal.FidIsNotOpen = codes "fid is not open"
 refusal_text refusal.NotADirectory = codes "not a directory"
 refusal_text refusal.FileNotFound = codes "file not found"
 refusal_text refusal.TooManyWindows = codes "too many windows"
+refusal_text refusal.TooManyOpenings = codes "too many openings"
 refusal_text refusal.BadOpenMode = codes "bad open mode"
 refusal_text refusal.PermissionDenied = codes "permission denied"
+refusal_text refusal.TooManyWaitingReads = codes "too many waiting reads"
+refusal_text refusal.FidClunked = codes "fid clunked"
 refusal_text refusal.BadDirectoryOffset = codes "bad directory offset"
 refusal_text refusal.TextTooLong = codes "text too long"
 refusal_text refusal.WindowModified = codes "window modified"
@@ -36,7 +40,7 @@ refusal_text refusal.NotServedYet = codes "not served yet"
 
 -- the deed of a refusal: its text is answered, and nothing changes but what is said here
 abbrev pub refused_with : Effect → Refusal → Deed
-refused_with effect refusal = record { effect = effect; change = change.Nothing; answer = r.Error (refusal_text refusal) }
+refused_with f refusal = does f change.Nothing (r.Error (refusal_text refusal))
 
 abbrev pub refused : Refusal → Deed
 refused refusal = refused_with effect.Nothing refusal

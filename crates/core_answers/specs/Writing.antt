@@ -13,6 +13,7 @@ use Rattle.core_windows.specs.declared.change.Change.TheVariants as change
 use Rattle.core_windows.specs.Windows.{Window, window_at, named}
 use Rattle.core_answers.specs.declared.effect.Effect.TheVariants as effect
 use Rattle.core_answers.specs.declared.effect.Deed.{Deed}
+use Rattle.core_answers.specs.Plainly.{does}
 use Rattle.core_answers.specs.declared.refusal.Refusal.{Refusal}
 use Rattle.core_answers.specs.declared.refusal.Refusal.TheVariants as refusal
 use Rattle.core_answers.specs.declared.content.Content.{Content}
@@ -28,7 +29,7 @@ use Rattle.core_answers.specs.Texts.{text_at, right_of, name_of, modified_of}
 
 -- the whole count is answered
 abbrev pub written : Change → ℕ → Fid → ℕ → Deed
-written change number fid count = record { effect = effect.Puts number fid; change = change; answer = r.Write count }
+written c number fid count = does (effect.Puts number fid) c (r.Write count)
 
 -- ---- texts: whole runes are put at the end, and the bytes of an unfinished one are held for the fid
 
@@ -61,11 +62,7 @@ control_answer (Some refusal) count = r.Error (refusal_text refusal)
 
 -- what was done before a refusal stays done
 abbrev pub control_deed : ℕ → ℕ → Controls → Deed
-control_deed w count controls = record {
-  effect = effect.Nothing;
-  change = change.Controls w controls.settings controls.deletes;
-  answer = control_answer controls.refusal count;
-}
+control_deed w count controls = does effect.Nothing (change.Controls w controls.settings controls.deletes) (control_answer controls.refusal count)
 
 abbrev pub ctl_deed : ℕ → List ℕ → Option Window → Deed
 ctl_deed w bytes window = control_deed w (length bytes) (controls (lines_of bytes) (name_of window) (modified_of window))
@@ -83,7 +80,8 @@ write_content windows number fid bytes (content.ErrorsOf w) =
     errors_deed windows number fid (errors_of (window_at windows w)) (length bytes) (decode_part (part_bytes fid.part ++ bytes))
 write_content windows number fid bytes content.ConsErrors =
     errors_deed windows number fid root_errors (length bytes) (decode_part (part_bytes fid.part ++ bytes))
-write_content windows number fid bytes content.Empty = Ok (record { effect = effect.Nothing; change = change.Nothing; answer = r.Write (length bytes) })
+write_content windows number fid bytes content.Empty = Ok (does effect.Nothing change.Nothing (r.Write (length bytes)))
+write_content windows number fid bytes (content.EventsOf w) = Err refusal.NotServedYet
 write_content windows number fid bytes content.Unserved = Err refusal.NotServedYet
 
 abbrev pub write_fid : World → List (Option Window) → ℕ → List ℕ → Option Fid → Result Deed Refusal

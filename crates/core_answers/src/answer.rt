@@ -9,7 +9,7 @@ ghost use Rattle.core_answers.specs.Refusals.{Gives};
 ghost use Rattle.core_windows.specs.Windows.{world_of};
 
 use crate::attach::{attach, version};
-use crate::effect::{Deed, Effect};
+use crate::effect::{Answer, Deed, Effect, EventChange};
 use crate::open::{clunk, deny, open, remove};
 use crate::read::{read, stat};
 use crate::refusal::{Fault, Refusal, refuse};
@@ -22,14 +22,15 @@ use fid_table::Sessions;
 use ninep_wire::{RBody, TBody};
 use std::alloc::Global;
 
-fn flush(windows: &Windows) -> Deed
-    ensures exact { result ≡ flush_deed }
+fn flush(windows: &Windows, oldtag: u16) -> Deed
+    ensures exact { result ≡ flush_deed oldtag }
     ensures done { IsDone windows.now.windows result }
 {
     Deed {
         effect: Effect::Nothing,
+        events: EventChange::Cancels { tag: oldtag },
         change: Change::Nothing,
-        answer: RBody::Flush,
+        answer: Answer::Says(RBody::Flush),
     }
 }
 
@@ -38,14 +39,15 @@ fn served(
     sessions: &Sessions,
     windows: &Windows,
     world: &World,
+    openings: usize,
     conn: u32,
     body: &TBody,
 ) -> Result<Deed, Fault>
     requires fits { BodyFits_t body.now }
     requires world { world.now ≡ world_of windows.now.windows }
     requires named { All IsName world.now.ports }
-    ensures exact { IfOk result (λ d. served sessions.now.present world.now windows.now.windows conn body.now ≡ Ok d) }
-    ensures refused { IfErr result (λ e. Gives e (served sessions.now.present world.now windows.now.windows conn body.now)) }
+    ensures exact { IfOk result (λ d. served sessions.now.present world.now windows.now.windows openings conn body.now ≡ Ok d) }
+    ensures refused { IfErr result (λ e. Gives e (served sessions.now.present world.now windows.now.windows openings conn body.now)) }
     ensures done { IfOk result (IsDone windows.now.windows) }
 {
     match body {
@@ -54,7 +56,7 @@ fn served(
             version: name,
         } => Ok(version(alloc, windows, *msize, name.as_slice())?),
         TBody::Auth { .. } => Err(Fault::Refused(Refusal::AuthenticationNotRequired)),
-        TBody::Flush { .. } => Ok(flush(windows)),
+        TBody::Flush { oldtag } => Ok(flush(windows, *oldtag)),
         TBody::Attach {
             fid,
             afid,
@@ -81,7 +83,9 @@ fn served(
                 names.as_slice(),
             )
         }
-        TBody::Open { fid, mode } => open(alloc, sessions, windows, world, conn, *fid, *mode),
+        TBody::Open { fid, mode } => open(
+            alloc, sessions, windows, world, openings, conn, *fid, *mode,
+        ),
         TBody::Create { fid, .. } => Err(Fault::Refused(deny(sessions, conn, *fid))),
         TBody::Read { fid, offset, count } => {
             read(alloc, sessions, windows, world, conn, *fid, *offset, *count)
@@ -130,24 +134,33 @@ fn comes_first(sessions: &Sessions, conn: u32, body: &TBody) -> bool
     needs_session(body) && sessions.msize(conn).is_none()
 }
 
-/// What a message of a connection does, and its answer.
+/// What a message of a connection does, and its answer, where so many openings of event files were made.
 #[tactic(auto, using(crate::proofs::Named::naming))]
 pub fn deed_of(
     alloc: Global,
     sessions: &Sessions,
     windows: &Windows,
+    openings: usize,
     conn: u32,
     body: &TBody,
 ) -> Result<Deed, NoMemory>
     requires { BodyFits_t body.now }
-    ensures exact { IfOk result (λ d. d ≡ deed sessions.now.present windows.now.windows conn body.now) }
+    ensures exact { IfOk result (λ d. d ≡ deed sessions.now.present windows.now.windows openings conn body.now) }
     // Its answer has a spelling, and its change of the windows can be made.
     ensures done { IfOk result (IsDone windows.now.windows) }
 {
     if comes_first(sessions, conn, body) {
         return refuse(alloc, windows, Effect::Nothing, Refusal::VersionFirst);
     }
-    match served(alloc, sessions, windows, windows.world(), conn, body) {
+    match served(
+        alloc,
+        sessions,
+        windows,
+        windows.world(),
+        openings,
+        conn,
+        body,
+    ) {
         Ok(deed) => Ok(deed),
         Err(Fault::Refused(refusal)) => refuse(alloc, windows, Effect::Nothing, refusal),
         Err(Fault::NoMemory) => Err(NoMemory),

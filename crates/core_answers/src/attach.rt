@@ -33,23 +33,23 @@ fn agree(alloc: Global, windows: &Windows, msize: u32, version: &[u8]) -> Result
     ensures done { IfOk result (IsDone windows.now.windows) }
 {
     if !is_version(version) {
-        return Ok(Deed {
-            effect: Effect::Begins { msize: None },
-            change: Change::Nothing,
-            answer: RBody::Version {
+        return Ok(Deed::plain(
+            Effect::Begins { msize: None },
+            Change::Nothing,
+            RBody::Version {
                 msize,
                 version: Items::copied(alloc, b"unknown")?,
             },
-        });
+        ));
     }
-    Ok(Deed {
-        effect: Effect::Begins { msize: Some(msize) },
-        change: Change::Nothing,
-        answer: RBody::Version {
+    Ok(Deed::plain(
+        Effect::Begins { msize: Some(msize) },
+        Change::Nothing,
+        RBody::Version {
             msize,
             version: Items::copied(alloc, b"9P2000")?,
         },
-    })
+    ))
 }
 
 /// What a Tversion does.
@@ -130,14 +130,14 @@ pub(crate) fn attach(
     if let Some(refusal) = attach_refusal(sessions, conn, fid, afid, aname) {
         return Err(Fault::Refused(refusal));
     }
-    Ok(Deed {
-        effect: Effect::Puts {
+    Ok(Deed::plain(
+        Effect::Puts {
             number: fid,
             fid: fresh(alloc, Node::Root),
         },
-        change: Change::Nothing,
-        answer: RBody::Attach {
+        Change::Nothing,
+        RBody::Attach {
             qid: qid_of(Node::Root),
         },
-    })
+    ))
 }

@@ -22,6 +22,8 @@ pub enum Content {
     ErrorsOf(u32),
     /// What is written goes to the errors window of the directory `/`.
     ConsErrors,
+    /// The items of this window, one after another.
+    EventsOf(u32),
     /// No bytes; what is written is dropped.
     Empty,
     /// What isn't built yet.
@@ -38,7 +40,7 @@ fn file_content(window: u32, file: WinFile) -> Content
         WinFile::Errors => Content::ErrorsOf(window),
         WinFile::Addr => Content::Unserved,
         WinFile::Data => Content::Unserved,
-        WinFile::Event => Content::Unserved,
+        WinFile::Event => Content::EventsOf(window),
         WinFile::Xdata => Content::Unserved,
     }
 }

@@ -1,5 +1,8 @@
 //! What a message does, and what it is answered.
 
+ghost use Rattle.std.specs.Prelude.{◌≡◌};
+ghost use Rattle.core_answers.specs.Plainly.{does};
+
 use core_windows::Change;
 use fid_table::Fid;
 use ninep_wire::RBody;
@@ -17,10 +20,46 @@ pub enum Effect {
     Frees { number: u32 },
 }
 
-/// What a message does: to its connection, and to the windows; and its answer.
+/// What a message does to the openings and the waiting reads of event files.
+#[derive(Clone, Copy, Debug, PartialEq, Eq)]
+pub enum EventChange {
+    /// Nothing.
+    Nothing,
+    /// The event file of this window gets an opening more.
+    Opens { window: u32 },
+    /// The read of the connection that has this tag waits no more.
+    Cancels { tag: u16 },
+}
+
+/// How a message is answered.
+#[derive(Drop)]
+pub enum Answer {
+    /// By this, at once.
+    Says(RBody),
+    /// By what is there for this opening of an event file, at most `count` bytes of it: at once, or once something is there. The read is
+    /// one of this fid.
+    Reads { fid: u32, opening: u32, count: u32 },
+}
+
+/// What a message does: to its connection, to event files, and to the windows; and its answer.
 #[derive(Drop)]
 pub struct Deed {
     pub effect: Effect,
+    pub events: EventChange,
     pub change: Change,
-    pub answer: RBody,
+    pub answer: Answer,
+}
+
+impl Deed {
+    /// What a message does that has nothing to do with event files, and is answered at once.
+    pub(crate) fn plain(effect: Effect, change: Change, body: RBody) -> Deed
+        ensures { result ≡ does effect change body }
+    {
+        Deed {
+            effect,
+            events: EventChange::Nothing,
+            change,
+            answer: Answer::Says(body),
+        }
+    }
 }

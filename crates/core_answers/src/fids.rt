@@ -80,12 +80,18 @@ pub fn copy(alloc: Global, fid: &Fid) -> Result<Fid, NoMemory>
     })
 }
 
-/// The fid, opened with a mode.
-pub(crate) fn opened(alloc: Global, fid: &Fid, mode: u8) -> Result<Fid, NoMemory>
-    ensures { IfOk result (λ f. f ≡ opened fid.now mode) }
+/// The fid, opened with a mode, and with the number of its opening of an event file, where it is one.
+pub(crate) fn opened(
+    alloc: Global,
+    fid: &Fid,
+    mode: u8,
+    opening: Option<u32>,
+) -> Result<Fid, NoMemory>
+    ensures { IfOk result (λ f. f ≡ opened fid.now mode opening) }
 {
     Ok(Fid {
         mode: Some(mode),
+        opening,
         ..copy(alloc, fid)?
     })
 }

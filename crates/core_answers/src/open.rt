@@ -1,6 +1,6 @@
 //! Opening and freeing fids, after open(5), clunk(5), remove(5) and stat(5).
 
-ghost use Rattle.std.specs.Prelude.{◌≡◌, ◌||◌, IfOk, IfErr, Ok};
+ghost use Rattle.std.specs.Prelude.{◌≡◌, ◌||◌, IfOk, IfErr, Ok, None};
 ghost use Rattle.std.specs.List.{list_any};
 ghost use Rattle.std.specs.Option.{option_map};
 ghost use Rattle.std.specs.Prelude.{slice_get};
@@ -8,10 +8,10 @@ ghost use Rattle.fid_table.specs.Tables.{fid_of, fids_of};
 ghost use Rattle.core_windows.specs.Possible.{IsPossible};
 ghost use Rattle.core_answers.specs.Refusals.{Gives};
 ghost use Rattle.core_answers.specs.Done.{IsDone};
-ghost use Rattle.core_answers.specs.Opening.{mode_refusal, content_refusal, first_refusal, open_refusal, is_ctl_of, has_ctl_open, or_false, ctl_open_below, clears_limit, opening_change, open_deed, denied, clunk_fid, remove_fid};
+ghost use Rattle.core_answers.specs.Opening.{mode_refusal, opening_refusal, content_refusal, opening_events, opening_of, first_refusal, open_refusal, is_ctl_of, has_ctl_open, or_false, ctl_open_below, clears_limit, opening_change, open_deed, denied, clunk_fid, remove_fid};
 
 use crate::content::{Content, content_of};
-use crate::effect::{Deed, Effect};
+use crate::effect::{Answer, Deed, Effect, EventChange};
 use crate::fids::{is_open, opened};
 use crate::refusal::{Fault, Refusal, refuse};
 use acme_tree::{May, Node, WinFile, World, is_live, may_open, qid_of};
@@ -24,6 +24,9 @@ use std::alloc::Global;
 /// How many connections there are.
 const CONNS: u32 = 64;
 
+/// The most openings of event files that are ever made.
+const OPENINGS: usize = 4294967295;
+
 fn mode_refusal(may: May) -> Option<Refusal>
     ensures { result ≡ mode_refusal may }
 {
@@ -34,8 +37,19 @@ fn mode_refusal(may: May) -> Option<Refusal>
     }
 }
 
-fn content_refusal(content: Content) -> Option<Refusal>
-    ensures { result ≡ content_refusal content }
+// Why no more openings of event files can be made.
+fn opening_refusal(openings: usize) -> Option<Refusal>
+    ensures { result ≡ opening_refusal openings }
+{
+    if openings < OPENINGS {
+        None
+    } else {
+        Some(Refusal::TooManyOpenings)
+    }
+}
+
+fn content_refusal(openings: usize, content: Content) -> Option<Refusal>
+    ensures { result ≡ content_refusal openings content }
 {
     match content {
         Content::Directory => None,
@@ -46,6 +60,7 @@ fn content_refusal(content: Content) -> Option<Refusal>
         Content::ErrorsOf(_) => None,
         Content::ConsErrors => None,
         Content::Empty => None,
+        Content::EventsOf(_) => opening_refusal(openings),
         Content::Unserved => Some(Refusal::NotServedYet),
     }
 }
@@ -59,8 +74,8 @@ fn first_refusal(first: Option<Refusal>, later: Option<Refusal>) -> Option<Refus
     }
 }
 
-fn open_refusal(world: &World, fid: &Fid, mode: u8) -> Option<Refusal>
-    ensures { result ≡ open_refusal world.now fid.now mode }
+fn open_refusal(world: &World, openings: usize, fid: &Fid, mode: u8) -> Option<Refusal>
+    ensures { result ≡ open_refusal world.now openings fid.now mode }
 {
     let node = fid.node;
     if !is_live(world, node) {
@@ -70,7 +85,7 @@ fn open_refusal(world: &World, fid: &Fid, mode: u8) -> Option<Refusal>
     } else {
         first_refusal(
             mode_refusal(may_open(node, mode)),
-            content_refusal(content_of(node)),
+            content_refusal(openings, content_of(node)),
         )
     }
 }
@@ -163,7 +178,44 @@ fn opening_change(
         Content::ErrorsOf(_) => Ok(Change::Nothing),
         Content::ConsErrors => Ok(Change::Nothing),
         Content::Empty => Ok(Change::Nothing),
+        Content::EventsOf(_) => Ok(Change::Nothing),
         Content::Unserved => Ok(Change::Nothing),
+    }
+}
+
+fn opening_events(content: Content) -> EventChange
+    ensures { result ≡ opening_events content }
+{
+    match content {
+        Content::EventsOf(window) => EventChange::Opens { window },
+        Content::Directory => EventChange::Nothing,
+        Content::BodyText(_) => EventChange::Nothing,
+        Content::TagText(_) => EventChange::Nothing,
+        Content::CtlText(_) => EventChange::Nothing,
+        Content::IndexText => EventChange::Nothing,
+        Content::ErrorsOf(_) => EventChange::Nothing,
+        Content::ConsErrors => EventChange::Nothing,
+        Content::Empty => EventChange::Nothing,
+        Content::Unserved => EventChange::Nothing,
+    }
+}
+
+// The number of the opening that an open of this makes.
+fn opening_of(openings: usize, content: Content) -> Option<u32>
+    requires { content_refusal openings content ≡ None }
+    ensures { result ≡ opening_of openings content }
+{
+    match content {
+        Content::EventsOf(_) => Some(openings as u32 + 1),
+        Content::Directory => None,
+        Content::BodyText(_) => None,
+        Content::TagText(_) => None,
+        Content::CtlText(_) => None,
+        Content::IndexText => None,
+        Content::ErrorsOf(_) => None,
+        Content::ConsErrors => None,
+        Content::Empty => None,
+        Content::Unserved => None,
     }
 }
 
@@ -173,30 +225,33 @@ pub(crate) fn open(
     sessions: &Sessions,
     windows: &Windows,
     world: &World,
+    openings: usize,
     conn: u32,
     number: u32,
     mode: u8,
 ) -> Result<Deed, Fault>
-    ensures exact { IfOk result (λ d. open_deed sessions.now.present world.now conn number mode ≡ Ok d) }
-    ensures refused { IfErr result (λ e. Gives e (open_deed sessions.now.present world.now conn number mode)) }
+    ensures exact { IfOk result (λ d. open_deed sessions.now.present world.now openings conn number mode ≡ Ok d) }
+    ensures refused { IfErr result (λ e. Gives e (open_deed sessions.now.present world.now openings conn number mode)) }
     ensures done { IfOk result (IsDone windows.now.windows) }
 {
     let Some(fid) = sessions.fid(conn, number) else {
         return Err(Fault::Refused(Refusal::UnknownFid));
     };
-    if let Some(refusal) = open_refusal(world, fid, mode) {
+    if let Some(refusal) = open_refusal(world, openings, fid, mode) {
         return Err(Fault::Refused(refusal));
     }
+    let content = content_of(fid.node);
     Ok(Deed {
         effect: Effect::Puts {
             number,
-            fid: opened(alloc, fid, mode)?,
+            fid: opened(alloc, fid, mode, opening_of(openings, content))?,
         },
-        change: opening_change(alloc, sessions, windows, content_of(fid.node))?,
-        answer: RBody::Open {
+        events: opening_events(content),
+        change: opening_change(alloc, sessions, windows, content)?,
+        answer: Answer::Says(RBody::Open {
             qid: qid_of(fid.node),
             iounit: 0,
-        },
+        }),
     })
 }
 
@@ -225,11 +280,7 @@ pub(crate) fn clunk(
     if sessions.fid(conn, number).is_none() {
         return Err(Fault::Refused(Refusal::UnknownFid));
     }
-    Ok(Deed {
-        effect: Effect::Frees { number },
-        change: Change::Nothing,
-        answer: RBody::Clunk,
-    })
+    Ok(Deed::plain(Effect::Frees { number }, Change::Nothing, RBody::Clunk))
 }
 
 /// What a Tremove does.

@@ -8,11 +8,11 @@ ghost use Rattle.core_answers.specs.Contents.{content_of};
 ghost use Rattle.core_answers.specs.Refusals.{Gives};
 ghost use Rattle.core_answers.specs.Done.{IsDone};
 ghost use Rattle.core_answers.specs.Fids.{is_for_reading, is_for_writing};
-ghost use Rattle.core_answers.specs.Reading.{shown, place_at, goes_on, read_dir, read_content, mode_refusal, use_refusal, most, read_deed, stat_fid};
+ghost use Rattle.core_answers.specs.Reading.{shown, place_at, goes_on, read_dir, read_opening, read_content, mode_refusal, use_refusal, most, read_deed, stat_fid};
 
 use crate::content::{Content, content_of};
 use crate::directory::dir_part;
-use crate::effect::{Deed, Effect};
+use crate::effect::{Answer, Deed, Effect, EventChange};
 use crate::fids::{is_for_reading, is_for_writing, placed};
 use crate::refusal::{Fault, Refusal};
 use crate::texts::{body_part, ctl_if_live, index_text, part_at, tag_if_live};
@@ -30,11 +30,7 @@ fn show(windows: &Windows, bytes: Bytes) -> Deed
     ensures exact { result ≡ shown bytes }
     ensures done { IsDone windows.now.windows result }
 {
-    Deed {
-        effect: Effect::Nothing,
-        change: Change::Nothing,
-        answer: RBody::Read { bytes },
-    }
+    Deed::plain(Effect::Nothing, Change::Nothing, RBody::Read { bytes })
 }
 
 fn place_at(fid: &Fid, offset: u64) -> Option<usize>
@@ -70,11 +66,33 @@ fn read_dir(
     };
     let (bytes, given) = dir_part(alloc, world, fid.node, skip, count)?;
     let fid = placed(alloc, fid, offset, bytes.len(), skip, given)?;
-    Ok(Deed {
-        effect: Effect::Puts { number, fid },
-        change: Change::Nothing,
-        answer: RBody::Read { bytes },
-    })
+    Ok(Deed::plain(
+        Effect::Puts { number, fid },
+        Change::Nothing,
+        RBody::Read { bytes },
+    ))
+}
+
+// A read of an event file, which gets what is there for its opening, or waits.
+fn read_opening(windows: &Windows, number: u32, fid: &Fid, count: u32) -> Result<Deed, Fault>
+    requires { count + 11 < 2 ^ 32 }
+    ensures exact { IfOk result (λ d. read_opening number count fid.now.opening ≡ Ok d) }
+    ensures refused { IfErr result (λ e. Gives e (read_opening number count fid.now.opening)) }
+    ensures done { IfOk result (IsDone windows.now.windows) }
+{
+    match fid.opening {
+        None => Err(Fault::Refused(Refusal::FidIsNotOpen)),
+        Some(opening) => Ok(Deed {
+            effect: Effect::Nothing,
+            events: EventChange::Nothing,
+            change: Change::Nothing,
+            answer: Answer::Reads {
+                fid: number,
+                opening,
+                count,
+            },
+        }),
+    }
 }
 
 fn read_content(
@@ -117,6 +135,7 @@ fn read_content(
         Content::ErrorsOf(_) => Err(Fault::Refused(Refusal::PermissionDenied)),
         Content::ConsErrors => Ok(show(windows, Items::new(alloc))),
         Content::Empty => Ok(show(windows, Items::new(alloc))),
+        Content::EventsOf(_) => read_opening(windows, number, fid, count),
         Content::Unserved => Err(Fault::Refused(Refusal::NotServedYet)),
     }
 }
@@ -207,11 +226,11 @@ pub(crate) fn stat(
         return Err(Fault::Refused(Refusal::WindowDeleted));
     }
     let stat = stat_of(alloc, world, fid.node)?;
-    Ok(Deed {
-        effect: Effect::Nothing,
-        change: Change::Nothing,
-        answer: RBody::Stat {
+    Ok(Deed::plain(
+        Effect::Nothing,
+        Change::Nothing,
+        RBody::Stat {
             stat: stat_write(alloc, &stat)?,
         },
-    })
+    ))
 }

@@ -2,7 +2,7 @@
 
 ghost use Rattle.std.specs.Prelude.{◌≡◌, IfOk};
 ghost use Rattle.core_answers.specs.Refusals.{refusal_text, refused_with};
-ghost use Rattle.core_answers.specs.Done.{IsDone};
+ghost use Rattle.core_answers.specs.Done.{IsSent, IsDone};
 ghost use Rattle.core_answers.specs.declared.refusal.Fault.TheVariants.{NoMemory};
 
 use crate::effect::{Deed, Effect};
@@ -42,10 +42,16 @@ pub enum Refusal {
     FileNotFound,
     /// No more windows can be made.
     TooManyWindows,
+    /// No more openings of event files can be made.
+    TooManyOpenings,
     /// The mode has bits that mean nothing.
     BadOpenMode,
     /// The file isn't for this.
     PermissionDenied,
+    /// The connection has 64 reads that wait.
+    TooManyWaitingReads,
+    /// The fid of a waiting read was freed.
+    FidClunked,
     /// A directory is read neither from its front nor on from the last read.
     BadDirectoryOffset,
     /// A body would have more than 16,777,216 runes, or the right part of a tag more than 65,536.
@@ -96,8 +102,11 @@ pub(crate) fn refusal_text(refusal: Refusal) -> &'static [u8]
         Refusal::NotADirectory => b"not a directory",
         Refusal::FileNotFound => b"file not found",
         Refusal::TooManyWindows => b"too many windows",
+        Refusal::TooManyOpenings => b"too many openings",
         Refusal::BadOpenMode => b"bad open mode",
         Refusal::PermissionDenied => b"permission denied",
+        Refusal::TooManyWaitingReads => b"too many waiting reads",
+        Refusal::FidClunked => b"fid clunked",
         Refusal::BadDirectoryOffset => b"bad directory offset",
         Refusal::TextTooLong => b"text too long",
         Refusal::WindowModified => b"window modified",
@@ -107,8 +116,18 @@ pub(crate) fn refusal_text(refusal: Refusal) -> &'static [u8]
     }
 }
 
-/// The deed of a message that is refused and does this.
+/// The answer of a refusal: an Rerror with its text.
 #[tactic(auto, using(crate::proofs::Answers::sent))]
+pub fn error(alloc: Global, refusal: Refusal) -> Result<RBody, NoMemory>
+    ensures exact { IfOk result (λ answer. answer ≡ RBody.Error (refusal_text refusal)) }
+    ensures sent { IfOk result IsSent }
+{
+    Ok(RBody::Error {
+        ename: Items::copied(alloc, refusal_text(refusal))?,
+    })
+}
+
+/// The deed of a message that is refused and does this.
 pub(crate) fn refuse(
     alloc: Global,
     windows: &Windows,
@@ -118,11 +137,5 @@ pub(crate) fn refuse(
     ensures exact { IfOk result (λ d. d ≡ refused_with effect refusal) }
     ensures done { IfOk result (IsDone windows.now.windows) }
 {
-    Ok(Deed {
-        effect,
-        change: Change::Nothing,
-        answer: RBody::Error {
-            ename: Items::copied(alloc, refusal_text(refusal))?,
-        },
-    })
+    Ok(Deed::plain(effect, Change::Nothing, error(alloc, refusal)?))
 }

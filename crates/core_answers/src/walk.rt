@@ -129,28 +129,28 @@ fn arrive(
 {
     let Trail { qids, end } = trail;
     match end {
-        WalkEnd::At(node) => Ok(Deed {
-            effect: Effect::Puts {
+        WalkEnd::At(node) => Ok(Deed::plain(
+            Effect::Puts {
                 number: newfid,
                 fid: fresh(alloc, node),
             },
-            change: Change::Nothing,
-            answer: RBody::Walk { qids },
-        }),
-        WalkEnd::Makes(file) => Ok(Deed {
-            effect: Effect::Puts {
+            Change::Nothing,
+            RBody::Walk { qids },
+        )),
+        WalkEnd::Makes(file) => Ok(Deed::plain(
+            Effect::Puts {
                 number: newfid,
                 fid: fresh(alloc, Node::File(world.next, file)),
             },
-            change: new_window(alloc),
-            answer: RBody::Walk { qids },
-        }),
+            new_window(alloc),
+            RBody::Walk { qids },
+        )),
         WalkEnd::Stops(refusal) if qids.is_empty() => Err(Fault::Refused(refusal)),
-        WalkEnd::Stops(_) => Ok(Deed {
-            effect: Effect::Nothing,
-            change: Change::Nothing,
-            answer: RBody::Walk { qids },
-        }),
+        WalkEnd::Stops(_) => Ok(Deed::plain(
+            Effect::Nothing,
+            Change::Nothing,
+            RBody::Walk { qids },
+        )),
     }
 }
 

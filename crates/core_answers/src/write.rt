@@ -22,9 +22,9 @@ use crate::erring::{
 };
 use crate::fids::{at_most_three, holding};
 use crate::read::why_not_written;
-use crate::refusal::{Fault, Refusal, refusal_text};
+use crate::refusal::{Fault, Refusal, error};
 use acme_tree::World;
-use am_text::{Items, NoMemory, Part, Runes, decode_part};
+use am_text::{NoMemory, Part, Runes, decode_part};
 use core_windows::{Change, Windows};
 use fid_table::{Fid, Sessions};
 use ninep_wire::RBody;
@@ -54,16 +54,16 @@ fn written(
     ensures exact { IfOk result (λ d. d ≡ written change number (holding fid.now part) (length bytes.now)) }
     ensures done { IfOk result (IsDone windows.now.windows) }
 {
-    Ok(Deed {
-        effect: Effect::Puts {
+    Ok(Deed::plain(
+        Effect::Puts {
             number,
             fid: holding(alloc, fid, part)?,
         },
         change,
-        answer: RBody::Write {
+        RBody::Write {
             count: bytes.len() as u32,
         },
-    })
+    ))
 }
 
 fn append(
@@ -130,7 +130,6 @@ fn complain(
     Ok(written(alloc, windows, change, number, fid, part, bytes)?)
 }
 
-#[tactic(auto, using(crate::proofs::Answers::sent))]
 fn control_answer(alloc: Global, refusal: Option<Refusal>, bytes: &[u8]) -> Result<RBody, NoMemory>
     requires { length bytes.now < 2 ^ 32 }
     ensures exact { IfOk result (λ answer. answer ≡ control_answer refusal (length bytes.now)) }
@@ -140,9 +139,7 @@ fn control_answer(alloc: Global, refusal: Option<Refusal>, bytes: &[u8]) -> Resu
         None => Ok(RBody::Write {
             count: bytes.len() as u32,
         }),
-        Some(refusal) => Ok(RBody::Error {
-            ename: Items::copied(alloc, refusal_text(refusal))?,
-        }),
+        Some(refusal) => error(alloc, refusal),
     }
 }
 
@@ -164,15 +161,16 @@ fn control_deed(
         deletes,
         refusal,
     } = controls;
-    Ok(Deed {
-        effect: Effect::Nothing,
-        answer: control_answer(alloc, refusal, bytes)?,
-        change: Change::Controls {
+    let answer = control_answer(alloc, refusal, bytes)?;
+    Ok(Deed::plain(
+        Effect::Nothing,
+        Change::Controls {
             window,
             settings,
             deletes,
         },
-    })
+        answer,
+    ))
 }
 
 // What a write to the `ctl` of a window does.
@@ -212,15 +210,16 @@ fn write_content(
             let name = root_errors(alloc)?;
             complain(alloc, windows, number, fid, name, bytes)
         }
-        Content::Empty => Ok(Deed {
-            effect: Effect::Nothing,
-            change: Change::Nothing,
-            answer: RBody::Write {
+        Content::Empty => Ok(Deed::plain(
+            Effect::Nothing,
+            Change::Nothing,
+            RBody::Write {
                 count: bytes.len() as u32,
             },
-        }),
+        )),
         Content::Directory => Err(Fault::Refused(Refusal::PermissionDenied)),
         Content::IndexText => Err(Fault::Refused(Refusal::PermissionDenied)),
+        Content::EventsOf(_) => Err(Fault::Refused(Refusal::NotServedYet)),
         Content::Unserved => Err(Fault::Refused(Refusal::NotServedYet)),
     }
 }

@@ -1,0 +1,20 @@
+-- The laws of the book, after a journal.
+use Rattle.std.proofs.Common.{◌≡◌, List, subst}
+use Rattle.am_journal.specs.declared.event.Event.{Event}
+use Rattle.event_book.specs.Laws.{IsLawful, WindowOrder, WhatAFidGets}
+use Rattle.event_book.proofs.FidLemmas.{gets, in_order}
+use Rattle.acme_core.specs.declared.parts.Parts.{Parts}
+use Rattle.acme_core.specs.Parts.{present_of}
+use Rattle.acme_core.specs.Run.{run, present_after}
+use Rattle.acme_core.specs.States.{Present}
+
+lawful : (p : Parts) (journal : List Event) → present_of p ≡ present_after journal → IsLawful p.book.kept → IsLawful (run journal).book
+lawful p journal e h = subst (λ (x : Present). IsLawful x.book) e h
+
+pub ordered : (p : Parts) (journal : List Event) → present_of p ≡ present_after journal → IsLawful p.book.kept → WindowOrder (run journal).book
+ordered p journal e h = in_order (run journal).book (lawful p journal e h)
+
+pub given : (p : Parts) (journal : List Event) → present_of p ≡ present_after journal → IsLawful p.book.kept → WhatAFidGets (run journal).book
+given p journal e h = gets (run journal).book (lawful p journal e h)
+
+pub ruleset book_laws = (ordered, given)

@@ -1,0 +1,9 @@
+use Rattle.std.proofs.Common.{◌≡◌, ◌++◌, drop}
+use Rattle.acme_core.specs.Unsent.{replies_of, HaveBytes}
+use Rattle.acme_core.proofs.growing.spelled.Given as goal
+
+abbrev pub invariant-loop-response : goal.invariant-loop-response
+invariant-loop-response l = record {
+  exact : l.replies.items ++ replies_of (drop l.response-index l.said) ≡ replies_of l.said;
+  some : HaveBytes l.replies.items;
+}

@@ -1,0 +1,63 @@
+-- The editor as it stands, and by all that was ever done.
+use Rattle.std.specs.Prelude.{ℕ, ◌+◌, List, [], replicate, Option}
+use Rattle.fid_table.specs.Tables.{Tables, nothing}
+use Rattle.event_book.specs.BookState.{BookState, empty_book}
+use Rattle.core_windows.specs.Windows.{Window}
+use Rattle.core_windows.specs.Stories.{WindowStory, shown_windows}
+use Rattle.acme_core.specs.declared.connection.Connection.{Connection}
+use Rattle.acme_core.specs.declared.connection.Connection.TheVariants.{Undialed}
+use Rattle.acme_core.specs.declared.unsent.Reply.{Reply}
+use Rattle.acme_core.specs.Unsent.{Unsent, nothing_unsent, unsent_at}
+
+-- the editor as it stands: how many entries were done, its 64 connections, their sessions, fids and waiting reads, the windows, the
+-- items and openings of event files, the unsent replies of each connection, and the replies that the last entry made
+pub record Present : Type 0 where
+  pub entries : ℕ
+  pub connections : List Connection
+  pub tables : Tables
+  pub windows : List (Option Window)
+  pub book : BookState
+  pub unsent : List Unsent
+  pub replies : List Reply
+
+-- the editor with its windows by all edits that were ever made
+pub record State : Type 0 where
+  pub entries : ℕ
+  pub connections : List Connection
+  pub tables : Tables
+  pub windows : List (Option WindowStory)
+  pub book : BookState
+  pub unsent : List Unsent
+  pub replies : List Reply
+
+-- the story as it stands
+abbrev pub present : State → Present
+present s = record {
+  entries = s.entries;
+  connections = s.connections;
+  tables = s.tables;
+  windows = shown_windows s.windows;
+  book = s.book;
+  unsent = s.unsent;
+  replies = s.replies;
+}
+
+-- the empty editor
+abbrev pub start : State
+start = record {
+  entries = 0;
+  connections = replicate 64 Undialed;
+  tables = nothing;
+  windows = [];
+  book = empty_book;
+  unsent = replicate 64 nothing_unsent;
+  replies = [];
+}
+
+-- how many unsent replies a connection has
+abbrev pub unsent_count : Present → ℕ → ℕ
+unsent_count s conn = (unsent_at s.unsent conn).count
+
+-- the number of the entry that comes
+abbrev pub next_entry : Present → ℕ
+next_entry s = s.entries + 1

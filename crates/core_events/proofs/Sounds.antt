@@ -1,0 +1,98 @@
+-- Each call keeps what holds of the book between the steps.
+use Rattle.std.proofs.Common.{◌≡◌, ℕ, ◌+◌, ◌<◌, ◌^◌, ◌&&◌, Bool, true, false, not, cond, List, [], ◌∷◌, find, fold, Option, Some, None, refl, sym, ap, ◌∙◌, subst, arith}
+use Rattle.std.specs.List.{list_all, filter}
+use Rattle.std.proofs.lemmas.Bool.Decides.{nat_tests}
+use Rattle.am_text.specs.Twice.{Twice, both, IsSteady}
+use Rattle.win_events.specs.declared.item.Item.{Item}
+use Rattle.wait_queue.specs.Reads.{is_on, is_read, without_first}
+use Rattle.wait_queue.specs.declared.types.Asker.{Asker}
+use Rattle.event_book.specs.BookState.{BookState, is_open_window, after_put, is_ready, next_of, after_next, after_serve, after_leave, is_on_window}
+use Rattle.core_answers.specs.declared.effect.EventChange.{EventChange}
+use Rattle.core_answers.specs.declared.effect.EventChange.TheVariants as events
+use Rattle.core_events.specs.Sound.{is_small, IsSound}
+use Rattle.core_events.specs.Closing.{cancelled, closed_with}
+use Rattle.core_events.specs.Putting.{put_one}
+
+-- ---- lists of reads
+
+all-filter : (p t : Asker → Bool) (rs : List Asker) → list_all p rs ≡ true → list_all p (filter t rs) ≡ true
+all-filter p t [] a = refl
+all-filter p t (r ∷ rs) a =
+    (elim (p r) as (λ b. p r ≡ b → (b && list_all p rs) ≡ true → list_all p (filter t (r ∷ rs)) ≡ true) [
+      | true ↦ λ e k.
+          elim (t r) as (λ c. list_all p (cond c (r ∷ filter t rs) (filter t rs)) ≡ true) [
+            | true ↦ rw e (all-filter p t rs k)
+            | false ↦ all-filter p t rs k
+          ]
+      | false ↦ λ e k. cc
+    ]) refl a
+
+all-without_first : (p t : Asker → Bool) (rs : List Asker) → list_all p rs ≡ true → list_all p (without_first t rs) ≡ true
+all-without_first p t [] a = refl
+all-without_first p t (r ∷ rs) a =
+    (elim (p r) as (λ b. p r ≡ b → (b && list_all p rs) ≡ true → list_all p (cond (t r) rs (r ∷ without_first t rs)) ≡ true) [
+      | true ↦ λ e k.
+          elim (t r) as (λ c. list_all p (cond c rs (r ∷ without_first t rs)) ≡ true) [
+            | true ↦ k
+            | false ↦ rw e (all-without_first p t rs k)
+          ]
+      | false ↦ λ e k. cc
+    ]) refl a
+
+found-all : (t p : Asker → Bool) (rs : List Asker) (r : Asker) → list_all p rs ≡ true → find t rs ≡ Some r → p r ≡ true
+found-all t p [] r a h = cc
+found-all t p (x ∷ rs) r a h =
+    (elim (p x) as (λ b. p x ≡ b → (b && list_all p rs) ≡ true → p r ≡ true) [
+      | true ↦ λ e k.
+          (elim (t x) as (λ b. cond b (Some x) (find t rs) ≡ Some r → p r ≡ true) [
+            | true ↦ λ f. let same : x ≡ r = cc in sym (ap p same) ∙ e
+            | false ↦ λ f. found-all t p rs r k f
+          ]) h
+      | false ↦ λ e k. cc
+    ]) refl a
+
+-- ---- calls
+
+-- the read that is answered next is a small one
+pub next_small : (at : ℕ) (s : BookState) (r : Asker) → IsSound at s → next_of s ≡ Some r → r.count + 11 < 2 ^ 32
+next_small at s r sound h = let small : is_small r ≡ true = found-all (is_ready s.files s.owners) is_small s.reads r sound.small h in grind (arith, nat_tests)
+
+pub sound_served : (at : ℕ) (s : BookState) → IsSound at s → IsSound at (after_serve s at)
+sound_served at s sound =
+    elim (next_of s) as (λ o. IsSound at (after_next o s at)) [
+      | None ↦ record { latest = omega arith; small = sound.small }
+      | Some r ↦ record { latest = omega arith; small = all-without_first is_small (is_ready s.files s.owners) s.reads sound.small }
+    ]
+
+pub sound_left : (at : ℕ) (s : BookState) (opening : ℕ) → IsSound at s → IsSound at (after_leave s opening at)
+sound_left at s opening sound = record { latest = omega arith; small = all-filter is_small (λ r. not (is_on opening r)) s.reads sound.small }
+
+pub sound_cancelled : (at : ℕ) (s : BookState) (conn : ℕ) (e : EventChange) → IsSound at s → IsSound at (cancelled s conn e)
+sound_cancelled at s conn events.Nothing sound = sound
+sound_cancelled at s conn (events.Opens w) sound = sound
+sound_cancelled at s conn (events.Cancels tag) sound =
+    record { latest = sound.latest; small = all-filter is_small (λ r. not (is_read conn tag r)) s.reads sound.small }
+
+pub sound_closed : (at : ℕ) (s : BookState) (window : Option ℕ) → IsSound at s → IsSound at (closed_with at s window)
+sound_closed at s None sound = sound
+sound_closed at s (Some w) sound =
+    record { latest = omega arith; small = all-filter is_small (λ r. not (is_on_window s.owners w r)) s.reads sound.small }
+
+sound_put : (at w : ℕ) (s : BookState) (item : Item) → IsSound at s → IsSound at (put_one w s item)
+sound_put at w s item sound =
+    elim (is_open_window s w) as (λ b. IsSound at (cond b (after_put s w item) s)) [
+      | true ↦ record { latest = sound.latest; small = sound.small }
+      | false ↦ sound
+    ]
+
+pub sound_all : (at w : ℕ) (s : BookState) (items : List Item) → IsSound at s → IsSound at (fold (put_one w) s items)
+sound_all at w s [] sound = sound
+sound_all at w s (item ∷ items) sound = sound_all at w (put_one w s item) items (sound_put at w s item sound)
+
+-- both states of a steady book are its present one
+pub steady_both : (t : Twice BookState) → IsSteady t → t ≡ both t.present
+steady_both t steady = ap (λ (k : BookState). record { present = t.present; kept = k }) (sym steady)
+
+-- a book whose states are both a sound one
+pub sound_both : (at : ℕ) (t : Twice BookState) (s : BookState) → t ≡ both s → IsSound at s → IsSound at t.present
+sound_both at t s e sound = subst (λ (u : Twice BookState). IsSound at u.present) (sym e) sound

@@ -1,0 +1,54 @@
+-- Opening and reading event files.
+use Rattle.std.specs.Prelude.{ℕ, Bool, true, false, nat_le, nat_lt, count_by, Option, Some, None, if◌then◌else◌}
+use Rattle.ninep_wire.specs.declared.message.RBody.{RBody}
+use Rattle.ninep_wire.specs.declared.message.RBody.TheVariants as r
+use Rattle.fid_table.specs.Tables.{Tables, is_waiting_on, after_wait}
+use Rattle.wait_queue.specs.declared.types.Asker.{Asker}
+use Rattle.wait_queue.specs.declared.types.Asked.{Asked}
+use Rattle.wait_queue.specs.declared.types.Asked.TheVariants.{Now, Waits}
+use Rattle.event_book.specs.BookState.{BookState, is_living, after_add, asked_of, after_ask}
+use Rattle.core_answers.specs.declared.effect.EventChange.{EventChange}
+use Rattle.core_answers.specs.declared.effect.EventChange.TheVariants as events
+use Rattle.core_answers.specs.declared.refusal.Refusal.TheVariants as refusal
+use Rattle.core_answers.specs.Refusals.{refusal_text}
+use Rattle.std.specs.Prelude.{length}
+
+-- an opening more, where one more can be counted
+abbrev pub opened : BookState → EventChange → BookState
+opened book events.Nothing = book
+opened book (events.Opens w) = if nat_lt (length book.owners) 4294967295 then after_add book w else book
+opened book (events.Cancels tag) = book
+
+-- a connection has 64 waiting reads at most
+abbrev pub is_full : Tables → ℕ → Bool
+is_full tables conn = nat_le 64 (count_by (is_waiting_on conn) tables.waiting)
+
+-- What is said to a read at once; none where it waits. A connection whose reads are 64 can't have another one that waits.
+abbrev pub said_to : Bool → Asked → Option RBody
+said_to full (Now piece) = Some (r.Read piece.bytes)
+said_to true Waits = Some (r.Error (refusal_text refusal.TooManyWaitingReads))
+said_to false Waits = None
+
+abbrev pub book_asked : Bool → Asked → BookState → Asker → ℕ → BookState
+book_asked full (Now piece) book asker at = after_ask book asker at
+book_asked true Waits book asker at = book
+book_asked false Waits book asker at = after_ask book asker at
+
+-- an opening that is closed is one of a deleted window
+abbrev pub read_said : Tables → BookState → Asker → Option RBody
+read_said tables book asker = if is_living book asker.opening
+    then said_to (is_full tables asker.conn) (asked_of book asker)
+    else Some (r.Error (refusal_text refusal.WindowDeleted))
+
+abbrev pub book_read : Tables → BookState → Asker → ℕ → BookState
+book_read tables book asker at = if is_living book asker.opening
+    then book_asked (is_full tables asker.conn) (asked_of book asker) book asker at
+    else book
+
+-- a read of this fid waits where nothing is said to it
+abbrev pub waits_unless : Option RBody → Tables → ℕ → ℕ → ℕ → Tables
+waits_unless (Some body) tables conn tag fid = tables
+waits_unless None tables conn tag fid = after_wait tables conn tag fid
+
+abbrev pub tables_read : Tables → BookState → Asker → ℕ → Tables
+tables_read tables book asker fid = waits_unless (read_said tables book asker) tables asker.conn asker.tag fid

@@ -1,0 +1,49 @@
+-- What ends openings and waiting reads without a reply of their own.
+use Rattle.std.specs.Prelude.{ℕ, Option, Some, None, if◌then◌else◌}
+use Rattle.std.specs.List.{fold}
+use Rattle.fid_table.specs.declared.types.Fid.{Fid}
+use Rattle.fid_table.specs.Tables.{Tables, fid_of, fids_of}
+use Rattle.event_book.specs.BookState.{BookState, is_living, after_leave, after_cancel, after_delete}
+use Rattle.core_answers.specs.declared.effect.Effect.{Effect}
+use Rattle.core_answers.specs.declared.effect.Effect.TheVariants as effect
+use Rattle.core_answers.specs.declared.effect.EventChange.{EventChange}
+use Rattle.core_answers.specs.declared.effect.EventChange.TheVariants as events
+
+-- An opening closes, unless it did with its window.
+abbrev pub without_opening : ℕ → BookState → Option ℕ → BookState
+without_opening at book None = book
+without_opening at book (Some opening) = if is_living book opening then after_leave book opening at else book
+
+-- a fid that is freed closes its opening
+abbrev pub without_fid : ℕ → BookState → ℕ × Fid → BookState
+without_fid at book f = without_opening at book f.1.opening
+
+-- the opening of a fid that was looked up by its place
+abbrev pub opening_at : Option (ℕ × Fid) → Option ℕ
+opening_at None = None
+opening_at (Some f) = f.1.opening
+
+-- all fids of a connection are freed
+abbrev pub without_fids : ℕ → BookState → Tables → ℕ → BookState
+without_fids at book tables conn = fold (without_fid at) book (fids_of tables conn)
+
+abbrev pub opening_in : Option Fid → Option ℕ
+opening_in None = None
+opening_in (Some fid) = fid.opening
+
+abbrev pub freed : ℕ → BookState → Tables → ℕ → Effect → BookState
+freed at book tables conn effect.Nothing = book
+freed at book tables conn (effect.Begins msize) = without_fids at book tables conn
+freed at book tables conn (effect.Puts fid value) = book
+freed at book tables conn (effect.Frees fid) = without_opening at book (opening_in (fid_of tables conn fid))
+
+-- a flushed read waits no more
+abbrev pub cancelled : BookState → ℕ → EventChange → BookState
+cancelled book conn events.Nothing = book
+cancelled book conn (events.Opens w) = book
+cancelled book conn (events.Cancels tag) = after_cancel book conn tag
+
+-- the event file of a window that is deleted closes
+abbrev pub closed_with : ℕ → BookState → Option ℕ → BookState
+closed_with at book None = book
+closed_with at book (Some w) = after_delete book w at

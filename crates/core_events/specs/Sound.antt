@@ -1,0 +1,13 @@
+-- What holds of the book between the steps: nothing was done later than the last entry, and the answer to each waiting read will have a
+-- spelling.
+use Rattle.std.specs.Prelude.{ℕ, ◌+◌, ◌≤◌, Bool, ◌≡◌, true, nat_lt, ◌^◌}
+use Rattle.std.specs.List.{list_all}
+use Rattle.wait_queue.specs.declared.types.Asker.{Asker}
+use Rattle.event_book.specs.BookState.{BookState}
+
+abbrev pub is_small : Asker → Bool
+is_small asker = nat_lt (asker.count + 11) (2 ^ 32)
+
+pub record IsSound (at : ℕ) (book : BookState) : Type 0 where
+  pub latest : book.latest ≤ at
+  pub small : list_all is_small book.reads ≡ true

@@ -1,0 +1,82 @@
+//! Opening and reading event files.
+
+ghost use Rattle.std.specs.Prelude.{◌≡◌, ℕ, ◌+◌, ◌<◌, ◌^◌, IfOk, IfSome, OnOk};
+ghost use Rattle.am_text.specs.Twice.{IsSteady};
+ghost use Rattle.fid_table.specs.Tables.{HasJoined};
+ghost use Rattle.core_answers.specs.Done.{IsSent};
+ghost use Rattle.core_events.specs.Asking.{opened, is_full, read_said, book_read, tables_read};
+ghost use Rattle.core_events.specs.Sound.{IsSound};
+
+use am_text::NoMemory;
+use core_answers::{EventChange, RBody, Refusal, error};
+use event_book::Book;
+use fid_table::Sessions;
+use std::alloc::Global;
+use wait_queue::{Asked, Asker};
+
+/// The most openings of event files that are ever made.
+const OPENINGS: usize = 4294967295;
+
+/// The most reads of a connection that wait.
+const READS: usize = 64;
+
+/// Makes an opening more of a window's event file, where the message asks for one.
+pub fn open_events(book: &mut Book, events: EventChange) -> Result<(), NoMemory>
+    ensures kept { book.new.kept ≡ book.old.kept }
+    ensures ok { OnOk result (book.new.present ≡ opened book.old.present events) }
+    ensures sound { (at : ℕ) → IsSound at book.old.present → OnOk result (IsSound at book.new.present) }
+{
+    match events {
+        EventChange::Opens { window } => {
+            if book.openings() < OPENINGS {
+                book.add_opening(window)?;
+            }
+            Ok(())
+        }
+        EventChange::Nothing => Ok(()),
+        EventChange::Cancels { .. } => Ok(()),
+    }
+}
+
+fn is_full(sessions: &Sessions, conn: u32) -> bool
+    ensures { result ≡ is_full sessions.now.present conn }
+{
+    sessions.waiting(conn) >= READS
+}
+
+/// A read of an event file: what is said to it at once, None where it waits. The read is one of this fid.
+pub fn read_events(
+    alloc: Global,
+    book: &mut Book,
+    sessions: &mut Sessions,
+    asker: Asker,
+    fid: u32,
+    at: u64,
+) -> Result<Option<RBody>, NoMemory>
+    requires steady { IsSteady book.old }
+    requires sound { IsSound at book.old.present }
+    requires small { asker.count + 11 < 2 ^ 32 }
+    requires joined { HasJoined sessions.old.present asker.conn }
+    ensures said { IfOk result (λ said. said ≡ read_said sessions.old.present book.old.present asker) }
+    ensures sent { IfOk result (λ said. IfSome said IsSent) }
+    ensures book { OnOk result (book.new.present ≡ book_read sessions.old.present book.old.present asker at) }
+    ensures tables { OnOk result (sessions.new.present ≡ tables_read sessions.old.present book.old.present asker fid) }
+    ensures kept_book { book.new.kept ≡ book.old.kept }
+    ensures kept_tables { sessions.new.kept ≡ sessions.old.kept }
+    ensures sound { OnOk result (IsSound at book.new.present) }
+{
+    if !book.is_living(asker.opening) {
+        return Ok(Some(error(alloc, Refusal::WindowDeleted)?));
+    }
+    match book.ask(asker, at)? {
+        Asked::Now(piece) => Ok(Some(RBody::Read { bytes: piece.bytes })),
+        Asked::Waits if is_full(sessions, asker.conn) => {
+            book.back();
+            Ok(Some(error(alloc, Refusal::TooManyWaitingReads)?))
+        }
+        Asked::Waits => {
+            sessions.wait(asker.conn, asker.tag, fid)?;
+            Ok(None)
+        }
+    }
+}

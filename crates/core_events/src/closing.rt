@@ -1,0 +1,102 @@
+//! What ends openings and waiting reads without a reply of their own.
+
+ghost use Rattle.std.specs.Prelude.{◌≡◌, ℕ, slice_get, option_copied};
+ghost use Rattle.am_text.specs.Twice.{both, IsSteady};
+ghost use Rattle.fid_table.specs.Tables.{fids_of};
+ghost use Rattle.core_events.specs.Closing.{without_opening, opening_at, without_fids, opening_in, freed, cancelled, closed_with};
+ghost use Rattle.core_events.specs.Sound.{IsSound};
+
+use core_answers::{Effect, EventChange};
+use event_book::Book;
+use fid_table::{Fid, Sessions};
+
+// An opening closes, unless it did with its window.
+fn close_opening(book: &mut Book, opening: Option<u32>, at: u64)
+    requires steady { IsSteady book.old }
+    requires sound { IsSound at book.old.present }
+    ensures new { book.new ≡ both (without_opening at book.old.present opening) }
+    ensures sound { IsSound at book.new.present }
+{
+    if let Some(opening) = opening {
+        if book.is_living(opening) {
+            book.leave(opening, at);
+        }
+    }
+}
+
+// The opening of a connection's k-th fid.
+fn opening_at(sessions: &Sessions, conn: u32, k: usize) -> Option<u32>
+    ensures { result ≡ opening_at (slice_get (fids_of sessions.now.present conn) k) }
+{
+    match sessions.fid_at(conn, k) {
+        Some((_, fid)) => fid.opening,
+        None => None,
+    }
+}
+
+/// The openings of all fids of a connection close. It takes no memory.
+#[tactic(auto, using(crate::proofs::Sounds::steady_both))]
+pub fn free_fids(book: &mut Book, sessions: &Sessions, conn: u32, at: u64)
+    requires steady { IsSteady book.old }
+    requires sound { IsSound at book.old.present }
+    ensures new { book.new ≡ both (without_fids at book.old.present sessions.now.present conn) }
+    ensures sound { IsSound at book.new.present }
+{
+    for k in 0..sessions.count(conn) {
+        close_opening(book, opening_at(sessions, conn, k), at);
+    }
+}
+
+fn opening_in(fid: Option<&Fid>) -> Option<u32>
+    ensures { result ≡ opening_in (option_copied fid.entry) }
+{
+    match fid {
+        Some(fid) => fid.opening,
+        None => None,
+    }
+}
+
+/// The openings of the fids that a message frees close. It takes no memory.
+#[tactic(auto, using(crate::proofs::Sounds::steady_both))]
+pub fn free_openings(book: &mut Book, sessions: &Sessions, conn: u32, effect: &Effect, at: u64)
+    requires steady { IsSteady book.old }
+    requires sound { IsSound at book.old.present }
+    ensures new { book.new ≡ both (freed at book.old.present sessions.now.present conn effect.now) }
+    ensures sound { IsSound at book.new.present }
+{
+    match effect {
+        Effect::Begins { .. } => free_fids(book, sessions, conn, at),
+        Effect::Frees { number } => {
+            close_opening(book, opening_in(sessions.fid(conn, *number)), at);
+        }
+        Effect::Nothing => {}
+        Effect::Puts { .. } => {}
+    }
+}
+
+/// A read that a Tflush names waits no more (flush(5)). It takes no memory.
+pub fn cancel_read(book: &mut Book, conn: u32, events: EventChange)
+    requires steady { IsSteady book.old }
+    ensures new { book.new ≡ both (cancelled book.old.present conn events) }
+    ensures sound { (at : ℕ) → IsSound at book.old.present → IsSound at book.new.present }
+{
+    match events {
+        EventChange::Cancels { tag } => {
+            book.cancel(conn, tag);
+        }
+        EventChange::Nothing => {}
+        EventChange::Opens { .. } => {}
+    }
+}
+
+/// The event file of a window that is deleted closes. It takes no memory.
+pub fn close_events(book: &mut Book, window: Option<u32>, at: u64)
+    requires steady { IsSteady book.old }
+    requires sound { IsSound at book.old.present }
+    ensures new { book.new ≡ both (closed_with at book.old.present window) }
+    ensures sound { IsSound at book.new.present }
+{
+    if let Some(window) = window {
+        book.delete(window, at);
+    }
+}

@@ -1,0 +1,21 @@
+//! Event files in the editor: how they are opened and read, which items come, and what ends the reads that wait.
+#![tactic(auto)]
+
+mod asking;
+mod closing;
+mod putting;
+mod response;
+mod serving;
+#[cfg(test)]
+mod tests;
+mod waits;
+
+pub use am_text::{Items, NoMemory};
+pub use asking::{open_events, read_events};
+pub use closing::{cancel_read, close_events, free_fids, free_openings};
+pub use core_items::items_of;
+pub use event_book::Book;
+pub use putting::{changes_window, made, put_all};
+pub use response::{Response, Responses};
+pub use serving::serve_all;
+pub use waits::{clunked, deleted_by, deletions, end_reads, forget_cancelled};

@@ -1,0 +1,199 @@
+//! The waiting reads that a clunk and a deletion end, and those that wait no more.
+
+ghost use Rattle.std.specs.Prelude.{◌≡◌, [], ◌∷◌, ◌++◌, slice_get, filter, option_copied, IfOk, OnOk};
+ghost use Rattle.am_text.specs.Twice.{both, IsSteady};
+ghost use Rattle.core_answers.specs.declared.refusal.Refusal.TheVariants.{FidClunked as fid_clunked, WindowDeleted as window_deleted};
+ghost use Rattle.core_events.specs.Responses.{AreSaid, error, errors};
+ghost use Rattle.core_events.specs.Waits.{is_of_fid, is_of_window, answer_where, clunked, is_event_of, reads_event_of, deleted_by, deletions, ended, without_cancelled};
+
+use crate::response::{Response, Responses};
+use acme_tree::{Node, WinFile};
+use am_text::{Items, NoMemory};
+use core_answers::{Effect, EventChange, Refusal, error};
+use core_windows::Change;
+use fid_table::{Fid, Sessions};
+use ninep_wire::RMsg;
+use std::alloc::Global;
+
+// Says that a waiting read is refused.
+fn refuse(
+    alloc: Global,
+    said: &mut Responses,
+    conn: u32,
+    tag: u16,
+    refusal: Refusal,
+) -> Result<(), NoMemory>
+    requires { AreSaid said.old }
+    ensures ok { OnOk result (said.new ≡ said.old ++ error refusal conn tag ∷ []) }
+    ensures said { OnOk result (AreSaid said.new) }
+{
+    let body = error(alloc, refusal)?;
+    said.push(Response {
+        conn,
+        message: RMsg { tag, body },
+    })
+}
+
+// Answers the k-th waiting read, where it is one of this fid.
+fn answer_clunked(
+    alloc: Global,
+    said: &mut Responses,
+    sessions: &Sessions,
+    conn: u32,
+    fid: u32,
+    k: usize,
+) -> Result<(), NoMemory>
+    requires { AreSaid said.old }
+    ensures ok { OnOk result (said.new ≡ said.old ++ answer_where fid_clunked (is_of_fid conn fid) (slice_get sessions.now.present.waiting k)) }
+    ensures said { OnOk result (AreSaid said.new) }
+{
+    let Some((of, tag, read)) = sessions.waiter(k) else {
+        return Ok(());
+    };
+    if of == conn && read == fid {
+        refuse(alloc, said, of, tag, Refusal::FidClunked)
+    } else {
+        Ok(())
+    }
+}
+
+// The answers to the waiting reads of a fid that is freed.
+fn clunked_reads(
+    alloc: Global,
+    sessions: &Sessions,
+    conn: u32,
+    fid: u32,
+) -> Result<Responses, NoMemory>
+    ensures exact { IfOk result (λ said. said ≡ errors fid_clunked (filter (is_of_fid conn fid) sessions.now.present.waiting)) }
+    ensures said { IfOk result AreSaid }
+{
+    let mut said = Items::new(alloc);
+    for k in 0..sessions.waiters() {
+        answer_clunked(alloc, &mut said, sessions, conn, fid, k)?;
+    }
+    Ok(said)
+}
+
+/// The answers to the waiting reads that a message ends by freeing their fid, the oldest first (clunk(5)).
+pub fn clunked(
+    alloc: Global,
+    sessions: &Sessions,
+    conn: u32,
+    effect: &Effect,
+) -> Result<Responses, NoMemory>
+    ensures exact { IfOk result (λ said. said ≡ clunked sessions.now.present conn effect.now) }
+    ensures said { IfOk result AreSaid }
+{
+    match effect {
+        Effect::Frees { number } => clunked_reads(alloc, sessions, conn, *number),
+        Effect::Nothing => Ok(Items::new(alloc)),
+        Effect::Begins { .. } => Ok(Items::new(alloc)),
+        Effect::Puts { .. } => Ok(Items::new(alloc)),
+    }
+}
+
+fn is_event_of(window: u32, node: Node) -> bool
+    ensures { result ≡ is_event_of window node }
+{
+    match node {
+        Node::File(of, WinFile::Event) => of == window,
+        _ => false,
+    }
+}
+
+fn reads_event_of(window: u32, fid: Option<&Fid>) -> bool
+    ensures { result ≡ reads_event_of window (option_copied fid.entry) }
+{
+    match fid {
+        Some(fid) => is_event_of(window, fid.node),
+        None => false,
+    }
+}
+
+/// The window that a change deletes.
+pub fn deleted_by(change: &Change) -> Option<u32>
+    ensures { result ≡ deleted_by change.now }
+{
+    match change {
+        Change::Controls {
+            window,
+            deletes,
+            ..
+        } => if *deletes { Some(*window) } else { None },
+        Change::Nothing => None,
+        Change::Makes { .. } => None,
+        Change::Edits { .. } => None,
+        Change::Adds { .. } => None,
+    }
+}
+
+// Answers the k-th waiting read, where it is one of this window's event file.
+fn answer_deleted(
+    alloc: Global,
+    said: &mut Responses,
+    sessions: &Sessions,
+    window: u32,
+    k: usize,
+) -> Result<(), NoMemory>
+    requires { AreSaid said.old }
+    ensures ok { OnOk result (said.new ≡ said.old ++ answer_where window_deleted (is_of_window sessions.now.present window) (slice_get sessions.now.present.waiting k)) }
+    ensures said { OnOk result (AreSaid said.new) }
+{
+    let Some((conn, tag, fid)) = sessions.waiter(k) else {
+        return Ok(());
+    };
+    if reads_event_of(window, sessions.fid(conn, fid)) {
+        refuse(alloc, said, conn, tag, Refusal::WindowDeleted)
+    } else {
+        Ok(())
+    }
+}
+
+// The answers to the reads that wait on the event file of this window.
+fn deleted_reads(alloc: Global, sessions: &Sessions, window: u32) -> Result<Responses, NoMemory>
+    ensures exact { IfOk result (λ said. said ≡ errors window_deleted (filter (is_of_window sessions.now.present window) sessions.now.present.waiting)) }
+    ensures said { IfOk result AreSaid }
+{
+    let mut said = Items::new(alloc);
+    for k in 0..sessions.waiters() {
+        answer_deleted(alloc, &mut said, sessions, window, k)?;
+    }
+    Ok(said)
+}
+
+/// The answers to the reads that wait on the event file of a window that is deleted, the oldest first.
+pub fn deletions(
+    alloc: Global,
+    sessions: &Sessions,
+    window: Option<u32>,
+) -> Result<Responses, NoMemory>
+    ensures exact { IfOk result (λ said. said ≡ deletions sessions.now.present window) }
+    ensures said { IfOk result AreSaid }
+{
+    match window {
+        Some(window) => deleted_reads(alloc, sessions, window),
+        None => Ok(Items::new(alloc)),
+    }
+}
+
+/// The reads that these answer wait no more. It takes no memory.
+pub fn end_reads(sessions: &mut Sessions, said: &[Response])
+    requires { IsSteady sessions.old }
+    ensures { sessions.new ≡ both (ended sessions.old.present said.now) }
+{
+    for response in said {
+        sessions.done(response.conn, response.message.tag);
+    }
+}
+
+/// A read that a Tflush names waits no more. It takes no memory.
+pub fn forget_cancelled(sessions: &mut Sessions, conn: u32, events: EventChange)
+    requires { IsSteady sessions.old }
+    ensures { sessions.new ≡ both (without_cancelled sessions.old.present conn events) }
+{
+    match events {
+        EventChange::Cancels { tag } => sessions.done(conn, tag),
+        EventChange::Nothing => {}
+        EventChange::Opens { .. } => {}
+    }
+}
