@@ -11,65 +11,110 @@ fn step(alloc: Global, core: &mut Core, line: &[u8]) -> u64 {
     }
 }
 
+// What lines come to: the numbers of their entries, 0 for one that isn't done, and what a connection has unsent then.
+#[derive(Drop)]
+struct Played {
+    numbers: Vec<u64>,
+    unsent: Bytes,
+    replies: usize,
+}
+
+fn play(alloc: Global, lines: &[&[u8]], conn: u32) -> Result<Played, NoMemory> {
+    let mut core = Core::new(alloc)?;
+    let mut numbers = Vec::new(alloc);
+    for line in lines {
+        numbers.push(step(alloc, &mut core, line))?;
+    }
+    let replies = core.last_reply(0).is_some() as usize + core.last_reply(1).is_some() as usize;
+    let unsent = Items::copied(alloc, core.output(conn))?;
+    drop(core);
+    Ok(Played {
+        numbers,
+        unsent,
+        replies,
+    })
+}
+
+const VERSION_0: &[u8] = b"msg 0 1300000064ffff002000000600395032303030";
+
+const VERSION_3: &[u8] = b"msg 3 1300000064ffff002000000600395032303030";
+
+const ANSWER: &[u8] = b"\x13\0\0\0\x65\xff\xff\0\x20\0\0\x06\x009P2000";
+
 #[test]
 fn session(rt: HostRuntime) -> Result<(), Fail> {
     let alloc = rt.alloc();
-    let mut core = Core::new(alloc)?;
-    assert_eq!(rt; step(alloc, &mut core, b"dial 0"), 1);
-    assert_eq!(rt; step(alloc, &mut core, b"dial 0"), 0);
-    assert_eq!(rt; step(alloc, &mut core, b"msg 1 0b00000078010009000000"), 0);
-    let version = b"msg 0 1300000064ffff002000000600395032303030";
-    assert_eq!(rt; step(alloc, &mut core, version), 2);
-    let answer = b"\x13\0\0\0\x65\xff\xff\0\x20\0\0\x06\x009P2000";
-    assert_eq!(rt; core.output(0), answer.as_slice());
-    assert_eq!(rt; core.output(1).len(), 0);
-    assert_eq!(rt; core.last_reply(0).map_or(0, |reply| reply.1.len()), 19);
-    assert!(rt; core.last_reply(1).is_none());
-    Ok(())
-}
-
-#[test]
-fn plan_and_commit(rt: HostRuntime) -> Result<(), Fail> {
-    let alloc = rt.alloc();
-    let mut core = Core::new(alloc)?;
-    if let Ok(Some(event)) = read_line(alloc, b"dial 5") {
-        if let Ok(plan) = core.plan(event) {
-            assert_eq!(rt; core.journal().len(), 0);
-            assert_eq!(rt; core.commit(plan), 1);
-        }
-    }
-    assert_eq!(rt; core.journal().len(), 1);
-    let view = core.view()?;
-    assert_eq!(rt; view.entries, 1);
-    assert_eq!(rt; view.conns.len(), 1);
-    assert_eq!(rt; view.windows.len(), 0);
-    assert_eq!(rt; core.into_journal().len(), 1);
+    let lines = [
+        b"dial 0".as_slice(),
+        b"dial 0",
+        b"msg 1 0b00000078010009000000",
+        VERSION_0,
+    ];
+    let seen = play(alloc, &lines, 0)?;
+    assert_eq!(rt; seen.numbers.as_slice(), [1, 0, 0, 2].as_slice());
+    assert_eq!(rt; seen.unsent.as_slice(), ANSWER);
+    assert_eq!(rt; seen.replies, 1);
     Ok(())
 }
 
 #[test]
 fn connections_end(rt: HostRuntime) -> Result<(), Fail> {
     let alloc = rt.alloc();
+    let lines = [
+        b"dial 3".as_slice(),
+        b"took 3",
+        VERSION_3,
+        b"hang 3 torn",
+        VERSION_3,
+    ];
+    let seen = play(alloc, &lines, 3)?;
+    assert_eq!(rt; seen.numbers.as_slice(), [1, 0, 2, 3, 0].as_slice());
+    assert_eq!(rt; seen.unsent.len(), 19);
+    let lines = [
+        b"dial 3".as_slice(),
+        VERSION_3,
+        b"took 3",
+        b"new",
+        b"key 1 body :ab",
+        b"sel 1 0 1",
+        b"sel 1 0 3",
+    ];
+    let seen = play(alloc, &lines, 3)?;
+    assert_eq!(rt; seen.numbers.as_slice(), [1, 2, 3, 4, 5, 6, 0].as_slice());
+    assert_eq!(rt; seen.unsent.len(), 0);
+    Ok(())
+}
+
+// The entries, connections, windows and items that the views of a core tell, and what its journal holds.
+fn told(alloc: Global) -> Result<[usize; 5], NoMemory> {
     let mut core = Core::new(alloc)?;
-    assert_eq!(rt; step(alloc, &mut core, b"dial 3"), 1);
-    assert_eq!(rt; step(alloc, &mut core, b"took 3"), 0);
-    let version = b"msg 3 1300000064ffff002000000600395032303030";
-    assert_eq!(rt; step(alloc, &mut core, version), 2);
-    assert_eq!(rt; step(alloc, &mut core, b"hang 3 torn"), 3);
-    assert_eq!(rt; step(alloc, &mut core, version), 0);
-    assert_eq!(rt; core.output(3).len(), 19);
-    assert_eq!(rt; step(alloc, &mut core, b"took 3"), 4);
-    assert_eq!(rt; core.output(3).len(), 0);
-    assert_eq!(rt; step(alloc, &mut core, b"new"), 5);
-    assert_eq!(rt; step(alloc, &mut core, b"key 1 body :ab"), 6);
-    assert_eq!(rt; step(alloc, &mut core, b"sel 1 0 1"), 7);
-    assert_eq!(rt; step(alloc, &mut core, b"sel 1 0 3"), 0);
+    if let Ok(Some(event)) = read_line(alloc, b"dial 5") {
+        if let Ok(plan) = core.plan(event) {
+            core.commit(plan);
+        }
+    }
+    step(alloc, &mut core, b"new");
     let view = core.view()?;
-    assert_eq!(rt; (view.conns.len(), view.windows.len()), (1, 1));
+    let items = core.ledger()?;
     core.windows_are_lawful();
     core.window_order();
     core.what_a_fid_gets();
     core.entries_are_counted();
     messages_are_answered();
+    let journal = core.into_journal();
+    Ok([
+        view.entries as usize,
+        view.conns.len(),
+        view.windows.len(),
+        items.len(),
+        journal.len(),
+    ])
+}
+
+#[test]
+fn plan_and_commit(rt: HostRuntime) -> Result<(), Fail> {
+    let alloc = rt.alloc();
+    let told = told(alloc)?;
+    assert_eq!(rt; told.as_slice(), [2, 1, 1, 0, 2].as_slice());
     Ok(())
 }
