@@ -1,3 +1,4 @@
+pub mod FirstText
 pub mod Named
 pub mod PlaceLemmas
 pub mod Settings

@@ -5,6 +5,7 @@ mod log;
 mod places;
 mod splicing;
 mod types;
+mod undoing;
 
 pub use log::UndoLog;
 pub use places::image;

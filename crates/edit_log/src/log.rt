@@ -1,10 +1,11 @@
 //! The edits that were done, in groups.
 
-ghost use Rattle.std.specs.Prelude.{ℕ, ◌≡◌, ◌<◌, ◌≤◌, ◌==◌, true, max, not, length, map, vec_len, vec_capacity, OnOk, OnErr};
-ghost use Rattle.edit_log.specs.Groups.{no_log, extended, joined, pushed, marked};
+ghost use Rattle.std.specs.Prelude.{ℕ, ◌≡◌, ◌<◌, ◌≤◌, ◌==◌, true, false, max, not, length, map, vec_len, vec_capacity, IfOk, OnOk, OnErr};
+ghost use Rattle.edit_log.specs.Groups.{no_log, extended, joined, pushed, marked, undo_edits, redo_edits, undone, redone};
 ghost use Rattle.edit_log.specs.Spare.{edits_of, LastSpare};
 
-use crate::types::{Done, DoneList};
+use crate::types::{Done, DoneList, Edits};
+use crate::undoing::{redoing, undoing};
 use am_text::NoMemory;
 use std::alloc::Global;
 use std::marker::Model;
@@ -12,6 +13,7 @@ use std::marker::Model;
 /// The groups of edits that Undo takes back and that Redo makes again.
 #[derive(Drop)]
 pub struct UndoLog {
+    alloc: Global,
     // The groups that are past, then those that were undone.
     groups: Vec<Vec<Done>>,
     // How many are past.
@@ -110,6 +112,7 @@ impl UndoLog {
         ensures { result ≡ no_log }
     {
         UndoLog {
+            alloc,
             groups: Vec::new(alloc),
             done: 0,
             automatic: true,
@@ -124,6 +127,13 @@ impl UndoLog {
         ensures { self.new ≡ marked self.old automatic }
     {
         self.automatic = automatic;
+        self.end_group();
+    }
+
+    // The next change begins a group.
+    fn end_group(&mut self)
+        ensures { self.new ≡ record self.old { joins = false } }
+    {
         self.joins = false;
     }
 
@@ -164,5 +174,49 @@ impl UndoLog {
         ensures { result ≡ not (length self.now.future == 0) }
     {
         self.done != self.groups.len()
+    }
+
+    /// The edits that Undo makes: they take back the last group that is past, the last of its edits
+    /// first. There are none where no group is past.
+    pub fn undo(&self) -> Result<Option<Edits>, NoMemory>
+        ensures exact { IfOk result (λ edits. edits ≡ undo_edits self.now) }
+    {
+        if self.done == 0 {
+            return Ok(None);
+        }
+        let group = &self.groups[self.done - 1];
+        Ok(Some(undoing(self.alloc, group.as_slice())?))
+    }
+
+    /// The edits that Redo makes: those of the first group that was undone, again. There are none
+    /// where no group was undone.
+    pub fn redo(&self) -> Result<Option<Edits>, NoMemory>
+        ensures exact { IfOk result (λ edits. edits ≡ redo_edits self.now) }
+    {
+        if self.done == self.groups.len() {
+            return Ok(None);
+        }
+        let group = &self.groups[self.done];
+        Ok(Some(redoing(self.alloc, group.as_slice())?))
+    }
+
+    /// Undo was made: the last group that is past is the first of those that were undone, and the
+    /// next change begins a group. It takes no memory.
+    pub fn undone(&mut self)
+        requires { 0 < length self.old.past }
+        ensures { self.new ≡ undone self.old }
+    {
+        self.end_group();
+        self.done -= 1;
+    }
+
+    /// Redo was made: the first group that was undone is the last that is past, and the next change
+    /// begins a group. It takes no memory.
+    pub fn redone(&mut self)
+        requires { 0 < length self.old.future }
+        ensures { self.new ≡ redone self.old }
+    {
+        self.end_group();
+        self.done += 1;
     }
 }

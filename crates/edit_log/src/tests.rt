@@ -1,4 +1,4 @@
-ghost use Rattle.std.specs.Prelude.{◌≡◌, length, IfOk};
+ghost use Rattle.std.specs.Prelude.{◌≡◌, ◌<◌, length, IfOk};
 
 use crate::{Done, DoneList, Edit, Edits, SpliceFault, UndoLog, image, splice};
 use am_text::{Items, NoMemory, Rune, Runes};
@@ -115,5 +115,95 @@ fn changes_are_at_fault(rt: HostRuntime) -> Result<(), Fail> {
     assert!(rt; fault_at(rt.alloc(), 6, 11)? == Some(SpliceFault::Range(1)));
     assert!(rt; fault_at(rt.alloc(), 6, 5)? == Some(SpliceFault::Range(1)));
     assert!(rt; fault_at(rt.alloc(), 5, 10)? == None);
+    Ok(())
+}
+
+fn done(alloc: Global, q0: usize, cut: &[Rune], put: &[Rune]) -> Result<Done, NoMemory> {
+    Ok(Done {
+        q0,
+        cut: Runes::copied(alloc, cut)?,
+        put: Runes::copied(alloc, put)?,
+    })
+}
+
+fn note(log: &mut UndoLog, group: DoneList) -> Result<(), NoMemory>
+    requires { 0 < length group }
+{
+    log.reserve(group.len())?;
+    log.push(group);
+    Ok(())
+}
+
+// `a` is put as one group, and then as another it becomes `bc`, behind which `d` is put.
+fn log_of_two(alloc: Global) -> Result<UndoLog, NoMemory> {
+    let mut log = UndoLog::new(alloc);
+    let mut first = Items::new(alloc);
+    first.push(done(alloc, 0, &[], &[97])?)?;
+    note(&mut log, first)?;
+    let mut second = Items::new(alloc);
+    second.push(done(alloc, 0, &[97], &[98, 99])?)?;
+    second.push(done(alloc, 2, &[], &[100])?)?;
+    note(&mut log, second)?;
+    Ok(log)
+}
+
+fn undo(log: &mut UndoLog) -> Result<Option<Edits>, NoMemory> {
+    let edits = log.undo()?;
+    if log.can_undo() {
+        log.undone();
+    }
+    Ok(edits)
+}
+
+fn redo(log: &mut UndoLog) -> Result<Option<Edits>, NoMemory> {
+    let edits = log.redo()?;
+    if log.can_redo() {
+        log.redone();
+    }
+    Ok(edits)
+}
+
+// The last edit of the last group is taken back first.
+#[test]
+fn groups_are_taken_back(rt: HostRuntime) -> Result<(), Fail> {
+    let mut log = log_of_two(rt.alloc())?;
+    let Some(edits) = undo(&mut log)? else {
+        assert!(rt; false);
+        return Ok(());
+    };
+    let [first, second] = edits.as_slice() else {
+        assert!(rt; false);
+        return Ok(());
+    };
+    assert!(rt; is_edit(first, 2, 3, &[]) && is_edit(second, 0, 2, &[97]));
+    assert!(rt; log.can_undo() && log.can_redo());
+    let Some(edits) = undo(&mut log)? else {
+        assert!(rt; false);
+        return Ok(());
+    };
+    let [only] = edits.as_slice() else {
+        assert!(rt; false);
+        return Ok(());
+    };
+    assert!(rt; is_edit(only, 0, 1, &[]));
+    assert!(rt; undo(&mut log)?.is_none() && log.can_redo());
+    Ok(())
+}
+
+#[test]
+fn groups_are_made_again(rt: HostRuntime) -> Result<(), Fail> {
+    let mut log = log_of_two(rt.alloc())?;
+    assert!(rt; redo(&mut log)?.is_none());
+    assert!(rt; undo(&mut log)?.is_some());
+    let Some(edits) = redo(&mut log)? else {
+        assert!(rt; false);
+        return Ok(());
+    };
+    let [first, second] = edits.as_slice() else {
+        assert!(rt; false);
+        return Ok(());
+    };
+    assert!(rt; is_edit(first, 0, 1, &[98, 99]) && is_edit(second, 2, 2, &[100]));
+    assert!(rt; log.can_undo() && !log.can_redo());
     Ok(())
 }

@@ -1,17 +1,20 @@
 -- A body by all its edits, and as it is kept.
-use Rattle.std.proofs.Common.{◌≡◌, ◌+◌, ◌≤◌, ℕ, Bool, true, false, List, [], ◌∷◌, ◌++◌, length, take, drop, slice_range, refl, sym, ap, subst, ◌∙◌, arith, Option, Some, None, length-append}
+use Rattle.std.proofs.Common.{◌≡◌, ◌≤◌, ℕ, List, [], ◌++◌, length, take, drop, refl, sym, ap, subst, ◌∙◌, arith, Option, Some, None, length-append}
+use Rattle.std.specs.Option.{option_map}
 use Rattle.std.proofs.Math.Seq.{take-length, drop-length}
 use Rattle.std.proofs.lemmas.List.{take-append-drop, take-append-le, drop-append-le}
-use Rattle.std.proofs.lemmas.Grind.{common_steps}
 use Rattle.am_text.specs.declared.range.Range.{Range}
 use Rattle.edit_log.specs.declared.types.Edit.{Edit}
 use Rattle.edit_log.specs.declared.types.Done.{Done}
-use Rattle.edit_log.specs.Edited.{after, text_after}
-use Rattle.edit_log.specs.Groups.{extended, joined}
-use Rattle.win_text.specs.Bodies.{IsInside, IsLimitInside, IsEditOf, AreInRange, done_group, moved, moved_limit, BodyState, IsSound, IsPlanFor, applied, after_group, History}
-use Rattle.win_text.specs.BodyStories.{KeptRange, BodyStory, BodyChange, IsChangeOf, story_text, shown, range_now, limit_now, set_at, limit_at, kept_or_set, moved_or_set, story_changed, plan_of}
-use Rattle.win_text.specs.Laws.{edits_done, text_of_groups, IsKept, IsLimitKept, IsLawful, CallsKeepLawful, EachIsShown}
+use Rattle.edit_log.specs.Edited.{text_after}
+use Rattle.edit_log.specs.Groups.{undoing, redoing, last_of, first_of}
+use Rattle.win_text.specs.Bodies.{IsInside, IsLimitInside, AreInRange, done_group, moved, moved_limit, BodyState, IsSound, IsPlanFor, applied, History, undone_history, redone_history, history_after, edits_to_undo, edits_to_redo, IsHistoryOf, put_range, plan_with, applied_if_any}
+use Rattle.win_text.specs.BodyStories.{KeptRange, BodyStory, BodyChange, IsChangeOf, story_text, shown, range_now, limit_now, set_at, limit_at, kept_or_set, moved_or_set, story_changed, story_moved, plan_of}
+use Rattle.win_text.specs.Laws.{IsKept, IsLimitKept, IsLawful, CallsKeepLawful, EachIsShown}
 use Rattle.win_text.specs.declared.types.TextPlan.{TextPlan}
+use Rattle.win_text.specs.declared.types.PlanKind.{PlanKind}
+use Rattle.win_text.specs.declared.types.PlanKind.TheVariants.{Undo, Redo}
+use Rattle.win_text.proofs.Histories.{changed_history, undo_range, undo_history, redo_range, redo_history, put_inside, history_kept}
 use Rattle.win_text.proofs.Edits.{images_append, text_append, range_append, range_rest, moved_inside}
 
 -- ---- what is shown
@@ -41,6 +44,11 @@ changed_shown : (s : BodyStory) (c : BodyChange) → IsLawful s → shown (story
 changed_shown s c h =
     rw (text_append [] s.edits c.edits, dot_later s.edits c.edits s.dot c.dot h.dot.at, range_later s.edits c.edits s.addr h.addr.at, limit_later s.edits c.edits s.limit h.limit) refl
 
+moved_shown : (s : BodyStory) (kind : PlanKind) (o : Option (List Edit)) (history : History) → IsLawful s → ((group : List Done) → history ≡ history_after kind s.history group) → shown (story_moved s o history) ≡ applied_if_any (shown s) (option_map (plan_with kind) o)
+moved_shown s kind None history h e = refl
+moved_shown s kind (Some es) history h e =
+    rw (text_append [] s.edits es, range_set (s.edits ++ es) (put_range es), range_later s.edits es s.addr h.addr.at, limit_later s.edits es s.limit h.limit, e (done_group (story_text s) es)) refl
+
 pub each_shown : (s : BodyStory) → IsLawful s → EachIsShown s
 each_shown s h = record {
   changed = λ c. changed_shown s c h;
@@ -48,6 +56,8 @@ each_shown s h = record {
   addr = λ r. rw (range_set s.edits r) refl;
   limit = λ r. rw (limit_set s.edits r) refl;
   marked = λ automatic. refl;
+  undone = moved_shown s Undo (edits_to_undo s.history) (undone_history s.history) h (λ group. refl);
+  redone = moved_shown s Redo (edits_to_redo s.history) (redone_history s.history) h (λ group. refl);
 }
 
 -- ---- what stays lawful
@@ -67,6 +77,7 @@ all_inside s h = record {
   dot = range_inside s.edits s.dot h.edits h.dot;
   addr = range_inside s.edits s.addr h.edits h.addr;
   limit = limit_inside s.edits s.limit h.edits h.limit;
+  history = record { groups = h.groups; leads = h.history };
 }
 
 kept_later : (es fs : List Edit) (k : KeptRange) → IsKept es k → IsKept (es ++ fs) k
@@ -93,54 +104,54 @@ dot_kept : (es fs : List Edit) (k : KeptRange) (dot : Option Range) → IsKept e
 dot_kept es fs k None h i = kept_later es fs k h
 dot_kept es fs k (Some r) h i = kept_set (es ++ fs) r (rw (text_append [] es fs) i)
 
--- ---- the text as the fold of its groups
+-- ---- the groups
 
-cut_length : (t : List ℕ) (e : Edit) → IsEditOf t e → e.q0 + length (slice_range t e.q0 e.q1) ≡ e.q1
-cut_length t e h = grind (arith, common_steps)
+lawful_history : (s : BodyStory) → IsLawful s → IsHistoryOf (story_text s) s.history.past s.history.future
+lawful_history s h = record { groups = h.groups; leads = h.history }
 
-done_again : (t : List ℕ) (es : List Edit) → AreInRange t es → edits_done (done_group t es) ≡ es
-done_again t [] h = refl
-done_again t (e ∷ es) h =
-    rw (cut_length t e h.0, done_again (after t e) es h.1) refl
+moved_lawful : (s : BodyStory) (es : List Edit) (history : History) → IsLawful s → AreInRange (story_text s) es → IsHistoryOf (text_after (story_text s) es) history.past history.future → IsLawful (story_moved s (Some es) history)
+moved_lawful s es history h r k = record {
+  edits = range_append [] s.edits es h.edits r;
+  dot = kept_set (s.edits ++ es) (put_range es) (rw (text_append [] s.edits es) (put_inside (story_text s) es r));
+  addr = kept_later s.edits es s.addr h.addr;
+  limit = limit_kept_later s.edits es s.limit h.limit;
+  history = k.leads ∙ sym (text_append [] s.edits es);
+  groups = k.groups;
+}
 
-edits_done_append : (a b : List Done) → edits_done (a ++ b) ≡ edits_done a ++ edits_done b
-edits_done_append [] b = refl
-edits_done_append (d ∷ a) b = rw (edits_done_append a b) refl
+undone_lawful : (s : BodyStory) (o : Option (List Done)) → last_of s.history.past ≡ o → IsLawful s → IsLawful (story_moved s (option_map undoing o) (undone_history s.history))
+undone_lawful s None e h = h
+undone_lawful s (Some g) e h =
+    let k = lawful_history s h in
+    moved_lawful s (undoing g) (undone_history s.history) h (undo_range (story_text s) s.history.past s.history.future g k e) (undo_history (story_text s) s.history.past s.history.future g k e)
 
-text_extended : (t : List ℕ) (gs : List (List Done)) (g : List Done) → text_of_groups t (extended gs g) ≡ text_after (text_of_groups t gs) (edits_done g)
-text_extended t [] g = refl
-text_extended t (h ∷ []) g = rw (edits_done_append h g) (text_append t (edits_done h) (edits_done g))
-text_extended t (h ∷ i ∷ gs) g = text_extended (text_after t (edits_done h)) (i ∷ gs) g
+redone_lawful : (s : BodyStory) (o : Option (List Done)) → first_of s.history.future ≡ o → IsLawful s → IsLawful (story_moved s (option_map redoing o) (redone_history s.history))
+redone_lawful s None e h = h
+redone_lawful s (Some g) e h =
+    let k = lawful_history s h in
+    moved_lawful s (redoing g) (redone_history s.history) h (redo_range (story_text s) s.history.past s.history.future g k e) (redo_history (story_text s) s.history.past s.history.future g k e)
 
-text_appended : (t : List ℕ) (gs : List (List Done)) (g : List Done) → text_of_groups t (gs ++ g ∷ []) ≡ text_after (text_of_groups t gs) (edits_done g)
-text_appended t [] g = refl
-text_appended t (h ∷ gs) g = text_appended (text_after t (edits_done h)) gs g
-
-text_joined : (t : List ℕ) (joins : Bool) (gs : List (List Done)) (g : List Done) → text_of_groups t (joined joins gs g) ≡ text_after (text_of_groups t gs) (edits_done g)
-text_joined t true gs g = text_extended t gs g
-text_joined t false gs g = text_appended t gs g
-
-text_grouped : (h : History) (g : List Done) → text_of_groups [] (after_group h g).past ≡ text_after (text_of_groups [] h.past) (edits_done g)
-text_grouped h [] = refl
-text_grouped h (d ∷ ds) = text_joined [] h.joins h.past (d ∷ ds)
-
-history_later : (s : BodyStory) (c : BodyChange) → IsLawful s → AreInRange (story_text s) c.edits → text_of_groups [] (story_changed s c).history.past ≡ story_text (story_changed s c)
-history_later s c h i =
-    text_grouped s.history (done_group (story_text s) c.edits) ∙ (ap (λ t. text_after t (edits_done (done_group (story_text s) c.edits))) h.history ∙ (ap (text_after (story_text s)) (done_again (story_text s) c.edits i) ∙ sym (text_append [] s.edits c.edits)))
+changed_lawful : (s : BodyStory) (c : BodyChange) → IsLawful s → IsChangeOf (story_text s) c → IsLawful (story_changed s c)
+changed_lawful s c h i =
+    let k = changed_history (story_text s) s.history c.edits (lawful_history s h) i.edits in
+    record {
+      edits = range_append [] s.edits c.edits h.edits i.edits;
+      dot = dot_kept s.edits c.edits s.dot c.dot h.dot i.dot;
+      addr = kept_later s.edits c.edits s.addr h.addr;
+      limit = limit_kept_later s.edits c.edits s.limit h.limit;
+      history = k.leads ∙ sym (text_append [] s.edits c.edits);
+      groups = k.groups;
+    }
 
 pub calls_keep_lawful : (s : BodyStory) → IsLawful s → CallsKeepLawful s
 calls_keep_lawful s h = record {
-  changed = λ c i. record {
-    edits = range_append [] s.edits c.edits h.edits i.edits;
-    dot = dot_kept s.edits c.edits s.dot c.dot h.dot i.dot;
-    addr = kept_later s.edits c.edits s.addr h.addr;
-    limit = limit_kept_later s.edits c.edits s.limit h.limit;
-    history = history_later s c h i.edits;
-  };
-  dot = λ r i. record { edits = h.edits; dot = kept_set s.edits r i; addr = h.addr; limit = h.limit; history = h.history };
-  addr = λ r i. record { edits = h.edits; dot = h.dot; addr = kept_set s.edits r i; limit = h.limit; history = h.history };
-  limit = λ r i. record { edits = h.edits; dot = h.dot; addr = h.addr; limit = limit_kept_set s.edits r i; history = h.history };
-  marked = λ automatic. record { edits = h.edits; dot = h.dot; addr = h.addr; limit = h.limit; history = h.history };
+  changed = λ c i. changed_lawful s c h i;
+  dot = λ r i. record { edits = h.edits; dot = kept_set s.edits r i; addr = h.addr; limit = h.limit; history = h.history; groups = h.groups };
+  addr = λ r i. record { edits = h.edits; dot = h.dot; addr = kept_set s.edits r i; limit = h.limit; history = h.history; groups = h.groups };
+  limit = λ r i. record { edits = h.edits; dot = h.dot; addr = h.addr; limit = limit_kept_set s.edits r i; history = h.history; groups = h.groups };
+  marked = λ automatic. record { edits = h.edits; dot = h.dot; addr = h.addr; limit = h.limit; history = h.history; groups = h.groups };
+  undone = undone_lawful s (last_of s.history.past) refl h;
+  redone = redone_lawful s (first_of s.history.future) refl h;
 }
 
 -- ---- plans
@@ -153,6 +164,7 @@ pub plan_sound : (s : BodyState) (c : BodyChange) → IsSound s → IsChangeOf s
 plan_sound s c h i = record {
   edits = i.edits;
   dot = planned_dot s.text c.edits s.dot c.dot i.edits h.dot i.dot;
+  kind = tt;
 }
 
 limit_moved : (t : List ℕ) (es : List Edit) (limit : Option Range) → AreInRange t es → IsLimitInside t limit → IsLimitInside (text_after t es) (moved_limit limit es)
@@ -164,4 +176,5 @@ applied_sound s plan h i = record {
   dot = i.dot;
   addr = moved_inside s.text plan.edits s.addr i.edits h.addr;
   limit = limit_moved s.text plan.edits s.limit i.edits h.limit;
+  history = history_kept s plan plan.kind i.kind h i.edits;
 }

@@ -1,11 +1,14 @@
 -- The body of a window, as it is kept: its text and ranges as they are now.
-use Rattle.std.specs.Prelude.{◌≡◌, ℕ, ◌+◌, ◌<◌, ◌≤◌, ◌^◌, Bool, true, false, not, List, [], ◌∷◌, length, slice_range, Option, Some, None}
+use Rattle.std.specs.Prelude.{◌≡◌, ℕ, ◌+◌, ◌<◌, ◌≤◌, ◌^◌, Bool, true, false, not, List, [], ◌∷◌, ◌++◌, length, drop, slice_range, Option, Some, None}
+use Rattle.std.specs.Option.{option_map}
 use Rattle.am_text.specs.declared.range.Range.{Range}
 use Rattle.edit_log.specs.declared.types.Edit.{Edit}
 use Rattle.edit_log.specs.declared.types.Done.{Done}
 use Rattle.edit_log.specs.Edited.{after, text_after, images}
-use Rattle.edit_log.specs.Groups.{Log, joined}
+use Rattle.edit_log.specs.Groups.{Log, joined, undoing, redoing, last_of, first_of, before_last, with_last_of, with_first_of}
 use Rattle.win_text.specs.declared.types.TextPlan.{TextPlan}
+use Rattle.win_text.specs.declared.types.PlanKind.{PlanKind}
+use Rattle.win_text.specs.declared.types.PlanKind.TheVariants.{Change, Undo, Redo}
 
 -- ---- the groups that Undo takes back
 
@@ -37,6 +40,28 @@ after_group h (d ∷ ds) = record {
 -- after `mark` (automatic) or `nomark`: the next change begins a group
 abbrev pub marked_history : History → Bool → History
 marked_history h automatic = record h { automatic = automatic; joins = false }
+
+-- after Undo: the last group of past is the first of future, and the next change begins a group
+abbrev pub undone_history : History → History
+undone_history h = record h { past = before_last h.past; future = with_last_of h.past h.future; joins = false }
+
+-- after Redo: the first group of future is the last of past, and the next change begins a group
+abbrev pub redone_history : History → History
+redone_history h = record h { past = with_first_of h.future h.past; future = drop 1 h.future; joins = false }
+
+-- after a plan of this kind, whose edits cut and put this
+abbrev pub history_after : PlanKind → History → List Done → History
+history_after Change h group = after_group h group
+history_after Undo h group = undone_history h
+history_after Redo h group = redone_history h
+
+-- the edits that Undo makes: those that take back the last group of past
+abbrev pub edits_to_undo : History → Option (List Edit)
+edits_to_undo h = option_map undoing (last_of h.past)
+
+-- the edits that Redo makes: those of the first group of future
+abbrev pub edits_to_redo : History → Option (List Edit)
+edits_to_redo h = option_map redoing (first_of h.future)
 
 -- ---- ranges
 
@@ -84,6 +109,35 @@ abbrev pub put_length : List Edit → ℕ
 put_length [] = 0
 put_length (e ∷ es) = length e.text + put_length es
 
+-- what is ready to be noted when a plan of this kind is done, whose edits cut and put this: Undo and Redo move a group
+abbrev pub noted : PlanKind → List Done → List Done
+noted Change group = group
+noted Undo group = []
+noted Redo group = []
+
+-- ---- what the groups were done to
+
+-- The group is at least one edit, and what its edits cut and put in this text.
+pub record IsDoneTo (text : List ℕ) (group : List Done) : Type 0 where
+  pub some : 0 < length group
+  pub edits : AreInRange text (redoing group)
+  pub same : done_group text (redoing group) ≡ group
+
+-- Each group is what was done to the text that those before it leave of this text.
+abbrev pub AreDoneTo : List ℕ → List (List Done) → Type 0
+AreDoneTo text [] = Unit {0}
+AreDoneTo text (g ∷ gs) = IsDoneTo text g × AreDoneTo (text_after text (redoing g)) gs
+
+-- the text after these groups of edits, done from the first group to the last
+abbrev pub text_of_groups : List ℕ → List (List Done) → List ℕ
+text_of_groups text [] = text
+text_of_groups text (g ∷ gs) = text_of_groups (text_after text (redoing g)) gs
+
+-- The groups that are past lead from the empty text to this text, and those that were undone go on from it.
+pub record IsHistoryOf (text : List ℕ) (past future : List (List Done)) : Type 0 where
+  pub groups : AreDoneTo [] (past ++ future)
+  pub leads : text_of_groups [] past ≡ text
+
 -- ---- the body
 
 -- the text, the ranges dot and addr, the range that bounds searches, and the groups that Undo takes back
@@ -100,11 +154,12 @@ null_range = record { q0 = 0; q1 = 0 }
 abbrev pub empty_body : BodyState
 empty_body = record { text = []; dot = null_range; addr = null_range; limit = None; history = no_history }
 
--- the ranges are in the text
+-- the ranges are in the text, and the groups lead to it
 pub record IsSound (s : BodyState) : Type 0 where
   pub dot : IsInside s.text s.dot
   pub addr : IsInside s.text s.addr
   pub limit : IsLimitInside s.text s.limit
+  pub history : IsHistoryOf s.text s.history.past s.history.future
 
 abbrev pub with_dot : BodyState → Range → BodyState
 with_dot s r = record s { dot = r }
@@ -118,20 +173,59 @@ with_limit s r = record s { limit = r }
 abbrev pub marked_body : BodyState → Bool → BodyState
 marked_body s automatic = record s { history = marked_history s.history automatic }
 
+-- ---- plans
+
+-- the range that the edit has put, if there is one
+abbrev pub put_by : Option Edit → Range
+put_by None = null_range
+put_by (Some e) = record { q0 = e.q0; q1 = e.q0 + length e.text }
+
+-- the range that the last of these edits has put
+abbrev pub put_range : List Edit → Range
+put_range es = put_by (last_of es)
+
+-- these edits, after which dot is the range that the last of them has put
+abbrev pub plan_with : PlanKind → List Edit → TextPlan
+plan_with kind es = record { edits = es; dot = put_range es; kind = kind }
+
+-- the plan of Undo, if there is a group to take back
+abbrev pub undo_plan_of : BodyState → Option TextPlan
+undo_plan_of s = option_map (plan_with Undo) (edits_to_undo s.history)
+
+-- the plan of Redo, if there is a group to make again
+abbrev pub redo_plan_of : BodyState → Option TextPlan
+redo_plan_of s = option_map (plan_with Redo) (edits_to_redo s.history)
+
+-- A plan of Undo or Redo is the one that there is now.
+abbrev pub IsOfKind : PlanKind → BodyState → TextPlan → Type 0
+IsOfKind Change s plan = Unit {0}
+IsOfKind Undo s plan = undo_plan_of s ≡ Some plan
+IsOfKind Redo s plan = redo_plan_of s ≡ Some plan
+
 -- The plan's edits are those of the text, and its dot is in the text that they leave.
 pub record IsPlanFor (s : BodyState) (plan : TextPlan) : Type 0 where
   pub edits : AreInRange s.text plan.edits
   pub dot : IsInside (text_after s.text plan.edits) plan.dot
+  pub kind : IsOfKind plan.kind s plan
 
--- after a plan: its edits are done as one change, addr and limit move with them, and dot is set
+-- after a plan: its edits are done, as one change or as those of a group, addr and limit move with them, and dot is set
 abbrev pub applied : BodyState → TextPlan → BodyState
 applied s plan = record {
   text = text_after s.text plan.edits;
   dot = plan.dot;
   addr = moved s.addr plan.edits;
   limit = moved_limit s.limit plan.edits;
-  history = after_group s.history (done_group s.text plan.edits);
+  history = history_after plan.kind s.history (done_group s.text plan.edits);
 }
+
+-- after this plan, if there is one
+abbrev pub applied_if_any : BodyState → Option TextPlan → BodyState
+applied_if_any s None = s
+applied_if_any s (Some plan) = applied s plan
+
+-- what a plan has ready to be noted
+abbrev pub group_for : BodyState → TextPlan → List Done
+group_for s plan = noted plan.kind (done_group s.text plan.edits)
 
 -- ---- room
 

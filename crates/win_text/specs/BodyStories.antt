@@ -3,7 +3,7 @@ use Rattle.std.specs.Prelude.{ℕ, Bool, List, [], ◌++◌, length, drop, Optio
 use Rattle.am_text.specs.declared.range.Range.{Range}
 use Rattle.edit_log.specs.declared.types.Edit.{Edit}
 use Rattle.edit_log.specs.Edited.{text_after}
-use Rattle.win_text.specs.Bodies.{History, no_history, after_group, marked_history, IsLimitInside, moved, AreInRange, done_group, null_range, BodyState}
+use Rattle.win_text.specs.Bodies.{History, no_history, after_group, marked_history, undone_history, redone_history, edits_to_undo, edits_to_redo, put_range, IsLimitInside, moved, AreInRange, done_group, null_range, BodyState}
 use Rattle.win_text.specs.declared.types.TextPlan.{TextPlan}
 use Rattle.win_text.specs.declared.types.PlanKind.TheVariants.{Change}
 
@@ -85,6 +85,25 @@ story_with_limit s r = record s { limit = limit_at (length s.edits) r }
 
 abbrev pub story_marked : BodyStory → Bool → BodyStory
 story_marked s automatic = record s { history = marked_history s.history automatic }
+
+-- after these edits dot is what the last of them has put, and the groups are these; None: nothing is done
+abbrev pub story_moved : BodyStory → Option (List Edit) → History → BodyStory
+story_moved s None history = s
+story_moved s (Some es) history = record {
+  edits = s.edits ++ es;
+  dot = set_at (length (s.edits ++ es)) (put_range es);
+  addr = s.addr;
+  limit = s.limit;
+  history = history;
+}
+
+-- after Undo: the last group of past was taken back, if there is one
+abbrev pub story_undone : BodyStory → BodyStory
+story_undone s = story_moved s (edits_to_undo s.history) (undone_history s.history)
+
+-- after Redo: the first group of future was made again, if there is one
+abbrev pub story_redone : BodyStory → BodyStory
+story_redone s = story_moved s (edits_to_redo s.history) (redone_history s.history)
 
 -- ---- the same change, planned over the text and ranges as they are now
 

@@ -1,11 +1,12 @@
 //! The body of a window.
 
-ghost use Rattle.std.specs.Prelude.{◌≡◌, ◌<◌, ◌≤◌, ◌+◌, ◌^◌, ◌==◌, not, length, slice_range, IfOk, OnOk};
+ghost use Rattle.std.specs.Prelude.{◌≡◌, ◌<◌, ◌≤◌, ◌+◌, ◌^◌, ◌==◌, not, length, slice_range, IfOk, IfSome, OnOk};
 ghost use Rattle.edit_log.specs.Edited.{text_after};
-ghost use Rattle.win_text.specs.Bodies.{empty_body, IsInside, IsLimitInside, IsSound, AreInRange, moved, moved_limit, done_group, put_length, with_dot, with_addr, with_limit, marked_body, IsPlanFor, IsReady, applied};
+ghost use Rattle.win_text.specs.Bodies.{empty_body, IsInside, IsLimitInside, IsSound, AreInRange, moved, moved_limit, group_for, put_length, with_dot, with_addr, with_limit, marked_body, undo_plan_of, redo_plan_of, IsPlanFor, IsReady, applied};
 ghost use Rattle.win_text.specs.BodyStories.{IsChangeOf, moved_or_set, plan_of};
 
-use crate::groups::{group_of, make_edits, note_group, runes_put};
+use crate::groups::{group_for, make_edits, note_plan, runes_put};
+use crate::plans::plan_of_any;
 use crate::ranges::range_after;
 use crate::types::{PlanKind, Ready, TextPlan};
 use am_text::{Letters, NoMemory, Range, Rune, Runes};
@@ -76,7 +77,7 @@ impl Body {
         self.limit
     }
 
-    /// Each range is in the text, in every body.
+    /// Each range is in the text, and the groups lead to it, in every body.
     pub fn is_sound(&self)
         ensures { IsSound self.now.state }
     {
@@ -159,7 +160,25 @@ impl Body {
         })
     }
 
-    /// Makes ready to do a plan: room for its runes and its edits, and what it will cut and put.
+    /// The plan of Undo: the last group that is past is taken back, the last of its edits first, and
+    /// dot is then what the last edit of the plan has put. There is none where no group is past.
+    pub fn undo_plan(&self) -> Result<Option<TextPlan>, NoMemory>
+        ensures exact { IfOk result (λ plan. plan ≡ undo_plan_of self.now.state) }
+        ensures sound { IfOk result (λ plan. IfSome plan (IsPlanFor self.now.state)) }
+    {
+        plan_of_any(PlanKind::Undo, self.log.undo()?)
+    }
+
+    /// The plan of Redo: the first group that was undone is made again, and dot is then what its
+    /// last edit has put. There is none where no group was undone.
+    pub fn redo_plan(&self) -> Result<Option<TextPlan>, NoMemory>
+        ensures exact { IfOk result (λ plan. plan ≡ redo_plan_of self.now.state) }
+        ensures sound { IfOk result (λ plan. IfSome plan (IsPlanFor self.now.state)) }
+    {
+        plan_of_any(PlanKind::Redo, self.log.redo()?)
+    }
+
+    /// Makes ready to do a plan: room for its runes and its edits, and what a change will cut and put.
     /// The state stays, and no room is given up, whatever the answer.
     pub fn reserve(&mut self, plan: &TextPlan) -> Result<Ready, NoMemory>
         requires { IsPlanFor self.old.state plan.now }
@@ -167,28 +186,30 @@ impl Body {
         ensures runes { self.old.runes ≤ self.new.runes }
         ensures edits { self.old.edits ≤ self.new.edits }
         ensures room { OnOk result (IsReady self.new plan.now) }
-        ensures group { IfOk result (λ ready. ready ≡ done_group self.old.state.text plan.now.edits) }
+        ensures group { IfOk result (λ ready. ready ≡ group_for self.old.state plan.now) }
     {
         let edits = plan.edits.as_slice();
         let added = runes_put(edits)?;
         self.text.reserve(added)?;
         self.log.reserve(edits.len())?;
-        Ok(Ready::of(group_of(self.alloc, &self.text, edits, added)?))
+        Ok(Ready::of(group_for(self.alloc, &self.text, plan, added)?))
     }
 
-    /// Does a plan that was made ready: its edits are one change, addr and limit move with them,
-    /// and dot is set. A plan without edits is no change of the groups. It takes no memory.
+    /// Does a plan that was made ready: its edits are done, addr and limit move with them, and dot is
+    /// set. The edits of a change are a group, or more of the open one; a change without edits leaves
+    /// the groups as they are. Undo and Redo move a group, and the next change begins another. It
+    /// takes no memory.
     pub fn apply(&mut self, plan: TextPlan, ready: Ready)
         requires plan { IsPlanFor self.old.state plan }
         requires room { IsReady self.old plan }
-        requires group { ready ≡ done_group self.old.state.text plan.edits }
+        requires group { ready ≡ group_for self.old.state plan }
         ensures { self.new.state ≡ applied self.old.state plan }
     {
         let edits = plan.edits.as_slice();
         let addr = self.addr_after(edits);
         let limit = self.limit_after(edits);
         make_edits(&mut self.text, edits);
-        note_group(&mut self.log, ready.into_group());
+        note_plan(&mut self.log, plan.kind, ready.into_group());
         self.dot = plan.dot;
         self.addr = addr;
         self.limit = limit;

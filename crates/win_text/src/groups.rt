@@ -2,8 +2,10 @@
 
 ghost use Rattle.std.specs.Prelude.{◌≡◌, ◌<◌, ◌≤◌, ◌+◌, ◌^◌, length, IfOk};
 ghost use Rattle.edit_log.specs.Edited.{after, text_after};
-ghost use Rattle.win_text.specs.Bodies.{IsEditOf, AreInRange, done_edit, done_group, put_length, history_of, after_group};
+ghost use Rattle.win_text.specs.Bodies.{IsEditOf, AreInRange, done_edit, done_group, put_length, history_of, after_group, history_after, noted};
+ghost use Rattle.win_text.specs.Kept.{HasGroupFor};
 
+use crate::types::{PlanKind, TextPlan};
 use am_text::{Items, NoMemory, Runes};
 use edit_log::{Done, DoneList, Edit, UndoLog};
 use rune_gap::RuneText;
@@ -42,12 +44,25 @@ pub(crate) fn make_edits(text: &mut RuneText, edits: &[Edit])
 }
 
 // Notes the edits of a change as a group, where there are any.
-pub(crate) fn note_group(log: &mut UndoLog, group: DoneList)
+fn note_group(log: &mut UndoLog, group: DoneList)
     requires { length group ≤ log.old.room }
     ensures { history_of log.new ≡ after_group (history_of log.old) group }
 {
     if !group.is_empty() {
         log.push(group);
+    }
+}
+
+// Notes that a plan of this kind was done: as a group, or by moving one.
+pub(crate) fn note_plan(log: &mut UndoLog, kind: PlanKind, group: DoneList)
+    requires room { length group ≤ log.old.room }
+    requires some { HasGroupFor kind log.old }
+    ensures { history_of log.new ≡ history_after kind (history_of log.old) group }
+{
+    match kind {
+        PlanKind::Change => note_group(log, group),
+        PlanKind::Undo => log.undone(),
+        PlanKind::Redo => log.redone(),
     }
 }
 
@@ -92,7 +107,7 @@ fn group_over(alloc: Global, text: &mut RuneText, edits: &[Edit]) -> Result<Done
 
 // What the edits will cut and put, of which there are so many runes. More than one are done in a
 // copy of the text.
-pub(crate) fn group_of(
+fn group_of(
     alloc: Global,
     text: &RuneText,
     edits: &[Edit],
@@ -110,4 +125,23 @@ pub(crate) fn group_of(
         _ => return group_over(alloc, &mut copy_of(alloc, text, added)?, edits),
     }
     Ok(group)
+}
+
+// What a plan has ready to be noted, whose edits put so many runes.
+pub(crate) fn group_for(
+    alloc: Global,
+    text: &RuneText,
+    plan: &TextPlan,
+    added: usize,
+) -> Result<DoneList, NoMemory>
+    requires range { AreInRange text.now.items plan.now.edits }
+    requires runes { added ≡ put_length plan.now.edits }
+    requires fits { length text.now.items + added < 2 ^ 64 }
+    ensures { IfOk result (λ group. group ≡ noted plan.now.kind (done_group text.now.items plan.now.edits)) }
+{
+    match plan.kind {
+        PlanKind::Change => group_of(alloc, text, plan.edits.as_slice(), added),
+        PlanKind::Undo => Ok(Items::new(alloc)),
+        PlanKind::Redo => Ok(Items::new(alloc)),
+    }
 }

@@ -4,13 +4,14 @@
 mod body;
 mod groups;
 mod laws;
+mod plans;
 mod ranges;
 mod types;
 
 pub use body::Body;
 pub use laws::{
     begins_lawful, calls_are_shown, changes_are_plans, ranges_are_inside, stays_lawful,
-    stays_ready, text_is_its_history,
+    stays_ready, text_is_its_history, undo_and_redo_are_plans, undo_takes_back,
 };
 pub use types::{PlanKind, Ready, TextPlan};
 

@@ -98,3 +98,127 @@ fn edits_follow_each_other(rt: HostRuntime) -> Result<(), Fail> {
     assert_eq!(rt; body.dot(), Range { q0: 1, q1: 3 });
     Ok(())
 }
+
+// Undo, where there is a group to take back.
+fn undo(body: &mut Body) -> Result<bool, NoMemory> {
+    match body.undo_plan()? {
+        Some(plan) => {
+            let ready = body.reserve(&plan)?;
+            body.apply(plan, ready);
+            Ok(true)
+        }
+        None => Ok(false),
+    }
+}
+
+// Redo, where there is a group to make again.
+fn redo(body: &mut Body) -> Result<bool, NoMemory> {
+    match body.redo_plan()? {
+        Some(plan) => {
+            let ready = body.reserve(&plan)?;
+            body.apply(plan, ready);
+            Ok(true)
+        }
+        None => Ok(false),
+    }
+}
+
+// Puts runes at the front.
+fn put(alloc: Global, body: &mut Body, text: &[Rune]) -> Result<(), NoMemory>
+    requires { 0 < length text.now }
+{
+    replace(alloc, body, Range { q0: 0, q1: 0 }, text)
+}
+
+fn shows(body: &Body, text: &[Rune], dot: Range) -> Result<bool, NoMemory> {
+    Ok(body.text()?.as_slice() == text && body.dot() == dot)
+}
+
+// `ab`, and then `c` before it: both are taken back, and made again.
+#[test]
+fn groups_are_taken_back_and_made_again(rt: HostRuntime) -> Result<(), Fail> {
+    let mut body = Body::new(rt.alloc());
+    put(rt.alloc(), &mut body, &[A, B])?;
+    put(rt.alloc(), &mut body, &[C])?;
+    assert!(rt; undo(&mut body)? && shows(&body, &[A, B], Range { q0: 0, q1: 0 })?);
+    assert!(rt; undo(&mut body)? && shows(&body, &[], Range { q0: 0, q1: 0 })?);
+    assert!(rt; !undo(&mut body)? && !body.can_undo() && body.can_redo());
+    assert!(rt; redo(&mut body)? && shows(&body, &[A, B], Range { q0: 0, q1: 2 })?);
+    assert!(rt; redo(&mut body)? && shows(&body, &[C, A, B], Range { q0: 0, q1: 1 })?);
+    assert!(rt; !redo(&mut body)? && body.can_undo() && !body.can_redo());
+    Ok(())
+}
+
+#[test]
+fn a_change_forgets_what_was_undone(rt: HostRuntime) -> Result<(), Fail> {
+    let mut body = Body::new(rt.alloc());
+    put(rt.alloc(), &mut body, &[A])?;
+    put(rt.alloc(), &mut body, &[B])?;
+    assert!(rt; undo(&mut body)? && body.can_redo());
+    put(rt.alloc(), &mut body, &[C])?;
+    assert!(rt; !redo(&mut body)? && !body.can_redo());
+    assert!(rt; shows(&body, &[C, A], Range { q0: 0, q1: 0 })?);
+    Ok(())
+}
+
+// `a`, and then without `mark` `b` and `c`, which are one group. The change after Undo is another.
+#[test]
+fn undo_ends_an_open_group(rt: HostRuntime) -> Result<(), Fail> {
+    let mut body = Body::new(rt.alloc());
+    put(rt.alloc(), &mut body, &[A])?;
+    body.mark(false);
+    put(rt.alloc(), &mut body, &[B])?;
+    put(rt.alloc(), &mut body, &[C])?;
+    assert!(rt; undo(&mut body)? && shows(&body, &[A], Range { q0: 0, q1: 0 })?);
+    put(rt.alloc(), &mut body, &[D])?;
+    assert!(rt; undo(&mut body)? && shows(&body, &[A], Range { q0: 0, q1: 0 })?);
+    assert!(rt; redo(&mut body)? && shows(&body, &[D, A], Range { q0: 0, q1: 1 })?);
+    put(rt.alloc(), &mut body, &[E])?;
+    assert!(rt; undo(&mut body)? && shows(&body, &[D, A], Range { q0: 0, q1: 0 })?);
+    Ok(())
+}
+
+fn is_edit(edit: &Edit, range: Range, text: &[Rune]) -> bool {
+    edit.q0 == range.q0 && edit.q1 == range.q1 && edit.text.as_slice() == text
+}
+
+// `abc` becomes `aXc` in one change: the inverse of its last edit is made first.
+#[test]
+fn the_last_edit_is_taken_back_first(rt: HostRuntime) -> Result<(), Fail> {
+    let mut body = Body::new(rt.alloc());
+    assert!(rt; body.len() == 0);
+    let mut edits = Items::new(rt.alloc());
+    edits.push(edit(rt.alloc(), Range { q0: 0, q1: 0 }, &[A, B, C])?)?;
+    edits.push(edit(rt.alloc(), Range { q0: 1, q1: 2 }, &[X])?)?;
+    change(&mut body, edits, Some(Range { q0: 3, q1: 3 }))?;
+    let Some(plan) = body.undo_plan()? else {
+        assert!(rt; false);
+        return Ok(());
+    };
+    let [first, second] = plan.edits.as_slice() else {
+        assert!(rt; false);
+        return Ok(());
+    };
+    assert!(rt; is_edit(first, Range { q0: 1, q1: 2 }, &[B]));
+    assert!(rt; is_edit(second, Range { q0: 0, q1: 3 }, &[]));
+    assert!(rt; undo(&mut body)? && shows(&body, &[], Range { q0: 0, q1: 0 })?);
+    assert!(rt; redo(&mut body)? && shows(&body, &[A, X, C], Range { q0: 1, q1: 2 })?);
+    Ok(())
+}
+
+// `abcdef` becomes `aef`, and Undo puts `bcd` back.
+#[test]
+fn ranges_follow_undo(rt: HostRuntime) -> Result<(), Fail> {
+    let mut body = Body::new(rt.alloc());
+    put(rt.alloc(), &mut body, &[A, B, C, D, E, F])?;
+    assert!(rt; body.len() == 6);
+    replace(rt.alloc(), &mut body, Range { q0: 1, q1: 4 }, &[])?;
+    assert!(rt; body.len() == 3);
+    body.set_addr(Range { q0: 0, q1: 3 });
+    body.set_limit(Some(Range { q0: 1, q1: 2 }));
+    assert!(rt; undo(&mut body)?);
+    assert!(rt; shows(&body, &[A, B, C, D, E, F], Range { q0: 1, q1: 4 })?);
+    assert_eq!(rt; body.addr(), Range { q0: 0, q1: 6 });
+    assert_eq!(rt; body.limit(), Some(Range { q0: 1, q1: 5 }));
+    Ok(())
+}

@@ -11,6 +11,10 @@ use std::marker::Model;
 pub enum PlanKind {
     /// A change of the text: a new group, or more of the group that is open since `nomark`.
     Change,
+    /// The last group that is past is taken back.
+    Undo,
+    /// The first group that was undone is made again.
+    Redo,
 }
 
 /// Edits to be done from first to last, and dot after them.
@@ -21,8 +25,8 @@ pub struct TextPlan {
     pub kind: PlanKind,
 }
 
-/// What a plan will cut and put, copied out beforehand, so that doing it takes no memory.
-/// Contracts see it as the group of edits that the plan makes.
+/// What a change will cut and put, copied out beforehand, so that doing it takes no memory.
+/// Contracts see it as the group of edits that the change makes. Undo and Redo need nothing.
 #[derive(Drop)]
 pub struct Ready {
     group: DoneList,
