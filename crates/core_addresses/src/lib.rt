@@ -1,0 +1,13 @@
+//! The range that the file `addr` of a window names, and what `addr`, `data` and `xdata` give and take (acme(4)).
+#![tactic(auto)]
+
+mod addr;
+mod data;
+mod fault;
+#[cfg(test)]
+mod tests;
+
+pub use addr::{addressed, range_text};
+pub use data::{Given, Taken, data_given, data_taken, replacing, xdata_given};
+pub use fault::RangeFault;
+pub use win_text::Body;
