@@ -15,7 +15,8 @@ use Rattle.core_windows.specs.declared.change.Change.TheVariants as change
 use Rattle.core_windows.specs.declared.change.Setting.TheVariants as setting
 use Rattle.core_windows.specs.Possible.{CanSet, CanSetAll, CanEdit, IsPossible}
 use Rattle.core_windows.specs.Windows.{Window, window_at}
-use Rattle.acme_core.specs.Typing.{fits_body, replacing, sel_refusal}
+use Rattle.core_addresses.specs.Data.{replacing}
+use Rattle.acme_core.specs.Typing.{fits_body, sel_refusal}
 
 -- a range that lies in the text, and a text for its place; null_in says that both are empty
 in_range : (text : List ℕ) (r : Range) (put : List ℕ) → IsInside text r → (b : Bool) → ((eqb r.q0 r.q1) && (eqb (length put) 0)) ≡ b
@@ -49,7 +50,7 @@ replaces text r put inside = record {
 
 pub key_possible : (windows : List (Option Window)) (w : ℕ) (window : Window) (put : List ℕ) (edits : List Edit) (end : ℕ)
     → window_at windows w ≡ Some window → IsSound window.body → edits ≡ replacing window.body.dot put → end ≡ window.body.dot.q0 + length put
-    → IsPossible windows (change.Edits w edits (Some (record { q0 = end; q1 = end })))
+    → IsPossible windows (change.Edits w edits (Some (record { q0 = end; q1 = end })) None)
 key_possible windows w window put edits end there sound e n =
     let dot : Range = record { q0 = end; q1 = end } in
     let made : IsChangeOf window.body.text (record { edits = edits; dot = Some dot }) =
@@ -57,7 +58,7 @@ key_possible windows w window put edits end there sound e n =
     (subst (λ (k : ℕ). IsChangeOf window.body.text (record { edits = replacing window.body.dot put; dot = Some (record { q0 = k; q1 = k }) })) (sym n)
     (replaces window.body.text window.body.dot put sound.dot))
     in
-    subst (λ (o : Option Window). CanEdit o (record { edits = edits; dot = Some dot })) (sym there) made
+    subst (λ (o : Option Window). CanEdit o (record { edits = edits; dot = Some dot }) None) (sym there) (record { change = made; addr_is = tt })
 
 -- dot's start and the text together have no more runes than a body may have
 pub key_fits : (window : Window) (put : List ℕ) → IsSound window.body → fits_body window put ≡ None → window.body.dot.q0 + length put ≤ 16777216

@@ -9,4 +9,5 @@ pub mod Stages
 pub mod Run
 pub mod Parts
 pub mod Kept
+pub mod Addresses
 pub mod Views

@@ -1,11 +1,11 @@
 -- Keys and selections.
-use Rattle.std.specs.Prelude.{ℕ, ◌+◌, ◌-◌, ◌==◌, ◌&&◌, nat_le, List, [], ◌∷◌, length, Option, Some, None, if◌then◌else◌, false}
+use Rattle.std.specs.Prelude.{ℕ, ◌+◌, ◌-◌, nat_le, List, [], ◌∷◌, length, Option, Some, None, if◌then◌else◌, false}
 use Rattle.am_text.specs.declared.range.Range.{Range}
 use Rattle.am_journal.specs.declared.event.Side.{Side}
 use Rattle.am_journal.specs.declared.event.Side.TheVariants.{Tag, Body}
 use Rattle.am_journal.specs.declared.event.Why.{Why}
 use Rattle.am_journal.specs.declared.event.Why.TheVariants as why
-use Rattle.edit_log.specs.declared.types.Edit.{Edit}
+use Rattle.core_addresses.specs.Data.{replacing}
 use Rattle.core_windows.specs.declared.change.Change.{Change}
 use Rattle.core_windows.specs.declared.change.Change.TheVariants as change
 use Rattle.core_windows.specs.declared.change.Setting.TheVariants as setting
@@ -28,13 +28,9 @@ abbrev pub key_refusal : Option Window → Side → List ℕ → Option Why
 key_refusal None side text = Some why.Window
 key_refusal (Some window) side text = fits_side window side text
 
--- the edit that puts a text in the place of a range; none where both are empty
-abbrev pub replacing : Range → List ℕ → List Edit
-replacing r text = if (r.q0 == r.q1) && (length text == 0) then [] else record { q0 = r.q0; q1 = r.q1; text = text } ∷ []
-
 -- In the body the text takes dot's place, and dot is then null behind it; in the tag it is put at the end.
 abbrev pub typed : ℕ → Window → Side → List ℕ → Change
-typed w window Body text = change.Edits w (replacing window.body.dot text) (Some (record { q0 = window.body.dot.q0 + length text; q1 = window.body.dot.q0 + length text }))
+typed w window Body text = change.Edits w (replacing window.body.dot text) (Some (record { q0 = window.body.dot.q0 + length text; q1 = window.body.dot.q0 + length text })) None
 typed w window Tag text = change.Adds w text
 
 abbrev pub key_change : ℕ → Option Window → Side → List ℕ → Change

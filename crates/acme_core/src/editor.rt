@@ -4,6 +4,8 @@ ghost use Rattle.std.specs.Prelude.{◌≡◌, ◌<◌, ◌≤◌, ◌+◌, ◌^
 ghost use Rattle.am_journal.specs.Lawful.{IsLawful};
 ghost use Rattle.acme_core.specs.Run.{enabled, run, output_at, Refuses, IsHang, IsWhy, settled, ready};
 ghost use Rattle.core_windows.specs.Stories.{AreLawful};
+ghost use Rattle.win_text.specs.Bodies.{IsInside};
+ghost use Rattle.acme_core.specs.Addresses.{addr_at, body_at};
 ghost use Rattle.event_book.specs.Laws.{WindowOrder, WhatAFidGets};
 ghost use Rattle.acme_core.specs.Views.{ledger, view_of};
 
@@ -11,9 +13,9 @@ use crate::parts::Parts;
 use crate::planning::prepare;
 use crate::prepared::Prepared;
 use crate::unsent::reply_at;
-use crate::view::view_of;
+use crate::view::{addr_of, view_of};
 use am_journal::{Event, ItemViews, Journal, Refused, View};
-use am_text::{NoMemory, Roomy};
+use am_text::{NoMemory, Range, Roomy};
 use core_windows::{changes_are_lawful, changes_show};
 use std::alloc::Global;
 use std::marker::Model;
@@ -135,6 +137,16 @@ impl Core {
         ensures counted { OnSome result (k + 1 < 2 ^ 64) }
     {
         reply_at(self.parts.replies.as_slice(), k)
+    }
+
+    /// The range that the file `addr` of a window holds: as it was last set, moved by the edits that were made since. It lies
+    /// in the text. `None` where the window doesn't live. It takes no memory.
+    #[tactic(auto, using(crate::proofs::Viewed::addresses))]
+    pub fn addr(&self, window: u32) -> Option<Range>
+        ensures exact { result ≡ addr_at self.now.journal window }
+        ensures inside { IfSome result (IsInside (body_at self.now.journal window)) }
+    {
+        addr_of(&self.parts.windows, window)
     }
 
     /// What the report tells of the editor.

@@ -85,8 +85,9 @@ fn connections_end(rt: HostRuntime) -> Result<(), Fail> {
     Ok(())
 }
 
-// The entries, connections, windows and items that the views of a core tell, and what its journal holds.
-fn told(alloc: Global) -> Result<[usize; 5], NoMemory> {
+// The entries, connections, windows and items that the views of a core tell, the end of the address of the first window, whether
+// a second one has an address, and what the journal holds.
+fn told(alloc: Global) -> Result<[usize; 7], NoMemory> {
     let mut core = Core::new(alloc)?;
     if let Ok(Some(event)) = read_line(alloc, b"dial 5") {
         if let Ok(plan) = core.plan(event) {
@@ -94,6 +95,11 @@ fn told(alloc: Global) -> Result<[usize; 5], NoMemory> {
         }
     }
     step(alloc, &mut core, b"new");
+    let end = match core.addr(1) {
+        Some(range) => range.q1,
+        None => 1,
+    };
+    let second = core.addr(2).is_some();
     let view = core.view()?;
     let items = core.ledger()?;
     core.windows_are_lawful();
@@ -107,6 +113,8 @@ fn told(alloc: Global) -> Result<[usize; 5], NoMemory> {
         view.conns.len(),
         view.windows.len(),
         items.len(),
+        end,
+        second as usize,
         journal.len(),
     ])
 }
@@ -115,6 +123,6 @@ fn told(alloc: Global) -> Result<[usize; 5], NoMemory> {
 fn plan_and_commit(rt: HostRuntime) -> Result<(), Fail> {
     let alloc = rt.alloc();
     let told = told(alloc)?;
-    assert_eq!(rt; told.as_slice(), [2, 1, 1, 0, 2].as_slice());
+    assert_eq!(rt; told.as_slice(), [2, 1, 1, 0, 0, 0, 2].as_slice());
     Ok(())
 }

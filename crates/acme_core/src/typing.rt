@@ -5,11 +5,12 @@ ghost use Rattle.core_windows.specs.Panes.{window_of};
 ghost use Rattle.core_windows.specs.Possible.{IsPossible};
 ghost use Rattle.core_windows.specs.Windows.{window_at};
 ghost use Rattle.core_answers.specs.Erring.{fits_tag};
-ghost use Rattle.acme_core.specs.Typing.{fits_body, fits_side, key_refusal, replacing, typed, key_change, sel_refusal, sel_change};
+ghost use Rattle.acme_core.specs.Typing.{fits_body, fits_side, key_refusal, typed, key_change, sel_refusal, sel_change};
 
 use am_journal::{Side, Why};
 use am_text::{Items, Letters, NoMemory, Range, Rune, Runes};
-use core_windows::{Change, Edit, Edits, Pane, Setting, Windows};
+use core_addresses::replacing;
+use core_windows::{Change, Pane, Setting, Windows};
 use std::alloc::Global;
 
 /// The most runes that a body may have.
@@ -51,20 +52,6 @@ pub(crate) fn key_refusal(windows: &Windows, window: u32, side: Side, text: &[Ru
     }
 }
 
-fn replacing(alloc: Global, range: Range, text: Runes) -> Result<Edits, NoMemory>
-    ensures { IfOk result (λ edits. edits ≡ replacing range text) }
-{
-    let mut edits = Items::new(alloc);
-    if range.q0 != range.q1 || !text.is_empty() {
-        edits.push(Edit {
-            q0: range.q0,
-            q1: range.q1,
-            text,
-        })?;
-    }
-    Ok(edits)
-}
-
 #[tactic(auto, using(crate::proofs::Typed::typing))]
 fn typed(
     alloc: Global,
@@ -90,6 +77,7 @@ fn typed(
                 window,
                 edits: replacing(alloc, dot, text)?,
                 dot: Some(Range { q0: end, q1: end }),
+                addr: None,
             })
         }
     }

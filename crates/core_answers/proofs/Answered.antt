@@ -12,6 +12,12 @@ use Rattle.ninep_wire.specs.declared.message.RBody.TheVariants as r
 use Rattle.acme_tree.specs.declared.node.World.{World}
 use Rattle.fid_table.specs.declared.types.Fid.{Fid}
 use Rattle.fid_table.specs.Tables.{Tables, fid_of, msize_of}
+use Rattle.am_text.specs.declared.range.Range.{Range}
+use Rattle.core_addresses.specs.Data.{data_taken}
+use Rattle.core_addresses.specs.Ranges.{addressed}
+use Rattle.core_addresses.specs.declared.data.Taken.{Taken}
+use Rattle.core_addresses.specs.declared.fault.RangeFault.{RangeFault}
+use Rattle.core_answers.specs.Addressing.{data_deed, xdata_deed, addr_or_refusal, addr_deed, data_or_refusal, taking_deed}
 use Rattle.core_answers.specs.declared.content.Content.{Content}
 use Rattle.core_answers.specs.declared.content.Content.TheVariants as content
 use Rattle.core_answers.specs.declared.effect.Effect.{Effect}
@@ -118,11 +124,22 @@ read_opening_answers : (fid offset asked count : ℕ) (o : Option ℕ) → Answe
 read_opening_answers fid offset asked count None = tt
 read_opening_answers fid offset asked count (Some opening) = refl
 
+data_answers : (fid offset asked count w : ℕ) (o : Option Window) → IsAnswered (t.Read fid offset asked) (data_deed w count o).answer
+data_answers fid offset asked count w None = inl refl
+data_answers fid offset asked count w (Some window) = inl refl
+
+xdata_answers : (fid offset asked count w : ℕ) (o : Option Window) → IsAnswered (t.Read fid offset asked) (xdata_deed w count o).answer
+xdata_answers fid offset asked count w None = inl refl
+xdata_answers fid offset asked count w (Some window) = inl refl
+
 read_content_answers : (world : World) (windows : List (Option Window)) (fid offset asked count : ℕ) (f : Fid) (c : Content) → Answers (t.Read fid offset asked) (read_content world windows fid f offset count c)
 read_content_answers world windows fid offset asked count f content.Directory = read_dir_answers world fid offset asked count f (place_at f offset)
 read_content_answers world windows fid offset asked count f (content.BodyText w) = inl refl
 read_content_answers world windows fid offset asked count f (content.TagText w) = inl refl
 read_content_answers world windows fid offset asked count f (content.CtlText w) = inl refl
+read_content_answers world windows fid offset asked count f (content.AddrText w) = inl refl
+read_content_answers world windows fid offset asked count f (content.DataOf w) = data_answers fid offset asked count w (window_at windows w)
+read_content_answers world windows fid offset asked count f (content.XdataOf w) = xdata_answers fid offset asked count w (window_at windows w)
 read_content_answers world windows fid offset asked count f content.IndexText = inl refl
 read_content_answers world windows fid offset asked count f (content.ErrorsOf w) = tt
 read_content_answers world windows fid offset asked count f content.ConsErrors = inl refl
@@ -157,12 +174,31 @@ control_answers : (fid offset : ℕ) (bytes : List ℕ) (o : Option Refusal) →
 control_answers fid offset bytes None = inl refl
 control_answers fid offset bytes (Some x) = inr (x, refl)
 
+addr_set_answers : (fid offset w : ℕ) (bytes : List ℕ) (x : Result Range RangeFault) → Answers (t.Write fid offset bytes) (addr_or_refusal w (length bytes) x)
+addr_set_answers fid offset w bytes (Ok range) = inl refl
+addr_set_answers fid offset w bytes (Err f) = tt
+
+addr_answers : (fid offset w : ℕ) (bytes : List ℕ) (o : Option Window) → Answers (t.Write fid offset bytes) (addr_deed w bytes o)
+addr_answers fid offset w bytes None = tt
+addr_answers fid offset w bytes (Some window) = addr_set_answers fid offset w bytes (addressed window.body bytes)
+
+data_set_answers : (fid offset w : ℕ) (bytes : List ℕ) (x : Result Taken RangeFault) → Answers (t.Write fid offset bytes) (data_or_refusal w (length bytes) x)
+data_set_answers fid offset w bytes (Ok taken) = inl refl
+data_set_answers fid offset w bytes (Err f) = tt
+
+taking_answers : (fid offset w : ℕ) (bytes : List ℕ) (o : Option Window) → Answers (t.Write fid offset bytes) (taking_deed w bytes o)
+taking_answers fid offset w bytes None = tt
+taking_answers fid offset w bytes (Some window) = data_set_answers fid offset w bytes (data_taken window.body bytes)
+
 write_content_answers : (windows : List (Option Window)) (fid offset : ℕ) (bytes : List ℕ) (f : Fid) (c : Content) → Answers (t.Write fid offset bytes) (write_content windows fid f bytes c)
 write_content_answers windows fid offset bytes f content.Directory = tt
 write_content_answers windows fid offset bytes f (content.BodyText w) = append_answers windows fid offset bytes f w (decode_part (part_bytes f.part ++ bytes))
 write_content_answers windows fid offset bytes f (content.TagText w) = add_answers windows fid offset bytes f w (decode_part (part_bytes f.part ++ bytes))
 write_content_answers windows fid offset bytes f (content.CtlText w) =
     control_answers fid offset bytes (controls (lines_of bytes) (name_of (window_at windows w)) (modified_of (window_at windows w))).refusal
+write_content_answers windows fid offset bytes f (content.AddrText w) = addr_answers fid offset w bytes (window_at windows w)
+write_content_answers windows fid offset bytes f (content.DataOf w) = taking_answers fid offset w bytes (window_at windows w)
+write_content_answers windows fid offset bytes f (content.XdataOf w) = taking_answers fid offset w bytes (window_at windows w)
 write_content_answers windows fid offset bytes f content.IndexText = tt
 write_content_answers windows fid offset bytes f (content.ErrorsOf w) =
     errors_answers windows fid offset bytes f (errors_of (window_at windows w)) (decode_part (part_bytes f.part ++ bytes))

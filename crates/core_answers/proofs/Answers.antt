@@ -52,6 +52,11 @@ text_is refusal.TextTooLong = refl
 text_is refusal.WindowModified = refl
 text_is refusal.BadControlMessage = refl
 text_is refusal.BadFileName = refl
+text_is refusal.BadAddress = refl
+text_is refusal.AddressOutOfRange = refl
+text_is refusal.NoMatch = refl
+text_is refusal.AddressOutOfOrder = refl
+text_is refusal.PartialRune = refl
 text_is refusal.NotServedYet = refl
 
 text_fits : (x : Refusal) → length (refusal_text x) < 100
@@ -79,6 +84,11 @@ text_fits refusal.TextTooLong = omega arith
 text_fits refusal.WindowModified = omega arith
 text_fits refusal.BadControlMessage = omega arith
 text_fits refusal.BadFileName = omega arith
+text_fits refusal.BadAddress = omega arith
+text_fits refusal.AddressOutOfRange = omega arith
+text_fits refusal.NoMatch = omega arith
+text_fits refusal.AddressOutOfOrder = omega arith
+text_fits refusal.PartialRune = omega arith
 text_fits refusal.NotServedYet = omega arith
 
 error_is : (x : Refusal) → IsSent (r.Error (refusal_text x))

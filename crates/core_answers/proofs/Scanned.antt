@@ -3,9 +3,10 @@ use Rattle.std.proofs.Common.{◌≡◌, ℕ, zero, suc, ◌+◌, ◌<◌, ◌�
 use Rattle.std.specs.Prelude.{slice_get}
 use Rattle.std.specs.List.{list_any}
 use Rattle.std.specs.Option.{option_map}
+use Rattle.acme_tree.specs.declared.node.WinFile.{WinFile}
 use Rattle.fid_table.specs.declared.types.Fid.{Fid}
 use Rattle.fid_table.specs.Tables.{Tables, fids_of}
-use Rattle.core_answers.specs.Opening.{has_ctl_open, or_false, ctl_open_below}
+use Rattle.core_answers.specs.Opening.{has_open, or_false, open_below}
 
 or_none : (b : Bool) → b ≡ (b || false)
 or_none true = refl
@@ -28,21 +29,21 @@ module _ {X : Type 0} (p : X → Bool) where
   no_more (x ∷ xs) zero h = absurd (omega (arith, h))
   no_more (x ∷ xs) (suc k) h = ap (λ (t : Bool). p x || t) (no_more xs k (omega (arith, h)))
 
-pub fid_more : (w : ℕ) (fids : List (ℕ × Fid)) (k : ℕ) → k < length fids
-    → list_any (has_ctl_open w) (take (k + 1) fids) ≡ (list_any (has_ctl_open w) (take k fids) || or_false (option_map (has_ctl_open w) (slice_get fids k)))
-fid_more w fids k h = let e : k + 1 ≡ suc k = omega arith in ap (λ (n : ℕ). list_any (has_ctl_open w) (take n fids)) e ∙ one_more (has_ctl_open w) fids k h
+pub fid_more : (w : ℕ) (file : WinFile) (fids : List (ℕ × Fid)) (k : ℕ) → k < length fids
+    → list_any (has_open w file) (take (k + 1) fids) ≡ (list_any (has_open w file) (take k fids) || or_false (option_map (has_open w file) (slice_get fids k)))
+fid_more w file fids k h = let e : k + 1 ≡ suc k = omega arith in ap (λ (n : ℕ). list_any (has_open w file) (take n fids)) e ∙ one_more (has_open w file) fids k h
 
-pub no_fid_more : (w : ℕ) (fids : List (ℕ × Fid)) (k : ℕ) → length fids ≤ k → list_any (has_ctl_open w) (take k fids) ≡ list_any (has_ctl_open w) fids
-no_fid_more w fids k h = no_more (has_ctl_open w) fids k h
+pub no_fid_more : (w : ℕ) (file : WinFile) (fids : List (ℕ × Fid)) (k : ℕ) → length fids ≤ k → list_any (has_open w file) (take k fids) ≡ list_any (has_open w file) fids
+no_fid_more w file fids k h = no_more (has_open w file) fids k h
 
 pub ruleset scanning = (fid_more, no_fid_more)
 
-pub conn_more : (tables : Tables) (w conn : ℕ) → ctl_open_below tables w (conn + 1) ≡ (ctl_open_below tables w conn || list_any (has_ctl_open w) (fids_of tables conn))
-unfolding ctl_open_below
-conn_more tables w conn = let e : conn + 1 ≡ suc conn = omega arith in ap (ctl_open_below tables w) e
+pub conn_more : (tables : Tables) (w : ℕ) (file : WinFile) (conn : ℕ) → open_below tables w file (conn + 1) ≡ (open_below tables w file conn || list_any (has_open w file) (fids_of tables conn))
+unfolding open_below
+conn_more tables w file conn = let e : conn + 1 ≡ suc conn = omega arith in ap (open_below tables w file) e
 
-pub none_below : (tables : Tables) (w : ℕ) → ctl_open_below tables w 0 ≡ false
-unfolding ctl_open_below
-none_below tables w = refl
+pub none_below : (tables : Tables) (w : ℕ) (file : WinFile) → open_below tables w file 0 ≡ false
+unfolding open_below
+none_below tables w file = refl
 
 pub ruleset connections = (conn_more, none_below)

@@ -8,14 +8,14 @@ use Rattle.core_answers.specs.declared.content.Content.{Content}
 use Rattle.core_answers.specs.declared.content.Content.TheVariants as content
 
 abbrev pub file_content : ℕ → WinFile → Content
-file_content w Addr = content.Unserved
+file_content w Addr = content.AddrText w
 file_content w Body = content.BodyText w
 file_content w Ctl = content.CtlText w
-file_content w Data = content.Unserved
+file_content w Data = content.DataOf w
 file_content w Errors = content.ErrorsOf w
 file_content w Event = content.EventsOf w
 file_content w Tag = content.TagText w
-file_content w Xdata = content.Unserved
+file_content w Xdata = content.XdataOf w
 
 -- `cons`, `consctl` and `label` read as empty
 abbrev pub content_of : Node → Content

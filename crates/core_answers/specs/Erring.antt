@@ -22,7 +22,7 @@ abbrev pub edits_at_end : List ℕ → List ℕ → List Edit
 edits_at_end text more = if length more == 0 then [] else record { q0 = length text; q1 = length text; text = more } ∷ []
 
 abbrev pub appends : List (Option Window) → ℕ → List ℕ → Change
-appends windows w more = change.Edits w (edits_at_end (text_at windows w) more) None
+appends windows w more = change.Edits w (edits_at_end (text_at windows w) more) None None
 
 -- ---- errors windows
 

@@ -10,6 +10,7 @@ pub mod Done
 pub mod Attaching
 pub mod Walking
 pub mod Opening
+pub mod Addressing
 pub mod Reading
 pub mod Writing
 pub mod Deeds

@@ -9,11 +9,14 @@ use Rattle.acme_tree.specs.Trees.{qid_of, is_live}
 use Rattle.acme_tree.specs.declared.node.World.{World}
 use Rattle.acme_tree.specs.declared.node.Node.{Node}
 use Rattle.acme_tree.specs.declared.node.Node.TheVariants.{File}
-use Rattle.acme_tree.specs.declared.node.WinFile.TheVariants.{Ctl}
+use Rattle.acme_tree.specs.declared.node.WinFile.{WinFile}
+use Rattle.acme_tree.specs.declared.node.WinFile.TheVariants.{Addr, Ctl}
 use Rattle.fid_table.specs.declared.types.Fid.{Fid}
 use Rattle.fid_table.specs.Tables.{Tables, fid_of, fids_of}
+use Rattle.win_text.specs.Bodies.{null_range}
 use Rattle.core_windows.specs.declared.change.Change.{Change}
 use Rattle.core_windows.specs.declared.change.Change.TheVariants as change
+use Rattle.core_windows.specs.declared.change.Setting.{Setting}
 use Rattle.core_windows.specs.declared.change.Setting.TheVariants as setting
 use Rattle.core_answers.specs.declared.effect.Effect.TheVariants as effect
 use Rattle.core_answers.specs.declared.effect.EventChange.{EventChange}
@@ -44,6 +47,9 @@ abbrev pub content_refusal : ℕ → Content → Option Refusal
 content_refusal openings content.Directory = None
 content_refusal openings (content.BodyText w) = None
 content_refusal openings (content.TagText w) = None
+content_refusal openings (content.AddrText w) = None
+content_refusal openings (content.DataOf w) = None
+content_refusal openings (content.XdataOf w) = None
 content_refusal openings (content.CtlText w) = None
 content_refusal openings content.IndexText = None
 content_refusal openings (content.ErrorsOf w) = None
@@ -62,31 +68,43 @@ open_refusal world openings fid mode =
     (if is_open fid then Some refusal.FidIsOpen else
     first_refusal (mode_refusal (may_open fid.node mode)) (content_refusal openings (content_of fid.node)))
 
--- whether the node is the `ctl` of that window
-abbrev pub is_ctl_of : ℕ → Node → Bool
-is_ctl_of w (File v Ctl) = v == w
-is_ctl_of w node = false
+-- whether the node is the `ctl`, or the `addr`, of that window; of no other file this is asked
+abbrev pub is_file_of : ℕ → WinFile → Node → Bool
+is_file_of w Ctl (File v Ctl) = v == w
+is_file_of w Addr (File v Addr) = v == w
+is_file_of w file node = false
 
-abbrev pub has_ctl_open : ℕ → ℕ × Fid → Bool
-has_ctl_open w f = is_open f.1 && is_ctl_of w f.1.node
+abbrev pub has_open : ℕ → WinFile → ℕ × Fid → Bool
+has_open w file f = is_open f.1 && is_file_of w file f.1.node
 
 abbrev pub or_false : Option Bool → Bool
 or_false None = false
 or_false (Some b) = b
 
--- one of the connections below that number has the `ctl` of the window open
-unfoldable pub ctl_open_below : Tables → ℕ → ℕ → Bool
-ctl_open_below tables w zero = false
-ctl_open_below tables w (suc n) = ctl_open_below tables w n || list_any (has_ctl_open w) (fids_of tables n)
+-- one of the connections below that number has the file of the window open
+unfoldable pub open_below : Tables → ℕ → WinFile → ℕ → Bool
+open_below tables w file zero = false
+open_below tables w file (suc n) = open_below tables w file n || list_any (has_open w file) (fids_of tables n)
+
+-- a setting is made where no fid has the file open
+abbrev pub sets_first : Tables → ℕ → WinFile → Setting → Change
+sets_first tables w file s = if open_below tables w file 64 then change.Nothing else change.Controls w (s ∷ []) false
 
 -- opening `ctl` where no fid has it open clears the limit
 abbrev pub clears_limit : Tables → ℕ → Change
-clears_limit tables w = if ctl_open_below tables w 64 then change.Nothing else change.Controls w (setting.NoLimit ∷ []) false
+clears_limit tables w = sets_first tables w Ctl setting.NoLimit
+
+-- opening `addr` where no fid has it open sets the address to the text's front
+abbrev pub resets_addr : Tables → ℕ → Change
+resets_addr tables w = sets_first tables w Addr (setting.Addr null_range)
 
 abbrev pub opening_change : Tables → Content → Change
 opening_change tables content.Directory = change.Nothing
 opening_change tables (content.BodyText w) = change.Nothing
 opening_change tables (content.TagText w) = change.Nothing
+opening_change tables (content.AddrText w) = resets_addr tables w
+opening_change tables (content.DataOf w) = change.Nothing
+opening_change tables (content.XdataOf w) = change.Nothing
 opening_change tables (content.CtlText w) = clears_limit tables w
 opening_change tables content.IndexText = change.Nothing
 opening_change tables (content.ErrorsOf w) = change.Nothing
@@ -100,6 +118,9 @@ abbrev pub opening_events : Content → EventChange
 opening_events content.Directory = events.Nothing
 opening_events (content.BodyText w) = events.Nothing
 opening_events (content.TagText w) = events.Nothing
+opening_events (content.AddrText w) = events.Nothing
+opening_events (content.DataOf w) = events.Nothing
+opening_events (content.XdataOf w) = events.Nothing
 opening_events (content.CtlText w) = events.Nothing
 opening_events content.IndexText = events.Nothing
 opening_events (content.ErrorsOf w) = events.Nothing
@@ -113,6 +134,9 @@ abbrev pub opening_of : ℕ → Content → Option ℕ
 opening_of openings content.Directory = None
 opening_of openings (content.BodyText w) = None
 opening_of openings (content.TagText w) = None
+opening_of openings (content.AddrText w) = None
+opening_of openings (content.DataOf w) = None
+opening_of openings (content.XdataOf w) = None
 opening_of openings (content.CtlText w) = None
 opening_of openings content.IndexText = None
 opening_of openings (content.ErrorsOf w) = None

@@ -20,6 +20,7 @@ use Rattle.core_answers.specs.declared.refusal.Refusal.{Refusal}
 use Rattle.core_answers.specs.declared.refusal.Refusal.TheVariants as refusal
 use Rattle.core_answers.specs.declared.content.Content.{Content}
 use Rattle.core_answers.specs.declared.content.Content.TheVariants as content
+use Rattle.core_answers.specs.Addressing.{addr_text, data_deed, xdata_deed}
 use Rattle.core_answers.specs.Contents.{content_of}
 use Rattle.core_answers.specs.Fids.{is_for_reading, placed}
 use Rattle.core_windows.specs.Windows.{Window, window_at}
@@ -73,6 +74,9 @@ read_content world windows number fid offset count content.Directory = read_dir 
 read_content world windows number fid offset count (content.BodyText w) = Ok (shown (read_of (text_at windows w) offset count))
 read_content world windows number fid offset count (content.TagText w) = Ok (shown (read_of (tag_if_live (window_at windows w)) offset count))
 read_content world windows number fid offset count (content.CtlText w) = Ok (shown (part_at (ctl_if_live w (window_at windows w)) offset count))
+read_content world windows number fid offset count (content.AddrText w) = Ok (shown (part_at (addr_text (window_at windows w)) offset count))
+read_content world windows number fid offset count (content.DataOf w) = Ok (data_deed w count (window_at windows w))
+read_content world windows number fid offset count (content.XdataOf w) = Ok (xdata_deed w count (window_at windows w))
 read_content world windows number fid offset count content.IndexText = Ok (shown (part_at (index_from 1 windows) offset count))
 read_content world windows number fid offset count (content.ErrorsOf w) = Err refusal.PermissionDenied
 read_content world windows number fid offset count content.ConsErrors = Ok (shown [])

@@ -36,6 +36,11 @@ refusal_text refusal.TextTooLong = codes "text too long"
 refusal_text refusal.WindowModified = codes "window modified"
 refusal_text refusal.BadControlMessage = codes "bad control message"
 refusal_text refusal.BadFileName = codes "bad file name"
+refusal_text refusal.BadAddress = codes "bad address"
+refusal_text refusal.AddressOutOfRange = codes "address out of range"
+refusal_text refusal.NoMatch = codes "no match"
+refusal_text refusal.AddressOutOfOrder = codes "address out of order"
+refusal_text refusal.PartialRune = codes "partial rune"
 refusal_text refusal.NotServedYet = codes "not served yet"
 
 -- the deed of a refusal: its text is answered, and nothing changes but what is said here

@@ -19,6 +19,7 @@ use Rattle.core_answers.specs.declared.refusal.Refusal.TheVariants as refusal
 use Rattle.core_answers.specs.declared.content.Content.{Content}
 use Rattle.core_answers.specs.declared.content.Content.TheVariants as content
 use Rattle.core_answers.specs.declared.control.Controls.{Controls}
+use Rattle.core_answers.specs.Addressing.{addr_deed, taking_deed}
 use Rattle.core_answers.specs.Contents.{content_of}
 use Rattle.core_answers.specs.Controls.{controls}
 use Rattle.core_answers.specs.Erring.{fits_in, fits_tag, appends, errors_of, root_errors, errors_change, errors_refusal}
@@ -75,6 +76,9 @@ write_content windows number fid bytes content.Directory = Err refusal.Permissio
 write_content windows number fid bytes (content.BodyText w) = append_deed windows number fid w (length bytes) (decode_part (part_bytes fid.part ++ bytes))
 write_content windows number fid bytes (content.TagText w) = add_deed windows number fid w (length bytes) (decode_part (part_bytes fid.part ++ bytes))
 write_content windows number fid bytes (content.CtlText w) = Ok (ctl_deed w bytes (window_at windows w))
+write_content windows number fid bytes (content.AddrText w) = addr_deed w bytes (window_at windows w)
+write_content windows number fid bytes (content.DataOf w) = taking_deed w bytes (window_at windows w)
+write_content windows number fid bytes (content.XdataOf w) = taking_deed w bytes (window_at windows w)
 write_content windows number fid bytes content.IndexText = Err refusal.PermissionDenied
 write_content windows number fid bytes (content.ErrorsOf w) =
     errors_deed windows number fid (errors_of (window_at windows w)) (length bytes) (decode_part (part_bytes fid.part ++ bytes))

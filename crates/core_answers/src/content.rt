@@ -16,6 +16,12 @@ pub enum Content {
     TagText(u32),
     /// The numbers of this window, and its control messages.
     CtlText(u32),
+    /// The address of this window, as text.
+    AddrText(u32),
+    /// The text of the body of this window, from its address on.
+    DataOf(u32),
+    /// The text of the body of this window that its address names.
+    XdataOf(u32),
     /// A line for each live window.
     IndexText,
     /// What is written goes to the errors window of this window's directory.
@@ -38,10 +44,10 @@ fn file_content(window: u32, file: WinFile) -> Content
         WinFile::Tag => Content::TagText(window),
         WinFile::Ctl => Content::CtlText(window),
         WinFile::Errors => Content::ErrorsOf(window),
-        WinFile::Addr => Content::Unserved,
-        WinFile::Data => Content::Unserved,
+        WinFile::Addr => Content::AddrText(window),
+        WinFile::Data => Content::DataOf(window),
         WinFile::Event => Content::EventsOf(window),
-        WinFile::Xdata => Content::Unserved,
+        WinFile::Xdata => Content::XdataOf(window),
     }
 }
 

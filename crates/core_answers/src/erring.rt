@@ -89,6 +89,7 @@ pub(crate) fn append_change(
         window,
         edits: edits_at(alloc, body_len(windows, window), text)?,
         dot: None,
+        addr: None,
     })
 }
 

@@ -1,6 +1,7 @@
 //! What each message of a connection does, and its answer, by the rules of the files.
 #![tactic(auto)]
 
+mod addressing;
 mod answer;
 mod attach;
 mod content;

@@ -8,14 +8,14 @@ ghost use Rattle.fid_table.specs.Tables.{fid_of, fids_of};
 ghost use Rattle.core_windows.specs.Possible.{IsPossible};
 ghost use Rattle.core_answers.specs.Refusals.{Gives};
 ghost use Rattle.core_answers.specs.Done.{IsDone};
-ghost use Rattle.core_answers.specs.Opening.{mode_refusal, opening_refusal, content_refusal, opening_events, opening_of, first_refusal, open_refusal, is_ctl_of, has_ctl_open, or_false, ctl_open_below, clears_limit, opening_change, open_deed, denied, clunk_fid, remove_fid};
+ghost use Rattle.core_answers.specs.Opening.{mode_refusal, opening_refusal, content_refusal, opening_events, opening_of, first_refusal, open_refusal, is_file_of, has_open, or_false, open_below, sets_first, clears_limit, resets_addr, opening_change, open_deed, denied, clunk_fid, remove_fid};
 
 use crate::content::{Content, content_of};
 use crate::effect::{Answer, Deed, Effect, EventChange};
 use crate::fids::{is_open, opened};
 use crate::refusal::{Fault, Refusal, refuse};
 use acme_tree::{May, Node, WinFile, World, is_live, may_open, qid_of};
-use am_text::{Items, NoMemory};
+use am_text::{Items, NoMemory, Range};
 use core_windows::{Change, Setting, Windows};
 use fid_table::{Fid, Sessions};
 use ninep_wire::RBody;
@@ -55,6 +55,9 @@ fn content_refusal(openings: usize, content: Content) -> Option<Refusal>
         Content::Directory => None,
         Content::BodyText(_) => None,
         Content::TagText(_) => None,
+        Content::AddrText(_) => None,
+        Content::DataOf(_) => None,
+        Content::XdataOf(_) => None,
         Content::CtlText(_) => None,
         Content::IndexText => None,
         Content::ErrorsOf(_) => None,
@@ -90,21 +93,23 @@ fn open_refusal(world: &World, openings: usize, fid: &Fid, mode: u8) -> Option<R
     }
 }
 
-fn is_ctl_of(window: u32, node: Node) -> bool
-    ensures { result ≡ is_ctl_of window node }
+// Whether a node is the `ctl`, or the `addr`, of a window.
+fn is_file_of(window: u32, file: WinFile, node: Node) -> bool
+    ensures { result ≡ is_file_of window file node }
 {
-    match node {
-        Node::File(of, WinFile::Ctl) => of == window,
+    match (file, node) {
+        (WinFile::Ctl, Node::File(of, WinFile::Ctl)) => of == window,
+        (WinFile::Addr, Node::File(of, WinFile::Addr)) => of == window,
         _ => false,
     }
 }
 
-// Whether the k-th fid of a connection has the `ctl` of the window open.
-fn open_at(sessions: &Sessions, conn: u32, window: u32, k: usize) -> bool
-    ensures { result ≡ or_false (option_map (has_ctl_open window) (slice_get (fids_of sessions.now.present conn) k)) }
+// Whether the k-th fid of a connection has the file of the window open.
+fn open_at(sessions: &Sessions, conn: u32, window: u32, file: WinFile, k: usize) -> bool
+    ensures { result ≡ or_false (option_map (has_open window file) (slice_get (fids_of sessions.now.present conn) k)) }
 {
     match sessions.fid_at(conn, k) {
-        Some((_, fid)) => is_open(fid) && is_ctl_of(window, fid.node),
+        Some((_, fid)) => is_open(fid) && is_file_of(window, file, fid.node),
         None => false,
     }
 }
@@ -117,14 +122,14 @@ fn either(a: bool, b: bool) -> bool
 
 // Whether one of the connection's fids has it open.
 #[tactic(auto, using(crate::proofs::Scanned::scanning))]
-fn has_ctl_open(sessions: &Sessions, conn: u32, window: u32) -> bool
-    ensures { result ≡ list_any (has_ctl_open window) (fids_of sessions.now.present conn) }
+fn has_open(sessions: &Sessions, conn: u32, window: u32, file: WinFile) -> bool
+    ensures { result ≡ list_any (has_open window file) (fids_of sessions.now.present conn) }
 {
     let count = sessions.count(conn);
     let mut found = false;
     let mut k = 0;
     while k < count {
-        found = either(found, open_at(sessions, conn, window, k));
+        found = either(found, open_at(sessions, conn, window, file, k));
         k += 1;
     }
     found
@@ -132,31 +137,51 @@ fn has_ctl_open(sessions: &Sessions, conn: u32, window: u32) -> bool
 
 // Whether one of all connections has a fid that has it open.
 #[tactic(auto, using(crate::proofs::Scanned::connections))]
-fn someone_has_ctl_open(sessions: &Sessions, window: u32) -> bool
-    ensures { result ≡ ctl_open_below sessions.now.present window 64 }
+fn someone_has_open(sessions: &Sessions, window: u32, file: WinFile) -> bool
+    ensures { result ≡ open_below sessions.now.present window file 64 }
 {
     let mut found = false;
     let mut conn = 0;
     while conn < CONNS {
-        found = either(found, has_ctl_open(sessions, conn, window));
+        found = either(found, has_open(sessions, conn, window, file));
         conn += 1;
     }
     found
 }
 
-fn clears_limit(alloc: Global, sessions: &Sessions, window: u32) -> Result<Change, NoMemory>
-    ensures { IfOk result (λ change. change ≡ clears_limit sessions.now.present window) }
+// A setting of a window, which is made where no fid has the file open.
+fn sets_first(
+    alloc: Global,
+    sessions: &Sessions,
+    window: u32,
+    file: WinFile,
+    setting: Setting,
+) -> Result<Change, NoMemory>
+    ensures { IfOk result (λ change. change ≡ sets_first sessions.now.present window file setting) }
 {
-    if someone_has_ctl_open(sessions, window) {
+    if someone_has_open(sessions, window, file) {
         return Ok(Change::Nothing);
     }
     let mut settings = Items::new(alloc);
-    settings.push(Setting::NoLimit)?;
+    settings.push(setting)?;
     Ok(Change::Controls {
         window,
         settings,
         deletes: false,
     })
+}
+
+fn clears_limit(alloc: Global, sessions: &Sessions, window: u32) -> Result<Change, NoMemory>
+    ensures { IfOk result (λ change. change ≡ clears_limit sessions.now.present window) }
+{
+    sets_first(alloc, sessions, window, WinFile::Ctl, Setting::NoLimit)
+}
+
+fn resets_addr(alloc: Global, sessions: &Sessions, window: u32) -> Result<Change, NoMemory>
+    ensures { IfOk result (λ change. change ≡ resets_addr sessions.now.present window) }
+{
+    let front = Setting::Addr(Range { q0: 0, q1: 0 });
+    sets_first(alloc, sessions, window, WinFile::Addr, front)
 }
 
 #[tactic(auto, using(crate::proofs::Possibly::possibly))]
@@ -171,9 +196,12 @@ fn opening_change(
 {
     match content {
         Content::CtlText(window) => clears_limit(alloc, sessions, window),
+        Content::AddrText(window) => resets_addr(alloc, sessions, window),
         Content::Directory => Ok(Change::Nothing),
         Content::BodyText(_) => Ok(Change::Nothing),
         Content::TagText(_) => Ok(Change::Nothing),
+        Content::DataOf(_) => Ok(Change::Nothing),
+        Content::XdataOf(_) => Ok(Change::Nothing),
         Content::IndexText => Ok(Change::Nothing),
         Content::ErrorsOf(_) => Ok(Change::Nothing),
         Content::ConsErrors => Ok(Change::Nothing),
@@ -191,6 +219,9 @@ fn opening_events(content: Content) -> EventChange
         Content::Directory => EventChange::Nothing,
         Content::BodyText(_) => EventChange::Nothing,
         Content::TagText(_) => EventChange::Nothing,
+        Content::AddrText(_) => EventChange::Nothing,
+        Content::DataOf(_) => EventChange::Nothing,
+        Content::XdataOf(_) => EventChange::Nothing,
         Content::CtlText(_) => EventChange::Nothing,
         Content::IndexText => EventChange::Nothing,
         Content::ErrorsOf(_) => EventChange::Nothing,
@@ -210,6 +241,9 @@ fn opening_of(openings: usize, content: Content) -> Option<u32>
         Content::Directory => None,
         Content::BodyText(_) => None,
         Content::TagText(_) => None,
+        Content::AddrText(_) => None,
+        Content::DataOf(_) => None,
+        Content::XdataOf(_) => None,
         Content::CtlText(_) => None,
         Content::IndexText => None,
         Content::ErrorsOf(_) => None,

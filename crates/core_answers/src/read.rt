@@ -10,6 +10,7 @@ ghost use Rattle.core_answers.specs.Done.{IsDone};
 ghost use Rattle.core_answers.specs.Fids.{is_for_reading, is_for_writing};
 ghost use Rattle.core_answers.specs.Reading.{shown, place_at, goes_on, read_dir, read_opening, read_content, mode_refusal, use_refusal, most, read_deed, stat_fid};
 
+use crate::addressing::{addr_text, read_data, read_xdata};
 use crate::content::{Content, content_of};
 use crate::directory::dir_part;
 use crate::effect::{Answer, Deed, Effect, EventChange};
@@ -24,8 +25,9 @@ use ninep_frame::stat_write;
 use ninep_wire::RBody;
 use std::alloc::Global;
 
+/// The deed that answers bytes, and changes nothing.
 #[tactic(auto, using(crate::proofs::Answers::sent))]
-fn show(windows: &Windows, bytes: Bytes) -> Deed
+pub(crate) fn show(windows: &Windows, bytes: Bytes) -> Deed
     requires { length bytes + 11 < 2 ^ 32 }
     ensures exact { result ≡ shown bytes }
     ensures done { IsDone windows.now.windows result }
@@ -127,6 +129,13 @@ fn read_content(
             let bytes = part_at(alloc, text.as_slice(), offset, count as usize)?;
             Ok(show(windows, bytes))
         }
+        Content::AddrText(window) => {
+            let text = addr_text(alloc, windows, window)?;
+            let bytes = part_at(alloc, text.as_slice(), offset, count as usize)?;
+            Ok(show(windows, bytes))
+        }
+        Content::DataOf(window) => Ok(read_data(alloc, windows, window, count)?),
+        Content::XdataOf(window) => Ok(read_xdata(alloc, windows, window, count)?),
         Content::IndexText => {
             let text = index_text(alloc, windows)?;
             let bytes = part_at(alloc, text.as_slice(), offset, count as usize)?;

@@ -62,6 +62,16 @@ pub enum Refusal {
     BadControlMessage,
     /// A control message gives a name that no window can have.
     BadFileName,
+    /// What is written to `addr` is no address.
+    BadAddress,
+    /// An address names a rune or a line that isn't there.
+    AddressOutOfRange,
+    /// An expression of an address has no match.
+    NoMatch,
+    /// The right side of `,` or `;` ends before the left one begins.
+    AddressOutOfOrder,
+    /// What is written to `data` ends in an unfinished rune.
+    PartialRune,
     /// What isn't built yet.
     NotServedYet,
 }
@@ -112,6 +122,11 @@ pub(crate) fn refusal_text(refusal: Refusal) -> &'static [u8]
         Refusal::WindowModified => b"window modified",
         Refusal::BadControlMessage => b"bad control message",
         Refusal::BadFileName => b"bad file name",
+        Refusal::BadAddress => b"bad address",
+        Refusal::AddressOutOfRange => b"address out of range",
+        Refusal::NoMatch => b"no match",
+        Refusal::AddressOutOfOrder => b"address out of order",
+        Refusal::PartialRune => b"partial rune",
         Refusal::NotServedYet => b"not served yet",
     }
 }

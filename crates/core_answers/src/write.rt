@@ -14,6 +14,7 @@ ghost use Rattle.core_answers.specs.Refusals.{Gives};
 ghost use Rattle.core_answers.specs.Texts.{text_at, right_of, name_of, modified_of};
 ghost use Rattle.core_answers.specs.Writing.{written, append_deed, add_deed, errors_deed, control_answer, control_deed, ctl_deed, write_content, write_deed};
 
+use crate::addressing::{write_addr, write_data};
 use crate::content::{Content, content_of};
 use crate::control::{Controls, controls_of};
 use crate::effect::{Deed, Effect};
@@ -202,6 +203,9 @@ fn write_content(
         Content::BodyText(window) => append(alloc, windows, number, fid, window, bytes),
         Content::TagText(window) => add(alloc, windows, number, fid, window, bytes),
         Content::CtlText(window) => Ok(control(alloc, windows, window, bytes)?),
+        Content::AddrText(window) => write_addr(alloc, windows, window, bytes),
+        Content::DataOf(window) => write_data(alloc, windows, window, bytes),
+        Content::XdataOf(window) => write_data(alloc, windows, window, bytes),
         Content::ErrorsOf(window) => {
             let name = errors_of(alloc, windows, window)?;
             complain(alloc, windows, number, fid, name, bytes)

@@ -13,7 +13,7 @@ use Rattle.core_items.specs.NewItems.{items_of}
 abbrev pub changes_window : Change → Option ℕ
 changes_window change.Nothing = None
 changes_window (change.Makes name text) = None
-changes_window (change.Edits w edits dot) = Some w
+changes_window (change.Edits w edits dot addr) = Some w
 changes_window (change.Adds w text) = Some w
 changes_window (change.Controls w settings deletes) = Some w
 

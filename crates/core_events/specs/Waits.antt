@@ -55,7 +55,7 @@ is_of_window tables w r = reads_event_of w (fid_of tables r.conn r.fid)
 abbrev pub deleted_by : Change → Option ℕ
 deleted_by change.Nothing = None
 deleted_by (change.Makes name text) = None
-deleted_by (change.Edits w edits dot) = None
+deleted_by (change.Edits w edits dot addr) = None
 deleted_by (change.Adds w text) = None
 deleted_by (change.Controls w settings deletes) = if deletes then Some w else None
 

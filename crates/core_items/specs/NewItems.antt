@@ -79,6 +79,7 @@ setting_item origin window setting.DotToAddr = None
 setting_item origin window setting.LimitToAddr = None
 setting_item origin window setting.NoLimit = None
 setting_item origin window (setting.Dot range) = None
+setting_item origin window (setting.Addr range) = None
 setting_item origin window setting.Clean = None
 setting_item origin window setting.Dirty = None
 setting_item origin window setting.ClearTag = cleared_item origin window
@@ -100,6 +101,6 @@ items_of_controls origin (Some window) settings = items_of_settings origin windo
 abbrev pub items_of : List (Option Window) → Origin → Change → List Item
 items_of windows origin change.Nothing = []
 items_of windows origin (change.Makes name text) = []
-items_of windows origin (change.Edits w edits dot) = items_of_edits origin edits
+items_of windows origin (change.Edits w edits dot addr) = items_of_edits origin edits
 items_of windows origin (change.Adds w text) = items_of_add origin (window_at windows w) text
 items_of windows origin (change.Controls w settings deletes) = items_of_controls origin (window_at windows w) settings

@@ -39,6 +39,7 @@ size_after s setting.DotToAddr = s
 size_after s setting.LimitToAddr = s
 size_after s setting.NoLimit = s
 size_after s (setting.Dot range) = s
+size_after s (setting.Addr range) = s
 size_after s setting.Clean = record s { shown = record s.shown { modified = false } }
 size_after s setting.Dirty = record s { shown = record s.shown { modified = true } }
 size_after s setting.ClearTag = record s { right = 0 }
@@ -55,6 +56,7 @@ sized_item origin s setting.DotToAddr = None
 sized_item origin s setting.LimitToAddr = None
 sized_item origin s setting.NoLimit = None
 sized_item origin s (setting.Dot range) = None
+sized_item origin s (setting.Addr range) = None
 sized_item origin s setting.Clean = None
 sized_item origin s setting.Dirty = None
 sized_item origin s setting.ClearTag = sized_clear origin s

@@ -51,6 +51,7 @@ fn edited(alloc: Global, edits: Edits, wanted: &[u8]) -> Result<bool, NoMemory> 
         window: 1,
         edits,
         dot: None,
+        addr: None,
     };
     makes(alloc, &windows, Origin::K, change, wanted)
 }

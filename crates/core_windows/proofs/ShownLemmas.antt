@@ -6,16 +6,18 @@ use Rattle.std.proofs.lemmas.List.{length-append, map-append, map-set}
 use Rattle.std.proofs.lemmas.Option.{slice_get-map}
 use Rattle.std.proofs.lemmas.Bool.Decides.{nat_tests}
 use Rattle.edit_log.specs.declared.types.Edit.{Edit}
-use Rattle.win_text.specs.Bodies.{BodyState}
+use Rattle.am_text.specs.declared.range.Range.{Range}
+use Rattle.edit_log.specs.Edited.{text_after}
+use Rattle.win_text.specs.Bodies.{BodyState, IsLimitInside}
 use Rattle.win_text.specs.BodyStories.{BodyChange, IsChangeOf, shown}
 use Rattle.win_text.specs.Laws.{IsLawful, CallsAreShown, StaysLawful, RangesAreInside, BeginsLawful}
 use Rattle.core_windows.specs.declared.change.Change.{Change}
 use Rattle.core_windows.specs.declared.change.Change.TheVariants as change
 use Rattle.core_windows.specs.declared.change.Setting.{Setting}
 use Rattle.core_windows.specs.declared.change.Setting.TheVariants as setting
-use Rattle.core_windows.specs.Windows.{Window, when_made, window_at, with_window, named_window, edited, first_change, made, set, set_all}
-use Rattle.core_windows.specs.Possible.{CanSet, CanSetAll, CanEdit, IsPossible}
-use Rattle.core_windows.specs.Stories.{WindowStory, is_modified, shown_window, shown_if_live, shown_windows, named_story, edited_story, made_story, set_story, set_all_story, story_at, with_story, changed_stories, IsMarked, IsLawfulWindow, IsLawfulIfLive, AreLawful}
+use Rattle.core_windows.specs.Windows.{Window, when_made, window_at, with_window, named_window, edited, with_addr_if, first_change, made, set, set_all}
+use Rattle.core_windows.specs.Possible.{CanSet, CanSetAll, CanEditWindow, CanEdit, IsPossible}
+use Rattle.core_windows.specs.Stories.{WindowStory, is_modified, shown_window, shown_if_live, shown_windows, named_story, edited_story, with_addr_story_if, made_story, set_story, set_all_story, story_at, with_story, changed_stories, IsMarked, IsLawfulWindow, IsLawfulIfLive, AreLawful}
 use Rattle.core_windows.specs.Stories as stories
 use Rattle.core_windows.specs.WindowLaws.{ChangesShow, ChangesAreLawful}
 use Rattle.core_windows.proofs.Settings.{set-text, can_still}
@@ -44,6 +46,7 @@ set_shown calls s h setting.DotToAddr = ap (λ (b : BodyState). record (shown_wi
 set_shown calls s h setting.LimitToAddr = ap (λ (b : BodyState). record (shown_window s) { body = b }) ((calls s.body h).limit (Some (shown s.body).addr))
 set_shown calls s h setting.NoLimit = ap (λ (b : BodyState). record (shown_window s) { body = b }) ((calls s.body h).limit None)
 set_shown calls s h (setting.Dot range) = ap (λ (b : BodyState). record (shown_window s) { body = b }) ((calls s.body h).dot range)
+set_shown calls s h (setting.Addr range) = ap (λ (b : BodyState). record (shown_window s) { body = b }) ((calls s.body h).addr range)
 set_shown calls s h setting.Clean = ap (λ (b : Bool). record (shown_window s) { modified = b }) (same_number (length s.body.edits))
 set_shown calls s h setting.Dirty = refl
 set_shown calls s h setting.ClearTag = refl
@@ -56,6 +59,7 @@ set_lawful stays inside s setting.DotToAddr h can = record { body = (stays s.bod
 set_lawful stays inside s setting.LimitToAddr h can = record { body = (stays s.body h.body).limit (Some (shown s.body).addr) (inside s.body h.body).addr; mark = h.mark }
 set_lawful stays inside s setting.NoLimit h can = record { body = (stays s.body h.body).limit None tt; mark = h.mark }
 set_lawful stays inside s (setting.Dot range) h can = record { body = (stays s.body h.body).dot range can; mark = h.mark }
+set_lawful stays inside s (setting.Addr range) h can = record { body = (stays s.body h.body).addr range can; mark = h.mark }
 set_lawful stays inside s setting.Clean h can = record { body = h.body; mark = omega arith }
 set_lawful stays inside s setting.Dirty h can = record { body = h.body; mark = tt }
 set_lawful stays inside s setting.ClearTag h can = record { body = h.body; mark = h.mark }
@@ -95,6 +99,27 @@ edited_shown calls s c h =
 edited_lawful : StaysLawful → (s : WindowStory) (c : BodyChange) → IsLawfulWindow s → IsChangeOf (shown_window s).body.text c → IsLawfulWindow (edited_story s c)
 edited_lawful stays s c h can = record { body = (stays s.body h.body).changed c can; mark = marked_after s.clean s.body.edits c.edits h.mark }
 
+-- addr is set after them
+
+addr_shown : CallsAreShown → (s : WindowStory) (addr : Option Range) → IsLawfulWindow s → shown_window (with_addr_story_if s addr) ≡ with_addr_if (shown_window s) addr
+addr_shown calls s None h = refl
+addr_shown calls s (Some range) h = set_shown calls s h.body (setting.Addr range)
+
+addr_lawful : StaysLawful → RangesAreInside → (s : WindowStory) (addr : Option Range) → IsLawfulWindow s → IsLimitInside (shown_window s).body.text addr → IsLawfulWindow (with_addr_story_if s addr)
+addr_lawful stays inside s None h can = h
+addr_lawful stays inside s (Some range) h can = set_lawful stays inside s (setting.Addr range) h can
+
+all_edited_shown : CallsAreShown → StaysLawful → (s : WindowStory) (c : BodyChange) (addr : Option Range) → IsLawfulWindow s → CanEditWindow (shown_window s) c addr
+    → shown_window (with_addr_story_if (edited_story s c) addr) ≡ with_addr_if (edited (shown_window s) c) addr
+all_edited_shown calls stays s c addr h can =
+    addr_shown calls (edited_story s c) addr (edited_lawful stays s c h can.change) ∙ ap (λ (w : Window). with_addr_if w addr) (edited_shown calls s c h)
+
+all_edited_lawful : CallsAreShown → StaysLawful → RangesAreInside → (s : WindowStory) (c : BodyChange) (addr : Option Range) → IsLawfulWindow s → CanEditWindow (shown_window s) c addr
+    → IsLawfulWindow (with_addr_story_if (edited_story s c) addr)
+all_edited_lawful calls stays inside s c addr h can =
+    let text_is : (shown_window (edited_story s c)).body.text ≡ text_after (shown_window s).body.text c.edits = ap (λ (w : Window). w.body.text) (edited_shown calls s c h) in
+    addr_lawful stays inside (edited_story s c) addr (edited_lawful stays s c h can.change) (subst (λ (t : List ℕ). IsLimitInside t addr) (sym text_is) can.addr_is)
+
 -- ---- a new window
 
 named_shown : BeginsLawful → (name : List ℕ) → shown_window (named_story name) ≡ named_window name
@@ -127,7 +152,7 @@ at_number : (b : Bool) (x : Option WindowStory) → cond b None (shown_if_live x
 at_number true x = refl
 at_number false x = refl
 
-window_of_story : (ss : List (Option WindowStory)) (w : ℕ) → window_at (shown_windows ss) w ≡ shown_if_live (story_at ss w)
+pub window_of_story : (ss : List (Option WindowStory)) (w : ℕ) → window_at (shown_windows ss) w ≡ shown_if_live (story_at ss w)
 window_of_story ss w =
     ap (λ (o : Option (Option Window)). cond (eqb w 0) None (when_made o)) (slice_get-map shown_if_live ss (w - 1))
     ∙ ap (λ (o : Option Window). cond (eqb w 0) None o) (made_of (slice_get ss (w - 1)))
@@ -173,8 +198,8 @@ at_shown ss w f g h =
 lawful_one : (ss : List (Option WindowStory)) (w : ℕ) (s : WindowStory) → AreLawful ss → story_at ss w ≡ Some s → IsLawfulWindow s
 lawful_one ss w s h e = subst (λ (o : Option WindowStory). IsLawfulIfLive o) e (lawful_at ss w h)
 
-can_edit_one : (ss : List (Option WindowStory)) (w : ℕ) (s : WindowStory) (c : BodyChange) → CanEdit (window_at (shown_windows ss) w) c → story_at ss w ≡ Some s → IsChangeOf (shown_window s).body.text c
-can_edit_one ss w s c h e = subst (λ (o : Option Window). CanEdit o c) (window_of_story ss w ∙ ap shown_if_live e) h
+can_edit_one : (ss : List (Option WindowStory)) (w : ℕ) (s : WindowStory) (c : BodyChange) (addr : Option Range) → CanEdit (window_at (shown_windows ss) w) c addr → story_at ss w ≡ Some s → CanEditWindow (shown_window s) c addr
+can_edit_one ss w s c addr h e = subst (λ (o : Option Window). CanEdit o c addr) (window_of_story ss w ∙ ap shown_if_live e) h
 
 can_set_one : (ss : List (Option WindowStory)) (w : ℕ) (s : WindowStory) (xs : List Setting) → CanSetAll (window_at (shown_windows ss) w) xs → story_at ss w ≡ Some s → All (CanSet (shown_window s)) xs
 can_set_one ss w s xs h e = subst (λ (o : Option Window). CanSetAll o xs) (window_of_story ss w ∙ ap shown_if_live e) h
@@ -191,9 +216,10 @@ pub changes_shown : CallsAreShown → StaysLawful → RangesAreInside → Begins
 changes_shown calls stays inside begins ss change.Nothing h can = refl
 changes_shown calls stays inside begins ss (change.Makes name text) h can =
     map-append shown_if_live ss (Some (made_story name text) ∷ []) ∙ ap (λ (w : Window). shown_windows ss ++ Some w ∷ []) (made_shown calls begins name text)
-changes_shown calls stays inside begins ss (change.Edits w edits dot) h can =
-    at_shown ss w (λ s. Some (edited_story s (record { edits = edits; dot = dot }))) (λ x. Some (edited x (record { edits = edits; dot = dot })))
-    (λ s e. ap (λ (x : Window). Some x) (edited_shown calls s (record { edits = edits; dot = dot }) (lawful_one ss w s h e)))
+changes_shown calls stays inside begins ss (change.Edits w edits dot addr) h can =
+    let c : BodyChange = record { edits = edits; dot = dot } in
+    at_shown ss w (λ s. Some (with_addr_story_if (edited_story s c) addr)) (λ x. Some (with_addr_if (edited x c) addr))
+    (λ s e. ap (λ (x : Window). Some x) (all_edited_shown calls stays s c addr (lawful_one ss w s h e) (can_edit_one ss w s c addr can e)))
 changes_shown calls stays inside begins ss (change.Adds w text) h can =
     at_shown ss w (λ s. Some (record s { right = s.right ++ text })) (λ x. Some (record x { right = x.right ++ text })) (λ s e. refl)
 changes_shown calls stays inside begins ss (change.Controls w settings deletes) h can =
@@ -203,9 +229,10 @@ changes_shown calls stays inside begins ss (change.Controls w settings deletes) 
 changes_keep : CallsAreShown → StaysLawful → RangesAreInside → BeginsLawful → (ss : List (Option WindowStory)) (c : Change) → AreLawful ss → IsPossible (shown_windows ss) c → AreLawful (changed_stories ss c)
 changes_keep calls stays inside begins ss change.Nothing h can = h
 changes_keep calls stays inside begins ss (change.Makes name text) h can = pushed_lawful ss (Some (made_story name text)) h (made_lawful stays begins name text)
-changes_keep calls stays inside begins ss (change.Edits w edits dot) h can =
-    with_lawful ss w (story_at ss w) (λ s. Some (edited_story s (record { edits = edits; dot = dot }))) h
-    (λ s e. edited_lawful stays s (record { edits = edits; dot = dot }) (lawful_one ss w s h e) (can_edit_one ss w s (record { edits = edits; dot = dot }) can e))
+changes_keep calls stays inside begins ss (change.Edits w edits dot addr) h can =
+    let c : BodyChange = record { edits = edits; dot = dot } in
+    with_lawful ss w (story_at ss w) (λ s. Some (with_addr_story_if (edited_story s c) addr)) h
+    (λ s e. all_edited_lawful calls stays inside s c addr (lawful_one ss w s h e) (can_edit_one ss w s c addr can e))
 changes_keep calls stays inside begins ss (change.Adds w text) h can =
     with_lawful ss w (story_at ss w) (λ s. Some (record s { right = s.right ++ text })) h
     (λ s e. let one : IsLawfulWindow s = lawful_one ss w s h e in record { body = one.body; mark = one.mark })

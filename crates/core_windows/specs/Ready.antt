@@ -4,9 +4,10 @@ use Rattle.std.specs.Option.{option_map}
 use Rattle.std.specs.Global.{Vec}
 use Rattle.am_text.specs.declared.range.Range.{Range}
 use Rattle.edit_log.specs.declared.types.Done.{Done}
+use Rattle.edit_log.specs.Edited.{text_after}
 use Rattle.acme_tree.specs.declared.node.World.{World}
 use Rattle.win_text.specs.declared.types.TextPlan.{TextPlan}
-use Rattle.win_text.specs.Bodies.{BodyRoom, IsPlanFor, IsReady, done_group}
+use Rattle.win_text.specs.Bodies.{BodyRoom, IsLimitInside, IsPlanFor, IsReady, done_group}
 use Rattle.win_text.specs.BodyStories.{plan_of}
 use Rattle.core_windows.specs.declared.change.Change.{Change}
 use Rattle.core_windows.specs.declared.change.Change.TheVariants as change
@@ -21,7 +22,7 @@ use Rattle.core_windows.specs.Panes.{window_of, windows_of, pane_at}
 abbrev pub change_of : Prepared → Change
 change_of (prepared.Idle c) = c
 change_of (prepared.Making pane longer) = change.Makes pane.name pane.body.state.text
-change_of (prepared.Editing w plan ready dot) = change.Edits w plan.edits dot
+change_of (prepared.Editing w plan ready dot addr) = change.Edits w plan.edits dot addr
 change_of (prepared.Adding w text) = change.Adds w text
 change_of (prepared.Controlling w settings deletes) = change.Controls w settings deletes
 
@@ -37,16 +38,17 @@ pub record IsMaking (spare : ℕ) (world : World) (pane : Pane) (longer : List �
   pub numbers : longer ≡ world.windows ++ world.next ∷ []
   pub next : world.next + 1 < 2 ^ 32
 
--- the plan is that of the edits, it can be done, and the body has room for it
-pub record IsEditing (body : BodyRoom) (plan : TextPlan) (ready : List Done) (dot : Option Range) : Type 0 where
+-- the plan is that of the edits, it can be done, the body has room for it, and addr, if it is set, lies in the text that they leave
+pub record IsEditing (body : BodyRoom) (plan : TextPlan) (ready : List Done) (dot addr : Option Range) : Type 0 where
   pub is : plan ≡ plan_of body.state (record { edits = plan.edits; dot = dot })
   pub fits : IsPlanFor body.state plan
   pub room : IsReady body plan
   pub group : ready ≡ done_group body.state.text plan.edits
+  pub inside : IsLimitInside (text_after body.state.text plan.edits) addr
 
-abbrev pub IsEditingIn : Option Pane → TextPlan → List Done → Option Range → Type 0
-IsEditingIn None plan ready dot = Unit {0}
-IsEditingIn (Some pane) plan ready dot = IsEditing pane.body plan ready dot
+abbrev pub IsEditingIn : Option Pane → TextPlan → List Done → Option Range → Option Range → Type 0
+IsEditingIn None plan ready dot addr = Unit {0}
+IsEditingIn (Some pane) plan ready dot addr = IsEditing pane.body plan ready dot addr
 
 -- the tag of the window has room for so many more runes
 abbrev pub HasTagRoom : Option Pane → ℕ → Type 0
@@ -57,7 +59,7 @@ HasTagRoom (Some pane) more = more ≤ pane.right.spare
 abbrev pub IsReadyIn : List (Option Pane) → ℕ → World → Prepared → Type 0
 IsReadyIn panes spare world (prepared.Idle c) = changed (windows_of panes) c ≡ windows_of panes
 IsReadyIn panes spare world (prepared.Making pane longer) = IsMaking spare world pane longer
-IsReadyIn panes spare world (prepared.Editing w plan ready dot) = IsEditingIn (pane_at panes w) plan ready dot
+IsReadyIn panes spare world (prepared.Editing w plan ready dot addr) = IsEditingIn (pane_at panes w) plan ready dot addr
 IsReadyIn panes spare world (prepared.Adding w text) = HasTagRoom (pane_at panes w) (length text)
 IsReadyIn panes spare world (prepared.Controlling w settings deletes) = CanSetAll (window_at (windows_of panes) w) settings
 

@@ -1,6 +1,7 @@
 -- Windows by all that was ever done to them.
 use Rattle.std.specs.Prelude.{◌≤◌, ℕ, ◌-◌, ◌==◌, not, Bool, true, List, [], ◌∷◌, ◌++◌, length, map, codes, slice_get, slice_set, Option, Some, None, if◌then◌else◌}
 use Rattle.std.specs.List.{fold}
+use Rattle.am_text.specs.declared.range.Range.{Range}
 use Rattle.win_text.specs.BodyStories.{BodyStory, BodyChange, new_story, shown, story_changed, story_with_dot, story_with_addr, story_with_limit, story_marked}
 use Rattle.win_text.specs.Laws.{IsLawful}
 use Rattle.core_windows.specs.declared.change.Change.{Change}
@@ -41,6 +42,10 @@ named_story name = record { name = name; right = codes " Look "; body = new_stor
 abbrev pub edited_story : WindowStory → BodyChange → WindowStory
 edited_story s c = record s { body = story_changed s.body c }
 
+abbrev pub with_addr_story_if : WindowStory → Option Range → WindowStory
+with_addr_story_if s None = s
+with_addr_story_if s (Some range) = record s { body = story_with_addr s.body range }
+
 abbrev pub made_story : List ℕ → List ℕ → WindowStory
 made_story name text = edited_story (named_story name) (first_change text)
 
@@ -50,6 +55,7 @@ set_story s setting.DotToAddr = record s { body = story_with_dot s.body (shown s
 set_story s setting.LimitToAddr = record s { body = story_with_limit s.body (Some (shown s.body).addr) }
 set_story s setting.NoLimit = record s { body = story_with_limit s.body None }
 set_story s (setting.Dot range) = record s { body = story_with_dot s.body range }
+set_story s (setting.Addr range) = record s { body = story_with_addr s.body range }
 set_story s setting.Clean = record s { clean = Some (length s.body.edits) }
 set_story s setting.Dirty = record s { clean = None }
 set_story s setting.ClearTag = record s { right = [] }
@@ -76,8 +82,8 @@ with_story stories w (Some s) becomes = slice_set stories (w - 1) (becomes s)
 abbrev pub changed_stories : List (Option WindowStory) → Change → List (Option WindowStory)
 changed_stories stories change.Nothing = stories
 changed_stories stories (change.Makes name text) = stories ++ Some (made_story name text) ∷ []
-changed_stories stories (change.Edits w edits dot) =
-    with_story stories w (story_at stories w) (λ s. Some (edited_story s (record { edits = edits; dot = dot })))
+changed_stories stories (change.Edits w edits dot addr) =
+    with_story stories w (story_at stories w) (λ s. Some (with_addr_story_if (edited_story s (record { edits = edits; dot = dot })) addr))
 changed_stories stories (change.Adds w text) =
     with_story stories w (story_at stories w) (λ s. Some (record s { right = s.right ++ text }))
 changed_stories stories (change.Controls w settings deletes) =

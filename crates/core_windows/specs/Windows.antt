@@ -3,6 +3,7 @@ use Rattle.std.specs.Prelude.{ℕ, ◌+◌, ◌-◌, ◌==◌, ◌||◌, not, Bo
 use Rattle.std.specs.List.{fold}
 use Rattle.std.specs.Str.{bytes_eq}
 use Rattle.acme_tree.specs.declared.node.World.{World}
+use Rattle.am_text.specs.declared.range.Range.{Range}
 use Rattle.edit_log.specs.declared.types.Edit.{Edit}
 use Rattle.win_text.specs.Bodies.{BodyState, empty_body, applied, with_dot, with_addr, with_limit, marked_body}
 use Rattle.win_text.specs.BodyStories.{BodyChange, plan_of}
@@ -41,6 +42,11 @@ edited window c = record window {
   modified = window.modified || not (length c.edits == 0);
 }
 
+-- a window whose addr is set, where that is said
+abbrev pub with_addr_if : Window → Option Range → Window
+with_addr_if window None = window
+with_addr_if window (Some range) = record window { body = with_addr window.body range }
+
 -- the edit that puts a text into an empty body; an empty text is none
 abbrev pub first_edits : List ℕ → List Edit
 first_edits text = if length text == 0 then [] else record { q0 = 0; q1 = 0; text = text } ∷ []
@@ -59,6 +65,7 @@ set window setting.DotToAddr = record window { body = with_dot window.body windo
 set window setting.LimitToAddr = record window { body = with_limit window.body (Some window.body.addr) }
 set window setting.NoLimit = record window { body = with_limit window.body None }
 set window (setting.Dot range) = record window { body = with_dot window.body range }
+set window (setting.Addr range) = record window { body = with_addr window.body range }
 set window setting.Clean = record window { modified = false }
 set window setting.Dirty = record window { modified = true }
 set window setting.ClearTag = record window { right = [] }
@@ -78,8 +85,8 @@ with_window windows w (Some window) becomes = slice_set windows (w - 1) (becomes
 abbrev pub changed : List (Option Window) → Change → List (Option Window)
 changed windows change.Nothing = windows
 changed windows (change.Makes name text) = windows ++ Some (made name text) ∷ []
-changed windows (change.Edits w edits dot) =
-    with_window windows w (window_at windows w) (λ window. Some (edited window (record { edits = edits; dot = dot })))
+changed windows (change.Edits w edits dot addr) =
+    with_window windows w (window_at windows w) (λ window. Some (with_addr_if (edited window (record { edits = edits; dot = dot })) addr))
 changed windows (change.Adds w text) =
     with_window windows w (window_at windows w) (λ window. Some (record window { right = window.right ++ text }))
 changed windows (change.Controls w settings deletes) =

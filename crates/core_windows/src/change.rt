@@ -16,6 +16,8 @@ pub enum Setting {
     NoLimit,
     /// Dot becomes this range.
     Dot(Range),
+    /// The address becomes this range.
+    Addr(Range),
     /// The window counts as unmodified.
     Clean,
     /// The window counts as modified.
@@ -41,11 +43,13 @@ pub enum Change {
         name: Runes,
         text: Runes,
     },
-    /// The body of a window is edited, from the first edit to the last. Dot is then set, or it moves with the edits.
+    /// The body of a window is edited, from the first edit to the last. Dot and the address are then set, or they move with the
+    /// edits.
     Edits {
         window: u32,
         edits: Edits,
         dot: Option<Range>,
+        addr: Option<Range>,
     },
     /// A text is put at the end of the right part of a window's tag.
     Adds {

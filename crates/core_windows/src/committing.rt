@@ -2,7 +2,7 @@
 
 ghost use Rattle.std.specs.Prelude.{◌≡◌, ◌≤◌, ◌<◌, ◌+◌, ◌^◌, ◌++◌, ◌∷◌, [], not, ◌==◌, filter, length, vec_len, vec_capacity, Option, Some, None, option_and_then, if◌then◌else◌};
 ghost use Rattle.win_text.specs.BodyStories.{BodyChange};
-ghost use Rattle.core_windows.specs.Windows.{Window, window_at, world_of, edited, made, set_all, changed};
+ghost use Rattle.core_windows.specs.Windows.{Window, window_at, world_of, edited, with_addr_if, made, set_all, changed};
 ghost use Rattle.core_windows.specs.Possible.{CanSetAll};
 ghost use Rattle.core_windows.specs.Panes.{window_of, windows_of, window_if_live, pane_at};
 ghost use Rattle.core_windows.specs.Ready.{change_of, IsMaking, IsEditingIn, HasTagRoom, IsReadyIn, spare_of};
@@ -17,12 +17,18 @@ use std::alloc::Global;
 use std::mem;
 use win_text::{Ready, TextPlan};
 
-fn edit_slot(slot: &mut Option<Pane>, plan: TextPlan, ready: Ready, dot: Option<Range>)
-    requires { IsEditingIn slot.old plan ready dot }
-    ensures { window_if_live slot.new ≡ option_and_then (λ (window : Window). Some (edited window (record { edits = plan.edits; dot = dot }))) (window_if_live slot.old) }
+fn edit_slot(
+    slot: &mut Option<Pane>,
+    plan: TextPlan,
+    ready: Ready,
+    dot: Option<Range>,
+    addr: Option<Range>,
+)
+    requires { IsEditingIn slot.old plan ready dot addr }
+    ensures { window_if_live slot.new ≡ option_and_then (λ (window : Window). Some (with_addr_if (edited window (record { edits = plan.edits; dot = dot })) addr)) (window_if_live slot.old) }
 {
     if let Some(pane) = slot {
-        pane.edit(plan, ready, dot);
+        pane.edit(plan, ready, dot, addr);
     }
 }
 
@@ -46,12 +52,19 @@ fn control_slot(alloc: Global, slot: &mut Option<Pane>, settings: Settings, dele
     }
 }
 
-fn edit(panes: &mut [Option<Pane>], window: u32, plan: TextPlan, ready: Ready, dot: Option<Range>)
-    requires { IsEditingIn (pane_at panes.old window) plan ready dot }
-    ensures { windows_of panes.new ≡ changed (windows_of panes.old) (Change.Edits window plan.edits dot) }
+fn edit(
+    panes: &mut [Option<Pane>],
+    window: u32,
+    plan: TextPlan,
+    ready: Ready,
+    dot: Option<Range>,
+    addr: Option<Range>,
+)
+    requires { IsEditingIn (pane_at panes.old window) plan ready dot addr }
+    ensures { windows_of panes.new ≡ changed (windows_of panes.old) (Change.Edits window plan.edits dot addr) }
 {
     if let Some(place) = place_of(panes, window) {
-        edit_slot(&mut panes[place], plan, ready, dot);
+        edit_slot(&mut panes[place], plan, ready, dot, addr);
     }
 }
 
@@ -139,7 +152,8 @@ pub(crate) fn make_change(
             plan,
             ready,
             dot,
-        } => edit(panes.as_mut_slice(), window, plan, ready, dot),
+            addr,
+        } => edit(panes.as_mut_slice(), window, plan, ready, dot, addr),
         Prepared::Adding { window, text } => {
             add(panes.as_mut_slice(), window, text.as_slice());
         }

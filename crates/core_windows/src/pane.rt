@@ -1,10 +1,11 @@
 //! A window as the editor keeps it.
 
-ghost use Rattle.std.specs.Prelude.{◌≡◌, ◌||◌, ◌==◌, not, ◌≤◌, ◌++◌, All, codes, length, IfOk, OnOk, Some, None};
+ghost use Rattle.std.specs.Prelude.{◌≡◌, ◌||◌, ◌==◌, not, ◌≤◌, ◌++◌, All, codes, length, IfOk, OnOk, Option, Some, None};
 ghost use Rattle.edit_log.specs.declared.types.Edit.{Edit};
-ghost use Rattle.win_text.specs.Bodies.{applied};
+ghost use Rattle.edit_log.specs.Edited.{text_after};
+ghost use Rattle.win_text.specs.Bodies.{applied, IsLimitInside};
 ghost use Rattle.win_text.specs.BodyStories.{BodyChange, IsChangeOf, plan_of};
-ghost use Rattle.core_windows.specs.Windows.{first_edits, made, edited, set, set_all};
+ghost use Rattle.core_windows.specs.Windows.{first_edits, made, edited, with_addr_if, set, set_all};
 ghost use Rattle.core_windows.specs.Possible.{CanSet};
 ghost use Rattle.core_windows.specs.Panes.{window_of};
 ghost use Rattle.core_windows.specs.Ready.{IsEditing};
@@ -76,8 +77,8 @@ impl Pane {
         })
     }
 
-    /// Makes edits of its body ready, after which dot is set or has moved. The window stays,
-    /// whatever the answer.
+    /// Makes edits of its body ready, after which dot and addr are set or have moved. The window
+    /// stays, whatever the answer.
     pub(crate) fn plan(
         &mut self,
         edits: Edits,
@@ -86,20 +87,29 @@ impl Pane {
         requires { IsChangeOf self.old.body.state.text (record { edits = edits; dot = dot }) }
         ensures window { window_of self.new ≡ window_of self.old }
         ensures edits { IfOk result (λ both. both.0.edits ≡ edits) }
-        ensures ready { IfOk result (λ both. IsEditing self.new.body both.0 both.1 dot) }
+        ensures ready { IfOk result (λ both. (addr : Option Range) → IsLimitInside (text_after self.old.body.state.text edits) addr → IsEditing self.new.body both.0 both.1 dot addr) }
     {
         let plan = self.body.plan(edits, dot)?;
         let ready = self.body.reserve(&plan)?;
         Ok((plan, ready))
     }
 
-    /// Does what a plan of its body has ready. It takes no memory.
-    pub(crate) fn edit(&mut self, plan: TextPlan, ready: Ready, dot: Option<Range>)
-        requires { IsEditing self.old.body plan ready dot }
-        ensures { window_of self.new ≡ edited (window_of self.old) (record { edits = plan.edits; dot = dot }) }
+    /// Does what a plan of its body has ready, and sets addr where that is said. It takes no memory.
+    pub(crate) fn edit(
+        &mut self,
+        plan: TextPlan,
+        ready: Ready,
+        dot: Option<Range>,
+        addr: Option<Range>,
+    )
+        requires { IsEditing self.old.body plan ready dot addr }
+        ensures { window_of self.new ≡ with_addr_if (edited (window_of self.old) (record { edits = plan.edits; dot = dot })) addr }
     {
         self.modified = self.modified || !plan.edits.is_empty();
         self.body.apply(plan, ready);
+        if let Some(range) = addr {
+            self.body.set_addr(range);
+        }
     }
 
     /// Sets a part. It takes no memory.
@@ -114,6 +124,7 @@ impl Pane {
             Setting::LimitToAddr => self.body.set_limit(Some(self.body.addr())),
             Setting::NoLimit => self.body.set_limit(None),
             Setting::Dot(range) => self.body.set_dot(range),
+            Setting::Addr(range) => self.body.set_addr(range),
             Setting::Clean => self.modified = false,
             Setting::Dirty => self.modified = true,
             Setting::ClearTag => self.right = Roomy::new(alloc),

@@ -15,12 +15,13 @@ pub enum Prepared {
         pane: Pane,
         longer: Ids,
     },
-    /// The edits of a window's body, what they cut and put, and the range that dot was to be set to.
+    /// The edits of a window's body, what they cut and put, and the ranges that dot and the address were to be set to.
     Editing {
         window: u32,
         plan: TextPlan,
         ready: Ready,
         dot: Option<Range>,
+        addr: Option<Range>,
     },
     /// A text for which the window's tag has room.
     Adding {

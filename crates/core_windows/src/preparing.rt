@@ -68,23 +68,25 @@ fn ready_to_edit(
     window: u32,
     edits: Edits,
     dot: Option<Range>,
+    addr: Option<Range>,
 ) -> Result<Prepared, NoMemory>
-    requires { CanEdit (window_at (windows_of panes.old) window) (record { edits = edits; dot = dot }) }
+    requires { CanEdit (window_at (windows_of panes.old) window) (record { edits = edits; dot = dot }) addr }
     ensures windows { windows_of panes.new ≡ windows_of panes.old }
-    ensures change { IfOk result (λ ready. change_of ready ≡ Change.Edits window edits dot) }
+    ensures change { IfOk result (λ ready. change_of ready ≡ Change.Edits window edits dot addr) }
     ensures ready { IfOk result (λ ready. (spare : ℕ) (world : World) → IsReadyIn panes.new spare world ready) }
 {
     match place_of(panes, window) {
         Some(place) => {
-            let (plan, ready) = plan_slot(&mut panes[place], edits, dot)?;
+            let (plan, ready) = plan_slot(&mut panes[place], edits, dot, addr)?;
             Ok(Prepared::Editing {
                 window,
                 plan,
                 ready,
                 dot,
+                addr,
             })
         }
-        None => Ok(idle_edits(panes, window, edits, dot)),
+        None => Ok(idle_edits(panes, window, edits, dot, addr)),
     }
 }
 
@@ -109,24 +111,36 @@ fn reserve_tag(panes: &mut [Option<Pane>], window: u32, more: usize) -> Result<(
 }
 
 // Edits of a window that doesn't live.
-fn idle_edits(panes: &[Option<Pane>], window: u32, edits: Edits, dot: Option<Range>) -> Prepared
+fn idle_edits(
+    panes: &[Option<Pane>],
+    window: u32,
+    edits: Edits,
+    dot: Option<Range>,
+    addr: Option<Range>,
+) -> Prepared
     requires { pane_at panes.now window ≡ None }
-    ensures change { change_of result ≡ Change.Edits window edits dot }
+    ensures change { change_of result ≡ Change.Edits window edits dot addr }
     ensures ready { (spare : ℕ) (world : World) → IsReadyIn panes.now spare world result }
 {
-    Prepared::Idle(Change::Edits { window, edits, dot })
+    Prepared::Idle(Change::Edits {
+        window,
+        edits,
+        dot,
+        addr,
+    })
 }
 
 fn plan_slot(
     slot: &mut Option<Pane>,
     edits: Edits,
     dot: Option<Range>,
+    addr: Option<Range>,
 ) -> Result<(TextPlan, Ready), NoMemory>
     requires lives { IsSome slot.old }
-    requires can { CanEdit (window_if_live slot.old) (record { edits = edits; dot = dot }) }
+    requires can { CanEdit (window_if_live slot.old) (record { edits = edits; dot = dot }) addr }
     ensures window { window_if_live slot.new ≡ window_if_live slot.old }
     ensures edits { IfOk result (λ both. both.0.edits ≡ edits) }
-    ensures ready { IfOk result (λ both. IsEditingIn slot.new both.0 both.1 dot) }
+    ensures ready { IfOk result (λ both. IsEditingIn slot.new both.0 both.1 dot addr) }
 {
     match slot {
         Some(pane) => pane.plan(edits, dot),
@@ -160,9 +174,12 @@ pub(crate) fn ready_for(
     match change {
         Change::Nothing => Ok(Prepared::Idle(Change::Nothing)),
         Change::Makes { name, text } => ready_to_make(alloc, panes, world, name, text),
-        Change::Edits { window, edits, dot } => {
-            ready_to_edit(panes.as_mut_slice(), window, edits, dot)
-        }
+        Change::Edits {
+            window,
+            edits,
+            dot,
+            addr,
+        } => ready_to_edit(panes.as_mut_slice(), window, edits, dot, addr),
         Change::Adds { window, text } => ready_to_add(panes.as_mut_slice(), window, text),
         Change::Controls {
             window,

@@ -45,7 +45,7 @@ fn is_inside(body: &Body, range: Range) -> bool
 }
 
 fn can_replace(windows: &Windows, window: u32, range: Range, text: &[Rune]) -> bool
-    ensures { result ≡ true → CanEdit (window_at windows.now.windows window) (record { edits = record { q0 = range.q0; q1 = range.q1; text = text.now } ∷ []; dot = None }) }
+    ensures { result ≡ true → CanEdit (window_at windows.now.windows window) (record { edits = record { q0 = range.q0; q1 = range.q1; text = text.now } ∷ []; dot = None }) None }
 {
     match windows.get(window) {
         Some(pane) => !text.is_empty() && is_inside(&pane.body, range),
@@ -68,6 +68,7 @@ fn replace(
         window,
         edits,
         dot: None,
+        addr: None,
     })?;
     windows.commit();
     Ok(())

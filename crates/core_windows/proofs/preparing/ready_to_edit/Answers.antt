@@ -14,5 +14,5 @@ returns-in_ok-plan-in-Some-clause-windows c =
 
 pub returns-in_ok-plan-in-Some-clause-ready : goal.returns-in_ok-plan-in-Some-clause-ready
 returns-in_ok-plan-in-Some-clause-ready c spare world =
-    subst (λ (o : Option Pane). IsEditingIn o c.in_ok-plan-in-Some.plan c.in_ok-plan-in-Some.ready c.args.dot)
+    subst (λ (o : Option Pane). IsEditingIn o c.in_ok-plan-in-Some.plan c.in_ok-plan-in-Some.ready c.args.dot c.args.addr)
     (sym (pane_put c.args.panes.now c.args.window c.in-Some.place c.plan_slot.new.slot c.in-Some.ensures)) c.in_ok-plan-in-Some.ensures.ready

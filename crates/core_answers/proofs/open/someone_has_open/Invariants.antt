@@ -1,11 +1,11 @@
 use Rattle.std.proofs.Common.{◌≡◌, ◌≤◌, ◌-◌}
-use Rattle.core_answers.specs.Opening.{ctl_open_below}
-use Rattle.core_answers.proofs.open.someone_has_ctl_open.Given as goal
+use Rattle.core_answers.specs.Opening.{open_below}
+use Rattle.core_answers.proofs.open.someone_has_open.Given as goal
 
 abbrev pub invariant-loop-conn : goal.invariant-loop-conn
 invariant-loop-conn l = record {
   few : l.conn ≤ 64;
-  seen : l.found ≡ ctl_open_below l.sessions.present l.window l.conn;
+  seen : l.found ≡ open_below l.sessions.present l.window l.file l.conn;
 }
 
 abbrev pub decreases-loop-conn : goal.decreases-loop-conn

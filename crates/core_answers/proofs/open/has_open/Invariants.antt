@@ -1,14 +1,14 @@
 use Rattle.std.proofs.Common.{◌≡◌, ◌≤◌, ◌-◌, length, take}
 use Rattle.std.specs.List.{list_any}
 use Rattle.fid_table.specs.Tables.{fids_of}
-use Rattle.core_answers.specs.Opening.{has_ctl_open}
-use Rattle.core_answers.proofs.open.has_ctl_open.Given as goal
+use Rattle.core_answers.specs.Opening.{has_open}
+use Rattle.core_answers.proofs.open.has_open.Given as goal
 
 abbrev pub invariant-loop-k : goal.invariant-loop-k
 invariant-loop-k l = record {
   all : l.count ≡ length (fids_of l.sessions.present l.conn);
   within : l.k ≤ l.count;
-  seen : l.found ≡ list_any (has_ctl_open l.window) (take l.k (fids_of l.sessions.present l.conn));
+  seen : l.found ≡ list_any (has_open l.window l.file) (take l.k (fids_of l.sessions.present l.conn));
 }
 
 abbrev pub decreases-loop-k : goal.decreases-loop-k

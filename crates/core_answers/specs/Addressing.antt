@@ -1,0 +1,80 @@
+-- What is read and written by a window's address: the files `addr`, `data` and `xdata`, after acme(4).
+use Rattle.std.specs.Prelude.{ℕ, false, List, [], ◌∷◌, length, Option, Some, None, Result, Ok, Err}
+use Rattle.am_text.specs.declared.range.Range.{Range}
+use Rattle.ninep_wire.specs.declared.message.RBody.TheVariants as r
+use Rattle.core_addresses.specs.Data.{data_given, xdata_given, data_taken}
+use Rattle.core_addresses.specs.Ranges.{range_text, addressed}
+use Rattle.core_addresses.specs.declared.data.Given.{Given}
+use Rattle.core_addresses.specs.declared.data.Taken.{Taken}
+use Rattle.core_addresses.specs.declared.fault.RangeFault.{RangeFault}
+use Rattle.core_addresses.specs.declared.fault.RangeFault.TheVariants as range
+use Rattle.core_windows.specs.declared.change.Change.{Change}
+use Rattle.core_windows.specs.declared.change.Change.TheVariants as change
+use Rattle.core_windows.specs.declared.change.Setting.TheVariants as setting
+use Rattle.core_windows.specs.Windows.{Window}
+use Rattle.core_answers.specs.declared.effect.Effect.TheVariants as effect
+use Rattle.core_answers.specs.declared.effect.Deed.{Deed}
+use Rattle.core_answers.specs.declared.refusal.Fault.{Fault}
+use Rattle.core_answers.specs.declared.refusal.Fault.TheVariants as fault
+use Rattle.core_answers.specs.declared.refusal.Refusal.{Refusal}
+use Rattle.core_answers.specs.declared.refusal.Refusal.TheVariants as refusal
+use Rattle.core_answers.specs.Plainly.{does}
+
+-- the address becomes a range
+abbrev pub sets_addr : ℕ → Range → Change
+sets_addr w range = change.Controls w (setting.Addr range ∷ []) false
+
+-- ---- reads
+
+abbrev pub addr_text : Option Window → List ℕ
+addr_text None = []
+addr_text (Some window) = range_text window.body.addr
+
+-- what is given, and the address that is then
+abbrev pub gives : ℕ → Given → Deed
+gives w given = does effect.Nothing (sets_addr w given.addr) (r.Read given.bytes)
+
+abbrev pub gives_nothing : Deed
+gives_nothing = does effect.Nothing change.Nothing (r.Read [])
+
+abbrev pub data_deed : ℕ → ℕ → Option Window → Deed
+data_deed w count None = gives_nothing
+data_deed w count (Some window) = gives w (data_given window.body count)
+
+abbrev pub xdata_deed : ℕ → ℕ → Option Window → Deed
+xdata_deed w count None = gives_nothing
+xdata_deed w count (Some window) = gives w (xdata_given window.body count)
+
+-- ---- writes
+
+-- Want of memory is the outcome of no definition.
+abbrev pub range_refusal : RangeFault → Refusal
+range_refusal range.BadAddress = refusal.BadAddress
+range_refusal range.OutOfRange = refusal.AddressOutOfRange
+range_refusal range.NoMatch = refusal.NoMatch
+range_refusal range.OutOfOrder = refusal.AddressOutOfOrder
+range_refusal range.PartialRune = refusal.PartialRune
+range_refusal range.TooLong = refusal.TextTooLong
+range_refusal range.NoMemory = refusal.BadAddress
+
+-- the fault by which a message isn't done
+abbrev pub fault_of : RangeFault → Fault
+fault_of range.NoMemory = fault.NoMemory
+fault_of f = fault.Refused (range_refusal f)
+
+abbrev pub addr_or_refusal : ℕ → ℕ → Result Range RangeFault → Result Deed Refusal
+addr_or_refusal w count (Ok range) = Ok (does effect.Nothing (sets_addr w range) (r.Write count))
+addr_or_refusal w count (Err f) = Err (range_refusal f)
+
+abbrev pub addr_deed : ℕ → List ℕ → Option Window → Result Deed Refusal
+addr_deed w bytes None = Err refusal.WindowDeleted
+addr_deed w bytes (Some window) = addr_or_refusal w (length bytes) (addressed window.body bytes)
+
+abbrev pub data_or_refusal : ℕ → ℕ → Result Taken RangeFault → Result Deed Refusal
+data_or_refusal w count (Ok taken) = Ok (does effect.Nothing (change.Edits w taken.edits None (Some taken.addr)) (r.Write count))
+data_or_refusal w count (Err f) = Err (range_refusal f)
+
+-- `data` and `xdata` are written alike
+abbrev pub taking_deed : ℕ → List ℕ → Option Window → Result Deed Refusal
+taking_deed w bytes None = Err refusal.WindowDeleted
+taking_deed w bytes (Some window) = data_or_refusal w (length bytes) (data_taken window.body bytes)
