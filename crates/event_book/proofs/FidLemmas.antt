@@ -22,7 +22,7 @@ use Rattle.event_book.specs.Lives.{is_pending, is_taken, has_taken, pends, take_
 use Rattle.event_book.specs.Finding.{fits, is_open_fit, is_back_fit, or_else, last_from, found_or}
 use Rattle.event_book.specs.WindowFiles.{EventFile, queue_of, items_after, enlisted, with_item, given, with_written, left_with, left, deleted, file_of, with_file}
 use Rattle.event_book.specs.BookState.{BookState, recorded_of, is_taken_of, window_of, file_on, is_living, after_add, read_waits, piece_for, after_answer, is_ready, next_of, after_written, after_leave, after_delete}
-use Rattle.event_book.specs.Laws.{IsOwned, AllNamed, named, took, TakenWithItsAnswer, NoneTakenNoneChanged, spelled_in, spelled, carry, given_to, IsRest, IsLawful, WhatAFidGets, WindowOrder, BeginsWithNothing, AskAppends, ServeAppends, Same, AskLeavesOthers, ServeLeavesOthers, NothingElseGives, CancelledIsGone, FoundFits, WrittenOnce}
+use Rattle.event_book.specs.Laws.{IsOwned, AllNamed, named, took, TakenWithItsAnswer, NoneTakenNoneChanged, spelled_in, spelled, carry, given_to, IsRest, IsLawful, WhatAFidGets, WindowOrder, BeginsWithNothing, AskAppends, ServeAppends, Same, AskLeavesOthers, ServeLeavesOthers, NothingElseGives, CancelledIsNotNext, FoundFits, WrittenOnce}
 use Rattle.event_book.specs.declared.lives.Recorded.{Recorded}
 use Rattle.event_book.proofs.TableLemmas.{eq_from_test, true_false}
 use Rattle.event_book.proofs.OrderLemmas.{spelled-push, spelled-written, spelled-dropped, owned-last, not_owned}
@@ -125,7 +125,7 @@ ask_appends s r at piece h l a =
 some_same : {A : Type 0} (a b : A) → Some a ≡ Some b → a ≡ b
 some_same a b h = cc
 
-served_is : (next : Option Asker) (piece : Asker → Piece) (r : Asker) (p : Piece) → option_map {U = Asker × Piece} (λ r. (r, piece r)) next ≡ Some (r, p) → (next ≡ Some r) × (piece r ≡ p)
+pub served_is : (next : Option Asker) (piece : Asker → Piece) (r : Asker) (p : Piece) → option_map {U = Asker × Piece} (λ r. (r, piece r)) next ≡ Some (r, p) → (next ≡ Some r) × (piece r ≡ p)
 served_is None piece r p h = cc
 served_is (Some x) piece r p h =
     let same : ◌≡◌ {A = Asker × Piece} (x, piece x) (r, p) = some_same {A = Asker × Piece} (x, piece x) (r, p) h in
@@ -228,11 +228,15 @@ same-delete s w at o h n =
     (ap (λ (g : EventFile). spelled_in o g.items) file)
     (ap (λ (g : EventFile). carry_of g.openings o) file)
 
+idle-serve : (s : BookState) (at o : ℕ) → Same s (record s { latest = at }) o
+idle-serve s at o = (refl, refl)
+
 pub nothing_else : NothingElseGives
 nothing_else s o h l = record {
   add = λ w. same-add s w o h l;
   put = λ w item. same-with s w (with_item (file_of s.files w) item) s.latest o s.reads h (spelled-push o (file_of s.files w).items item) refl;
   waits = λ r at e. rw e (ask-waits s r at o);
+  idle = λ at e. rw e (idle-serve s at o);
   written = λ w number at. same-with s w (with_written (file_of s.files w) number at) at o s.reads h (spelled-written o at number (file_of s.files w).items) refl;
   cancel = λ conn tag. (refl, refl);
   leave = λ other at n. same-leave s other at o h n;
@@ -249,8 +253,8 @@ not_found p (x ∷ xs) conn tag r h =
           [ true ↦ λ k. let same : x ≡ r = cc in sym (ap (is_read conn tag) same) ∙ e | false ↦ λ k. not_found p xs conn tag r k ]) k
     ]) refl h
 
-pub cancelled_gone : CancelledIsGone
-cancelled_gone s conn tag r h = not_found (is_ready s.files s.owners) s.reads conn tag r h
+pub cancelled_not_next : CancelledIsNotNext
+cancelled_not_next s conn tag r h = not_found (is_ready s.files s.owners) s.reads conn tag r h
 
 -- ---- the item that an answer takes
 
@@ -261,6 +265,17 @@ record FirstPending (n : ℕ) (es : List Recorded) (life : Life) (q : QueueItem)
   before : slice_get es place ≡ Some (record { item = item; life = Pending })
   after : slice_get (take_first life es) place ≡ Some (record { item = item; life = life })
   bytes : q.bytes ≡ spelling item
+  others : (k : ℕ) → k ≢ place → slice_get (take_first life es) k ≡ slice_get es k
+
+-- a change of the first of some items leaves the later ones
+later-same : (x y : Recorded) (es : List Recorded) (k : ℕ) → k ≢ 0 → slice_get (x ∷ es) k ≡ slice_get (y ∷ es) k
+later-same x y es zero n = absurd (n refl)
+later-same x y es (suc k) n = refl
+
+-- and one of the later ones leaves the first
+with-first : (x : Recorded) (xs ys : List Recorded) (place k : ℕ) → ((j : ℕ) → j ≢ place → slice_get xs j ≡ slice_get ys j) → k ≢ suc place → slice_get (x ∷ xs) k ≡ slice_get (x ∷ ys) k
+with-first x xs ys place zero h n = refl
+with-first x xs ys place (suc k) h n = h k (λ e. n (ap suc e))
 
 is_pending-life : (life : Life) → is_pending life ≡ true → life ≡ Pending
 is_pending-life Pending h = refl
@@ -296,6 +311,7 @@ first_pending n (e ∷ es) life q qs h =
             before = ap Some (pends-is e t);
             after = rw t refl;
             bytes = sym (ap (λ (x : QueueItem). x.bytes) same);
+            others = λ k n. rw t (later-same (record { item = e.item; life = life }) e es k n);
           }
       | false ↦ λ t k.
           let rest = first_pending (suc n) es life q qs k in
@@ -306,6 +322,7 @@ first_pending n (e ∷ es) life q qs h =
             before = rest.before;
             after = rw t rest.after;
             bytes = rest.bytes;
+            others = λ k n. rw t (with-first e (take_first life es) es rest.place k rest.others n);
           }
     ]) refl h
 
@@ -344,6 +361,24 @@ length-take_some zero xs l h = absurd (omega arith)
 length-take_some (suc n) [] l h = absurd (omega arith)
 length-take_some (suc n) (x ∷ xs) l h = omega arith
 
+numbered-others : (es es' : List Recorded) (place n : ℕ) → ((k : ℕ) → k ≢ place → slice_get es' k ≡ slice_get es k) → n ≢ suc place → numbered es' n ≡ numbered es n
+numbered-others es es' place zero h n = refl
+numbered-others es es' place (suc k) h n = h k (λ e. n (ap suc e))
+
+-- where one window's items changed at one number alone
+others-same : (s : BookState) (w number v other : ℕ) (f : EventFile) → IsLawful s → (other ≢ number → numbered f.items other ≡ numbered (file_of s.files w).items other) → (v ≢ w) ⊎ (other ≢ number) → numbered (file_of (with_file w f s.files) v).items other ≡ numbered (file_of s.files v).items other
+others-same s w number v other f h own d =
+    (elim (v == w) as (λ b. (v == w) ≡ b → numbered (file_of (with_file w f s.files) v).items other ≡ numbered (file_of s.files v).items other) [
+      | true ↦ λ e.
+          let same = eq_from_test v w e in
+          let not_it : other ≢ number = elim d [ inl n ↦ absurd (n same) | inr n ↦ n ] in
+          subst (λ x. numbered (file_of (with_file w f s.files) x).items other ≡ numbered (file_of s.files x).items other) (sym same)
+          (ap (λ (g : EventFile). numbered g.items other) (same_window 0 w f s.files h.rise) ∙ own not_it)
+      | false ↦ λ e.
+          let apart : v ≢ w = grind (arith, nat_tests) in
+          ap (λ (g : EventFile). numbered g.items other) (other_window w v f s.files apart)
+    ]) refl
+
 pub taken_with : TakenWithItsAnswer
 taken_with s r at number h t =
     let w = window_of s.owners r.opening in
@@ -365,6 +400,7 @@ taken_with s r at number h t =
       after = ap (λ es. numbered es number) items ∙ ap (numbered (take_first (Taken r.opening at) f.items)) is ∙ found.after;
       prefix = prefix;
       bytes = subst (λ bs. bs ≢ []) (sym prefix) (not_nil (take r.count (spelling found.item)) (length-take_some r.count (spelling found.item) count (spelling-some found.item)));
+      others = λ v other d. others-same s w number v other (given f r at) h (λ n. ap (λ o. numbered (items_after o (Taken r.opening at) f.items) other) t ∙ numbered-others f.items (take_first (Taken r.opening at) f.items) found.place other found.others (λ e. n (e ∙ sym is))) d;
     }
 
 pub none_taken : NoneTakenNoneChanged

@@ -6,3 +6,5 @@ pub mod BookLemmas
 pub mod LawfulLemmas
 pub mod FidLemmas
 pub mod DropLemmas
+pub mod WaitingLemmas
+pub mod LifeLemmas

@@ -1,12 +1,13 @@
 -- What holds of every book, and what each call does to what an opening was given.
 use Rattle.std.specs.Prelude.{◌≡◌, ◌≢◌, ◌==◌, ◌≤◌, ◌-◌, ℕ, suc, Bool, true, false, not, List, [], ◌∷◌, ◌++◌, length, take, Option, Some, None, IfSome, Ok, if◌then◌else◌, ◌⊎◌}
-use Rattle.std.specs.List.{list_all}
+use Rattle.std.specs.List.{Contains, list_all, list_any}
 use Rattle.win_events.specs.Spelling.{spelling}
 use Rattle.win_events.specs.declared.item.Item.{Item}
 use Rattle.win_events.specs.declared.item.BackMsg.{BackMsg}
 use Rattle.win_events.specs.declared.item.Life.{Life}
 use Rattle.win_events.specs.declared.item.Life.TheVariants.{Pending, Taken, Back, Dropped}
 use Rattle.wait_queue.specs.Carry.{OpenCarry, carry_of}
+use Rattle.wait_queue.specs.Laws.{AddsNone, AddsOnly}
 use Rattle.wait_queue.specs.Reads.{is_read}
 use Rattle.wait_queue.specs.declared.types.Asker.{Asker}
 use Rattle.wait_queue.specs.declared.types.Piece.{Piece}
@@ -166,6 +167,7 @@ pub record OthersGiveNothing (s : BookState) (opening : ℕ) : Type 0 where
   pub add : (window : ℕ) → Same s (after_add s window) opening
   pub put : (window : ℕ) (item : Item) → Same s (after_put s window item) opening
   pub waits : (r : Asker) (at : ℕ) → read_waits s r ≡ true → Same s (after_ask s r at) opening
+  pub idle : (at : ℕ) → next_of s ≡ None → Same s (after_serve s at) opening
   pub written : (window number at : ℕ) → Same s (after_written s window number at) opening
   pub cancel : (conn tag : ℕ) → Same s (after_cancel s conn tag) opening
   pub leave : (other at : ℕ) → other ≢ opening → Same s (after_leave s other at) opening
@@ -176,18 +178,45 @@ NothingElseGives = (s : BookState) (opening : ℕ) → IsLawful s → IsLiving s
 
 -- ---- a flushed read takes none
 
--- a read that was cancelled is no longer the next one
+-- no read with that connection and tag waits after the cancel
 abbrev pub CancelledIsGone : Type 0
 CancelledIsGone =
+    (s : BookState) (conn tag : ℕ) → list_any (is_read conn tag) (after_cancel s conn tag).reads ≡ false
+
+-- nor is one the next
+abbrev pub CancelledIsNotNext : Type 0
+CancelledIsNotNext =
     (s : BookState) (conn tag : ℕ) (r : Asker) → next_of (after_cancel s conn tag) ≡ Some r → is_read conn tag r ≡ false
 
--- an item is taken by an answer that is a non-empty prefix of its spelling, at the answer's entry
+-- no call but `ask` makes a read wait
+pub record OnlyAskAdds (s : BookState) : Type 0 where
+  pub ask : (r : Asker) (at : ℕ) → AddsOnly r s.reads (after_ask s r at).reads
+  pub add : (window : ℕ) → AddsNone s.reads (after_add s window).reads
+  pub put : (window : ℕ) (item : Item) → AddsNone s.reads (after_put s window item).reads
+  pub serve : (at : ℕ) → AddsNone s.reads (after_serve s at).reads
+  pub written : (window number at : ℕ) → AddsNone s.reads (after_written s window number at).reads
+  pub cancel : (conn tag : ℕ) → AddsNone s.reads (after_cancel s conn tag).reads
+  pub leave : (opening at : ℕ) → AddsNone s.reads (after_leave s opening at).reads
+  pub delete : (window at : ℕ) → AddsNone s.reads (after_delete s window at).reads
+
+abbrev pub OnlyAskWaits : Type 0
+OnlyAskWaits = (s : BookState) → OnlyAskAdds s
+
+-- what `serve` answers waited
+abbrev pub ServedWaited : Type 0
+ServedWaited = (s : BookState) (r : Asker) (piece : Piece) → served_of s ≡ Some (r, piece) → Contains s.reads r
+
+-- ---- taken by an answer
+
+-- An item is taken by an answer that is a non-empty prefix of its spelling, at the answer's entry. Each
+-- other item is as before.
 pub record IsTakenBy (s : BookState) (r : Asker) (at number : ℕ) : Type 0 where
   pub item : Item
   pub before : recorded_of s (window_of s.owners r.opening) number ≡ Some (record { item = item; life = Pending })
   pub after : recorded_of (after_answer s r at) (window_of s.owners r.opening) number ≡ Some (record { item = item; life = Taken r.opening at })
   pub prefix : (piece_for s r).bytes ≡ take r.count (spelling item)
   pub bytes : (piece_for s r).bytes ≢ []
+  pub others : (window other : ℕ) → (window ≢ window_of s.owners r.opening) ⊎ (other ≢ number) → recorded_of (after_answer s r at) window other ≡ recorded_of s window other
 
 abbrev pub TakenWithItsAnswer : Type 0
 TakenWithItsAnswer =
@@ -197,6 +226,30 @@ TakenWithItsAnswer =
 abbrev pub NoneTakenNoneChanged : Type 0
 NoneTakenNoneChanged =
     (s : BookState) (r : Asker) (at window : ℕ) → IsLawful s → (piece_for s r).taken ≡ None → (file_of (after_answer s r at).files window).items ≡ (file_of s.files window).items
+
+-- the opening took the item at this entry, and it isn't written back
+abbrev pub IsTakenAt : BookState → ℕ → ℕ → Item → ℕ → ℕ → Type 0
+IsTakenAt s window number item opening at =
+    recorded_of s window number ≡ Some (record { item = item; life = Taken opening at })
+
+-- what is taken after the call was so before, by the same opening at the same entry
+abbrev pub TakesNone : BookState → BookState → Type 0
+TakesNone s t =
+    (window number : ℕ) (item : Item) (opening at : ℕ) → IsTakenAt t window number item opening at → IsTakenAt s window number item opening at
+
+-- no call but one that answers a read takes an item
+pub record OnlyAnswersTake (s : BookState) : Type 0 where
+  pub add : (window : ℕ) → TakesNone s (after_add s window)
+  pub put : (window : ℕ) (item : Item) → TakesNone s (after_put s window item)
+  pub waits : (r : Asker) (at : ℕ) → read_waits s r ≡ true → TakesNone s (after_ask s r at)
+  pub idle : (at : ℕ) → next_of s ≡ None → TakesNone s (after_serve s at)
+  pub written : (window number at : ℕ) → TakesNone s (after_written s window number at)
+  pub cancel : (conn tag : ℕ) → TakesNone s (after_cancel s conn tag)
+  pub leave : (opening at : ℕ) → TakesNone s (after_leave s opening at)
+  pub delete : (window at : ℕ) → TakesNone s (after_delete s window at)
+
+abbrev pub TakenByAnswers : Type 0
+TakenByAnswers = (s : BookState) → IsLawful s → OnlyAnswersTake s
 
 -- ---- written back once
 
@@ -246,3 +299,30 @@ pub record OnlyClosesDrop (s : BookState) : Type 0 where
 
 abbrev pub DroppedAtClose : Type 0
 DroppedAtClose = (s : BookState) → IsLawful s → OnlyClosesDrop s
+
+-- ---- nothing follows back and dropped
+
+-- whether it was written back or dropped
+abbrev pub is_ended : Life → Bool
+is_ended Pending = false
+is_ended (Taken opening at) = false
+is_ended (Back opening at back) = true
+is_ended (Dropped at) = true
+
+-- what is written back or dropped before the call is so after it, with the same entries
+abbrev pub KeepsEnded : BookState → BookState → Type 0
+KeepsEnded s t =
+    (window number : ℕ) (e : Recorded) → recorded_of s window number ≡ Some e → is_ended e.life ≡ true → recorded_of t window number ≡ Some e
+
+pub record AllKeepEnded (s : BookState) : Type 0 where
+  pub add : (window : ℕ) → KeepsEnded s (after_add s window)
+  pub put : (window : ℕ) (item : Item) → KeepsEnded s (after_put s window item)
+  pub ask : (r : Asker) (at : ℕ) → KeepsEnded s (after_ask s r at)
+  pub serve : (at : ℕ) → KeepsEnded s (after_serve s at)
+  pub written : (window number at : ℕ) → KeepsEnded s (after_written s window number at)
+  pub cancel : (conn tag : ℕ) → KeepsEnded s (after_cancel s conn tag)
+  pub leave : (opening at : ℕ) → KeepsEnded s (after_leave s opening at)
+  pub delete : (window at : ℕ) → KeepsEnded s (after_delete s window at)
+
+abbrev pub EndedStay : Type 0
+EndedStay = (s : BookState) → IsLawful s → AllKeepEnded s

@@ -50,16 +50,16 @@ impl Book {
         }
     }
 
-    /// The present state becomes the kept one. It takes no memory, and time for what changed since
-    /// the last time alone.
+    /// The present state becomes the kept one. It takes no memory. It takes time for the windows
+    /// that changed since the last time, each with all openings of its file, and where anything
+    /// changed, for all waiting reads.
     pub fn keep(&mut self)
         ensures { self.new ≡ both self.old.present }
     {
         self.tables.keep();
     }
 
-    /// The kept state becomes the present one again. It takes no memory, and time for what changed
-    /// since the last time alone.
+    /// The kept state becomes the present one again. It takes no memory, and time as `keep` does.
     pub fn back(&mut self)
         ensures { self.new ≡ both self.old.kept }
     {
@@ -141,9 +141,9 @@ impl Book {
     }
 
     /// The number of the window's item that a message written back names: the one that was taken
-    /// last, isn't written back, has the message's type, and has its range or that range as its
-    /// expansion. `Already` where only items that were written back fit, else `NoSuch`. It takes no
-    /// memory.
+    /// last, isn't yet written back, has the message's type, and has its range or that range as its
+    /// expansion. Where no item that was taken and isn't yet written back fits: `Already` if a
+    /// written-back one fits, else `NoSuch`. It takes no memory.
     pub fn find(&self, window: u32, message: &BackMsg) -> Result<u64, BackFault>
         ensures { result ≡ found_of self.now.present window message.now }
     {

@@ -382,7 +382,7 @@ impl FileTable {
     }
 
     /// The present state becomes the kept one. It takes no memory, and time for the files that
-    /// changed since the last time alone.
+    /// changed since the last time alone, each with all its openings.
     pub fn keep(&mut self)
         ensures { self.new ≡ both self.old.present }
     {
@@ -390,7 +390,7 @@ impl FileTable {
     }
 
     /// The kept state becomes the present one again. It takes no memory, and time for the files
-    /// that changed since the last time alone.
+    /// that changed since the last time alone, each with all its openings.
     pub fn back(&mut self)
         ensures { self.new ≡ both self.old.kept }
     {

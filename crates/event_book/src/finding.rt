@@ -2,35 +2,19 @@
 
 ghost use Rattle.std.specs.Prelude.{◌≡◌, ◌≤◌, length, take};
 ghost use Rattle.std.specs.List.{list_any};
-ghost use Rattle.win_events.specs.Spelling.{sort_letter};
 ghost use Rattle.event_book.specs.Finding.{same_range, expands_to, fits, is_open_fit, is_back_fit, last_from, found_or, found_in};
 
 use crate::lives::Recorded;
 use am_text::{Range, Runes};
-use win_events::{BackMsg, Item, Life, Sort};
+use win_events::{BackMsg, Item, Life};
 
 /// Why a message written back names no item.
 #[derive(Clone, Copy, Debug, PartialEq, Eq)]
 pub enum BackFault {
-    /// Only items that were written back fit.
+    /// No item that was taken and isn't yet written back fits, and one that was written back does.
     Already,
-    /// No item that was taken fits.
+    /// No item that was taken fits, written back or not.
     NoSuch,
-}
-
-fn sort_letter(sort: Sort) -> u8
-    ensures { result ≡ sort_letter sort }
-{
-    match sort {
-        Sort::BodyDel => b'D',
-        Sort::TagDel => b'd',
-        Sort::BodyIns => b'I',
-        Sort::TagIns => b'i',
-        Sort::BodyLook => b'L',
-        Sort::TagLook => b'l',
-        Sort::BodyExec => b'X',
-        Sort::TagExec => b'x',
-    }
 }
 
 fn same_range(a: Range, b: Range) -> bool
@@ -52,7 +36,7 @@ fn expands_to(expanded: &Option<(Range, Runes)>, range: Range) -> bool
 fn fits(message: &BackMsg, item: &Item) -> bool
     ensures { result ≡ fits message.now item.now }
 {
-    sort_letter(message.sort) == sort_letter(item.sort)
+    message.sort == item.sort
         && (same_range(item.range, message.range) || expands_to(&item.expanded, message.range))
 }
 
@@ -94,8 +78,9 @@ fn any_back_fit(message: &BackMsg, all: &[Recorded]) -> bool
     all.iter().any(|recorded| is_back_fit(message, recorded))
 }
 
-/// The number of the item that the message names: the last one that was taken, isn't written back,
-/// and fits. Else whether one that was written back fits. It takes no memory.
+/// The number of the item that the message names: the last one that was taken, isn't yet written
+/// back, and fits. Where there is none: `Already` if one that was written back fits, else `NoSuch`.
+/// It takes no memory.
 pub fn found_in(message: &BackMsg, all: &[Recorded]) -> Result<u64, BackFault>
     ensures { result ≡ found_in message.now all.now }
 {

@@ -1,6 +1,6 @@
 //! What each call does to what an opening was given.
 
-ghost use Rattle.event_book.specs.Laws.{BeginsWithNothing, AskAppends, ServeAppends, AskLeavesOthers, ServeLeavesOthers, NothingElseGives, CancelledIsGone, TakenWithItsAnswer, NoneTakenNoneChanged, FoundFits, WrittenOnce, DroppedAtClose};
+ghost use Rattle.event_book.specs.Laws.{BeginsWithNothing, AskAppends, ServeAppends, AskLeavesOthers, ServeLeavesOthers, NothingElseGives, CancelledIsGone, CancelledIsNotNext, OnlyAskWaits, ServedWaited, TakenWithItsAnswer, NoneTakenNoneChanged, TakenByAnswers, FoundFits, WrittenOnce, DroppedAtClose, EndedStay};
 
 /// An opening begins with nothing given.
 pub fn begins_with_nothing()
@@ -15,17 +15,30 @@ pub fn answers_append()
     ensures serve_others { ServeLeavesOthers }
 {}
 
-/// No other call changes what an opening was given.
+/// No other call changes what an opening was given that is open before and after it: none but an
+/// `ask` that is answered and a `serve` that answers.
 pub fn nothing_else_gives()
     ensures { NothingElseGives }
 {}
 
-/// A read that was cancelled is never answered. An item is taken by the answer to a read alone: a
-/// non-empty prefix of its spelling. So a flushed read takes none.
+/// After a cancel no read with that tag on that connection waits, nor is one the next. Only `ask`
+/// makes a read wait, the one that it is called for, and `serve` answers only reads that wait. So a
+/// read that was flushed is not answered, and takes no item, unless it is asked anew.
 pub fn flushed_takes_none()
     ensures cancelled { CancelledIsGone }
+    ensures next { CancelledIsNotNext }
+    ensures adds { OnlyAskWaits }
+    ensures served { ServedWaited }
+{}
+
+/// An answer that takes an item is a non-empty prefix of its spelling. The item was pending, then its
+/// opening took it at the answer's entry, and all other items stay. An answer that takes none leaves
+/// all items. No other call takes one: what is taken after it was so before, by the same opening at
+/// the same entry.
+pub fn taken_by_answers()
     ensures taken { TakenWithItsAnswer }
     ensures none { NoneTakenNoneChanged }
+    ensures alone { TakenByAnswers }
 {}
 
 /// What `find` answers was taken and fits, so it can be written back; then it isn't found again.
@@ -38,4 +51,9 @@ pub fn written_once()
 /// window.
 pub fn dropped_at_close()
     ensures { DroppedAtClose }
+{}
+
+/// What is written back or dropped stays so, with the same entries, whatever call is made.
+pub fn ended_stay()
+    ensures { EndedStay }
 {}

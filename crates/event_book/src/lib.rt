@@ -14,8 +14,8 @@ pub use am_journal::{ItemView, ItemViews};
 pub use book::Book;
 pub use finding::BackFault;
 pub use laws::{
-    answers_append, begins_with_nothing, dropped_at_close, flushed_takes_none, nothing_else_gives,
-    written_once,
+    answers_append, begins_with_nothing, dropped_at_close, ended_stay, flushed_takes_none,
+    nothing_else_gives, taken_by_answers, written_once,
 };
 
 #[cfg(test)]

@@ -45,13 +45,13 @@ fn asked(book: &mut Book, asker: Asker, at: u64) -> Result<Option<Bytes>, NoMemo
     }
 }
 
-// The bytes of the read that is served, if it has this tag.
-fn served(book: &mut Book, tag: u16, at: u64) -> Result<Option<Bytes>, NoMemory> {
+// The bytes that a serve gives, if it answers this read.
+fn served(book: &mut Book, wanted: Asker, at: u64) -> Result<Option<Bytes>, NoMemory> {
     if book.latest() > at {
         return Ok(None);
     }
     match book.serve(at)? {
-        Some((asker, piece)) if asker.tag == tag => Ok(Some(piece.bytes)),
+        Some((asker, piece)) if asker == wanted => Ok(Some(piece.bytes)),
         _ => Ok(None),
     }
 }
@@ -128,7 +128,7 @@ fn cancelled(alloc: Global) -> Result<bool, NoMemory> {
     book.keep();
     let gone = book.cancel(0, 7);
     put(&mut book, 1, key(alloc, 0, b"a")?)?;
-    let none = served(&mut book, 7, 2)?.is_none();
+    let none = served(&mut book, read(7, 1, 256), 2)?.is_none();
     let next = is_bytes(asked(&mut book, read(9, 1, 256), 3)?, b"KI0 1 0 1 a\n");
     book.keep();
     Ok(waits && gone && none && next && !book.cancel(0, 9))
@@ -147,7 +147,7 @@ fn cancelled_late(alloc: Global) -> Result<Option<Book>, NoMemory> {
     added(&mut book, 1)?;
     let waits = asked(&mut book, read(7, 1, 256), 1)?.is_none();
     put(&mut book, 1, key(alloc, 0, b"a")?)?;
-    let given = is_bytes(served(&mut book, 7, 2)?, b"KI0 1 0 1 a\n");
+    let given = is_bytes(served(&mut book, read(7, 1, 256), 2)?, b"KI0 1 0 1 a\n");
     book.keep();
     if waits && given && !book.cancel(0, 7) {
         return Ok(Some(book));
@@ -180,14 +180,19 @@ fn two_readers(alloc: Global) -> Result<bool, NoMemory> {
     added(&mut book, 1)?;
     added(&mut book, 1)?;
     added(&mut book, 2)?;
+    let older = read(2, 2, 256);
+    let newer = Asker {
+        conn: 1,
+        ..read(2, 1, 256)
+    };
     asked(&mut book, read(1, 3, 256), 1)?;
-    asked(&mut book, read(2, 2, 256), 2)?;
-    asked(&mut book, read(3, 1, 256), 3)?;
+    asked(&mut book, older, 2)?;
+    asked(&mut book, newer, 3)?;
     put(&mut book, 1, key(alloc, 0, b"ab")?)?;
-    let first = is_bytes(served(&mut book, 2, 4)?, b"KI0 2 0 2 ab\n");
+    let first = is_bytes(served(&mut book, older, 4)?, b"KI0 2 0 2 ab\n");
     put(&mut book, 1, key(alloc, 2, b"c")?)?;
-    let second = is_bytes(served(&mut book, 3, 5)?, b"KI2 3 0 1 c\n");
-    let none = served(&mut book, 1, 6)?.is_none();
+    let second = is_bytes(served(&mut book, newer, 5)?, b"KI2 3 0 1 c\n");
+    let none = served(&mut book, read(1, 3, 256), 6)?.is_none();
     book.back();
     Ok(first && second && none && book.openings() == 0)
 }
@@ -325,16 +330,21 @@ fn chord(alloc: Global) -> Result<Option<Bytes>, NoMemory> {
     asked(&mut book, read(1, 1, 512), 1)
 }
 
+// The message that shows 255 letters.
+fn shown_255(alloc: Global) -> Result<Bytes, NoMemory> {
+    let mut wanted = Bytes::copied(alloc, b"KI0 255 0 255 ")?;
+    wanted.append(vec![in alloc; b'a'; 255]?.as_slice())?;
+    wanted.push(b'\n')?;
+    Ok(wanted)
+}
+
 #[test]
 fn one_read_gives_one_item(rt: HostRuntime) -> Result<(), Fail> {
     let shown = long_insertion(rt.alloc(), 255).map_err(|_| AllocError)?;
+    let wanted = shown_255(rt.alloc()).map_err(|_| AllocError)?;
     let hidden = long_insertion(rt.alloc(), 256).map_err(|_| AllocError)?;
     let three = chord(rt.alloc()).map_err(|_| AllocError)?;
-    let length = match shown {
-        Some(bytes) => bytes.len(),
-        None => 0,
-    };
-    assert!(rt; length == 14 + 255 + 1 && is_bytes(hidden, b"KI0 256 0 0 \n"));
+    assert!(rt; is_bytes(shown, wanted.as_slice()) && is_bytes(hidden, b"KI0 256 0 0 \n"));
     assert!(rt; is_bytes(three, b"MX4 5 8 1 x\nMX0 0 0 3 Del\nMX0 0 0 8 /w:#0,#3\n"));
     Ok(())
 }

@@ -1,10 +1,12 @@
 -- What holds of all that a queue gives.
-use Rattle.std.specs.Prelude.{◌≡◌, ◌==◌, ◌≢◌, ℕ, false, List, [], ◌∷◌, ◌++◌, Some, if◌then◌else◌}
+use Rattle.std.specs.Prelude.{◌≡◌, ◌==◌, ◌≢◌, ◌⊎◌, ℕ, false, List, [], ◌∷◌, ◌++◌, Some, if◌then◌else◌}
+use Rattle.std.specs.List.{Contains, list_any}
 use Rattle.wait_queue.specs.Carry.{carry_of}
-use Rattle.wait_queue.specs.WaitState.{WaitState, IsEnlisted, piece_of, after_piece, next_of, after_cancel}
+use Rattle.wait_queue.specs.WaitState.{WaitState, IsEnlisted, after_enlist, after_put, piece_of, after_piece, after_ask, next_of, served_of, after_serve, after_cancel, after_leave, after_close}
 use Rattle.wait_queue.specs.Reads.{is_read}
 use Rattle.wait_queue.specs.declared.pending.Pending.{Pending}
 use Rattle.wait_queue.specs.declared.types.Asker.{Asker}
+use Rattle.wait_queue.specs.declared.types.Piece.{Piece}
 
 -- the bytes of the item that the read takes, where it takes one
 abbrev pub taken_from : List ℕ → List Pending → List ℕ
@@ -27,8 +29,38 @@ LeavesOthers =
     (w : WaitState) (r : Asker) (other : ℕ) → other ≢ r.opening →
     carry_of (after_piece w r).openings other ≡ carry_of w.openings other
 
--- a read that was cancelled is no longer the next one
+-- no read with that connection and tag waits after the cancel
 abbrev pub CancelledIsGone : Type 0
 CancelledIsGone =
+    (w : WaitState) (conn tag : ℕ) → list_any (is_read conn tag) (after_cancel w conn tag).reads ≡ false
+
+-- nor is one the next
+abbrev pub CancelledIsNotNext : Type 0
+CancelledIsNotNext =
     (w : WaitState) (conn tag : ℕ) (r : Asker) →
     next_of (after_cancel w conn tag) ≡ Some r → is_read conn tag r ≡ false
+
+-- what waits after the call waited before
+abbrev pub AddsNone : List Asker → List Asker → Type 0
+AddsNone before after = (r : Asker) → Contains after r → Contains before r
+
+-- what waits after the call waited before, or is this read
+abbrev pub AddsOnly : Asker → List Asker → List Asker → Type 0
+AddsOnly asked before after = (r : Asker) → Contains after r → Contains before r ⊎ (asked ≡ r)
+
+-- no call but `ask` makes a read wait
+pub record OnlyAskAdds (w : WaitState) : Type 0 where
+  pub ask : (r : Asker) → AddsOnly r w.reads (after_ask w r).reads
+  pub enlist : (opening : ℕ) → AddsNone w.reads (after_enlist w opening).reads
+  pub put : (number : ℕ) (bytes : List ℕ) → AddsNone w.reads (after_put w number bytes).reads
+  pub serve : AddsNone w.reads (after_serve w).reads
+  pub cancel : (conn tag : ℕ) → AddsNone w.reads (after_cancel w conn tag).reads
+  pub leave : (opening : ℕ) → AddsNone w.reads (after_leave w opening).reads
+  pub close : AddsNone w.reads (after_close w).reads
+
+abbrev pub OnlyAskWaits : Type 0
+OnlyAskWaits = (w : WaitState) → OnlyAskAdds w
+
+-- what `serve` answers waited
+abbrev pub ServedWaited : Type 0
+ServedWaited = (w : WaitState) (r : Asker) (piece : Piece) → served_of w ≡ Some (r, piece) → Contains w.reads r

@@ -1,6 +1,6 @@
 //! What holds of all that a queue gives.
 
-ghost use Rattle.wait_queue.specs.Laws.{LosesNothing, LeavesOthers, CancelledIsGone};
+ghost use Rattle.wait_queue.specs.Laws.{LosesNothing, LeavesOthers, CancelledIsGone, CancelledIsNotNext, OnlyAskWaits, ServedWaited};
 
 /// No byte of an item is lost or given twice.
 pub fn loses_nothing()
@@ -12,7 +12,15 @@ pub fn leaves_others()
     ensures { LeavesOthers }
 {}
 
-/// A read that was cancelled is never answered, so it takes nothing.
+/// After a cancel no read with that tag on that connection waits, nor is one the next.
 pub fn cancelled_is_gone()
-    ensures { CancelledIsGone }
+    ensures gone { CancelledIsGone }
+    ensures next { CancelledIsNotNext }
+{}
+
+/// Only `ask` makes a read wait, the one that it is called for, and `serve` answers only reads that
+/// wait. So a read that was cancelled is not answered, and takes nothing, unless it is asked anew.
+pub fn only_ask_waits()
+    ensures adds { OnlyAskWaits }
+    ensures served { ServedWaited }
 {}

@@ -9,7 +9,7 @@ mod reads;
 mod types;
 mod waiting_list;
 
-pub use laws::{cancelled_is_gone, leaves_others, loses_nothing};
+pub use laws::{cancelled_is_gone, leaves_others, loses_nothing, only_ask_waits};
 pub use queue::WaitQueue;
 pub use reads::{Answers, Reads};
 pub use types::{Asked, Asker, Piece};

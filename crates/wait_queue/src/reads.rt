@@ -12,14 +12,14 @@ use am_text::NoMemory;
 use std::alloc::Global;
 use std::marker::Model;
 
-/// Something that knows which reads it can answer now.
+/// Something that answers some of the waiting reads: it has bytes for them, or it ends them.
 pub trait Answers {
     ghost use Rattle.std.specs.Prelude.{Bool};
     ghost use Rattle.wait_queue.specs.declared.types.Asker.{Asker};
 
     ghost answers: { Self → Asker → Bool };
 
-    /// Whether it can answer this read now.
+    /// Whether it can answer this read.
     fn can_answer(&self, asker: Asker) -> bool
         ensures { result ≡ answers self.now asker };
 }

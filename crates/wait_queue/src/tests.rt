@@ -84,3 +84,35 @@ fn reads_are_served_in_order(rt: HostRuntime) -> Result<(), Fail> {
     assert!(rt; queue.next().is_none() && queue.is_enlisted(1) && !queue.is_enlisted(2));
     Ok(())
 }
+
+fn is_served(queue: &mut WaitQueue, wanted: Asker, bytes: &[u8]) -> Result<bool, NoMemory> {
+    match queue.serve()? {
+        Some((asker, piece)) => Ok(asker == wanted && piece.bytes.as_slice() == bytes),
+        None => Ok(false),
+    }
+}
+
+// Two connections wait with one tag: the first item goes to the older read, the next to the newer.
+fn older_then_newer(alloc: Global) -> Result<bool, NoMemory> {
+    let mut queue = WaitQueue::new(alloc);
+    queue.enlist(1)?;
+    queue.enlist(2)?;
+    let older = read(1, 1, 9);
+    let newer = Asker {
+        conn: 1,
+        ..read(1, 2, 9)
+    };
+    let wait = asked(&mut queue, older)?.is_none() && asked(&mut queue, newer)?.is_none();
+    queue.put(1, Bytes::copied(alloc, b"a")?)?;
+    let first = is_served(&mut queue, older, b"a")?;
+    queue.put(2, Bytes::copied(alloc, b"b")?)?;
+    let second = is_served(&mut queue, newer, b"b")?;
+    Ok(wait && first && second)
+}
+
+#[test]
+fn the_older_read_is_served_first(rt: HostRuntime) -> Result<(), Fail> {
+    let all = older_then_newer(rt.alloc()).map_err(|_| AllocError)?;
+    assert!(rt; all);
+    Ok(())
+}
