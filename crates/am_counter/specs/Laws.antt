@@ -1,0 +1,16 @@
+-- What each counter says of connections.
+use Rattle.std.specs.Prelude.{◌≡◌, ℕ, ◌<◌, Bool, List, Option}
+use Rattle.ninep_wire.specs.declared.message.TMsg.{TMsg}
+use Rattle.am_journal.specs.declared.ending.Ending.{Ending}
+use Rattle.am_journal.specs.declared.event.Event.{Event}
+use Rattle.am_journal.specs.declared.event.Event.TheVariants.{Msg, Hang}
+use Rattle.am_journal.specs.declared.event.Why.{Why}
+use Rattle.am_counter.specs.declared.ask.Ask.{Ask}
+use Rattle.am_counter.specs.declared.ask.Ask.TheVariants.{Ended}
+use Rattle.am_counter.specs.Played.{IsPlayed, has_hang, hang_why, IsMessageWhy}
+
+-- Over a journal of enabled events a connection was dialled, or has ended, exactly where the journal has that entry.
+pub record TellsConnections (enabled : List Event → Event → Option Why) (answer : List Event → Ask → Bool) : Type 0 where
+  pub hang : (journal : List Event) (conn : ℕ) (why : Ending) → IsPlayed enabled journal → conn < 64 → enabled journal (Hang conn why) ≡ hang_why journal conn
+  pub message : (journal : List Event) (conn : ℕ) (msg : TMsg) → IsPlayed enabled journal → conn < 64 → IsMessageWhy journal conn (enabled journal (Msg conn msg))
+  pub ended : (journal : List Event) (conn : ℕ) → IsPlayed enabled journal → conn < 64 → answer journal (Ended conn) ≡ has_hang journal conn

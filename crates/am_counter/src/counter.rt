@@ -1,0 +1,86 @@
+//! A journal that seats add to.
+
+ghost use Rattle.std.specs.Prelude.{◌≡◌, ℕ, ◌<◌, Bool, List, [], Option, Ok, false, true, IfOk, OnErr, IfErr};
+ghost use Rattle.am_journal.specs.declared.event.Event.{Event};
+ghost use Rattle.am_journal.specs.declared.event.Why.{Why};
+ghost use Rattle.am_journal.specs.Lawful.{IsLawful};
+ghost use Rattle.am_counter.specs.declared.ask.Ask.{Ask};
+ghost use Rattle.am_counter.specs.declared.ask.Ask.TheVariants as ask;
+ghost use Rattle.am_counter.specs.declared.ask.Taken.TheVariants as taken;
+ghost use Rattle.am_counter.specs.Known.{Known, Looks, Submits, TakesBytes};
+ghost use Rattle.am_counter.specs.Laws.{TellsConnections};
+ghost use Rattle.am_counter.specs.Played.{IsPlayed, IsHang, IsWhy, Refuses};
+
+use crate::ask::{Ask, Taken};
+use am_journal::{Event, Refused};
+use am_text::{Bytes, NoMemory};
+use std::sync::Wait;
+
+/// One journal, to which many seats add events, each in a turn of its own. What a call does is said of the journal as it is
+/// at its turn: the seat has seen it then.
+pub trait Counter {
+    /// The right to take turns. Each side of a connection has one.
+    type Seat;
+
+    /// The seat is of this counter.
+    ghost fits: { Self → Self.Seat → Type 0 };
+
+    /// What the seat knows.
+    ghost known: { Self.Seat → Known };
+
+    /// The reason for which an event isn't enabled after a journal.
+    ghost enabled: { List Event → Event → Option Why };
+
+    /// The bytes of a connection's unsent replies after a journal.
+    ghost unsent: { List Event → ℕ → List ℕ };
+
+    /// The bytes of all replies to a connection that a journal makes.
+    ghost replies: { List Event → ℕ → List ℕ };
+
+    /// The answer to a question after a journal.
+    ghost answer: { List Event → Ask → Bool };
+
+    /// Does an event in one turn, if it is enabled then, and answers the number of its entry. A refusal changes nothing but what
+    /// the seat has seen.
+    fn submit<R: Wait>(&self, rt: &R, seat: &mut Self::Seat, event: Event) -> Result<u64, Refused>
+        requires fits { fits self.now seat.old }
+        requires lawful { IsLawful event }
+        ensures fits { fits self.now seat.new }
+        ensures played { IsPlayed enabled (known seat.new).seen }
+        ensures ok { IfOk result (λ n. Submits enabled (known seat.old) event n (known seat.new)) }
+        ensures err { OnErr result (Looks (known seat.old) (known seat.new)) }
+        ensures refused { IfErr result (λ e. Refuses e (enabled (known seat.new).seen event)) }
+        // A hang-up is never refused for memory.
+        ensures hang { IsHang event → IfErr result IsWhy };
+
+    /// Takes the unsent replies of a connection in one turn, all of them, into `into`. Where there is none, or memory runs
+    /// out, nothing changes but what the seat has seen.
+    fn take<R: Wait>(
+        &self,
+        rt: &R,
+        seat: &mut Self::Seat,
+        conn: u32,
+        into: &mut Bytes,
+    ) -> Result<Taken, NoMemory>
+        requires fits { fits self.now seat.old }
+        requires conn { conn < 64 }
+        ensures fits { fits self.now seat.new }
+        ensures played { IsPlayed enabled (known seat.new).seen }
+        ensures bytes { result ≡ Ok taken.Bytes → TakesBytes enabled unsent (known seat.old) conn into.new (known seat.new) }
+        ensures nothing_yet { result ≡ Ok taken.NothingYet → Looks (known seat.old) (known seat.new) × (into.new ≡ into.old)
+            × (answer (known seat.new).seen (ask.Ended conn) ≡ false) × (unsent (known seat.new).seen conn ≡ []) }
+        ensures ended { result ≡ Ok taken.Ended → Looks (known seat.old) (known seat.new) × (into.new ≡ into.old)
+            × (answer (known seat.new).seen (ask.Ended conn) ≡ true) × (unsent (known seat.new).seen conn ≡ []) }
+        ensures err { OnErr result (Looks (known seat.old) (known seat.new) × (into.new ≡ into.old)) };
+
+    /// Answers a question in one turn.
+    fn look<R: Wait>(&self, rt: &R, seat: &mut Self::Seat, ask: Ask) -> bool
+        requires fits { fits self.now seat.old }
+        ensures fits { fits self.now seat.new }
+        ensures played { IsPlayed enabled (known seat.new).seen }
+        ensures seen { Looks (known seat.old) (known seat.new) }
+        ensures answer { result ≡ answer (known seat.new).seen ask };
+
+    /// What its journals say of connections.
+    ghost connections: { TellsConnections enabled answer };
+}

@@ -1,0 +1,8 @@
+//! What the sides of a connection ask of the editor that they share: one journal, to which seats add events.
+#![tactic(auto)]
+
+mod ask;
+mod counter;
+
+pub use ask::{Ask, Taken};
+pub use counter::Counter;
