@@ -18,7 +18,6 @@ use Rattle.event_book.proofs.BookLemmas.{same_window, other_window}
 -- ---- a relation of the item at each place before a change and after it
 
 module _ (P : Option Recorded → Option Recorded → Type 0) (same : (o : Option Recorded) → P o o) where
-
   pushed : (new : Item) → P None (Some (fresh new)) → (es : List Recorded) (k : ℕ) → P (slice_get es k) (slice_get (es ++ fresh new ∷ []) k)
   pushed new h [] zero = h
   pushed new h [] (suc k) = same None

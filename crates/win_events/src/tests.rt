@@ -1,4 +1,4 @@
-use crate::{Item, Origin, Sort, read_back, spell};
+use crate::{BackMsg, Item, Origin, Sort, read_back, spell};
 use am_text::{Bytes, NoMemory, Range, Runes, decode_whole};
 use std::alloc::{AllocError, Global};
 use std::test::Fail;
@@ -49,7 +49,7 @@ fn clicks_are_spelled(rt: HostRuntime) -> Result<(), Fail> {
     Ok(())
 }
 
-// The first bytes of an insertion of so many letters, and how many there are.
+// The message of an insertion of so many letters.
 fn insertion(alloc: Global, letters: usize) -> Result<Bytes, NoMemory> {
     let item = Item {
         origin: Origin::K,
@@ -63,21 +63,41 @@ fn insertion(alloc: Global, letters: usize) -> Result<Bytes, NoMemory> {
     spell(alloc, &item)
 }
 
+// The message that shows 255 letters.
+fn shown_255(alloc: Global) -> Result<Bytes, NoMemory> {
+    let mut wanted = Bytes::copied(alloc, b"KI0 255 0 255 ")?;
+    wanted.append(vec![in alloc; b'a'; 255]?.as_slice())?;
+    wanted.push(b'\n')?;
+    Ok(wanted)
+}
+
 // Of 255 runes the text is there, of 256 it isn't.
 #[test]
 fn a_long_text_is_not_shown(rt: HostRuntime) -> Result<(), Fail> {
     let shown = insertion(rt.alloc(), 255).map_err(|_| AllocError)?;
+    let wanted = shown_255(rt.alloc()).map_err(|_| AllocError)?;
     let hidden = insertion(rt.alloc(), 256).map_err(|_| AllocError)?;
-    assert!(rt; shown.len() == 14 + 255 + 1 && hidden.as_slice() == b"KI0 256 0 0 \n".as_slice());
+    assert!(rt; shown.as_slice() == wanted.as_slice());
+    assert!(rt; hidden.as_slice() == b"KI0 256 0 0 \n".as_slice());
     Ok(())
 }
 
-const GOOD: [&[u8]; 4] = [
-    b"MX4 5\n",
-    b"EL0 0\n",
-    b"Kx12 15   \n",
-    b"Fl0 18446744073709551615\n",
-];
+fn message(origin: Origin, sort: Sort, q0: usize, q1: usize) -> Option<BackMsg> {
+    Some(BackMsg {
+        origin,
+        sort,
+        range: Range { q0, q1 },
+    })
+}
+
+// The four types, with any blanks at the end and up to the greatest number.
+fn are_read_back() -> bool {
+    read_back(b"MX4 5\n") == message(Origin::M, Sort::BodyExec, 4, 5)
+        && read_back(b"EL0 0\n") == message(Origin::E, Sort::BodyLook, 0, 0)
+        && read_back(b"Kx12 15   \n") == message(Origin::K, Sort::TagExec, 12, 15)
+        && read_back(b"Fl0 18446744073709551615\n")
+            == message(Origin::F, Sort::TagLook, 0, 18446744073709551615)
+}
 
 const BAD: [&[u8]; 12] = [
     b"",
@@ -102,6 +122,6 @@ fn how_many_read(all: &[&[u8]]) -> usize {
 
 #[test]
 fn messages_are_read_back(rt: HostRuntime) -> Result<(), Fail> {
-    assert!(rt; how_many_read(&GOOD) == 4 && how_many_read(&BAD) == 0);
+    assert!(rt; are_read_back() && how_many_read(&BAD) == 0);
     Ok(())
 }
