@@ -1,11 +1,14 @@
 -- A run goes on, and what is kept goes on with it.
-use Rattle.std.proofs.Common.{◌≡◌, ℕ, zero, suc, false, ◌+◌, ◌-◌, List, [], ◌∷◌, ◌++◌, length, Option, Some, None, refl, sym, ap, subst, ◌∙◌, arith}
+use Rattle.std.proofs.Common.{◌≡◌, ℕ, zero, suc, false, ◌+◌, ◌-◌, List, [], ◌∷◌, ◌++◌, length, Option, Some, None, refl, sym, ap, subst, ◌∙◌, arith, append_assoc}
 use Rattle.std.specs.Prelude.{replicate}
 use Rattle.std.specs.List.{fold}
 use Rattle.std.proofs.lemmas.Grind.{fold-append}
-use Rattle.std.proofs.lemmas.List.{length-append}
+use Rattle.std.proofs.lemmas.List.{length-append, append-nil}
 use Rattle.am_text.specs.Room.{Room}
 use Rattle.am_journal.specs.declared.event.Event.{Event}
+use Rattle.am_journal.specs.declared.event.Why.{Why}
+use Rattle.am_journal.specs.Lawful.{IsLawful}
+use Rattle.am_counter.specs.Played.{ArePlayed, IsPlayed}
 use Rattle.core_windows.specs.Possible.{IsPossible}
 use Rattle.core_windows.specs.Windows.{Window}
 use Rattle.core_windows.specs.Stories.{AreLawful}
@@ -16,9 +19,9 @@ use Rattle.acme_core.specs.declared.parts.Parts.{Parts}
 use Rattle.acme_core.specs.declared.connection.Connection.TheVariants.{Undialed}
 use Rattle.acme_core.specs.Connections.{connection_at, connections_after, live_count, was_dialed, AreJoined}
 use Rattle.acme_core.specs.Doings.{doing_of}
-use Rattle.acme_core.specs.Kept.{IsKept, IsReady, IsPrepared, AreSound}
-use Rattle.acme_core.specs.Parts.{present_of}
-use Rattle.acme_core.specs.Run.{step, run, present_after}
+use Rattle.acme_core.specs.Kept.{IsKept, IsReady, IsPrepared, AreSound, planned_of}
+use Rattle.acme_core.specs.Parts.{present_of, AreSteady}
+use Rattle.acme_core.specs.Run.{step, run, present_after, enabled}
 use Rattle.acme_core.specs.Stages.{after}
 use Rattle.acme_core.specs.States.{Present, State, present, start}
 use Rattle.acme_core.proofs.Few.{length-connections}
@@ -27,6 +30,19 @@ use Rattle.acme_core.proofs.Joins.{joins_on}
 pub run-push : (journal : List Event) (e : Event) → run (journal ++ e ∷ []) ≡ step (run journal) e
 unfolding run
 run-push journal e = fold-append step start journal (e ∷ [])
+
+-- ---- the events were enabled
+
+played_more : (allows : List Event → Event → Option Why) (before events : List Event) (e : Event) → ArePlayed allows before events → IsLawful e → allows (before ++ events) e ≡ None
+    → ArePlayed allows before (events ++ e ∷ [])
+unfolding ArePlayed
+played_more allows before [] e all lawful allowed = (lawful, subst (λ (l : List Event). allows l e ≡ None) (append-nil before) allowed, tt)
+played_more allows before (x ∷ events) e all lawful allowed =
+    (all.0, all.1, played_more allows (before ++ x ∷ []) events e all.2 lawful (subst (λ (l : List Event). allows l e ≡ None) (sym (append_assoc before (x ∷ []) events)) allowed))
+
+none_played : (allows : List Event → Event → Option Why) → IsPlayed allows []
+unfolding ArePlayed
+none_played allows = tt
 
 -- what a step makes of the editor as it stands is what it makes of the story
 stands_on : ChangesShow → (s : State) (e : Event) → AreLawful s.windows → IsPossible (present s).windows (doing_of (present s) e).change
@@ -53,9 +69,9 @@ sound_on old new spare p was ready changed book = record {
 -- what is kept goes on with a step
 pub kept_on : ChangesShow → ChangesAreLawful → (entries next : Room Event) (old new : Parts) (p : Prepared) (e : Event) (left : Option Prepared)
     → IsKept entries old (Some p) → e ≡ p.event → next.items ≡ entries.items ++ e ∷ [] → next.spare ≡ entries.spare - 1
-    → present_of new ≡ after (present_of old) p.event (doing_of (present_after entries.items) p.event) → IsSound new.entries new.book.kept → left ≡ None
+    → present_of new ≡ after (present_of old) p.event (doing_of (present_after entries.items) p.event) → IsSound new.entries new.book.kept → AreSteady new → left ≡ None
     → IsKept next new left
-kept_on show laws entries next old new p e left was is grown spare changed book none =
+kept_on show laws entries next old new p e left was is grown spare changed book steady none =
     let s : State = run entries.items in
     let ready : IsPrepared (present s) entries.spare old p = was.ready in
     let pushed : next.items ≡ entries.items ++ p.event ∷ [] = grown ∙ ap (λ (x : Event). entries.items ++ x ∷ []) is in
@@ -74,12 +90,13 @@ kept_on show laws entries next old new p e left was is grown spare changed book 
     let had : (present s).entries ≡ old.entries = sym (ap (λ (x : Present). x.entries) was.state) in
     let longer : length next.items ≡ length entries.items + 1 = ap (λ (l : List Event). length l) pushed ∙ length-append entries.items (p.event ∷ []) in
     record {
+      played = subst (λ (l : List Event). IsPlayed enabled l) (sym pushed) (played_more enabled [] entries.items p.event was.played ready.lawful ready.allowed);
       state = stepped ∙ ap present ran;
       lawful = subst (λ (x : State). AreLawful x.windows) ran (lawful_on laws s p.event was.lawful ready.possible);
       counted = omega (arith, numbered, was.counted, longer);
       sound = sound_on old new entries.spare p was.sound readied same book;
       hangs = record { room = omega (arith, count, spare, ready.entries.room); numbers = omega (arith, count, numbered, had, ready.entries.numbers) };
-      ready = subst (λ (x : Option Prepared). IsReady (present_after next.items) next.spare new x) (sym none) tt;
+      ready = subst (λ (x : Option Prepared). IsReady (present_after next.items) next.spare new x) (sym none) steady;
     }
 
 -- ---- the empty editor
@@ -93,12 +110,13 @@ none_live : (n : ℕ) → live_count (replicate n Undialed) ≡ 0
 none_live zero = refl
 none_live (suc n) = none_live n
 
-pub kept_start : ChangesAreLawful → (entries : Room Event) (parts : Parts) → entries.items ≡ [] → present_of parts ≡ present start → IsKept entries parts None
+pub kept_start : ChangesAreLawful → (entries : Room Event) (parts : Parts) → entries.items ≡ [] → present_of parts ≡ present start → AreSteady parts → IsKept entries parts None
 unfolding run
-kept_start laws entries parts empty state =
+kept_start laws entries parts empty state steady =
     let none : live_count parts.connections.items ≡ 0 = ap (λ (x : Present). live_count x.connections) state ∙ none_live 64 in
     let first : parts.entries ≡ 0 = ap (λ (x : Present). x.entries) state in
     record {
+      played = subst (λ (l : List Event). IsPlayed enabled l) (sym empty) (none_played enabled);
       state = state ∙ ap present_after (sym empty);
       lawful = subst (λ (x : List Event). AreLawful (run x).windows) (sym empty) laws.begins;
       counted = first ∙ ap (λ (l : List Event). length l) (sym empty);
@@ -108,7 +126,7 @@ kept_start laws entries parts empty state =
         book = subst (λ (x : Present). IsSound x.entries x.book) (sym state) (record { latest = omega arith; small = refl });
       };
       hangs = record { room = omega (arith, none); numbers = omega (arith, none, first) };
-      ready = tt;
+      ready = steady;
     }
 
 -- ---- the number of an entry
@@ -121,3 +139,11 @@ counts s (e ∷ journal) = omega (arith, counts (step s e) journal)
 pub entries_counted : (journal : List Event) → (run journal).entries ≡ length journal
 unfolding run
 entries_counted journal = omega (arith, counts start journal)
+
+-- ---- where no plan waits
+
+pub steady_of : (s : Present) (spare : ℕ) (parts : Parts) (prepared : Option Prepared) → planned_of prepared ≡ None → IsReady s spare parts prepared → AreSteady parts
+steady_of s spare parts None none ready = ready
+steady_of s spare parts (Some p) none ready = absurd cc
+
+pub ruleset asking = (steady_of)

@@ -88,10 +88,10 @@ or_true false = refl
 
 -- ---- connections
 
-here : (cs : List Connection) (c : ℕ) (v : Connection) → c < length cs → connection_at (slice_set cs c v) c ≡ v
+pub here : (cs : List Connection) (c : ℕ) (v : Connection) → c < length cs → connection_at (slice_set cs c v) c ≡ v
 here cs c v h = get_or-set_same cs c v Undialed h
 
-elsewhere : (cs : List Connection) (c x : ℕ) (v : Connection) → x ≢ c → connection_at (slice_set cs c v) x ≡ connection_at cs x
+pub elsewhere : (cs : List Connection) (c x : ℕ) (v : Connection) → x ≢ c → connection_at (slice_set cs c v) x ≡ connection_at cs x
 elsewhere cs c x v h = get_or-set_other cs c x v Undialed h
 
 dialed_live : (v : Connection) → live_refusal v ≡ None → was_dialed v ≡ true

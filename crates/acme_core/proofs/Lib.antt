@@ -7,3 +7,4 @@ pub mod Saids
 pub mod Places
 pub mod Viewed
 pub mod Typed
+pub mod Connected

@@ -3,6 +3,7 @@ use Rattle.std.specs.Prelude.{◌≡◌, ℕ, ◌+◌, ◌<◌, ◌≤◌, ◌^�
 use Rattle.am_text.specs.Room.{Room}
 use Rattle.am_journal.specs.declared.event.Event.{Event}
 use Rattle.am_journal.specs.Lawful.{IsLawful}
+use Rattle.am_counter.specs.Played.{IsPlayed}
 use Rattle.core_windows.specs.Possible.{IsPossible}
 use Rattle.core_windows.specs.Stories.{AreLawful}
 use Rattle.core_events.specs.Sound.{IsSound}
@@ -10,8 +11,8 @@ use Rattle.acme_core.specs.declared.parts.Parts.{Parts}
 use Rattle.acme_core.specs.declared.prepared.Prepared.{Prepared}
 use Rattle.acme_core.specs.Connections.{connections_after, live_count, AreJoined}
 use Rattle.acme_core.specs.Doings.{enabled_at, doing_of}
-use Rattle.acme_core.specs.Parts.{present_of, HasReady}
-use Rattle.acme_core.specs.Run.{run, present_after}
+use Rattle.acme_core.specs.Parts.{present_of, AreSteady, HasReady}
+use Rattle.acme_core.specs.Run.{run, present_after, enabled}
 use Rattle.acme_core.specs.States.{Present}
 
 -- the event of a plan that waits
@@ -32,8 +33,9 @@ pub record IsPrepared (s : Present) (spare : ℕ) (parts : Parts) (prepared : Pr
   pub ready : HasReady parts prepared (doing_of s prepared.event)
   pub entries : HasEntries s.entries spare (live_count (connections_after parts.connections.items prepared.event) + 1)
 
+-- Where no plan waits, nothing is ready in the tables either.
 abbrev pub IsReady : Present → ℕ → Parts → Option Prepared → Type 0
-IsReady s spare parts None = Unit {0}
+IsReady s spare parts None = AreSteady parts
 IsReady s spare parts (Some prepared) = IsPrepared s spare parts prepared
 
 -- what holds of the tables themselves
@@ -42,9 +44,10 @@ pub record AreSound (parts : Parts) : Type 0 where
   pub joined : AreJoined parts.connections.items parts.sessions.kept
   pub book : IsSound parts.entries parts.book.kept
 
--- The tables are as the journal leads to, its windows are lawful, and there is an entry for the hang-up of each connection that
--- lives.
+-- The journal's events were enabled, the tables are as it leads to, its windows are lawful, and there is an entry for the hang-up of
+-- each connection that lives.
 pub record IsKept (entries : Room Event) (parts : Parts) (prepared : Option Prepared) : Type 0 where
+  pub played : IsPlayed enabled entries.items
   pub state : present_of parts ≡ present_after entries.items
   pub lawful : AreLawful (run entries.items).windows
   pub counted : parts.entries ≡ length entries.items

@@ -11,3 +11,4 @@ pub mod Parts
 pub mod Kept
 pub mod Addresses
 pub mod Views
+pub mod Asks

@@ -141,7 +141,8 @@ pub(crate) fn change_sessions(
     said: &[Response],
 )
     requires { IsOfJoined sessions.old.present event.now }
-    ensures { (d : Doing) → d.effect ≡ effect.now → d.events ≡ events → sessions.new ≡ both (ended_tables sessions.old.present event.now d said.now) }
+    ensures new { (d : Doing) → d.effect ≡ effect.now → d.events ≡ events → sessions.new ≡ both (ended_tables sessions.old.present event.now d said.now) }
+    ensures steady { IsSteady sessions.new }
 {
     sessions.keep();
     match event {

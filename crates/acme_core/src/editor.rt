@@ -2,18 +2,22 @@
 
 ghost use Rattle.std.specs.Prelude.{◌≡◌, ◌<◌, ◌≤◌, ◌+◌, ◌^◌, ◌++◌, ◌∷◌, [], Some, None, length, slice_get, IsSome, OnSome, IfOk, IfSome, OnOk, OnErr, IfErr, MatchOption};
 ghost use Rattle.am_journal.specs.Lawful.{IsLawful};
+ghost use Rattle.am_counter.specs.Played.{IsPlayed};
 ghost use Rattle.acme_core.specs.Run.{enabled, run, output_at, Refuses, IsHang, IsWhy, settled, ready};
 ghost use Rattle.core_windows.specs.Stories.{AreLawful};
 ghost use Rattle.win_text.specs.Bodies.{IsInside};
 ghost use Rattle.acme_core.specs.Addresses.{addr_at, body_at};
 ghost use Rattle.event_book.specs.Laws.{WindowOrder, WhatAFidGets};
+ghost use Rattle.acme_core.specs.Asks.{answer_at};
 ghost use Rattle.acme_core.specs.Views.{ledger, view_of};
 
+use crate::asking::answer;
 use crate::parts::Parts;
 use crate::planning::prepare;
 use crate::prepared::Prepared;
 use crate::unsent::reply_at;
 use crate::view::{addr_of, view_of};
+use am_counter::Ask;
 use am_journal::{Event, ItemViews, Journal, Refused, View};
 use am_text::{NoMemory, Range, Roomy};
 use core_windows::{changes_are_lawful, changes_show};
@@ -149,6 +153,15 @@ impl Core {
         addr_of(&self.parts.windows, window)
     }
 
+    /// Answers a question to the journal. It takes no memory.
+    #[tactic(auto, using(crate::proofs::Goes::asking))]
+    pub fn look(&self, ask: Ask) -> bool
+        requires settled { self.now.planned ≡ None }
+        ensures { result ≡ answer_at self.now.journal ask }
+    {
+        answer(&self.parts, ask)
+    }
+
     /// What the report tells of the editor.
     #[tactic(auto, unfolding(crate::specs::Views::view_of))]
     pub fn view(&self) -> Result<View, NoMemory>
@@ -162,6 +175,13 @@ impl Core {
         ensures { IfOk result (λ views. views ≡ ledger self.now.journal) }
     {
         self.parts.book.kept_ledger()
+    }
+
+    /// In each journal of a core each event is lawful, and was enabled after those before it.
+    pub fn events_were_enabled(&self)
+        ensures { IsPlayed enabled self.now.journal }
+    {
+        let _entries = self.journal.len();
     }
 
     /// In each journal of a core each window is lawful: each of its ranges was set inside the text of its time, and its text

@@ -7,7 +7,7 @@ use crate::connection::Connection;
 use am_journal::Why;
 
 /// The most unsent replies at which a message comes is one less.
-const REPLIES: usize = 256;
+pub(crate) const REPLIES: usize = 256;
 
 fn first_why(first: Option<Why>, later: Option<Why>) -> Option<Why>
     ensures { result ≡ first_why first later }

@@ -1,12 +1,14 @@
 //! The editor of one thread: it takes one event at a time and keeps a journal of them.
 #![tactic(auto)]
 
+mod asking;
 mod closing;
 mod connection;
 mod doing;
 mod editor;
 mod enabled;
 mod growing;
+mod laws;
 mod origin;
 mod parts;
 mod planning;
@@ -17,6 +19,7 @@ mod typing;
 mod unsent;
 mod view;
 
+pub use am_counter::Ask;
 pub use am_journal::{
     ConnView, ConnViews, Event, ItemView, ItemViews, Journal, Refused, Side, View, Why, WindowView,
     WindowViews,
@@ -24,5 +27,6 @@ pub use am_journal::{
 pub use am_text::{Bytes, Items, NoMemory, Range, Rune, Runes};
 pub use core_answers::messages_are_answered;
 pub use editor::{Core, Plan};
+pub use laws::journals_tell_connections;
 pub use ninep_wire::{RBody, RMsg, TBody, TMsg};
 pub use unsent::Reply;

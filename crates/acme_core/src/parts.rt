@@ -91,7 +91,8 @@ fn commit_windows(windows: &mut Windows, event: &Event)
 impl Parts {
     /// The tables of the empty editor.
     pub(crate) fn new(alloc: Global) -> Result<Parts, NoMemory>
-        ensures { IfOk result (λ parts. present_of parts ≡ present start) }
+        ensures state { IfOk result (λ parts. present_of parts ≡ present start) }
+        ensures steady { IfOk result AreSteady }
     {
         Ok(Parts {
             entries: 0,
@@ -148,6 +149,7 @@ impl Parts {
         ensures event { result ≡ prepared.event }
         ensures state { (d : Doing) → HasReady self.old prepared d → present_of self.new ≡ after (present_of self.old) prepared.event d }
         ensures sound { IsSound self.new.entries self.new.book.kept }
+        ensures steady { AreSteady self.new }
     {
         let Prepared {
             event,

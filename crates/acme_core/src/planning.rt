@@ -1,6 +1,6 @@
 //! Deciding whether an event is enabled, and making its step ready.
 
-ghost use Rattle.std.specs.Prelude.{◌≡◌, ◌+◌, ◌<◌, ◌≤◌, ◌^◌, [], true, false, None, length, IfOk, IfErr};
+ghost use Rattle.std.specs.Prelude.{◌≡◌, ◌+◌, ◌<◌, ◌≤◌, ◌^◌, [], true, false, None, length, IfOk, IfErr, OnErr};
 ghost use Rattle.am_journal.specs.Lawful.{IsLawful};
 ghost use Rattle.acme_core.specs.Connections.{live_count, IsJoinedFor};
 ghost use Rattle.core_events.specs.Sound.{IsSound};
@@ -66,7 +66,7 @@ fn hanging(alloc: Global, parts: &Parts, event: Event) -> Prepared
     }
 }
 
-/// Decides whether an event is enabled, and makes it ready. What the tables mean stays.
+/// Decides whether an event is enabled, and makes it ready. What the tables mean stays, and a refusal leaves nothing ready in them.
 #[tactic(auto, using(crate::proofs::Joins::joined))]
 pub(crate) fn prepare(
     alloc: Global,
@@ -85,6 +85,7 @@ pub(crate) fn prepare(
     ensures prepared { IfOk result (IsPrepared (present_of parts.old) journal.new.spare parts.new) }
     ensures refused { IfErr result (λ e. Refuses e (enabled_at (present_of parts.old) event)) }
     ensures hang { IsHang event → IfErr result IsWhy }
+    ensures steady { OnErr result (AreSteady parts.new) }
 {
     parts.back();
     if let Some(why) = parts.why_not(&event) {
@@ -93,5 +94,11 @@ pub(crate) fn prepare(
     if is_hang(&event) {
         return Ok(hanging(alloc, parts, event));
     }
-    Ok(ready(alloc, journal, parts, event)?)
+    match ready(alloc, journal, parts, event) {
+        Ok(prepared) => Ok(prepared),
+        Err(NoMemory) => {
+            parts.back();
+            Err(Refused::NoMemory)
+        }
+    }
 }

@@ -1,3 +1,5 @@
+ghost use Rattle.std.specs.Prelude.{◌≡◌, None};
+
 use super::*;
 use am_journal::read_line;
 use std::alloc::Global;
@@ -106,7 +108,9 @@ fn told(alloc: Global) -> Result<[usize; 7], NoMemory> {
     core.window_order();
     core.what_a_fid_gets();
     core.entries_are_counted();
+    core.events_were_enabled();
     messages_are_answered();
+    journals_tell_connections();
     let journal = core.into_journal();
     Ok([
         view.entries as usize,
@@ -124,5 +128,65 @@ fn plan_and_commit(rt: HostRuntime) -> Result<(), Fail> {
     let alloc = rt.alloc();
     let told = told(alloc)?;
     assert_eq!(rt; told.as_slice(), [2, 1, 1, 0, 0, 0, 2].as_slice());
+    Ok(())
+}
+
+// Does a line's event, where it is enabled.
+fn play_line(alloc: Global, core: &mut Core, line: &[u8])
+    requires { core.old.planned ≡ None }
+    ensures { core.new.planned ≡ None }
+{
+    if let Ok(Some(event)) = read_line(alloc, line) {
+        let _number = core.step(event);
+    }
+}
+
+// Whether the event file of the first window is open, and whether connection 0 has room for a message and has ended.
+fn answers(core: &Core) -> (bool, bool, bool)
+    requires { core.now.planned ≡ None }
+{
+    (
+        core.look(Ask::EventOpen(1)),
+        core.look(Ask::Room(0)),
+        core.look(Ask::Ended(0)),
+    )
+}
+
+// Sends so many messages that 256 replies are unsent: each frees a fid that isn't there.
+fn fill(alloc: Global, core: &mut Core)
+    requires { core.old.planned ≡ None }
+    ensures { core.new.planned ≡ None }
+{
+    for _ in 0..256 {
+        play_line(alloc, core, b"msg 0 0b00000078010009000000");
+    }
+}
+
+// The answers before anything is done, with an open event file, with 256 unsent replies, and after the hang-up.
+fn asked(alloc: Global) -> Result<[(bool, bool, bool); 4], NoMemory> {
+    let mut core = Core::new(alloc)?;
+    let first = answers(&core);
+    play_line(alloc, &mut core, b"dial 0");
+    play_line(alloc, &mut core, b"new");
+    play_line(alloc, &mut core, VERSION_0);
+    play_line(alloc, &mut core, b"msg 0 1300000068010000000000ffffffff00000000");
+    play_line(alloc, &mut core, b"msg 0 1b0000006e01000000000001000000020001003105006576656e74");
+    play_line(alloc, &mut core, b"msg 0 0c0000007001000100000002");
+    let open = answers(&core);
+    fill(alloc, &mut core);
+    let full = answers(&core);
+    play_line(alloc, &mut core, b"hang 0 end");
+    let ended = answers(&core);
+    drop(core);
+    Ok([first, open, full, ended])
+}
+
+#[test]
+fn questions(rt: HostRuntime) -> Result<(), Fail> {
+    let asked = asked(rt.alloc())?;
+    assert_eq!(rt; asked[0], (false, true, false));
+    assert_eq!(rt; asked[1], (true, true, false));
+    assert_eq!(rt; asked[2], (true, false, false));
+    assert_eq!(rt; asked[3], (false, false, true));
     Ok(())
 }

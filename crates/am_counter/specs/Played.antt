@@ -14,7 +14,7 @@ abbrev pub IsPrefix : List Event → List Event → Type 0
 IsPrefix xs ys = (rest : List Event) × (xs ++ rest ≡ ys)
 
 -- each of these events is lawful, and was enabled after those before it
-pub ArePlayed : (List Event → Event → Option Why) → List Event → List Event → Type 0
+unfoldable pub ArePlayed : (List Event → Event → Option Why) → List Event → List Event → Type 0
 ArePlayed enabled before [] = Unit {0}
 ArePlayed enabled before (e ∷ events) = IsLawful e × (enabled before e ≡ None) × ArePlayed enabled (before ++ e ∷ []) events
 
