@@ -1,0 +1,25 @@
+use Rattle.std.proofs.Common.{◌≡◌, ◌+◌, ◌∷◌, [], ◌++◌, List, None, length, sym, ap, ◌∙◌, subst}
+use Rattle.am_journal.specs.declared.event.Event.{Event}
+use Rattle.turn_lock.specs.declared.view.View.{View}
+use Rattle.turn_lock.specs.Words.{view_of}
+use Rattle.acme_core.specs.Run.{enabled}
+use Rattle.am_desk.specs.Journals.{journal_of}
+use Rattle.am_desk.proofs.Turns.{looked, entered_event}
+use Rattle.am_desk.proofs.desk.Desk.submit.Goals as goal
+
+pub returns-in-Ok-clause-ok : goal.returns-in-Ok-clause-ok
+returns-in-Ok-clause-ok g c =
+    let now : List Event = journal_of c.enter-held.result.value in
+    let was : journal_of c.value.result.now ≡ now = ap journal_of c.value.ensures.value in
+    let seen : journal_of c.value.result.now ≡ (view_of c.enter-held.new.seat).seen = was ∙ sym (ap (λ (v : View Event). v.seen) c.enter-held.ensures.view) in (
+      now,
+      c.enter-held.ensures.seen,
+      subst (λ (l : List Event). enabled l c.args.event ≡ None) was c.in-Ok.ensures.ok.0,
+      c.in-Ok.ensures.ok.1 ∙ ap (λ (l : List Event). length l + 1) was,
+      entered_event (view_of c.args.seat.now.seat) _ _ _ now c.args.event c.enter-held.ensures.view
+      (c.note.ensures.view c.args.event (c.in-Ok.ensures.done ∙ ap (λ (l : List Event). l ++ c.args.event ∷ []) seen)) c.leave.ensures.view,
+    )
+
+pub returns-in-Err-clause-err : goal.returns-in-Err-clause-err
+returns-in-Err-clause-err g c =
+    looked (view_of c.args.seat.now.seat) _ _ (journal_of c.enter-held.result.value) c.enter-held.ensures.view c.enter-held.ensures.seen c.leave-in-Err.ensures.view

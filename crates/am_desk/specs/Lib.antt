@@ -1,0 +1,4 @@
+pub mod Knowing
+pub mod Journals
+pub mod Desks
+pub mod Replies

@@ -1,0 +1,49 @@
+//! The desk as a journal that seats add to.
+
+use crate::desk::{Desk, DeskSeat};
+use acme_core::{Ask, Bytes, Event, NoMemory, Refused};
+use am_counter::{Counter, Taken};
+use std::sync::Wait;
+
+impl Counter for Desk {
+    ghost use Rattle.std.specs.Prelude.{◌≡◌};
+    ghost use Rattle.acme_core.specs.Asks.{answer_at};
+    ghost use Rattle.acme_core.specs.Run.{enabled, output_at};
+    ghost use Rattle.am_desk.specs.Desks.{desk_id, seat_lock, known_of};
+    ghost use Rattle.am_desk.specs.Replies.{replies};
+    ghost use Rattle.acme_core.proofs.Connected.{tells_connections};
+
+    type Seat = DeskSeat;
+
+    ghost fits = { λ desk seat. seat_lock seat ≡ desk_id desk };
+
+    ghost known = { known_of };
+
+    ghost enabled = { enabled };
+
+    ghost unsent = { output_at };
+
+    ghost replies = { replies };
+
+    ghost answer = { answer_at };
+
+    fn submit<R: Wait>(&self, rt: &R, seat: &mut DeskSeat, event: Event) -> Result<u64, Refused> {
+        Desk::submit(self, rt, seat, event)
+    }
+
+    fn take<R: Wait>(
+        &self,
+        rt: &R,
+        seat: &mut DeskSeat,
+        conn: u32,
+        into: &mut Bytes,
+    ) -> Result<Taken, NoMemory> {
+        Desk::take(self, rt, seat, conn, into)
+    }
+
+    fn look<R: Wait>(&self, rt: &R, seat: &mut DeskSeat, ask: Ask) -> bool {
+        Desk::look(self, rt, seat, ask)
+    }
+
+    ghost connections = { tells_connections };
+}

@@ -1,0 +1,13 @@
+//! The editor that threads share: a journal to which each seat adds events, each in a turn of its own.
+#![tactic(auto)]
+
+mod counting;
+mod desk;
+mod settled;
+#[cfg(test)]
+mod tests;
+
+pub use acme_core::{Core, Event, NoMemory, Refused, Why};
+pub use am_counter::{Ask, Counter, Taken};
+pub use am_text::Bytes;
+pub use desk::{Desk, DeskSeat};

@@ -1,0 +1,125 @@
+//! The value under the lock: a core without a plan that waits.
+
+ghost use Rattle.std.specs.Prelude.{◌≡◌, ◌≢◌, ◌+◌, ◌<◌, ◌^◌, ◌++◌, ◌∷◌, [], None, length, IfOk, OnOk, OnErr, IfErr, Ok, true, false};
+ghost use Rattle.am_journal.specs.declared.event.Event.TheVariants.{Took};
+ghost use Rattle.am_journal.specs.Lawful.{IsLawful};
+ghost use Rattle.am_counter.specs.declared.ask.Ask.TheVariants as ask;
+ghost use Rattle.am_counter.specs.declared.ask.Taken.TheVariants as taken;
+ghost use Rattle.am_counter.specs.Played.{IsPlayed};
+ghost use Rattle.acme_core.specs.Asks.{answer_at};
+ghost use Rattle.acme_core.specs.Run.{enabled, output_at, settled, Refuses, IsHang, IsWhy};
+ghost use Rattle.am_desk.specs.Knowing.{nothing_taken};
+
+use acme_core::{Ask, Bytes, Core, Event, Items, NoMemory, Refused};
+use am_counter::Taken;
+use std::alloc::Global;
+use turn_lock::Kept;
+
+/// A core without a plan that waits, with fewer than 2^64 entries.
+#[derive(Drop)]
+pub struct Settled {
+    alloc: Global,
+    core: Core,
+    ghost few: { length core.journal < 2 ^ 64 },
+    ghost idle: { core.planned ≡ None },
+}
+
+// What came of a take where there is nothing to take.
+fn nothing_taken(ended: bool) -> Taken
+    ensures { result ≡ nothing_taken ended }
+{
+    if ended {
+        Taken::Ended
+    } else {
+        Taken::NothingYet
+    }
+}
+
+impl Kept for Settled {
+    ghost use Rattle.am_desk.specs.Journals.{journal_of};
+
+    type Entry = Event;
+
+    ghost entries = { journal_of };
+
+    ghost few = { λ x. x.few };
+}
+
+impl Settled {
+    ghost use Rattle.am_desk.specs.Journals.{journal_of};
+
+    /// The empty editor.
+    pub fn new(alloc: Global) -> Result<Settled, NoMemory>
+        ensures { IfOk result (λ settled. journal_of settled ≡ []) }
+    {
+        let core = Core::new(alloc)?;
+        Ok(Settled { alloc, core })
+    }
+
+    /// One step of the core.
+    pub fn step(&mut self, event: Event) -> Result<u64, Refused>
+        requires { IsLawful event }
+        ensures ok { IfOk result (λ n. (enabled (journal_of self.old) event ≡ None) × (n ≡ length (journal_of self.old) + 1)) }
+        ensures done { OnOk result (journal_of self.new ≡ journal_of self.old ++ event ∷ []) }
+        ensures refused { IfErr result (λ e. Refuses e (enabled (journal_of self.old) event)) }
+        ensures err { OnErr result (journal_of self.new ≡ journal_of self.old) }
+        ensures hang { IsHang event → IfErr result IsWhy }
+        ensures played { IsPlayed enabled (journal_of self.new) }
+    {
+        let answer = self.core.step(event);
+        let _entries = self.core.journal().len();
+        self.core.events_were_enabled();
+        answer
+    }
+
+    /// The answer to a question.
+    pub fn look(&self, ask: Ask) -> bool
+        ensures answer { result ≡ answer_at (journal_of self.now) ask }
+        ensures played { IsPlayed enabled (journal_of self.now) }
+    {
+        self.core.events_were_enabled();
+        self.core.look(ask)
+    }
+
+    /// The unsent replies of a connection, copied.
+    pub fn unsent(&self, conn: u32) -> Result<Bytes, NoMemory>
+        ensures { IfOk result (λ bytes. bytes ≡ output_at (journal_of self.now) conn) }
+    {
+        Items::copied(self.alloc, self.core.output(conn))
+    }
+
+    /// Takes the unsent replies of a connection into `into`, if there are any.
+    pub fn take(&mut self, conn: u32, into: &mut Bytes) -> Result<Taken, NoMemory>
+        requires { conn < 64 }
+        ensures played { IsPlayed enabled (journal_of self.new) }
+        ensures bytes { result ≡ Ok taken.Bytes → (journal_of self.new ≡ journal_of self.old ++ Took conn ∷ [])
+            × (enabled (journal_of self.old) (Took conn) ≡ None)
+            × (into.new ≡ output_at (journal_of self.old) conn) × (output_at (journal_of self.old) conn ≢ []) }
+        ensures nothing_yet { result ≡ Ok taken.NothingYet → (journal_of self.new ≡ journal_of self.old) × (into.new ≡ into.old)
+            × (answer_at (journal_of self.old) (ask.Ended conn) ≡ false) × (output_at (journal_of self.old) conn ≡ []) }
+        ensures ended { result ≡ Ok taken.Ended → (journal_of self.new ≡ journal_of self.old) × (into.new ≡ into.old)
+            × (answer_at (journal_of self.old) (ask.Ended conn) ≡ true) × (output_at (journal_of self.old) conn ≡ []) }
+        ensures err { OnErr result ((journal_of self.new ≡ journal_of self.old) × (into.new ≡ into.old)) }
+    {
+        let ended = self.look(Ask::Ended(conn));
+        let bytes = self.unsent(conn)?;
+        if bytes.is_empty() {
+            return Ok(nothing_taken(ended));
+        }
+        match self.step(Event::Took { conn }) {
+            Ok(_) => {
+                *into = bytes;
+                Ok(Taken::Bytes)
+            }
+            Err(_) => Err(NoMemory),
+        }
+    }
+
+    /// The core, at the end.
+    pub fn into_core(self) -> Core
+        ensures { result ≡ settled (journal_of self) }
+    {
+        let Settled { alloc: _, core } = self;
+        core
+    }
+}
