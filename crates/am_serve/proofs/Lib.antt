@@ -1,3 +1,5 @@
+pub mod Fronts
 pub mod Gaining
 pub mod HangUps
+pub mod Passing
 pub mod Written

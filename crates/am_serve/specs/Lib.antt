@@ -1,2 +1,4 @@
 pub mod Gained
 pub mod Writing
+pub mod Script
+pub mod Doing

@@ -1,7 +1,11 @@
 //! The sides of a connection that is served, and of a script, over any journal that they share.
 #![tactic(auto)]
 
+mod asked;
 mod hanging;
+mod scripting;
 mod writing;
 
+pub use asked::Asked;
+pub use scripting::{LineFault, ScriptEnd, script_side};
 pub use writing::{WriteEnd, write_side};

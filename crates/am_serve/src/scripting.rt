@@ -1,0 +1,181 @@
+//! The side that does the lines of a script.
+
+ghost use Rattle.std.specs.Prelude.{◌≡◌, ◌<◌, ◌≤◌, Bool, true, false};
+ghost use Rattle.am_journal.specs.Lawful.{IsLawful};
+ghost use Rattle.am_counter.specs.declared.ask.Ask.TheVariants.{EventOpen};
+ghost use Rattle.am_counter.specs.Known.{Looks};
+ghost use Rattle.am_serve.specs.Gained.{Gains, gained};
+ghost use Rattle.am_serve.specs.Script.{HaveEnded, EndsScript, asked_by_script, asked_by};
+ghost use Rattle.am_serve.specs.Doing.{DoesLine, DoesEvent};
+
+use crate::asked::{Asked, asked_by};
+use am_counter::{Ask, Counter};
+use am_journal::{Event, Refused, Why};
+use am_text::{NoMemory, split_line};
+use std::alloc::Global;
+use std::sync::Wait;
+use turn_lock::Bell;
+
+/// Why a line of a script is refused.
+#[derive(Clone, Copy, Debug, PartialEq, Eq)]
+pub enum LineFault {
+    /// It isn't in the grammar.
+    Line,
+    /// It awaits an event file that isn't open, and all connections have ended.
+    Alone,
+    /// Its event isn't enabled.
+    NotEnabled(Why),
+}
+
+/// Where a script ended.
+#[derive(Clone, Copy, Debug, PartialEq, Eq)]
+pub enum ScriptEnd {
+    /// At a line `report`, or behind the last line.
+    Done,
+    /// At this line, counted from 1.
+    Refused { line: u64, why: LineFault },
+    /// For want of memory.
+    NoMemory,
+}
+
+/// What became of a line.
+#[derive(Clone, Copy, Debug, PartialEq, Eq)]
+pub(crate) enum LineEnd {
+    Passed,
+    Report,
+    Refused(LineFault),
+    NoMemory,
+}
+
+// Whether all of the first connections have ended.
+fn have_ended<C: Counter, R: Wait>(rt: &R, desk: &C, seat: &mut C::Seat, clients: u32) -> bool
+    requires fits { C.fits desk.now seat.old }
+    requires clients { clients ≤ 64 }
+    ensures fits { C.fits desk.now seat.new }
+    ensures looks { Looks (C.known seat.old) (C.known seat.new) }
+    ensures ended { result ≡ true → HaveEnded clients (C.known seat.new).seen }
+{
+    for conn in 0..clients {
+        if !desk.look(rt, seat, Ask::Ended(conn)) {
+            return false;
+        }
+    }
+    true
+}
+
+// Waits until a window's event file is open, or it can't be opened since all connections have ended.
+fn await_window<C: Counter, R: Wait>(
+    rt: &R,
+    desk: &C,
+    seat: &mut C::Seat,
+    bell: &Bell,
+    window: u32,
+    clients: u32,
+) -> bool
+    requires fits { C.fits desk.now seat.old }
+    requires clients { clients ≤ 64 }
+    ensures fits { C.fits desk.now seat.new }
+    ensures looks { Looks (C.known seat.old) (C.known seat.new) }
+    ensures open { result ≡ C.answer (C.known seat.new).seen (EventOpen window) }
+    ensures ended { result ≡ false → HaveEnded clients (C.known seat.new).seen }
+{
+    let mut rung = 0;
+    for _ in rt.forever() {
+        // They are asked first: none can open the file later.
+        let alone = have_ended(rt, desk, seat, clients);
+        if desk.look(rt, seat, Ask::EventOpen(window)) {
+            return true;
+        }
+        if alone {
+            return false;
+        }
+        rung = bell.wait(rt, rung);
+    }
+    unreachable!()
+}
+
+fn submit<C: Counter, R: Wait>(
+    rt: &R,
+    desk: &C,
+    seat: &mut C::Seat,
+    bell: &Bell,
+    event: Event,
+) -> LineEnd
+    requires fits { C.fits desk.now seat.old }
+    requires lawful { IsLawful event }
+    ensures fits { C.fits desk.now seat.new }
+    ensures does { DoesEvent C.enabled (C.known seat.old) event result (C.known seat.new) }
+{
+    match desk.submit(rt, seat, event) {
+        Ok(_) => {
+            bell.ring();
+            LineEnd::Passed
+        }
+        Err(Refused::NotEnabled(why)) => LineEnd::Refused(LineFault::NotEnabled(why)),
+        Err(Refused::NoMemory) => LineEnd::NoMemory,
+    }
+}
+
+fn do_line<C: Counter, R: Wait>(
+    rt: &R,
+    alloc: Global,
+    desk: &C,
+    seat: &mut C::Seat,
+    bell: &Bell,
+    line: &[u8],
+    clients: u32,
+) -> LineEnd
+    requires fits { C.fits desk.now seat.old }
+    requires clients { clients ≤ 64 }
+    ensures fits { C.fits desk.now seat.new }
+    ensures does { DoesLine C.enabled C.answer clients (C.known seat.old) (asked_by line.now) result (C.known seat.new) }
+{
+    match asked_by(alloc, line) {
+        Ok(Asked::Does(event)) => submit(rt, desk, seat, bell, event),
+        Ok(Asked::Awaits(window)) => {
+            if await_window(rt, desk, seat, bell, window, clients) {
+                LineEnd::Passed
+            } else {
+                LineEnd::Refused(LineFault::Alone)
+            }
+        }
+        Ok(Asked::Ends) => LineEnd::Report,
+        Ok(Asked::Faulty) => LineEnd::Refused(LineFault::Line),
+        Err(NoMemory) => LineEnd::NoMemory,
+    }
+}
+
+/// Does the lines of a script, one after another, up to a line `report` or the end. These are the lines of a transcript but `dial`,
+/// `msg`, `hang` and `took`, and `await W` beside them, which waits until window W's event file is open. It is alone where that
+/// isn't open and all of the first `clients` connections have ended. It rings the bell after each entry.
+pub fn script_side<C: Counter, R: Wait>(
+    rt: &R,
+    alloc: Global,
+    desk: &C,
+    seat: &mut C::Seat,
+    bell: &Bell,
+    script: &[u8],
+    clients: u32,
+) -> ScriptEnd
+    requires fits { C.fits desk.now seat.old }
+    requires clients { clients ≤ 64 }
+    ensures fits { C.fits desk.now seat.new }
+    ensures gains { Gains (C.known seat.old) (gained (C.known seat.old) (C.known seat.new)) (C.known seat.new) }
+    ensures ends { EndsScript C.enabled C.answer clients (C.known seat.old) (asked_by_script script.now) result (C.known seat.new) }
+{
+    let mut rest = script;
+    let mut line: u64 = 1;
+    while !rest.is_empty() {
+        let (first, after) = split_line(rest);
+        match do_line(rt, alloc, desk, seat, bell, first, clients) {
+            LineEnd::Passed => {
+                rest = after;
+                line += 1;
+            }
+            LineEnd::Report => return ScriptEnd::Done,
+            LineEnd::Refused(why) => return ScriptEnd::Refused { line, why },
+            LineEnd::NoMemory => return ScriptEnd::NoMemory,
+        }
+    }
+    ScriptEnd::Done
+}
