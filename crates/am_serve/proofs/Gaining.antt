@@ -58,7 +58,7 @@ gains_nothing v = record {
 }
 
 -- the journal has grown meanwhile
-grown : (xs ys zs : List Event) → IsPrefix xs ys → IsPrefix ys zs → IsPrefix xs zs
+pub grown : (xs ys zs : List Event) → IsPrefix xs ys → IsPrefix ys zs → IsPrefix xs zs
 grown xs ys zs p q = (p.0 ++ q.0, sym (append_assoc xs p.0 q.0) ∙ ap (λ (l : List Event). l ++ q.0) p.1 ∙ q.1)
 
 pub gains_more : (v w x : Known) (es fs : List (ℕ × Event)) → Gains v es w → Gains w fs x → Gains v (es ++ fs) x
@@ -100,3 +100,6 @@ gained_is v w entries g = ap (drop (length v.mine)) g.mine ∙ drop_at v.mine en
 
 pub gains_gained : (v w : Known) (entries : List (ℕ × Event)) → Gains v entries w → Gains v (gained v w) w
 gains_gained v w entries g = let P : List (ℕ × Event) → Type 0 = λ l. Gains v l w in subst P (sym (gained_is v w entries g)) g
+
+pub gains_then_look : (v w x : Known) (entries : List (ℕ × Event)) → Gains v entries w → Looks w x → Gains v entries x
+gains_then_look v w x entries g l = let P : List (ℕ × Event) → Type 0 = λ l. Gains v l x in subst P (append-nil entries) (gains_more v w x entries [] g (gains_look w x l))

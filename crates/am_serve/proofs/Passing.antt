@@ -12,14 +12,13 @@ use Rattle.am_serve.specs.declared.asked.Asked.TheVariants.{Does, Awaits, Ends, 
 use Rattle.am_serve.specs.declared.scripting.LineFault.{LineFault}
 use Rattle.am_serve.specs.declared.scripting.LineFault.TheVariants as fault
 use Rattle.am_serve.specs.declared.scripting.ScriptEnd.TheVariants as end
-use Rattle.am_serve.proofs.Gaining.{gains_more, gains_look, gains_entry, gained_is, gains_gained}
+use Rattle.am_journal.specs.declared.event.Event.TheVariants.{Msg}
+use Rattle.am_serve.specs.Sending.{Sends}
+use Rattle.am_serve.proofs.Gaining.{grown, gains_more, gains_look, gains_entry, gained_is, gains_gained}
 use Rattle.am_serve.proofs.HangUps.{has_hang_kept}
 use Rattle.std.proofs.lemmas.Bool.{cases_eq}
 
 -- ---- looking
-
-grown : (xs ys zs : List Event) → IsPrefix xs ys → IsPrefix ys zs → IsPrefix xs zs
-grown xs ys zs p q = (p.0 ++ q.0, sym (append_assoc xs p.0 q.0) ∙ ap (λ (l : List Event). l ++ q.0) p.1 ∙ q.1)
 
 pub looks_on : (v w x : Known) → Looks v w → Looks w x → Looks v x
 looks_on v w x l m =
@@ -39,6 +38,10 @@ looks_then_submits enabled v w x e n l s =
     let at : w.seen ≡ l.0 = ap (λ (k : Known). k.seen) l.2 in
     let P : List Event → Type 0 = λ t. IsPrefix t s.0 in
     (s.0, grown v.seen l.0 s.0 l.1 (subst P at s.1), s.2, s.3, s.4 ∙ ap (λ (k : Known). with_entry k s.0 e) l.2)
+
+-- the same of a message
+pub looks_then_sends : (enabled : Rule) (conn : ℕ) (v w x : Known) (m : List ℕ) → Looks v w → Sends enabled conn w m x → Sends enabled conn v m x
+looks_then_sends enabled conn v w x m l s = (s.0, s.1, s.2, looks_then_submits enabled v w x (Msg conn s.0) s.1 l s.3)
 
 -- ---- lines that are passed
 

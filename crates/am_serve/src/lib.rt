@@ -3,9 +3,12 @@
 
 mod asked;
 mod hanging;
+mod reading;
 mod scripting;
+mod sending;
 mod writing;
 
 pub use asked::Asked;
+pub use reading::read_side;
 pub use scripting::{LineFault, ScriptEnd, script_side};
 pub use writing::{WriteEnd, write_side};

@@ -1,0 +1,128 @@
+-- What the steps of a side that reads messages do.
+use Rattle.std.specs.Prelude.{◌≡◌, ◌≢◌, ℕ, true, List, [], ◌++◌, Option, Some, None, Ok, Err}
+use Rattle.am_base.specs.Outside.{then_told, AreTold, HasRisen}
+use Rattle.ninep_wire.specs.declared.message.TMsg.{TMsg}
+use Rattle.ninep_wire.specs.Reading.{t_of}
+use Rattle.ninep_wire.specs.Spelling.{spelling_t}
+use Rattle.ninep_cut.specs.Cuts.{then_cut, cut_stream}
+use Rattle.am_journal.specs.declared.ending.Bad.{Bad}
+use Rattle.am_journal.specs.declared.ending.Bad.TheVariants as bad
+use Rattle.am_journal.specs.declared.ending.Ending.{Ending}
+use Rattle.am_journal.specs.declared.ending.Ending.TheVariants as ending
+use Rattle.am_journal.specs.declared.event.Event.{Event}
+use Rattle.am_journal.specs.declared.event.Event.TheVariants.{Msg}
+use Rattle.am_journal.specs.declared.event.Why.{Why}
+use Rattle.am_journal.specs.declared.event.Why.TheVariants as why
+use Rattle.am_counter.specs.Known.{Known, Looks, Submits}
+use Rattle.am_counter.specs.Played.{IsPlayed, has_hang}
+use Rattle.am_serve.specs.Gained.{Rule, Gains}
+use Rattle.am_serve.specs.Reading.{AreMessages, spellings, Gives}
+use Rattle.am_serve.specs.declared.sending.Stop.{Stop}
+use Rattle.am_serve.specs.declared.sending.Stop.TheVariants as stop
+use Rattle.am_serve.specs.declared.sending.Sent.{Sent}
+use Rattle.am_serve.specs.declared.sending.Sent.TheVariants as sent
+
+-- the connection has ended, in a journal
+abbrev pub HasEnded : Rule → ℕ → List Event → Type 0
+HasEnded enabled conn seen = (has_hang seen conn ≡ true) × IsPlayed enabled seen
+
+-- ---- one message
+
+-- a message isn't enabled after what was seen, for this reason
+abbrev pub IsRefusedAs : Rule → ℕ → List Event → List ℕ → Why → Type 0
+IsRefusedAs enabled conn seen m reason = (msg : TMsg) × (t_of m ≡ Ok msg) × (enabled seen (Msg conn msg) ≡ Some reason)
+
+abbrev pub IsBad : Rule → ℕ → List Event → List ℕ → Bad → Type 0
+IsBad enabled conn seen m (bad.Wire f) = t_of m ≡ Err f
+IsBad enabled conn seen m bad.Size = IsRefusedAs enabled conn seen m why.Size
+IsBad enabled conn seen m bad.Tag = IsRefusedAs enabled conn seen m why.Tag
+
+abbrev pub EndsAt : Rule → ℕ → List Event → List ℕ → Ending → Type 0
+EndsAt enabled conn seen m ending.End = ⊥
+EndsAt enabled conn seen m ending.Torn = ⊥
+EndsAt enabled conn seen m ending.ReadFault = ⊥
+EndsAt enabled conn seen m (ending.Broken b) = IsBad enabled conn seen m b
+EndsAt enabled conn seen m ending.Spent = ⊥
+EndsAt enabled conn seen m ending.Gone = ⊥
+EndsAt enabled conn seen m ending.NoMemory = Unit {0}
+
+-- why reading stops at a message
+abbrev pub StopsAt : Rule → ℕ → List Event → List ℕ → Stop → Type 0
+StopsAt enabled conn seen m stop.Ended = HasEnded enabled conn seen
+StopsAt enabled conn seen m (stop.Ends cause) = EndsAt enabled conn seen m cause
+
+-- a message is submitted
+abbrev pub Sends : Rule → ℕ → Known → List ℕ → Known → Type 0
+Sends enabled conn v m w = (msg : TMsg) × (n : ℕ) × (m ≡ spelling_t msg) × Submits enabled v (Msg conn msg) n w
+
+-- it isn't
+abbrev pub Keeps : Rule → ℕ → Known → List ℕ → Stop → Known → Type 0
+Keeps enabled conn v m s w = Looks v w × StopsAt enabled conn w.seen m s
+
+abbrev pub Tries : Rule → ℕ → Known → List ℕ → Sent → Known → Type 0
+Tries enabled conn v m sent.Done w = Sends enabled conn v m w
+Tries enabled conn v m sent.Waits w = Looks v w
+Tries enabled conn v m (sent.Stops s) w = Keeps enabled conn v m s w
+
+-- what comes of a message that isn't enabled for this reason; only that the connection has ended is left besides these
+abbrev pub sent_for : Why → Sent
+sent_for why.Conn = sent.Stops stop.Ended
+sent_for why.Dialed = sent.Stops stop.Ended
+sent_for why.Ended = sent.Stops stop.Ended
+sent_for why.Size = sent.Stops (stop.Ends (ending.Broken bad.Size))
+sent_for why.Tag = sent.Stops (stop.Ends (ending.Broken bad.Tag))
+sent_for why.Replies = sent.Waits
+sent_for why.Nothing = sent.Stops stop.Ended
+sent_for why.Window = sent.Stops stop.Ended
+sent_for why.Range = sent.Stops stop.Ended
+sent_for why.Windows = sent.Stops stop.Ended
+sent_for why.Length = sent.Stops stop.Ended
+
+-- ---- one piece
+
+-- a source is read, of which this was told before, and is told after, and where these bytes were left before
+pub record Source : Type 0 where
+  pub told : Option (List ℕ)
+  pub told_now : Option (List ℕ)
+  pub faults : ℕ
+  pub faults_now : ℕ
+  pub left : List ℕ
+
+abbrev pub EndsIn : Source → Ending → Type 0
+EndsIn s ending.End = (s.told_now ≡ s.told) × AreTold s.told_now [] × (s.left ≡ [])
+EndsIn s ending.Torn = (s.told_now ≡ s.told) × AreTold s.told_now [] × (s.left ≢ [])
+EndsIn s ending.ReadFault = (s.told_now ≡ s.told) × HasRisen s.faults s.faults_now
+EndsIn s (ending.Broken b) = ⊥
+EndsIn s ending.Spent = ⊥
+EndsIn s ending.Gone = ⊥
+EndsIn s ending.NoMemory = (piece : List ℕ) × (s.told ≡ then_told piece s.told_now)
+
+-- why reading stops at a piece
+abbrev pub StopsIn : Rule → ℕ → List Event → Source → Stop → Type 0
+StopsIn enabled conn seen s stop.Ended = (s.told_now ≡ s.told) × HasEnded enabled conn seen
+StopsIn enabled conn seen s (stop.Ends cause) = EndsIn s cause
+
+-- ---- all so far
+
+-- Messages were given of the bytes that were read, and these bytes of them are left.
+pub record ReadSoFar (conn : ℕ) (v w : Known) (left : List ℕ) (first now : Option (List ℕ)) : Type 0 where
+  pub entries : List (ℕ × Event)
+  pub gains : Gains v entries w
+  pub messages : AreMessages conn entries
+  pub bytes : List ℕ
+  pub told : first ≡ then_told bytes now
+  pub stream : cut_stream bytes ≡ then_cut (spellings entries) (cut_stream left)
+
+-- what is answered, if the connection hasn't ended by then
+abbrev pub answer_of : Stop → Option Ending
+answer_of stop.Ended = None
+answer_of (stop.Ends cause) = Some cause
+
+-- and reading stopped
+pub record ReadUntil (enabled : Rule) (conn : ℕ) (v w : Known) (s : Stop) (first now : Option (List ℕ)) : Type 0 where
+  pub entries : List (ℕ × Event)
+  pub gains : Gains v entries w
+  pub messages : AreMessages conn entries
+  pub bytes : List ℕ
+  pub told : first ≡ then_told bytes now
+  pub gives : Gives enabled conn w.seen (spellings entries) (cut_stream bytes) (answer_of s)

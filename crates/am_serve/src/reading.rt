@@ -1,0 +1,108 @@
+//! The side of a connection that reads messages.
+
+ghost use Rattle.std.specs.Prelude.{◌≡◌, ◌<◌, ◌≤◌, true, [], Some, Option};
+ghost use Rattle.am_base.specs.Outside.{AreTold, HasRisen};
+ghost use Rattle.am_counter.specs.Played.{IsPlayed, has_dial, has_hang};
+ghost use Rattle.am_journal.specs.declared.ending.Ending.TheVariants as ending;
+ghost use Rattle.am_serve.specs.Gained.{Gains, gained};
+ghost use Rattle.am_serve.specs.Reading.{AreRead, GivesOf, spellings};
+ghost use Rattle.am_serve.specs.Sending.{HasEnded, ReadUntil};
+ghost use Rattle.am_serve.specs.declared.sending.Stop.TheVariants as stop;
+
+use crate::hanging::hang_up;
+use crate::sending::{Stop, read_more, send_message};
+use am_base::Source;
+use am_counter::Counter;
+use am_journal::{Bad, Ending};
+use am_text::{Items, NoMemory};
+use ninep_cut::{Cut, Cutter, pieces_are_joined};
+use ninep_wire::WireFault;
+use std::alloc::Global;
+use std::sync::Wait;
+use turn_lock::Bell;
+
+// Submits messages until something stops it.
+fn read_messages<C: Counter, S: Source, R: Wait>(
+    rt: &R,
+    alloc: Global,
+    desk: &C,
+    seat: &mut C::Seat,
+    bell: &Bell,
+    conn: u32,
+    source: &mut S,
+) -> Stop
+    requires fits { C.fits desk.now seat.old }
+    requires conn { conn < 64 }
+    requires dialled { has_dial (C.known seat.old).seen conn ≡ true }
+    ensures fits { C.fits desk.now seat.new }
+    ensures reads { ReadUntil C.enabled conn (C.known seat.old) (C.known seat.new) result (S.left source.old) (S.left source.new) }
+    ensures ended { result ≡ stop.Ended → HasEnded C.enabled conn (C.known seat.new).seen }
+    ensures end { result ≡ stop.Ends ending.End → AreTold (S.left source.new) [] }
+    ensures torn { result ≡ stop.Ends ending.Torn → AreTold (S.left source.new) [] }
+    ensures fault { result ≡ stop.Ends ending.ReadFault → HasRisen (S.faults source.old) (S.faults source.new) }
+    ensures later { S.faults source.old ≤ S.faults source.new }
+{
+    // The messages don't depend on the pieces that are fed.
+    pieces_are_joined();
+    let mut cutter = Cutter::new(alloc);
+    let mut message = Items::new(alloc);
+    for _ in rt.forever() {
+        match cutter.next(&mut message) {
+            Ok(Cut::Whole) => {
+                let bytes = message.as_slice();
+                if let Err(stop) = send_message(rt, alloc, desk, seat, bell, conn, bytes) {
+                    return stop;
+                }
+            }
+            Ok(Cut::More) => {
+                if let Err(stop) = read_more(rt, desk, seat, bell, conn, source, &mut cutter) {
+                    return stop;
+                }
+            }
+            Ok(Cut::Broken(_)) => return Stop::Ends(Ending::Broken(Bad::Wire(WireFault::Size))),
+            Err(NoMemory) => return Stop::Ends(Ending::NoMemory),
+        }
+    }
+    unreachable!()
+}
+
+/// Cuts a source into messages and submits each, until something ends the connection, and answers the cause of the hang-up that it
+/// makes then, or `None` where the connection had ended. It holds reading, and waits for the bell, while the connection has no room for a
+/// reply, and rings it after each entry. The causes: `End` and `Torn` at the end of the source, between two messages or inside one,
+/// `ReadFault` where the source fails, `Broken` where the next message can't be read, is above the connection's msize or has a tag that
+/// waits, and `NoMemory`.
+pub fn read_side<C: Counter, S: Source, R: Wait>(
+    rt: &R,
+    alloc: Global,
+    desk: &C,
+    seat: &mut C::Seat,
+    bell: &Bell,
+    conn: u32,
+    source: &mut S,
+) -> Option<Ending>
+    requires fits { C.fits desk.now seat.old }
+    requires conn { conn < 64 }
+    requires dialled { has_dial (C.known seat.old).seen conn ≡ true }
+    ensures fits { C.fits desk.now seat.new }
+    ensures played { IsPlayed C.enabled (C.known seat.new).seen }
+    ensures gains { Gains (C.known seat.old) (gained (C.known seat.old) (C.known seat.new)) (C.known seat.new) }
+    ensures entries { AreRead C.enabled conn result (C.known seat.old) (C.known seat.new) }
+    // Its messages are those of the bytes that were read.
+    ensures gives { GivesOf C.enabled conn (C.known seat.new).seen (spellings (gained (C.known seat.old) (C.known seat.new))) (S.left source.old) (S.left source.new) result }
+    ensures ended { has_hang (C.known seat.new).seen conn ≡ true }
+    ensures end { result ≡ Some ending.End → AreTold (S.left source.new) [] }
+    ensures torn { result ≡ Some ending.Torn → AreTold (S.left source.new) [] }
+    ensures fault { result ≡ Some ending.ReadFault → HasRisen (S.faults source.old) (S.faults source.new) }
+    ensures later { S.faults source.old ≤ S.faults source.new }
+{
+    match read_messages(rt, alloc, desk, seat, bell, conn, source) {
+        Stop::Ended => None,
+        Stop::Ends(why) => {
+            if hang_up(rt, desk, seat, bell, conn, why) {
+                Some(why)
+            } else {
+                None
+            }
+        }
+    }
+}

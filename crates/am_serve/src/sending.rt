@@ -1,0 +1,190 @@
+//! Submitting messages, and reading what they are cut from.
+
+ghost use Rattle.std.specs.Prelude.{◌≡◌, ◌<◌, ◌≤◌, ◌++◌, ℕ, List, true, false, length, IfOk, IfErr, OnOk};
+ghost use Rattle.am_base.specs.Outside.{then_told};
+ghost use Rattle.ninep_cut.specs.Cuts.{IsMessage};
+ghost use Rattle.am_counter.specs.Known.{Looks};
+ghost use Rattle.am_counter.specs.Played.{has_dial};
+ghost use Rattle.am_serve.specs.Sending.{HasEnded, Sends, Keeps, Tries, sent_for, EndsIn, StopsIn};
+
+use am_base::Source;
+use am_counter::{Ask, Counter};
+use am_journal::{Bad, Ending, Event, Refused, Why};
+use ninep_cut::Cutter;
+use ninep_wire::{WireError, read_t};
+use std::alloc::Global;
+use std::sync::Wait;
+use turn_lock::Bell;
+
+/// Why reading stopped.
+#[derive(Clone, Copy, Debug, PartialEq, Eq)]
+pub(crate) enum Stop {
+    /// The connection has ended.
+    Ended,
+    /// The connection is to end with this cause.
+    Ends(Ending),
+}
+
+/// What came of a message.
+#[derive(Clone, Copy, Debug, PartialEq, Eq)]
+pub(crate) enum Sent {
+    Done,
+    /// It has to wait until replies are taken.
+    Waits,
+    Stops(Stop),
+}
+
+/// Waits until a message may come on a connection, and answers whether one may, or the connection has ended.
+pub(crate) fn wait_for_room<C: Counter, R: Wait>(
+    rt: &R,
+    desk: &C,
+    seat: &mut C::Seat,
+    bell: &Bell,
+    conn: u32,
+) -> bool
+    requires fits { C.fits desk.now seat.old }
+    requires conn { conn < 64 }
+    ensures fits { C.fits desk.now seat.new }
+    ensures looks { Looks (C.known seat.old) (C.known seat.new) }
+    ensures ended { result ≡ false → HasEnded C.enabled conn (C.known seat.new).seen }
+{
+    let mut rung = 0;
+    for _ in rt.forever() {
+        if desk.look(rt, seat, Ask::Ended(conn)) {
+            return false;
+        }
+        if desk.look(rt, seat, Ask::Room(conn)) {
+            return true;
+        }
+        rung = bell.wait(rt, rung);
+    }
+    unreachable!()
+}
+
+fn sent_for(why: Why) -> Sent
+    ensures { result ≡ sent_for why }
+{
+    match why {
+        Why::Size => Sent::Stops(Stop::Ends(Ending::Broken(Bad::Size))),
+        Why::Tag => Sent::Stops(Stop::Ends(Ending::Broken(Bad::Tag))),
+        Why::Replies => Sent::Waits,
+        // A message on a connection that was dialled is refused for no other reason than that it has ended.
+        _ => Sent::Stops(Stop::Ended),
+    }
+}
+
+// Submits the message that the bytes spell, if they spell one.
+fn try_message<C: Counter, R: Wait>(
+    rt: &R,
+    alloc: Global,
+    desk: &C,
+    seat: &mut C::Seat,
+    bell: &Bell,
+    conn: u32,
+    message: &[u8],
+) -> Sent
+    requires fits { C.fits desk.now seat.old }
+    requires conn { conn < 64 }
+    requires dialled { has_dial (C.known seat.old).seen conn ≡ true }
+    requires message { IsMessage message.now }
+    ensures fits { C.fits desk.now seat.new }
+    ensures tries { Tries C.enabled conn (C.known seat.old) message.now result (C.known seat.new) }
+{
+    match read_t(alloc, message) {
+        Ok(msg) => match desk.submit(rt, seat, Event::Msg { conn, msg }) {
+            Ok(_) => {
+                bell.ring();
+                Sent::Done
+            }
+            Err(Refused::NotEnabled(why)) => sent_for(why),
+            Err(Refused::NoMemory) => Sent::Stops(Stop::Ends(Ending::NoMemory)),
+        },
+        Err(WireError::Fault(fault)) => Sent::Stops(Stop::Ends(Ending::Broken(Bad::Wire(fault)))),
+        Err(WireError::NoMemory) => Sent::Stops(Stop::Ends(Ending::NoMemory)),
+    }
+}
+
+/// Submits the message that the bytes spell, once there is room for its reply.
+pub(crate) fn send_message<C: Counter, R: Wait>(
+    rt: &R,
+    alloc: Global,
+    desk: &C,
+    seat: &mut C::Seat,
+    bell: &Bell,
+    conn: u32,
+    message: &[u8],
+) -> Result<(), Stop>
+    requires fits { C.fits desk.now seat.old }
+    requires conn { conn < 64 }
+    requires dialled { has_dial (C.known seat.old).seen conn ≡ true }
+    requires message { IsMessage message.now }
+    ensures fits { C.fits desk.now seat.new }
+    ensures ok { OnOk result (Sends C.enabled conn (C.known seat.old) message.now (C.known seat.new)) }
+    ensures err { IfErr result (λ stop. Keeps C.enabled conn (C.known seat.old) message.now stop (C.known seat.new)) }
+{
+    for _ in rt.forever() {
+        match try_message(rt, alloc, desk, seat, bell, conn, message) {
+            Sent::Done => return Ok(()),
+            Sent::Stops(stop) => return Err(stop),
+            Sent::Waits => {}
+        }
+        // The event was dropped, and is read anew.
+        if !wait_for_room(rt, desk, seat, bell, conn) {
+            return Err(Stop::Ended);
+        }
+    }
+    unreachable!()
+}
+
+/// How many bytes one read asks for at most.
+const PIECE: usize = 8192;
+
+// Reads a piece, and feeds it.
+fn read_piece<S: Source>(source: &mut S, cutter: &mut Cutter) -> Result<(), Ending>
+    ensures ok { OnOk result ((piece : List ℕ) × (S.left source.old ≡ then_told piece (S.left source.new)) × (cutter.new ≡ cutter.old ++ piece)) }
+    ensures err { IfErr result (EndsIn (record { told = S.left source.old; told_now = S.left source.new; faults = S.faults source.old; faults_now = S.faults source.new; left = cutter.old })) }
+    ensures later { S.faults source.old ≤ S.faults source.new }
+{
+    let mut buf = [0; PIECE];
+    let Ok(n) = source.read(&mut buf) else {
+        return Err(Ending::ReadFault);
+    };
+    if n == 0 {
+        return Err(if cutter.rest() == 0 {
+            Ending::End
+        } else {
+            Ending::Torn
+        });
+    }
+    match cutter.feed(&buf[..n]) {
+        Ok(()) => Ok(()),
+        Err(_) => Err(Ending::NoMemory),
+    }
+}
+
+/// Reads a piece, once there is room for a reply.
+pub(crate) fn read_more<C: Counter, S: Source, R: Wait>(
+    rt: &R,
+    desk: &C,
+    seat: &mut C::Seat,
+    bell: &Bell,
+    conn: u32,
+    source: &mut S,
+    cutter: &mut Cutter,
+) -> Result<(), Stop>
+    requires fits { C.fits desk.now seat.old }
+    requires conn { conn < 64 }
+    ensures fits { C.fits desk.now seat.new }
+    ensures looks { Looks (C.known seat.old) (C.known seat.new) }
+    ensures ok { OnOk result ((piece : List ℕ) × (S.left source.old ≡ then_told piece (S.left source.new)) × (cutter.new ≡ cutter.old ++ piece)) }
+    ensures err { IfErr result (StopsIn C.enabled conn (C.known seat.new).seen (record { told = S.left source.old; told_now = S.left source.new; faults = S.faults source.old; faults_now = S.faults source.new; left = cutter.old })) }
+    ensures later { S.faults source.old ≤ S.faults source.new }
+{
+    if !wait_for_room(rt, desk, seat, bell, conn) {
+        return Err(Stop::Ended);
+    }
+    match read_piece(source, cutter) {
+        Ok(()) => Ok(()),
+        Err(why) => Err(Stop::Ends(why)),
+    }
+}
