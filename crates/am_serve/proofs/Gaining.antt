@@ -1,12 +1,10 @@
 -- Seats that go on.
-use Rattle.std.proofs.Common.{◌≡◌, ℕ, zero, suc, ◌+◌, ◌-◌, ◌<◌, ◌≤◌, List, [], ◌∷◌, ◌++◌, length, take, drop, Option, Some, None, refl, sym, ap, subst, ◌∙◌, append_assoc, arith}
+use Rattle.std.proofs.Common.{◌≡◌, ℕ, zero, suc, ◌+◌, ◌-◌, ◌<◌, ◌≤◌, List, [], ◌∷◌, ◌++◌, length, drop, Some, refl, sym, ap, subst, ◌∙◌, append_assoc, arith}
 use Rattle.std.specs.Prelude.{slice_get}
-use Rattle.std.specs.List.{flat_map, AllByRecursion}
-use Rattle.std.proofs.lemmas.List.{append-nil, length-append, drop_at, take-append-le, take_at}
+use Rattle.std.proofs.lemmas.List.{append-nil, length-append, drop_at}
 use Rattle.turn_lock.specs.Journal.{Stands}
 use Rattle.am_journal.specs.declared.event.Event.{Event}
-use Rattle.am_journal.specs.declared.event.Why.{Why}
-use Rattle.am_counter.specs.Known.{Known, with_seen, with_entry, Looks, Submits}
+use Rattle.am_counter.specs.Known.{Known, with_entry, Looks}
 use Rattle.am_counter.specs.Played.{IsPrefix}
 use Rattle.am_serve.specs.Gained.{Gains, gained}
 

@@ -1,17 +1,16 @@
 -- Lines of a script that are passed.
-use Rattle.std.proofs.Common.{◌≡◌, ◌⊎◌, inl, inr, ℕ, suc, ◌+◌, ◌<◌, ◌≤◌, Bool, true, false, List, [], ◌∷◌, ◌++◌, length, map, Option, Some, None, refl, sym, ap, subst, ◌∙◌, append_assoc, if◌then◌else◌, arith}
+use Rattle.std.proofs.Common.{◌≡◌, ◌⊎◌, inl, inr, ℕ, ◌+◌, ◌<◌, true, List, [], ◌∷◌, ◌++◌, length, refl, sym, ap, subst, ◌∙◌, append_assoc, arith}
 use Rattle.std.proofs.lemmas.List.{append-nil, map-append, length-append}
 use Rattle.am_text.specs.Lines.{lines_of}
 use Rattle.am_journal.specs.declared.event.Event.{Event}
 use Rattle.am_counter.specs.Known.{Known, with_seen, with_entry, Looks, Submits}
 use Rattle.am_counter.specs.Played.{IsPrefix, has_hang}
 use Rattle.am_serve.specs.Gained.{Rule, Gains, gained, plain}
-use Rattle.am_serve.specs.Script.{Answers, Passes, PassesLine, Passed, RefusedAt, IsRefused, EndsScript, HaveEnded, asked_by, asked_by_lines, asked_by_script, asked_events, then_asked}
+use Rattle.am_serve.specs.Script.{Answers, Passes, PassesLine, Passed, RefusedAt, IsRefused, HaveEnded, asked_by, asked_by_lines, asked_by_script, asked_events, then_asked}
 use Rattle.am_serve.specs.declared.asked.Asked.{Asked}
 use Rattle.am_serve.specs.declared.asked.Asked.TheVariants.{Does, Awaits, Ends, Faulty}
 use Rattle.am_serve.specs.declared.scripting.LineFault.{LineFault}
 use Rattle.am_serve.specs.declared.scripting.LineFault.TheVariants as fault
-use Rattle.am_serve.specs.declared.scripting.ScriptEnd.TheVariants as end
 use Rattle.am_journal.specs.declared.event.Event.TheVariants.{Msg}
 use Rattle.am_serve.specs.Sending.{Sends}
 use Rattle.am_serve.proofs.Gaining.{grown, gains_more, gains_look, gains_entry, gained_is, gains_gained}

@@ -1,13 +1,12 @@
 -- Messages that are refused.
-use Rattle.std.proofs.Common.{◌≡◌, ℕ, Bool, true, false, List, Option, Some, None, Ok, refl, sym, ap, subst, ◌∙◌}
+use Rattle.std.proofs.Common.{◌≡◌, ℕ, Bool, true, false, List, Option, Some, Ok, subst}
 use Rattle.ninep_wire.specs.declared.message.TMsg.{TMsg}
 use Rattle.ninep_wire.specs.Reading.{t_of}
-use Rattle.am_journal.specs.declared.event.Event.{Event}
 use Rattle.am_journal.specs.declared.event.Event.TheVariants.{Msg}
 use Rattle.am_journal.specs.declared.event.Why.{Why}
 use Rattle.am_journal.specs.declared.event.Why.TheVariants as why
 use Rattle.am_counter.specs.Known.{Known, Looks}
-use Rattle.am_counter.specs.Played.{IsPlayed, has_dial, has_hang, IsMessageWhy}
+use Rattle.am_counter.specs.Played.{IsPlayed, has_dial, IsMessageWhy}
 use Rattle.am_serve.specs.Gained.{Rule}
 use Rattle.am_serve.specs.Sending.{Tries, sent_for}
 

@@ -1,19 +1,13 @@
 -- What a side that reads messages has done, one step on.
-use Rattle.std.proofs.Common.{◌≡◌, ◌≢◌, ◌⊎◌, inl, inr, ℕ, ◌+◌, Bool, true, false, not, List, [], ◌∷◌, ◌++◌, length, Option, Some, None, Ok, Err, refl, sym, ap, subst, ◌∙◌, append_assoc, if◌then◌else◌}
+use Rattle.std.proofs.Common.{◌≡◌, inl, inr, ℕ, ◌+◌, Bool, true, false, not, List, [], ◌∷◌, ◌++◌, length, Option, Some, None, refl, sym, ap, subst, ◌∙◌, append_assoc, if◌then◌else◌}
 use Rattle.std.specs.Prelude.{is_some}
-use Rattle.std.specs.List.{flat_map, AllByRecursion}
 use Rattle.std.proofs.lemmas.List.{append-nil}
 use Rattle.std.proofs.lemmas.List.Concat.{flat_map-append}
-use Rattle.am_base.specs.Outside.{then_told, AreTold}
-use Rattle.ninep_wire.specs.declared.fault.WireFault.{WireFault}
+use Rattle.am_base.specs.Outside.{then_told}
 use Rattle.ninep_wire.specs.declared.fault.WireFault.TheVariants as wire
-use Rattle.ninep_wire.specs.declared.message.TMsg.{TMsg}
-use Rattle.ninep_wire.specs.Reading.{t_of}
-use Rattle.ninep_wire.specs.Spelling.{spelling_t}
 use Rattle.ninep_cut.specs.declared.cut.Cut.TheVariants as cut
 use Rattle.ninep_cut.specs.Cuts.{Stream, TakesFirst, TakesNone, then_cut, cut_of, cut_stream}
 use Rattle.ninep_cut.specs.Laws.{JoinsPieces}
-use Rattle.am_journal.specs.declared.ending.Bad.{Bad}
 use Rattle.am_journal.specs.declared.ending.Bad.TheVariants as bad
 use Rattle.am_journal.specs.declared.ending.Ending.{Ending}
 use Rattle.am_journal.specs.declared.ending.Ending.TheVariants as ending
@@ -21,14 +15,14 @@ use Rattle.am_journal.specs.declared.event.Event.{Event}
 use Rattle.am_journal.specs.declared.event.Event.TheVariants.{Msg, Hang}
 use Rattle.am_journal.specs.declared.event.Why.{Why}
 use Rattle.am_journal.specs.declared.event.Why.TheVariants as why
-use Rattle.am_counter.specs.Known.{Known, with_entry, Looks, Submits}
-use Rattle.am_counter.specs.Played.{IsPrefix, has_dial, has_hang, IsMessageWhy}
-use Rattle.am_serve.specs.Gained.{Rule, Gains, gained, hang_up, hung_up, HangsUp, plain}
-use Rattle.am_serve.specs.Reading.{AreMessages, spelling_of, spellings, AreRead, AreFront, IsNext, NextRefused, IsBroken, Gives, GivesOf}
-use Rattle.am_serve.specs.Sending.{HasEnded, IsBad, EndsAt, StopsAt, Sends, Keeps, Tries, sent_for, Source, EndsIn, StopsIn, ReadSoFar, ReadUntil, answer_of}
+use Rattle.am_counter.specs.Known.{Known, Looks}
+use Rattle.am_counter.specs.Played.{IsPrefix}
+use Rattle.am_serve.specs.Gained.{Rule, Gains, gained, hang_up, HangsUp, plain}
+use Rattle.am_serve.specs.Reading.{AreMessages, spelling_of, spellings, AreRead, AreFront, IsNext, NextRefused, Gives, GivesOf}
+use Rattle.am_serve.specs.Sending.{StopsAt, Sends, Keeps, StopsIn, ReadSoFar, ReadUntil, answer_of}
 use Rattle.am_serve.specs.declared.sending.Stop.{Stop}
 use Rattle.am_serve.specs.declared.sending.Stop.TheVariants as stop
-use Rattle.am_serve.proofs.Gaining.{grown, gains_nothing, gains_more, gains_look, gains_entry, gained_is, gains_gained, gains_then_look}
+use Rattle.am_serve.proofs.Gaining.{grown, gains_nothing, gains_more, gains_entry, gained_is, gains_gained, gains_then_look}
 use Rattle.am_serve.proofs.HangUps.{gains_hang_up}
 
 -- ---- bytes

@@ -1,19 +1,15 @@
 -- What a side that writes replies has done, one step on.
-use Rattle.std.proofs.Common.{◌≡◌, ◌≢◌, ℕ, suc, ◌+◌, ◌-◌, ◌<◌, ◌≤◌, Bool, true, false, List, [], ◌∷◌, ◌++◌, length, take, drop, Option, Some, None, refl, sym, ap, subst, ◌∙◌, append_assoc, arith}
+use Rattle.std.proofs.Common.{◌≡◌, ℕ, suc, ◌+◌, ◌-◌, ◌≤◌, Bool, true, false, List, [], ◌∷◌, ◌++◌, length, take, Option, Some, None, refl, sym, ap, subst, ◌∙◌, append_assoc, arith}
 use Rattle.std.specs.Prelude.{is_some, if◌then◌else◌}
-use Rattle.std.specs.List.{flat_map, AllByRecursion}
 use Rattle.std.proofs.lemmas.List.{append-nil, length-append, take-append-le, take_at}
 use Rattle.std.proofs.lemmas.List.Concat.{flat_map-append}
-use Rattle.std.proofs.Math.Seq.{take-add}
 use Rattle.turn_lock.specs.Journal.{Stands}
 use Rattle.am_base.specs.Outside.{told_then, PutsFront}
 use Rattle.am_journal.specs.declared.ending.Ending.{Ending}
 use Rattle.am_journal.specs.declared.event.Event.{Event}
 use Rattle.am_journal.specs.declared.event.Event.TheVariants.{Hang, Took}
-use Rattle.am_journal.specs.declared.event.Why.{Why}
 use Rattle.am_counter.specs.Known.{Known, with_entry, Looks, TakesBytes}
-use Rattle.am_counter.specs.Played.{IsPrefix}
-use Rattle.am_serve.specs.Gained.{Rule, Gains, gained, hang_up, hung_up, HangsUp, EndsWith, plain}
+use Rattle.am_serve.specs.Gained.{Rule, Gains, gained, hang_up, HangsUp}
 use Rattle.am_serve.specs.Writing.{AreTakings, bytes_of, taken_bytes, Wrote, Gets}
 use Rattle.am_serve.specs.declared.writing.WriteEnd.{WriteEnd}
 use Rattle.am_serve.specs.declared.writing.WriteEnd.TheVariants as end

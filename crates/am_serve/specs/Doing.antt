@@ -1,5 +1,5 @@
 -- What a line of a script did.
-use Rattle.std.specs.Prelude.{◌≡◌, ℕ, Option, Some}
+use Rattle.std.specs.Prelude.{◌≡◌, ℕ, Some}
 use Rattle.am_journal.specs.declared.event.Event.{Event}
 use Rattle.am_counter.specs.Known.{Known, Looks, Submits}
 use Rattle.am_serve.specs.Gained.{Rule}

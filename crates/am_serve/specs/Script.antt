@@ -3,7 +3,6 @@ use Rattle.std.specs.Prelude.{◌≡◌, ℕ, ◌+◌, ◌<◌, Bool, true, fals
 use Rattle.am_text.specs.Lines.{lines_of}
 use Rattle.am_journal.specs.declared.event.Event.{Event}
 use Rattle.am_journal.specs.declared.event.Event.TheVariants as event
-use Rattle.am_journal.specs.declared.event.Why.{Why}
 use Rattle.am_journal.specs.Journal.{is_report}
 use Rattle.am_journal.specs.Lawful.{IsLawful}
 use Rattle.am_journal.specs.Line.{after_front, event_of, window_at}
@@ -11,7 +10,7 @@ use Rattle.am_counter.specs.declared.ask.Ask.{Ask}
 use Rattle.am_counter.specs.declared.ask.Ask.TheVariants.{EventOpen}
 use Rattle.am_counter.specs.Known.{Known, Looks, Submits}
 use Rattle.am_counter.specs.Played.{has_hang}
-use Rattle.am_serve.specs.Gained.{Rule, Gains, gained, plain}
+use Rattle.am_serve.specs.Gained.{Rule, gained, plain}
 use Rattle.am_serve.specs.declared.asked.Asked.{Asked}
 use Rattle.am_serve.specs.declared.asked.Asked.TheVariants.{Does, Awaits, Ends, Faulty}
 use Rattle.am_serve.specs.declared.scripting.LineFault.{LineFault}

@@ -1,5 +1,5 @@
 -- What the steps of a side that reads messages do.
-use Rattle.std.specs.Prelude.{◌≡◌, ◌≢◌, ℕ, true, List, [], ◌++◌, Option, Some, None, Ok, Err}
+use Rattle.std.specs.Prelude.{◌≡◌, ◌≢◌, ℕ, true, List, [], Option, Some, None, Ok, Err}
 use Rattle.am_base.specs.Outside.{then_told, AreTold, HasRisen}
 use Rattle.ninep_wire.specs.declared.message.TMsg.{TMsg}
 use Rattle.ninep_wire.specs.Reading.{t_of}
@@ -55,16 +55,17 @@ StopsAt enabled conn seen m (stop.Ends cause) = EndsAt enabled conn seen m cause
 abbrev pub Sends : Rule → ℕ → Known → List ℕ → Known → Type 0
 Sends enabled conn v m w = (msg : TMsg) × (n : ℕ) × (m ≡ spelling_t msg) × Submits enabled v (Msg conn msg) n w
 
--- it isn't
+-- a message isn't submitted, and this stops reading
 abbrev pub Keeps : Rule → ℕ → Known → List ℕ → Stop → Known → Type 0
 Keeps enabled conn v m s w = Looks v w × StopsAt enabled conn w.seen m s
 
+-- what came of submitting a message once
 abbrev pub Tries : Rule → ℕ → Known → List ℕ → Sent → Known → Type 0
 Tries enabled conn v m sent.Done w = Sends enabled conn v m w
 Tries enabled conn v m sent.Waits w = Looks v w
 Tries enabled conn v m (sent.Stops s) w = Keeps enabled conn v m s w
 
--- what comes of a message that isn't enabled for this reason; only that the connection has ended is left besides these
+-- what comes of a message that isn't enabled for this reason
 abbrev pub sent_for : Why → Sent
 sent_for why.Conn = sent.Stops stop.Ended
 sent_for why.Dialed = sent.Stops stop.Ended
@@ -80,7 +81,7 @@ sent_for why.Length = sent.Stops stop.Ended
 
 -- ---- one piece
 
--- a source is read, of which this was told before, and is told after, and where these bytes were left before
+-- A source that is read: what it told before and tells now, its counts of faults, and the bytes that were left of what was read before.
 pub record Source : Type 0 where
   pub told : Option (List ℕ)
   pub told_now : Option (List ℕ)
@@ -113,12 +114,12 @@ pub record ReadSoFar (conn : ℕ) (v w : Known) (left : List ℕ) (first now : O
   pub told : first ≡ then_told bytes now
   pub stream : cut_stream bytes ≡ then_cut (spellings entries) (cut_stream left)
 
--- what is answered, if the connection hasn't ended by then
+-- the ending that is answered, unless another side has ended the connection
 abbrev pub answer_of : Stop → Option Ending
 answer_of stop.Ended = None
 answer_of (stop.Ends cause) = Some cause
 
--- and reading stopped
+-- The same, and then reading stopped.
 pub record ReadUntil (enabled : Rule) (conn : ℕ) (v w : Known) (s : Stop) (first now : Option (List ℕ)) : Type 0 where
   pub entries : List (ℕ × Event)
   pub gains : Gains v entries w

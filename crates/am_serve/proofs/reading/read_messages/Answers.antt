@@ -1,4 +1,4 @@
-use Rattle.std.proofs.Common.{ℕ, List, ◌≤◌, arith, subst, sym}
+use Rattle.std.proofs.Common.{ℕ, List, arith, subst, sym}
 use Rattle.ninep_cut.specs.Cuts.{TakesFirst, TakesNone}
 use Rattle.am_serve.specs.Sending.{ReadSoFar}
 use Rattle.am_serve.proofs.Streams.{read_nothing, sends_on, stops_sending, reads_on, stops_reading}

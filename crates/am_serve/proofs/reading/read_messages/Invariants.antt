@@ -1,4 +1,4 @@
-use Rattle.std.proofs.Common.{◌≡◌, ◌≤◌}
+use Rattle.std.proofs.Common.{◌≤◌}
 use Rattle.am_serve.specs.Sending.{ReadSoFar}
 use Rattle.am_serve.proofs.reading.read_messages.Given as goal
 

@@ -1,4 +1,3 @@
-use Rattle.std.proofs.Common.{rules}
 use Rattle.am_serve.proofs.Passing.{looks_same, looks_further, have_ended_kept}
 use Rattle.am_serve.proofs.scripting.await_window.Goals as goal
 

@@ -1,4 +1,4 @@
-use Rattle.std.proofs.Common.{rules, sym, ◌∙◌}
+use Rattle.std.proofs.Common.{sym, ◌∙◌}
 use Rattle.am_serve.proofs.Passing.{looks_same}
 use Rattle.am_serve.proofs.scripting.do_line.Goals as goal
 

@@ -1,4 +1,3 @@
-use Rattle.std.proofs.Common.{◌≡◌}
 use Rattle.am_counter.specs.Known.{Looks}
 use Rattle.am_serve.specs.Script.{HaveEnded}
 use Rattle.am_serve.proofs.scripting.have_ended.Given as goal

@@ -1,4 +1,4 @@
-use Rattle.std.proofs.Common.{◌≡◌, ◌+◌, length, arith, sym, subst}
+use Rattle.std.proofs.Common.{◌≡◌, length, arith, sym, subst}
 use Rattle.std.proofs.lemmas.Grind.{common_steps}
 use Rattle.am_counter.specs.Known.{Known}
 use Rattle.am_serve.specs.Script.{asked_by_script, Passed}

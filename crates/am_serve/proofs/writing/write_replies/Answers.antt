@@ -1,4 +1,4 @@
-use Rattle.std.proofs.Common.{rules, ◌≤◌, arith}
+use Rattle.std.proofs.Common.{rules, arith}
 use Rattle.am_serve.proofs.Written.{wrote_nothing, wrote_look, wrote_more, wrote_front, wrote_so_far}
 use Rattle.am_serve.proofs.writing.write_replies.Goals as goal
 

@@ -1,4 +1,4 @@
-use Rattle.std.proofs.Common.{◌≡◌, ◌≤◌}
+use Rattle.std.proofs.Common.{◌≤◌}
 use Rattle.am_serve.specs.Writing.{Wrote}
 use Rattle.am_serve.specs.declared.writing.WriteEnd.TheVariants as end
 use Rattle.am_serve.proofs.writing.write_replies.Given as goal

@@ -1,4 +1,3 @@
-use Rattle.std.proofs.Common.{rules}
 use Rattle.am_serve.proofs.Written.{ended_gains, ended_gets}
 use Rattle.am_serve.proofs.writing.write_side.Goals as goal
 
