@@ -17,29 +17,43 @@ enum Command {
     All,
     // `,s/(a)/\1\1/g`: the same, with groups.
     Groups,
+    // `,x =`: the number of each line.
+    EachLine,
 }
 
-// A command, and the runes of the text.
+// A command, and the runes or lines of the text.
 type Done = (Command, usize);
 
-const COMMANDS: [Done; 6] = [
+const COMMANDS: [Done; 8] = [
     (Command::EachRune, 20_000),
     (Command::EachRune, 40_000),
     (Command::All, 20_000),
     (Command::All, 40_000),
     (Command::Groups, 20_000),
     (Command::Groups, 40_000),
+    (Command::EachLine, 10_000),
+    (Command::EachLine, 20_000),
 ];
 
 fn runes(alloc: Global, text: &str) -> Result<Runes, AllocError> {
     decode_whole(alloc, text.as_bytes()).map_err(|_| AllocError)
 }
 
-// So many runes `a`.
-fn text_of(alloc: Global, count: usize) -> Result<Runes, AllocError> {
+// What the text of a command repeats.
+fn unit(command: Command) -> &'static str {
+    match command {
+        Command::EachLine => "a\n",
+        _ => "a",
+    }
+}
+
+// So many runes `a`, or lines that have one.
+fn text_of(alloc: Global, done: Done) -> Result<Runes, AllocError> {
+    let (command, count) = done;
+    let one = runes(alloc, unit(command))?;
     let mut all = Items::new(alloc);
     for _ in 0..count {
-        all.push(97).map_err(|_| AllocError)?;
+        all.append(one.as_slice()).map_err(|_| AllocError)?;
     }
     Ok(all)
 }
@@ -60,17 +74,18 @@ fn substitution(alloc: Global, re: &str, with: &str, all: bool) -> Result<Act, A
     })
 }
 
+// `x/re/` and what is done there.
+fn each(alloc: Global, re: &str, act: Act) -> Result<Act, AllocError> {
+    let inner = Cmd { addr: None, act };
+    Ok(Act::Each(expression(alloc, re)?, Box::new(alloc, inner)?))
+}
+
 fn tree(alloc: Global, command: Command) -> Result<Cmd, AllocError> {
     let act = match command {
-        Command::EachRune => {
-            let inner = Cmd {
-                addr: None,
-                act: substitution(alloc, "a", "b", false)?,
-            };
-            Act::Each(expression(alloc, ".")?, Box::new(alloc, inner)?)
-        }
+        Command::EachRune => each(alloc, ".", substitution(alloc, "a", "b", false)?)?,
         Command::All => substitution(alloc, "a", "b", true)?,
         Command::Groups => substitution(alloc, "(a)", "\\1\\1", true)?,
+        Command::EachLine => each(alloc, ".*\\n", Act::LineNo)?,
     };
     Ok(Cmd {
         addr: Some(Addr::Comma(None, None)),
@@ -98,15 +113,18 @@ fn run<R: Clock + Print>(
     is_timed: bool,
 ) -> io::Result<()> {
     let (command, count) = done;
-    let count = count / part.max(1);
-    let text = text_of(alloc, count)?;
+    let text = text_of(alloc, (command, count / part.max(1)))?;
     let cmd = tree(alloc, command)?;
     let start = Instant::now(rt)?;
     let plan = plan_of(alloc, &cmd, &text);
     let micros = start.elapsed(rt)?.as_micros();
-    print!(rt; "command {number}, {count} runes: ")?;
+    print!(rt; "command {number}, {} runes: ", text.len())?;
     match plan {
-        Ok(plan) => print!(rt; "{} edits", plan.edits.len())?,
+        Ok(plan) => print!(rt;
+            "{} edits, {} runes printed",
+            plan.edits.len(),
+            plan.prints.len()
+        )?,
         Err(_) => print!(rt; "none")?,
     }
     if is_timed {

@@ -4,6 +4,7 @@ pub mod Within
 pub mod Ranges
 pub mod Replacing
 pub mod Told
+pub mod Lines
 pub mod Meaning
 pub mod Plan
 pub mod Laws

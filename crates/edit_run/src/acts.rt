@@ -11,11 +11,13 @@ ghost use Rattle.edit_run.specs.Effects.{changed, printed, asked};
 ghost use Rattle.edit_run.specs.Within.{IsWithin};
 ghost use Rattle.edit_run.specs.Ranges.{AreMatches};
 ghost use Rattle.edit_run.specs.Replacing.{substituted};
+ghost use Rattle.edit_run.specs.Lines.{IsCursorOf};
 ghost use Rattle.edit_run.specs.Told.{told, lines_told, places_told};
 ghost use Rattle.edit_run.specs.Meaning.{range_of, text_at, replaced, is_within, moved, copied, job_for};
 
 use crate::effects::Effects;
 use crate::fault::EditFault;
+use crate::line_cursor::LineCursor;
 use crate::replacing::substituted;
 use crate::telling::{lines_told, places_told};
 use crate::texts::text_at;
@@ -214,15 +216,18 @@ pub fn print_lines<T: Letters>(
     site: &Site,
     text: &T,
     range: Range,
+    cursor: &mut LineCursor,
     effects: &mut Effects,
 ) -> Result<(), EditFault>
     requires range { IsInside (T.letters text.now) range }
+    requires cursor { IsCursorOf (T.letters text.now) cursor.old }
     requires within { IsWithin (T.letters text.now) effects.old }
     ensures value { OnOk result (effects.new ≡ printed (told site.now.name (lines_told (T.letters text.now) range)) effects.old) }
     ensures fault { IfErr result (λ e. e ≡ NoMemory) }
+    ensures cursor { OnOk result (IsCursorOf (T.letters text.now) cursor.new) }
     ensures within { OnOk result (IsWithin (T.letters text.now) effects.new) }
 {
-    let lines = lines_told(alloc, site.name.as_slice(), text, range)?;
+    let lines = lines_told(alloc, site.name.as_slice(), text, range, cursor)?;
     effects.print(lines.as_slice())?;
     Ok(())
 }

@@ -24,7 +24,7 @@ pub struct Effects {
 
 impl Effects {
     /// Nothing yet; the range stands for that of a command.
-    pub fn none(alloc: Global, dot: Range) -> Effects
+    pub(crate) fn none(alloc: Global, dot: Range) -> Effects
         ensures { result ≡ nothing dot }
     {
         Effects {
@@ -36,7 +36,7 @@ impl Effects {
     }
 
     /// A command with this range begins.
-    pub fn begin(&mut self, range: Range)
+    pub(crate) fn begin(&mut self, range: Range)
         ensures value { self.new ≡ begun range self.old }
         ensures within { (t : List ℕ) → IsInside t range → IsWithin t self.old → IsWithin t self.new }
     {
@@ -44,7 +44,7 @@ impl Effects {
     }
 
     /// One change more: the text takes the place of the range. One that takes nothing and puts nothing isn't made.
-    pub fn change(&mut self, q0: usize, q1: usize, text: Runes) -> Result<(), NoMemory>
+    pub(crate) fn change(&mut self, q0: usize, q1: usize, text: Runes) -> Result<(), NoMemory>
         ensures value { OnOk result (self.new ≡ changed q0 q1 text self.old) }
         ensures within { OnOk result ((t : List ℕ) → q0 ≤ q1 → q1 ≤ length t → IsWithin t self.old → IsWithin t self.new) }
     {
@@ -56,7 +56,7 @@ impl Effects {
     }
 
     /// More to be printed.
-    pub fn print(&mut self, text: &[Rune]) -> Result<(), NoMemory>
+    pub(crate) fn print(&mut self, text: &[Rune]) -> Result<(), NoMemory>
         ensures value { OnOk result (self.new ≡ printed text.now self.old) }
         ensures within { OnOk result ((t : List ℕ) → IsWithin t self.old → IsWithin t self.new) }
     {
@@ -65,7 +65,7 @@ impl Effects {
     }
 
     /// One request more.
-    pub fn ask(&mut self, job: Job) -> Result<(), NoMemory>
+    pub(crate) fn ask(&mut self, job: Job) -> Result<(), NoMemory>
         ensures value { OnOk result (self.new ≡ asked job self.old) }
         ensures within { OnOk result ((t : List ℕ) → IsWithin t self.old → IsWithin t self.new) }
     {

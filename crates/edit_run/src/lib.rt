@@ -5,6 +5,7 @@ mod acts;
 mod effects;
 mod fault;
 mod laws;
+mod line_cursor;
 mod matching;
 mod planning;
 mod replacing;

@@ -5,10 +5,12 @@ ghost use Rattle.re_syntax.specs.Tree.{tree};
 ghost use Rattle.re_spans.specs.Successive.{AreInOrder};
 ghost use Rattle.sam_address.specs.Value.{IsInside};
 ghost use Rattle.edit_parts.specs.Tree.{ForEach, ForBetween, Where, WhereNot};
+ghost use Rattle.edit_parts.specs.Kinds.{loop_of};
 ghost use Rattle.edit_run.specs.Ranges.{matches_in, between, chosen, AreMatches, AreInside};
 ghost use Rattle.edit_run.specs.Meaning.{has_match, ranges_of};
 
 use am_text::{Items, Letters, NoMemory, Range, Spans};
+use edit_parts::Loop;
 use re_spans::{Re, first_match, successive_matches};
 use std::alloc::Global;
 
@@ -37,14 +39,9 @@ fn has_match<T: Letters>(alloc: Global, re: &Re, text: &T, range: Range) -> Resu
     Ok(found.is_some())
 }
 
-/// The matches of `x`.
+// The matches of `x`.
 #[tactic(auto, using(crate::proofs::Inside::ordered_inside))]
-pub fn each_match<T: Letters>(
-    alloc: Global,
-    re: &Re,
-    text: &T,
-    range: Range,
-) -> Result<Spans, NoMemory>
+fn each_match<T: Letters>(alloc: Global, re: &Re, text: &T, range: Range) -> Result<Spans, NoMemory>
     requires { IsInside (T.letters text.now) range }
     ensures value { IfOk result (λ spans. spans ≡ ranges_of ForEach (tree re.now) (T.letters text.now) range) }
     ensures inside { IfOk result (AreInside (T.letters text.now)) }
@@ -75,9 +72,9 @@ fn between(alloc: Global, range: Range, spans: &[Range]) -> Result<Spans, NoMemo
     Ok(gaps)
 }
 
-/// The texts of `y`: those before, between and behind the matches.
+// The texts of `y`: those before, between and behind the matches.
 #[tactic(auto, using(crate::proofs::Inside::between_inside))]
-pub fn each_between<T: Letters>(
+fn each_between<T: Letters>(
     alloc: Global,
     re: &Re,
     text: &T,
@@ -102,8 +99,8 @@ fn wanted_or_none(alloc: Global, range: Range, is_wanted: bool) -> Result<Spans,
     Ok(spans)
 }
 
-/// The range of `g`, where it has a match.
-pub fn where_matching<T: Letters>(
+// The range of `g`, where it has a match.
+fn where_matching<T: Letters>(
     alloc: Global,
     re: &Re,
     text: &T,
@@ -117,8 +114,8 @@ pub fn where_matching<T: Letters>(
     wanted_or_none(alloc, range, has)
 }
 
-/// The range of `v`, where it has no match.
-pub fn where_not_matching<T: Letters>(
+// The range of `v`, where it has no match.
+fn where_not_matching<T: Letters>(
     alloc: Global,
     re: &Re,
     text: &T,
@@ -130,6 +127,26 @@ pub fn where_not_matching<T: Letters>(
 {
     let has = has_match(alloc, re, text, range)?;
     wanted_or_none(alloc, range, !has)
+}
+
+/// The ranges for which a loop does its command.
+pub fn ranges_of<T: Letters>(
+    alloc: Global,
+    kind: Loop,
+    re: &Re,
+    text: &T,
+    range: Range,
+) -> Result<Spans, NoMemory>
+    requires { IsInside (T.letters text.now) range }
+    ensures value { IfOk result (λ spans. spans ≡ ranges_of (loop_of kind) (tree re.now) (T.letters text.now) range) }
+    ensures inside { IfOk result (AreInside (T.letters text.now)) }
+{
+    match kind {
+        Loop::ForEach => each_match(alloc, re, text, range),
+        Loop::ForBetween => each_between(alloc, re, text, range),
+        Loop::Where => where_matching(alloc, re, text, range),
+        Loop::WhereNot => where_not_matching(alloc, re, text, range),
+    }
 }
 
 /// The spans that `s` replaces: that of number `nth`, from 1, or all from it on. There is none of number 0.

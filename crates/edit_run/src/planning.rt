@@ -11,6 +11,7 @@ ghost use Rattle.edit_run.specs.Plan.{wanted, planned, dot_after, are_in_sequenc
 
 use crate::effects::Effects;
 use crate::fault::EditFault;
+use crate::line_cursor::LineCursor;
 use crate::running::run;
 use crate::types::{EditPlan, Site};
 use am_text::{Letters, NoMemory, Range};
@@ -71,7 +72,8 @@ pub fn changes<T: Letters>(
     ensures dot { IfOk result (λ plan. IsInside (text_after (T.letters text.now) plan.edits) plan.dot) }
 {
     let mut effects = Effects::none(alloc, site.dot);
-    run(alloc, cmd, text, site, site.dot, &mut effects)?;
+    let mut cursor = LineCursor::start();
+    run(alloc, cmd, text, site, site.dot, &mut cursor, &mut effects)?;
     let Effects {
         changes,
         prints,

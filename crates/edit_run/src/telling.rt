@@ -1,10 +1,12 @@
 //! What `=` and `=#` print.
 
-ghost use Rattle.std.specs.Prelude.{◌≡◌, ◌≤◌, ◌++◌, length, IfOk, OnOk};
+ghost use Rattle.std.specs.Prelude.{◌≡◌, ◌++◌, IfOk, OnOk};
 ghost use Rattle.std.specs.Fmt.{decimal};
 ghost use Rattle.sam_address.specs.Value.{IsInside};
-ghost use Rattle.edit_run.specs.Told.{line_of, one_or_two, lines_told, places_told, told};
+ghost use Rattle.edit_run.specs.Lines.{IsCursorOf};
+ghost use Rattle.edit_run.specs.Told.{one_or_two, lines_told, places_told, told};
 
+use crate::line_cursor::LineCursor;
 use am_text::{Items, Letters, NoMemory, Range, Rune, Runes, decimal};
 use std::alloc::Global;
 
@@ -15,24 +17,6 @@ const COLON: Rune = 58;
 const COMMA: Rune = 44;
 
 const SHARP: Rune = 35;
-
-// The number of the line that has a place, counted from 1.
-#[tactic(auto, using(crate::proofs::Slices::counting), unfolding(crate::specs::Told::line_of))]
-fn line_of<T: Letters>(text: &T, place: usize) -> Result<u64, NoMemory>
-    requires { place ≤ length (T.letters text.now) }
-    ensures { IfOk result (λ line. line ≡ line_of (T.letters text.now) place) }
-{
-    let mut before: u64 = 0;
-    for at in 0..place {
-        if text.at(at) == NEWLINE {
-            before += 1;
-        }
-    }
-    match before.checked_add(1) {
-        Some(line) => Ok(line),
-        None => Err(NoMemory),
-    }
-}
 
 // Puts a number in decimal at the end, behind a mark.
 #[tactic(auto, using(crate::proofs::Slices::putting))]
@@ -79,12 +63,15 @@ pub fn lines_told<T: Letters>(
     name: &[Rune],
     text: &T,
     range: Range,
+    cursor: &mut LineCursor,
 ) -> Result<Runes, NoMemory>
-    requires { IsInside (T.letters text.now) range }
-    ensures { IfOk result (λ made. made ≡ told name.now (lines_told (T.letters text.now) range)) }
+    requires range { IsInside (T.letters text.now) range }
+    requires cursor { IsCursorOf (T.letters text.now) cursor.old }
+    ensures value { IfOk result (λ made. made ≡ told name.now (lines_told (T.letters text.now) range)) }
+    ensures cursor { OnOk result (IsCursorOf (T.letters text.now) cursor.new) }
 {
-    let first = line_of(text, range.q0)?;
-    let last = line_of(text, range.q0.max(range.q1.saturating_sub(1)))?;
+    let first = cursor.line_at(text, range.q0)?;
+    let last = cursor.line_at(text, range.q0.max(range.q1.saturating_sub(1)))?;
     let lines = one_or_two(alloc, &[], first, last)?;
     told(alloc, name, lines.as_slice())
 }

@@ -1,6 +1,5 @@
 use Rattle.std.proofs.Common.{◌≡◌, List, Ok, OnOk, sym, ap, subst, ◌∙◌}
 use Rattle.std.specs.Prelude.{IfErr}
-use Rattle.am_text.specs.declared.range.Range.{Range}
 use Rattle.re_syntax.specs.Tree.{tree}
 use Rattle.edit_parts.specs.declared.command.Cmd.{Cmd}
 use Rattle.edit_parts.specs.declared.command.Act.{Act}
@@ -10,31 +9,27 @@ use Rattle.edit_run.specs.Meaning.{Outcome, acted, meaning, for_each, list_done,
 use Rattle.edit_run.proofs.Blocks.{block_done}
 use Rattle.edit_run.proofs.running.+command.Goals as goal
 
-pub act-returns-in_ok-ranges-in-Each-clause-fault :
-    goal.act-returns-in_ok-ranges-in-Each-clause-fault
-act-returns-in_ok-ranges-in-Each-clause-fault g t c =
+pub act-returns-in-Each-clause-fault : goal.act-returns-in-Each-clause-fault
+act-returns-in-Each-clause-fault g t c =
     let text = g.T.Letters.letters c.args.text.now in
     let site = c.args.site.now in
     let e = c.args.effects.now in
-    let all = ranges_of ForEach (tree c.in-Each.re) text c.args.range in
-    let ranges : c.as_slice-in-Each.result.now ≡ all = c.as_slice-in-Each.ensures ∙ c.in_ok-ranges-in-Each.ensures.value in
+    let all = ranges_of ForEach (tree c.in-Each.re) text e.last in
     let same =
-    ap (λ (x : List Range). for_each (meaning (command c.deref.result.now) text site) x e) ranges ∙ (ap (λ (x : Cmd). for_each (meaning (command x) text site) all e) c.deref.ensures ∙ ap (λ (x : Act). acted (action x) text site c.args.dot c.args.range e) (sym c.in-Each.is))
+    ap (λ (x : Cmd). for_each (meaning (command x) text site) all e) c.deref.ensures ∙ ap (λ (x : Act). acted (action x) text site c.args.dot e.last e) (sym c.in-Each.is)
     in
-    subst (λ (o : Outcome). IfErr c.run_each.result (λ f. IsFault f o)) same c.run_each.ensures.fault
+    subst (λ (o : Outcome). IfErr c.repeat.result (λ f. IsFault f o)) same c.repeat.ensures.fault
 
-pub act-returns-in_ok-ranges-in-Between-clause-fault :
-    goal.act-returns-in_ok-ranges-in-Between-clause-fault
-act-returns-in_ok-ranges-in-Between-clause-fault g t c =
+pub act-returns-in-Between-clause-fault : goal.act-returns-in-Between-clause-fault
+act-returns-in-Between-clause-fault g t c =
     let text = g.T.Letters.letters c.args.text.now in
     let site = c.args.site.now in
     let e = c.args.effects.now in
-    let all = ranges_of ForBetween (tree c.in-Between.re) text c.args.range in
-    let ranges : c.as_slice-in-Between.result.now ≡ all = c.as_slice-in-Between.ensures ∙ c.in_ok-ranges-in-Between.ensures.value in
+    let all = ranges_of ForBetween (tree c.in-Between.re) text e.last in
     let same =
-    ap (λ (x : List Range). for_each (meaning (command c.deref-in-Between.result.now) text site) x e) ranges ∙ (ap (λ (x : Cmd). for_each (meaning (command x) text site) all e) c.deref-in-Between.ensures ∙ ap (λ (x : Act). acted (action x) text site c.args.dot c.args.range e) (sym c.in-Between.is))
+    ap (λ (x : Cmd). for_each (meaning (command x) text site) all e) c.deref-in-Between.ensures ∙ ap (λ (x : Act). acted (action x) text site c.args.dot e.last e) (sym c.in-Between.is)
     in
-    subst (λ (o : Outcome). IfErr c.run_each-in-Between.result (λ f. IsFault f o)) same c.run_each-in-Between.ensures.fault
+    subst (λ (o : Outcome). IfErr c.repeat-in-Between.result (λ f. IsFault f o)) same c.repeat-in-Between.ensures.fault
 
 pub act-returns-in-Block-clause-value : goal.act-returns-in-Block-clause-value
 act-returns-in-Block-clause-value g t c =
@@ -42,7 +37,7 @@ act-returns-in-Block-clause-value g t c =
     let site = c.args.site.now in
     let e = c.args.effects.now in
     let same =
-    ap (λ (x : List Cmd). list_done x text site c.args.range e) c.as_slice-in-Block.ensures.value ∙ (block_done c.in-Block.all text site c.args.dot c.args.range e ∙ ap (λ (x : Act). acted (action x) text site c.args.dot c.args.range e) (sym c.in-Block.is))
+    ap (λ (x : List Cmd). list_done x text site c.args.effects.now.last e) c.as_slice-in-Block.ensures.value ∙ (block_done c.in-Block.all text site c.args.dot c.args.effects.now.last e ∙ ap (λ (x : Act). acted (action x) text site c.args.dot c.args.effects.now.last e) (sym c.in-Block.is))
     in
     subst (λ (o : Outcome). OnOk c.run_all.result (o ≡ Ok c.run_all.new.effects)) same c.run_all.ensures.value
 
@@ -52,6 +47,6 @@ act-returns-in-Block-clause-fault g t c =
     let site = c.args.site.now in
     let e = c.args.effects.now in
     let same =
-    ap (λ (x : List Cmd). list_done x text site c.args.range e) c.as_slice-in-Block.ensures.value ∙ (block_done c.in-Block.all text site c.args.dot c.args.range e ∙ ap (λ (x : Act). acted (action x) text site c.args.dot c.args.range e) (sym c.in-Block.is))
+    ap (λ (x : List Cmd). list_done x text site c.args.effects.now.last e) c.as_slice-in-Block.ensures.value ∙ (block_done c.in-Block.all text site c.args.dot c.args.effects.now.last e ∙ ap (λ (x : Act). acted (action x) text site c.args.dot c.args.effects.now.last e) (sym c.in-Block.is))
     in
     subst (λ (o : Outcome). IfErr c.run_all.result (λ f. IsFault f o)) same c.run_all.ensures.fault

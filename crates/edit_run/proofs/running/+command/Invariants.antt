@@ -1,6 +1,7 @@
 use Rattle.std.proofs.Common.{◌≡◌, length, drop}
 use Rattle.edit_parts.specs.Tree.{command}
 use Rattle.edit_run.specs.Ranges.{AreInside}
+use Rattle.edit_run.specs.Lines.{IsCursorOf}
 use Rattle.edit_run.specs.Meaning.{meaning, for_each, list_done}
 use Rattle.edit_run.specs.Within.{IsWithin}
 use Rattle.edit_run.proofs.running.+command.Given as goal
@@ -9,6 +10,7 @@ abbrev pub invariant-run_all-loop-cmd : goal.invariant-run_all-loop-cmd
 invariant-run_all-loop-cmd g l =
     let t = g.T.Letters.letters l.text in
     record {
+      cursor : IsCursorOf t l.cursor;
       within : IsWithin t l.effects;
       same : list_done (drop l.cmd-index l.commands) t l.site l.dot l.effects ≡ list_done l.commands t l.site l.dot l.fn.effects;
     }
@@ -19,6 +21,7 @@ invariant-run_each-loop-rest g l =
     let body = meaning (command l.cmd) t l.site in
     record {
       ranges : AreInside t l.rest;
+      cursor : IsCursorOf t l.cursor;
       within : IsWithin t l.effects;
       same : for_each body l.rest l.effects ≡ for_each body l.ranges l.fn.effects;
     }
