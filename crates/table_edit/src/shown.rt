@@ -49,8 +49,9 @@ fn kind_word(kind: JobKind) -> &'static str {
 }
 
 fn put_job(alloc: Global, line: &mut Bytes, job: &Job) -> Result<(), Fault> {
-    line.append(b"\t")?;
-    line.append(kind_word(job.kind).as_bytes())?;
+    let front = format!(in alloc; "\t{}\t{}", kind_word(job.kind), job.window)?;
+    line.append(front.as_bytes())?;
+    put_field(alloc, line, &job.dir)?;
     put_field(alloc, line, &job.command)?;
     put_field(alloc, line, &job.input)
 }
