@@ -4,7 +4,8 @@ use Rattle.std.specs.List.{flat_map}
 use Rattle.std.specs.Str.{is_utf8}
 use Rattle.std.proofs.lemmas.Bool.{false≢true, eqb-true, and_parts}
 use Rattle.std.proofs.lemmas.List.{append-nil}
-use Rattle.plumb_msg.specs.Attributes.{is_name_byte, is_special, is_known, with_stage, named, put, plain, ended, step, then_scan, scan, start, finished, attrs_of}
+use Rattle.plumb_msg.specs.Attributes.{is_name_byte, is_special, with_stage, named, put, plain, ended, step, then_scan, scan, start, finished, attrs_of}
+use Rattle.plumb_msg.specs.Names.{is_known}
 use Rattle.plumb_msg.specs.Spelling.{doubled, quoted, needs_quotes, value_text, attr_text, after_blank, attrs_text, are_name_bytes, is_name, are_named}
 use Rattle.plumb_msg.specs.declared.message.Attr.{Attr}
 use Rattle.plumb_msg.specs.declared.scanning.Stage.{Stage}

@@ -3,6 +3,7 @@ pub mod Counts
 pub mod LineKinds
 pub mod Lines
 pub mod MessageLaws
+pub mod NameLemmas
 pub mod Readers
 pub mod TextFronts
 pub mod TextEnds

@@ -10,7 +10,8 @@ use lib.Pointwise.{bytes_decides}
 use lib.Utf8.{low_scalar}
 use Rattle.plumb_msg.specs.Texts.{has_newline, is_text_front}
 use Rattle.plumb_msg.specs.Reading.{text_of}
-use Rattle.plumb_msg.specs.Attributes.{is_name_byte, is_special, is_known, with_stage, named, name_ended, put, plain, attrs_with, ended, step_value, step_plain, step_quoted, step_at, step, then_scan, scan, start, finished_at, finished, attrs_of, is_attrs_front}
+use Rattle.plumb_msg.specs.Attributes.{is_name_byte, is_special, with_stage, named, name_ended, put, plain, attrs_with, ended, step_value, step_plain, step_quoted, step_at, step, then_scan, scan, start, finished_at, finished, attrs_of, is_attrs_front}
+use Rattle.plumb_msg.specs.Names.{is_known}
 use Rattle.plumb_msg.specs.declared.message.Attr.{Attr}
 use Rattle.plumb_msg.specs.declared.scanning.Stage.{Stage}
 use Rattle.plumb_msg.specs.declared.scanning.Stage.TheVariants.{Start, Next, Name, Value, Plain, Quoted, Closed}

@@ -4,7 +4,7 @@ use Rattle.std.specs.List.{flat_map}
 use Rattle.std.proofs.lemmas.List.{append-nil, take_more}
 use Rattle.std.proofs.lemmas.Grind.{flat_map-append}
 use Rattle.plumb_msg.specs.declared.message.Attr.{Attr}
-use Rattle.plumb_msg.specs.Attributes.{is_known}
+use Rattle.plumb_msg.specs.Names.{is_known}
 use Rattle.plumb_msg.specs.Spelling.{doubled, after_blank, is_name, are_named}
 
 flat_map-more : {A : Type 0} (f : A → List ℕ) (xs : List A) (i : ℕ) (x : A) → i < length xs → flat_map f (take (i + 1) xs) ≡ flat_map f (take i xs) ++ f (get_or xs i x)

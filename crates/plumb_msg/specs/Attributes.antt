@@ -2,8 +2,8 @@
 -- twice. Reading goes from left to right.
 use Rattle.std.specs.Prelude.{ℕ, Bool, false, ◌||◌, ◌==◌, List, [], ◌∷◌, ◌++◌, Option, Some, None, is_some, if◌then◌else◌}
 use Rattle.std.specs.Char.{is_ascii_alphanumeric}
-use Rattle.std.specs.List.{list_any}
-use Rattle.std.specs.Str.{is_utf8, bytes_eq}
+use Rattle.std.specs.Str.{is_utf8}
+use Rattle.plumb_msg.specs.Names.{is_known}
 use Rattle.plumb_msg.specs.Texts.{is_text_front}
 use Rattle.plumb_msg.specs.declared.message.Attr.{Attr}
 use Rattle.plumb_msg.specs.declared.scanning.Stage.{Stage}
@@ -17,9 +17,6 @@ is_name_byte b = is_ascii_alphanumeric b || b == 95
 -- a blank, a tab, a quote or `=`: a value with one of them stands in quotes
 abbrev pub is_special : ℕ → Bool
 is_special b = b == 32 || b == 9 || b == 39 || b == 61
-
-abbrev pub is_known : List ℕ → List Attr → Bool
-is_known name attrs = list_any (λ a. bytes_eq a.name name) attrs
 
 -- ---- one byte
 

@@ -3,7 +3,8 @@ use Rattle.std.specs.Prelude.{ℕ, Bool, true, false, ◌&&◌, ◌==◌, List, 
 use Rattle.std.specs.Fmt.{decimal}
 use Rattle.std.specs.List.{list_all, list_any, flat_map}
 use Rattle.plumb_msg.specs.Texts.{is_line}
-use Rattle.plumb_msg.specs.Attributes.{is_name_byte, is_special, is_known}
+use Rattle.plumb_msg.specs.Attributes.{is_name_byte, is_special}
+use Rattle.plumb_msg.specs.Names.{is_known}
 use Rattle.plumb_msg.specs.declared.message.Attr.{Attr}
 use Rattle.plumb_msg.specs.declared.message.PlumbMsg.{PlumbMsg}
 

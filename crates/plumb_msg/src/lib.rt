@@ -3,6 +3,7 @@
 
 mod laws;
 mod message;
+mod names;
 mod reading;
 mod scanning;
 mod texts;

@@ -1,9 +1,10 @@
 //! Attributes in one line.
 
 ghost use Rattle.std.specs.Prelude.{◌≡◌, IfOk, is_some};
-ghost use Rattle.plumb_msg.specs.Attributes.{is_name_byte, is_special, is_known, with_stage, named, name_ended, put, plain, attr_of, attrs_with, ended, step_value, step_plain, step_quoted, step_closed, step, start, scan, finished, attrs_of, is_attrs_front};
+ghost use Rattle.plumb_msg.specs.Attributes.{is_name_byte, is_special, with_stage, named, name_ended, put, plain, attr_of, attrs_with, ended, step_value, step_plain, step_quoted, step_closed, step, start, scan, finished, attrs_of, is_attrs_front};
 
 use crate::message::{Attr, Attrs};
+use crate::names::NamedAttrs;
 use crate::texts::is_text_front;
 use am_text::{Bytes, NoMemory, is_utf8};
 use std::alloc::Global;
@@ -30,7 +31,7 @@ pub enum Stage {
 /// What was read of a line of attributes: the whole attributes, and the name and the value that are being read.
 #[derive(Drop)]
 pub struct Scan {
-    pub attrs: Attrs,
+    pub attrs: NamedAttrs,
     pub name: Bytes,
     pub value: Bytes,
     pub stage: Stage,
@@ -46,13 +47,6 @@ pub(crate) fn is_special(b: u8) -> bool
     ensures { result ≡ is_special b }
 {
     b == b' ' || b == b'\t' || b == b'\'' || b == b'='
-}
-
-/// Whether one of the attributes has this name.
-pub(crate) fn is_known(name: &[u8], attrs: &[Attr]) -> bool
-    ensures { result ≡ is_known name.now attrs.now }
-{
-    attrs.iter().any(|attr| attr.name.as_slice() == name)
 }
 
 fn with_stage(scan: Scan, stage: Stage) -> Scan
@@ -77,7 +71,7 @@ fn named(scan: Scan, b: u8) -> Result<Option<Scan>, NoMemory>
 fn name_ended(scan: Scan) -> Option<Scan>
     ensures { result ≡ name_ended scan }
 {
-    if is_known(scan.name.as_slice(), scan.attrs.as_slice()) {
+    if scan.attrs.has(scan.name.as_slice()) {
         return None;
     }
     Some(with_stage(scan, Stage::Value))
@@ -101,24 +95,23 @@ fn plain(scan: Scan, b: u8) -> Result<Option<Scan>, NoMemory>
 }
 
 // The attributes, with the one that was read last.
-fn attrs_with(scan: Scan) -> Result<Attrs, NoMemory>
+fn attrs_with(alloc: Global, scan: Scan) -> Result<NamedAttrs, NoMemory>
     ensures { IfOk result (λ attrs. attrs ≡ attrs_with scan) }
 {
     let Scan {
-        mut attrs,
+        attrs,
         name,
         value,
-        stage: _,
+        ..
     } = scan;
-    attrs.push(Attr { name, value })?;
-    Ok(attrs)
+    attrs.with(alloc, Attr { name, value })
 }
 
 fn ended(alloc: Global, scan: Scan) -> Result<Scan, NoMemory>
     ensures { IfOk result (λ s. s ≡ ended scan) }
 {
     Ok(Scan {
-        attrs: attrs_with(scan)?,
+        attrs: attrs_with(alloc, scan)?,
         name: Bytes::new(alloc),
         value: Bytes::new(alloc),
         stage: Stage::Next,
@@ -188,7 +181,7 @@ fn start(alloc: Global) -> Scan
     ensures { result ≡ start }
 {
     Scan {
-        attrs: Attrs::new(alloc),
+        attrs: NamedAttrs::new(alloc),
         name: Bytes::new(alloc),
         value: Bytes::new(alloc),
         stage: Stage::Start,
@@ -209,20 +202,20 @@ fn scanned(alloc: Global, line: &[u8]) -> Result<Option<Scan>, NoMemory>
     Ok(Some(scan))
 }
 
-fn finished(scan: Option<Scan>) -> Result<Option<Attrs>, NoMemory>
+fn finished(alloc: Global, scan: Option<Scan>) -> Result<Option<Attrs>, NoMemory>
     ensures { IfOk result (λ attrs. attrs ≡ finished scan) }
 {
     let Some(scan) = scan else {
         return Ok(None);
     };
     match scan.stage {
-        Stage::Start => Ok(Some(scan.attrs)),
+        Stage::Start => Ok(Some(scan.attrs.into_attrs())),
         Stage::Next => Ok(None),
         Stage::Name => Ok(None),
-        Stage::Value => Ok(Some(attrs_with(scan)?)),
-        Stage::Plain => Ok(Some(attrs_with(scan)?)),
+        Stage::Value => Ok(Some(attrs_with(alloc, scan)?.into_attrs())),
+        Stage::Plain => Ok(Some(attrs_with(alloc, scan)?.into_attrs())),
         Stage::Quoted => Ok(None),
-        Stage::Closed => Ok(Some(attrs_with(scan)?)),
+        Stage::Closed => Ok(Some(attrs_with(alloc, scan)?.into_attrs())),
     }
 }
 
@@ -234,7 +227,7 @@ pub fn read_attrs(alloc: Global, line: &[u8]) -> Result<Option<Attrs>, NoMemory>
     if !is_utf8(line) {
         return Ok(None);
     }
-    finished(scanned(alloc, line)?)
+    finished(alloc, scanned(alloc, line)?)
 }
 
 /// Whether more bytes can make the bytes a line of attributes.

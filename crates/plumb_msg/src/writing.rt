@@ -7,8 +7,9 @@ ghost use Rattle.plumb_msg.specs.Spelling.{quoted, needs_quotes, value_text, att
 ghost use Rattle.plumb_msg.specs.declared.message.PlumbRead.TheVariants.{Whole};
 
 use crate::message::{Attr, PlumbMsg};
+use crate::names::Names;
 use crate::reading::MAX_BODY;
-use crate::scanning::{is_known, is_name_byte, is_special};
+use crate::scanning::{is_name_byte, is_special};
 use crate::texts::is_line;
 use am_text::{Bytes, NoMemory, decimal};
 use std::alloc::Global;
@@ -128,17 +129,19 @@ fn is_name(name: &[u8]) -> bool
     !name.is_empty() && are_name_bytes(name)
 }
 
-#[tactic(auto, using(crate::proofs::SpellLemmas::naming))]
-fn are_named(attrs: &[Attr]) -> bool
-    ensures { result ≡ are_named [] attrs.now }
+#[tactic(auto, using(crate::proofs::SpellLemmas::naming, crate::proofs::NameLemmas::naming))]
+fn are_named(alloc: Global, attrs: &[Attr]) -> Result<bool, NoMemory>
+    ensures { IfOk result (λ b. b ≡ are_named [] attrs.now) }
 {
-    for (i, attr) in attrs.iter().enumerate() {
-        let (before, _) = attrs.split_at(i);
-        if is_known(attr.name.as_slice(), before) || !is_name(attr.name.as_slice()) {
-            return false;
+    let mut names = Names::new(alloc);
+    for attr in attrs {
+        let name = attr.name.as_slice();
+        if names.has(name) || !is_name(name) {
+            return Ok(false);
         }
+        names.put(alloc, name)?;
     }
-    true
+    Ok(true)
 }
 
 /// Whether a message can be written: its texts are UTF-8 in one line each, its attributes have names of letters, digits
@@ -148,13 +151,14 @@ pub fn can_spell(alloc: Global, msg: &PlumbMsg) -> Result<bool, NoMemory>
     ensures { IfOk result (λ b. b ≡ can_spell msg.now) }
 {
     let attrs = attrs_text(alloc, msg.attrs.as_slice())?;
+    let named = are_named(alloc, msg.attrs.as_slice())?;
     Ok(
         is_line(msg.src.as_slice())
             && is_line(msg.dst.as_slice())
             && is_line(msg.wdir.as_slice())
             && is_line(msg.sort.as_slice())
             && is_line(attrs.as_slice())
-            && are_named(msg.attrs.as_slice())
+            && named
             && msg.body.len() <= MAX_BODY,
     )
 }

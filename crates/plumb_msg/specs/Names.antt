@@ -1,0 +1,11 @@
+-- Names of attributes.
+use Rattle.std.specs.Prelude.{ℕ, Bool, List}
+use Rattle.std.specs.List.{list_any}
+use Rattle.std.specs.Str.{bytes_eq}
+use Rattle.plumb_msg.specs.declared.message.Attr.{Attr}
+
+abbrev pub is_known : List ℕ → List Attr → Bool
+is_known name attrs = list_any (λ a. bytes_eq a.name name) attrs
+
+abbrev pub is_among : List ℕ → List (List ℕ) → Bool
+is_among name names = list_any (λ n. bytes_eq n name) names
