@@ -1,4 +1,5 @@
 pub mod Expressions
 pub mod Further
 pub mod Kept
+pub mod Same
 pub mod Taken

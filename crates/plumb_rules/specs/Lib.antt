@@ -1,4 +1,5 @@
 pub mod Attributes
+pub mod Drafts
 pub mod Laws
 pub mod Patterns
 pub mod Routes

@@ -1,5 +1,5 @@
 -- What each verb does. None where the rule doesn't hold.
-use Rattle.std.specs.Prelude.{ℕ, Bool, List, [], length, slice_range, Option, Some, None, if◌then◌else◌}
+use Rattle.std.specs.Prelude.{ℕ, Bool, true, false, List, [], length, slice_range, Option, Some, None, is_none, if◌then◌else◌}
 use Rattle.std.specs.Str.{bytes_eq}
 use Rattle.am_text.specs.Utf8.{decode, utf8}
 use Rattle.am_text.specs.declared.range.Range.{Range}
@@ -125,6 +125,25 @@ verb_done tree s verb.Delete text = delete s text
 verb_done tree s verb.To text = to s text
 verb_done tree s verb.Start text = by_way s (Start text)
 verb_done tree s verb.Client text = by_way s (Client text)
+
+-- whether a rule with this verb leaves the message as it is, where it holds
+abbrev pub keeps_message : PlumbMsg → Verb → Bool
+keeps_message m (verb.Is f) = true
+keeps_message m (verb.Matches Src) = true
+keeps_message m (verb.Matches Dst) = true
+keeps_message m (verb.Matches Wdir) = true
+keeps_message m (verb.Matches Sort) = true
+keeps_message m (verb.Matches Data) = is_none (click_of m.attrs)
+keeps_message m (verb.Set f) = false
+keeps_message m verb.ArgIsFile = true
+keeps_message m verb.ArgIsDir = true
+keeps_message m verb.DataIsFile = true
+keeps_message m verb.DataIsDir = true
+keeps_message m verb.Add = false
+keeps_message m verb.Delete = false
+keeps_message m verb.To = true
+keeps_message m verb.Start = true
+keeps_message m verb.Client = true
 
 abbrev pub rule_done : Nodes → State → Rule → Option State
 rule_done tree s r = verb_done tree s r.verb (argument_text s r.argument)

@@ -13,8 +13,8 @@ pub fn first_set_is_taken()
     ensures own { ElseToItsPort }
 {}
 
-/// The message that is delivered to a port has it as dst; a message that can be spelled is delivered as one that can; and data
-/// that no rule sets are delivered as they came, where there is no click.
+/// The message that is delivered to a port has it as dst; a message that can be spelled is delivered as one that can; and the
+/// data of a message without a click are delivered byte by byte as they came where no rule sets them or adds attributes.
 pub fn messages_are_delivered_whole()
     ensures port { PortIsDst }
     ensures spelled { SpelledStaysSo }

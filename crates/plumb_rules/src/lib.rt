@@ -4,6 +4,7 @@
 mod answer;
 mod attributes;
 mod click;
+mod draft;
 mod laws;
 mod message;
 mod pattern;

@@ -1,6 +1,7 @@
 //! The route of a message.
 
-ghost use Rattle.std.specs.Prelude.{◌≡◌, IfOk};
+ghost use Rattle.std.specs.Prelude.{◌≡◌, true, IfOk};
+ghost use Rattle.plumb_msg.specs.Spelling as spelling;
 ghost use Rattle.plumb_rules.specs.Routes.{sets_route, own_route, rules_route, route_of};
 
 use crate::answer::{Route, Way};
@@ -20,6 +21,7 @@ fn sets_route(
     msg: &PlumbMsg,
     sets: &[Rules],
 ) -> Result<Option<Route>, NoMemory>
+    requires { spelling.can_spell msg.now ≡ true }
     ensures { IfOk result (λ r. r ≡ sets_route tree.now.present msg.now sets.now) }
 {
     for rules in sets {

@@ -1,12 +1,13 @@
 //! The rules of a set in order.
 
-ghost use Rattle.std.specs.Prelude.{◌≡◌, IfOk};
+ghost use Rattle.std.specs.Prelude.{◌≡◌, true, IfOk, IfSome};
+ghost use Rattle.plumb_msg.specs.Spelling as spelling;
 ghost use Rattle.plumb_rules.specs.Routes.{begun, spelled, rule_holds, rules_hold, with_dst, route_in, route_at, set_route};
 
 use crate::answer::{Route, Way};
-use crate::message::copied_msg;
+use crate::draft::Draft;
 use crate::state::State;
-use crate::verbs::rule_done;
+use crate::verbs::{keeps_message, rule_done};
 use am_text::{Bytes, NoMemory};
 use name_tree::Tree;
 use plumb_msg::{PlumbMsg, can_spell};
@@ -14,51 +15,60 @@ use rule_syntax::Rule;
 use std::alloc::Global;
 
 // Before the first rule of a set.
-fn begun(alloc: Global, msg: &PlumbMsg) -> Result<State, NoMemory>
-    ensures { IfOk result (λ s. s ≡ begun msg.now) }
+fn begun(msg: &PlumbMsg) -> State
+    ensures { result ≡ begun msg.now }
 {
-    Ok(State {
-        msg: copied_msg(alloc, msg)?,
+    State {
+        msg: Draft::given(msg),
         matched: None,
         file: None,
         dir: None,
         port: None,
         way: Way::Port,
-    })
+    }
 }
 
 fn spelled(alloc: Global, state: State) -> Result<Option<State>, NoMemory>
-    ensures { IfOk result (λ s. s ≡ spelled state) }
+    ensures value { IfOk result (λ s. s ≡ spelled state.entry) }
+    ensures spelled { IfOk result (λ s. IfSome s (λ t. spelling.can_spell t.msg ≡ true)) }
 {
-    if can_spell(alloc, &state.msg)? {
+    if can_spell(alloc, state.msg.get())? {
         return Ok(Some(state));
     }
     Ok(None)
 }
 
-// A rule that leaves a message which can't be spelled doesn't hold.
-fn rule_holds(
+// A rule that leaves a message which can't be spelled doesn't hold. A message that stays as it is can still be spelled.
+#[tactic(auto, using(crate::proofs::Same::same))]
+fn rule_holds<'a>(
     alloc: Global,
     tree: &Tree,
-    state: State,
+    state: State<'a>,
     rule: &Rule,
-) -> Result<Option<State>, NoMemory>
-    ensures { IfOk result (λ s. s ≡ rule_holds tree.now.present state rule.now) }
+) -> Result<Option<State<'a>>, NoMemory>
+    requires { spelling.can_spell state.msg ≡ true }
+    ensures value { IfOk result (λ s. s ≡ rule_holds tree.now.present state.entry rule.now) }
+    ensures spelled { IfOk result (λ s. IfSome s (λ t. spelling.can_spell t.msg ≡ true)) }
 {
-    match rule_done(alloc, tree, state, rule)? {
-        None => Ok(None),
-        Some(state) => spelled(alloc, state),
+    let is_same = keeps_message(state.msg.get(), rule.verb);
+    let Some(state) = rule_done(alloc, tree, state, rule)? else {
+        return Ok(None);
+    };
+    if is_same {
+        return Ok(Some(state));
     }
+    spelled(alloc, state)
 }
 
 #[tactic(auto, using(crate::proofs::Further::rules))]
-fn rules_hold(
+fn rules_hold<'a>(
     alloc: Global,
     tree: &Tree,
-    state: State,
+    state: State<'a>,
     rules: &[Rule],
-) -> Result<Option<State>, NoMemory>
-    ensures { IfOk result (λ s. s ≡ rules_hold tree.now.present state rules.now) }
+) -> Result<Option<State<'a>>, NoMemory>
+    requires { spelling.can_spell state.msg ≡ true }
+    ensures { IfOk result (λ s. s ≡ rules_hold tree.now.present state.entry rules.now) }
 {
     let mut state = state;
     for rule in rules {
@@ -84,15 +94,15 @@ fn with_dst(alloc: Global, msg: PlumbMsg, port: &Option<Bytes>) -> Result<PlumbM
 }
 
 fn route_in(alloc: Global, state: State) -> Result<Route, NoMemory>
-    ensures { IfOk result (λ r. r ≡ route_in state) }
+    ensures { IfOk result (λ r. r ≡ route_in state.entry) }
 {
     let State { msg, port, way, .. } = state;
-    let msg = with_dst(alloc, msg, &port)?;
+    let msg = with_dst(alloc, msg.into_msg(alloc)?, &port)?;
     Ok(Route { port, way, msg })
 }
 
 fn route_at(alloc: Global, state: State) -> Result<Option<Route>, NoMemory>
-    ensures { IfOk result (λ r. r ≡ route_at state) }
+    ensures { IfOk result (λ r. r ≡ route_at state.entry) }
 {
     let route = route_in(alloc, state)?;
     if can_spell(alloc, &route.msg)? {
@@ -101,16 +111,17 @@ fn route_at(alloc: Global, state: State) -> Result<Option<Route>, NoMemory>
     Ok(None)
 }
 
-/// The route of a message by one set, where the set holds.
+/// The route of a message that can be spelled by one set, where the set holds.
 pub fn set_route(
     alloc: Global,
     tree: &Tree,
     msg: &PlumbMsg,
     rules: &[Rule],
 ) -> Result<Option<Route>, NoMemory>
+    requires { spelling.can_spell msg.now ≡ true }
     ensures { IfOk result (λ r. r ≡ set_route tree.now.present msg.now rules.now) }
 {
-    let state = begun(alloc, msg)?;
+    let state = begun(msg);
     match rules_hold(alloc, tree, state, rules)? {
         None => Ok(None),
         Some(state) => route_at(alloc, state),

@@ -3,8 +3,8 @@
 ghost use Rattle.std.specs.Prelude.{◌≡◌};
 
 use crate::answer::Way;
+use crate::draft::Draft;
 use am_text::{Bytes, Runes};
-use plumb_msg::PlumbMsg;
 use re_syntax::Groups;
 
 /// The match of a `data matches` rule: the text, and the ranges of the match and of its groups in it.
@@ -16,8 +16,8 @@ pub struct Matched {
 
 /// A message while the rules of a set are done, and what they found and told.
 #[derive(Drop)]
-pub struct State {
-    pub msg: PlumbMsg,
+pub struct State<'a> {
+    pub msg: Draft<'a>,
     /// The match of the last `data matches`.
     pub matched: Option<Matched>,
     /// The name of the last `isfile`.

@@ -109,15 +109,15 @@ fn late_text(alloc: Global, state: &State, late: Late) -> Result<Runes, NoMemory
 {
     match late {
         Late::Group(number) => group_text(alloc, &state.matched, number),
-        Late::Attr => attributes(alloc, &state.msg),
-        Late::Data => decode_whole(alloc, state.msg.body.as_slice()),
-        Late::Dir => found_or(alloc, &state.dir, &state.msg),
-        Late::Dst => decode_whole(alloc, state.msg.dst.as_slice()),
-        Late::File => found_or(alloc, &state.file, &state.msg),
-        Late::Ndata => data_count(alloc, &state.msg),
-        Late::Src => decode_whole(alloc, state.msg.src.as_slice()),
-        Late::Sort => decode_whole(alloc, state.msg.sort.as_slice()),
-        Late::Wdir => decode_whole(alloc, state.msg.wdir.as_slice()),
+        Late::Attr => attributes(alloc, state.msg.get()),
+        Late::Data => decode_whole(alloc, state.msg.get().body.as_slice()),
+        Late::Dir => found_or(alloc, &state.dir, state.msg.get()),
+        Late::Dst => decode_whole(alloc, state.msg.get().dst.as_slice()),
+        Late::File => found_or(alloc, &state.file, state.msg.get()),
+        Late::Ndata => data_count(alloc, state.msg.get()),
+        Late::Src => decode_whole(alloc, state.msg.get().src.as_slice()),
+        Late::Sort => decode_whole(alloc, state.msg.get().sort.as_slice()),
+        Late::Wdir => decode_whole(alloc, state.msg.get().wdir.as_slice()),
     }
 }
 
