@@ -9,7 +9,7 @@ pub fn loses_nothing()
 {}
 
 /// Each opening of a port gets what the port keeps when it joins, and each message that is delivered
-/// while it is there, in order, whatever calls are made.
+/// while it is there, in order, whatever calls are made but for what `back` takes back.
 pub fn gets_each_message()
     ensures begins { BeginsWithNothing }
     ensures gets { GetsEachMessage }

@@ -98,8 +98,8 @@ fn kept_messages_wait_for_the_next_opening(rt: HostRuntime) -> Result<(), Fail> 
     let again = added(&mut ports, b"web").map_err(|_| AllocError)?;
     assert!(rt; web == 1 && again == 1 && ports.len() == 2 && ports.number(b"web") == Some(1));
     let closed = ports.deliver(b"web", b"m", false);
-    assert!(rt; closed.is_err());
-    assert!(rt; ports.deliver(b"mail", b"m", true).is_err());
+    assert!(rt; closed == Err(PortFault::Closed));
+    assert!(rt; ports.deliver(b"mail", b"m", true) == Err(PortFault::NoPort));
     let full = keeps_64(&mut ports, b"web").map_err(|_| AllocError)?;
     assert!(rt; full);
     ports.keep();
