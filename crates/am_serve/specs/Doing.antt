@@ -1,7 +1,8 @@
 -- What a line of a script did.
-use Rattle.std.specs.Prelude.{◌≡◌, ℕ, Some}
+use Rattle.std.specs.Prelude.{◌≡◌, ℕ, ◌<◌, false, List, Some}
 use Rattle.am_journal.specs.declared.event.Event.{Event}
 use Rattle.am_counter.specs.Known.{Known, Looks, Submits}
+use Rattle.am_counter.specs.Played.{has_hang}
 use Rattle.am_serve.specs.Gained.{Rule}
 use Rattle.am_serve.specs.Script.{Answers, PassesLine, IsRefused}
 use Rattle.am_serve.specs.declared.asked.Asked.{Asked}
@@ -10,6 +11,10 @@ use Rattle.am_serve.specs.declared.scripting.LineFault.{LineFault}
 use Rattle.am_serve.specs.declared.scripting.LineFault.TheVariants as fault
 use Rattle.am_serve.specs.declared.scripting.LineEnd.{LineEnd}
 use Rattle.am_serve.specs.declared.scripting.LineEnd.TheVariants as end
+
+-- a connection below a number hasn't ended
+abbrev pub GoesOn : ℕ → List Event → Type 0
+GoesOn clients journal = (c : ℕ) × (c < clients) × (has_hang journal c ≡ false)
 
 abbrev pub RefusesEvent : Rule → Known → Event → LineFault → Known → Type 0
 RefusesEvent enabled v e fault.Line w = ⊥

@@ -6,7 +6,7 @@ ghost use Rattle.am_counter.specs.declared.ask.Ask.TheVariants.{EventOpen};
 ghost use Rattle.am_counter.specs.Known.{Looks};
 ghost use Rattle.am_serve.specs.Gained.{Gains, gained};
 ghost use Rattle.am_serve.specs.Script.{HaveEnded, EndsScript, asked_by_script, asked_by};
-ghost use Rattle.am_serve.specs.Doing.{DoesLine, DoesEvent};
+ghost use Rattle.am_serve.specs.Doing.{DoesLine, DoesEvent, GoesOn};
 
 use crate::asked::{Asked, asked_by};
 use am_counter::{Ask, Counter};
@@ -54,6 +54,7 @@ fn have_ended<C: Counter, R: Wait>(rt: &R, desk: &C, seat: &mut C::Seat, clients
     ensures fits { C.fits desk.now seat.new }
     ensures looks { Looks (C.known seat.old) (C.known seat.new) }
     ensures ended { result ≡ true → HaveEnded clients (C.known seat.new).seen }
+    ensures goes_on { result ≡ false → GoesOn clients (C.known seat.new).seen }
 {
     for conn in 0..clients {
         if !desk.look(rt, seat, Ask::Ended(conn)) {

@@ -3,6 +3,7 @@
 ghost use Rattle.std.specs.Prelude.{◌≡◌, ◌<◌, ◌≤◌, ◌++◌, ℕ, List, true, false, length, IfOk, IfErr, OnOk};
 ghost use Rattle.am_base.specs.Outside.{then_told};
 ghost use Rattle.ninep_cut.specs.Cuts.{IsMessage};
+ghost use Rattle.am_counter.specs.declared.ask.Ask.TheVariants as ask;
 ghost use Rattle.am_counter.specs.Known.{Looks};
 ghost use Rattle.am_counter.specs.Played.{has_dial};
 ghost use Rattle.am_serve.specs.Sending.{HasEnded, Sends, Keeps, Tries, sent_for, EndsIn, StopsIn};
@@ -46,6 +47,7 @@ pub(crate) fn wait_for_room<C: Counter, R: Wait>(
     requires conn { conn < 64 }
     ensures fits { C.fits desk.now seat.new }
     ensures looks { Looks (C.known seat.old) (C.known seat.new) }
+    ensures room { result ≡ true → C.answer (C.known seat.new).seen (ask.Room conn) ≡ true }
     ensures ended { result ≡ false → HasEnded C.enabled conn (C.known seat.new).seen }
 {
     let mut rung = 0;
