@@ -16,16 +16,22 @@ type Routed = (usize, usize);
 const RUNS: [Routed; 4] = [
     (1_000, 10_000),
     (2_000, 10_000),
-    (1_000, 20_000),
-    (4_000, 10_000),
+    (1_000, 2_000),
+    (2_000, 2_000),
 ];
 
-// So many sets: the one with number n takes the data `nameN` and an ending, and has port `portN`.
+// What the set with this number takes: six digits, scattered so that sets that follow one another differ in the first.
+fn code_of(number: usize) -> usize {
+    100_000 + number.wrapping_mul(617_287) % 900_000
+}
+
+// So many sets: the one with code N takes the data `nameN` and an ending, and has port `portN`.
 fn sets_of(alloc: Global, count: usize) -> Result<RuleSets, AllocError> {
     let mut text = String::new(alloc);
     for n in 0..count {
+        let code = code_of(n);
         let set = format!(in alloc;
-            "type is text\ndata matches 'name{n}\\.([a-z]+)'\nplumb to port{n}\n\n"
+            "type is text\ndata matches 'name{code}\\.([a-z]+)'\nplumb to port{code}\n\n"
         )?;
         text.push_str(set.as_str())?;
     }
@@ -40,7 +46,8 @@ fn bytes(alloc: Global, text: &str) -> Result<Bytes, NoMemory> {
 }
 
 fn msg_of(alloc: Global, number: usize) -> Result<PlumbMsg, NoMemory> {
-    let data = format!(in alloc; "name{number}.c")?;
+    let code = code_of(number);
+    let data = format!(in alloc; "name{code}.c")?;
     Ok(PlumbMsg {
         src: bytes(alloc, "acme")?,
         dst: Bytes::new(alloc),
