@@ -1,6 +1,5 @@
 -- What a side that reads messages has done, one step on.
 use Rattle.std.proofs.Common.{◌≡◌, inl, inr, ℕ, ◌+◌, Bool, true, false, not, List, [], ◌∷◌, ◌++◌, length, Option, Some, None, refl, sym, ap, subst, ◌∙◌, append_assoc, if◌then◌else◌}
-use Rattle.std.specs.Prelude.{is_some}
 use Rattle.std.proofs.lemmas.List.{append-nil}
 use Rattle.std.proofs.lemmas.List.Concat.{flat_map-append}
 use Rattle.am_base.specs.Outside.{then_told}
@@ -16,7 +15,7 @@ use Rattle.am_journal.specs.declared.event.Event.TheVariants.{Msg, Hang}
 use Rattle.am_journal.specs.declared.event.Why.{Why}
 use Rattle.am_journal.specs.declared.event.Why.TheVariants as why
 use Rattle.am_counter.specs.Known.{Known, Looks}
-use Rattle.am_counter.specs.Played.{IsPrefix}
+use Rattle.am_counter.specs.Played.{IsPrefix, has_hang}
 use Rattle.am_serve.specs.Gained.{Rule, Gains, gained, hang_up, HangsUp, plain}
 use Rattle.am_serve.specs.Reading.{AreMessages, spelling_of, spellings, AreRead, AreFront, IsNext, NextRefused, Gives, GivesOf}
 use Rattle.am_serve.specs.Sending.{StopsAt, Sends, Keeps, StopsIn, ReadSoFar, ReadUntil, answer_of}
@@ -291,7 +290,7 @@ module _ (enabled : Rule) (conn : ℕ) (v w : Known) (first now : Option (List �
   pub had_ended_gains : ReadUntil enabled conn v w stop.Ended first now → Gains v (gained v w) w
   had_ended_gains h = gains_gained v w h.entries h.gains
 
-  pub had_ended_entries : ReadUntil enabled conn v w stop.Ended first now → AreRead enabled conn None v w
+  pub had_ended_entries : ReadUntil enabled conn v w stop.Ended first now → AreRead conn None v w
   had_ended_entries h = let P : List (ℕ × Event) → Type 0 = λ l. AreMessages conn l in subst P (sym (gained_is v w h.entries h.gains)) h.messages
 
   pub had_ended_gives : ReadUntil enabled conn v w stop.Ended first now → GivesOf enabled conn w.seen (spellings (gained v w)) first now None
@@ -301,10 +300,6 @@ module _ (enabled : Rule) (conn : ℕ) (v w : Known) (first now : Option (List �
 
 -- ---- the connection is ended after that
 
-is_none : (o : Option Why) → is_some o ≡ false → o ≡ None
-is_none None e = refl
-is_none (Some x) e = absurd cc
-
 not_some : (b : Bool) → true ≡ not b → b ≡ false
 not_some false e = refl
 not_some true e = absurd cc
@@ -313,47 +308,47 @@ is_some_then : (b : Bool) → false ≡ not b → b ≡ true
 is_some_then true e = refl
 is_some_then false e = absurd cc
 
-module _ (enabled : Rule) (conn : ℕ) (v u w : Known) (cause : Ending) (made : Bool) (first now : Option (List ℕ)) (h : ReadUntil enabled conn v u (stop.Ends cause) first now) (k : HangsUp enabled u conn cause made w) where
-  hung : Gains u (hang_up enabled k.0 conn cause) w
-  hung = gains_hang_up enabled u w conn cause k.0 k.1 k.3
+module _ (enabled : Rule) (conn : ℕ) (v u w : Known) (cause : Ending) (made : Bool) (first now : Option (List ℕ)) (h : ReadUntil enabled conn v u (stop.Ends cause) first now) (k : HangsUp u conn cause made w) where
+  hung : Gains u (hang_up k.0 conn cause) w
+  hung = gains_hang_up u w conn cause k.0 k.1 k.3
 
-  together : Gains v (h.entries ++ hang_up enabled k.0 conn cause) w
-  together = gains_more v u w h.entries (hang_up enabled k.0 conn cause) h.gains hung
+  together : Gains v (h.entries ++ hang_up k.0 conn cause) w
+  together = gains_more v u w h.entries (hang_up k.0 conn cause) h.gains hung
 
   pub hung_gains : Gains v (gained v w) w
-  hung_gains = gains_gained v w (h.entries ++ hang_up enabled k.0 conn cause) together
+  hung_gains = gains_gained v w (h.entries ++ hang_up k.0 conn cause) together
 
   abbrev added : Bool → List (ℕ × Event)
   added b = if b then [] else (length k.0 + 1, Hang conn cause) ∷ []
 
-  seen_is : w.seen ≡ k.0 ++ plain (hang_up enabled k.0 conn cause)
+  seen_is : w.seen ≡ k.0 ++ plain (hang_up k.0 conn cause)
   seen_is = ap (λ (x : Known). x.seen) k.3
 
-  pub hung_entries : made ≡ true → AreRead enabled conn (Some cause) v w
+  pub hung_entries : made ≡ true → AreRead conn (Some cause) v w
   hung_entries e =
-      let none : is_some (enabled k.0 (Hang conn cause)) ≡ false = not_some (is_some (enabled k.0 (Hang conn cause))) (sym e ∙ k.2) in (
+      let none : has_hang k.0 conn ≡ false = not_some (has_hang k.0 conn) (sym e ∙ k.2) in (
         h.entries,
         k.0,
         h.messages,
-        is_none (enabled k.0 (Hang conn cause)) none,
-        gained_is v w (h.entries ++ hang_up enabled k.0 conn cause) together ∙ ap (λ (b : Bool). h.entries ++ added b) none,
+        none,
+        gained_is v w (h.entries ++ hang_up k.0 conn cause) together ∙ ap (λ (b : Bool). h.entries ++ added b) none,
         seen_is ∙ ap (λ (b : Bool). k.0 ++ plain (added b)) none,
       )
 
-  pub unhung_entries : made ≡ false → AreRead enabled conn None v w
+  pub unhung_entries : made ≡ false → AreRead conn None v w
   unhung_entries e =
-      let some : is_some (enabled k.0 (Hang conn cause)) ≡ true = is_some_then (is_some (enabled k.0 (Hang conn cause))) (sym e ∙ k.2) in
+      let some : has_hang k.0 conn ≡ true = is_some_then (has_hang k.0 conn) (sym e ∙ k.2) in
       let P : List (ℕ × Event) → Type 0 = λ l. AreMessages conn l in
       subst P
-      (sym (gained_is v w (h.entries ++ hang_up enabled k.0 conn cause) together ∙ ap (λ (b : Bool). h.entries ++ added b) some ∙ append-nil h.entries))
+      (sym (gained_is v w (h.entries ++ hang_up k.0 conn cause) together ∙ ap (λ (b : Bool). h.entries ++ added b) some ∙ append-nil h.entries))
       h.messages
 
   -- the hang-up is no message
   given_is : spellings (gained v w) ≡ spellings h.entries
   given_is =
-      ap spellings (gained_is v w (h.entries ++ hang_up enabled k.0 conn cause) together)
-      ∙ spellings-append h.entries (hang_up enabled k.0 conn cause)
-      ∙ ap (λ (l : List (List ℕ)). spellings h.entries ++ l) (nothing (is_some (enabled k.0 (Hang conn cause))))
+      ap spellings (gained_is v w (h.entries ++ hang_up k.0 conn cause) together)
+      ∙ spellings-append h.entries (hang_up k.0 conn cause)
+      ∙ ap (λ (l : List (List ℕ)). spellings h.entries ++ l) (nothing (has_hang k.0 conn))
       ∙ append-nil (spellings h.entries)
     where
       nothing : (b : Bool) → spellings (if b then [] else (length k.0 + 1, Hang conn cause) ∷ []) ≡ []

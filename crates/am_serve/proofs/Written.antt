@@ -1,6 +1,6 @@
 -- What a side that writes replies has done, one step on.
 use Rattle.std.proofs.Common.{◌≡◌, ℕ, suc, ◌+◌, ◌-◌, ◌≤◌, Bool, true, false, List, [], ◌∷◌, ◌++◌, length, take, Option, Some, None, refl, sym, ap, subst, ◌∙◌, append_assoc, arith}
-use Rattle.std.specs.Prelude.{is_some, if◌then◌else◌}
+use Rattle.std.specs.Prelude.{if◌then◌else◌}
 use Rattle.std.proofs.lemmas.List.{append-nil, length-append, take-append-le, take_at}
 use Rattle.std.proofs.lemmas.List.Concat.{flat_map-append}
 use Rattle.turn_lock.specs.Journal.{Stands}
@@ -9,6 +9,7 @@ use Rattle.am_journal.specs.declared.ending.Ending.{Ending}
 use Rattle.am_journal.specs.declared.event.Event.{Event}
 use Rattle.am_journal.specs.declared.event.Event.TheVariants.{Hang, Took}
 use Rattle.am_counter.specs.Known.{Known, with_entry, Looks, TakesBytes}
+use Rattle.am_counter.specs.Played.{has_hang}
 use Rattle.am_serve.specs.Gained.{Rule, Gains, gained, hang_up, HangsUp}
 use Rattle.am_serve.specs.Writing.{AreTakings, bytes_of, taken_bytes, Wrote, Gets}
 use Rattle.am_serve.specs.declared.writing.WriteEnd.{WriteEnd}
@@ -128,21 +129,21 @@ module _ (unsent : List Event → ℕ → List ℕ) (conn : ℕ) where
   wrote_so_far v w old new h = record { entries = h.entries; gains = h.gains; takings = h.takings; gets = h.gets }
 
   -- the connection is ended after that
-  module _ (enabled : Rule) (v w x : Known) (e : WriteEnd) (old new : Option (List ℕ)) (cause : Ending) (made : Bool) (h : Wrote unsent conn v w e old new) (u : HangsUp enabled w conn cause made x) where
-    all_gains : Gains v (h.entries ++ hang_up enabled u.0 conn cause) x
-    all_gains = gains_more v w x h.entries (hang_up enabled u.0 conn cause) h.gains (gains_hang_up enabled w x conn cause u.0 u.1 u.3)
+  module _ (v w x : Known) (e : WriteEnd) (old new : Option (List ℕ)) (cause : Ending) (made : Bool) (h : Wrote unsent conn v w e old new) (u : HangsUp w conn cause made x) where
+    all_gains : Gains v (h.entries ++ hang_up u.0 conn cause) x
+    all_gains = gains_more v w x h.entries (hang_up u.0 conn cause) h.gains (gains_hang_up w x conn cause u.0 u.1 u.3)
 
     pub ended_gains : Gains v (gained v x) x
-    ended_gains = gains_gained v x (h.entries ++ hang_up enabled u.0 conn cause) all_gains
+    ended_gains = gains_gained v x (h.entries ++ hang_up u.0 conn cause) all_gains
 
     pub ended_gets : Gets e old (taken_bytes unsent x.seen (gained v x)) new
     ended_gets =
-        let hs = hang_up enabled u.0 conn cause in
+        let hs = hang_up u.0 conn cause in
         let P : List ℕ → Type 0 = λ l. Gets e old l new in
         subst P
         (sym (ap (taken_bytes unsent x.seen) (gained_is v x (h.entries ++ hs) all_gains)
-        ∙ taken_more unsent v w x h.entries hs h.gains (gains_hang_up enabled w x conn cause u.0 u.1 u.3)
-        ∙ ap (λ (l : List ℕ). taken_bytes unsent w.seen h.entries ++ l) (nothing (is_some (enabled u.0 (Hang conn cause))))
+        ∙ taken_more unsent v w x h.entries hs h.gains (gains_hang_up w x conn cause u.0 u.1 u.3)
+        ∙ ap (λ (l : List ℕ). taken_bytes unsent w.seen h.entries ++ l) (nothing (has_hang u.0 conn))
         ∙ append-nil (taken_bytes unsent w.seen h.entries)))
         h.gets
       where

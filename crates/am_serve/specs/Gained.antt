@@ -1,12 +1,12 @@
 -- What a side adds to the entries of its seat.
-use Rattle.std.specs.Prelude.{◌≡◌, ℕ, ◌+◌, Bool, not, List, [], ◌∷◌, ◌++◌, length, map, drop, Option, is_some, if◌then◌else◌}
+use Rattle.std.specs.Prelude.{◌≡◌, ℕ, ◌+◌, Bool, not, List, [], ◌∷◌, ◌++◌, length, map, drop, Option, if◌then◌else◌}
 use Rattle.turn_lock.specs.Journal.{Stands}
 use Rattle.am_journal.specs.declared.ending.Ending.{Ending}
 use Rattle.am_journal.specs.declared.event.Event.{Event}
 use Rattle.am_journal.specs.declared.event.Event.TheVariants.{Hang}
 use Rattle.am_journal.specs.declared.event.Why.{Why}
 use Rattle.am_counter.specs.Known.{Known}
-use Rattle.am_counter.specs.Played.{IsPrefix}
+use Rattle.am_counter.specs.Played.{IsPrefix, has_hang}
 
 -- the events of entries
 abbrev pub plain : List (ℕ × Event) → List Event
@@ -30,22 +30,21 @@ pub record Gains (v : Known) (entries : List (ℕ × Event)) (w : Known) : Type 
 abbrev pub Rule : Type 0
 Rule = List Event → Event → Option Why
 
--- the entry that ends a connection after a journal; none where that isn't enabled, as once the connection has ended
-abbrev pub hang_up : Rule → List Event → ℕ → Ending → List (ℕ × Event)
-hang_up enabled now conn why = if is_some (enabled now (Hang conn why)) then [] else (length now + 1, Hang conn why) ∷ []
+-- the entry that ends a connection after a journal; none where another has ended it
+abbrev pub hang_up : List Event → ℕ → Ending → List (ℕ × Event)
+hang_up now conn why = if has_hang now conn then [] else (length now + 1, Hang conn why) ∷ []
 
--- what a seat knows after a turn in which it ends a connection, where that is enabled
-abbrev pub hung_up : Rule → Known → List Event → ℕ → Ending → Known
-hung_up enabled v now conn why = record v { seen = now ++ plain (hang_up enabled now conn why); mine = v.mine ++ hang_up enabled now conn why }
+-- what a seat knows after a turn in which it ends a connection, unless that has ended
+abbrev pub hung_up : Known → List Event → ℕ → Ending → Known
+hung_up v now conn why = record v { seen = now ++ plain (hang_up now conn why); mine = v.mine ++ hang_up now conn why }
 
--- a connection is ended at one turn, where that is enabled, and whether it was
-abbrev pub HangsUp : Rule → Known → ℕ → Ending → Bool → Known → Type 0
-HangsUp enabled v conn why made w =
-    (now : List Event) × IsPrefix v.seen now × (made ≡ not (is_some (enabled now (Hang conn why)))) × (w ≡ hung_up enabled v now conn why)
+-- a connection is ended at one turn, unless it has ended, and whether it was
+abbrev pub HangsUp : Known → ℕ → Ending → Bool → Known → Type 0
+HangsUp v conn why made w = (now : List Event) × IsPrefix v.seen now × (made ≡ not (has_hang now conn)) × (w ≡ hung_up v now conn why)
 
 -- The entries that a seat has gained are some of this kind, and then the one that ended the connection with this cause. There is no such
--- entry where that wasn't enabled.
-abbrev pub EndsWith : Rule → (List (ℕ × Event) → Type 0) → ℕ → Ending → Known → Known → Type 0
-EndsWith enabled kind conn why v w =
+-- entry where another has ended it.
+abbrev pub EndsWith : (List (ℕ × Event) → Type 0) → ℕ → Ending → Known → Known → Type 0
+EndsWith kind conn why v w =
     (entries : List (ℕ × Event)) × (now : List Event) × kind entries
-    × (gained v w ≡ entries ++ hang_up enabled now conn why) × (w.seen ≡ now ++ plain (hang_up enabled now conn why))
+    × (gained v w ≡ entries ++ hang_up now conn why) × (w.seen ≡ now ++ plain (hang_up now conn why))

@@ -1,5 +1,5 @@
 -- What a side that reads messages does.
-use Rattle.std.specs.Prelude.{◌≡◌, ◌≢◌, ◌⊎◌, ℕ, ◌+◌, List, [], ◌∷◌, ◌++◌, length, Option, Some, None, Ok, Err}
+use Rattle.std.specs.Prelude.{◌≡◌, ◌≢◌, ◌⊎◌, ℕ, ◌+◌, false, List, [], ◌∷◌, ◌++◌, length, Option, Some, None, Ok, Err}
 use Rattle.std.specs.List.{flat_map, AllByRecursion}
 use Rattle.am_base.specs.Outside.{then_told}
 use Rattle.ninep_wire.specs.declared.fault.WireFault.{WireFault}
@@ -18,7 +18,7 @@ use Rattle.am_journal.specs.declared.event.Event.TheVariants as event
 use Rattle.am_journal.specs.declared.event.Why.{Why}
 use Rattle.am_journal.specs.declared.event.Why.TheVariants as why
 use Rattle.am_counter.specs.Known.{Known}
-use Rattle.am_counter.specs.Played.{IsPrefix}
+use Rattle.am_counter.specs.Played.{IsPrefix, has_hang}
 use Rattle.am_serve.specs.Gained.{Rule, gained}
 
 -- ---- entries
@@ -41,11 +41,11 @@ spelling_of (event.Sel w range) = []
 abbrev pub spellings : List (ℕ × Event) → List (List ℕ)
 spellings entries = flat_map (λ x. spelling_of x.1) entries
 
--- Behind its messages stands the hang-up with the cause that a side answered, which was enabled there; with none it made no hang-up.
-abbrev pub AreRead : Rule → ℕ → Option Ending → Known → Known → Type 0
-AreRead enabled conn None v w = AreMessages conn (gained v w)
-AreRead enabled conn (Some why) v w =
-    (entries : List (ℕ × Event)) × (now : List Event) × AreMessages conn entries × (enabled now (event.Hang conn why) ≡ None)
+-- Behind its messages stands the hang-up with the cause that a side answered, where no other stood; with none it made no hang-up.
+abbrev pub AreRead : ℕ → Option Ending → Known → Known → Type 0
+AreRead conn None v w = AreMessages conn (gained v w)
+AreRead conn (Some why) v w =
+    (entries : List (ℕ × Event)) × (now : List Event) × AreMessages conn entries × (has_hang now conn ≡ false)
     × (gained v w ≡ entries ++ (length now + 1, event.Hang conn why) ∷ []) × (w.seen ≡ now ++ event.Hang conn why ∷ [])
 
 -- ---- the stream

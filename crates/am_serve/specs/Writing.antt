@@ -6,7 +6,7 @@ use Rattle.am_journal.specs.declared.ending.Ending.TheVariants as ending
 use Rattle.am_journal.specs.declared.event.Event.{Event}
 use Rattle.am_journal.specs.declared.event.Event.TheVariants as event
 use Rattle.am_counter.specs.Known.{Known}
-use Rattle.am_serve.specs.Gained.{Rule, Gains, gained, EndsWith}
+use Rattle.am_serve.specs.Gained.{Gains, gained, EndsWith}
 use Rattle.am_serve.specs.declared.writing.WriteEnd.{WriteEnd}
 use Rattle.am_serve.specs.declared.writing.WriteEnd.TheVariants as end
 
@@ -29,10 +29,10 @@ abbrev pub taken_bytes : (List Event → ℕ → List ℕ) → List Event → Li
 taken_bytes unsent journal entries = flat_map (λ x. bytes_of unsent (take (x.0 - 1) journal) x.1) entries
 
 -- the entries of a side that stopped so
-abbrev pub AreWritten : Rule → ℕ → WriteEnd → Known → Known → Type 0
-AreWritten enabled conn end.Ended v w = AreTakings conn (gained v w)
-AreWritten enabled conn end.Gone v w = EndsWith enabled (AreTakings conn) conn ending.Gone v w
-AreWritten enabled conn end.NoMemory v w = EndsWith enabled (AreTakings conn) conn ending.NoMemory v w
+abbrev pub AreWritten : ℕ → WriteEnd → Known → Known → Type 0
+AreWritten conn end.Ended v w = AreTakings conn (gained v w)
+AreWritten conn end.Gone v w = EndsWith (AreTakings conn) conn ending.Gone v w
+AreWritten conn end.NoMemory v w = EndsWith (AreTakings conn) conn ending.NoMemory v w
 
 -- what a sink got: all the bytes, or, where it failed, a front of them
 abbrev pub Gets : WriteEnd → Option (List ℕ) → List ℕ → Option (List ℕ) → Type 0

@@ -23,7 +23,7 @@ pub(crate) fn hang_up<C: Counter, R: Wait>(
     requires dialled { has_dial (C.known seat.old).seen conn ≡ true }
     ensures fits { C.fits desk.now seat.new }
     ensures played { IsPlayed C.enabled (C.known seat.new).seen }
-    ensures hangs_up { HangsUp C.enabled (C.known seat.old) conn why result (C.known seat.new) }
+    ensures hangs_up { HangsUp (C.known seat.old) conn why result (C.known seat.new) }
     ensures ended { has_hang (C.known seat.new).seen conn ≡ true }
 {
     match desk.submit(rt, seat, Event::Hang { conn, why }) {

@@ -86,7 +86,7 @@ pub fn read_side<C: Counter, S: Source, R: Wait>(
     ensures fits { C.fits desk.now seat.new }
     ensures played { IsPlayed C.enabled (C.known seat.new).seen }
     ensures gains { Gains (C.known seat.old) (gained (C.known seat.old) (C.known seat.new)) (C.known seat.new) }
-    ensures entries { AreRead C.enabled conn result (C.known seat.old) (C.known seat.new) }
+    ensures entries { AreRead conn result (C.known seat.old) (C.known seat.new) }
     // Its messages are those of the bytes that were read.
     ensures gives { GivesOf C.enabled conn (C.known seat.new).seen (spellings (gained (C.known seat.old) (C.known seat.new))) (S.left source.old) (S.left source.new) result }
     ensures ended { has_hang (C.known seat.new).seen conn ≡ true }

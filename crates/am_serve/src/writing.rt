@@ -82,7 +82,7 @@ pub fn write_side<C: Counter, K: Sink, R: Wait>(
     ensures fits { C.fits desk.now seat.new }
     ensures played { IsPlayed C.enabled (C.known seat.new).seen }
     ensures gains { Gains (C.known seat.old) (gained (C.known seat.old) (C.known seat.new)) (C.known seat.new) }
-    ensures entries { AreWritten C.enabled conn result (C.known seat.old) (C.known seat.new) }
+    ensures entries { AreWritten conn result (C.known seat.old) (C.known seat.new) }
     // The sink got the bytes that they took.
     ensures gets { Gets result (K.held sink.old) (taken_bytes C.unsent (C.known seat.new).seen (gained (C.known seat.old) (C.known seat.new))) (K.held sink.new) }
     ensures ended { has_hang (C.known seat.new).seen conn ≡ true }
