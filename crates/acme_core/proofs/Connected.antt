@@ -125,10 +125,10 @@ told_more : (journal : List Event) (e : Event) → IsLawful e → enabled journa
 told_more journal e lawful allowed was = record {
   conns = ap (λ (cs : List Connection). length cs) (pushed journal e) ∙ length-connections (run journal).connections e ∙ was.conns;
   told = λ conn.
-    same (connection_at (run (journal ++ e ∷ [])).connections conn) _ _ _ _
-    (list_any-append (is_dial_of conn) journal (e ∷ [])) (list_any-append (is_hang_of conn) journal (e ∷ []))
-    (subst (λ (cs : List Connection). IsTold (connection_at cs conn) (has_dial journal conn || (is_dial_of conn e || false)) (has_hang journal conn || (is_hang_of conn e || false)))
-    (sym (pushed journal e)) (told_on (present_after journal) e conn _ _ was.conns lawful allowed (was.told conn)));
+      same (connection_at (run (journal ++ e ∷ [])).connections conn) _ _ _ _
+      (list_any-append (is_dial_of conn) journal (e ∷ [])) (list_any-append (is_hang_of conn) journal (e ∷ []))
+      (subst (λ (cs : List Connection). IsTold (connection_at cs conn) (has_dial journal conn || (is_dial_of conn e || false)) (has_hang journal conn || (is_hang_of conn e || false)))
+      (sym (pushed journal e)) (told_on (present_after journal) e conn _ _ was.conns lawful allowed (was.told conn)));
 }
 
 told_all : (before events : List Event) → ArePlayed enabled before events → AreTold before → AreTold (before ++ events)

@@ -8,5 +8,4 @@ ghost use Rattle.acme_core.specs.Run.{enabled};
 #[tactic(auto, using(crate::proofs::Connected::connected))]
 pub fn journals_tell_connections()
     ensures { TellsConnections enabled answer_at }
-{
-}
+{}

@@ -108,9 +108,7 @@ fn told(alloc: Global) -> Result<[usize; 7], NoMemory> {
     core.window_order();
     core.what_a_fid_gets();
     core.entries_are_counted();
-    core.events_were_enabled();
     messages_are_answered();
-    journals_tell_connections();
     let journal = core.into_journal();
     Ok([
         view.entries as usize,
@@ -131,13 +129,15 @@ fn plan_and_commit(rt: HostRuntime) -> Result<(), Fail> {
     Ok(())
 }
 
-// Does a line's event, where it is enabled.
-fn play_line(alloc: Global, core: &mut Core, line: &[u8])
+// Does the events of lines, where they are enabled.
+fn play_all(alloc: Global, core: &mut Core, lines: &[&[u8]])
     requires { core.old.planned ≡ None }
     ensures { core.new.planned ≡ None }
 {
-    if let Ok(Some(event)) = read_line(alloc, line) {
-        let _number = core.step(event);
+    for line in lines {
+        if let Ok(Some(event)) = read_line(alloc, line) {
+            let _number = core.step(event);
+        }
     }
 }
 
@@ -152,41 +152,52 @@ fn answers(core: &Core) -> (bool, bool, bool)
     )
 }
 
-// Sends so many messages that 256 replies are unsent: each frees a fid that isn't there.
-fn fill(alloc: Global, core: &mut Core)
-    requires { core.old.planned ≡ None }
-    ensures { core.new.planned ≡ None }
-{
-    for _ in 0..256 {
-        play_line(alloc, core, b"msg 0 0b00000078010009000000");
-    }
-}
+// A connection opens the event file of a new window.
+const OPENING: [&[u8]; 6] = [
+    b"dial 0",
+    b"new",
+    b"msg 0 1300000064ffff002000000600395032303030",
+    b"msg 0 1300000068010000000000ffffffff00000000",
+    b"msg 0 1b0000006e01000000000001000000020001003105006576656e74",
+    b"msg 0 0c0000007001000100000002",
+];
 
-// The answers before anything is done, with an open event file, with 256 unsent replies, and after the hang-up.
-fn asked(alloc: Global) -> Result<[(bool, bool, bool); 4], NoMemory> {
+// Frees a fid that isn't there.
+const CLUNK: &[u8] = b"msg 0 0b00000078010009000000";
+
+// The answers after these lines, and then so many clunks.
+fn answers_after(
+    alloc: Global,
+    lines: &[&[u8]],
+    clunks: u32,
+) -> Result<(bool, bool, bool), NoMemory> {
     let mut core = Core::new(alloc)?;
-    let first = answers(&core);
-    play_line(alloc, &mut core, b"dial 0");
-    play_line(alloc, &mut core, b"new");
-    play_line(alloc, &mut core, VERSION_0);
-    play_line(alloc, &mut core, b"msg 0 1300000068010000000000ffffffff00000000");
-    play_line(alloc, &mut core, b"msg 0 1b0000006e01000000000001000000020001003105006576656e74");
-    play_line(alloc, &mut core, b"msg 0 0c0000007001000100000002");
-    let open = answers(&core);
-    fill(alloc, &mut core);
-    let full = answers(&core);
-    play_line(alloc, &mut core, b"hang 0 end");
-    let ended = answers(&core);
+    play_all(alloc, &mut core, lines);
+    for _ in 0..clunks {
+        play_all(alloc, &mut core, &[CLUNK]);
+    }
+    let asked = answers(&core);
     drop(core);
-    Ok([first, open, full, ended])
+    Ok(asked)
 }
 
 #[test]
 fn questions(rt: HostRuntime) -> Result<(), Fail> {
-    let asked = asked(rt.alloc())?;
-    assert_eq!(rt; asked[0], (false, true, false));
-    assert_eq!(rt; asked[1], (true, true, false));
-    assert_eq!(rt; asked[2], (true, false, false));
-    assert_eq!(rt; asked[3], (false, false, true));
+    let alloc = rt.alloc();
+    assert_eq!(rt; answers_after(alloc, &[], 0)?, (false, true, false));
+    assert_eq!(rt; answers_after(alloc, &OPENING, 251)?, (true, true, false));
+    assert_eq!(rt; answers_after(alloc, &OPENING, 252)?, (true, false, false));
+    assert_eq!(rt;
+        answers_after(alloc, &[b"dial 0", b"hang 0 end"], 0)?,
+        (false, true, true)
+    );
+    Ok(())
+}
+
+#[test]
+fn laws(rt: HostRuntime) -> Result<(), Fail> {
+    journals_tell_connections();
+    let core = Core::new(rt.alloc())?;
+    core.events_were_enabled();
     Ok(())
 }

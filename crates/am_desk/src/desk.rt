@@ -49,12 +49,7 @@ impl Desk {
 
     /// Does an event in one turn, if it is enabled then, and answers the number of its entry. A refusal changes nothing but what
     /// the seat has seen.
-    pub fn submit<R: Wait>(
-        &self,
-        rt: &R,
-        seat: &mut DeskSeat,
-        event: Event,
-    ) -> Result<u64, Refused>
+    pub fn submit<R: Wait>(&self, rt: &R, seat: &mut DeskSeat, event: Event) -> Result<u64, Refused>
         requires lock { seat_lock seat.old ≡ desk_id self.now }
         requires lawful { IsLawful event }
         ensures lock { seat_lock seat.new ≡ seat_lock seat.old }

@@ -89,12 +89,7 @@ fn two_seats<R: Wait>(rt: &R, alloc: Global) -> Result<Said, NoMemory> {
 #[test]
 fn a_session_of_two_seats(rt: HostRuntime) -> Result<(), Fail> {
     let said = two_seats(&rt, rt.alloc())?;
-    let numbers = [
-        Ok(1),
-        Err(Refused::NotEnabled(Why::Dialed)),
-        Ok(2),
-        Ok(4),
-    ];
+    let numbers = [Ok(1), Err(Refused::NotEnabled(Why::Dialed)), Ok(2), Ok(4)];
     assert_eq!(rt; said.numbers, numbers);
     assert_eq!(rt; said.taken, [Taken::Bytes, Taken::NothingYet, Taken::Ended]);
     assert_eq!(rt; said.bytes.as_slice(), ANSWER);

@@ -17,7 +17,7 @@ returns-in-Ok-clause-ok g c =
       subst (λ (l : List Event). enabled l c.args.event ≡ None) was c.in-Ok.ensures.ok.0,
       c.in-Ok.ensures.ok.1 ∙ ap (λ (l : List Event). length l + 1) was,
       entered_event (view_of c.args.seat.now.seat) _ _ _ now c.args.event c.enter-held.ensures.view
-      (c.note.ensures.view c.args.event (c.in-Ok.ensures.done ∙ ap (λ (l : List Event). l ++ c.args.event ∷ []) seen)) c.leave.ensures.view,
+          (c.note.ensures.view c.args.event (c.in-Ok.ensures.done ∙ ap (λ (l : List Event). l ++ c.args.event ∷ []) seen)) c.leave.ensures.view,
     )
 
 pub returns-in-Err-clause-err : goal.returns-in-Err-clause-err

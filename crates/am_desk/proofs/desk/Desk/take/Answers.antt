@@ -22,7 +22,7 @@ returns-in-Ok-Bytes-clause-bytes g c = λ _.
       did.2 ∙ ap (λ (l : List Event). output_at l c.args.conn) was,
       λ none. did.3 (sym did.2 ∙ none),
       entered_event (view_of c.args.seat.now.seat) _ _ _ now (Took c.args.conn) c.enter-held.ensures.view
-      (c.note.ensures.view (Took c.args.conn) (did.0 ∙ ap (λ (l : List Event). l ++ Took c.args.conn ∷ []) seen)) c.leave.ensures.view,
+          (c.note.ensures.view (Took c.args.conn) (did.0 ∙ ap (λ (l : List Event). l ++ Took c.args.conn ∷ []) seen)) c.leave.ensures.view,
     )
 
 pub returns-in-Ok-NothingYet-clause-nothing_yet : goal.returns-in-Ok-NothingYet-clause-nothing_yet
