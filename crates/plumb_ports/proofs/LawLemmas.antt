@@ -7,7 +7,7 @@ use Rattle.wait_queue.specs.declared.types.Asker.{Asker}
 use Rattle.plumb_ports.specs.PortList.{Port, number_of, kept_of, with_kept}
 use Rattle.plumb_ports.specs.Inboxes.{Inbox, blank, is_of, is_on, inbox_of, received, delivered, piece_from, piece_of, after_piece_from, after_piece, after_read}
 use Rattle.plumb_ports.specs.PortsState.{PortsState, HasJoined, has_joined, is_open, is_ready, read_waits, piece_for, next_of, refusal_on, after_join, delivered_at, delivered_on, after_ask, after_next, after_answer, after_leave}
-use Rattle.plumb_ports.specs.Laws.{Add, Join, Deliver, Ask, Serve, Cancel, Leave, after_call, run, joined, owed_in, owed, answer_to, served_to, given_by, message_to, delivered_by, all_given, all_delivered, LosesNothing, GetsEachMessage, BeginsWithNothing, KeptOnce, LeavesOthers, CancelledIsGone}
+use Rattle.plumb_ports.specs.Laws.{Add, Join, Deliver, Ask, Serve, Cancel, Leave, after_call, run, joined, owed_in, owed, answer_to, served_to, given_by, message_to, delivered_by, all_given, all_delivered, LosesNothing, GetsEachMessage, BeginsWithNothing, KeptOnce, LeavesOthers, CancelledIsNotNext}
 
 -- ---- one opening among others
 
@@ -340,5 +340,5 @@ not_found p (x ∷ xs) conn tag r h =
           [ true ↦ λ k. let same : x ≡ r = cc in sym (ap (is_read conn tag) same) ∙ e | false ↦ λ k. not_found p xs conn tag r k ]) k
     ]) refl h
 
-pub cancelled : CancelledIsGone
-cancelled s conn tag r h = not_found (is_ready s.openings) s.reads conn tag r h
+pub cancelled_not_next : CancelledIsNotNext
+cancelled_not_next s conn tag r h = not_found (is_ready s.openings) s.reads conn tag r h

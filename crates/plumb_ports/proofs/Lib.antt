@@ -5,3 +5,4 @@ pub mod UndoLemmas
 pub mod ReadLemmas
 pub mod LawLemmas
 pub mod LawfulLemmas
+pub mod WaitingLemmas

@@ -1,10 +1,13 @@
 -- What holds of all that openings are given.
 use Rattle.std.specs.Prelude.{◌≡◌, ◌≢◌, ◌==◌, ◌≤◌, length, ℕ, Bool, true, false, List, [], ◌∷◌, ◌++◌, Option, Some, None, if◌then◌else◌}
+use Rattle.std.specs.List.{Contains, list_any}
+use Rattle.wait_queue.specs.Laws.{AddsNone, AddsOnly}
 use Rattle.wait_queue.specs.Reads.{is_read}
 use Rattle.wait_queue.specs.declared.types.Asker.{Asker}
+use Rattle.wait_queue.specs.declared.types.Piece.{Piece}
 use Rattle.plumb_ports.specs.PortList.{number_of, kept_of}
 use Rattle.plumb_ports.specs.Inboxes.{Inbox, inbox_of, is_on}
-use Rattle.plumb_ports.specs.PortsState.{PortsState, beginning, HasJoined, has_joined, is_open, read_waits, piece_for, next_of, refusal, after_add, after_join, after_deliver, delivered_at, after_ask, after_serve, after_cancel, after_leave, after_answer}
+use Rattle.plumb_ports.specs.PortsState.{PortsState, beginning, HasJoined, has_joined, is_open, read_waits, piece_for, next_of, served_of, refusal, after_add, after_join, after_deliver, delivered_at, after_ask, after_serve, after_cancel, after_leave, after_answer}
 
 -- a call that isn't refused
 pub data Call : Type 0 where
@@ -135,11 +138,33 @@ LeavesOthers =
     (s : PortsState) (r : Asker) (other : ℕ) → other ≢ r.opening →
     inbox_of (after_answer s r).openings other ≡ inbox_of s.openings other
 
--- a read that was cancelled is never the next one
+-- no read with that connection and tag waits after the cancel
 abbrev pub CancelledIsGone : Type 0
 CancelledIsGone =
+    (s : PortsState) (conn tag : ℕ) → list_any (is_read conn tag) (after_cancel s conn tag).reads ≡ false
+
+-- nor is one the next
+abbrev pub CancelledIsNotNext : Type 0
+CancelledIsNotNext =
     (s : PortsState) (conn tag : ℕ) (r : Asker) →
     next_of (after_cancel s conn tag) ≡ Some r → is_read conn tag r ≡ false
+
+-- no call but `ask` makes a read wait, and that one the read that it is called for
+abbrev pub WaitsAfter : Call → List Asker → List Asker → Type 0
+WaitsAfter (Add name) before after = AddsNone before after
+WaitsAfter (Join port opening) before after = AddsNone before after
+WaitsAfter (Deliver name message keep) before after = AddsNone before after
+WaitsAfter (Ask r) before after = AddsOnly r before after
+WaitsAfter Serve before after = AddsNone before after
+WaitsAfter (Cancel conn tag) before after = AddsNone before after
+WaitsAfter (Leave opening) before after = AddsNone before after
+
+abbrev pub OnlyAskWaits : Type 0
+OnlyAskWaits = (s : PortsState) (call : Call) → WaitsAfter call s.reads (after_call s call).reads
+
+-- what `serve` answers waited
+abbrev pub ServedWaited : Type 0
+ServedWaited = (s : PortsState) (r : Asker) (piece : Piece) → served_of s ≡ Some (r, piece) → Contains s.reads r
 
 -- no port keeps more than 64 messages, and one with an opening keeps none
 pub record IsLawful (s : PortsState) : Type 0 where

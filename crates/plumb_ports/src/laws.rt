@@ -1,6 +1,6 @@
 //! What holds of all that openings are given.
 
-ghost use Rattle.plumb_ports.specs.Laws.{LosesNothing, GetsEachMessage, BeginsWithNothing, KeptOnce, StaysLawful, LeavesOthers, CancelledIsGone};
+ghost use Rattle.plumb_ports.specs.Laws.{LosesNothing, GetsEachMessage, BeginsWithNothing, KeptOnce, StaysLawful, LeavesOthers, CancelledIsGone, CancelledIsNotNext, OnlyAskWaits, ServedWaited};
 
 /// What a call gives to an opening, with what is then still to come, is what was to come before with
 /// what the call delivers. So no byte of a message is lost or given twice.
@@ -31,7 +31,15 @@ pub fn leaves_others()
     ensures { LeavesOthers }
 {}
 
-/// A read that was cancelled is never answered, so it takes nothing.
+/// After a cancel no read with that tag on that connection waits, nor is one the next.
 pub fn cancelled_is_gone()
-    ensures { CancelledIsGone }
+    ensures gone { CancelledIsGone }
+    ensures next { CancelledIsNotNext }
+{}
+
+/// Only `ask` makes a read wait, the one that it is called for, and `serve` answers only reads that
+/// wait. So a read that was cancelled is not answered, and takes nothing, unless it is asked anew.
+pub fn only_ask_waits()
+    ensures adds { OnlyAskWaits }
+    ensures served { ServedWaited }
 {}

@@ -13,7 +13,8 @@ mod undo;
 
 pub use fault::PortFault;
 pub use laws::{
-    cancelled_is_gone, gets_each_message, keeps_at_most_64, kept_once, leaves_others, loses_nothing,
+    cancelled_is_gone, gets_each_message, keeps_at_most_64, kept_once, leaves_others,
+    loses_nothing, only_ask_waits,
 };
 pub use ports::Ports;
 
