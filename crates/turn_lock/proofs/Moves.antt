@@ -10,12 +10,12 @@ use prog.Atomic.{either}
 use Rattle.atomic_table.specs.Table.{State, Me, Act, step, keeps, takes, gives, Valid, carried_after, stepped, Allows, Splits, Joins, Final, Seen, opening}
 use Rattle.atomic_table.proofs.Lists.{at_set, at_snoc, set_here, set_else, at_longer, exchanged}
 use Rattle.turn_lock.specs.declared.view.View.{View}
-use Rattle.turn_lock.specs.Journal.{total, once, IsPrefix, AllStand, times}
+use Rattle.turn_lock.specs.Journal.{total, once, IsPrefix, AllStand, BeginsWith, times}
 use Rattle.turn_lock.specs.Kinds.{KeepsOrder}
 use Rattle.turn_lock.specs.Views.{first_view, spent_view, with_turn, after_note, after_leave, after_split, new_view, after_join, lists_of, tally, OwnStand, EachOnce}
 use Rattle.turn_lock.specs.Lock.{turns, Fits, Lawful, TryTells, NoteTells, LeaveTells}
 use Rattle.turn_lock.proofs.Interleaved.{keeps_order}
-use Rattle.turn_lock.proofs.Lists.{total-set, total-append, term_le, terms_le, total_only, set_at, begins_longer, begins_whole, longer_begins, longer_top, all_stand_longer, all_stand-append, stands_snoc, once_out, once_more}
+use Rattle.turn_lock.proofs.Lists.{total-set, total-append, term_le, terms_le, total_only, set_at, begins_longer, begins_whole, longer_begins, longer_top, all_stand_longer, all_stand-append, begins_with_longer, begins_with-append, stands_snoc, once_out, once_more}
 
 no_turn : {E : Type 0} (v : View E) → v.turn ≡ false → turns v ≡ 0
 no_turn v e = ap (λ b. cond b 1 0) e
@@ -24,7 +24,7 @@ a_turn : {E : Type 0} (v : View E) → v.turn ≡ true → turns v ≡ 1
 a_turn v e = ap (λ b. cond b 1 0) e
 
 spent_fits : {E : Type 0} (log : List E) → Fits log spent_view
-spent_fits log = record { holder = λ e. absurd (true≢false (sym e)); begins = (log, refl); own = (tt, tt); spent = λ _. refl }
+spent_fits log = record { holder = λ e. absurd (true≢false (sym e)); begins = (log, refl); own = (tt, tt); past = tt; spent = λ _. refl }
 
 -- what the last seat knows of the table's end
 pub record Ends {T E : Type 0} (entries_of : T → List E) (v : View E) (xs : List (Option T)) : Type 0 where
@@ -83,9 +83,9 @@ module _ {T E : Type 0} (entries : T → List E) (all : ℕ) where
         takes 0 (Some t.0),
         t.1,
         relock s r id me.0 w _ _ r.log 1 at (ap (λ ws. set ws 0 1) r.words) (length-set s.homes 0 none ∙ r.slots) r.few refl (omega arith) (omega (arith, no_turn me.0 idle)) (λ e. absurd (omega arith))
-            record { holder = λ _. t.2; begins = ([], append-nil (entries t.0) ∙ t.2); own = f.own; spent = λ z. absurd (omega arith) }
+            record { holder = λ _. t.2; begins = ([], append-nil (entries t.0) ∙ t.2); own = f.own; past = f.past; spent = λ z. absurd (omega arith) }
             (λ j u _ e. r.each j u e) (inl t.2) (λ k. refl),
-        ((λ _. (t.0, refl, subst (IsPrefix me.0.seen) (sym t.2) f.begins, subst (λ (l : List E). AllStand l (lists_of me.0)) (sym t.2) f.own)), λ miss. absurd (miss hit)),
+        ((λ _. (t.0, refl, subst (IsPrefix me.0.seen) (sym t.2) f.begins, subst (λ (l : List E). AllStand l (lists_of me.0)) (sym t.2) f.own, subst (λ (l : List E). BeginsWith l me.0.past) (sym t.2) f.past)), λ miss. absurd (miss hit)),
       ))
       (λ miss. (
         me.0,
@@ -124,12 +124,14 @@ module _ {T E : Type 0} (entries : T → List E) (all : ℕ) where
               holder = λ _. ap (λ l. l ++ e ∷ []) same;
               begins = ([], append-nil (me.0.seen ++ e ∷ []) ∙ ap (λ l. l ++ e ∷ []) same);
               own = subst (λ (l : List E). AllStand (l ++ e ∷ []) (lists_of w)) same own;
+              past = begins_with_longer r.log (e ∷ []) me.0.past f.past;
               spent = λ z. absurd (omega arith);
             }
             (λ j u other there. let g = r.each j u there in record {
               holder = λ (t : u.turn ≡ true). absurd (omega (arith, here, a_turn u t, terms_le turns s.views id j me.0 u other at there, r.turn, r.one));
               begins = begins_longer u.seen r.log (e ∷ []) g.begins;
               own = all_stand_longer r.log (e ∷ []) (lists_of u) g.own;
+              past = begins_with_longer r.log (e ∷ []) u.past g.past;
               spent = g.spent;
             })
             (inl (ap (λ l. l ++ e ∷ []) same))
@@ -148,7 +150,7 @@ module _ {T E : Type 0} (entries : T → List E) (all : ℕ) where
         tt,
         relock s r id v (after_leave v) _ _ r.log 0 at (ap (λ ws. set ws 0 0) r.words) (length-set s.homes 0 (some (Some value)) ∙ r.slots) r.few refl (omega arith) (omega (arith, a_turn v has, term_le turns s.views id v at, r.turn, r.one))
             (λ _. (value, set_here s.homes 0 (some (Some value)) (omega arith), is ∙ same))
-            record { holder = λ e. absurd (true≢false (sym e)); begins = f.begins; own = f.own; spent = λ z. absurd (omega arith) }
+            record { holder = λ e. absurd (true≢false (sym e)); begins = f.begins; own = f.own; past = f.past; spent = λ z. absurd (omega arith) }
             (λ j u _ e. r.each j u e) (inr (refl, refl)) (λ k. refl),
         refl,
       )
@@ -174,9 +176,9 @@ module _ {T E : Type 0} (entries : T → List E) (all : ℕ) where
         turn = omega (arith, total-append turns views (m ∷ []), total-set turns s.views id v l at, r.turn);
         home = r.home;
         each = λ j u e. ⊎_elim
-            (λ was. ⊎_elim (λ (t : (j ≡ id) × (l ≡ u)). subst (Fits r.log) t.1 record { holder = f.holder; begins = f.begins; own = f.own; spent = λ z. absurd (omega arith) })
+            (λ was. ⊎_elim (λ (t : (j ≡ id) × (l ≡ u)). subst (Fits r.log) t.1 record { holder = f.holder; begins = f.begins; own = f.own; past = f.past; spent = λ z. absurd (omega arith) })
             (λ (t : (j ≢ id) × (get_elem? s.views j ≡ some u)). r.each j u t.1) (at_set s.views id j l u was))
-            (λ (is : m ≡ u). subst (Fits r.log) is record { holder = λ t. absurd (true≢false (sym t)); begins = f.begins; own = (tt, tt); spent = λ z. absurd (omega arith) })
+            (λ (is : m ≡ u). subst (Fits r.log) is record { holder = λ t. absurd (true≢false (sym t)); begins = f.begins; own = (tt, tt); past = tt; spent = λ z. absurd (omega arith) })
             (at_snoc views m u j e);
         longest = let t = r.longest in dite (ℕ_discrete t.0 id)
             (λ e. let here : v ≡ t.1 = some-injective v t.1 (sym at ∙ ap (get_elem? s.views) (sym e) ∙ t.2) in (id, l, at_longer views (m ∷ []) id l (set_at s.views id v l at), ap (λ (x : View E). x.seen) here ∙ t.3))
@@ -212,6 +214,7 @@ module _ {T E : Type 0} (entries : T → List E) (all : ℕ) where
                 f.own.0,
                 all_stand-append r.log v.ended (u.mine ∷ u.ended) f.own.1 (g.own.0, g.own.1),
               );
+              past = (f.begins, (g.begins, begins_with-append r.log v.past u.past f.past g.past));
               spent = λ z. absurd (omega arith);
             })
             (λ (q : (j ≢ id) × (get_elem? s.views j ≡ some x)). r.each j x q.1) (at_set s.views id j w x t.1))
@@ -265,7 +268,7 @@ module _ {T E : Type 0} (entries : T → List E) (all : ℕ) where
   }
     where
       each : (j : ℕ) (v : View E) → get_elem? (first_view all ∷ []) j ≡ some v → Fits [] v
-      each zero v e = subst (Fits []) (some-injective _ _ e) record { holder = λ t. absurd (true≢false (sym t)); begins = ([], refl); own = (tt, tt); spent = λ z. absurd (omega arith) }
+      each zero v e = subst (Fits []) (some-injective _ _ e) record { holder = λ t. absurd (true≢false (sym t)); begins = ([], refl); own = (tt, tt); past = tt; spent = λ z. absurd (omega arith) }
       each (suc j) v e = absurd (some-ne-none v (sym e))
 
       none_yet : (k : ℕ) → total (tally {E = E} k) (first_view all ∷ []) ≡ once 0 k

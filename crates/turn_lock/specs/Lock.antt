@@ -5,8 +5,8 @@ use mathlib.Core.Option.{some}
 use lib.ListN.{get_elem?}
 use Rattle.atomic_table.specs.Table.{State, Me, Step}
 use Rattle.turn_lock.specs.declared.view.View.{View}
-use Rattle.turn_lock.specs.Journal.{total, once, IsPrefix, AllStand}
-use Rattle.turn_lock.specs.Views.{spent_view, with_turn, after_note, after_leave, lists_of, tally, OwnStand}
+use Rattle.turn_lock.specs.Journal.{total, once, IsPrefix, AllStand, BeginsWith}
+use Rattle.turn_lock.specs.Views.{spent_view, with_turn, after_note, after_leave, lists_of, tally, OwnStand, PastBegins}
 
 -- the slots of a seat between two calls: with the turn it has the one slot, which is empty while the
 -- value is out
@@ -20,6 +20,7 @@ module _ {E : Type 0} where
     pub holder : v.turn ≡ true → v.seen ≡ log
     pub begins : IsPrefix v.seen log
     pub own : AllStand log (lists_of v)
+    pub past : BeginsWith log v.past
     -- a seat has at least one part, or it was joined and is spent
     pub spent : v.parts ≡ 0 → v ≡ spent_view
 
@@ -58,6 +59,7 @@ module _ {T E : Type 0} where
       × (n ≡ (with_turn m.0 (entries value), (0, Some value) ∷ m.1))
       × IsPrefix m.0.seen (entries value)
       × OwnStand n.0
+      × PastBegins n.0
 
   -- a try that found 0 gets the turn, and another leaves all as it was
   abbrev pub TryTells : (T → List E) → Step (Option T) → Sat T E → ℕ → Sat T E → Type 0

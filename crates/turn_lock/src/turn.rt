@@ -2,7 +2,7 @@
 ghost use Rattle.std.specs.Prelude.{◌≡◌, ◌≢◌, ℕ, ◌+◌, ◌-◌, ◌<◌, ◌≤◌, ◌^◌, [], ◌∷◌, ◌++◌, true, false, length, Some, None, IfOk};
 ghost use Rattle.turn_lock.specs.Journal.{IsPrefix, HasOneMore};
 ghost use Rattle.turn_lock.specs.Kinds.{KeepsOrder};
-ghost use Rattle.turn_lock.specs.Views.{first_view, with_turn, after_note, after_leave, after_split, new_view, after_join, lists_of, OwnStand, EachOnce};
+ghost use Rattle.turn_lock.specs.Views.{first_view, with_turn, after_note, after_leave, after_split, new_view, after_join, lists_of, OwnStand, PastBegins, EachOnce};
 ghost use Rattle.turn_lock.specs.Lock.{slots_of, GetsTurn};
 
 use crate::kept::Kept;
@@ -78,7 +78,7 @@ impl<V: Kept> Turn<V> {
     }
 
     /// Waits for the turn, and takes the value. Then the seat has seen the whole journal, which begins
-    /// with what it had seen before.
+    /// with what it had seen before, and with what each seat had seen that ended in it.
     pub fn enter<R: Wait>(&self, rt: &R, seat: &mut Seat<V>) -> Held<V>
         requires table { lock_of seat.old ≡ id_of self.now }
         requires idle { (view_of seat.old).turn ≡ false }
@@ -87,6 +87,7 @@ impl<V: Kept> Turn<V> {
             ≡ with_turn (view_of seat.old) (V.entries (value_of result)) }
         ensures seen { IsPrefix (view_of seat.old).seen (V.entries (value_of result)) }
         ensures own { OwnStand (view_of seat.new) }
+        ensures past { PastBegins (view_of seat.new) }
     {
         self.wait_for_turn(rt, &mut seat.place);
         self.take(&mut seat.place)

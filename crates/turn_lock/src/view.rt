@@ -13,4 +13,6 @@ pub struct View<E> {
     pub mine: LinkedList<(u64, E)>,
     /// The own entries of each seat that ended in it.
     pub ended: LinkedList<LinkedList<(u64, E)>>,
+    /// What it had seen, and what each seat that ended in it had seen, when that ended.
+    pub past: LinkedList<LinkedList<E>>,
 }
