@@ -1,5 +1,5 @@
 -- What a seat knows, and what the calls of a counter do to that.
-use Rattle.std.specs.Prelude.{◌≡◌, ◌≢◌, ℕ, ◌+◌, Bool, true, false, List, [], ◌∷◌, ◌++◌, length, Option, None}
+use Rattle.std.specs.Prelude.{◌≡◌, ◌≢◌, ℕ, ◌+◌, ◌-◌, Bool, true, false, List, [], ◌∷◌, ◌++◌, length, Option, None}
 use Rattle.am_journal.specs.declared.event.Event.{Event}
 use Rattle.am_journal.specs.declared.event.Event.TheVariants.{Took}
 use Rattle.am_journal.specs.declared.event.Why.{Why}
@@ -34,3 +34,25 @@ abbrev pub TakesBytes : (List Event → Event → Option Why) → (List Event �
 TakesBytes enabled unsent v conn bytes w =
     (now : List Event) × IsPrefix v.seen now × (enabled now (Took conn) ≡ None)
     × (bytes ≡ unsent now conn) × (bytes ≢ []) × (w ≡ with_entry v now (Took conn))
+
+-- ---- seats that are split, and taken in
+
+-- it gave up n parts
+abbrev pub without_parts : ℕ → Known → Known
+without_parts n v = record v { parts = v.parts - n }
+
+-- a seat that was split off, with n parts
+abbrev pub new_known : ℕ → Known → Known
+new_known n v = record { parts = n; seen = v.seen; mine = []; ended = [] }
+
+-- the seat's own entries, and those of each seat that ended in it
+abbrev pub lists_of : Known → List (List (ℕ × Event))
+lists_of v = v.mine ∷ v.ended
+
+-- the first has the parts and the lists of the second beside its own, and has seen this journal
+abbrev pub united : Known → Known → List Event → Known
+united v w now = record { parts = v.parts + w.parts; seen = now; mine = v.mine; ended = v.ended ++ w.mine ∷ w.ended }
+
+-- The first took in the second, and saw the journal as it is at one turn. It begins with what both had seen.
+abbrev pub TakesIn : Known → Known → Known → Type 0
+TakesIn v w u = (now : List Event) × IsPrefix v.seen now × IsPrefix w.seen now × (u ≡ united v w now)

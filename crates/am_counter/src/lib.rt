@@ -3,6 +3,8 @@
 
 mod ask;
 mod counter;
+mod seats;
 
 pub use ask::{Ask, Taken};
 pub use counter::Counter;
+pub use seats::Seats;

@@ -3,28 +3,16 @@ use Rattle.std.specs.Prelude.{◌≡◌, ℕ, ◌+◌, ◌-◌, List, [], ◌∷
 use Rattle.am_journal.specs.declared.event.Event.{Event}
 use Rattle.am_counter.specs.declared.ask.Taken.{Taken}
 use Rattle.am_counter.specs.declared.ask.Taken.TheVariants.{NothingYet, Ended}
-use Rattle.am_counter.specs.Known.{Known}
+use Rattle.am_counter.specs.Known.{Known, lists_of}
 use Rattle.turn_lock.specs.Journal.{total, once, longer, times}
 
 -- what is known of the empty editor, with all parts
 abbrev pub first_known : ℕ → Known
 first_known parts = record { parts = parts; seen = []; mine = []; ended = [] }
 
--- it gave up n parts
-abbrev pub without_parts : ℕ → Known → Known
-without_parts n v = record v { parts = v.parts - n }
-
--- a seat that was split off, with n parts
-abbrev pub new_known : ℕ → Known → Known
-new_known n v = record { parts = n; seen = v.seen; mine = []; ended = [] }
-
 -- the first took in the second
 abbrev pub joined : Known → Known → Known
 joined v w = record { parts = v.parts + w.parts; seen = longer v.seen w.seen; mine = v.mine; ended = v.ended ++ w.mine ∷ w.ended }
-
--- the seat's own entries, and those of each seat that ended in it
-abbrev pub lists_of : Known → List (List (ℕ × Event))
-lists_of v = v.mine ∷ v.ended
 
 -- each number of what was seen stands in just one of these lists, once, and no other number does
 abbrev pub EachOnce : Known → Type 0

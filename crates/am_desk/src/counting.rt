@@ -2,7 +2,7 @@
 
 use crate::desk::{Desk, DeskSeat};
 use acme_core::{Ask, Bytes, Event, NoMemory, Refused};
-use am_counter::{Counter, Taken};
+use am_counter::{Counter, Seats, Taken};
 use std::sync::Wait;
 
 impl Counter for Desk {
@@ -46,4 +46,14 @@ impl Counter for Desk {
     }
 
     ghost connections = { tells_connections };
+}
+
+impl Seats for Desk {
+    fn split(&self, seat: &mut DeskSeat, parts: u64) -> DeskSeat {
+        Desk::split(self, seat, parts)
+    }
+
+    fn take_in<R: Wait>(&self, rt: &R, seat: &mut DeskSeat, other: DeskSeat) {
+        Desk::take_in(self, rt, seat, other)
+    }
 }

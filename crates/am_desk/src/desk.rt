@@ -7,11 +7,11 @@ ghost use Rattle.turn_lock.specs.Kinds.{KeepsOrder};
 ghost use Rattle.am_journal.specs.Lawful.{IsLawful};
 ghost use Rattle.am_counter.specs.declared.ask.Ask.TheVariants as ask;
 ghost use Rattle.am_counter.specs.declared.ask.Taken.TheVariants as taken;
-ghost use Rattle.am_counter.specs.Known.{Looks, Submits, TakesBytes};
+ghost use Rattle.am_counter.specs.Known.{Looks, Submits, TakesBytes, without_parts, new_known, lists_of, TakesIn};
 ghost use Rattle.am_counter.specs.Played.{IsPlayed, IsHang, IsWhy, Refuses};
 ghost use Rattle.acme_core.specs.Asks.{answer_at};
 ghost use Rattle.acme_core.specs.Run.{enabled, output_at, settled};
-ghost use Rattle.am_desk.specs.Knowing.{first_known, without_parts, new_known, joined, lists_of, EachOnce};
+ghost use Rattle.am_desk.specs.Knowing.{first_known, joined, EachOnce};
 
 use crate::settled::Settled;
 use acme_core::{Ask, Bytes, Core, Event, NoMemory, Refused};
@@ -154,6 +154,22 @@ impl Desk {
     {
         let DeskSeat { seat: other } = other;
         self.turn.join(&mut seat.seat, other);
+    }
+
+    /// Takes in a seat that has ended, as `join` does, and sees the journal as it is then, in a turn. It begins with what both seats
+    /// had seen.
+    pub fn take_in<R: Wait>(&self, rt: &R, seat: &mut DeskSeat, other: DeskSeat)
+        requires lock { (seat_lock seat.old ≡ desk_id self.now) × (seat_lock other ≡ desk_id self.now) }
+        ensures lock { seat_lock seat.new ≡ seat_lock seat.old }
+        ensures played { IsPlayed enabled (known_of seat.new).seen }
+        ensures known { TakesIn (known_of seat.old) (known_of other) (known_of seat.new) }
+    {
+        let DeskSeat { seat: other } = other;
+        let place = &mut seat.seat;
+        self.turn.join(place, other);
+        let mut held = self.turn.enter(rt, place);
+        held.value().look(Ask::Ended(0));
+        self.turn.leave(place, held);
     }
 
     /// The core, from the seat that has all parts. What the seat has seen is the whole journal, and each entry stands in just one
