@@ -11,10 +11,14 @@ mod mem_source;
 mod never_fails;
 mod reading;
 mod sink;
+mod socket_name;
 mod source;
 mod streams;
 #[cfg(test)]
 mod tests;
+mod unix;
+#[cfg(test)]
+mod unix_tests;
 
 pub use link::{Gate, Host, Link};
 pub use mem_gate::MemGate;
@@ -27,3 +31,4 @@ pub use reading::{ReadStop, read_to_end};
 pub use sink::{Sink, write_all};
 pub use source::{Failed, Source};
 pub use streams::{InputSource, OutputSink};
+pub use unix::{UnixGate, UnixHost, UnixLink, UnixSink, UnixSource};

@@ -1,6 +1,8 @@
 //! The standard streams. They tell nothing of their bytes.
 
-ghost use Rattle.std.specs.Prelude.{◌≡◌, None};
+ghost use Rattle.std.specs.Prelude.{◌≡◌, ◌<◌, ◌≤◌, [], None, length, IfOk, OnOk, OnErr};
+ghost use Rattle.am_base.specs.Memory.{one_more};
+ghost use Rattle.am_base.specs.Outside.{AreTold, HasCause};
 
 use crate::calls::raised;
 use crate::sink::Sink;
@@ -37,7 +39,15 @@ impl<R: Read> Source for InputSource<R> {
 
     ghost faults = { λ s. s };
 
-    fn read(&mut self, buf: &mut [u8]) -> Result<usize, Failed> {
+    fn read(&mut self, buf: &mut [u8]) -> Result<usize, Failed>
+        requires { 0 < length buf.old }
+        ensures within { IfOk result (λ n. n ≤ length buf.old) }
+        ensures end { IfOk result (λ n. n ≡ 0 → AreTold None []) }
+        ensures cause { HasCause self.old self.new result }
+        // A call that fails is counted, and no other.
+        ensures ok { OnOk result (self.new ≡ self.old) }
+        ensures failed { OnErr result (self.new ≡ one_more self.old) }
+    {
         match self.reader.read(buf) {
             Ok(n) => Ok(n),
             Err(_) => {
@@ -78,7 +88,15 @@ impl<W: Write> Sink for OutputSink<W> {
 
     ghost faults = { λ s. s };
 
-    fn write(&mut self, buf: &[u8]) -> Result<usize, Failed> {
+    fn write(&mut self, buf: &[u8]) -> Result<usize, Failed>
+        requires { 0 < length buf.now }
+        ensures some { IfOk result (λ n. 0 < n) }
+        ensures within { IfOk result (λ n. n ≤ length buf.now) }
+        ensures cause { HasCause self.old self.new result }
+        // A call that fails is counted, and no other.
+        ensures ok { OnOk result (self.new ≡ self.old) }
+        ensures failed { OnErr result (self.new ≡ one_more self.old) }
+    {
         match self.writer.write(buf) {
             Ok(n) if 0 < n => Ok(n),
             _ => {
