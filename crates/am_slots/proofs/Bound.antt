@@ -1,0 +1,60 @@
+-- Slots whose gates are tried one after another.
+use Rattle.std.proofs.Common.{◌≡◌, inl, inr, ℕ, ◌+◌, ◌≤◌, List, [], ◌∷◌, ◌++◌, length, length-append, Option, sym, ap, subst, ◌∙◌, arith}
+use Rattle.am_slots.specs.Binding.{AreWaiting, HaveNames}
+use Rattle.am_slots.specs.Slots.{HasRisenBy, HasName, IsWaiting, unbound}
+use Rattle.am_slots.specs.declared.slot.Slot.{Slot}
+use Rattle.am_slots.specs.declared.slot.Slot.TheVariants as slot
+
+pub risen_none : (a : ℕ) → HasRisenBy 0 a a
+risen_none a = inl (omega arith)
+
+pub risen_more : (n m a b c : ℕ) → HasRisenBy n a b → HasRisenBy m b c → b ≤ c → HasRisenBy (n + m) a c
+risen_more n m a b c (inl p) (inl q) le = inl (omega (arith, p, q))
+risen_more n m a b c (inl p) (inr q) le = inr q
+risen_more n m a b c (inr p) q le = inr (omega (arith, p, le))
+
+module _ {G L S K : Type 0} where
+  pub waiting-append : (faults : G → ℕ) (xs ys : List (Slot G L S K)) → AreWaiting faults xs → AreWaiting faults ys → AreWaiting faults (xs ++ ys)
+  waiting-append faults [] ys p q = q
+  waiting-append faults (x ∷ xs) ys p q = (p.0, waiting-append faults xs ys p.1 q)
+
+  pub waiting_front : (faults : G → ℕ) (xs ys : List (Slot G L S K)) → AreWaiting faults (xs ++ ys) → AreWaiting faults xs × AreWaiting faults ys
+  waiting_front faults [] ys p = (tt, p)
+  waiting_front faults (x ∷ xs) ys p = let h = waiting_front faults xs ys p.1 in ((p.0, h.0), h.1)
+
+  pub named-append : (name : G → Option (List ℕ × ℕ)) (path : List ℕ) (conn n : ℕ) (xs ys : List (Slot G L S K)) → n ≡ conn + length xs → HaveNames name path conn xs → HaveNames name path n ys
+      → HaveNames name path conn (xs ++ ys)
+  named-append name path conn n [] ys e p q = let P : ℕ → Type 0 = λ k. HaveNames name path k ys in subst P (let h : n ≡ conn = omega (arith, e) in h) q
+  named-append name path conn n (x ∷ xs) ys e p q = (p.0, named-append name path (conn + 1) n xs ys (omega (arith, e)) p.1 q)
+
+  pub unbound-cons : (s : Slot G L S K) (slots : List (Slot G L S K)) → unbound (s ∷ slots) ≡ unbound (s ∷ []) + unbound slots
+  unbound-cons slot.Unbound slots = omega arith
+  unbound-cons (slot.Bound gate) slots = omega arith
+  unbound-cons (slot.Unlinked gate) slots = omega arith
+  unbound-cons (slot.Unhalved gate link) slots = omega arith
+  unbound-cons (slot.Undialled x) slots = omega arith
+  unbound-cons (slot.Served x read wrote) slots = omega arith
+
+  pub unbound-append : (xs ys : List (Slot G L S K)) → unbound (xs ++ ys) ≡ unbound xs + unbound ys
+  unbound-append [] ys = omega arith
+  unbound-append (x ∷ xs) ys = omega (arith, unbound-cons x (xs ++ ys), unbound-cons x xs, unbound-append xs ys)
+
+  -- one slot more was tried
+  module _ (slots now : List (Slot G L S K)) (s : Slot G L S K) (e : now ≡ slots ++ s ∷ []) where
+    pub count_next : length now ≡ length slots + 1
+    count_next = omega (arith, ap length e, length-append slots (s ∷ []))
+
+    pub waiting_next : (faults : G → ℕ) → AreWaiting faults slots → IsWaiting faults s → AreWaiting faults now
+    waiting_next faults p q =
+        let P : List (Slot G L S K) → Type 0 = λ l. AreWaiting faults l in
+        subst P (sym e) (waiting-append faults slots (s ∷ []) p (q, tt))
+
+    pub named_next : (name : G → Option (List ℕ × ℕ)) (path : List ℕ) (n : ℕ) → length slots ≡ n → HaveNames name path 0 slots → HasName name path n s → HaveNames name path 0 now
+    named_next name path n count p q =
+        let P : List (Slot G L S K) → Type 0 = λ l. HaveNames name path 0 l in
+        subst P (sym e) (named-append name path 0 n slots (s ∷ []) (omega (arith, count)) p (q, tt))
+
+    pub risen_next : (a b c : ℕ) → HasRisenBy (unbound slots) a b → HasRisenBy (unbound (s ∷ [])) b c → b ≤ c → HasRisenBy (unbound now) a c
+    risen_next a b c p q le =
+        let P : ℕ → Type 0 = λ n. HasRisenBy n a c in
+        subst P (sym (ap (λ (l : List (Slot G L S K)). unbound l) e ∙ unbound-append slots (s ∷ []))) (risen_more (unbound slots) (unbound (s ∷ [])) a b c p q le)

@@ -1,0 +1,14 @@
+pub mod Longer
+pub mod Connected
+pub mod Bound
+pub mod Hired
+pub mod Each
+pub mod Whole
+pub mod Gathered
+pub mod Numbered
+pub mod HangUps
+pub mod Own
+pub mod OneServed
+pub mod Assembly
+pub mod Scripted
+pub mod Ran

@@ -1,0 +1,65 @@
+-- What a journal says of one connection.
+use Rattle.std.specs.Prelude.{◌≡◌, ℕ, ◌==◌, Bool, false, List, [], ◌∷◌, ◌++◌, filter, if◌then◌else◌}
+use Rattle.std.specs.List.{flat_map}
+use Rattle.ninep_wire.specs.Spelling.{spelling_t}
+use Rattle.am_journal.specs.declared.ending.Ending.{Ending}
+use Rattle.am_journal.specs.declared.event.Event.{Event}
+use Rattle.am_journal.specs.declared.event.Event.TheVariants as event
+
+-- an event of the connection
+abbrev pub is_of : ℕ → Event → Bool
+is_of conn (event.Dial c) = c == conn
+is_of conn (event.Msg c msg) = c == conn
+is_of conn (event.Hang c why) = c == conn
+is_of conn (event.Took c) = c == conn
+is_of conn event.New = false
+is_of conn (event.Key w side text) = false
+is_of conn (event.Sel w range) = false
+
+-- the journal has nothing of the connection
+abbrev pub IsSilent : List Event → ℕ → Type 0
+IsSilent journal conn = filter (is_of conn) journal ≡ []
+
+abbrev pub spelled_on : ℕ → Event → List (List ℕ)
+spelled_on conn (event.Dial c) = []
+spelled_on conn (event.Msg c msg) = if c == conn then spelling_t msg ∷ [] else []
+spelled_on conn (event.Hang c why) = []
+spelled_on conn (event.Took c) = []
+spelled_on conn event.New = []
+spelled_on conn (event.Key w side text) = []
+spelled_on conn (event.Sel w range) = []
+
+-- the bytes of each message that came on the connection
+abbrev pub messages_of : List Event → ℕ → List (List ℕ)
+messages_of journal conn = flat_map (spelled_on conn) journal
+
+abbrev pub ended_by : ℕ → Event → List Ending
+ended_by conn (event.Dial c) = []
+ended_by conn (event.Msg c msg) = []
+ended_by conn (event.Hang c why) = if c == conn then why ∷ [] else []
+ended_by conn (event.Took c) = []
+ended_by conn event.New = []
+ended_by conn (event.Key w side text) = []
+ended_by conn (event.Sel w range) = []
+
+-- the causes of the connection's hang-ups
+abbrev pub endings_of : List Event → ℕ → List Ending
+endings_of journal conn = flat_map (ended_by conn) journal
+
+abbrev pub sent_by : (List Event → ℕ → List ℕ) → ℕ → List Event → Event → List ℕ
+sent_by unsent conn before (event.Dial c) = []
+sent_by unsent conn before (event.Msg c msg) = []
+sent_by unsent conn before (event.Hang c why) = []
+sent_by unsent conn before (event.Took c) = if c == conn then unsent before c else []
+sent_by unsent conn before event.New = []
+sent_by unsent conn before (event.Key w side text) = []
+sent_by unsent conn before (event.Sel w range) = []
+
+-- the bytes that events take of a connection's replies, each after those before it
+unfoldable pub sent_from : (List Event → ℕ → List ℕ) → List Event → List Event → ℕ → List ℕ
+sent_from unsent before [] conn = []
+sent_from unsent before (e ∷ events) conn = sent_by unsent conn before e ++ sent_from unsent (before ++ e ∷ []) events conn
+
+-- all bytes that were sent to the connection: the replies that each taking found unsent
+abbrev pub sent : (List Event → ℕ → List ℕ) → List Event → ℕ → List ℕ
+sent unsent journal conn = sent_from unsent [] journal conn

@@ -1,0 +1,128 @@
+-- Slots, what their objects tell, and what a journal has of them.
+use Rattle.std.specs.Prelude.{◌≡◌, ◌⊎◌, ℕ, ◌+◌, ◌^◌, ◌≤◌, List, [], ◌∷◌, ◌++◌, Option, Some, None}
+use Rattle.std.specs.Prelude.{filter}
+use Rattle.am_base.specs.Outside.{AreTold, HasRisen, IsNamed}
+use Rattle.am_journal.specs.declared.ending.Ending.{Ending}
+use Rattle.am_journal.specs.declared.ending.Ending.TheVariants as ending
+use Rattle.am_journal.specs.declared.event.Event.{Event}
+use Rattle.am_journal.specs.declared.event.Event.TheVariants.{Dial}
+use Rattle.am_counter.specs.Played.{is_dial_of}
+use Rattle.am_serve.specs.Gained.{Rule}
+use Rattle.am_serve.specs.Reading.{GivesOf}
+use Rattle.am_serve.specs.Writing.{Gets}
+use Rattle.am_serve.specs.declared.writing.WriteEnd.{WriteEnd}
+use Rattle.am_serve.specs.declared.writing.WriteEnd.TheVariants as end
+use Rattle.am_slots.specs.Connection.{IsSilent, messages_of, endings_of, sent}
+use Rattle.am_slots.specs.Sides.{Serves}
+use Rattle.am_slots.specs.declared.slot.Slot.{Slot}
+use Rattle.am_slots.specs.declared.slot.Slot.TheVariants as slot
+
+-- what gates, links, sources and sinks tell
+pub record Outside (G L S K : Type 0) : Type 0 where
+  pub name : G → Option (List ℕ × ℕ)
+  pub gate_faults : G → ℕ
+  pub begins : L → Option (List ℕ)
+  pub link_faults : L → ℕ
+  pub left : S → Option (List ℕ)
+  pub reader_faults : S → ℕ
+  pub held : K → Option (List ℕ)
+  pub writer_faults : K → ℕ
+
+-- a cause of a connection's end that its sides answered: the side that reads, or else the one that writes
+abbrev pub IsCause : Option Ending → WriteEnd → Ending → Type 0
+IsCause (Some why) wrote cause = cause ≡ why
+IsCause None end.Ended cause = ⊥
+IsCause None end.Gone cause = cause ≡ ending.Gone
+IsCause None end.NoMemory cause = cause ≡ ending.NoMemory
+
+abbrev pub outside : {G L S K : Type 0} → (G → Option (List ℕ × ℕ)) → (G → ℕ) → (L → Option (List ℕ)) → (L → ℕ) → (S → Option (List ℕ)) → (S → ℕ) → (K → Option (List ℕ)) → (K → ℕ) → Outside G L S K
+outside name gate_faults begins link_faults left reader_faults held writer_faults =
+    record { name = name; gate_faults = gate_faults; begins = begins; link_faults = link_faults; left = left; reader_faults = reader_faults; held = held; writer_faults = writer_faults }
+
+-- A connection that was served: it was dialled once and has ended once, its messages are those of its source, and its sink got what was
+-- sent to it.
+pub record IsServed (enabled : Rule) (unsent : List Event → ℕ → List ℕ) (journal : List Event) (conn : ℕ) (first now : Option (List ℕ)) (read : Option Ending) (wrote : WriteEnd) (held : Option (List ℕ)) : Type 0 where
+  pub dialled : filter (is_dial_of conn) journal ≡ Dial conn ∷ []
+  pub cause : Ending
+  pub ended : endings_of journal conn ≡ cause ∷ []
+  pub caused : IsCause read wrote cause
+  pub gives : GivesOf enabled conn journal (messages_of journal conn) first now read
+  pub empty : Option (List ℕ)
+  pub begins_empty : AreTold empty []
+  pub gets : Gets wrote empty (sent unsent journal conn) held
+
+-- ---- slots by themselves
+
+module _ {G L S K : Type 0} where
+  -- the slot's gate was tried, and no connection was taken
+  abbrev pub IsWaiting : (G → ℕ) → Slot G L S K → Type 0
+  IsWaiting faults slot.Unbound = Unit {0}
+  IsWaiting faults (slot.Bound gate) = faults gate ≡ 0
+  IsWaiting faults (slot.Unlinked gate) = ⊥
+  IsWaiting faults (slot.Unhalved gate link) = ⊥
+  IsWaiting faults (slot.Undialled x) = ⊥
+  IsWaiting faults (slot.Served x read wrote) = ⊥
+
+  -- its gate is of this path and of the slot's number, where it tells a name
+  abbrev pub HasName : (G → Option (List ℕ × ℕ)) → List ℕ → ℕ → Slot G L S K → Type 0
+  HasName name path conn slot.Unbound = Unit {0}
+  HasName name path conn (slot.Bound gate) = IsNamed (name gate) path conn
+  HasName name path conn (slot.Unlinked gate) = IsNamed (name gate) path conn
+  HasName name path conn (slot.Unhalved gate link) = IsNamed (name gate) path conn
+  HasName name path conn (slot.Undialled x) = IsNamed (name x.gate) path conn
+  HasName name path conn (slot.Served x read wrote) = IsNamed (name x.gate) path conn
+
+  -- what its objects tell once it was served: one that failed has counted it, and a source that has ended has nothing left; none waits
+  abbrev pub Tells : Outside G L S K → Slot G L S K → Type 0
+  Tells o slot.Unbound = Unit {0}
+  Tells o (slot.Bound gate) = ⊥
+  Tells o (slot.Unlinked gate) = HasRisen 0 (o.gate_faults gate)
+  Tells o (slot.Unhalved gate link) = HasRisen 0 (o.link_faults link)
+  Tells o (slot.Undialled x) = Unit {0}
+  Tells o (slot.Served x read wrote) =
+      (read ≡ Some ending.ReadFault → HasRisen 0 (o.reader_faults x.reader))
+      × (read ≡ Some ending.End → AreTold (o.left x.reader) [])
+      × (read ≡ Some ending.Torn → AreTold (o.left x.reader) [])
+      × (wrote ≡ end.Gone → HasRisen 0 (o.writer_faults x.writer))
+
+  -- the slots whose gates could not be bound
+  abbrev pub unbound : List (Slot G L S K) → ℕ
+  unbound [] = 0
+  unbound (slot.Unbound ∷ slots) = 1 + unbound slots
+  unbound (slot.Bound gate ∷ slots) = unbound slots
+  unbound (slot.Unlinked gate ∷ slots) = unbound slots
+  unbound (slot.Unhalved gate link ∷ slots) = unbound slots
+  unbound (slot.Undialled x ∷ slots) = unbound slots
+  unbound (slot.Served x read wrote ∷ slots) = unbound slots
+
+-- a count of faults has risen by so many at least, or stands at its type's end
+abbrev pub HasRisenBy : ℕ → ℕ → ℕ → Type 0
+HasRisenBy n before now = (before + n ≤ now) ⊎ (2 ^ 64 ≤ now + 1)
+
+-- ---- slots and a journal
+
+module _ {G L S K : Type 0} (o : Outside G L S K) (enabled : Rule) (unsent : List Event → ℕ → List ℕ) where
+  -- what the seat of a slot has, and those that ended in it, as far as a journal was seen
+  abbrev pub Has : ℕ → List Event → Slot G L S K → List (List (ℕ × Event)) → Type 0
+  Has conn seen slot.Unbound lists = lists ≡ [] ∷ []
+  Has conn seen (slot.Bound gate) lists = lists ≡ [] ∷ []
+  Has conn seen (slot.Unlinked gate) lists = lists ≡ [] ∷ []
+  Has conn seen (slot.Unhalved gate link) lists = lists ≡ [] ∷ []
+  Has conn seen (slot.Undialled x) lists = lists ≡ [] ∷ []
+  Has conn seen (slot.Served x read wrote) lists = Serves enabled unsent conn seen (o.begins x.link) (o.left x.reader) read wrote (o.held x.writer) lists
+
+  -- the same of slots one after another, from this connection on
+  abbrev pub EachHas : ℕ → List Event → List (Slot G L S K) → List (List (ℕ × Event)) → Type 0
+  EachHas conn seen [] lists = lists ≡ []
+  EachHas conn seen (s ∷ slots) lists =
+      (own : List (List (ℕ × Event))) × (others : List (List (ℕ × Event)))
+      × (lists ≡ own ++ others) × Has conn seen s own × EachHas (conn + 1) seen slots others
+
+  -- what a journal has of a slot
+  abbrev pub IsOf : List Event → ℕ → Slot G L S K → Type 0
+  IsOf journal conn slot.Unbound = IsSilent journal conn
+  IsOf journal conn (slot.Bound gate) = IsSilent journal conn
+  IsOf journal conn (slot.Unlinked gate) = IsSilent journal conn
+  IsOf journal conn (slot.Unhalved gate link) = IsSilent journal conn
+  IsOf journal conn (slot.Undialled x) = IsSilent journal conn
+  IsOf journal conn (slot.Served x read wrote) = IsServed enabled unsent journal conn (o.begins x.link) (o.left x.reader) read wrote (o.held x.writer)

@@ -1,0 +1,99 @@
+-- What serving does to the workers of slots.
+use Rattle.std.specs.Prelude.{◌≡◌, ℕ, ◌+◌, ◌<◌, true, List, [], ◌∷◌, ◌++◌, Option, Some, slice_index_or, length, map}
+use Rattle.std.specs.List.{flat_map, AllByRecursion}
+use denote.Ref.{MutBor}
+use denote.Param.Members.{Shared}
+use Rattle.std.specs.Fork.{ChangesEach}
+use Rattle.turn_lock.specs.Journal.{total}
+use Rattle.am_base.specs.Outside.{AreTold, HasRisen}
+use Rattle.am_journal.specs.declared.ending.Ending.{Ending}
+use Rattle.am_journal.specs.declared.ending.Ending.TheVariants as ending
+use Rattle.am_journal.specs.declared.event.Event.{Event}
+use Rattle.am_journal.specs.declared.event.Event.TheVariants.{Dial}
+use Rattle.am_counter.specs.Known.{Known, lists_of}
+use Rattle.am_counter.specs.Played.{IsPrefix, has_dial, has_hang}
+use Rattle.am_serve.specs.Gained.{Rule, Gains, gained}
+use Rattle.am_serve.specs.Reading.{AreRead, GivesOf, spellings}
+use Rattle.am_serve.specs.Writing.{AreWritten, Gets, taken_bytes}
+use Rattle.am_serve.specs.declared.writing.WriteEnd.{WriteEnd}
+use Rattle.am_serve.specs.declared.writing.WriteEnd.TheVariants as end
+use Rattle.am_slots.specs.Slots.{Outside, IsWaiting, HasName, Tells, Has, unbound}
+use Rattle.am_slots.specs.declared.slot.Slot.{Slot}
+use Rattle.am_slots.specs.declared.working.Worker.{Worker}
+
+-- what a source told before and tells now, and its counts of faults
+pub record Read : Type 0 where
+  pub first : Option (List ℕ)
+  pub now : Option (List ℕ)
+  pub faults : ℕ
+  pub faults_now : ℕ
+
+-- what a side that reads does
+pub record DidRead (enabled : Rule) (conn : ℕ) (v w : Known) (s : Read) (read : Option Ending) : Type 0 where
+  pub gains : Gains v (gained v w) w
+  pub entries : AreRead conn read v w
+  pub gives : GivesOf enabled conn w.seen (spellings (gained v w)) s.first s.now read
+  pub ended : has_hang w.seen conn ≡ true
+  pub end : read ≡ Some ending.End → AreTold s.now []
+  pub torn : read ≡ Some ending.Torn → AreTold s.now []
+  pub fault : read ≡ Some ending.ReadFault → HasRisen s.faults s.faults_now
+
+-- what a side that writes does
+pub record DidWrite (unsent : List Event → ℕ → List ℕ) (conn : ℕ) (v w : Known) (s : Read) (wrote : WriteEnd) : Type 0 where
+  pub gains : Gains v (gained v w) w
+  pub entries : AreWritten conn wrote v w
+  pub gets : Gets wrote s.first (taken_bytes unsent w.seen (gained v w)) s.now
+  pub ended : has_hang w.seen conn ≡ true
+  pub gone : wrote ≡ end.Gone → HasRisen s.faults s.faults_now
+
+-- a seat has dialled a connection, and has no other entry
+pub record HasDialled (conn : ℕ) (v : Known) : Type 0 where
+  pub number : ℕ
+  pub mine : v.mine ≡ (number, Dial conn) ∷ []
+  pub ended : v.ended ≡ []
+  pub dialled : has_dial v.seen conn ≡ true
+
+-- a seat with so many parts and no entry
+pub record IsFresh (n : ℕ) (v : Known) : Type 0 where
+  pub parts : v.parts ≡ n
+  pub mine : v.mine ≡ []
+  pub ended : v.ended ≡ []
+
+module _ {T G L S K : Type 0} (Fits : T → Type 0) (known : T → Known) where
+  -- a worker whose slot waits
+  pub record IsReady (faults : G → ℕ) (w : Worker T G L S K) : Type 0 where
+    pub fits : Fits w.seat
+    pub fresh : IsFresh 2 (known w.seat)
+    pub waits : IsWaiting faults w.slot
+
+  -- a worker whose slot was served
+  pub record Works (o : Outside G L S K) (enabled : Rule) (unsent : List Event → ℕ → List ℕ) (conn : ℕ) (before after : Worker T G L S K) : Type 0 where
+    pub fits : Fits after.seat
+    pub parts : (known after.seat).parts ≡ 2
+    pub has : Has o enabled unsent conn (known after.seat).seen after.slot (lists_of (known after.seat))
+    pub tells : Tells o after.slot
+    pub named : (path : List ℕ) → HasName o.name path conn before.slot → HasName o.name path conn after.slot
+    pub bound : unbound (after.slot ∷ []) ≡ unbound (before.slot ∷ [])
+
+  -- the same of each, from connection 0 on
+  pub record EachWorks (o : Outside G L S K) (enabled : Rule) (unsent : List Event → ℕ → List ℕ) (before after : List (Worker T G L S K)) : Type 0 where
+    pub count : length after ≡ length before
+    pub each : (k : ℕ) (d : Worker T G L S K) → k < length before → Works o enabled unsent k (slice_index_or before k d) (slice_index_or after k d)
+
+module _ {F W : Type 0} (g : Shared F (ℕ × (MutBor W × Unit {0})) (Unit {0} × (MutBor W × Unit {0}))) (f : F) where
+  -- each worker is what a call of f with its place left of it
+  pub record ServesEach (before after : List W) : Type 0 where
+    pub count : length after ≡ length before
+    pub each : ChangesEach g f before after
+
+module _ {T G L S K : Type 0} (known : T → Known) where
+  -- a seat took in the seats of workers, one after another
+  pub record TakesInEach (v : Known) (workers : List (Worker T G L S K)) (w : Known) : Type 0 where
+    pub parts : w.parts ≡ v.parts + total (λ x. (known x.seat).parts) workers
+    pub seen : IsPrefix v.seen w.seen
+    pub each : AllByRecursion (λ x. IsPrefix (known x.seat).seen w.seen) workers
+    pub mine : w.mine ≡ v.mine
+    pub ended : w.ended ≡ v.ended ++ flat_map (λ x. lists_of (known x.seat)) workers
+
+abbrev pub slots_of : {T G L S K : Type 0} → List (Worker T G L S K) → List (Slot G L S K)
+slots_of workers = map (λ w. w.slot) workers

@@ -1,0 +1,11 @@
+//! Serving connections, one for each slot of a host, and a script beside them, over any journal whose seats can be split.
+#![tactic(auto)]
+
+mod binding;
+mod serving;
+mod slot;
+mod slots;
+mod working;
+
+pub use slot::{HostSlot, HostSlots, Objects, Slot, Slots};
+pub use slots::serve_slots;

@@ -1,0 +1,207 @@
+//! Serving all slots, and a script beside them.
+
+ghost use Rattle.std.specs.Prelude.{◌≡◌, ℕ, ◌<◌, ◌≤◌, ◌*◌, ◌+◌, List, [], All, IfOk, OnErr, length};
+ghost use Rattle.std.specs.Fork.{AcceptsEach};
+ghost use Rattle.am_serve.specs.Gained.{Gains, gained};
+ghost use Rattle.am_serve.specs.Script.{EndsScript, asked_by_script};
+ghost use Rattle.am_slots.specs.Binding.{AreWaiting, HaveNames};
+ghost use Rattle.am_slots.specs.Slots.{outside, unbound, HasRisenBy};
+ghost use Rattle.am_slots.specs.Working.{IsReady, Works, ServesEach, EachWorks, IsFresh};
+ghost use Rattle.am_slots.specs.Serving.{ServesAll, EachTells};
+
+use crate::binding::bind_all;
+use crate::serving::serve_slot;
+use crate::slot::{HostSlots, Slots};
+use crate::working::{Worker, gather, hire};
+use am_base::{Gate, Host, Link, Sink, Source};
+use am_counter::{Counter, Seats};
+use am_serve::{ScriptEnd, script_side};
+use am_text::NoMemory;
+use std::alloc::Global;
+use std::sync::Wait;
+use std::thread::{Threads, for_each_mut, join_mut};
+use turn_lock::Bell;
+
+// Serves each worker, all at once.
+fn serve_each<W: Send, F: Fn(usize, &mut W) + Sync, R: Threads + Sync>(
+    rt: &R,
+    workers: &mut [W],
+    serve: &F,
+)
+    requires { AcceptsEach F.Fn serve.now workers.old }
+    ensures each { ServesEach F.Fn serve.now workers.old workers.new }
+{
+    let count = workers.len();
+    if count == 0 {
+        return;
+    }
+    for_each_mut(rt, workers, count, serve);
+}
+
+// The side of the script.
+fn do_script<C: Seats<Seat = T>, T, R: Wait>(
+    rt: &R,
+    alloc: Global,
+    desk: &C,
+    bell: &Bell,
+    script: &[u8],
+    clients: u32,
+    seat: &mut T,
+) -> ScriptEnd
+    requires fits { C.fits desk.now seat.old }
+    requires clients { clients ≤ 64 }
+    ensures fits { C.fits desk.now seat.new }
+    ensures gains { Gains (C.known seat.old) (gained (C.known seat.old) (C.known seat.new)) (C.known seat.new) }
+    ensures ends { EndsScript C.enabled C.answer clients (C.known seat.old) (asked_by_script script.now) result (C.known seat.new) }
+{
+    script_side(rt, alloc, desk, seat, bell, script, clients)
+}
+
+// Serves each worker, and does the script beside them.
+fn serve_beside<
+    C: Seats<Seat = T> + Sync,
+    T: Send + Drop,
+    W: Send,
+    F: Fn(usize, &mut W) + Sync,
+    R: Threads + Wait + Sync,
+>(
+    rt: &R,
+    alloc: Global,
+    desk: &C,
+    bell: &Bell,
+    script: &[u8],
+    clients: u32,
+    serve: &F,
+    workers: &mut [W],
+    seat: &mut T,
+) -> ScriptEnd
+    requires fits { C.fits desk.now seat.old }
+    requires clients { clients ≤ 64 }
+    requires accepts { AcceptsEach F.Fn serve.now workers.old }
+    ensures fits { C.fits desk.now seat.new }
+    ensures gains { Gains (C.known seat.old) (gained (C.known seat.old) (C.known seat.new)) (C.known seat.new) }
+    ensures ends { EndsScript C.enabled C.answer clients (C.known seat.old) (asked_by_script script.now) result (C.known seat.new) }
+    ensures each { ServesEach F.Fn serve.now workers.old workers.new }
+{
+    let (_, end) = join_mut(
+        rt,
+        &mut ||
+            requires { AcceptsEach F.Fn serve.now workers.now }
+            ensures { ServesEach F.Fn serve.entry.now workers.entry.now workers.exit.now }
+        { serve_each(rt, workers, serve) },
+        &mut || do_script(rt, alloc, desk, bell, script, clients, seat),
+    );
+    end
+}
+
+// Serves the slots of all workers, and does the script beside them.
+fn serve_workers<
+    C: Seats<Seat = T> + Sync,
+    T: Send + Drop,
+    G: Gate<L = L> + Send,
+    L: Link<R = S, W = K> + Send,
+    S: Source + Drop + Send,
+    K: Sink + Drop + Send,
+    R: Threads + Wait + Sync,
+>(
+    rt: &R,
+    alloc: Global,
+    desk: &C,
+    seat: &mut T,
+    workers: &mut [Worker<T, G, L, S, K>],
+    script: &[u8],
+    clients: u32,
+) -> ScriptEnd
+    requires fits { C.fits desk.now seat.old }
+    requires clients { clients ≤ 64 }
+    requires ready { All (IsReady (C.fits desk.now) C.known G.faults) workers.old }
+    requires few { length workers.old ≤ 64 }
+    ensures fits { C.fits desk.now seat.new }
+    ensures gains { Gains (C.known seat.old) (gained (C.known seat.old) (C.known seat.new)) (C.known seat.new) }
+    ensures ends { EndsScript C.enabled C.answer clients (C.known seat.old) (asked_by_script script.now) result (C.known seat.new) }
+    ensures works { EachWorks (C.fits desk.now) C.known (outside G.name G.faults L.begins L.faults S.left S.faults K.held K.faults) C.enabled C.unsent workers.old workers.new }
+{
+    let bell = Bell::new();
+    let bell = &bell;
+    let serve = |conn: usize, worker: &mut Worker<T, G, L, S, K>|
+        requires { (conn < 64) × IsReady (C.fits desk.now) C.known G.faults worker.now }
+        ensures { Works (C.fits desk.entry.now) C.known (outside G.name G.faults L.begins L.faults S.left S.faults K.held K.faults) C.enabled C.unsent conn worker.entry.now worker.exit.now }
+    { serve_slot(rt, alloc, desk, bell, conn as u32, worker) };
+    serve_beside(
+        rt, alloc, desk, bell, script, clients, &serve, workers, seat,
+    )
+}
+
+// Serves slots whose gates were tried, and does the script beside them.
+fn serve_bound<
+    C: Seats<Seat = T> + Sync,
+    T: Send + Drop,
+    G: Gate<L = L> + Send,
+    L: Link<R = S, W = K> + Send,
+    S: Source + Drop + Send,
+    K: Sink + Drop + Send,
+    R: Threads + Wait + Sync,
+>(
+    rt: &R,
+    alloc: Global,
+    desk: &C,
+    seat: &mut T,
+    bound: Slots<G, L, S, K>,
+    script: &[u8],
+    clients: u32,
+) -> Result<(Slots<G, L, S, K>, ScriptEnd), NoMemory>
+    requires fits { C.fits desk.now seat.old }
+    requires clients { (clients ≤ 64) × (length bound ≡ clients) }
+    requires fresh { IsFresh (2 * clients + 1) (C.known seat.old) × ((C.known seat.old).seen ≡ []) }
+    requires waiting { AreWaiting G.faults bound }
+    ensures fits { C.fits desk.now seat.new }
+    ensures parts { (C.known seat.new).parts ≡ (C.known seat.old).parts }
+    ensures count { IfOk result (λ r. length r.0 ≡ clients) }
+    ensures serves { IfOk result (λ r. ServesAll (outside G.name G.faults L.begins L.faults S.left S.faults K.held K.faults) C.enabled C.unsent C.answer clients script.now r.0 r.1 (C.known seat.new)) }
+    ensures tells { IfOk result (λ r. (path : List ℕ) → HaveNames G.name path 0 bound → EachTells (outside G.name G.faults L.begins L.faults S.left S.faults K.held K.faults) path 0 r.0) }
+    ensures unbound { IfOk result (λ r. unbound r.0 ≡ unbound bound) }
+    ensures err { OnErr result (C.known seat.new ≡ C.known seat.old) }
+{
+    let slots = Vec::with_capacity(alloc, bound.len())?;
+    let workers = Vec::with_capacity(alloc, bound.len())?;
+    let mut workers = hire(desk, seat, bound, workers);
+    let end = serve_workers(
+        rt,
+        alloc,
+        desk,
+        seat,
+        workers.as_mut_slice(),
+        script,
+        clients,
+    );
+    Ok((gather(rt, desk, seat, workers, slots), end))
+}
+
+/// Binds a gate for each of so many slots, and then takes a connection at each and serves it, all at once, and does the script beside
+/// them, until all have ended. Of want of memory for the slots themselves nothing but the gates comes; a connection that found none
+/// is in its slot.
+pub fn serve_slots<H: Host, C: Seats<Seat = T> + Sync, T: Send + Drop, R: Threads + Wait + Sync>(
+    rt: &R,
+    alloc: Global,
+    desk: &C,
+    seat: &mut T,
+    host: &mut H,
+    path: &str,
+    clients: u32,
+    script: &[u8],
+) -> Result<(HostSlots<H>, ScriptEnd), NoMemory>
+    requires fits { C.fits desk.now seat.old }
+    requires clients { clients ≤ 64 }
+    requires fresh { IsFresh (2 * clients + 1) (C.known seat.old) × ((C.known seat.old).seen ≡ []) }
+    ensures fits { C.fits desk.now seat.new }
+    ensures parts { (C.known seat.new).parts ≡ (C.known seat.old).parts }
+    ensures count { IfOk result (λ r. length r.0 ≡ clients) }
+    ensures serves { IfOk result (λ r. ServesAll (outside H.G.name H.G.faults H.G.L.begins H.G.L.faults H.G.L.R.left H.G.L.R.faults H.G.L.W.held H.G.L.W.faults) C.enabled C.unsent C.answer clients script.now r.0 r.1 (C.known seat.new)) }
+    ensures tells { IfOk result (λ r. EachTells (outside H.G.name H.G.faults H.G.L.begins H.G.L.faults H.G.L.R.left H.G.L.R.faults H.G.L.W.held H.G.L.W.faults) path.now 0 r.0) }
+    ensures risen { IfOk result (λ r. HasRisenBy (unbound r.0) (H.faults host.old) (H.faults host.new)) }
+    ensures later { H.faults host.old ≤ H.faults host.new }
+    ensures err { OnErr result (C.known seat.new ≡ C.known seat.old) }
+{
+    let bound = bind_all(alloc, host, path, clients)?;
+    serve_bound(rt, alloc, desk, seat, bound, script, clients)
+}
