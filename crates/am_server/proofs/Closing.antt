@@ -1,0 +1,76 @@
+-- From what came of the slots to what serving says.
+use Rattle.std.proofs.Common.{◌≡◌, inl, inr, ℕ, ◌≤◌, Bool, true, false, List, [], ◌∷◌, ◌++◌, ◌∙◌, length, refl, sym, ap, subst}
+use Rattle.std.specs.Prelude.{◌<◌, IfSome}
+use Rattle.std.specs.List.{AllByRecursion}
+use Rattle.turn_lock.specs.Journal.{AllStand}
+use Rattle.turn_lock.specs.Kinds.{KeepsOrder}
+use Rattle.am_base.specs.Outside.{AreTold}
+use Rattle.am_journal.specs.declared.event.Event.{Event}
+use Rattle.am_journal.specs.Lawful.{IsLawful}
+use Rattle.am_counter.specs.Known.{Known, lists_of}
+use Rattle.am_counter.specs.Played.{IsPlayed, ArePlayed}
+use Rattle.am_serve.specs.declared.scripting.ScriptEnd.{ScriptEnd}
+use Rattle.acme_core.proofs.Connected.{tells_connections}
+use Rattle.acme_core.specs.Asks.{answer_at}
+use Rattle.acme_core.specs.Run.{enabled, output_at}
+use Rattle.am_desk.specs.Knowing.{EachOnce}
+use Rattle.am_slots.proofs.Ran.{ran}
+use Rattle.am_slots.specs.Serving.{EachTells, ServesAll, IsRun}
+use Rattle.am_slots.specs.Slots.{Outside, unbound, HasRisenBy}
+use Rattle.am_slots.specs.declared.slot.Slot.{Slot}
+use Rattle.am_server.specs.Ends.{Given, Writes, IsTooLong, ServesLines, SaysServe, input_limit, end_at}
+use Rattle.am_server.specs.Served.{served_from}
+use Rattle.am_server.specs.Texts.{served_text}
+use Rattle.am_server.specs.Written.{Output, IsWhole, IsCut, IsPut}
+use Rattle.am_server.specs.declared.served.Served.{Served}
+use Rattle.am_server.specs.declared.writing.ServeEnd.{ServeEnd}
+
+lawful_from : (before events : List Event) → ArePlayed enabled before events → AllByRecursion IsLawful events
+unfolding ArePlayed
+lawful_from before [] p = tt
+lawful_from before (e ∷ events) p = (p.0, lawful_from (before ++ e ∷ []) events p.2)
+
+-- events that were played are lawful
+pub lawful_played : (seen journal : List Event) → journal ≡ seen → IsPlayed enabled seen → AllByRecursion IsLawful journal
+lawful_played seen journal is p = subst (λ (l : List Event). AllByRecursion IsLawful l) (sym is) (lawful_from [] seen p)
+
+pub put_one : (o : Output) (text whole : List ℕ) (failed : Bool) → text ≡ whole → (failed ≡ false → IsWhole o text) → (failed ≡ true → IsCut o text) → IsPut o whole
+put_one o text whole false is f t = inl (subst (IsWhole o) is (f refl))
+put_one o text whole true is f t = inr (subst (IsCut o) is (t refl))
+
+module _ {G L S K : Type 0} where
+  pub wrote : (slots : List (Slot G L S K)) (script : ScriptEnd) (o : Output) (text whole : List ℕ) (failed : Bool) (e : ServeEnd) → text ≡ whole
+      → (failed ≡ false → IsWhole o text) → (failed ≡ true → IsCut o text) → e ≡ end_at slots script failed → Writes slots script o whole e
+  wrote slots script o text whole false e is f t at = inl (at, subst (IsWhole o) is (f refl))
+  wrote slots script o text whole true e is f t at = inr (inl (at, subst (IsCut o) is (t refl)))
+
+  -- the slots of one seat, which has all entries at the end
+  pub served_lines : (m : Outside G L S K) (path : List ℕ) (clients : ℕ) (lines : List ℕ) (before now : ℕ) (o : Output) (slots : List (Slot G L S K)) (script : ScriptEnd) (w : Known)
+      (core journal : List Event) (served : List (Served G L S K)) (e : ServeEnd)
+      → length slots ≡ clients → clients ≤ 64 → IsPlayed enabled w.seen → AllStand w.seen (lists_of w) → EachOnce w → KeepsOrder w.seen (lists_of w)
+      → ServesAll m enabled output_at answer_at clients lines slots script w → EachTells m path 0 slots → HasRisenBy (unbound slots) before now
+      → core ≡ w.seen → journal ≡ core → served ≡ served_from core 0 slots → Writes slots script o (served_text core slots script) e
+      → ServesLines m path clients lines before now o journal served e
+  served_lines m path clients lines before now o slots script w core journal served e count few played own once order serves tells risen same is told writes =
+      inl record {
+        slots = slots;
+        done = script;
+        count = count;
+        played = subst (IsPlayed enabled) (sym (is ∙ same)) played;
+        run = subst (λ (l : List Event). IsRun m enabled output_at answer_at clients lines l slots script) (sym (is ∙ same))
+            (ran m enabled output_at answer_at tells_connections clients lines slots script w played own once order count few serves);
+        tells = tells;
+        risen = risen;
+        told = told ∙ ap (λ (l : List Event). served_from l 0 slots) (sym is);
+        writes = subst (λ (l : List Event). Writes slots script o (served_text l slots script) e) (sym is) writes;
+      }
+
+  pub says_lines : (m : Outside G L S K) (path : List ℕ) (clients : ℕ) (i : Given) (o : Output) (journal : List Event) (served : List (Served G L S K)) (e : ServeEnd) (lines : List ℕ)
+      → AreTold i.told lines → length lines ≤ input_limit → ServesLines m path clients lines i.host_faults i.host_faults_now o journal served e
+      → SaysServe m path clients i o journal served e
+  says_lines m path clients i o journal served e lines told fits (inl s) = inr (inr (inr (lines, told, fits, s)))
+  says_lines m path clients i o journal served e lines told fits (inr t) = inr (inr (inl t))
+
+  pub says_long : (m : Outside G L S K) (path : List ℕ) (clients : ℕ) (i : Given) (o : Output) (journal : List Event) (served : List (Served G L S K)) (e : ServeEnd)
+      → IfSome i.told (λ bytes. input_limit < length bytes) → IsTooLong o journal served e → SaysServe m path clients i o journal served e
+  says_long m path clients i o journal served e long t = inr (inl (long, t))

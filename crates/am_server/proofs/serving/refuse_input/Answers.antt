@@ -1,0 +1,10 @@
+use Rattle.std.proofs.Common.{inl, ◌∙◌}
+use Rattle.am_server.proofs.Closing.{put_one}
+use Rattle.am_server.proofs.serving.refuse_input.Goals as goal
+
+pub returns-in-Ok : goal.returns-in-Ok
+returns-in-Ok g c = record {
+  empty = c.idle.ensures.journal;
+  none = c.idle.ensures.served;
+  put = inl (c.idle.ensures.end, put_one _ c.as_slice.result.now _ c.put.result (c.as_slice.ensures ∙ c.in-Ok.ensures) c.put.ensures.whole c.put.ensures.cut);
+}

@@ -1,0 +1,19 @@
+use Rattle.std.proofs.Common.{ap}
+use Rattle.am_desk.specs.Desks.{known_of}
+use Rattle.acme_core.specs.Run.{Editor}
+use Rattle.am_slots.specs.Slots.{outside}
+use Rattle.am_server.proofs.Closing.{lawful_played, served_lines}
+use Rattle.am_server.proofs.serving.serve_lines.Goals as goal
+
+pub finish-requires-clause-lawful : goal.finish-requires-clause-lawful
+finish-requires-clause-lawful g c = lawful_played (known_of c.serve_slots.new.seat).seen c.close.result.journal (ap (λ (x : Editor). x.journal) c.close.ensures.journal) c.close.ensures.played
+
+pub returns-in-Ok-serve_slots : goal.returns-in-Ok-serve_slots
+returns-in-Ok-serve_slots g c =
+    served_lines {G = g.row.H-G.Denot} {L = g.row.H-G-L.Denot} {S = g.row.H-G-L-R.Denot} {K = g.row.H-G-L-W.Denot}
+    (outside g.H.G.Gate.name g.H.G.Gate.faults g.H.G.L.Link.begins g.H.G.L.Link.faults g.H.G.L.R.Source.left g.H.G.L.R.Source.faults g.H.G.L.W.Sink.held g.H.G.L.W.Sink.faults)
+    c.args.path.now c.args.clients c.args.script.now _ _ _ c.in-Ok-serve_slots.slots c.in-Ok-serve_slots.end (known_of c.serve_slots.new.seat)
+    c.close.result.journal c.finish.result.journal c.finish.result.served c.finish.result.end
+    c.in-Ok-serve_slots.ensures.count c.requires.clients.1 c.close.ensures.played c.close.ensures.own c.close.ensures.once c.close.ensures.order
+    c.in-Ok-serve_slots.ensures.serves c.in-Ok-serve_slots.ensures.tells c.in-Ok-serve_slots.ensures.risen
+    (ap (λ (x : Editor). x.journal) c.close.ensures.journal) c.finish.ensures.journal c.finish.ensures.served c.finish.ensures.writes

@@ -1,0 +1,98 @@
+-- How serving ends.
+use Rattle.std.specs.Prelude.{◌≡◌, ◌⊎◌, ℕ, ◌<◌, ◌≤◌, Bool, true, false, List, [], ◌++◌, length, Option, IfSome, if◌then◌else◌, codes}
+use Rattle.std.specs.List.{list_any}
+use Rattle.am_base.specs.Outside.{AreTold, HasRisen}
+use Rattle.am_journal.specs.declared.event.Event.{Event}
+use Rattle.am_journal.specs.Texts.{refused_text}
+use Rattle.am_counter.specs.Played.{IsPlayed}
+use Rattle.acme_core.specs.Asks.{answer_at}
+use Rattle.acme_core.specs.Run.{enabled, output_at}
+use Rattle.am_serve.specs.declared.scripting.ScriptEnd.{ScriptEnd}
+use Rattle.am_serve.specs.declared.scripting.ScriptEnd.TheVariants as script
+use Rattle.am_slots.specs.Serving.{EachTells, IsRun}
+use Rattle.am_slots.specs.Slots.{Outside, unbound, HasRisenBy}
+use Rattle.am_slots.specs.declared.slot.Slot.{Slot}
+use Rattle.am_slots.specs.declared.slot.Slot.TheVariants as slot
+use Rattle.am_server.specs.Served.{served_from}
+use Rattle.am_server.specs.Texts.{has_failed, served_text}
+use Rattle.am_server.specs.Written.{Output, IsWhole, IsCut, IsPut}
+use Rattle.am_server.specs.declared.served.Served.{Served}
+use Rattle.am_server.specs.declared.writing.ServeEnd.{ServeEnd}
+use Rattle.am_server.specs.declared.writing.ServeEnd.TheVariants as end
+
+-- how serving ends after a script that was done, by whether memory ran out for a slot and whether the output has failed
+abbrev pub end_done : Bool → Bool → ServeEnd
+end_done undialled failed = if undialled then end.NoMemory else (if failed then end.WriteFault else end.Done)
+
+module _ {G L S K : Type 0} where
+  -- memory ran out before the slot's connection was dialled
+  abbrev pub is_undialled : Slot G L S K → Bool
+  is_undialled slot.Unbound = false
+  is_undialled (slot.Bound gate) = true
+  is_undialled (slot.Unlinked gate) = false
+  is_undialled (slot.Unhalved gate link) = false
+  is_undialled (slot.Undialled x) = true
+  is_undialled (slot.Served x read wrote) = false
+
+  -- How serving ends: a refused line goes before a slot that has failed, that before want of memory, and that before a failed output.
+  abbrev pub end_at : List (Slot G L S K) → ScriptEnd → Bool → ServeEnd
+  end_at slots (script.Refused line why) failed = end.Script
+  end_at slots script.NoMemory failed = if list_any has_failed slots then end.HostFault else end.NoMemory
+  end_at slots script.Done failed = if list_any has_failed slots then end.HostFault else end_done (list_any is_undialled slots) failed
+
+  -- The slots were served, and what came of it was written: whole, but where the output has failed. Without memory for the text nothing
+  -- was written.
+  abbrev pub Writes : List (Slot G L S K) → ScriptEnd → Output → List ℕ → ServeEnd → Type 0
+  Writes slots done o text e =
+      ((e ≡ end_at slots done false) × IsWhole o text)
+      ⊎ ((e ≡ end_at slots done true) × IsCut o text)
+      ⊎ ((e ≡ end.NoMemory) × (o.held_now ≡ o.held))
+
+-- what an output got, nothing was done, and no slot is told of
+pub record IsIdle {G L S K : Type 0} (o : Output) (journal : List Event) (served : List (Served G L S K)) : Type 0 where
+  pub silent : o.held_now ≡ o.held
+  pub empty : journal ≡ []
+  pub none : served ≡ []
+
+-- a script that is too long is refused whole
+pub record IsTooLong {G L S K : Type 0} (o : Output) (journal : List Event) (served : List (Served G L S K)) (e : ServeEnd) : Type 0 where
+  pub empty : journal ≡ []
+  pub none : served ≡ []
+  pub put : ((e ≡ end.Script) × IsPut o (refused_text 0 (codes "input"))) ⊎ ((e ≡ end.NoMemory) × (o.held_now ≡ o.held))
+
+-- A script was served: its slots, the script's end, and one journal that has just their entries.
+pub record Serves {G L S K : Type 0} (m : Outside G L S K) (path : List ℕ) (clients : ℕ) (lines : List ℕ) (before now : ℕ) (o : Output) (journal : List Event) (served : List (Served G L S K)) (e : ServeEnd) : Type 0 where
+  pub slots : List (Slot G L S K)
+  pub done : ScriptEnd
+  pub count : length slots ≡ clients
+  pub played : IsPlayed enabled journal
+  pub run : IsRun m enabled output_at answer_at clients lines journal slots done
+  pub tells : EachTells m path 0 slots
+  pub risen : HasRisenBy (unbound slots) before now
+  pub told : served ≡ served_from journal 0 slots
+  pub writes : Writes slots done o (served_text journal slots done) e
+
+-- the most bytes that a script has
+abbrev pub input_limit : ℕ
+input_limit = 16777216
+
+-- what came of a script of lawful length: it was served, or there was no memory to begin
+abbrev pub ServesLines : {G L S K : Type 0} → Outside G L S K → List ℕ → ℕ → List ℕ → ℕ → ℕ → Output → List Event → List (Served G L S K) → ServeEnd → Type 0
+ServesLines m path clients lines before now o journal served e =
+    Serves m path clients lines before now o journal served e ⊎ ((e ≡ end.NoMemory) × IsIdle o journal served)
+
+-- what the script tells, and the counts of faults of the input and the host, before and after
+pub record Given : Type 0 where
+  pub told : Option (List ℕ)
+  pub faults : ℕ
+  pub faults_now : ℕ
+  pub host_faults : ℕ
+  pub host_faults_now : ℕ
+
+-- How serving ends: the input could not be read, or was too long, or there was no memory for it, or its lines were served.
+abbrev pub SaysServe : {G L S K : Type 0} → Outside G L S K → List ℕ → ℕ → Given → Output → List Event → List (Served G L S K) → ServeEnd → Type 0
+SaysServe m path clients i o journal served e =
+    ((e ≡ end.ReadFault) × HasRisen i.faults i.faults_now × IsIdle o journal served)
+    ⊎ (IfSome i.told (λ bytes. input_limit < length bytes) × IsTooLong o journal served e)
+    ⊎ ((e ≡ end.NoMemory) × IsIdle o journal served)
+    ⊎ ((lines : List ℕ) × AreTold i.told lines × (length lines ≤ input_limit) × Serves m path clients lines i.host_faults i.host_faults_now o journal served e)

@@ -1,0 +1,4 @@
+pub mod Ends
+pub mod Served
+pub mod Texts
+pub mod Written

@@ -1,0 +1,184 @@
+//! How serving ends, and what it writes.
+
+ghost use Rattle.std.specs.Prelude.{◌≡◌, ◌<◌, ◌≤◌, ◌^◌, [], true, false, length, vec_capacity};
+ghost use Rattle.std.specs.List.{AllByRecursion, list_any};
+ghost use Rattle.am_journal.specs.Lawful.{IsLawful};
+ghost use Rattle.acme_core.specs.Run.{settled};
+ghost use Rattle.am_server.specs.Ends.{is_undialled, end_done, end_at, Writes};
+ghost use Rattle.am_server.specs.Served.{served_from};
+ghost use Rattle.am_server.specs.Texts.{has_failed, served_text};
+ghost use Rattle.am_server.specs.Written.{IsWhole, IsCut};
+
+use crate::served::{Served, served_all};
+use crate::texts::{has_failed, whole_text};
+use acme_core::{Core, Journal};
+use am_base::{Sink, write_all};
+use am_serve::ScriptEnd;
+use am_slots::{Slot, Slots};
+use am_text::{Items, NoMemory};
+use std::alloc::Global;
+
+/// How serving ended. Each has an exit status.
+#[derive(Clone, Copy, Debug, PartialEq, Eq)]
+pub enum ServeEnd {
+    /// All was done and written.
+    Done,
+    /// A line of the script, or the whole input, is refused.
+    Script,
+    /// The input could not be read.
+    ReadFault,
+    /// A slot could not be bound, or gave no connection.
+    HostFault,
+    /// Memory ran out.
+    NoMemory,
+    /// The output could not be written.
+    WriteFault,
+}
+
+/// How serving ended, the events that were done, and the connections that were served.
+#[derive(Drop)]
+pub struct Serving<G, L, S, K> {
+    pub end: ServeEnd,
+    pub journal: Journal,
+    pub served: Items<Served<G, L, S, K>>,
+}
+
+fn is_undialled<G, L, S, K>(slot: &Slot<G, L, S, K>) -> bool
+    ensures { result ≡ is_undialled slot.now }
+{
+    match slot {
+        Slot::Bound(_) | Slot::Undialled(_) => true,
+        Slot::Unbound | Slot::Unlinked(_) | Slot::Unhalved(_, _) | Slot::Served(_, _, _) => false,
+    }
+}
+
+fn any_failed<G, L, S, K>(slots: &[Slot<G, L, S, K>]) -> bool
+    ensures { result ≡ list_any has_failed slots.now }
+{
+    for slot in slots {
+        if has_failed(slot) {
+            return true;
+        }
+    }
+    false
+}
+
+fn any_undialled<G, L, S, K>(slots: &[Slot<G, L, S, K>]) -> bool
+    ensures { result ≡ list_any is_undialled slots.now }
+{
+    for slot in slots {
+        if is_undialled(slot) {
+            return true;
+        }
+    }
+    false
+}
+
+fn end_done(undialled: bool, failed: bool) -> ServeEnd
+    ensures { result ≡ end_done undialled failed }
+{
+    if undialled {
+        ServeEnd::NoMemory
+    } else if failed {
+        ServeEnd::WriteFault
+    } else {
+        ServeEnd::Done
+    }
+}
+
+fn end_at<G, L, S, K>(slots: &[Slot<G, L, S, K>], end: ScriptEnd, failed: bool) -> ServeEnd
+    ensures { result ≡ end_at slots.now end failed }
+{
+    let host = any_failed(slots);
+    match end {
+        ScriptEnd::Refused { .. } => ServeEnd::Script,
+        ScriptEnd::NoMemory => if host {
+            ServeEnd::HostFault
+        } else {
+            ServeEnd::NoMemory
+        },
+        ScriptEnd::Done => {
+            if host {
+                ServeEnd::HostFault
+            } else {
+                end_done(any_undialled(slots), failed)
+            }
+        }
+    }
+}
+
+/// Writes a text, and answers whether the output has failed.
+pub(crate) fn put<O: Sink>(output: &mut O, text: &[u8]) -> bool
+    ensures whole { result ≡ false → IsWhole (record { held = O.held output.old; held_now = O.held output.new; faults = O.faults output.old; faults_now = O.faults output.new }) text.now }
+    ensures cut { result ≡ true → IsCut (record { held = O.held output.old; held_now = O.held output.new; faults = O.faults output.old; faults_now = O.faults output.new }) text.now }
+{
+    match write_all(output, text) {
+        Ok(()) => false,
+        Err(_) => true,
+    }
+}
+
+// Writes the whole text, and answers how serving ended.
+fn write_served<G, L, S, K, O: Sink>(
+    alloc: Global,
+    core: &Core,
+    slots: &[Slot<G, L, S, K>],
+    script: ScriptEnd,
+    output: &mut O,
+) -> ServeEnd
+    requires settled { core.now ≡ settled core.now.journal }
+    requires lawful { AllByRecursion IsLawful core.now.journal }
+    requires few { length slots.now < 2 ^ 32 }
+    ensures { Writes slots.now script
+        (record { held = O.held output.old; held_now = O.held output.new; faults = O.faults output.old; faults_now = O.faults output.new })
+        (served_text core.now.journal slots.now script) result }
+{
+    match whole_text(alloc, core, slots, script) {
+        Ok(text) => {
+            let failed = put(output, text.as_slice());
+            end_at(slots, script, failed)
+        }
+        Err(NoMemory) => ServeEnd::NoMemory,
+    }
+}
+
+// Nothing was done, or nothing can be told of it.
+pub(crate) fn idle<G, L, S, K>(alloc: Global, end: ServeEnd) -> Serving<G, L, S, K>
+    ensures end { result.end ≡ end }
+    ensures journal { result.journal ≡ [] }
+    ensures served { result.served ≡ [] }
+{
+    Serving {
+        end,
+        journal: Items::new(alloc),
+        served: Items::new(alloc),
+    }
+}
+
+/// Writes what came of serving. The list of those served has room.
+pub(crate) fn finish<G: Drop, L: Drop, S: Drop, K: Drop, O: Sink>(
+    alloc: Global,
+    core: Core,
+    slots: Slots<G, L, S, K>,
+    script: ScriptEnd,
+    served: Vec<Served<G, L, S, K>>,
+    output: &mut O,
+) -> Serving<G, L, S, K>
+    requires settled { core ≡ settled core.journal }
+    requires lawful { AllByRecursion IsLawful core.journal }
+    requires few { length slots < 2 ^ 32 }
+    requires room { length slots ≤ vec_capacity served }
+    requires empty { served.items ≡ [] }
+    ensures journal { result.journal ≡ core.journal }
+    ensures served { result.served ≡ served_from core.journal 0 slots }
+    ensures writes { Writes slots script
+        (record { held = O.held output.old; held_now = O.held output.new; faults = O.faults output.old; faults_now = O.faults output.new })
+        (served_text core.journal slots script) result.end }
+{
+    let end = write_served(alloc, &core, slots.as_slice(), script, output);
+    Serving {
+        end,
+        served: served_all(core.journal(), slots, served),
+        journal: core.into_journal(),
+    }
+}
