@@ -2,7 +2,9 @@ pub mod Fronts
 pub mod Promised
 pub mod Ran
 pub mod Replied
-pub mod Words
+pub mod OneWord
 pub mod Wrote
 pub mod OwnText
 pub mod RoundTrip
+pub mod ServeEnds
+pub mod Stripped

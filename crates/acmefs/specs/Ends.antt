@@ -1,8 +1,9 @@
 -- How a replay ends.
-use Rattle.std.specs.Prelude.{◌≡◌, ◌⊎◌, ℕ, List, [], ◌∷◌, Bool, true, false, Option, Some, None, IfSome, codes}
-use Rattle.std.specs.Str.{bytes_eq}
+use Rattle.std.specs.Prelude.{◌≡◌, ◌⊎◌, ℕ, List, [], Bool, true, false, Option, Some, None, IfSome}
 use Rattle.am_base.specs.Outside.{AreTold, HasRisen}
 use Rattle.am_journal.specs.declared.event.Event.{Event}
+use Rattle.am_server.specs.declared.writing.ServeEnd.{ServeEnd}
+use Rattle.am_server.specs.declared.writing.ServeEnd.TheVariants as serving
 use Rattle.acmefs.specs.declared.replay.End.{End}
 use Rattle.acmefs.specs.declared.replay.End.TheVariants.{Done, Usage, Script, ReadFault, WriteFault, NoMemory}
 use Rattle.acmefs.specs.Scripts as scripts
@@ -18,11 +19,14 @@ code_of ReadFault = 3
 code_of WriteFault = 4
 code_of NoMemory = 6
 
--- the words that ask for a replay
-abbrev pub are_replay : List (List ℕ) → Bool
-are_replay [] = false
-are_replay (word ∷ []) = bytes_eq word (codes "replay")
-are_replay (word ∷ other ∷ words) = false
+-- the exit status where connections were served
+abbrev pub serve_code : ServeEnd → ℕ
+serve_code serving.Done = 0
+serve_code serving.Script = 2
+serve_code serving.ReadFault = 3
+serve_code serving.WriteFault = 4
+serve_code serving.HostFault = 5
+serve_code serving.NoMemory = 6
 
 -- Memory ran out: a front of the events was done, and what was put is the lines of their replies, but perhaps those of the last.
 pub record RanOut (script : scripts.Script) (o : Output) (journal : List Event) : Type 0 where

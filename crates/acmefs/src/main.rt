@@ -5,9 +5,12 @@ mod program;
 mod replay;
 mod script;
 #[cfg(test)]
+mod serving_tests;
+#[cfg(test)]
 mod tests;
+mod words;
 
-use am_base::{InputSource, MemHost, OutputSink};
+use am_base::{InputSource, OutputSink, UnixHost};
 use am_text::{Items, NoMemory, Words};
 use program::acmefs;
 use std::alloc::Global;
@@ -34,7 +37,7 @@ fn main(rt: HostRuntime) -> ExitCode {
     };
     let mut input = InputSource::new(rt.reader());
     let mut output = OutputSink::new(io::writer(&rt));
-    let mut host = MemHost::new(Items::new(rt.alloc()), Items::new(rt.alloc()));
-    let outcome = acmefs(rt.alloc(), &words, &mut input, &mut output, &mut host);
+    let mut host = UnixHost::new(&rt);
+    let outcome = acmefs(&rt, rt.alloc(), &words, &mut input, &mut output, &mut host);
     ExitCode::from(outcome.status)
 }

@@ -1,49 +1,29 @@
 //! All that the program does.
 
-ghost use Rattle.std.specs.Prelude.{◌≡◌, [], true, false, IfSome};
+ghost use Rattle.std.specs.Prelude.{◌≡◌, ◌≤◌, ℕ, List, [], None, true, IfSome};
+ghost use Rattle.std.specs.Str.{IsUtf8};
 ghost use Rattle.am_base.specs.Outside.{HasRisen};
 ghost use Rattle.core_answers.specs.Laws.{EachIsAnswered};
 ghost use Rattle.acmefs.specs.declared.replay.End.TheVariants.{Done, Script, WriteFault, NoMemory};
 ghost use Rattle.acmefs.specs.Scripts.{script_of};
 ghost use Rattle.acmefs.specs.Written.{seen};
-ghost use Rattle.acmefs.specs.Ends.{are_replay, Says, ProgramSays, IsIdle, RanTold, IsComplete, code_of};
+ghost use Rattle.acmefs.specs.Ends.{Says, ProgramSays, IsIdle, RanTold, IsComplete, code_of, serve_code};
 ghost use Rattle.acmefs.specs.Own.{PutsOwn, RoundTrips};
+ghost use Rattle.acmefs.specs.Words.{are_replay, asks_serve, AskServe, AreKnown};
+ghost use Rattle.am_server.specs.Ends.{SaysServe};
+ghost use Rattle.am_slots.specs.Slots.{outside};
 
 use crate::replay::{End, Ended, ReplayEnd, code, no_events, replay};
+use crate::words::{is_replay, serve_words};
 use acme_core::messages_are_answered;
-use am_base::{Gate, Host, Link, Sink, Source};
-use am_journal::{Ending, Journal};
-use am_text::{Bytes, Items, Words};
+use am_base::{Host, Sink, Source};
+use am_journal::Journal;
+use am_server::{HostServing, ServeEnd, ServedList, Serving, serve};
+use am_text::{Items, Words};
 use std::alloc::Global;
-
-/// How a served connection ended.
-#[derive(Clone, Copy, Debug, PartialEq, Eq)]
-pub enum ServedEnd {
-    /// Its gate could not be bound.
-    Bind,
-    /// Its gate gave no link.
-    Accept,
-    /// Its link gave no halves.
-    Halve,
-    /// Memory ran out before it was dialled.
-    NoMemory,
-    /// It was dialled, and ended so.
-    Ended(Ending),
-}
-
-/// A served connection: its slot, the objects that it was served by, and how it ended.
-#[derive(Drop)]
-pub struct Served<H: Host> {
-    pub slot: u32,
-    pub gate: Option<H::G>,
-    pub link: Option<<H::G as Gate>::L>,
-    pub reader: Option<<<H::G as Gate>::L as Link>::R>,
-    pub writer: Option<<<H::G as Gate>::L as Link>::W>,
-    pub end: ServedEnd,
-}
-
-/// Served connections, by slot.
-pub type ServedList<H> = Items<Served<H>>;
+use std::str;
+use std::sync::Wait;
+use std::thread::Threads;
 
 /// What a run of the program comes to: the exit status, the events that were done, and the
 /// connections that were served.
@@ -52,16 +32,6 @@ pub struct Outcome<H: Host> {
     pub status: u8,
     pub journal: Journal,
     pub served: ServedList<H>,
-}
-
-#[tactic(auto, using(crate::proofs::Words::one_word))]
-fn is_replay(words: &[Bytes]) -> bool
-    ensures { result ≡ are_replay words.now }
-{
-    match words {
-        [word] => word.as_slice() == b"replay".as_slice(),
-        _ => false,
-    }
 }
 
 fn run<I: Source, O: Sink>(alloc: Global, words: &Words, input: &mut I, output: &mut O) -> Ended
@@ -76,59 +46,167 @@ fn run<I: Source, O: Sink>(alloc: Global, words: &Words, input: &mut I, output: 
     }
 }
 
-/// Does all that the program does: what the words after its name ask for. The word `replay` alone
-/// asks for a replay of the transcript that the input gives; every other list of words is refused.
-///
-/// The status is 0 where all was done and written, 1 for other words, 2 where a line or the whole
-/// input is refused, 3 where the input failed, 4 where the output failed, 6 where memory ran out.
-pub fn acmefs<I: Source, O: Sink, H: Host>(
+// The status of an end of serving.
+fn serve_code(end: ServeEnd) -> u8
+    ensures { result ≡ serve_code end }
+{
+    match end {
+        ServeEnd::Done => 0,
+        ServeEnd::Script => 2,
+        ServeEnd::ReadFault => 3,
+        ServeEnd::WriteFault => 4,
+        ServeEnd::HostFault => 5,
+        ServeEnd::NoMemory => 6,
+    }
+}
+
+fn outcome_of<H: Host>(serving: HostServing<H>) -> Outcome<H>
+    ensures status { result.status ≡ serve_code serving.end }
+    ensures journal { result.journal ≡ serving.journal }
+    ensures served { result.served ≡ serving.served }
+{
+    let Serving {
+        end,
+        journal,
+        served,
+    } = serving;
+    Outcome {
+        status: serve_code(end),
+        journal,
+        served,
+    }
+}
+
+/// Serves a connection for each of so many slots of a path, and does the script that the input gives beside them.
+pub fn serve_main<I: Source, O: Sink, H: Host, R: Threads + Wait + Sync>(
+    rt: &R,
+    alloc: Global,
+    path: &str,
+    clients: u32,
+    input: &mut I,
+    output: &mut O,
+    host: &mut H,
+) -> Outcome<H>
+    requires clients { (1 ≤ clients) × (clients ≤ 64) }
+    ensures serves { (end : _) × (result.status ≡ serve_code end)
+        × SaysServe (outside H.G.name H.G.faults H.G.L.begins H.G.L.faults H.G.L.R.left H.G.L.R.faults H.G.L.W.held H.G.L.W.faults) path.now clients
+        (record { told = I.left input.old; faults = I.faults input.old; faults_now = I.faults input.new; host_faults = H.faults host.old; host_faults_now = H.faults host.new })
+        (record { held = O.held output.old; held_now = O.held output.new; faults = O.faults output.old; faults_now = O.faults output.new })
+        result.journal result.served end }
+{
+    outcome_of(serve(rt, alloc, path, clients, input, output, host))
+}
+
+// A replay, or other words.
+fn replay_words<I: Source, O: Sink, H: Host>(
     alloc: Global,
     words: &Words,
     input: &mut I,
     output: &mut O,
-    _host: &mut H,
 ) -> Outcome<H>
-    // Status 1 comes exactly where the words aren't `replay`; then nothing is read, written or done.
-    ensures usage { result.status ≡ 1 → are_replay words.now ≡ false }
-    ensures other_words { are_replay words.now ≡ false → result.status ≡ 1 }
-    ensures unread { result.status ≡ 1 → I.left input.new ≡ I.left input.old }
-    ensures idle_words { result.status ≡ 1 → IsIdle (seen (O.held output.old) (O.held output.new) (O.faults output.old) (O.faults output.new)) result.journal }
-    // Status 3 comes only where the input's count of faults rose; then nothing is written or done.
-    ensures read_fault { result.status ≡ 3 → HasRisen (I.faults input.old) (I.faults input.new) }
-    ensures idle_fault { result.status ≡ 3 → IsIdle (seen (O.held output.old) (O.held output.new) (O.faults output.old) (O.faults output.new)) result.journal }
-    // Status 0: no line is refused, the journal is the events of the script, and the whole text is written.
-    ensures done { result.status ≡ 0 → RanTold Done (I.left input.old) (seen (O.held output.old) (O.held output.new) (O.faults output.old) (O.faults output.new)) result.journal }
-    // Status 2: a line, or the whole input, is refused; all events before it are done and written.
-    ensures script { result.status ≡ 2 → RanTold Script (I.left input.old) (seen (O.held output.old) (O.held output.new) (O.faults output.old) (O.faults output.new)) result.journal }
-    // Status 4 comes only where the output's count rose: all events are done, a front of the text is written.
-    ensures write_fault { result.status ≡ 4 → RanTold WriteFault (I.left input.old) (seen (O.held output.old) (O.held output.new) (O.faults output.old) (O.faults output.new)) result.journal }
-    ensures write_cause { result.status ≡ 4 → HasRisen (O.faults output.old) (O.faults output.new) }
-    // Status 6: a front of the events is done, and the lines of their replies are written.
-    ensures no_memory { result.status ≡ 6 → RanTold NoMemory (I.left input.old) (seen (O.held output.old) (O.held output.new) (O.faults output.old) (O.faults output.new)) result.journal }
-    // No line refused and no fault outside: the whole text, or want of memory.
-    ensures complete { are_replay words.now ≡ true → IfSome (I.left input.old) (λ bytes.
-        IsComplete result.status (script_of bytes) (I.faults input.old) (I.faults input.new) (seen (O.held output.old) (O.held output.new) (O.faults output.old) (O.faults output.new)) result.journal) }
-    // The same of any input, also of one that doesn't tell its bytes: some bytes were replayed so.
-    ensures headline { (end : _) × (result.status ≡ code_of end)
+    ensures says { (end : _) × (result.status ≡ code_of end)
         × ProgramSays (are_replay words.now) end (I.left input.old) (I.left input.new) (I.faults input.old) (I.faults input.new) (seen (O.held output.old) (O.held output.new) (O.faults output.old) (O.faults output.new)) result.journal }
-    // The output got the lines of the journal's replies, and then the report of its run or a line `refused`: by the
-    // status all of it, or a front.
-    ensures own_text { (end : _) × (result.status ≡ code_of end)
-        × PutsOwn end (seen (O.held output.old) (O.held output.new) (O.faults output.old) (O.faults output.new)) result.journal }
-    // The journal's lines and then its report are a transcript, where they aren't too long, that gives the same journal
-    // and the same report.
-    ensures round_trip { RoundTrips result.journal }
-    // Each message of the journal is answered by its own R message, unless one of the named refusals applies, whose
-    // text is answered then.
-    ensures answered { EachIsAnswered }
-    ensures served { result.served ≡ [] }
+    ensures none_served { result.served ≡ [] }
 {
-    messages_are_answered();
     let ended = run(alloc, words, input, output);
     Outcome {
         status: code(ended.end),
         journal: ended.journal,
         served: Items::new(alloc),
+    }
+}
+
+fn serve_path<I: Source, O: Sink, H: Host, R: Threads + Wait + Sync>(
+    rt: &R,
+    alloc: Global,
+    path: &[u8],
+    clients: u32,
+    input: &mut I,
+    output: &mut O,
+    host: &mut H,
+) -> Outcome<H>
+    requires clients { (1 ≤ clients) × (clients ≤ 64) }
+    ensures serves { IsUtf8 path.now → (end : _) × (result.status ≡ serve_code end)
+        × SaysServe (outside H.G.name H.G.faults H.G.L.begins H.G.L.faults H.G.L.R.left H.G.L.R.faults H.G.L.W.held H.G.L.W.faults) path.now clients
+        (record { told = I.left input.old; faults = I.faults input.old; faults_now = I.faults input.new; host_faults = H.faults host.old; host_faults_now = H.faults host.new })
+        (record { held = O.held output.old; held_now = O.held output.new; faults = O.faults output.old; faults_now = O.faults output.new })
+        result.journal result.served end }
+    ensures read_fault { result.status ≡ 3 → HasRisen (I.faults input.old) (I.faults input.new) }
+    ensures idle_fault { result.status ≡ 3 → IsIdle (seen (O.held output.old) (O.held output.new) (O.faults output.old) (O.faults output.new)) result.journal }
+    ensures write_cause { result.status ≡ 4 → HasRisen (O.faults output.old) (O.faults output.new) }
+    ensures other { ¬ IsUtf8 path.now → (result.status ≡ 1) × (I.left input.new ≡ I.left input.old)
+        × IsIdle (seen (O.held output.old) (O.held output.new) (O.faults output.old) (O.faults output.new)) result.journal }
+{
+    match str::from_utf8(path) {
+        Ok(path) => serve_main(rt, alloc, path, clients, input, output, host),
+        Err(_) => Outcome {
+            status: code(End::Usage),
+            journal: Items::new(alloc),
+            served: Items::new(alloc),
+        },
+    }
+}
+
+/// Does all that the program does: what the words after its name ask for. The word `replay` alone asks for a replay of the transcript that
+/// the input gives. The words `serve PATH --clients N` ask for serving one connection for each of N slots, at the gates that the host makes
+/// for the path, with the script that the input gives beside them; the option may stand before the path, and may be one word,
+/// `--clients=N`. Every other list of words is refused.
+///
+/// The status is 0 where all was done and written, 1 for other words, 2 where a line or the whole input is refused, 3 where the input
+/// failed, 4 where the output failed, 5 where a gate could not be bound or gave no connection, 6 where memory ran out.
+pub fn acmefs<I: Source, O: Sink, H: Host, R: Threads + Wait + Sync>(
+    rt: &R,
+    alloc: Global,
+    words: &Words,
+    input: &mut I,
+    output: &mut O,
+    host: &mut H,
+) -> Outcome<H>
+    // Status 1 comes exactly where the words ask for neither a replay nor serving; then nothing is read, written or done.
+    ensures usage { result.status ≡ 1 → ¬ AreKnown words.now }
+    ensures other_words { ¬ AreKnown words.now → result.status ≡ 1 }
+    ensures unread { result.status ≡ 1 → I.left input.new ≡ I.left input.old }
+    ensures idle_words { result.status ≡ 1 → IsIdle (seen (O.held output.old) (O.held output.new) (O.faults output.old) (O.faults output.new)) result.journal }
+    // Status 3 comes only where the input's count of faults rose; then nothing is written or done.
+    ensures read_fault { result.status ≡ 3 → HasRisen (I.faults input.old) (I.faults input.new) }
+    ensures idle_fault { result.status ≡ 3 → IsIdle (seen (O.held output.old) (O.held output.new) (O.faults output.old) (O.faults output.new)) result.journal }
+    // A replay with status 0: no line is refused, the journal is the events of the script, and the whole text is written.
+    ensures done { are_replay words.now ≡ true → result.status ≡ 0 → RanTold Done (I.left input.old) (seen (O.held output.old) (O.held output.new) (O.faults output.old) (O.faults output.new)) result.journal }
+    // Status 2: a line, or the whole input, is refused; all events before it are done and written.
+    ensures script { are_replay words.now ≡ true → result.status ≡ 2 → RanTold Script (I.left input.old) (seen (O.held output.old) (O.held output.new) (O.faults output.old) (O.faults output.new)) result.journal }
+    // Status 4 comes only where the output's count rose: all events are done, a front of the text is written.
+    ensures write_fault { are_replay words.now ≡ true → result.status ≡ 4 → RanTold WriteFault (I.left input.old) (seen (O.held output.old) (O.held output.new) (O.faults output.old) (O.faults output.new)) result.journal }
+    ensures write_cause { result.status ≡ 4 → HasRisen (O.faults output.old) (O.faults output.new) }
+    // Status 6: a front of the events is done, and the lines of their replies are written.
+    ensures no_memory { are_replay words.now ≡ true → result.status ≡ 6 → RanTold NoMemory (I.left input.old) (seen (O.held output.old) (O.held output.new) (O.faults output.old) (O.faults output.new)) result.journal }
+    // No line refused and no fault outside: the whole text, or want of memory.
+    ensures complete { are_replay words.now ≡ true → IfSome (I.left input.old) (λ bytes.
+        IsComplete result.status (script_of bytes) (I.faults input.old) (I.faults input.new) (seen (O.held output.old) (O.held output.new) (O.faults output.old) (O.faults output.new)) result.journal) }
+    // The same of any input, also of one that doesn't tell its bytes: some bytes were replayed so.
+    ensures headline { are_replay words.now ≡ true → (end : _) × (result.status ≡ code_of end)
+        × Says end (I.left input.old) (I.faults input.old) (I.faults input.new) (seen (O.held output.old) (O.held output.new) (O.faults output.old) (O.faults output.new)) result.journal }
+    // The output got the lines of the journal's replies, and then the report of its run or a line `refused`: by the
+    // status all of it, or a front.
+    ensures own_text { are_replay words.now ≡ true → (end : _) × (result.status ≡ code_of end) × PutsOwn end (seen (O.held output.old) (O.held output.new) (O.faults output.old) (O.faults output.new)) result.journal }
+    ensures none_served { are_replay words.now ≡ true → result.served ≡ [] }
+    // Serving: one journal has the entries of all connections and of the script and no others. What each connection was sent, and the text
+    // that is written at the end, are those of that journal.
+    ensures serves { (path : List ℕ) (clients : ℕ) → AskServe words.now path clients → (end : _) × (result.status ≡ serve_code end)
+        × SaysServe (outside H.G.name H.G.faults H.G.L.begins H.G.L.faults H.G.L.R.left H.G.L.R.faults H.G.L.W.held H.G.L.W.faults) path clients
+        (record { told = I.left input.old; faults = I.faults input.old; faults_now = I.faults input.new; host_faults = H.faults host.old; host_faults_now = H.faults host.new })
+        (record { held = O.held output.old; held_now = O.held output.new; faults = O.faults output.old; faults_now = O.faults output.new })
+        result.journal result.served end }
+    // The journal's lines and then its report are a transcript, where they aren't too long, that gives the same journal
+    // and the same report.
+    ensures round_trip { asks_serve words.now ≡ None → RoundTrips result.journal }
+    // Each message of the journal is answered by its own R message, unless one of the named refusals applies, whose
+    // text is answered then.
+    ensures answered { EachIsAnswered }
+{
+    messages_are_answered();
+    match serve_words(words.as_slice()) {
+        Some((path, clients)) => serve_path(rt, alloc, path, clients, input, output, host),
+        None => replay_words(alloc, words, input, output),
     }
 }
 

@@ -4,7 +4,9 @@ use crate::program::acmefs;
 use am_base::{MemHost, MemSink, MemSource};
 use am_text::{Items, NoMemory, Words};
 use std::alloc::Global;
+use std::sync::Wait;
 use std::test::Fail;
+use std::thread::Threads;
 
 const HELLO: &[u8] = b"dial 0
 msg 0 1300000064ffff002000000600395032303030
@@ -45,7 +47,8 @@ struct Shown {
     sink: MemSink,
 }
 
-fn show(
+fn show<R: Threads + Wait + Sync>(
+    rt: &R,
     alloc: Global,
     words: &Words,
     bytes: &[u8],
@@ -59,7 +62,7 @@ fn show(
     let mut source = MemSource::new(Items::copied(alloc, bytes)?, piece, fail_at);
     let mut sink = MemSink::new(alloc, 4096, 512, Items::copied(alloc, write_faults)?)?;
     let mut host = MemHost::new(Items::new(alloc), Items::new(alloc));
-    let outcome = acmefs(alloc, words, &mut source, &mut sink, &mut host);
+    let outcome = acmefs(rt, alloc, words, &mut source, &mut sink, &mut host);
     Ok(Shown {
         status: outcome.status,
         entries: outcome.journal.len(),
@@ -77,11 +80,11 @@ fn replay_word(alloc: Global) -> Result<Words, NoMemory> {
 fn pieces(rt: HostRuntime) -> Result<(), Fail> {
     let alloc = rt.alloc();
     let words = replay_word(alloc)?;
-    let by_one = show(alloc, &words, HELLO, 1, &[], &[])?;
+    let by_one = show(&rt, alloc, &words, HELLO, 1, &[], &[])?;
     assert_eq!(rt; by_one.sink.held(), HELLO_OUT);
-    let by_three = show(alloc, &words, HELLO, 3, &[], &[])?;
+    let by_three = show(&rt, alloc, &words, HELLO, 3, &[], &[])?;
     assert_eq!(rt; by_three.sink.held(), HELLO_OUT);
-    let whole = show(alloc, &words, HELLO, 8192, &[], &[])?;
+    let whole = show(&rt, alloc, &words, HELLO, 8192, &[], &[])?;
     assert_eq!(rt; whole.sink.held(), HELLO_OUT);
     assert_eq!(rt; (whole.status, whole.entries), (0, 8));
     Ok(())
@@ -91,12 +94,12 @@ fn pieces(rt: HostRuntime) -> Result<(), Fail> {
 fn empty_and_refused(rt: HostRuntime) -> Result<(), Fail> {
     let alloc = rt.alloc();
     let words = replay_word(alloc)?;
-    let empty = show(alloc, &words, b"", 100, &[], &[])?;
+    let empty = show(&rt, alloc, &words, b"", 100, &[], &[])?;
     let report = b"report\njournal 0\nconnections 0\nwindows 0\nitems 0\nrequests 0\n";
     assert_eq!(rt; empty.sink.held(), report.as_slice());
     assert_eq!(rt; (empty.status, empty.entries), (0, 0));
     let clunk = b"dial 0\nmsg 0 0b00000078010009000000\n";
-    let refused = show(alloc, &words, clunk, 100, &[], &[])?;
+    let refused = show(&rt, alloc, &words, clunk, 100, &[], &[])?;
     let out = b"reply 0 160000006b01000d0076657273696f6e206669727374
 report\njournal 2\nconnections 1\nconnection 0 live\nwindows 0\nitems 0\nrequests 0\n";
     assert_eq!(rt; refused.sink.held(), out.as_slice());
@@ -107,14 +110,14 @@ report\njournal 2\nconnections 1\nconnection 0 live\nwindows 0\nitems 0\nrequest
 fn words_and_faults(rt: HostRuntime) -> Result<(), Fail> {
     let alloc = rt.alloc();
     let mut words = replay_word(alloc)?;
-    let read_fault = show(alloc, &words, HELLO, 100, &[1], &[])?;
+    let read_fault = show(&rt, alloc, &words, HELLO, 100, &[1], &[])?;
     assert_eq!(rt; (read_fault.status, read_fault.entries), (3, 0));
     assert_eq!(rt; read_fault.sink.held().len(), 0);
-    let write_fault = show(alloc, &words, HELLO, 100, &[], &[2])?;
+    let write_fault = show(&rt, alloc, &words, HELLO, 100, &[], &[2])?;
     assert_eq!(rt; (write_fault.status, write_fault.entries), (4, 8));
     assert_eq!(rt; write_fault.sink.held(), FIRST_REPLY);
     words.push(Items::copied(alloc, b"x")?)?;
-    let other = show(alloc, &words, HELLO, 100, &[], &[])?;
+    let other = show(&rt, alloc, &words, HELLO, 100, &[], &[])?;
     assert_eq!(rt; (other.status, other.entries), (1, 0));
     assert_eq!(rt; other.sink.held().len(), 0);
     Ok(())
@@ -125,10 +128,10 @@ fn limit(rt: HostRuntime) -> Result<(), Fail> {
     let alloc = rt.alloc();
     let words = replay_word(alloc)?;
     let most = vec![in alloc; b'\n'; 16777216]?;
-    let lawful = show(alloc, &words, &most, 65536, &[], &[])?;
+    let lawful = show(&rt, alloc, &words, &most, 65536, &[], &[])?;
     assert_eq!(rt; lawful.sink.held(), b"refused 1 line\n".as_slice());
     let more = vec![in alloc; b'\n'; 16777217]?;
-    let long = show(alloc, &words, &more, 65536, &[], &[])?;
+    let long = show(&rt, alloc, &words, &more, 65536, &[], &[])?;
     assert_eq!(rt; long.sink.held(), b"refused 0 input\n".as_slice());
     assert_eq!(rt; (long.status, long.entries), (2, 0));
     Ok(())

@@ -1,0 +1,141 @@
+-- What each exit status says where connections are served.
+use Rattle.std.proofs.Common.{◌≡◌, ◌⊎◌, inl, inr, ℕ, Bool, true, false, cond, List, [], ◌∷◌, Option, Some, None, ◌∙◌, refl, sym, ap, subst, ⊎_elim, arith}
+use Rattle.std.specs.List.{list_any}
+use Rattle.am_base.specs.Outside.{HasRisen}
+use Rattle.am_journal.specs.declared.event.Event.{Event}
+use Rattle.am_serve.specs.declared.scripting.ScriptEnd.{ScriptEnd}
+use Rattle.am_serve.specs.declared.scripting.ScriptEnd.TheVariants as script
+use Rattle.am_slots.specs.Slots.{Outside}
+use Rattle.am_slots.specs.declared.slot.Slot.{Slot}
+use Rattle.am_server.specs.Ends as ends
+use Rattle.am_server.specs.Ends.{SaysServe, Given, end_at, end_done, is_undialled, Writes}
+use Rattle.am_server.specs.Texts.{has_failed, served_text}
+use Rattle.am_server.specs.Written as put
+use Rattle.am_server.specs.declared.served.Served.{Served}
+use Rattle.am_server.specs.declared.writing.ServeEnd.{ServeEnd}
+use Rattle.am_server.specs.declared.writing.ServeEnd.TheVariants as end
+use Rattle.acmefs.specs.declared.replay.End.{End}
+use Rattle.acmefs.specs.declared.replay.End.TheVariants as replay
+use Rattle.acmefs.specs.Ends.{serve_code, Says, ProgramSays}
+use Rattle.std.specs.Str.{IsUtf8}
+use Rattle.acmefs.specs.Words.{are_replay, asks_serve, AreKnown}
+use Rattle.acmefs.specs.Written.{Output}
+
+-- no end of serving has status 1
+pub never_usage : (e : ServeEnd) → serve_code e ≡ 1 → ⊥
+never_usage end.Done h = absurd (omega (arith, h))
+never_usage end.Script h = absurd (omega (arith, h))
+never_usage end.ReadFault h = absurd (omega (arith, h))
+never_usage end.HostFault h = absurd (omega (arith, h))
+never_usage end.NoMemory h = absurd (omega (arith, h))
+never_usage end.WriteFault h = absurd (omega (arith, h))
+
+host_or : (b : Bool) (e : ServeEnd) (n : ℕ) → (5 ≡ n → ⊥) → (serve_code e ≡ n → ⊥) → serve_code (cond b end.HostFault e) ≡ n → ⊥
+host_or true e n f g h = f h
+host_or false e n f g h = g h
+
+done_or : (undialled failed : Bool) → serve_code (end_done undialled failed) ≡ 3 → ⊥
+done_or true failed h = absurd (omega (arith, h))
+done_or false true h = absurd (omega (arith, h))
+done_or false false h = absurd (omega (arith, h))
+
+whole_or : (undialled : Bool) → serve_code (end_done undialled false) ≡ 4 → ⊥
+whole_or true h = absurd (omega (arith, h))
+whole_or false h = absurd (omega (arith, h))
+
+module _ {G L S K : Type 0} where
+  -- after a script was done no end tells of the input
+  no_read_fault : (slots : List (Slot G L S K)) (s : ScriptEnd) (failed : Bool) → serve_code (end_at slots s failed) ≡ 3 → ⊥
+  no_read_fault slots (script.Refused line why) failed h = absurd (omega (arith, h))
+  no_read_fault slots script.NoMemory failed h = host_or (list_any has_failed slots) end.NoMemory 3 (λ x. absurd (omega (arith, x))) (λ x. absurd (omega (arith, x))) h
+  no_read_fault slots script.Done failed h =
+      host_or (list_any has_failed slots) (end_done (list_any is_undialled slots) failed) 3 (λ x. absurd (omega (arith, x))) (done_or (list_any is_undialled slots) failed) h
+
+  -- and none of the output, where that has not failed
+  no_write_fault : (slots : List (Slot G L S K)) (s : ScriptEnd) → serve_code (end_at slots s false) ≡ 4 → ⊥
+  no_write_fault slots (script.Refused line why) h = absurd (omega (arith, h))
+  no_write_fault slots script.NoMemory h = host_or (list_any has_failed slots) end.NoMemory 4 (λ x. absurd (omega (arith, x))) (λ x. absurd (omega (arith, x))) h
+  no_write_fault slots script.Done h =
+      host_or (list_any has_failed slots) (end_done (list_any is_undialled slots) false) 4 (λ x. absurd (omega (arith, x))) (whole_or (list_any is_undialled slots)) h
+
+  writes_read : (slots : List (Slot G L S K)) (s : ScriptEnd) (o : put.Output) (text : List ℕ) (e : ServeEnd) → serve_code e ≡ 3 → Writes slots s o text e → ⊥
+  writes_read slots s o text e h (inl w) = no_read_fault slots s false (ap serve_code (sym w.0) ∙ h)
+  writes_read slots s o text e h (inr (inl w)) = no_read_fault slots s true (ap serve_code (sym w.0) ∙ h)
+  writes_read slots s o text e h (inr (inr w)) = absurd (omega (arith, ap serve_code w.0, h))
+
+  writes_fault : (slots : List (Slot G L S K)) (s : ScriptEnd) (o : put.Output) (text : List ℕ) (e : ServeEnd) → serve_code e ≡ 4 → Writes slots s o text e → HasRisen o.faults o.faults_now
+  writes_fault slots s o text e h (inl w) = absurd (no_write_fault slots s (ap serve_code (sym w.0) ∙ h))
+  writes_fault slots s o text e h (inr (inl w)) = w.1.risen
+  writes_fault slots s o text e h (inr (inr w)) = absurd (omega (arith, ap serve_code w.0, h))
+
+  too_long_ends : (o : put.Output) (journal : List Event) (served : List (Served G L S K)) (e : ServeEnd) → ends.IsTooLong o journal served e → (serve_code e ≡ 2) ⊎ (serve_code e ≡ 6)
+  too_long_ends o journal served e t = ⊎_elim (λ w. inl (ap serve_code w.0)) (λ w. inr (ap serve_code w.0)) t.put
+
+  -- status 3 comes only where the input's count has risen
+  pub serve_read_fault : (m : Outside G L S K) (path : List ℕ) (clients : ℕ) (i : Given) (o : put.Output) (journal : List Event) (served : List (Served G L S K)) (status : ℕ) (e : ServeEnd)
+      → status ≡ serve_code e → SaysServe m path clients i o journal served e → status ≡ 3 → HasRisen i.faults i.faults_now × ends.IsIdle o journal served
+  serve_read_fault m path clients i o journal served status e is (inl s) h = (s.1, s.2)
+  serve_read_fault m path clients i o journal served status e is (inr (inl (long, t))) h =
+      ⊎_elim (λ (x : serve_code e ≡ 2). absurd (omega (arith, x, is, h))) (λ (x : serve_code e ≡ 6). absurd (omega (arith, x, is, h))) (too_long_ends o journal served e t)
+  serve_read_fault m path clients i o journal served status e is (inr (inr (inl w))) h = absurd (omega (arith, ap serve_code w.0, is, h))
+  serve_read_fault m path clients i o journal served status e is (inr (inr (inr (lines, told, fits, s)))) h = absurd (writes_read s.slots s.done o _ e (sym is ∙ h) s.writes)
+
+  -- status 4 comes only where the output's count has risen
+  pub serve_write_fault : (m : Outside G L S K) (path : List ℕ) (clients : ℕ) (i : Given) (o : put.Output) (journal : List Event) (served : List (Served G L S K)) (status : ℕ) (e : ServeEnd)
+      → status ≡ serve_code e → SaysServe m path clients i o journal served e → status ≡ 4 → HasRisen o.faults o.faults_now
+  serve_write_fault m path clients i o journal served status e is (inl s) h = absurd (omega (arith, ap serve_code s.0, is, h))
+  serve_write_fault m path clients i o journal served status e is (inr (inl (long, t))) h =
+      ⊎_elim (λ (x : serve_code e ≡ 2). absurd (omega (arith, x, is, h))) (λ (x : serve_code e ≡ 6). absurd (omega (arith, x, is, h))) (too_long_ends o journal served e t)
+  serve_write_fault m path clients i o journal served status e is (inr (inr (inl w))) h = absurd (omega (arith, ap serve_code w.0, is, h))
+  serve_write_fault m path clients i o journal served status e is (inr (inr (inr (lines, told, fits, s)))) h = writes_fault s.slots s.done o _ e (sym is ∙ h) s.writes
+
+module _ {G L S K : Type 0} where
+  -- a status of serving, and what it says
+  abbrev pub Said : Outside G L S K → List ℕ → ℕ → Given → put.Output → List Event → List (Served G L S K) → ℕ → Type 0
+  Said m path clients i o journal served status = (e : ServeEnd) × (status ≡ serve_code e) × SaysServe m path clients i o journal served e
+
+  pub at_path : (m : Outside G L S K) (p q : List ℕ) (a b : ℕ) (i : Given) (o : put.Output) (journal : List Event) (served : List (Served G L S K)) (status : ℕ)
+      → p ≡ q → a ≡ b → Said m p a i o journal served status → Said m q b i o journal served status
+  at_path m p q a b i o journal served status e f s =
+      subst (λ (x : List ℕ). Said m x b i o journal served status) e (subst (λ (x : ℕ). Said m p x i o journal served status) f s)
+
+-- words ask for one path and one number
+pub asked_once : (words : List (List ℕ)) (p q : List ℕ) (a b : ℕ) → asks_serve words ≡ Some (p, a) → asks_serve words ≡ Some (q, b) → (p ≡ q) × (a ≡ b)
+asked_once words p q a b h k = let e : Some (p, a) ≡ Some (q, b) = sym h ∙ k in (ap (path_in p) e, ap (number_in a) e)
+  where
+    path_in : List ℕ → Option (List ℕ × ℕ) → List ℕ
+    path_in other None = other
+    path_in other (Some x) = x.0
+
+    number_in : ℕ → Option (List ℕ × ℕ) → ℕ
+    number_in other None = other
+    number_in other (Some x) = x.1
+
+pub not_true : (b : Bool) → ¬ (b ≡ true) → b ≡ false
+not_true true n = absurd (n refl)
+not_true false n = refl
+
+pub says_replay : (e : End) (told told_now : Option (List ℕ)) (before now : ℕ) (o : Output) (journal : List Event) (asked : Bool) → asked ≡ true
+    → ProgramSays asked e told told_now before now o journal → Says e told before now o journal
+says_replay replay.Done told told_now before now o journal asked h p = p.1
+says_replay replay.Usage told told_now before now o journal asked h p = absurd (let a = p.0 in cc)
+says_replay replay.Script told told_now before now o journal asked h p = p.1
+says_replay replay.ReadFault told told_now before now o journal asked h p = p.1
+says_replay replay.WriteFault told told_now before now o journal asked h p = p.1
+says_replay replay.NoMemory told told_now before now o journal asked h p = p.1
+
+-- words that ask for a replay ask for nothing else
+pub replay_alone : (words : List (List ℕ)) → are_replay words ≡ true → asks_serve words ≡ None
+replay_alone [] h = cc
+replay_alone (word ∷ []) h = cc
+replay_alone (word ∷ other ∷ words) h = absurd (cc)
+
+-- words that ask for serving a path are known where it is a text
+pub known_serving : (words : List (List ℕ)) (path : List ℕ) (clients : ℕ) → asks_serve words ≡ Some (path, clients) → AreKnown words → IsUtf8 path
+known_serving words path clients asks (inl r) = absurd (let a = sym (replay_alone words r) ∙ asks in cc)
+known_serving words path clients asks (inr (p, n, x)) = subst IsUtf8 (asked_once words p path n clients x.0 asks).0 x.1
+
+-- words that ask for neither
+pub known_replay : (words : List (List ℕ)) → asks_serve words ≡ None → are_replay words ≡ false → ¬ AreKnown words
+known_replay words none other (inl r) = absurd (let a = sym other ∙ r in cc)
+known_replay words none other (inr (p, n, x)) = absurd (let e = sym none ∙ x.0 in cc)
