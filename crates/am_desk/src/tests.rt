@@ -98,6 +98,25 @@ fn a_session_of_two_seats(rt: HostRuntime) -> Result<(), Fail> {
     Ok(())
 }
 
+// The numbers of the entries of two seats, of which the first takes in the second, and the entries of the journal.
+fn taken_in<R: Wait>(rt: &R, alloc: Global) -> Result<([Result<u64, Refused>; 3], usize), NoMemory> {
+    let (desk, mut first) = Desk::new(alloc, 3)?;
+    let mut second = desk.split(&mut first, 2);
+    let made = submit(rt, alloc, &desk, &mut second, b"new");
+    let typed = submit(rt, alloc, &desk, &mut second, b"key 1 body :a");
+    desk.take_in(rt, &mut first, second);
+    let after = submit(rt, alloc, &desk, &mut first, b"key 1 body :b");
+    Ok(([made, typed, after], desk.close(first).journal().len()))
+}
+
+#[test]
+fn a_seat_is_taken_in(rt: HostRuntime) -> Result<(), Fail> {
+    let (numbers, entries) = taken_in(&rt, rt.alloc())?;
+    assert_eq!(rt; numbers, [Ok(1), Ok(2), Ok(3)]);
+    assert_eq!(rt; entries, 3);
+    Ok(())
+}
+
 // Submits a line's event so often.
 fn submit_all<R: Wait>(
     rt: &R,

@@ -238,9 +238,23 @@ fn found_once(alloc: Global) -> Result<bool, NoMemory> {
     );
     let other = written_back(&mut book, &message(0, 3), 3) == Err(BackFault::NoSuch);
     let once = written_back(&mut book, &message(4, 5), 3) == Ok(1);
-    let again = written_back(&mut book, &message(4, 4), 4) == Err(BackFault::Already);
+    let again = written_back(&mut book, &message(4, 5), 4) == Err(BackFault::Already);
+    let by_range = written_back(&mut book, &message(4, 4), 4) == Err(BackFault::Already);
+    Ok(pending && given && other && once && again && by_range && is_back(&book)?)
+}
+
+// The one item was taken at entry 2 and written back at entry 3.
+fn is_back(book: &Book) -> Result<bool, NoMemory> {
+    let back = Life::Back {
+        opening: 1,
+        at: 2,
+        back: 3,
+    };
     let is_there = book.item(1, 1).is_some() && book.item(1, 2).is_none();
-    Ok(pending && given && other && once && again && is_there)
+    match book.ledger()?.as_slice() {
+        [view] => Ok(is_there && is_view(view, 1, back, b"MX4 4 2 0 \nMX4 5 0 1 x\n")),
+        _ => Ok(false),
+    }
 }
 
 #[test]
@@ -258,26 +272,35 @@ fn is_view(view: &ItemView, number: u64, life: Life, spelled: &[u8]) -> bool {
 }
 
 // The reports of two connections: one leaves with an item half read, the other reads on.
-fn two_connections(alloc: Global) -> Result<Book, NoMemory> {
+fn two_connections(alloc: Global) -> Result<Option<Book>, NoMemory> {
     let mut book = Book::new(alloc);
     added(&mut book, 1)?;
     added(&mut book, 1)?;
     added(&mut book, 1)?;
     put(&mut book, 1, key(alloc, 0, b"a")?)?;
-    asked(&mut book, read(2, 1, 1), 15)?;
-    asked(&mut book, read(3, 2, 256), 16)?;
+    let half = is_bytes(asked(&mut book, read(2, 1, 1), 15)?, b"K");
+    let waits = asked(&mut book, read(3, 2, 256), 16)?.is_none();
     left(&mut book, 1, 17);
     left(&mut book, 2, 17);
     put(&mut book, 1, key(alloc, 1, b"b")?)?;
-    asked(&mut book, read(2, 3, 256), 19)?;
+    let other = Asker {
+        conn: 1,
+        ..read(2, 3, 256)
+    };
+    let whole = is_bytes(asked(&mut book, other, 19)?, b"KI1 2 0 1 b\n");
     put(&mut book, 1, key(alloc, 2, b"c")?)?;
     left(&mut book, 3, 20);
-    Ok(book)
+    if half && waits && whole {
+        return Ok(Some(book));
+    }
+    Ok(None)
 }
 
 fn is_told(alloc: Global) -> Result<bool, NoMemory> {
-    let views = two_connections(alloc)?.ledger()?;
-    match views.as_slice() {
+    let Some(book) = two_connections(alloc)? else {
+        return Ok(false);
+    };
+    match book.ledger()?.as_slice() {
         [first, second, third] => Ok(
             is_view(
                 first,
@@ -298,6 +321,38 @@ fn is_told(alloc: Global) -> Result<bool, NoMemory> {
 #[test]
 fn the_ledger_tells_each_item(rt: HostRuntime) -> Result<(), Fail> {
     let all = is_told(rt.alloc()).map_err(|_| AllocError)?;
+    assert!(rt; all);
+    Ok(())
+}
+
+fn deleted(book: &mut Book, window: u32, at: u64) {
+    book.keep();
+    if book.latest() <= at {
+        book.delete(window, at);
+    }
+}
+
+// A window with two openings is deleted: its pending item is dropped and its openings close, and the kept state shows the item
+// only once it is kept.
+fn is_deleted(alloc: Global) -> Result<bool, NoMemory> {
+    let mut book = Book::new(alloc);
+    added(&mut book, 1)?;
+    added(&mut book, 1)?;
+    added(&mut book, 2)?;
+    put(&mut book, 1, key(alloc, 0, b"a")?)?;
+    let unkept = book.kept_ledger()?.is_empty();
+    deleted(&mut book, 1, 5);
+    let closed = !book.is_open(1) && !book.is_living(1) && !book.is_living(2) && book.is_living(3);
+    let dropped = Life::Dropped { at: 5 };
+    match book.kept_ledger()?.as_slice() {
+        [view] => Ok(unkept && closed && is_view(view, 1, dropped, b"KI0 1 0 1 a\n")),
+        _ => Ok(false),
+    }
+}
+
+#[test]
+fn a_deletion_drops_what_pends(rt: HostRuntime) -> Result<(), Fail> {
+    let all = is_deleted(rt.alloc()).map_err(|_| AllocError)?;
     assert!(rt; all);
     Ok(())
 }

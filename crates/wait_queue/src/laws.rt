@@ -2,7 +2,7 @@
 
 ghost use Rattle.wait_queue.specs.Laws.{LosesNothing, LeavesOthers, CancelledIsGone, CancelledIsNotNext, OnlyAskWaits, ServedWaited};
 
-/// No byte of an item is lost or given twice.
+/// What an answer gives, with what it leaves to its opening, is what the opening had left and the item that the answer takes.
 pub fn loses_nothing()
     ensures { LosesNothing }
 {}

@@ -82,6 +82,11 @@ fn reads_are_served_in_order(rt: HostRuntime) -> Result<(), Fail> {
     queue.leave(2);
     queue.close();
     assert!(rt; queue.next().is_none() && queue.is_enlisted(1) && !queue.is_enlisted(2));
+    assert!(rt;
+        queue.is_open() && queue.must_wait(read(4, 1, 9)) && !queue.must_wait(read(4, 1, 0))
+    );
+    queue.leave(1);
+    assert!(rt; !queue.is_open());
     Ok(())
 }
 
