@@ -99,7 +99,10 @@ fn a_session_of_two_seats(rt: HostRuntime) -> Result<(), Fail> {
 }
 
 // The numbers of the entries of two seats, of which the first takes in the second, and the entries of the journal.
-fn taken_in<R: Wait>(rt: &R, alloc: Global) -> Result<([Result<u64, Refused>; 3], usize), NoMemory> {
+fn taken_in<R: Wait>(
+    rt: &R,
+    alloc: Global,
+) -> Result<([Result<u64, Refused>; 3], usize), NoMemory> {
     let (desk, mut first) = Desk::new(alloc, 3)?;
     let mut second = desk.split(&mut first, 2);
     let made = submit(rt, alloc, &desk, &mut second, b"new");
