@@ -1,16 +1,18 @@
--- Lines of attributes: what begins one can go on to one, and what is written is read.
-use Rattle.std.proofs.Common.{◌≡◌, ℕ, Bool, true, false, cond, ◌||◌, eqb, ne_eqb, List, [], ◌∷◌, ◌++◌, length, Option, Some, None, refl, ap, sym, subst, ◌∙◌, append_assoc}
-use Rattle.std.specs.List.{flat_map}
-use Rattle.std.specs.Str.{is_utf8}
+-- Lines of attributes: each line of the grammar is read, and what is written is one.
+use Rattle.std.proofs.Common.{◌≡◌, inl, inr, ℕ, Bool, true, false, cond, ◌||◌, eqb, ne_eqb, List, [], ◌∷◌, ◌++◌, length, Option, Some, None, refl, ap, sym, subst, ◌∙◌, append_assoc}
+use Rattle.std.specs.List.{flat_map, IsDistinct}
+use Rattle.std.specs.Str.{bytes_eq}
 use Rattle.std.proofs.lemmas.Bool.{false≢true, eqb-true, and_parts}
 use Rattle.std.proofs.lemmas.List.{append-nil}
-use Rattle.plumb_msg.specs.Attributes.{is_name_byte, is_special, with_stage, named, put, plain, ended, step, then_scan, scan, start, finished, attrs_of}
+use Rattle.plumb_msg.specs.Attributes.{is_name_byte, is_special, with_stage, named, put, plain, ended, step, then_scan, scan, start, finished}
+use Rattle.plumb_msg.specs.Grammar.{IsValue, IsAttr, AreAttrs, names_of, IsAttrsLine}
 use Rattle.plumb_msg.specs.Names.{is_known}
-use Rattle.plumb_msg.specs.Spelling.{doubled, quoted, needs_quotes, value_text, attr_text, after_blank, attrs_text, are_name_bytes, is_name, are_named}
+use Rattle.plumb_msg.specs.Spelling.{doubled, quoted, needs_quotes, value_text, attr_text, attrs_text, are_name_bytes, is_name, are_named}
 use Rattle.plumb_msg.specs.declared.message.Attr.{Attr}
 use Rattle.plumb_msg.specs.declared.scanning.Stage.{Stage}
 use Rattle.plumb_msg.specs.declared.scanning.Stage.TheVariants.{Start, Next, Name, Value, Plain, Quoted, Closed}
 use Rattle.plumb_msg.specs.declared.scanning.Scan.{Scan}
+use Rattle.plumb_msg.proofs.NameLemmas.{names_more, names_fresh}
 
 -- ---- scanning goes on
 
@@ -32,15 +34,7 @@ pub scan_none : (s : Scan) → scan s [] ≡ Some s
 unfolding scan
 scan_none s = refl
 
--- ---- written attributes are read
-
--- the stage after a value
-abbrev plain_stage : List ℕ → Stage
-plain_stage [] = Value
-plain_stage (b ∷ bs) = Plain
-
-abbrev stage_after : List ℕ → Stage
-stage_after value = cond (needs_quotes value) Closed (plain_stage value)
+-- ---- names
 
 abbrev in_name : List Attr → List ℕ → Scan
 in_name attrs name = record { attrs = attrs; name = name; value = []; stage = Name }
@@ -64,6 +58,11 @@ scan-name attrs name (b ∷ bs) rest h =
     ∙ ap (λ (n : List ℕ). scan (in_name attrs n) rest) (append_assoc name (b ∷ []) bs)
 
 -- ---- values
+
+-- the stage after a value that stands as it is
+abbrev plain_stage : List ℕ → Stage
+plain_stage [] = Value
+plain_stage (b ∷ bs) = Plain
 
 plain_parts : (p q r t : Bool) → (p || q || r || t) ≡ false → (p ≡ false) × (r ≡ false)
 plain_parts true q r t e = absurd (false≢true (sym e))
@@ -135,12 +134,36 @@ module _ (attrs : List Attr) (name : List ℕ) where
       ∙ scan-quotes [] bs (39 ∷ rest)
       ∙ scan_one (at_value attrs name bs Quoted) (at_value attrs name bs Closed) 39 rest refl
 
-  scan-value : (v rest : List ℕ) → scan (at_value attrs name [] Value) (value_text v ++ rest) ≡ scan (at_value attrs name v (stage_after v)) rest
-  scan-value v rest =
-      elim (needs_quotes v) as (λ t. needs_quotes v ≡ t → scan (at_value attrs name [] Value) (cond t (quoted v) v ++ rest) ≡ scan (at_value attrs name v (cond t Closed (plain_stage v))) rest) [
-        | true ↦ λ e. scan-quoted v rest
-        | false ↦ λ e. scan-as_it_is v rest e
-      ] refl
+-- a stage at which an attribute may end
+data EndsValue : Stage → Type 0 where
+  at_equals : EndsValue Value
+  in_plain : EndsValue Plain
+  in_closed : EndsValue Closed
+
+plain_ends : (value : List ℕ) → EndsValue (plain_stage value)
+plain_ends [] = at_equals
+plain_ends (b ∷ bs) = in_plain
+
+-- the text is read as the value of the attribute, and the attribute may end there
+record ReadsValue (attrs : List Attr) (a : Attr) (text : List ℕ) : Type 0 where
+  last : Stage
+  ends : EndsValue last
+  reads : (rest : List ℕ) → scan (at_value attrs a.name [] Value) (text ++ rest) ≡ scan (at_value attrs a.name a.value last) rest
+
+reads_value : (attrs : List Attr) (a : Attr) (text : List ℕ) → IsValue text a.value → ReadsValue attrs a text
+reads_value attrs a text is =
+    elim is [
+      | inl plain ↦ record {
+        last = plain_stage a.value;
+        ends = plain_ends a.value;
+        reads = λ rest. ap (λ (t : List ℕ). scan (at_value attrs a.name [] Value) (t ++ rest)) plain.0 ∙ scan-as_it_is attrs a.name a.value rest plain.1;
+      }
+      | inr in_quotes ↦ record {
+        last = Closed;
+        ends = in_closed;
+        reads = λ rest. ap (λ (t : List ℕ). scan (at_value attrs a.name [] Value) (t ++ rest)) in_quotes ∙ scan-quoted attrs a.name a.value rest;
+      }
+    ]
 
 -- ---- attributes
 
@@ -174,26 +197,25 @@ scan-name_all attrs stage (b ∷ bs) rest begins h =
     let two = and_parts (is_name_byte b) (are_name_bytes bs) bytes.1 in
     scan_one (at_name attrs stage) (in_name attrs (b ∷ [])) b (bs ++ rest) (begin_step attrs stage b begins two.0) ∙ scan-name attrs (b ∷ []) bs rest two.1
 
-scan-attr : (attrs : List Attr) (stage : Stage) (a : Attr) (rest : List ℕ) → BeginsName stage → is_name a.name ≡ true → is_known a.name attrs ≡ false → scan (at_name attrs stage) (attr_text a ++ rest) ≡ scan (at_value attrs a.name a.value (stage_after a.value)) rest
-unfolding attr_text
-scan-attr attrs stage a rest begins named fresh =
-    ap (scan (at_name attrs stage)) (append_assoc a.name (61 ∷ value_text a.value) rest)
-    ∙ scan-name_all attrs stage a.name (61 ∷ (value_text a.value ++ rest)) begins named
-    ∙ scan_one (in_name attrs a.name) (at_value attrs a.name [] Value) 61 (value_text a.value ++ rest) (equals_step attrs a.name fresh)
-    ∙ scan-value attrs a.name a.value rest
+-- the text is read as the attribute, which may end there
+record ReadsAttr (attrs : List Attr) (stage : Stage) (a : Attr) (text : List ℕ) : Type 0 where
+  last : Stage
+  ends : EndsValue last
+  reads : (rest : List ℕ) → scan (at_name attrs stage) (text ++ rest) ≡ scan (at_value attrs a.name a.value last) rest
 
--- a stage at which an attribute may end
-data EndsValue : Stage → Type 0 where
-  at_equals : EndsValue Value
-  in_plain : EndsValue Plain
-  in_closed : EndsValue Closed
-
-stage_ends : (v : List ℕ) → EndsValue (stage_after v)
-stage_ends v = elim (needs_quotes v) as (λ t. EndsValue (cond t Closed (plain_stage v))) [ true ↦ in_closed | false ↦ of v ]
-  where
-    of : (v : List ℕ) → EndsValue (plain_stage v)
-    of [] = at_equals
-    of (b ∷ bs) = in_plain
+reads_attr : (attrs : List Attr) (stage : Stage) (a : Attr) (text : List ℕ) → BeginsName stage → is_known a.name attrs ≡ false → IsAttr text a → ReadsAttr attrs stage a text
+reads_attr attrs stage a text begins fresh is =
+    let value = reads_value attrs a is.1 is.2 in
+    record {
+      last = value.last;
+      ends = value.ends;
+      reads = λ rest.
+          ap (λ (t : List ℕ). scan (at_name attrs stage) (t ++ rest)) is.3
+          ∙ ap (scan (at_name attrs stage)) (append_assoc a.name (61 ∷ is.1) rest)
+          ∙ scan-name_all attrs stage a.name (61 ∷ (is.1 ++ rest)) begins is.0
+          ∙ scan_one (in_name attrs a.name) (at_value attrs a.name [] Value) 61 (is.1 ++ rest) (equals_step attrs a.name fresh)
+          ∙ value.reads rest;
+    }
 
 blank_step : (attrs : List Attr) (a : Attr) (stage : Stage) → EndsValue stage → step (at_value attrs a.name a.value stage) 32 ≡ Some (at_name (attrs ++ a ∷ []) Next)
 blank_step attrs a stage at_equals = refl
@@ -205,21 +227,67 @@ ends_there attrs a stage at_equals = refl
 ends_there attrs a stage in_plain = refl
 ends_there attrs a stage in_closed = refl
 
-all_read : (attrs : List Attr) (stage : Stage) (a : Attr) (others : List Attr) → BeginsName stage → are_named attrs (a ∷ others) ≡ true → finished (scan (at_name attrs stage) (attr_text a ++ flat_map after_blank others)) ≡ Some (attrs ++ a ∷ others)
-all_read attrs stage a [] begins h =
-    let fresh = guard_false (is_known a.name attrs) _ h in
-    let named = guard_true (is_name a.name) _ fresh.1 in
-    ap finished (scan-attr attrs stage a [] begins named.0 fresh.0 ∙ scan_none (at_value attrs a.name a.value (stage_after a.value))) ∙ ends_there attrs a (stage_after a.value) (stage_ends a.value)
-all_read attrs stage a (b ∷ others) begins h =
-    let fresh = guard_false (is_known a.name attrs) _ h in
-    let named = guard_true (is_name a.name) _ fresh.1 in
-    ap finished (
-    scan-attr attrs stage a (flat_map after_blank (b ∷ others)) begins named.0 fresh.0
-    ∙ scan_one (at_value attrs a.name a.value (stage_after a.value)) (at_name (attrs ++ a ∷ []) Next) 32 (attr_text b ++ flat_map after_blank others) (blank_step attrs a (stage_after a.value) (stage_ends a.value))
-    )
-    ∙ all_read (attrs ++ a ∷ []) Next b others at_next named.1
-    ∙ ap (λ (l : List Attr). Some l) (append_assoc attrs (a ∷ []) (b ∷ others))
+-- ---- lines
 
-pub attrs_again : (xs : List Attr) → is_utf8 (attrs_text xs) ≡ true → are_named [] xs ≡ true → attrs_of (attrs_text xs) ≡ Some xs
-attrs_again [] text h = ap (λ (t : Bool). cond t (finished (scan start [])) None) text ∙ ap finished (scan_none start)
-attrs_again (a ∷ others) text h = ap (λ (t : Bool). cond t (finished (scan start (attrs_text (a ∷ others)))) None) text ∙ all_read [] Start a others at_start h
+all_read : (attrs : List Attr) (stage : Stage) (line : List ℕ) (a : Attr) (others : List Attr) → BeginsName stage → IsDistinct bytes_eq (names_of (attrs ++ a ∷ others)) → AreAttrs line (a ∷ others) → finished (scan (at_name attrs stage) line) ≡ Some (attrs ++ a ∷ others)
+all_read attrs stage line a [] begins names is =
+    let one = reads_attr attrs stage a line begins (names_fresh attrs a [] names) is in
+    ap (λ (l : List ℕ). finished (scan (at_name attrs stage) l)) (sym (append-nil line))
+    ∙ ap finished (one.reads [] ∙ scan_none (at_value attrs a.name a.value one.last))
+    ∙ ends_there attrs a one.last one.ends
+all_read attrs stage line a (b ∷ others) begins names is =
+    let one = reads_attr attrs stage a is.0 begins (names_fresh attrs a (b ∷ others) names) is.3 in
+    let same : (attrs ++ a ∷ []) ++ b ∷ others ≡ attrs ++ a ∷ (b ∷ others) = append_assoc attrs (a ∷ []) (b ∷ others) in
+    ap (λ (l : List ℕ). finished (scan (at_name attrs stage) l)) is.2
+    ∙ ap finished (
+    one.reads (32 ∷ is.1)
+    ∙ scan_one (at_value attrs a.name a.value one.last) (at_name (attrs ++ a ∷ []) Next) 32 is.1 (blank_step attrs a one.last one.ends)
+    )
+    ∙ all_read (attrs ++ a ∷ []) Next is.1 b others at_next (subst (λ (l : List Attr). IsDistinct bytes_eq (names_of l)) (sym same) names) is.4
+    ∙ ap (λ (l : List Attr). Some l) same
+
+pub line_read : (line : List ℕ) (attrs : List Attr) → IsAttrsLine line attrs → finished (scan start line) ≡ Some attrs
+line_read line [] is = ap (λ (l : List ℕ). finished (scan start l)) is.attributes ∙ ap finished (scan_none start)
+line_read line (a ∷ others) is = all_read [] Start line a others at_start is.names is.attributes
+
+-- ---- what is written
+
+written_value : (value : List ℕ) → IsValue (value_text value) value
+written_value value = elim (needs_quotes value) as (λ t. needs_quotes value ≡ t → IsValue (cond t (quoted value) value) value) [ true ↦ λ e. inr refl | false ↦ λ e. inl (refl, e) ] refl
+
+written_attr : (a : Attr) → is_name a.name ≡ true → IsAttr (attr_text a) a
+unfolding attr_text
+written_attr a named = (named, value_text a.value, written_value a.value, refl)
+
+-- an attribute that can be written behind others, and what stands behind it
+record Written (before : List Attr) (a : Attr) (after : List Attr) : Type 0 where
+  fresh : is_known a.name before ≡ false
+  named : is_name a.name ≡ true
+  others : are_named (before ++ a ∷ []) after ≡ true
+
+written : (before : List Attr) (a : Attr) (after : List Attr) → are_named before (a ∷ after) ≡ true → Written before a after
+written before a after h =
+    let fresh = guard_false (is_known a.name before) _ h in
+    let named = guard_true (is_name a.name) _ fresh.1 in
+    record { fresh = fresh.0; named = named.0; others = named.1 }
+
+written_attrs : (before : List Attr) (a : Attr) (others : List Attr) → are_named before (a ∷ others) ≡ true → AreAttrs (attrs_text (a ∷ others)) (a ∷ others)
+written_attrs before a [] h = subst (λ (l : List ℕ). IsAttr l a) (sym (append-nil (attr_text a))) (written_attr a (written before a [] h).named)
+written_attrs before a (b ∷ others) h =
+    let one = written before a (b ∷ others) h in
+    (attr_text a, attrs_text (b ∷ others), refl, written_attr a one.named, written_attrs (before ++ a ∷ []) b others one.others)
+
+written_names : (before after : List Attr) → IsDistinct bytes_eq (names_of before) → are_named before after ≡ true → IsDistinct bytes_eq (names_of (before ++ after))
+written_names before [] names h = subst (λ (l : List Attr). IsDistinct bytes_eq (names_of l)) (sym (append-nil before)) names
+written_names before (a ∷ after) names h =
+    let one = written before a after h in
+    subst (λ (l : List Attr). IsDistinct bytes_eq (names_of l)) (append_assoc before (a ∷ []) after)
+    (written_names (before ++ a ∷ []) after (names_more before a names one.fresh) one.others)
+
+pub no_names : IsDistinct bytes_eq (names_of [])
+unfolding IsDistinct
+no_names = tt
+
+pub written_line : (attrs : List Attr) → are_named [] attrs ≡ true → IsAttrsLine (attrs_text attrs) attrs
+written_line [] h = record { attributes = refl; names = no_names }
+written_line (a ∷ others) h = record { attributes = written_attrs [] a others h; names = written_names [] (a ∷ others) no_names h }

@@ -1,4 +1,5 @@
 pub mod Attributes
+pub mod AttrsLines
 pub mod Counts
 pub mod LineKinds
 pub mod Lines

@@ -19,7 +19,8 @@ use Rattle.plumb_msg.specs.declared.message.PlumbMsg.{PlumbMsg}
 use Rattle.plumb_msg.specs.declared.message.PlumbRead.TheVariants as told
 use Rattle.plumb_msg.specs.declared.unread.Unread.{Unread}
 use Rattle.plumb_msg.specs.declared.unread.Unread.TheVariants.{More, Bad}
-use Rattle.plumb_msg.proofs.Attributes.{attrs_again}
+use Rattle.plumb_msg.proofs.Attributes.{written_line}
+use Rattle.plumb_msg.proofs.AttrsLines.{attrs_are_exact}
 use Rattle.plumb_msg.proofs.Counts.{count_kind, count_is, count_again, decimal-clean}
 use Rattle.plumb_msg.proofs.LineKinds.{text_kind, attrs_kind}
 use Rattle.plumb_msg.proofs.Readers.{Read, read_as, refused, read_is, IsReader, reader-done, both, reader-both, reader-bytes, reader-line, line_again, line_is}
@@ -143,6 +144,7 @@ msg_spells bs m rest e =
     let wdir = text_is b.0.1 c.0 c.1 in
     let sort = text_is c.0.1 d.0 d.1 in
     let attrs = line_is attrs_of is_attrs_front attrs_kind d.0.1 f.0.0 f.0.1 f.1 in
+    let attrs_line = (attrs_are_exact attrs.text f.0.0).0 attrs.value in
     let body = body_is f.0.1 g.0 g.1 in
     let made = message a.0.0 b.0.0 c.0.0 d.0.0 f.0.0 g.0.0 in
     let lines : bs ≡ then_line made.src (then_line made.dst (then_line made.wdir (then_line made.sort (then_line attrs.text (then_line (decimal (length made.body)) (made.body ++ g.0.1)))))) =
@@ -161,19 +163,12 @@ msg_spells bs m rest e =
         wdir = wdir.one_line;
         sort = sort.one_line;
         attributes = attrs.text;
-        one_line = attrs_line attrs.text f.0.0 attrs.clean attrs.value;
-        attrs = attrs.value;
+        one_line = ap (λ (t : Bool). cond t false (is_utf8 attrs.text)) attrs.clean ∙ attrs_line.0;
+        attrs = attrs_line.1;
         small = body.small;
         spelled = refl;
       };
     })
-  where
-    attrs_line : (text : List ℕ) (a : List Attr) → has_newline text ≡ false → attrs_of text ≡ Some a → is_line text ≡ true
-    attrs_line text a clean e = ap (λ (t : Bool). cond t false (is_utf8 text)) clean ∙ utf8_of (is_utf8 text) _ e
-      where
-        utf8_of : (t : Bool) (o : Option (List Attr)) → cond t o None ≡ Some a → t ≡ true
-        utf8_of true o e = refl
-        utf8_of false o e = absurd cc
 
 -- ---- a message is read
 
@@ -205,7 +200,8 @@ msg_again front m rest is =
     let l4 = then_line m.sort l5 in
     let l3 = then_line m.wdir l4 in
     let l2 = then_line m.dst l3 in
-    let attrs = line_again attrs_of is_attrs_front attrs_kind is.attributes l6 m.attrs (line_parts is.attributes is.one_line).0 is.attrs in
+    let attributes = line_parts is.attributes is.one_line in
+    let attrs = line_again attrs_of is_attrs_front attrs_kind is.attributes l6 m.attrs attributes.0 ((attrs_are_exact is.attributes m.attrs).1 (attributes.1, is.attrs)) in
     ap msg_at (ap (λ (l : List ℕ). l ++ rest) is.spelled ∙ bytes-lines m is.attributes rest)
     ∙ ap (λ (r : Read (List ℕ)). r >>= λ x. after_src x.0 x.1) (text_again m.src l2 is.src)
     ∙ ap (λ (r : Read (List ℕ)). r >>= λ x. after_dst m.src x.0 x.1) (text_again m.dst l3 is.dst)
@@ -259,7 +255,7 @@ read_again m rest h =
       sort = s.1;
       attributes = attrs_text m.attrs;
       one_line = a.1;
-      attrs = attrs_again m.attrs (line_parts (attrs_text m.attrs) a.1).1 n.1;
+      attrs = written_line m.attrs n.1;
       small = leb-true (length m.body) 1048576 p.1;
       spelled = refl;
     } in

@@ -1,6 +1,6 @@
--- Names in byte order, and attributes with their names apart.
-use Rattle.std.proofs.Common.{◌≡◌, ℕ, ◌+◌, ◌<◌, ◌||◌, Bool, true, false, List, [], ◌∷◌, ◌++◌, length, get_or, take, map, refl, ap, sym, ◌∙◌}
-use Rattle.std.specs.List.{list_any}
+-- Names in byte order, attributes with their names apart, and names that differ.
+use Rattle.std.proofs.Common.{◌≡◌, ℕ, ◌+◌, ◌<◌, ◌||◌, Bool, true, false, List, [], ◌∷◌, ◌++◌, length, get_or, take, map, refl, ap, sym, subst, ◌∙◌}
+use Rattle.std.specs.List.{list_any, IsDistinct, AllByRecursion}
 use Rattle.std.specs.Str.{bytes_eq}
 use Rattle.std.specs.declared.cmp.Ordering.{Ordering}
 use Rattle.std.specs.declared.cmp.Ordering.TheVariants.{Less, Equal, Greater}
@@ -10,8 +10,11 @@ use Rattle.std.specs.Cmp.Lexicographic.{slice_cmp, on_texts_equal}
 use Rattle.std.specs.BTreeMap.{is_at}
 use Rattle.std.specs.BTreeSet.{insert_key}
 use Rattle.std.proofs.Math.Bool.{or-false}
+use Rattle.std.proofs.lemmas.List.{map-append}
+use Rattle.std.proofs.lemmas.Map.Keys.{IsDistinct-push}
 use Rattle.std.proofs.lemmas.Map.Text.{is_eq-slice_cmp}
 use Rattle.std.proofs.lemmas.List.Folds.{list_any-append, list_any_more}
+use Rattle.plumb_msg.specs.Grammar.{names_of}
 use Rattle.plumb_msg.specs.Names.{is_known, is_among}
 use Rattle.plumb_msg.specs.declared.message.Attr.{Attr}
 
@@ -76,3 +79,27 @@ theirs_more old new attrs i a less h put name =
     ∙ sym (list_any_more (λ (x : Attr). bytes_eq x.name name) attrs i a less)
 
 pub ruleset naming = (theirs_one, theirs_more)
+
+-- ---- names that differ
+
+known_name : (name : List ℕ) (attrs : List Attr) → list_any (bytes_eq name) (names_of attrs) ≡ is_known name attrs
+known_name name [] = refl
+known_name name (a ∷ attrs) =
+    ap (λ (b : Bool). b || list_any (bytes_eq name) (names_of attrs)) (equal_bytes.symm name a.name)
+    ∙ ap (λ (b : Bool). bytes_eq a.name name || b) (known_name name attrs)
+
+-- one attribute more, whose name none before it has
+pub names_more : (attrs : List Attr) (a : Attr) → IsDistinct bytes_eq (names_of attrs) → is_known a.name attrs ≡ false → IsDistinct bytes_eq (names_of (attrs ++ a ∷ []))
+names_more attrs a h fresh =
+    subst (IsDistinct bytes_eq) (sym (map-append (λ (x : Attr). x.name) attrs (a ∷ [])))
+    (IsDistinct-push equal_bytes (names_of attrs) a.name h (known_name a.name attrs ∙ fresh))
+
+apart_there : (name : List ℕ) (before : List Attr) (a : Attr) (after : List Attr) → AllByRecursion (λ other. bytes_eq name other ≡ false) (names_of (before ++ a ∷ after)) → bytes_eq name a.name ≡ false
+apart_there name [] a after h = h.0
+apart_there name (x ∷ before) a after h = apart_there name before a after h.1
+
+-- none of those before it has the name
+pub names_fresh : (before : List Attr) (a : Attr) (after : List Attr) → IsDistinct bytes_eq (names_of (before ++ a ∷ after)) → is_known a.name before ≡ false
+unfolding IsDistinct
+names_fresh [] a after h = refl
+names_fresh (x ∷ before) a after h = ap (λ (b : Bool). b || is_known a.name before) (apart_there x.name before a after h.0) ∙ names_fresh before a after h.1

@@ -1,9 +1,37 @@
--- The grammar of messages, apart from both directions.
-use Rattle.std.specs.Prelude.{◌≡◌, ◌<◌, ◌≤◌, ℕ, true, List, ◌++◌, length, take, Some}
+-- The grammar of messages and of lines of attributes, apart from how they are read.
+use Rattle.std.specs.Prelude.{◌≡◌, ◌⊎◌, ◌<◌, ◌≤◌, ℕ, true, false, List, [], ◌∷◌, ◌++◌, length, map, take}
+use Rattle.std.specs.List.{IsDistinct}
+use Rattle.std.specs.Str.{bytes_eq}
 use Rattle.plumb_msg.specs.Texts.{is_line}
-use Rattle.plumb_msg.specs.Attributes.{attrs_of}
-use Rattle.plumb_msg.specs.Spelling.{msg_bytes}
+use Rattle.plumb_msg.specs.Spelling.{needs_quotes, quoted, is_name, msg_bytes}
+use Rattle.plumb_msg.specs.declared.message.Attr.{Attr}
 use Rattle.plumb_msg.specs.declared.message.PlumbMsg.{PlumbMsg}
+
+-- ---- lines of attributes
+
+-- a value as it stands, with no blank, tab, quote or `=` in it, or in quotes, with each quote of it twice
+abbrev pub IsValue : List ℕ → List ℕ → Type 0
+IsValue text value = ((text ≡ value) × (needs_quotes value ≡ false)) ⊎ (text ≡ quoted value)
+
+-- a name, `=` and a value
+abbrev pub IsAttr : List ℕ → Attr → Type 0
+IsAttr text a = (is_name a.name ≡ true) × (value : List ℕ) × IsValue value a.value × (text ≡ a.name ++ 61 ∷ value)
+
+-- attributes with single blanks between, and none where nothing stands
+abbrev pub AreAttrs : List ℕ → List Attr → Type 0
+AreAttrs line [] = line ≡ []
+AreAttrs line (a ∷ []) = IsAttr line a
+AreAttrs line (a ∷ b ∷ others) = (text rest : List ℕ) × (line ≡ text ++ 32 ∷ rest) × IsAttr text a × AreAttrs rest (b ∷ others)
+
+abbrev pub names_of : List Attr → List (List ℕ)
+names_of attrs = map (λ a. a.name) attrs
+
+-- The line is these attributes, and their names differ. That it is UTF-8 in one line is asked apart.
+pub record IsAttrsLine (line : List ℕ) (attrs : List Attr) : Type 0 where
+  pub attributes : AreAttrs line attrs
+  pub names : IsDistinct bytes_eq (names_of attrs)
+
+-- ---- messages
 
 -- The bytes are this message: five lines of text, the number of the data in a line, and the data.
 pub record IsMessage (bytes : List ℕ) (m : PlumbMsg) : Type 0 where
@@ -14,7 +42,7 @@ pub record IsMessage (bytes : List ℕ) (m : PlumbMsg) : Type 0 where
   -- the line of attributes; a value may stand in quotes or not, so a message may have several
   pub attributes : List ℕ
   pub one_line : is_line attributes ≡ true
-  pub attrs : attrs_of attributes ≡ Some m.attrs
+  pub attrs : IsAttrsLine attributes m.attrs
   pub small : length m.body ≤ 1048576
   pub spelled : bytes ≡ msg_bytes m attributes
 

@@ -1,8 +1,11 @@
 -- Laws of reading and writing.
-use Rattle.std.specs.Prelude.{◌≡◌, ◌↔◌, ℕ, true, List, ◌++◌, length}
+use Rattle.std.specs.Prelude.{◌≡◌, ◌↔◌, ℕ, true, List, ◌++◌, length, Some}
+use Rattle.std.specs.Str.{is_utf8}
+use Rattle.plumb_msg.specs.Attributes.{attrs_of}
 use Rattle.plumb_msg.specs.Reading.{read_of}
 use Rattle.plumb_msg.specs.Spelling.{can_spell, msg_text}
-use Rattle.plumb_msg.specs.Grammar.{IsMessage, Begins, IsProperFront}
+use Rattle.plumb_msg.specs.Grammar.{IsAttrsLine, IsMessage, Begins, IsProperFront}
+use Rattle.plumb_msg.specs.declared.message.Attr.{Attr}
 use Rattle.plumb_msg.specs.declared.message.PlumbMsg.{PlumbMsg}
 use Rattle.plumb_msg.specs.declared.message.PlumbRead.TheVariants.{Whole, More, Bad}
 
@@ -28,3 +31,11 @@ MoreIsExact = (bytes : List ℕ) → (read_of bytes ≡ More) ↔ IsProperFront 
 -- The bytes are bad exactly where they don't begin with a message and no bytes after them make them one.
 abbrev pub BadIsExact : Type 0
 BadIsExact = (bytes : List ℕ) → (read_of bytes ≡ Bad) ↔ (((m : PlumbMsg) (used : ℕ) → Begins bytes m used → ⊥) × ((more : List ℕ) (m : PlumbMsg) → IsMessage (bytes ++ more) m → ⊥))
+
+-- A line that is UTF-8 is read as the attributes that it is, and no other line is read.
+abbrev pub AttrsAreExact : Type 0
+AttrsAreExact = (line : List ℕ) (attrs : List Attr) → (attrs_of line ≡ Some attrs) ↔ ((is_utf8 line ≡ true) × IsAttrsLine line attrs)
+
+-- A line is one list of attributes at most.
+abbrev pub LineIsOneList : Type 0
+LineIsOneList = (line : List ℕ) (attrs others : List Attr) → IsAttrsLine line attrs → IsAttrsLine line others → attrs ≡ others

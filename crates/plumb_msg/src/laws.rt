@@ -1,6 +1,6 @@
 //! Laws of reading and writing. Each function has laws as its contract, and does nothing.
 
-ghost use Rattle.plumb_msg.specs.Laws.{ReadAgain, WholeStays, BadStays, WholeIsExact, MoreIsExact, BadIsExact};
+ghost use Rattle.plumb_msg.specs.Laws.{ReadAgain, WholeStays, BadStays, WholeIsExact, MoreIsExact, BadIsExact, AttrsAreExact, LineIsOneList};
 
 /// What is written is read again, whatever follows it.
 pub fn messages_are_read_again()
@@ -18,4 +18,10 @@ pub fn answers_are_exact()
     ensures whole { WholeIsExact }
     ensures more { MoreIsExact }
     ensures bad { BadIsExact }
+{}
+
+/// The attributes of a line, by the grammar of lines of attributes.
+pub fn attribute_lines_are_their_grammar()
+    ensures exact { AttrsAreExact }
+    ensures one { LineIsOneList }
 {}

@@ -10,7 +10,9 @@ mod texts;
 mod unread;
 mod writing;
 
-pub use laws::{answers_are_exact, messages_are_read_again, reading_goes_on};
+pub use laws::{
+    answers_are_exact, attribute_lines_are_their_grammar, messages_are_read_again, reading_goes_on,
+};
 pub use message::{Attr, Attrs, PlumbMsg, PlumbRead};
 pub use reading::read_msg;
 pub use scanning::read_attrs;

@@ -55,13 +55,14 @@ fn answers(rt: HostRuntime) -> Result<(), Fail> {
     Ok(())
 }
 
-const BAD: [&[u8]; 9] = [
+const BAD: [&[u8]; 10] = [
     b"\xFF",
     b"\xC3\n",
     b"\n\n\n\na=1 a=",
     b"\n\n\n\na=1  ",
     b"\n\n\n\n=",
     b"\n\n\n\na=b'",
+    b"\n\n\n\na='b'c",
     b"\n\n\n\na=1 \n",
     b"\n\n\n\n\n01",
     b"\n\n\n\n\n1048577",
