@@ -6,3 +6,5 @@ pub mod Flat
 pub mod Rows
 pub mod Places
 pub mod Rules
+pub mod Written
+pub mod Reached

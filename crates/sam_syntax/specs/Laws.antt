@@ -1,11 +1,29 @@
 -- Laws over the grammar of commands.
-use Rattle.std.specs.Prelude.{◌≡◌, true, List, [], ◌∷◌, ◌++◌, Some}
+use Rattle.std.specs.Prelude.{◌≡◌, ◌↔◌, ℕ, true, List, [], ◌∷◌, ◌++◌, Some}
 use Rattle.re_syntax.specs.Tree as expression
 use Rattle.addr_syntax.specs.Tree.{Missing}
 use Rattle.edit_parts.specs.Tree as tree
 use Rattle.edit_parts.specs.Tree.{Loop, Command, Print, Block}
 use Rattle.edit_parts.specs.Pieces.{Piece, EndsLine, Loops, Opens, Closes}
 use Rattle.sam_syntax.specs.Joined.{Line, Opened, Looping, Addressed, Ended, Reading, begin, is_done, command_of, commands_of, whole, joined_on}
+use Rattle.sam_syntax.specs.Grammar.{BeginsWith, IsEdit}
+use Rattle.sam_syntax.specs.Written.{Writes}
+
+-- a row of pieces is joined to this command
+abbrev pub IsJoined : List Piece → Command → Type 0
+IsJoined ps c = (r : Reading) × (joined_on (Some begin) ps ≡ Some r) × (is_done r ≡ true) × (c ≡ whole r)
+
+-- the pieces of a text are joined to a command exactly where their row writes it
+abbrev pub JoinsAsWritten : Type 0
+JoinsAsWritten = (text : List ℕ) (ps : List Piece) (c : Command) → BeginsWith ps text [] → IsJoined ps c ↔ Writes ps c
+
+-- the pieces of the text write the command
+abbrev pub IsWritten : List ℕ → Command → Type 0
+IsWritten text c = (ps : List Piece) × BeginsWith ps text [] × Writes ps c
+
+-- a text is a command exactly where its pieces write it
+abbrev pub EditsAreWritten : Type 0
+EditsAreWritten = (text : List ℕ) (c : Command) → IsEdit text c ↔ IsWritten text c
 
 -- what a loop does behind which this stands: `p` where nothing does
 abbrev pub body_of : Line → Command

@@ -1,6 +1,7 @@
 pub mod Limits
 pub mod Joined
 pub mod Grammar
+pub mod Written
 pub mod Depth
 pub mod Position
 pub mod Read

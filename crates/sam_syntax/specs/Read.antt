@@ -2,6 +2,8 @@
 use Rattle.std.specs.Prelude.{◌≡◌, ℕ, Bool, true, false, map, Option, Some, None}
 use Rattle.re_syntax.specs.Tree as expression
 use Rattle.addr_syntax.specs.Tree as address
+use Rattle.addr_syntax.specs.declared.address.Limited.{Limited}
+use Rattle.addr_syntax.specs.declared.address.Limited.TheVariants as limited
 use Rattle.addr_syntax.specs.declared.address.SynFault.{SynFault}
 use Rattle.addr_syntax.specs.declared.address.SynFault.TheVariants as fault
 use Rattle.edit_parts.specs.Tree.{command}
@@ -64,6 +66,12 @@ Joins old p next (Some new) = (r : Reading) → Follows old r → GoesTo r p nex
 abbrev pub kept : Option sheet.Sheet → Option Progress
 kept None = None
 kept (Some s) = Some (Whole s)
+
+-- it is told that an expression has more than 2,048 nodes
+abbrev pub is_told_large : {T : Type 0} → Limited T → Bool
+is_told_large (limited.Whole built) = false
+is_told_large limited.Deep = false
+is_told_large limited.Large = true
 
 -- an expression of the piece has more than 2,048 nodes
 abbrev pub piece_large : Piece → Bool

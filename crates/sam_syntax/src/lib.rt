@@ -9,7 +9,8 @@ mod reading;
 pub use addr_syntax::parse_addr;
 pub use edit_parts::{Act, Addr, Cmd, Cmds, SynFault};
 pub use parser::{
-    a_block_holds_its_lines, a_loop_takes_the_rest, an_edit_has_one_tree, parse_edit,
+    a_block_holds_its_lines, a_loop_takes_the_rest, an_edit_has_one_tree, an_edit_is_as_written,
+    parse_edit,
 };
 
 #[cfg(test)]

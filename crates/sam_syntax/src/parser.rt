@@ -6,7 +6,7 @@ ghost use Rattle.sam_syntax.specs.Joined.{Reading};
 ghost use Rattle.sam_syntax.specs.Grammar.{IsEdit};
 ghost use Rattle.sam_syntax.specs.Answer.{IsInLimits, Refuses, Reaches};
 ghost use Rattle.sam_syntax.specs.Read.{Follows};
-ghost use Rattle.sam_syntax.specs.Laws.{LoopsTakeTheRest, BlocksHoldTheirLines};
+ghost use Rattle.sam_syntax.specs.Laws.{JoinsAsWritten, EditsAreWritten, LoopsTakeTheRest, BlocksHoldTheirLines};
 
 use crate::position::passed;
 use crate::progress::{self, Progress, join, position_of};
@@ -39,6 +39,7 @@ fn step(
     };
     match join(alloc, progress, token, next)? {
         Some(more) => Ok((more, end)),
+        // never reached: `passed` has refused each piece that can't be joined
         None => Err(SynFault::Bad(at)),
     }
 }
@@ -67,6 +68,12 @@ pub fn parse_edit(alloc: Global, text: &[Rune]) -> Result<Cmd, SynFault>
 /// A text has one command at most.
 pub fn an_edit_has_one_tree()
     ensures { (text : List ℕ) (a b : Command) → IsEdit text a → IsEdit text b → a ≡ b }
+{}
+
+/// The pieces of a text are joined to a command exactly where the grammar writes the command with them.
+pub fn an_edit_is_as_written()
+    ensures pieces { JoinsAsWritten }
+    ensures text { EditsAreWritten }
 {}
 
 /// A loop does all that stands behind it.

@@ -6,14 +6,14 @@ ghost use Rattle.addr_syntax.specs.Tree as address;
 ghost use Rattle.addr_syntax.specs.Answer.{IsLimited};
 ghost use Rattle.edit_parts.specs.Tree.{Action, command};
 ghost use Rattle.edit_parts.specs.Kinds.{loop_of};
-ghost use Rattle.edit_parts.specs.Limits.{is_large, is_large_expression};
+ghost use Rattle.edit_parts.specs.Limits.{is_large_expression};
 ghost use Rattle.edit_parts.specs.Pieces as piece;
 ghost use Rattle.edit_parts.specs.Pieces.{Piece, At, Opens, Does};
 ghost use Rattle.edit_parts.specs.Answer.{IsToken, IsBuiltExpression, IsBuiltAction};
 ghost use Rattle.sam_syntax.specs.Limits.{levels};
 ghost use Rattle.sam_syntax.specs.Joined.{Reading, begin, is_done, whole};
 ghost use Rattle.sam_syntax.specs.Position.{place_of, position_of};
-ghost use Rattle.sam_syntax.specs.Read.{line_is, Follows, GoesTo, Joins, kept, piece_large, piece_levels, PastFails, FinishFails};
+ghost use Rattle.sam_syntax.specs.Read.{line_is, Follows, GoesTo, Joins, kept, is_told_large, piece_large, piece_levels, PastFails, FinishFails};
 ghost use Rattle.sam_syntax.specs.Answer.{IsInLimits};
 
 use crate::position::{Place, Position, is_end};
@@ -74,7 +74,7 @@ pub fn position_of(progress: &Progress) -> Position
     }
 }
 
-// Past a limit all that is built is let go.
+// Past a limit all that is built is let go. A call does it, so that the check of this function doesn't go into the tree's type.
 fn past(sheet: Sheet, next: Position, limit: Limit) -> Option<Progress>
     ensures { result ≡ Some (Progress.Past next limit) }
 {
@@ -87,6 +87,7 @@ fn kept(sheet: Option<Sheet>) -> Option<Progress>
 {
     match sheet {
         Some(sheet) => Some(Progress::Whole(sheet)),
+        // never reached (reading.rt)
         None => None,
     }
 }
@@ -174,18 +175,9 @@ fn with_token(
     }
 }
 
-fn is_large_address(built: &Limited<Addr>) -> bool
-    ensures { (a : address.Tree) → IsLimited built.now a → result ≡ address.is_large a }
-{
-    match built {
-        Limited::Whole(_) => false,
-        Limited::Deep => false,
-        Limited::Large => true,
-    }
-}
-
-fn is_large_action(built: &Limited<Act>) -> bool
-    ensures { (act : Action) → IsBuiltAction built.now act → result ≡ is_large act }
+// Whether an expression of what is read has too many nodes.
+fn is_told_large<T>(built: &Limited<T>) -> bool
+    ensures { result ≡ is_told_large built.now }
 {
     match built {
         Limited::Whole(_) => false,
@@ -208,9 +200,9 @@ fn is_large(token: &Token) -> bool
     ensures { (p : Piece) → IsToken token.now p → result ≡ piece_large p }
 {
     match token {
-        Token::At(built) => is_large_address(built),
+        Token::At(built) => is_told_large(built),
         Token::Loops(_, built) => is_large_expression(built),
-        Token::Does(built) => is_large_action(built),
+        Token::Does(built) => is_told_large(built),
         Token::Blank => false,
         Token::EndsLine => false,
         Token::Opens => false,
@@ -224,7 +216,7 @@ fn worse(limit: Limit, large: bool) -> Limit
     if large { Limit::Large } else { limit }
 }
 
-// Past a limit, a token is let go.
+// Past a limit, a token is let go, by a call as in `past`.
 fn past_on(limit: Limit, token: Token, next: Position) -> Progress
     ensures { (p : Piece) → IsToken token p → result ≡ Progress.Past next (if piece_large p then Limit.Large else limit) }
 {
@@ -233,7 +225,8 @@ fn past_on(limit: Limit, token: Token, next: Position) -> Progress
     Progress::Past(next, worse(limit, large))
 }
 
-/// What is read with one token more, behind which the reader is at the position; `None` where no command goes on so.
+/// What is read with one token more, behind which the reader is at the position; `None` where no command goes on so, which
+/// `passed` tells before.
 pub fn join(
     alloc: Global,
     progress: Progress,
@@ -267,7 +260,7 @@ fn whole(alloc: Global, progress: Progress) -> Result<Cmd, SynFault>
     }
 }
 
-// All that is read is let go.
+// All that is read is let go, by a call as in `past`.
 fn short(progress: Progress, end: usize) -> Result<Cmd, SynFault>
     ensures { result ≡ Err (SynFault.Bad end) }
 {

@@ -1,4 +1,6 @@
 //! Joins the pieces of commands to their tree.
+//!
+//! `None` says that no command goes on so. The parser never meets it, since it asks `position::passed` before.
 
 ghost use Rattle.std.specs.Prelude.{◌≡◌, ◌<◌, ◌↔◌, IsTrue, [], length, map, Some, None, IfOk, IfSome, IfNone};
 ghost use Rattle.re_syntax.specs.Tree as expression;
@@ -96,7 +98,7 @@ fn alone(act: Act) -> Cmd
     Cmd { addr: None, act }
 }
 
-// The command is let go.
+// The command is let go. A call does it, so that the check of this function doesn't go into the tree's type.
 fn no_start(cmd: Cmd) -> Option<Start>
     ensures { result ≡ None }
 {
@@ -115,6 +117,7 @@ fn start_of(line: Line) -> Option<Start>
             heads,
             addr: Some(addr),
         }),
+        // never reached, as all that lead to `None` here
         Line::Opened => None,
         Line::Ended(cmd) => no_start(cmd),
     }
@@ -133,11 +136,11 @@ fn command_of(alloc: Global, line: Line) -> Result<Cmd, NoMemory>
                 in_loops(alloc, heads, alone(Act::Print))
             }
         }
-        Line::Addressed(heads, addr) => in_loops(
+        Line::Addressed(heads, at) => in_loops(
             alloc,
             heads,
             Cmd {
-                addr: Some(addr),
+                addr: Some(at),
                 act: Act::Nothing,
             },
         ),
@@ -190,7 +193,7 @@ fn block_of(alloc: Global, block: OpenBlock) -> Result<Cmd, NoMemory>
     )
 }
 
-// The line and the address are let go.
+// The line and the address are let go, by calls as in `no_start`.
 fn no_sheet(line: Line, addr: Addr) -> Option<Sheet>
     ensures { result ≡ None }
 {
@@ -215,6 +218,7 @@ pub fn join_address(sheet: Sheet, addr: Addr) -> Option<Sheet>
             line: Line::Addressed(heads, addr),
             depth,
         }),
+        // never reached
         Line::Opened => no_sheet(Line::Opened, addr),
         Line::Addressed(heads, other) => no_sheet(Line::Addressed(heads, other), addr),
         Line::Ended(cmd) => no_sheet(Line::Ended(cmd), addr),
@@ -233,6 +237,7 @@ pub fn join_loop(sheet: Sheet, kind: Loop, re: Re) -> Result<Option<Sheet>, NoMe
         depth,
     } = sheet;
     let Some(Start { mut heads, addr }) = start_of(line) else {
+        // never reached
         return Ok(None);
     };
     heads.push_front(Head { addr, kind, re })?;
@@ -254,6 +259,7 @@ pub fn join_action(alloc: Global, sheet: Sheet, act: Act) -> Result<Option<Sheet
         depth,
     } = sheet;
     let Some(Start { heads, addr }) = start_of(line) else {
+        // never reached
         drop(act);
         return Ok(None);
     };
@@ -278,6 +284,7 @@ pub fn open_block(alloc: Global, sheet: Sheet) -> Result<Option<Sheet>, NoMemory
         depth,
     } = sheet;
     let Some(Start { heads, addr }) = start_of(line) else {
+        // never reached
         return Ok(None);
     };
     blocks.push_front(OpenBlock {
@@ -314,6 +321,7 @@ pub fn end_line(alloc: Global, sheet: Sheet) -> Result<Option<Sheet>, NoMemory>
         depth,
     } = sheet;
     let Some(block) = blocks.pop_front() else {
+        // never reached
         drop(line);
         return Ok(None);
     };
@@ -345,6 +353,7 @@ pub fn close_block(alloc: Global, sheet: Sheet) -> Result<Option<Sheet>, NoMemor
         line,
         depth,
     } = sheet;
+    // neither `None` is ever reached
     let Some(block) = blocks.pop_front() else {
         return Ok(None);
     };
