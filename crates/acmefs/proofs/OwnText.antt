@@ -7,7 +7,8 @@ use Rattle.acmefs.specs.declared.replay.End.{End}
 use Rattle.acmefs.specs.declared.replay.End.TheVariants as ends
 use Rattle.acmefs.specs.Scripts as scripts
 use Rattle.acmefs.specs.Scripts.{ended, text_of}
-use Rattle.acmefs.specs.Written.{Output, IsWhole, IsCut, IsFront}
+use Rattle.am_base.specs.Written.{Output, IsWhole, IsCut}
+use Rattle.acmefs.specs.Written.{IsFront}
 use Rattle.acmefs.specs.Ends.{Ran, Says, ProgramSays}
 use Rattle.acmefs.specs.Own.{told_text, PutsOwn}
 use Rattle.std.proofs.Math.Seq.{take-length}

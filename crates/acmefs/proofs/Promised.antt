@@ -7,7 +7,7 @@ use Rattle.acmefs.specs.declared.replay.End.{End}
 use Rattle.acmefs.specs.declared.replay.End.TheVariants.{Done, Usage, Script, ReadFault, WriteFault, NoMemory}
 use Rattle.acmefs.specs.Scripts.{script_of}
 use Rattle.acmefs.specs.Scripts as scripts
-use Rattle.acmefs.specs.Written.{Output}
+use Rattle.am_base.specs.Written.{Output}
 use Rattle.acmefs.specs.Ends.{Ran, RanTold, Replays, ProgramSays, IsIdle, IsComplete, code_of}
 
 told_ran : (end : End) (told : Option (List ℕ)) (o : Output) (journal : List Event) → Replays end told o journal → RanTold end told o journal

@@ -11,8 +11,10 @@ use Rattle.acmefs.specs.declared.replay.End.TheVariants as ends
 use Rattle.acmefs.specs.declared.script.Stop.{Stop}
 use Rattle.acmefs.specs.declared.script.Stop.TheVariants as stop
 use Rattle.acmefs.specs.declared.script.Did.TheVariants as did
-use Rattle.acmefs.specs.Scripts.{Script, ended, refused_at, play, script_of, replied, replied_from, end_of, text_of, input_limit, reply_lines}
-use Rattle.acmefs.specs.Written.{Output, IsWhole, IsCut, Wrote, IsFront, IsCaughtUp}
+use Rattle.acmefs.specs.Scripts.{Script, ended, refused_at, play, script_of, replied, replied_from, end_of, text_of, reply_lines}
+use Rattle.am_base.specs.Stops.{input_limit}
+use Rattle.am_base.specs.Written.{Output, IsWhole, IsCut}
+use Rattle.acmefs.specs.Written.{Wrote, IsFront, IsCaughtUp}
 use Rattle.acmefs.specs.Playing.{Put, Stops, Shows, EndText, end_at, fault_word, line_script, DidLine}
 use Rattle.acmefs.specs.Ends.{Ran, RanOut, Says}
 use Rattle.acmefs.proofs.Wrote.{wrote_on, wrote_none}

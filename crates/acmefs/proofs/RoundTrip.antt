@@ -15,8 +15,9 @@ use Rattle.acme_core.specs.Run.{enabled}
 use Rattle.acme_core.specs.Views.{view_of}
 use Rattle.acmefs.specs.declared.replay.End.{End}
 use Rattle.acmefs.specs.declared.replay.End.TheVariants as ends
-use Rattle.acmefs.specs.Scripts.{Script, ended, refused_at, play, play_line, play_event, script_of, text_of, input_limit}
-use Rattle.acmefs.specs.Written.{Output}
+use Rattle.acmefs.specs.Scripts.{Script, ended, refused_at, play, play_line, play_event, script_of, text_of}
+use Rattle.am_base.specs.Stops.{input_limit}
+use Rattle.am_base.specs.Written.{Output}
 use Rattle.acmefs.specs.Ends.{Ran, Says, ProgramSays}
 use Rattle.acmefs.specs.Own.{transcript_of, RoundTrips}
 use Rattle.acmefs.proofs.Ran.{short_script}

@@ -19,7 +19,7 @@ use Rattle.acmefs.specs.declared.replay.End.TheVariants as replay
 use Rattle.acmefs.specs.Ends.{serve_code, Says, ProgramSays}
 use Rattle.std.specs.Str.{IsUtf8}
 use Rattle.acmefs.specs.Words.{are_replay, asks_serve, AreKnown}
-use Rattle.acmefs.specs.Written.{Output}
+use Rattle.am_base.specs.Written.{Output}
 
 -- no end of serving has status 1
 pub never_usage : (e : ServeEnd) → serve_code e ≡ 1 → ⊥

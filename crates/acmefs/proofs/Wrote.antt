@@ -2,7 +2,8 @@
 use Rattle.std.proofs.Common.{◌≡◌, inl, inr, ℕ, ◌+◌, ◌≤◌, Bool, true, false, List, [], ◌∷◌, ◌++◌, length, take, suc, zero, Option, Some, None, refl, sym, ap, subst, ◌∙◌, append_assoc, arith}
 use Rattle.std.proofs.lemmas.List.{append-nil, length-append}
 use Rattle.am_base.specs.Outside.{told_then, HasRisen}
-use Rattle.acmefs.specs.Written.{Output, Wrote}
+use Rattle.am_base.specs.Written.{Output}
+use Rattle.acmefs.specs.Written.{Wrote}
 use Rattle.acmefs.specs.Playing.{Put}
 
 told_then-then : (o : Option (List ℕ)) (a b : List ℕ) → told_then (told_then o a) b ≡ told_then o (a ++ b)

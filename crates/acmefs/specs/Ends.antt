@@ -1,6 +1,7 @@
 -- How a replay ends.
 use Rattle.std.specs.Prelude.{◌≡◌, ◌⊎◌, ℕ, List, [], Bool, true, false, Option, Some, None, IfSome}
 use Rattle.am_base.specs.Outside.{AreTold, HasRisen}
+use Rattle.am_base.specs.Written.{Output, IsWhole, IsCut}
 use Rattle.am_journal.specs.declared.event.Event.{Event}
 use Rattle.am_server.specs.declared.writing.ServeEnd.{ServeEnd}
 use Rattle.am_server.specs.declared.writing.ServeEnd.TheVariants as serving
@@ -8,7 +9,7 @@ use Rattle.acmefs.specs.declared.replay.End.{End}
 use Rattle.acmefs.specs.declared.replay.End.TheVariants.{Done, Usage, Script, ReadFault, WriteFault, NoMemory}
 use Rattle.acmefs.specs.Scripts as scripts
 use Rattle.acmefs.specs.Scripts.{script_of, text_of}
-use Rattle.acmefs.specs.Written.{Output, IsWhole, IsCut, IsFront, IsCaughtUp}
+use Rattle.acmefs.specs.Written.{IsFront, IsCaughtUp}
 
 -- the exit status
 abbrev pub code_of : End → ℕ

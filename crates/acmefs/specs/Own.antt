@@ -1,14 +1,15 @@
 -- A journal's own text, and a journal as a transcript.
 use Rattle.std.specs.Prelude.{◌≡◌, ◌⊎◌, ℕ, ◌≤◌, List, ◌++◌, length}
 use Rattle.am_base.specs.Outside.{PutsFront}
+use Rattle.am_base.specs.Stops.{input_limit}
+use Rattle.am_base.specs.Written.{Output, IsWhole, IsCut}
 use Rattle.am_journal.specs.declared.event.Event.{Event}
 use Rattle.am_journal.specs.Journal.{journal_text}
 use Rattle.am_journal.specs.Report.{report_text}
 use Rattle.acme_core.specs.Views.{view_of}
 use Rattle.acmefs.specs.declared.replay.End.{End}
 use Rattle.acmefs.specs.declared.replay.End.TheVariants.{Done, Usage, Script, ReadFault, WriteFault, NoMemory}
-use Rattle.acmefs.specs.Scripts.{Refusal, ended, refused_at, input_limit, script_of, replied, text_of}
-use Rattle.acmefs.specs.Written.{Output, IsWhole, IsCut}
+use Rattle.acmefs.specs.Scripts.{Refusal, ended, refused_at, script_of, replied, text_of}
 use Rattle.acmefs.specs.Ends.{IsIdle}
 
 -- the lines of the journal's replies, and then the report of its run

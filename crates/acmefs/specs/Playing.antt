@@ -13,7 +13,8 @@ use Rattle.acmefs.specs.declared.script.Stop.TheVariants as stop
 use Rattle.acmefs.specs.declared.replay.End.{End}
 use Rattle.acmefs.specs.declared.replay.End.TheVariants as ends
 use Rattle.acmefs.specs.Scripts.{Script, ended, refused_at, play_line, end_of}
-use Rattle.acmefs.specs.Written.{Output, Wrote, IsFront, IsCaughtUp}
+use Rattle.am_base.specs.Written.{Output}
+use Rattle.acmefs.specs.Written.{Wrote, IsFront, IsCaughtUp}
 
 -- the word for a refused line
 abbrev pub fault_word : Fault → List ℕ

@@ -2,6 +2,7 @@
 use Rattle.std.specs.Prelude.{ℕ, ◌+◌, nat_lt, List, [], ◌∷◌, ◌++◌, length, Option, Some, None, if◌then◌else◌, codes}
 use Rattle.std.specs.List.{flat_map}
 use Rattle.am_text.specs.Lines.{lines_of}
+use Rattle.am_base.specs.Stops.{input_limit}
 use Rattle.am_journal.specs.declared.event.Event.{Event}
 use Rattle.am_journal.specs.declared.event.Why.{Why}
 use Rattle.am_journal.specs.Journal.{is_report}
@@ -42,10 +43,6 @@ play_line events k (Some e) go = play_event events k e (enabled events e) go
 unfoldable pub play : List Event → ℕ → List (List ℕ) → Script
 play events k [] = ended events
 play events k (l ∷ ls) = if is_report l then ended events else play_line events k (event_of l) (λ next. play next (k + 1) ls)
-
--- the most bytes that a transcript has
-abbrev pub input_limit : ℕ
-input_limit = 16777216
 
 -- the script of a transcript; one that is too long is refused whole
 unfoldable pub script_of : List ℕ → Script

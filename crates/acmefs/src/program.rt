@@ -3,14 +3,14 @@
 ghost use Rattle.std.specs.Prelude.{◌≡◌, ◌≤◌, ℕ, List, [], None, true, IfSome};
 ghost use Rattle.std.specs.Str.{IsUtf8};
 ghost use Rattle.am_base.specs.Outside.{HasRisen};
+ghost use Rattle.am_base.specs.Written.{seen};
 ghost use Rattle.core_answers.specs.Laws.{EachIsAnswered};
 ghost use Rattle.acmefs.specs.declared.replay.End.TheVariants.{Done, Script, WriteFault, NoMemory};
 ghost use Rattle.acmefs.specs.Scripts.{script_of};
-ghost use Rattle.acmefs.specs.Written.{seen};
 ghost use Rattle.acmefs.specs.Ends.{Says, ProgramSays, IsIdle, RanTold, IsComplete, code_of, serve_code};
 ghost use Rattle.acmefs.specs.Own.{PutsOwn, RoundTrips};
 ghost use Rattle.acmefs.specs.Words.{are_replay, asks_serve, AskServe, AreKnown};
-ghost use Rattle.am_server.specs.Ends.{SaysServe};
+ghost use Rattle.am_server.specs.Ends.{SaysServe, given};
 ghost use Rattle.am_slots.specs.Slots.{outside};
 
 use crate::replay::{End, Ended, ReplayEnd, code, no_events, replay};
@@ -36,7 +36,7 @@ pub struct Outcome<H: Host> {
 
 fn run<I: Source, O: Sink>(alloc: Global, words: &Words, input: &mut I, output: &mut O) -> Ended
     ensures { ProgramSays (are_replay words.now) result.end (I.left input.old) (I.left input.new) (I.faults input.old) (I.faults input.new)
-        (record { held = O.held output.old; held_now = O.held output.new; faults = O.faults output.old; faults_now = O.faults output.new })
+        (seen (O.held output.old) (O.held output.new) (O.faults output.old) (O.faults output.new))
         result.journal }
 {
     if is_replay(words.as_slice()) {
@@ -90,8 +90,8 @@ pub fn serve_main<I: Source, O: Sink, H: Host, R: Threads + Wait + Sync>(
     requires clients { (1 ≤ clients) × (clients ≤ 64) }
     ensures serves { (end : _) × (result.status ≡ serve_code end)
         × SaysServe (outside H.G.name H.G.faults H.G.L.begins H.G.L.faults H.G.L.R.left H.G.L.R.faults H.G.L.W.held H.G.L.W.faults) path.now clients
-        (record { told = I.left input.old; faults = I.faults input.old; faults_now = I.faults input.new; host_faults = H.faults host.old; host_faults_now = H.faults host.new })
-        (record { held = O.held output.old; held_now = O.held output.new; faults = O.faults output.old; faults_now = O.faults output.new })
+        (given (I.left input.old) (I.faults input.old) (I.faults input.new) (H.faults host.old) (H.faults host.new))
+        (seen (O.held output.old) (O.held output.new) (O.faults output.old) (O.faults output.new))
         result.journal result.served end }
 {
     outcome_of(serve(rt, alloc, path, clients, input, output, host))
@@ -105,7 +105,8 @@ fn replay_words<I: Source, O: Sink, H: Host>(
     output: &mut O,
 ) -> Outcome<H>
     ensures says { (end : _) × (result.status ≡ code_of end)
-        × ProgramSays (are_replay words.now) end (I.left input.old) (I.left input.new) (I.faults input.old) (I.faults input.new) (seen (O.held output.old) (O.held output.new) (O.faults output.old) (O.faults output.new)) result.journal }
+        × ProgramSays (are_replay words.now) end (I.left input.old) (I.left input.new) (I.faults input.old) (I.faults input.new)
+        (seen (O.held output.old) (O.held output.new) (O.faults output.old) (O.faults output.new)) result.journal }
     ensures none_served { result.served ≡ [] }
 {
     let ended = run(alloc, words, input, output);
@@ -128,11 +129,12 @@ fn serve_path<I: Source, O: Sink, H: Host, R: Threads + Wait + Sync>(
     requires clients { (1 ≤ clients) × (clients ≤ 64) }
     ensures serves { IsUtf8 path.now → (end : _) × (result.status ≡ serve_code end)
         × SaysServe (outside H.G.name H.G.faults H.G.L.begins H.G.L.faults H.G.L.R.left H.G.L.R.faults H.G.L.W.held H.G.L.W.faults) path.now clients
-        (record { told = I.left input.old; faults = I.faults input.old; faults_now = I.faults input.new; host_faults = H.faults host.old; host_faults_now = H.faults host.new })
-        (record { held = O.held output.old; held_now = O.held output.new; faults = O.faults output.old; faults_now = O.faults output.new })
+        (given (I.left input.old) (I.faults input.old) (I.faults input.new) (H.faults host.old) (H.faults host.new))
+        (seen (O.held output.old) (O.held output.new) (O.faults output.old) (O.faults output.new))
         result.journal result.served end }
     ensures read_fault { result.status ≡ 3 → HasRisen (I.faults input.old) (I.faults input.new) }
-    ensures idle_fault { result.status ≡ 3 → IsIdle (seen (O.held output.old) (O.held output.new) (O.faults output.old) (O.faults output.new)) result.journal }
+    ensures idle_fault { result.status ≡ 3 → IsIdle
+        (seen (O.held output.old) (O.held output.new) (O.faults output.old) (O.faults output.new)) result.journal }
     ensures write_cause { result.status ≡ 4 → HasRisen (O.faults output.old) (O.faults output.new) }
     ensures other { ¬ IsUtf8 path.now → (result.status ≡ 1) × (I.left input.new ≡ I.left input.old)
         × IsIdle (seen (O.held output.old) (O.held output.new) (O.faults output.old) (O.faults output.new)) result.journal }
@@ -166,35 +168,44 @@ pub fn acmefs<I: Source, O: Sink, H: Host, R: Threads + Wait + Sync>(
     ensures usage { result.status ≡ 1 → ¬ AreKnown words.now }
     ensures other_words { ¬ AreKnown words.now → result.status ≡ 1 }
     ensures unread { result.status ≡ 1 → I.left input.new ≡ I.left input.old }
-    ensures idle_words { result.status ≡ 1 → IsIdle (seen (O.held output.old) (O.held output.new) (O.faults output.old) (O.faults output.new)) result.journal }
+    ensures idle_words { result.status ≡ 1 → IsIdle
+        (seen (O.held output.old) (O.held output.new) (O.faults output.old) (O.faults output.new)) result.journal }
     // Status 3 comes only where the input's count of faults rose; then nothing is written or done.
     ensures read_fault { result.status ≡ 3 → HasRisen (I.faults input.old) (I.faults input.new) }
-    ensures idle_fault { result.status ≡ 3 → IsIdle (seen (O.held output.old) (O.held output.new) (O.faults output.old) (O.faults output.new)) result.journal }
+    ensures idle_fault { result.status ≡ 3 → IsIdle
+        (seen (O.held output.old) (O.held output.new) (O.faults output.old) (O.faults output.new)) result.journal }
     // A replay with status 0: no line is refused, the journal is the events of the script, and the whole text is written.
-    ensures done { are_replay words.now ≡ true → result.status ≡ 0 → RanTold Done (I.left input.old) (seen (O.held output.old) (O.held output.new) (O.faults output.old) (O.faults output.new)) result.journal }
+    ensures done { are_replay words.now ≡ true → result.status ≡ 0 → RanTold Done (I.left input.old)
+        (seen (O.held output.old) (O.held output.new) (O.faults output.old) (O.faults output.new)) result.journal }
     // Status 2: a line, or the whole input, is refused; all events before it are done and written.
-    ensures script { are_replay words.now ≡ true → result.status ≡ 2 → RanTold Script (I.left input.old) (seen (O.held output.old) (O.held output.new) (O.faults output.old) (O.faults output.new)) result.journal }
+    ensures script { are_replay words.now ≡ true → result.status ≡ 2 → RanTold Script (I.left input.old)
+        (seen (O.held output.old) (O.held output.new) (O.faults output.old) (O.faults output.new)) result.journal }
     // Status 4 comes only where the output's count rose: all events are done, a front of the text is written.
-    ensures write_fault { are_replay words.now ≡ true → result.status ≡ 4 → RanTold WriteFault (I.left input.old) (seen (O.held output.old) (O.held output.new) (O.faults output.old) (O.faults output.new)) result.journal }
+    ensures write_fault { are_replay words.now ≡ true → result.status ≡ 4 → RanTold WriteFault (I.left input.old)
+        (seen (O.held output.old) (O.held output.new) (O.faults output.old) (O.faults output.new)) result.journal }
     ensures write_cause { result.status ≡ 4 → HasRisen (O.faults output.old) (O.faults output.new) }
     // Status 6: a front of the events is done, and the lines of their replies are written.
-    ensures no_memory { are_replay words.now ≡ true → result.status ≡ 6 → RanTold NoMemory (I.left input.old) (seen (O.held output.old) (O.held output.new) (O.faults output.old) (O.faults output.new)) result.journal }
+    ensures no_memory { are_replay words.now ≡ true → result.status ≡ 6 → RanTold NoMemory (I.left input.old)
+        (seen (O.held output.old) (O.held output.new) (O.faults output.old) (O.faults output.new)) result.journal }
     // No line refused and no fault outside: the whole text, or want of memory.
     ensures complete { are_replay words.now ≡ true → IfSome (I.left input.old) (λ bytes.
-        IsComplete result.status (script_of bytes) (I.faults input.old) (I.faults input.new) (seen (O.held output.old) (O.held output.new) (O.faults output.old) (O.faults output.new)) result.journal) }
+        IsComplete result.status (script_of bytes) (I.faults input.old) (I.faults input.new)
+        (seen (O.held output.old) (O.held output.new) (O.faults output.old) (O.faults output.new)) result.journal) }
     // The same of any input, also of one that doesn't tell its bytes: some bytes were replayed so.
     ensures headline { are_replay words.now ≡ true → (end : _) × (result.status ≡ code_of end)
-        × Says end (I.left input.old) (I.faults input.old) (I.faults input.new) (seen (O.held output.old) (O.held output.new) (O.faults output.old) (O.faults output.new)) result.journal }
+        × Says end (I.left input.old) (I.faults input.old) (I.faults input.new)
+        (seen (O.held output.old) (O.held output.new) (O.faults output.old) (O.faults output.new)) result.journal }
     // The output got the lines of the journal's replies, and then the report of its run or a line `refused`: by the
     // status all of it, or a front.
-    ensures own_text { are_replay words.now ≡ true → (end : _) × (result.status ≡ code_of end) × PutsOwn end (seen (O.held output.old) (O.held output.new) (O.faults output.old) (O.faults output.new)) result.journal }
+    ensures own_text { are_replay words.now ≡ true → (end : _) × (result.status ≡ code_of end) × PutsOwn end
+        (seen (O.held output.old) (O.held output.new) (O.faults output.old) (O.faults output.new)) result.journal }
     ensures none_served { are_replay words.now ≡ true → result.served ≡ [] }
     // Serving: one journal has the entries of all connections and of the script and no others. What each connection was sent, and the text
     // that is written at the end, are those of that journal.
     ensures serves { (path : List ℕ) (clients : ℕ) → AskServe words.now path clients → (end : _) × (result.status ≡ serve_code end)
         × SaysServe (outside H.G.name H.G.faults H.G.L.begins H.G.L.faults H.G.L.R.left H.G.L.R.faults H.G.L.W.held H.G.L.W.faults) path clients
-        (record { told = I.left input.old; faults = I.faults input.old; faults_now = I.faults input.new; host_faults = H.faults host.old; host_faults_now = H.faults host.new })
-        (record { held = O.held output.old; held_now = O.held output.new; faults = O.faults output.old; faults_now = O.faults output.new })
+        (given (I.left input.old) (I.faults input.old) (I.faults input.new) (H.faults host.old) (H.faults host.new))
+        (seen (O.held output.old) (O.held output.new) (O.faults output.old) (O.faults output.new))
         result.journal result.served end }
     // The journal's lines and then its report are a transcript, where they aren't too long, that gives the same journal
     // and the same report.
@@ -214,7 +225,7 @@ pub fn acmefs<I: Source, O: Sink, H: Host, R: Threads + Wait + Sync>(
 pub fn replay_main<I: Source, O: Sink>(alloc: Global, input: &mut I, output: &mut O) -> ReplayEnd
     ensures headline { (end : _) × (result.status ≡ code_of end)
         × Says end (I.left input.old) (I.faults input.old) (I.faults input.new)
-        (record { held = O.held output.old; held_now = O.held output.new; faults = O.faults output.old; faults_now = O.faults output.new })
+        (seen (O.held output.old) (O.held output.new) (O.faults output.old) (O.faults output.new))
         result.journal }
     // The output got the lines of the journal's replies, and then the report of its run or a line `refused`: by the
     // status all of it, or a front.

@@ -2,19 +2,17 @@
 
 ghost use Rattle.std.specs.Prelude.{◌≡◌, [], None, codes, IfOk};
 ghost use Rattle.am_text.specs.Lines.{lines_of};
+ghost use Rattle.am_base.specs.Written.{seen};
 ghost use Rattle.acmefs.specs.Scripts.{play, end_of, refused_at};
 ghost use Rattle.acmefs.specs.Ends.{Ran, Says, code_of};
 ghost use Rattle.acmefs.specs.Playing.{EndText, end_at};
 
 use crate::script::{Fault, Played, Stop, fault_word, play, put};
 use acme_core::{Core, Journal};
-use am_base::{ReadStop, Sink, Source, read_to_end};
+use am_base::{INPUT_LIMIT, ReadStop, Sink, Source, read_to_end};
 use am_journal::{refused_line, report};
 use am_text::{Bytes, Items, NoMemory};
 use std::alloc::Global;
-
-/// The most bytes that a transcript has.
-const INPUT_LIMIT: usize = 16777216;
 
 /// How a run ended. Each has an exit status.
 #[derive(Clone, Copy, Debug, PartialEq, Eq)]
@@ -89,7 +87,7 @@ fn end_at(stop: Stop, failed: bool) -> End
 /// Replays a transcript of lawful length.
 fn replay_lines<O: Sink>(alloc: Global, bytes: &[u8], output: &mut O) -> Ended
     ensures { Ran result.end (play [] 1 (lines_of bytes.now))
-        (record { held = O.held output.old; held_now = O.held output.new; faults = O.faults output.old; faults_now = O.faults output.new })
+        (seen (O.held output.old) (O.held output.new) (O.faults output.old) (O.faults output.new))
         result.journal }
 {
     let Ok(mut core) = Core::new(alloc) else {
@@ -114,7 +112,7 @@ fn replay_lines<O: Sink>(alloc: Global, bytes: &[u8], output: &mut O) -> Ended
 /// Refuses a transcript that is too long.
 fn refuse_input<O: Sink>(alloc: Global, output: &mut O) -> Ended
     ensures { Ran result.end (refused_at [] 0 (codes "input"))
-        (record { held = O.held output.old; held_now = O.held output.new; faults = O.faults output.old; faults_now = O.faults output.new })
+        (seen (O.held output.old) (O.held output.new) (O.faults output.old) (O.faults output.new))
         result.journal }
 {
     match refused_line(alloc, 0, fault_word(Fault::Input)) {
@@ -129,7 +127,7 @@ fn refuse_input<O: Sink>(alloc: Global, output: &mut O) -> Ended
 /// Replays the transcript that the input gives.
 pub(crate) fn replay<I: Source, O: Sink>(alloc: Global, input: &mut I, output: &mut O) -> Ended
     ensures { Says result.end (I.left input.old) (I.faults input.old) (I.faults input.new)
-        (record { held = O.held output.old; held_now = O.held output.new; faults = O.faults output.old; faults_now = O.faults output.new })
+        (seen (O.held output.old) (O.held output.new) (O.faults output.old) (O.faults output.new))
         result.journal }
 {
     match read_to_end(alloc, input, INPUT_LIMIT) {

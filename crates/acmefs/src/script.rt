@@ -2,6 +2,7 @@
 
 ghost use Rattle.std.specs.Prelude.{◌≡◌, [], IfOk, OnOk, OnErr};
 ghost use Rattle.am_text.specs.Lines.{lines_of};
+ghost use Rattle.am_base.specs.Written.{seen};
 ghost use Rattle.am_journal.specs.Journal.{is_report};
 ghost use Rattle.acme_core.specs.Run.{run, settled};
 ghost use Rattle.acmefs.specs.Scripts.{play, reply_lines, replied};
@@ -107,7 +108,7 @@ fn replies_text(alloc: Global, core: &Core) -> Result<Bytes, NoMemory>
 /// Writes a text, unless the output has failed before, and answers whether it has failed by now.
 pub(crate) fn put<O: Sink>(output: &mut O, failed: bool, text: &[u8]) -> bool
     ensures { Put failed result
-        (record { held = O.held output.old; held_now = O.held output.new; faults = O.faults output.old; faults_now = O.faults output.new })
+        (seen (O.held output.old) (O.held output.new) (O.faults output.old) (O.faults output.new))
         text.now }
 {
     if failed {
@@ -125,7 +126,7 @@ pub(crate) fn play<O: Sink>(alloc: Global, core: &mut Core, output: &mut O, inpu
     ensures settled { core.new ≡ settled core.new.journal }
     ensures stops { Stops result.stop (play [] 1 (lines_of input.now)) core.new.journal }
     ensures shows { Shows result.stop result.failed
-        (record { held = O.held output.old; held_now = O.held output.new; faults = O.faults output.old; faults_now = O.faults output.new })
+        (seen (O.held output.old) (O.held output.new) (O.faults output.old) (O.faults output.new))
         core.new.journal (replied core.new.journal) }
 {
     let mut failed = false;

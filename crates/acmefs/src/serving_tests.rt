@@ -1,5 +1,5 @@
 // Connections that the program serves.
-ghost use Rattle.std.specs.Prelude.{◌≡◌, ◌≤◌, None, is_none};
+ghost use Rattle.std.specs.Prelude.{◌≡◌, ◌<◌, ◌≤◌, None, is_none};
 ghost use Rattle.am_base.specs.Outside.{HasRisen};
 
 use crate::program::{Outcome, acmefs};
@@ -8,7 +8,7 @@ use am_base::{
 };
 use am_journal::Ending;
 use am_server::{Served, ServedEnd};
-use am_text::{Bytes, Items, NoMemory, Words};
+use am_text::{Bytes, Items, NoMemory, Words, split_line};
 use std::alloc::Global;
 use std::sync::atomic::{AtomicBool, Ordering};
 use std::sync::{Arc, Wait};
@@ -583,6 +583,146 @@ fn input_and_output_fail(rt: HostRuntime) -> Result<(), Fail> {
         (4, 2, 1)
     );
     assert_eq!(rt; output.held(), b"dial 0\nhan".as_slice());
+    Ok(())
+}
+
+// Version, and then attach.
+const START: &[u8] = b"\x13\0\0\0d\xff\xff\0\x20\0\0\x06\x009P2000\
+    \x14\0\0\0h\x01\0\0\0\0\0\xff\xff\xff\xff\x01\0u\0\0";
+
+// A walk by 17 names `..`.
+const WALK_17: &[u8] = b"\x55\0\0\0n\x01\0\0\0\0\0\x01\0\0\0\x11\0\
+    \x02\0..\x02\0..\x02\0..\x02\0..\x02\0..\x02\0..\x02\0..\x02\0..\x02\0..\
+    \x02\0..\x02\0..\x02\0..\x02\0..\x02\0..\x02\0..\x02\0..\x02\0..";
+
+// Version with an msize of 256, and the head of a write of 234 bytes, which is a message of 257.
+const SMALL_VERSION: &[u8] = b"\x13\0\0\0d\xff\xff\0\x01\0\0\x06\x009P2000";
+
+const WRITE_HEAD: &[u8] = b"\x01\x01\0\0v\x01\0\0\0\0\0\0\0\0\0\0\0\0\0\xea\0\0\0";
+
+const ZEROS: &[u8] = &[0; 234];
+
+// What connections send that are at fault, or stop short, and the causes of their ends.
+const HOSTILE: [(&[u8], &[u8], &[u8], &[u8]); 12] = [
+    (b"", b"", b"", b"\nhang 0 end\n"),
+    (b"\x13\0\0", b"", b"", b"\nhang 0 torn\n"),
+    (b"\x06\0\0\0", b"", b"", b"\nhang 0 broken size\n"),
+    (b"\x19\0\x01\0", b"", b"", b"\nhang 0 broken size\n"),
+    (b"\x07\0\0\0\0\xff\xff", b"", b"", b"\nhang 0 broken type\n"),
+    (
+        b"\x07\0\0\0\x6a\xff\xff",
+        b"",
+        b"",
+        b"\nhang 0 broken type\n",
+    ),
+    (
+        b"\x08\0\0\0\x6c\xff\xff\0",
+        b"",
+        b"",
+        b"\nhang 0 broken short\n",
+    ),
+    (
+        b"\x0c\0\0\0x\x01\0\x01\0\0\0\0",
+        b"",
+        b"",
+        b"\nhang 0 broken long\n",
+    ),
+    (
+        b"\x0e\0\0\0d\xff\xff\0\x20\0\0\x01\0\xff",
+        b"",
+        b"",
+        b"\nhang 0 broken text\n",
+    ),
+    (START, WALK_17, b"", b"\nhang 0 broken names\n"),
+    (SMALL_VERSION, WRITE_HEAD, ZEROS, b"\nhang 0 broken msize\n"),
+    (
+        READS_EVENTS,
+        b"\x0b\0\0\0x\x01\0\x01\0\0\0",
+        b"",
+        b"\nhang 0 broken tag\n",
+    ),
+];
+
+// Serves one connection whose bytes come in pieces, and gives the journal's lines but those of takings.
+fn journal_of<R: Threads + Wait + Sync>(
+    rt: &R,
+    alloc: Global,
+    bytes: &[u8],
+    piece: usize,
+) -> Result<Bytes, NoMemory>
+    requires { 0 < piece }
+{
+    let source = MemSource::new(Items::copied(alloc, bytes)?, piece, Items::new(alloc));
+    let link = MemLink::new(source, sink_of(alloc, &[])?, false);
+    let mut gates = Items::new(alloc);
+    gates.push(MemGate::new(Items::copied(alloc, b"p")?, 0, link, false))?;
+    let mut host = MemHost::new(gates, Items::new(alloc));
+    let shown = show(rt, alloc, &["serve", "p", "--clients", "1"], b"", &mut host)?;
+    without_takings(alloc, shown.output.held())
+}
+
+fn without_takings(alloc: Global, text: &[u8]) -> Result<Bytes, NoMemory> {
+    let mut kept = Items::new(alloc);
+    let mut rest = text;
+    for _ in 0..text.len() {
+        if rest.is_empty() {
+            break;
+        }
+        let (line, after) = split_line(rest);
+        if line == b"report".as_slice() {
+            break;
+        }
+        if !line.starts_with(b"took ") {
+            kept.append(line)?;
+            kept.append(b"\n")?;
+        }
+        rest = after;
+    }
+    Ok(kept)
+}
+
+#[test]
+fn hostile_connections_end(rt: HostRuntime) -> Result<(), Fail> {
+    let alloc = rt.alloc();
+    for (first, second, third, end) in HOSTILE {
+        let mut bytes = Items::copied(alloc, first)?;
+        bytes.append(second)?;
+        bytes.append(third)?;
+        let by_one = journal_of(&rt, alloc, bytes.as_slice(), 1)?;
+        assert!(rt; by_one.as_slice().ends_with(end), "{end:?}");
+        let by_three = journal_of(&rt, alloc, bytes.as_slice(), 3)?;
+        assert_eq!(rt; by_three.as_slice(), by_one.as_slice(), "{end:?}");
+        let whole = journal_of(&rt, alloc, bytes.as_slice(), 8192)?;
+        assert_eq!(rt; whole.as_slice(), by_one.as_slice(), "{end:?}");
+    }
+    Ok(())
+}
+
+const STARTED: &[u8] = b"\x13\0\0\0e\xff\xff\0\x20\0\0\x06\x009P2000\
+    \x14\0\0\0i\x01\0\x80\0\0\0\0\0\0\0\0\0\0\0\0";
+
+#[test]
+fn a_slot_is_served_beside_one_that_fails(rt: HostRuntime) -> Result<(), Fail> {
+    let alloc = rt.alloc();
+    let mut gates = Items::new(alloc);
+    for slot in 0..2 {
+        let link = MemLink::new(source_of(alloc, START, &[])?, sink_of(alloc, &[])?, false);
+        gates.push(MemGate::new(Items::copied(alloc, b"p")?, slot, link, false))?;
+    }
+    let mut host = MemHost::new(gates, Items::copied(alloc, &[1])?);
+    let two = ["serve", "p", "--clients", "2"];
+    let shown = show(&rt, alloc, &two, b"", &mut host)?;
+    assert_eq!(rt; (shown.outcome.status, shown.outcome.served.len()), (5, 2));
+    for served in shown.outcome.served.as_slice() {
+        match &served.writer {
+            Some(sink) => {
+                assert!(rt; has_ended(served));
+                assert_eq!(rt; sink.held(), STARTED);
+            }
+            None => assert_eq!(rt; (served.slot, served.end), (0, ServedEnd::Bind)),
+        }
+    }
+    assert!(rt; shown.output.held().ends_with(b"\nhost 0\n"));
     Ok(())
 }
 

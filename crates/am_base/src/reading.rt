@@ -40,6 +40,9 @@ impl From<am_text::NoMemory> for ReadStop {
     }
 }
 
+/// The most bytes that a program's input has, a transcript or a script.
+pub const INPUT_LIMIT: usize = 16777216;
+
 /// How many bytes one read asks for at most.
 const PIECE: usize = 8192;
 

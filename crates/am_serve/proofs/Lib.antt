@@ -1,7 +1,10 @@
+pub mod Budgets
+pub mod Deciding
 pub mod Fronts
 pub mod Gaining
 pub mod HangUps
 pub mod Passing
 pub mod Refusals
 pub mod Streams
+pub mod Turns
 pub mod Written

@@ -7,22 +7,25 @@ use Rattle.ninep_wire.specs.declared.fault.WireFault.TheVariants as wire
 use Rattle.ninep_cut.specs.declared.cut.Cut.TheVariants as cut
 use Rattle.ninep_cut.specs.Cuts.{Stream, TakesFirst, TakesNone, then_cut, cut_of, cut_stream}
 use Rattle.ninep_cut.specs.Laws.{JoinsPieces}
+use Rattle.am_journal.specs.declared.ending.Bad.{Bad}
 use Rattle.am_journal.specs.declared.ending.Bad.TheVariants as bad
 use Rattle.am_journal.specs.declared.ending.Ending.{Ending}
 use Rattle.am_journal.specs.declared.ending.Ending.TheVariants as ending
 use Rattle.am_journal.specs.declared.event.Event.{Event}
 use Rattle.am_journal.specs.declared.event.Event.TheVariants.{Msg, Hang}
-use Rattle.am_journal.specs.declared.event.Why.{Why}
-use Rattle.am_journal.specs.declared.event.Why.TheVariants as why
 use Rattle.am_counter.specs.Known.{Known, Looks}
 use Rattle.am_counter.specs.Played.{IsPrefix, has_hang}
 use Rattle.am_serve.specs.Gained.{Rule, Gains, gained, hang_up, HangsUp, plain}
-use Rattle.am_serve.specs.Reading.{AreMessages, spelling_of, spellings, AreRead, AreFront, IsNext, NextRefused, Gives, GivesOf}
-use Rattle.am_serve.specs.Sending.{StopsAt, Sends, Keeps, StopsIn, ReadSoFar, ReadUntil, answer_of}
+use Rattle.am_serve.specs.declared.budget.Budget.{Budget}
+use Rattle.am_serve.specs.Budget.{whole, has_message, after_message, IsLeft}
+use Rattle.am_serve.specs.Reading.{AreMessages, spelling_of, spellings, AreRead, AreFront, IsNext, IsDue, IsTurn, IsBroken, EndsAfter, GivesOf}
+use Rattle.am_serve.specs.Sending.{StopsAt, Sends, Keeps, StopsIn, source_with, StopsAfter, ReadSoFar, ReadUntil}
 use Rattle.am_serve.specs.declared.sending.Stop.{Stop}
 use Rattle.am_serve.specs.declared.sending.Stop.TheVariants as stop
 use Rattle.am_serve.proofs.Gaining.{grown, gains_nothing, gains_more, gains_entry, gained_is, gains_gained, gains_then_look}
-use Rattle.am_serve.proofs.HangUps.{gains_hang_up}
+use Rattle.am_serve.proofs.Budgets.{left_at_first, left_fits, fits_next, left_further}
+use Rattle.am_serve.proofs.HangUps.{has_hang_kept, gains_hang_up}
+use Rattle.am_serve.proofs.Turns.{stand_seen}
 
 -- ---- bytes
 
@@ -57,20 +60,22 @@ spellings-append xs ys = flat_map-append (λ (x : ℕ × Event). spelling_of x.1
 
 -- ---- steps
 
-pub read_nothing : (conn : ℕ) (v : Known) (first : Option (List ℕ)) → ReadSoFar conn v v [] first first
+pub read_nothing : (conn : ℕ) (v : Known) (first : Option (List ℕ)) → ReadSoFar conn v v [] whole first first
 read_nothing conn v first = record {
   entries = [];
   gains = gains_nothing v;
   messages = tt;
+  budget = left_at_first;
   bytes = [];
   told = sym (then_told-nil first);
   stream = refl;
 }
 
--- a message was cut off and submitted
-pub read_message : (enabled : Rule) (conn : ℕ) (v u w : Known) (before after m : List ℕ) (first now : Option (List ℕ))
-    → ReadSoFar conn v u before first now → TakesFirst before after m → Sends enabled conn u m w → ReadSoFar conn v w after first now
-read_message enabled conn v u w before after m first now h t s =
+-- a message was cut off, taken off the budget and submitted
+pub read_message : (enabled : Rule) (conn : ℕ) (v u w : Known) (before after m : List ℕ) (b now_b : Budget) (first now : Option (List ℕ))
+    → ReadSoFar conn v u before b first now → TakesFirst before after m → has_message b (length m) ≡ true → now_b ≡ after_message b (length m) → Sends enabled conn u m w
+    → ReadSoFar conn v w after now_b first now
+read_message enabled conn v u w before after m b now_b first now h t may spent s =
     let e : Event = Msg conn s.0 in
     let at = s.3 in
     let added : List (ℕ × Event) = (length at.0 + 1, e) ∷ [] in
@@ -82,6 +87,7 @@ read_message enabled conn v u w before after m first now h t s =
       entries = h.entries ++ added;
       gains = gains_more v u w h.entries added h.gains g;
       messages = messages-append conn h.entries added h.messages ((s.0, refl), tt);
+      budget = let L : List (List ℕ) → Type 0 = λ l. IsLeft now_b l in subst L (sym given) (left_further b now_b (spellings h.entries) m h.budget may spent);
       bytes = h.bytes;
       told = h.told;
       stream =
@@ -90,115 +96,144 @@ read_message enabled conn v u w before after m first now h t s =
     }
 
 -- what the stream that was read is cut into, where no message is left
-none_left : (conn : ℕ) (v u : Known) (left : List ℕ) (first now : Option (List ℕ)) (h : ReadSoFar conn v u left first now) → cut_stream left ≡ record { messages = []; rest = left }
+none_left : (conn : ℕ) (v u : Known) (left : List ℕ) (b : Budget) (first now : Option (List ℕ)) (h : ReadSoFar conn v u left b first now) → cut_stream left ≡ record { messages = []; rest = left }
     → cut_stream h.bytes ≡ record { messages = spellings h.entries; rest = left }
-none_left conn v u left first now h e = h.stream ∙ ap (then_cut (spellings h.entries)) e ∙ then_cut-none (spellings h.entries) left
+none_left conn v u left b first now h e = h.stream ∙ ap (then_cut (spellings h.entries)) e ∙ then_cut-none (spellings h.entries) left
 
 -- and with a piece behind it
-piece_behind : (conn : ℕ) (v u : Known) (left piece : List ℕ) (first now : Option (List ℕ)) (h : ReadSoFar conn v u left first now) → cut_stream left ≡ record { messages = []; rest = left }
+piece_behind : (conn : ℕ) (v u : Known) (left piece : List ℕ) (b : Budget) (first now : Option (List ℕ)) (h : ReadSoFar conn v u left b first now) → cut_stream left ≡ record { messages = []; rest = left }
     → JoinsPieces → cut_stream (h.bytes ++ piece) ≡ then_cut (spellings h.entries) (cut_stream (left ++ piece))
-piece_behind conn v u left piece first now h e joins =
-    joins h.bytes piece ∙ ap (λ (s : Stream). then_cut s.messages (cut_stream (s.rest ++ piece))) (none_left conn v u left first now h e)
+piece_behind conn v u left piece b first now h e joins =
+    joins h.bytes piece ∙ ap (λ (s : Stream). then_cut s.messages (cut_stream (s.rest ++ piece))) (none_left conn v u left b first now h e)
 
 -- a piece was read
-pub read_piece : (conn : ℕ) (v u w : Known) (left piece : List ℕ) (first mid now : Option (List ℕ))
-    → ReadSoFar conn v u left first mid → cut_stream left ≡ record { messages = []; rest = left } → JoinsPieces → mid ≡ then_told piece now → Looks u w
-    → ReadSoFar conn v w (left ++ piece) first now
-read_piece conn v u w left piece first mid now h e joins t l = record {
+pub read_piece : (conn : ℕ) (v u w : Known) (left piece : List ℕ) (b : Budget) (first mid now : Option (List ℕ))
+    → ReadSoFar conn v u left b first mid → cut_stream left ≡ record { messages = []; rest = left } → JoinsPieces → mid ≡ then_told piece now → Looks u w
+    → ReadSoFar conn v w (left ++ piece) b first now
+read_piece conn v u w left piece b first mid now h e joins t l = record {
   entries = h.entries;
   gains = gains_then_look v u w h.entries h.gains l;
   messages = h.messages;
+  budget = h.budget;
   bytes = h.bytes ++ piece;
   told = h.told ∙ ap (then_told h.bytes) t ∙ then_told-then now h.bytes piece;
-  stream = piece_behind conn v u left piece first mid h e joins;
+  stream = piece_behind conn v u left piece b first mid h e joins;
 }
 
 -- ---- stops
 
--- at a message
-gives_at : (enabled : Rule) (conn : ℕ) (seen : List Event) (given : List (List ℕ)) (m : List ℕ) (stream : Stream) (s : Stop)
-    → IsNext given stream.messages m → StopsAt enabled conn seen m s → Gives enabled conn seen given stream (answer_of s)
-gives_at enabled conn seen given m stream stop.Ended next h = (m ∷ next.0, next.1)
-gives_at enabled conn seen given m stream (stop.Ends ending.End) next h = absurd h
-gives_at enabled conn seen given m stream (stop.Ends ending.Torn) next h = absurd h
-gives_at enabled conn seen given m stream (stop.Ends ending.ReadFault) next h = absurd h
-gives_at enabled conn seen given m stream (stop.Ends (ending.Broken (bad.Wire f))) next h = inl (m, next, h)
-gives_at enabled conn seen given m stream (stop.Ends (ending.Broken bad.Size)) next h = (m, h.0, seen, next, h.1, ([], append-nil seen), h.2)
-gives_at enabled conn seen given m stream (stop.Ends (ending.Broken bad.Tag)) next h = (m, h.0, seen, next, h.1, ([], append-nil seen), h.2)
-gives_at enabled conn seen given m stream (stop.Ends ending.Spent) next h = absurd h
-gives_at enabled conn seen given m stream (stop.Ends ending.Gone) next h = absurd h
-gives_at enabled conn seen given m stream (stop.Ends ending.NoMemory) next h = (m ∷ next.0, next.1)
+-- at a message, which the budget has
+stops_after : (enabled : Rule) (conn : ℕ) (seen : List Event) (given : List (List ℕ)) (m : List ℕ) (stream : Stream) (s : Stop)
+    → IsDue given stream m → StopsAt enabled conn seen m s → StopsAfter enabled conn seen given stream s
+stops_after enabled conn seen given m stream stop.Ended due h = (m ∷ due.0.0, due.0.1)
+stops_after enabled conn seen given m stream (stop.Ends ending.End) due h = absurd h
+stops_after enabled conn seen given m stream (stop.Ends ending.Torn) due h = absurd h
+stops_after enabled conn seen given m stream (stop.Ends ending.ReadFault) due h = absurd h
+stops_after enabled conn seen given m stream (stop.Ends (ending.Broken (bad.Wire f))) due h = inl (m, due, h)
+stops_after enabled conn seen given m stream (stop.Ends (ending.Broken bad.Size)) due h = (m, h.0, due, h.1, h.2)
+stops_after enabled conn seen given m stream (stop.Ends (ending.Broken bad.Tag)) due h = (m, h.0, due, h.1, h.2)
+stops_after enabled conn seen given m stream (stop.Ends ending.Spent) due h = absurd h
+stops_after enabled conn seen given m stream (stop.Ends ending.Gone) due h = absurd h
+stops_after enabled conn seen given m stream (stop.Ends ending.NoMemory) due h = (m ∷ due.0.0, due.0.1)
 
-pub stops_at_message : (enabled : Rule) (conn : ℕ) (v u w : Known) (before after m : List ℕ) (s : Stop) (first now : Option (List ℕ))
-    → ReadSoFar conn v u before first now → TakesFirst before after m → Keeps enabled conn u m s w → ReadUntil enabled conn v w s first now
-stops_at_message enabled conn v u w before after m s first now h t k = record {
+-- the message that was cut off stands behind those that were given
+next_is : (conn : ℕ) (v u : Known) (before after m : List ℕ) (b : Budget) (first now : Option (List ℕ)) (h : ReadSoFar conn v u before b first now) → TakesFirst before after m
+    → IsNext (spellings h.entries) (cut_stream h.bytes).messages m
+next_is conn v u before after m b first now h t = (
+  (cut_stream after).messages,
+  messages_of (cut_stream h.bytes) (then_cut (spellings h.entries) (then_cut (m ∷ []) (cut_stream after))) (h.stream ∙ ap (then_cut (spellings h.entries)) t.stream),
+)
+
+pub stops_at_message : (enabled : Rule) (conn : ℕ) (v u w : Known) (before after m : List ℕ) (b : Budget) (s : Stop) (first now : Option (List ℕ))
+    → ReadSoFar conn v u before b first now → TakesFirst before after m → has_message b (length m) ≡ true → Keeps enabled conn u m s w → ReadUntil enabled conn v w s first now
+stops_at_message enabled conn v u w before after m b s first now h t may k = record {
   entries = h.entries;
   gains = gains_then_look v u w h.entries h.gains k.0;
   messages = h.messages;
+  fits = left_fits b (spellings h.entries) h.budget;
   bytes = h.bytes;
   told = h.told;
-  gives =
-      gives_at enabled conn w.seen (spellings h.entries) m (cut_stream h.bytes) s
-      ((cut_stream after).messages, messages_of (cut_stream h.bytes) (then_cut (spellings h.entries) (then_cut (m ∷ []) (cut_stream after))) (h.stream ∙ ap (then_cut (spellings h.entries)) t.stream)) k.1;
+  stops =
+      stops_after enabled conn w.seen (spellings h.entries) m (cut_stream h.bytes) s
+      (next_is conn v u before after m b first now h t, sym (fits_next b (spellings h.entries) m h.budget) ∙ may) k.1;
+}
+
+-- at a message, which the budget hasn't
+pub stops_at_budget : (enabled : Rule) (conn : ℕ) (v u : Known) (before after m : List ℕ) (b : Budget) (first now : Option (List ℕ))
+    → ReadSoFar conn v u before b first now → TakesFirst before after m → has_message b (length m) ≡ false → ReadUntil enabled conn v u (stop.Ends ending.Spent) first now
+stops_at_budget enabled conn v u before after m b first now h t may_not = record {
+  entries = h.entries;
+  gains = h.gains;
+  messages = h.messages;
+  fits = left_fits b (spellings h.entries) h.budget;
+  bytes = h.bytes;
+  told = h.told;
+  stops = (m, next_is conn v u before after m b first now h t, sym (fits_next b (spellings h.entries) m h.budget) ∙ may_not);
 }
 
 -- at a piece
-pub stops_at_piece : (enabled : Rule) (conn : ℕ) (v u w : Known) (left : List ℕ) (s : Stop) (first mid now : Option (List ℕ)) (faults faults_now : ℕ)
-    → ReadSoFar conn v u left first mid → cut_stream left ≡ record { messages = []; rest = left } → JoinsPieces → Looks u w
-    → StopsIn enabled conn w.seen (record { told = mid; told_now = now; faults = faults; faults_now = faults_now; left = left }) s
+pub stops_at_piece : (enabled : Rule) (conn : ℕ) (v u w : Known) (left : List ℕ) (b : Budget) (s : Stop) (first mid now : Option (List ℕ)) (faults faults_now : ℕ)
+    → ReadSoFar conn v u left b first mid → cut_stream left ≡ record { messages = []; rest = left } → cut_of left ≡ cut.More → JoinsPieces → Looks u w
+    → StopsIn enabled conn w.seen (source_with mid now faults faults_now left) s
     → ReadUntil enabled conn v w s first now
-stops_at_piece enabled conn v u w left s first mid now faults faults_now h e joins l k = by_cases s k
+stops_at_piece enabled conn v u w left b s first mid now faults faults_now h e more joins l k = by_cases s k
   where
     all : spellings h.entries ≡ (cut_stream h.bytes).messages
-    all = sym (messages_of (cut_stream h.bytes) (record { messages = spellings h.entries; rest = left }) (none_left conn v u left first mid h e))
+    all = sym (messages_of (cut_stream h.bytes) (record { messages = spellings h.entries; rest = left }) (none_left conn v u left b first mid h e))
 
     rest : (cut_stream h.bytes).rest ≡ left
-    rest = rest_of (cut_stream h.bytes) (record { messages = spellings h.entries; rest = left }) (none_left conn v u left first mid h e)
+    rest = rest_of (cut_stream h.bytes) (record { messages = spellings h.entries; rest = left }) (none_left conn v u left b first mid h e)
+
+    less : cut_of (cut_stream h.bytes).rest ≡ cut.More
+    less = ap cut_of rest ∙ more
 
     -- nothing more was read
-    same : (s : Stop) → now ≡ mid → Gives enabled conn w.seen (spellings h.entries) (cut_stream h.bytes) (answer_of s) → ReadUntil enabled conn v w s first now
-    same s t gives = record {
+    same : (s : Stop) → now ≡ mid → StopsAfter enabled conn w.seen (spellings h.entries) (cut_stream h.bytes) s → ReadUntil enabled conn v w s first now
+    same s t stops = record {
       entries = h.entries;
       gains = gains_then_look v u w h.entries h.gains l;
       messages = h.messages;
+      fits = left_fits b (spellings h.entries) h.budget;
       bytes = h.bytes;
       told = h.told ∙ ap (then_told h.bytes) (sym t);
-      gives = gives;
+      stops = stops;
     }
 
-    by_cases : (s : Stop) → StopsIn enabled conn w.seen (record { told = mid; told_now = now; faults = faults; faults_now = faults_now; left = left }) s → ReadUntil enabled conn v w s first now
+    by_cases : (s : Stop) → StopsIn enabled conn w.seen (source_with mid now faults faults_now left) s → ReadUntil enabled conn v w s first now
     by_cases stop.Ended k = same stop.Ended k.0 ([], sym all ∙ sym (append-nil (spellings h.entries)))
     by_cases (stop.Ends ending.End) k = same (stop.Ends ending.End) k.0 (all, rest ∙ k.2)
-    by_cases (stop.Ends ending.Torn) k = same (stop.Ends ending.Torn) k.0 (all, λ x. k.2 (sym rest ∙ x))
-    by_cases (stop.Ends ending.ReadFault) k = same (stop.Ends ending.ReadFault) k.0 all
-    by_cases (stop.Ends (ending.Broken b)) k = absurd k
+    by_cases (stop.Ends ending.Torn) k = same (stop.Ends ending.Torn) k.0 (all, less, λ x. k.2 (sym rest ∙ x))
+    by_cases (stop.Ends ending.ReadFault) k = same (stop.Ends ending.ReadFault) k.0 (all, less)
+    by_cases (stop.Ends (ending.Broken bad)) k = absurd k
     by_cases (stop.Ends ending.Spent) k = absurd k
     by_cases (stop.Ends ending.Gone) k = absurd k
     by_cases (stop.Ends ending.NoMemory) k = record {
       entries = h.entries;
       gains = gains_then_look v u w h.entries h.gains l;
       messages = h.messages;
+      fits = left_fits b (spellings h.entries) h.budget;
       bytes = h.bytes ++ k.0;
       told = h.told ∙ ap (then_told h.bytes) k.1 ∙ then_told-then now h.bytes k.0;
-      gives = (
+      stops = (
         (cut_stream (left ++ k.0)).messages,
-        messages_of (cut_stream (h.bytes ++ k.0)) (then_cut (spellings h.entries) (cut_stream (left ++ k.0))) (piece_behind conn v u left k.0 first mid h e joins),
+        messages_of (cut_stream (h.bytes ++ k.0)) (then_cut (spellings h.entries) (cut_stream (left ++ k.0))) (piece_behind conn v u left k.0 b first mid h e joins),
       );
     }
 
 -- at a size that no message has
-pub stops_at_size : (enabled : Rule) (conn : ℕ) (v u : Known) (left : List ℕ) (size : ℕ) (first now : Option (List ℕ))
-    → ReadSoFar conn v u left first now → cut_stream left ≡ record { messages = []; rest = left } → cut.Broken size ≡ cut_of left
+pub stops_at_size : (enabled : Rule) (conn : ℕ) (v u : Known) (left : List ℕ) (b : Budget) (size : ℕ) (first now : Option (List ℕ))
+    → ReadSoFar conn v u left b first now → cut_stream left ≡ record { messages = []; rest = left } → cut.Broken size ≡ cut_of left
     → ReadUntil enabled conn v u (stop.Ends (ending.Broken (bad.Wire wire.Size))) first now
-stops_at_size enabled conn v u left size first now h e broken =
-    let none = none_left conn v u left first now h e in
+stops_at_size enabled conn v u left b size first now h e broken =
+    let none = none_left conn v u left b first now h e in
     record {
       entries = h.entries;
       gains = h.gains;
       messages = h.messages;
+      fits = left_fits b (spellings h.entries) h.budget;
       bytes = h.bytes;
       told = h.told;
-      gives = inr (
+      stops = inr (
         refl,
         (
           size,
@@ -209,62 +244,66 @@ stops_at_size enabled conn v u left size first now h e broken =
     }
 
 -- for want of memory
-pub stops_for_memory : (enabled : Rule) (conn : ℕ) (v u : Known) (left : List ℕ) (first now : Option (List ℕ)) → ReadSoFar conn v u left first now → ReadUntil enabled conn v u (stop.Ends ending.NoMemory) first now
-stops_for_memory enabled conn v u left first now h = record {
+pub stops_for_memory : (enabled : Rule) (conn : ℕ) (v u : Known) (left : List ℕ) (b : Budget) (first now : Option (List ℕ)) → ReadSoFar conn v u left b first now → ReadUntil enabled conn v u (stop.Ends ending.NoMemory) first now
+stops_for_memory enabled conn v u left b first now h = record {
   entries = h.entries;
   gains = h.gains;
   messages = h.messages;
+  fits = left_fits b (spellings h.entries) h.budget;
   bytes = h.bytes;
   told = h.told;
-  gives = ((cut_stream left).messages, messages_of (cut_stream h.bytes) (then_cut (spellings h.entries) (cut_stream left)) h.stream);
+  stops = ((cut_stream left).messages, messages_of (cut_stream h.bytes) (then_cut (spellings h.entries) (cut_stream left)) h.stream);
 }
 
 -- ---- as the calls say it
 
-pub sends_on : (enabled : Rule) (conn : ℕ) (v u w : Known) (before after m sent : List ℕ) (first now : Option (List ℕ))
-    → ReadSoFar conn v u before first now → TakesFirst before after m → sent ≡ m → Sends enabled conn u sent w → ReadSoFar conn v w after first now
-sends_on enabled conn v u w before after m sent first now h t e s =
-    let P : List ℕ → Type 0 = λ x. Sends enabled conn u x w in
-    read_message enabled conn v u w before after m first now h t (subst P e s)
+pub sends_on : (enabled : Rule) (conn : ℕ) (v u w : Known) (before after m sent : List ℕ) (b now_b : Budget) (first now : Option (List ℕ))
+    → ReadSoFar conn v u before b first now → TakesFirst before after m → sent ≡ m → has_message b (length sent) ≡ true → now_b ≡ after_message b (length sent) → Sends enabled conn u sent w
+    → ReadSoFar conn v w after now_b first now
+sends_on enabled conn v u w before after m sent b now_b first now h t e may spent s =
+    let P : List ℕ → Type 0 = λ x. (has_message b (length x) ≡ true) × (now_b ≡ after_message b (length x)) × Sends enabled conn u x w in
+    let all = subst P e (may, spent, s) in
+    read_message enabled conn v u w before after m b now_b first now h t all.0 all.1 all.2
 
-pub stops_sending : (enabled : Rule) (conn : ℕ) (v u w : Known) (before after m sent : List ℕ) (s : Stop) (first now : Option (List ℕ))
-    → ReadSoFar conn v u before first now → TakesFirst before after m → sent ≡ m → Keeps enabled conn u sent s w → ReadUntil enabled conn v w s first now
-stops_sending enabled conn v u w before after m sent s first now h t e k =
-    let P : List ℕ → Type 0 = λ x. Keeps enabled conn u x s w in
-    stops_at_message enabled conn v u w before after m s first now h t (subst P e k)
+pub stops_sending : (enabled : Rule) (conn : ℕ) (v u w : Known) (before after m sent : List ℕ) (b : Budget) (s : Stop) (first now : Option (List ℕ))
+    → ReadSoFar conn v u before b first now → TakesFirst before after m → sent ≡ m → has_message b (length sent) ≡ true → Keeps enabled conn u sent s w → ReadUntil enabled conn v w s first now
+stops_sending enabled conn v u w before after m sent b s first now h t e may k =
+    let P : List ℕ → Type 0 = λ x. (has_message b (length x) ≡ true) × Keeps enabled conn u x s w in
+    let all = subst P e (may, k) in
+    stops_at_message enabled conn v u w before after m b s first now h t all.0 all.1
 
-pub reads_on : (conn : ℕ) (v u w : Known) (left stayed after had given : List ℕ) (first mid now : Option (List ℕ))
-    → ReadSoFar conn v u left first mid → TakesNone left stayed had given → JoinsPieces → Looks u w
-    → (piece : List ℕ) × (mid ≡ then_told piece now) × (after ≡ stayed ++ piece) → ReadSoFar conn v w after first now
-reads_on conn v u w left stayed after had given first mid now h t joins l p =
-    let P : List ℕ → Type 0 = λ x. ReadSoFar conn v w x first now in
-    subst P (sym (p.2 ∙ ap (λ (x : List ℕ). x ++ p.0) t.stays)) (read_piece conn v u w left p.0 first mid now h t.stream joins p.1 l)
+pub stops_spent : (enabled : Rule) (conn : ℕ) (v u : Known) (before after m sent : List ℕ) (b : Budget) (first now : Option (List ℕ))
+    → ReadSoFar conn v u before b first now → TakesFirst before after m → sent ≡ m → has_message b (length sent) ≡ false → ReadUntil enabled conn v u (stop.Ends ending.Spent) first now
+stops_spent enabled conn v u before after m sent b first now h t e may_not =
+    stops_at_budget enabled conn v u before after m b first now h t (sym (ap (λ (x : List ℕ). has_message b (length x)) e) ∙ may_not)
 
-pub stops_reading : (enabled : Rule) (conn : ℕ) (v u w : Known) (left stayed had given : List ℕ) (s : Stop) (first mid now : Option (List ℕ)) (faults faults_now : ℕ)
-    → ReadSoFar conn v u left first mid → TakesNone left stayed had given → JoinsPieces → Looks u w
-    → StopsIn enabled conn w.seen (record { told = mid; told_now = now; faults = faults; faults_now = faults_now; left = stayed }) s
+pub reads_on : (conn : ℕ) (v u w : Known) (left stayed after had given : List ℕ) (b : Budget) (first mid now : Option (List ℕ))
+    → ReadSoFar conn v u left b first mid → TakesNone left stayed had given → JoinsPieces → Looks u w
+    → (piece : List ℕ) × (mid ≡ then_told piece now) × (after ≡ stayed ++ piece) → ReadSoFar conn v w after b first now
+reads_on conn v u w left stayed after had given b first mid now h t joins l p =
+    let P : List ℕ → Type 0 = λ x. ReadSoFar conn v w x b first now in
+    subst P (sym (p.2 ∙ ap (λ (x : List ℕ). x ++ p.0) t.stays)) (read_piece conn v u w left p.0 b first mid now h t.stream joins p.1 l)
+
+pub stops_reading : (enabled : Rule) (conn : ℕ) (v u w : Known) (left stayed had given : List ℕ) (b : Budget) (s : Stop) (first mid now : Option (List ℕ)) (faults faults_now : ℕ)
+    → ReadSoFar conn v u left b first mid → TakesNone left stayed had given → cut.More ≡ cut_of left → JoinsPieces → Looks u w
+    → StopsIn enabled conn w.seen (source_with mid now faults faults_now stayed) s
     → ReadUntil enabled conn v w s first now
-stops_reading enabled conn v u w left stayed had given s first mid now faults faults_now h t joins l k =
-    let P : List ℕ → Type 0 = λ x. StopsIn enabled conn w.seen (record { told = mid; told_now = now; faults = faults; faults_now = faults_now; left = x }) s in
-    stops_at_piece enabled conn v u w left s first mid now faults faults_now h t.stream joins l (subst P t.stays k)
+stops_reading enabled conn v u w left stayed had given b s first mid now faults faults_now h t more joins l k =
+    let P : List ℕ → Type 0 = λ x. StopsIn enabled conn w.seen (source_with mid now faults faults_now x) s in
+    stops_at_piece enabled conn v u w left b s first mid now faults faults_now h t.stream (sym more) joins l (subst P t.stays k)
 
 -- ---- the end
 
-refused_later : (enabled : Rule) (conn : ℕ) (xs ys : List Event) (given : List (List ℕ)) (stream : Stream) (reason : Why) → IsPrefix xs ys → NextRefused enabled conn xs given stream reason → NextRefused enabled conn ys given stream reason
-refused_later enabled conn xs ys given stream reason p n = (n.0, n.1, n.2, n.3, n.4, grown n.2 xs ys n.5 p, n.6)
-
 -- more of the journal was seen
-gives_later : (enabled : Rule) (conn : ℕ) (xs ys : List Event) (given : List (List ℕ)) (stream : Stream) (answer : Option Ending) → IsPrefix xs ys → Gives enabled conn xs given stream answer → Gives enabled conn ys given stream answer
-gives_later enabled conn xs ys given stream None p g = g
-gives_later enabled conn xs ys given stream (Some ending.End) p g = g
-gives_later enabled conn xs ys given stream (Some ending.Torn) p g = g
-gives_later enabled conn xs ys given stream (Some ending.ReadFault) p g = g
-gives_later enabled conn xs ys given stream (Some (ending.Broken (bad.Wire f))) p g = g
-gives_later enabled conn xs ys given stream (Some (ending.Broken bad.Size)) p g = refused_later enabled conn xs ys given stream why.Size p g
-gives_later enabled conn xs ys given stream (Some (ending.Broken bad.Tag)) p g = refused_later enabled conn xs ys given stream why.Tag p g
-gives_later enabled conn xs ys given stream (Some ending.Spent) p g = g
-gives_later enabled conn xs ys given stream (Some ending.Gone) p g = g
-gives_later enabled conn xs ys given stream (Some ending.NoMemory) p g = g
+pub gives_later : (enabled : Rule) (conn : ℕ) (xs ys : List Event) (given : List (List ℕ)) (first now : Option (List ℕ)) (answer : Option Ending) → IsPrefix xs ys
+    → GivesOf enabled conn xs given first now answer → GivesOf enabled conn ys given first now answer
+gives_later enabled conn xs ys given first now None p g = g
+gives_later enabled conn xs ys given first now (Some why) p (bytes, told, fits, g) = (
+  bytes,
+  told,
+  fits,
+  (g.0, record { front = grown g.0 xs ys g.1.front p; messages = g.1.messages; goes_on = g.1.goes_on }, g.2),
+)
 
 all_front : (given messages : List (List ℕ)) → given ≡ messages → AreFront given messages
 all_front given messages e = ([], sym e ∙ sym (append-nil given))
@@ -272,19 +311,21 @@ all_front given messages e = ([], sym e ∙ sym (append-nil given))
 next_front : (given messages : List (List ℕ)) (m : List ℕ) → IsNext given messages m → AreFront given messages
 next_front given messages m n = (m ∷ n.0, n.1)
 
+broken_front : (enabled : Rule) (conn : ℕ) (journal : List Event) (given : List (List ℕ)) (stream : Stream) (what : Bad) → IsBroken enabled conn journal given stream what → AreFront given stream.messages
+broken_front enabled conn journal given stream (bad.Wire f) (inl g) = next_front given stream.messages g.0 g.1.0
+broken_front enabled conn journal given stream (bad.Wire f) (inr g) = all_front given stream.messages g.1.1
+broken_front enabled conn journal given stream bad.Size g = next_front given stream.messages g.0 g.2.0
+broken_front enabled conn journal given stream bad.Tag g = next_front given stream.messages g.0 g.2.0
+
 -- another had ended the connection
-gives_front : (enabled : Rule) (conn : ℕ) (seen : List Event) (given : List (List ℕ)) (stream : Stream) (answer : Option Ending) → Gives enabled conn seen given stream answer → AreFront given stream.messages
-gives_front enabled conn seen given stream None g = g
-gives_front enabled conn seen given stream (Some ending.End) g = all_front given stream.messages g.0
-gives_front enabled conn seen given stream (Some ending.Torn) g = all_front given stream.messages g.0
-gives_front enabled conn seen given stream (Some ending.ReadFault) g = all_front given stream.messages g
-gives_front enabled conn seen given stream (Some (ending.Broken (bad.Wire f))) (inl g) = next_front given stream.messages g.0 g.1
-gives_front enabled conn seen given stream (Some (ending.Broken (bad.Wire f))) (inr g) = all_front given stream.messages g.1.1
-gives_front enabled conn seen given stream (Some (ending.Broken bad.Size)) g = next_front given stream.messages g.0 g.3
-gives_front enabled conn seen given stream (Some (ending.Broken bad.Tag)) g = next_front given stream.messages g.0 g.3
-gives_front enabled conn seen given stream (Some ending.Spent) g = absurd g
-gives_front enabled conn seen given stream (Some ending.Gone) g = absurd g
-gives_front enabled conn seen given stream (Some ending.NoMemory) g = g
+ends_front : (enabled : Rule) (conn : ℕ) (journal : List Event) (given : List (List ℕ)) (stream : Stream) (why : Ending) → EndsAfter enabled conn journal given stream why → AreFront given stream.messages
+ends_front enabled conn journal given stream ending.End g = all_front given stream.messages g.0
+ends_front enabled conn journal given stream ending.Torn g = all_front given stream.messages g.0
+ends_front enabled conn journal given stream ending.ReadFault g = all_front given stream.messages g.0
+ends_front enabled conn journal given stream (ending.Broken what) g = broken_front enabled conn journal given stream what g
+ends_front enabled conn journal given stream ending.Spent g = next_front given stream.messages g.0 g.1
+ends_front enabled conn journal given stream ending.Gone g = absurd g
+ends_front enabled conn journal given stream ending.NoMemory g = g
 
 module _ (enabled : Rule) (conn : ℕ) (v w : Known) (first now : Option (List ℕ)) where
   pub had_ended_gains : ReadUntil enabled conn v w stop.Ended first now → Gains v (gained v w) w
@@ -295,14 +336,18 @@ module _ (enabled : Rule) (conn : ℕ) (v w : Known) (first now : Option (List �
 
   pub had_ended_gives : ReadUntil enabled conn v w stop.Ended first now → GivesOf enabled conn w.seen (spellings (gained v w)) first now None
   had_ended_gives h =
-      let P : List (List ℕ) → Type 0 = λ l. Gives enabled conn w.seen l (cut_stream h.bytes) None in
-      (h.bytes, h.told, subst P (sym (ap spellings (gained_is v w h.entries h.gains))) h.gives)
+      let P : List (List ℕ) → Type 0 = λ l. GivesOf enabled conn w.seen l first now None in
+      subst P (sym (ap spellings (gained_is v w h.entries h.gains))) (h.bytes, h.told, h.fits, h.stops)
 
 -- ---- the connection is ended after that
 
 not_some : (b : Bool) → true ≡ not b → b ≡ false
 not_some false e = refl
 not_some true e = absurd cc
+
+not_both : (b : Bool) → b ≡ true → b ≡ false → ⊥
+not_both true p q = absurd cc
+not_both false p q = absurd cc
 
 is_some_then : (b : Bool) → false ≡ not b → b ≡ true
 is_some_then true e = refl
@@ -355,13 +400,24 @@ module _ (enabled : Rule) (conn : ℕ) (v u w : Known) (cause : Ending) (made : 
       nothing true = refl
       nothing false = refl
 
-  later : Gives enabled conn w.seen (spellings (gained v w)) (cut_stream h.bytes) (Some cause)
-  later =
-      let P : List (List ℕ) → Type 0 = λ l. Gives enabled conn w.seen l (cut_stream h.bytes) (Some cause) in
-      subst P (sym given_is) (gives_later enabled conn u.seen w.seen (spellings h.entries) (cut_stream h.bytes) (Some cause) hung.seen h.gives)
+  -- the connection went on where reading stopped
+  went_on : made ≡ true → IsTurn conn w.seen (spellings h.entries) u.seen
+  went_on e = record {
+    front = hung.seen;
+    messages = stand_seen conn v u h.entries h.gains h.messages;
+    goes_on = not_yet (has_hang u.seen conn) refl;
+  }
+    where
+      not_yet : (b : Bool) → has_hang u.seen conn ≡ b → has_hang u.seen conn ≡ false
+      not_yet false f = f
+      not_yet true f = absurd (not_both (has_hang k.0 conn) (has_hang_kept u.seen k.0 conn k.1 f) (not_some (has_hang k.0 conn) (sym e ∙ k.2)))
 
-  pub hung_gives : GivesOf enabled conn w.seen (spellings (gained v w)) first now (Some cause)
-  hung_gives = (h.bytes, h.told, later)
+  pub hung_gives : made ≡ true → GivesOf enabled conn w.seen (spellings (gained v w)) first now (Some cause)
+  hung_gives e =
+      let P : List (List ℕ) → Type 0 = λ l. GivesOf enabled conn w.seen l first now (Some cause) in
+      subst P (sym given_is) (h.bytes, h.told, h.fits, (u.seen, went_on e, h.stops))
 
   pub unhung_gives : GivesOf enabled conn w.seen (spellings (gained v w)) first now None
-  unhung_gives = (h.bytes, h.told, gives_front enabled conn w.seen (spellings (gained v w)) (cut_stream h.bytes) (Some cause) later)
+  unhung_gives =
+      let P : List (List ℕ) → Type 0 = λ l. GivesOf enabled conn w.seen l first now None in
+      subst P (sym given_is) (h.bytes, h.told, h.fits, ends_front enabled conn u.seen (spellings h.entries) (cut_stream h.bytes) cause h.stops)

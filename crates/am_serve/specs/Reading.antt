@@ -1,5 +1,5 @@
 -- What a side that reads messages does.
-use Rattle.std.specs.Prelude.{◌≡◌, ◌≢◌, ◌⊎◌, ℕ, ◌+◌, false, List, [], ◌∷◌, ◌++◌, length, Option, Some, None, Ok, Err}
+use Rattle.std.specs.Prelude.{◌≡◌, ◌≢◌, ◌⊎◌, ℕ, ◌+◌, ◌==◌, true, false, List, [], ◌∷◌, ◌++◌, length, Option, Some, None, Ok, Err, if◌then◌else◌}
 use Rattle.std.specs.List.{flat_map, AllByRecursion}
 use Rattle.am_base.specs.Outside.{then_told}
 use Rattle.ninep_wire.specs.declared.fault.WireFault.{WireFault}
@@ -7,7 +7,7 @@ use Rattle.ninep_wire.specs.declared.fault.WireFault.TheVariants as wire
 use Rattle.ninep_wire.specs.declared.message.TMsg.{TMsg}
 use Rattle.ninep_wire.specs.Reading.{t_of}
 use Rattle.ninep_wire.specs.Spelling.{spelling_t}
-use Rattle.ninep_cut.specs.declared.cut.Cut.TheVariants.{Broken}
+use Rattle.ninep_cut.specs.declared.cut.Cut.TheVariants.{More, Broken}
 use Rattle.ninep_cut.specs.Cuts.{Stream, cut_of, cut_stream}
 use Rattle.am_journal.specs.declared.ending.Bad.{Bad}
 use Rattle.am_journal.specs.declared.ending.Bad.TheVariants as bad
@@ -19,6 +19,7 @@ use Rattle.am_journal.specs.declared.event.Why.{Why}
 use Rattle.am_journal.specs.declared.event.Why.TheVariants as why
 use Rattle.am_counter.specs.Known.{Known}
 use Rattle.am_counter.specs.Played.{IsPrefix, has_hang}
+use Rattle.am_serve.specs.Budget.{fits_budget}
 use Rattle.am_serve.specs.Gained.{Rule, gained}
 
 -- ---- entries
@@ -48,6 +49,32 @@ AreRead conn (Some why) v w =
     (entries : List (ℕ × Event)) × (now : List Event) × AreMessages conn entries × (has_hang now conn ≡ false)
     × (gained v w ≡ entries ++ (length now + 1, event.Hang conn why) ∷ []) × (w.seen ≡ now ++ event.Hang conn why ∷ [])
 
+-- ---- a journal
+
+abbrev pub spelled_on : ℕ → Event → List (List ℕ)
+spelled_on conn (event.Dial c) = []
+spelled_on conn (event.Msg c msg) = if c == conn then spelling_t msg ∷ [] else []
+spelled_on conn (event.Hang c why) = []
+spelled_on conn (event.Took c) = []
+spelled_on conn event.New = []
+spelled_on conn (event.Key w side text) = []
+spelled_on conn (event.Sel w range) = []
+
+-- the bytes of each message that came on the connection
+abbrev pub messages_of : List Event → ℕ → List (List ℕ)
+messages_of journal conn = flat_map (spelled_on conn) journal
+
+-- these messages stand among all, in their order
+abbrev pub StandAmong : List (List ℕ) → List (List ℕ) → Type 0
+StandAmong [] all = Unit {0}
+StandAmong (m ∷ messages) all = (before : List (List ℕ)) × (after : List (List ℕ)) × (all ≡ before ++ m ∷ after) × StandAmong messages after
+
+-- What was seen begins with a journal that has all messages that were given, and no hang-up of the connection.
+pub record IsTurn (conn : ℕ) (seen : List Event) (given : List (List ℕ)) (journal : List Event) : Type 0 where
+  pub front : IsPrefix journal seen
+  pub messages : StandAmong given (messages_of journal conn)
+  pub goes_on : has_hang journal conn ≡ false
+
 -- ---- the stream
 
 -- the messages begin with those that were given
@@ -58,37 +85,46 @@ AreFront given messages = (more : List (List ℕ)) × (messages ≡ given ++ mor
 abbrev pub IsNext : List (List ℕ) → List (List ℕ) → List ℕ → Type 0
 IsNext given messages m = (more : List (List ℕ)) × (messages ≡ given ++ m ∷ more)
 
--- the next message isn't enabled after a journal that was seen, for this reason
+-- the next message, which the budget still has
+abbrev pub IsDue : List (List ℕ) → Stream → List ℕ → Type 0
+IsDue given stream m = IsNext given stream.messages m × (fits_budget (given ++ m ∷ []) ≡ true)
+
+-- the next message isn't enabled after a journal, for this reason
 abbrev pub NextRefused : Rule → ℕ → List Event → List (List ℕ) → Stream → Why → Type 0
-NextRefused enabled conn seen given stream reason =
-    (m : List ℕ) × (msg : TMsg) × (now : List Event) × IsNext given stream.messages m × (t_of m ≡ Ok msg)
-    × IsPrefix now seen × (enabled now (event.Msg conn msg) ≡ Some reason)
+NextRefused enabled conn journal given stream reason =
+    (m : List ℕ) × (msg : TMsg) × IsDue given stream m × (t_of m ≡ Ok msg) × (enabled journal (event.Msg conn msg) ≡ Some reason)
 
 -- the next message has this fault
 abbrev pub NextFaulty : List (List ℕ) → Stream → WireFault → Type 0
-NextFaulty given stream f = (m : List ℕ) × IsNext given stream.messages m × (t_of m ≡ Err f)
+NextFaulty given stream f = (m : List ℕ) × IsDue given stream m × (t_of m ≡ Err f)
 
 -- a size that no message has stands behind the messages
 abbrev pub SizeFaulty : List (List ℕ) → Stream → Type 0
 SizeFaulty given stream = (size : ℕ) × (given ≡ stream.messages) × (cut_of stream.rest ≡ Broken size)
 
--- what was wrong behind the messages that were given
+-- what is wrong behind the messages that were given
 abbrev pub IsBroken : Rule → ℕ → List Event → List (List ℕ) → Stream → Bad → Type 0
-IsBroken enabled conn seen given stream (bad.Wire f) = NextFaulty given stream f ⊎ ((f ≡ wire.Size) × SizeFaulty given stream)
-IsBroken enabled conn seen given stream bad.Size = NextRefused enabled conn seen given stream why.Size
-IsBroken enabled conn seen given stream bad.Tag = NextRefused enabled conn seen given stream why.Tag
+IsBroken enabled conn journal given stream (bad.Wire f) = NextFaulty given stream f ⊎ ((f ≡ wire.Size) × SizeFaulty given stream)
+IsBroken enabled conn journal given stream bad.Size = NextRefused enabled conn journal given stream why.Size
+IsBroken enabled conn journal given stream bad.Tag = NextRefused enabled conn journal given stream why.Tag
+
+-- Why a stream that was read ends a connection after a journal, behind the messages that were given. What stands next decides: where it is
+-- beyond the budget or broken, no other cause is left but want of memory.
+abbrev pub EndsAfter : Rule → ℕ → List Event → List (List ℕ) → Stream → Ending → Type 0
+EndsAfter enabled conn journal given stream ending.End = (given ≡ stream.messages) × (stream.rest ≡ [])
+EndsAfter enabled conn journal given stream ending.Torn = (given ≡ stream.messages) × (cut_of stream.rest ≡ More) × (stream.rest ≢ [])
+EndsAfter enabled conn journal given stream ending.ReadFault = (given ≡ stream.messages) × (cut_of stream.rest ≡ More)
+EndsAfter enabled conn journal given stream (ending.Broken b) = IsBroken enabled conn journal given stream b
+EndsAfter enabled conn journal given stream ending.Spent = (m : List ℕ) × IsNext given stream.messages m × (fits_budget (given ++ m ∷ []) ≡ false)
+EndsAfter enabled conn journal given stream ending.Gone = ⊥
+EndsAfter enabled conn journal given stream ending.NoMemory = AreFront given stream.messages
 
 -- Which messages of a stream that was read were given, and what is left of it, with each answer.
 abbrev pub Gives : Rule → ℕ → List Event → List (List ℕ) → Stream → Option Ending → Type 0
 Gives enabled conn seen given stream None = AreFront given stream.messages
-Gives enabled conn seen given stream (Some ending.End) = (given ≡ stream.messages) × (stream.rest ≡ [])
-Gives enabled conn seen given stream (Some ending.Torn) = (given ≡ stream.messages) × (stream.rest ≢ [])
-Gives enabled conn seen given stream (Some ending.ReadFault) = given ≡ stream.messages
-Gives enabled conn seen given stream (Some (ending.Broken b)) = IsBroken enabled conn seen given stream b
-Gives enabled conn seen given stream (Some ending.Spent) = ⊥
-Gives enabled conn seen given stream (Some ending.Gone) = ⊥
-Gives enabled conn seen given stream (Some ending.NoMemory) = AreFront given stream.messages
+Gives enabled conn seen given stream (Some why) = (journal : List Event) × IsTurn conn seen given journal × EndsAfter enabled conn journal given stream why
 
--- bytes were read from a source, of which these messages were given
+-- bytes were read from a source, of which these messages were given, no more than the budget has
 abbrev pub GivesOf : Rule → ℕ → List Event → List (List ℕ) → Option (List ℕ) → Option (List ℕ) → Option Ending → Type 0
-GivesOf enabled conn seen given first now answer = (bytes : List ℕ) × (first ≡ then_told bytes now) × Gives enabled conn seen given (cut_stream bytes) answer
+GivesOf enabled conn seen given first now answer =
+    (bytes : List ℕ) × (first ≡ then_told bytes now) × (fits_budget given ≡ true) × Gives enabled conn seen given (cut_stream bytes) answer

@@ -1,10 +1,10 @@
 -- What the steps of a side that reads messages do.
-use Rattle.std.specs.Prelude.{◌≡◌, ◌≢◌, ℕ, true, List, [], Option, Some, None, Ok, Err}
+use Rattle.std.specs.Prelude.{◌≡◌, ◌≢◌, ℕ, true, List, [], Option, Some, Ok, Err}
 use Rattle.am_base.specs.Outside.{then_told, AreTold, HasRisen}
 use Rattle.ninep_wire.specs.declared.message.TMsg.{TMsg}
 use Rattle.ninep_wire.specs.Reading.{t_of}
 use Rattle.ninep_wire.specs.Spelling.{spelling_t}
-use Rattle.ninep_cut.specs.Cuts.{then_cut, cut_stream}
+use Rattle.ninep_cut.specs.Cuts.{Stream, then_cut, cut_stream}
 use Rattle.am_journal.specs.declared.ending.Bad.{Bad}
 use Rattle.am_journal.specs.declared.ending.Bad.TheVariants as bad
 use Rattle.am_journal.specs.declared.ending.Ending.{Ending}
@@ -15,8 +15,10 @@ use Rattle.am_journal.specs.declared.event.Why.{Why}
 use Rattle.am_journal.specs.declared.event.Why.TheVariants as why
 use Rattle.am_counter.specs.Known.{Known, Looks, Submits}
 use Rattle.am_counter.specs.Played.{IsPlayed, has_hang}
+use Rattle.am_serve.specs.Budget.{fits_budget, IsLeft}
 use Rattle.am_serve.specs.Gained.{Rule, Gains}
-use Rattle.am_serve.specs.Reading.{AreMessages, spellings, Gives}
+use Rattle.am_serve.specs.Reading.{AreMessages, spellings, AreFront, EndsAfter}
+use Rattle.am_serve.specs.declared.budget.Budget.{Budget}
 use Rattle.am_serve.specs.declared.sending.Stop.{Stop}
 use Rattle.am_serve.specs.declared.sending.Stop.TheVariants as stop
 use Rattle.am_serve.specs.declared.sending.Sent.{Sent}
@@ -89,6 +91,9 @@ pub record Source : Type 0 where
   pub faults_now : ℕ
   pub left : List ℕ
 
+abbrev pub source_with : Option (List ℕ) → Option (List ℕ) → ℕ → ℕ → List ℕ → Source
+source_with told told_now faults faults_now left = record { told = told; told_now = told_now; faults = faults; faults_now = faults_now; left = left }
+
 abbrev pub EndsIn : Source → Ending → Type 0
 EndsIn s ending.End = (s.told_now ≡ s.told) × AreTold s.told_now [] × (s.left ≡ [])
 EndsIn s ending.Torn = (s.told_now ≡ s.told) × AreTold s.told_now [] × (s.left ≢ [])
@@ -105,25 +110,27 @@ StopsIn enabled conn seen s (stop.Ends cause) = EndsIn s cause
 
 -- ---- all so far
 
--- Messages were given of the bytes that were read, and these bytes of them are left.
-pub record ReadSoFar (conn : ℕ) (v w : Known) (left : List ℕ) (first now : Option (List ℕ)) : Type 0 where
+-- Messages were given of the bytes that were read, these bytes of them are left, and this of the budget.
+pub record ReadSoFar (conn : ℕ) (v w : Known) (left : List ℕ) (b : Budget) (first now : Option (List ℕ)) : Type 0 where
   pub entries : List (ℕ × Event)
   pub gains : Gains v entries w
   pub messages : AreMessages conn entries
+  pub budget : IsLeft b (spellings entries)
   pub bytes : List ℕ
   pub told : first ≡ then_told bytes now
   pub stream : cut_stream bytes ≡ then_cut (spellings entries) (cut_stream left)
 
--- the ending that is answered, unless another side has ended the connection
-abbrev pub answer_of : Stop → Option Ending
-answer_of stop.Ended = None
-answer_of (stop.Ends cause) = Some cause
+-- why reading stopped after a journal, behind the messages that were given
+abbrev pub StopsAfter : Rule → ℕ → List Event → List (List ℕ) → Stream → Stop → Type 0
+StopsAfter enabled conn journal given stream stop.Ended = AreFront given stream.messages
+StopsAfter enabled conn journal given stream (stop.Ends cause) = EndsAfter enabled conn journal given stream cause
 
 -- The same, and then reading stopped.
 pub record ReadUntil (enabled : Rule) (conn : ℕ) (v w : Known) (s : Stop) (first now : Option (List ℕ)) : Type 0 where
   pub entries : List (ℕ × Event)
   pub gains : Gains v entries w
   pub messages : AreMessages conn entries
+  pub fits : fits_budget (spellings entries) ≡ true
   pub bytes : List ℕ
   pub told : first ≡ then_told bytes now
-  pub gives : Gives enabled conn w.seen (spellings entries) (cut_stream bytes) (answer_of s)
+  pub stops : StopsAfter enabled conn w.seen (spellings entries) (cut_stream bytes) s

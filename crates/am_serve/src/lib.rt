@@ -2,13 +2,18 @@
 #![tactic(auto)]
 
 mod asked;
+mod budget;
 mod hanging;
+mod laws;
 mod reading;
 mod scripting;
 mod sending;
+#[cfg(test)]
+mod tests;
 mod writing;
 
 pub use asked::Asked;
+pub use laws::what_stands_next_decides;
 pub use reading::read_side;
 pub use scripting::{LineFault, ScriptEnd, script_side};
 pub use writing::{WriteEnd, write_side};

@@ -9,6 +9,7 @@ ghost use Rattle.am_serve.specs.Reading.{AreRead, GivesOf, spellings};
 ghost use Rattle.am_serve.specs.Sending.{HasEnded, ReadUntil};
 ghost use Rattle.am_serve.specs.declared.sending.Stop.TheVariants as stop;
 
+use crate::budget::Budget;
 use crate::hanging::hang_up;
 use crate::sending::{Stop, read_more, send_message};
 use am_base::Source;
@@ -44,12 +45,16 @@ fn read_messages<C: Counter, S: Source, R: Wait>(
 {
     // The messages don't depend on the pieces that are fed.
     pieces_are_joined();
+    let mut budget = Budget::new();
     let mut cutter = Cutter::new(alloc);
     let mut message = Items::new(alloc);
     for _ in rt.forever() {
         match cutter.next(&mut message) {
             Ok(Cut::Whole) => {
                 let bytes = message.as_slice();
+                if !budget.spend(bytes.len()) {
+                    return Stop::Ends(Ending::Spent);
+                }
                 if let Err(stop) = send_message(rt, alloc, desk, seat, bell, conn, bytes) {
                     return stop;
                 }
@@ -69,8 +74,9 @@ fn read_messages<C: Counter, S: Source, R: Wait>(
 /// Cuts a source into messages and submits each, until something ends the connection, and answers the cause of the hang-up that it
 /// makes then, or `None` where the connection had ended. It holds reading, and waits for the bell, while the connection has no room for a
 /// reply, and rings it after each entry. The causes: `End` and `Torn` at the end of the source, between two messages or inside one,
-/// `ReadFault` where the source fails, `Broken` where the next message can't be read, is above the connection's msize or has a tag that
-/// waits, and `NoMemory`.
+/// `ReadFault` where the source fails, `Spent` where the next message would be the 1,000,001st, or would bring the bytes of all above
+/// 67,108,864, `Broken` where the next message can't be read, is above the connection's msize or has a tag that waits, in this order, and
+/// `NoMemory`.
 pub fn read_side<C: Counter, S: Source, R: Wait>(
     rt: &R,
     alloc: Global,
@@ -88,7 +94,8 @@ pub fn read_side<C: Counter, S: Source, R: Wait>(
     ensures gains { Gains (C.known seat.old) (gained (C.known seat.old) (C.known seat.new)) (C.known seat.new) }
     ensures entries { AreRead conn result (C.known seat.old) (C.known seat.new) }
     // Its messages are those of the bytes that were read.
-    ensures gives { GivesOf C.enabled conn (C.known seat.new).seen (spellings (gained (C.known seat.old) (C.known seat.new))) (S.left source.old) (S.left source.new) result }
+    ensures gives { GivesOf C.enabled conn (C.known seat.new).seen (spellings (gained (C.known seat.old) (C.known seat.new)))
+        (S.left source.old) (S.left source.new) result }
     ensures ended { has_hang (C.known seat.new).seen conn ≡ true }
     ensures end { result ≡ Some ending.End → AreTold (S.left source.new) [] }
     ensures torn { result ≡ Some ending.Torn → AreTold (S.left source.new) [] }

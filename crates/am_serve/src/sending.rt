@@ -6,7 +6,7 @@ ghost use Rattle.ninep_cut.specs.Cuts.{IsMessage};
 ghost use Rattle.am_counter.specs.declared.ask.Ask.TheVariants as ask;
 ghost use Rattle.am_counter.specs.Known.{Looks};
 ghost use Rattle.am_counter.specs.Played.{has_dial};
-ghost use Rattle.am_serve.specs.Sending.{HasEnded, Sends, Keeps, Tries, sent_for, EndsIn, StopsIn};
+ghost use Rattle.am_serve.specs.Sending.{HasEnded, Sends, Keeps, Tries, sent_for, EndsIn, StopsIn, source_with};
 
 use am_base::Source;
 use am_counter::{Ask, Counter};
@@ -144,7 +144,7 @@ const PIECE: usize = 8192;
 // Reads a piece, and feeds it.
 fn read_piece<S: Source>(source: &mut S, cutter: &mut Cutter) -> Result<(), Ending>
     ensures ok { OnOk result ((piece : List ℕ) × (S.left source.old ≡ then_told piece (S.left source.new)) × (cutter.new ≡ cutter.old ++ piece)) }
-    ensures err { IfErr result (EndsIn (record { told = S.left source.old; told_now = S.left source.new; faults = S.faults source.old; faults_now = S.faults source.new; left = cutter.old })) }
+    ensures err { IfErr result (EndsIn (source_with (S.left source.old) (S.left source.new) (S.faults source.old) (S.faults source.new) cutter.old)) }
     ensures later { S.faults source.old ≤ S.faults source.new }
 {
     let mut buf = [0; PIECE];
@@ -179,7 +179,8 @@ pub(crate) fn read_more<C: Counter, S: Source, R: Wait>(
     ensures fits { C.fits desk.now seat.new }
     ensures looks { Looks (C.known seat.old) (C.known seat.new) }
     ensures ok { OnOk result ((piece : List ℕ) × (S.left source.old ≡ then_told piece (S.left source.new)) × (cutter.new ≡ cutter.old ++ piece)) }
-    ensures err { IfErr result (StopsIn C.enabled conn (C.known seat.new).seen (record { told = S.left source.old; told_now = S.left source.new; faults = S.faults source.old; faults_now = S.faults source.new; left = cutter.old })) }
+    ensures err { IfErr result (StopsIn C.enabled conn (C.known seat.new).seen
+        (source_with (S.left source.old) (S.left source.new) (S.faults source.old) (S.faults source.new) cutter.old)) }
     ensures later { S.faults source.old ≤ S.faults source.new }
 {
     if !wait_for_room(rt, desk, seat, bell, conn) {

@@ -84,7 +84,8 @@ pub fn write_side<C: Counter, K: Sink, R: Wait>(
     ensures gains { Gains (C.known seat.old) (gained (C.known seat.old) (C.known seat.new)) (C.known seat.new) }
     ensures entries { AreWritten conn result (C.known seat.old) (C.known seat.new) }
     // The sink got the bytes that they took.
-    ensures gets { Gets result (K.held sink.old) (taken_bytes C.unsent (C.known seat.new).seen (gained (C.known seat.old) (C.known seat.new))) (K.held sink.new) }
+    ensures gets { Gets result (K.held sink.old)
+        (taken_bytes C.unsent (C.known seat.new).seen (gained (C.known seat.old) (C.known seat.new))) (K.held sink.new) }
     ensures ended { has_hang (C.known seat.new).seen conn ≡ true }
     ensures nothing_unsent { result ≡ end.Ended → C.unsent (C.known seat.new).seen conn ≡ [] }
     ensures later { K.faults sink.old ≤ K.faults sink.new }

@@ -1,10 +1,12 @@
 -- From what came of the slots to what serving says.
-use Rattle.std.proofs.Common.{◌≡◌, inl, inr, ℕ, ◌≤◌, Bool, true, false, List, [], ◌∷◌, ◌++◌, ◌∙◌, length, refl, sym, ap, subst}
-use Rattle.std.specs.Prelude.{◌<◌, IfSome}
+use Rattle.std.proofs.Common.{◌≡◌, ◌⊎◌, inl, inr, ℕ, ◌≤◌, Bool, true, false, List, [], ◌∷◌, ◌++◌, ◌∙◌, length, refl, sym, ap, subst}
+use Rattle.std.specs.Prelude.{◌<◌, IfSome, Result, Ok, Err, is_err, OnOk, OnErr}
 use Rattle.std.specs.List.{AllByRecursion}
 use Rattle.turn_lock.specs.Journal.{AllStand}
 use Rattle.turn_lock.specs.Kinds.{KeepsOrder}
-use Rattle.am_base.specs.Outside.{AreTold}
+use Rattle.am_base.specs.Outside.{AreTold, PutsFront, HasCause}
+use Rattle.am_base.specs.Stops.{input_limit}
+use Rattle.am_base.specs.Written.{Output, IsWhole, IsCut, IsPut}
 use Rattle.am_journal.specs.declared.event.Event.{Event}
 use Rattle.am_journal.specs.Lawful.{IsLawful}
 use Rattle.am_counter.specs.Known.{Known, lists_of}
@@ -18,10 +20,9 @@ use Rattle.am_slots.proofs.Ran.{ran}
 use Rattle.am_slots.specs.Serving.{EachTells, ServesAll, IsRun}
 use Rattle.am_slots.specs.Slots.{Outside, unbound, HasRisenBy}
 use Rattle.am_slots.specs.declared.slot.Slot.{Slot}
-use Rattle.am_server.specs.Ends.{Given, Writes, IsTooLong, ServesLines, SaysServe, input_limit, end_at}
+use Rattle.am_server.specs.Ends.{Given, Writes, IsTooLong, ServesLines, SaysServe, end_at}
 use Rattle.am_server.specs.Served.{served_from}
 use Rattle.am_server.specs.Texts.{served_text}
-use Rattle.am_server.specs.Written.{Output, IsWhole, IsCut, IsPut}
 use Rattle.am_server.specs.declared.served.Served.{Served}
 use Rattle.am_server.specs.declared.writing.ServeEnd.{ServeEnd}
 
@@ -34,15 +35,34 @@ lawful_from before (e ∷ events) p = (p.0, lawful_from (before ++ e ∷ []) eve
 pub lawful_played : (seen journal : List Event) → journal ≡ seen → IsPlayed enabled seen → AllByRecursion IsLawful journal
 lawful_played seen journal is p = subst (λ (l : List Event). AllByRecursion IsLawful l) (sym is) (lawful_from [] seen p)
 
-pub put_one : (o : Output) (text whole : List ℕ) (failed : Bool) → text ≡ whole → (failed ≡ false → IsWhole o text) → (failed ≡ true → IsCut o text) → IsPut o whole
-put_one o text whole false is f t = inl (subst (IsWhole o) is (f refl))
-put_one o text whole true is f t = inr (subst (IsCut o) is (t refl))
+-- what an output got of a text, by what writing it answered
+got : {T E : Type 0} (o : Output) (text whole : List ℕ) (r : Result T E) → text ≡ whole → OnOk r (IsWhole o text) → OnErr r (PutsFront o.held text o.held_now) → HasCause o.faults o.faults_now r
+    → ((is_err r ≡ false) × IsWhole o whole) ⊎ ((is_err r ≡ true) × IsCut o whole)
+got o text whole (Ok x) is ok err cause = inl (refl, subst (IsWhole o) is ok)
+got o text whole (Err e) is ok err cause = inr (
+  refl,
+  record {
+    front = subst (λ (l : List ℕ). PutsFront o.held l o.held_now) is err;
+    risen = cause.risen refl;
+  },
+)
+
+pub put_one : {T E : Type 0} (o : Output) (text whole : List ℕ) (r : Result T E) → text ≡ whole → OnOk r (IsWhole o text) → OnErr r (PutsFront o.held text o.held_now) → HasCause o.faults o.faults_now r
+    → IsPut o whole
+put_one o text whole r is ok err cause = by_cases (got o text whole r is ok err cause)
+  where
+    by_cases : ((is_err r ≡ false) × IsWhole o whole) ⊎ ((is_err r ≡ true) × IsCut o whole) → IsPut o whole
+    by_cases (inl w) = inl w.1
+    by_cases (inr c) = inr c.1
 
 module _ {G L S K : Type 0} where
-  pub wrote : (slots : List (Slot G L S K)) (script : ScriptEnd) (o : Output) (text whole : List ℕ) (failed : Bool) (e : ServeEnd) → text ≡ whole
-      → (failed ≡ false → IsWhole o text) → (failed ≡ true → IsCut o text) → e ≡ end_at slots script failed → Writes slots script o whole e
-  wrote slots script o text whole false e is f t at = inl (at, subst (IsWhole o) is (f refl))
-  wrote slots script o text whole true e is f t at = inr (inl (at, subst (IsCut o) is (t refl)))
+  pub wrote : {T E : Type 0} (slots : List (Slot G L S K)) (script : ScriptEnd) (o : Output) (text whole : List ℕ) (r : Result T E) (e : ServeEnd) → text ≡ whole
+      → OnOk r (IsWhole o text) → OnErr r (PutsFront o.held text o.held_now) → HasCause o.faults o.faults_now r → e ≡ end_at slots script (is_err r) → Writes slots script o whole e
+  wrote slots script o text whole r e is ok err cause at = by_cases (got o text whole r is ok err cause)
+    where
+      by_cases : ((is_err r ≡ false) × IsWhole o whole) ⊎ ((is_err r ≡ true) × IsCut o whole) → Writes slots script o whole e
+      by_cases (inl w) = inl (at ∙ ap (end_at slots script) w.0, w.1)
+      by_cases (inr c) = inr (inl (at ∙ ap (end_at slots script) c.0, c.1))
 
   -- the slots of one seat, which has all entries at the end
   pub served_lines : (m : Outside G L S K) (path : List ℕ) (clients : ℕ) (lines : List ℕ) (before now : ℕ) (o : Output) (slots : List (Slot G L S K)) (script : ScriptEnd) (w : Known)

@@ -2,6 +2,8 @@
 use Rattle.std.specs.Prelude.{◌≡◌, ◌⊎◌, ℕ, ◌<◌, ◌≤◌, Bool, true, false, List, [], ◌++◌, length, Option, IfSome, if◌then◌else◌, codes}
 use Rattle.std.specs.List.{list_any}
 use Rattle.am_base.specs.Outside.{AreTold, HasRisen}
+use Rattle.am_base.specs.Stops.{input_limit}
+use Rattle.am_base.specs.Written.{Output, IsWhole, IsCut, IsPut}
 use Rattle.am_journal.specs.declared.event.Event.{Event}
 use Rattle.am_journal.specs.Texts.{refused_text}
 use Rattle.am_counter.specs.Played.{IsPlayed}
@@ -15,7 +17,6 @@ use Rattle.am_slots.specs.declared.slot.Slot.{Slot}
 use Rattle.am_slots.specs.declared.slot.Slot.TheVariants as slot
 use Rattle.am_server.specs.Served.{served_from}
 use Rattle.am_server.specs.Texts.{has_failed, served_text}
-use Rattle.am_server.specs.Written.{Output, IsWhole, IsCut, IsPut}
 use Rattle.am_server.specs.declared.served.Served.{Served}
 use Rattle.am_server.specs.declared.writing.ServeEnd.{ServeEnd}
 use Rattle.am_server.specs.declared.writing.ServeEnd.TheVariants as end
@@ -72,10 +73,6 @@ pub record Serves {G L S K : Type 0} (m : Outside G L S K) (path : List ℕ) (cl
   pub told : served ≡ served_from journal 0 slots
   pub writes : Writes slots done o (served_text journal slots done) e
 
--- the most bytes that a script has
-abbrev pub input_limit : ℕ
-input_limit = 16777216
-
 -- what came of a script of lawful length: it was served, or there was no memory to begin
 abbrev pub ServesLines : {G L S K : Type 0} → Outside G L S K → List ℕ → ℕ → List ℕ → ℕ → ℕ → Output → List Event → List (Served G L S K) → ServeEnd → Type 0
 ServesLines m path clients lines before now o journal served e =
@@ -88,6 +85,10 @@ pub record Given : Type 0 where
   pub faults_now : ℕ
   pub host_faults : ℕ
   pub host_faults_now : ℕ
+
+abbrev pub given : Option (List ℕ) → ℕ → ℕ → ℕ → ℕ → Given
+given told faults faults_now host_faults host_faults_now =
+    record { told = told; faults = faults; faults_now = faults_now; host_faults = host_faults; host_faults_now = host_faults_now }
 
 -- How serving ends: the input could not be read, or was too long, or there was no memory for it, or its lines were served.
 abbrev pub SaysServe : {G L S K : Type 0} → Outside G L S K → List ℕ → ℕ → Given → Output → List Event → List (Served G L S K) → ServeEnd → Type 0

@@ -1,4 +1,3 @@
 pub mod Ends
 pub mod Served
 pub mod Texts
-pub mod Written

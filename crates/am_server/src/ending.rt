@@ -16,7 +16,7 @@ fn ended_by(event: &Event, conn: u32) -> Option<Ending>
 }
 
 /// The cause of a connection's first hang-up in a journal, or `None` where it has none.
-pub fn ending_in(journal: &[Event], conn: u32) -> Option<Ending>
+pub(crate) fn ending_in(journal: &[Event], conn: u32) -> Option<Ending>
     ensures { result ≡ ending_of journal.now conn }
 {
     for event in journal {

@@ -7,7 +7,6 @@ mod serving;
 mod texts;
 mod writing;
 
-pub use ending::ending_in;
 pub use served::{Served, ServedEnd, ServedList};
 pub use serving::{HostServing, serve};
 pub use writing::{ServeEnd, Serving};

@@ -63,7 +63,14 @@ fn with_objects<G, L, S, K>(
     objects: Objects<G, L, S, K>,
     end: ServedEnd,
 ) -> Served<G, L, S, K>
-    ensures { result ≡ record { slot = slot; gate = Some objects.gate; link = Some objects.link; reader = Some objects.reader; writer = Some objects.writer; end = end } }
+    ensures { result ≡ record {
+      slot = slot;
+      gate = Some objects.gate;
+      link = Some objects.link;
+      reader = Some objects.reader;
+      writer = Some objects.writer;
+      end = end;
+    } }
 {
     let Objects {
         gate,

@@ -1,11 +1,12 @@
 //! Serving connections, with a script beside them.
 
 ghost use Rattle.std.specs.Prelude.{◌≡◌, ◌≤◌};
+ghost use Rattle.am_base.specs.Written.{seen};
 ghost use Rattle.am_slots.specs.Slots.{outside};
-ghost use Rattle.am_server.specs.Ends.{ServesLines, IsTooLong, SaysServe};
+ghost use Rattle.am_server.specs.Ends.{ServesLines, IsTooLong, SaysServe, given};
 
-use crate::writing::{ServeEnd, Serving, finish, idle, put};
-use am_base::{Gate, Host, Link, ReadStop, Sink, Source, read_to_end};
+use crate::writing::{ServeEnd, Serving, finish, idle};
+use am_base::{Gate, Host, INPUT_LIMIT, Link, ReadStop, Sink, Source, read_to_end, write_all};
 use am_desk::Desk;
 use am_journal::refused_line;
 use am_slots::serve_slots;
@@ -13,9 +14,6 @@ use am_text::NoMemory;
 use std::alloc::Global;
 use std::sync::Wait;
 use std::thread::Threads;
-
-/// The most bytes that a script has.
-const INPUT_LIMIT: usize = 16777216;
 
 /// What came of serving the slots of a host.
 pub type HostServing<H> = Serving<
@@ -36,8 +34,9 @@ fn serve_lines<O: Sink, H: Host, R: Threads + Wait + Sync>(
     host: &mut H,
 ) -> HostServing<H>
     requires clients { (1 ≤ clients) × (clients ≤ 64) }
-    ensures { ServesLines (outside H.G.name H.G.faults H.G.L.begins H.G.L.faults H.G.L.R.left H.G.L.R.faults H.G.L.W.held H.G.L.W.faults) path.now clients script.now (H.faults host.old) (H.faults host.new)
-        (record { held = O.held output.old; held_now = O.held output.new; faults = O.faults output.old; faults_now = O.faults output.new })
+    ensures { ServesLines (outside H.G.name H.G.faults H.G.L.begins H.G.L.faults H.G.L.R.left H.G.L.R.faults H.G.L.W.held H.G.L.W.faults)
+        path.now clients script.now (H.faults host.old) (H.faults host.new)
+        (seen (O.held output.old) (O.held output.new) (O.faults output.old) (O.faults output.new))
         result.journal result.served result.end }
 {
     let Ok(served) = Vec::with_capacity(alloc, clients as usize) else {
@@ -54,11 +53,12 @@ fn serve_lines<O: Sink, H: Host, R: Threads + Wait + Sync>(
 
 // Refuses a script that is too long.
 fn refuse_input<O: Sink, G, L, S, K>(alloc: Global, output: &mut O) -> Serving<G, L, S, K>
-    ensures { IsTooLong (record { held = O.held output.old; held_now = O.held output.new; faults = O.faults output.old; faults_now = O.faults output.new }) result.journal result.served result.end }
+    ensures { IsTooLong
+        (seen (O.held output.old) (O.held output.new) (O.faults output.old) (O.faults output.new)) result.journal result.served result.end }
 {
     match refused_line(alloc, 0, b"input") {
         Ok(text) => {
-            put(output, text.as_slice());
+            let _written = write_all(output, text.as_slice());
             idle(alloc, ServeEnd::Script)
         }
         Err(NoMemory) => idle(alloc, ServeEnd::NoMemory),
@@ -77,9 +77,9 @@ pub fn serve<I: Source, O: Sink, H: Host, R: Threads + Wait + Sync>(
     host: &mut H,
 ) -> HostServing<H>
     requires clients { (1 ≤ clients) × (clients ≤ 64) }
-    ensures { SaysServe (outside H.G.name H.G.faults H.G.L.begins H.G.L.faults H.G.L.R.left H.G.L.R.faults H.G.L.W.held H.G.L.W.faults) path.now clients
-        (record { told = I.left input.old; faults = I.faults input.old; faults_now = I.faults input.new; host_faults = H.faults host.old; host_faults_now = H.faults host.new })
-        (record { held = O.held output.old; held_now = O.held output.new; faults = O.faults output.old; faults_now = O.faults output.new })
+    ensures { SaysServe (outside H.G.name H.G.faults H.G.L.begins H.G.L.faults H.G.L.R.left H.G.L.R.faults H.G.L.W.held H.G.L.W.faults)
+        path.now clients (given (I.left input.old) (I.faults input.old) (I.faults input.new) (H.faults host.old) (H.faults host.new))
+        (seen (O.held output.old) (O.held output.new) (O.faults output.old) (O.faults output.new))
         result.journal result.served result.end }
 {
     match read_to_end(alloc, input, INPUT_LIMIT) {

@@ -1,13 +1,13 @@
 //! How serving ends, and what it writes.
 
-ghost use Rattle.std.specs.Prelude.{◌≡◌, ◌<◌, ◌≤◌, ◌^◌, [], true, false, length, vec_capacity};
+ghost use Rattle.std.specs.Prelude.{◌≡◌, ◌<◌, ◌≤◌, ◌^◌, [], length, vec_capacity};
 ghost use Rattle.std.specs.List.{AllByRecursion, list_any};
+ghost use Rattle.am_base.specs.Written.{seen};
 ghost use Rattle.am_journal.specs.Lawful.{IsLawful};
 ghost use Rattle.acme_core.specs.Run.{settled};
 ghost use Rattle.am_server.specs.Ends.{is_undialled, end_done, end_at, Writes};
 ghost use Rattle.am_server.specs.Served.{served_from};
 ghost use Rattle.am_server.specs.Texts.{has_failed, served_text};
-ghost use Rattle.am_server.specs.Written.{IsWhole, IsCut};
 
 use crate::served::{Served, served_all};
 use crate::texts::{has_failed, whole_text};
@@ -107,17 +107,6 @@ fn end_at<G, L, S, K>(slots: &[Slot<G, L, S, K>], end: ScriptEnd, failed: bool) 
     }
 }
 
-/// Writes a text, and answers whether the output has failed.
-pub(crate) fn put<O: Sink>(output: &mut O, text: &[u8]) -> bool
-    ensures whole { result ≡ false → IsWhole (record { held = O.held output.old; held_now = O.held output.new; faults = O.faults output.old; faults_now = O.faults output.new }) text.now }
-    ensures cut { result ≡ true → IsCut (record { held = O.held output.old; held_now = O.held output.new; faults = O.faults output.old; faults_now = O.faults output.new }) text.now }
-{
-    match write_all(output, text) {
-        Ok(()) => false,
-        Err(_) => true,
-    }
-}
-
 // Writes the whole text, and answers how serving ended.
 fn write_served<G, L, S, K, O: Sink>(
     alloc: Global,
@@ -130,12 +119,12 @@ fn write_served<G, L, S, K, O: Sink>(
     requires lawful { AllByRecursion IsLawful core.now.journal }
     requires few { length slots.now < 2 ^ 32 }
     ensures { Writes slots.now script
-        (record { held = O.held output.old; held_now = O.held output.new; faults = O.faults output.old; faults_now = O.faults output.new })
+        (seen (O.held output.old) (O.held output.new) (O.faults output.old) (O.faults output.new))
         (served_text core.now.journal slots.now script) result }
 {
     match whole_text(alloc, core, slots, script) {
         Ok(text) => {
-            let failed = put(output, text.as_slice());
+            let failed = write_all(output, text.as_slice()).is_err();
             end_at(slots, script, failed)
         }
         Err(NoMemory) => ServeEnd::NoMemory,
@@ -172,7 +161,7 @@ pub(crate) fn finish<G: Drop, L: Drop, S: Drop, K: Drop, O: Sink>(
     ensures journal { result.journal ≡ core.journal }
     ensures served { result.served ≡ served_from core.journal 0 slots }
     ensures writes { Writes slots script
-        (record { held = O.held output.old; held_now = O.held output.new; faults = O.faults output.old; faults_now = O.faults output.new })
+        (seen (O.held output.old) (O.held output.new) (O.faults output.old) (O.faults output.new))
         (served_text core.journal slots script) result.end }
 {
     let end = write_served(alloc, &core, slots.as_slice(), script, output);

@@ -19,7 +19,9 @@ use Rattle.am_serve.specs.declared.writing.WriteEnd.{WriteEnd}
 use Rattle.am_serve.specs.declared.writing.WriteEnd.TheVariants as end
 use Rattle.am_slots.specs.Sides.{IsHangUp, HangsAfterReading, HangsAfterWriting, Reads, Writes, Serves}
 use Rattle.am_slots.specs.Working.{Read, DidRead, DidWrite, HasDialled, IsFresh}
-use Rattle.am_slots.proofs.Longer.{has_hang_kept, reads_later, writes_later, stands_lower}
+use Rattle.am_serve.proofs.Gaining.{stands_lower}
+use Rattle.am_serve.proofs.HangUps.{has_hang_kept}
+use Rattle.am_slots.proofs.Longer.{reads_later, writes_later}
 
 -- ---- dialling
 

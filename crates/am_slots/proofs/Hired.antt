@@ -16,7 +16,7 @@ use Rattle.am_slots.specs.Working.{IsFresh, IsReady, TakesInEach, slots_of}
 use Rattle.am_slots.specs.declared.slot.Slot.{Slot}
 use Rattle.am_slots.specs.declared.working.Worker.{Worker}
 use Rattle.am_slots.proofs.Bound.{waiting_front}
-use Rattle.am_slots.proofs.Longer.{grown}
+use Rattle.am_serve.proofs.Gaining.{grown}
 
 -- ---- loops over a vector
 

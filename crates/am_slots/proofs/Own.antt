@@ -15,11 +15,11 @@ use Rattle.am_journal.specs.declared.event.Event.{Event}
 use Rattle.am_journal.specs.declared.event.Event.TheVariants.{Dial, Msg, Hang, Took}
 use Rattle.am_counter.specs.Played.{is_dial_of}
 use Rattle.am_serve.specs.Gained.{Rule}
-use Rattle.am_serve.specs.Reading.{AreMessages, spelling_of, spellings}
+use Rattle.am_serve.specs.Reading.{AreMessages, spelling_of, spellings, spelled_on}
 use Rattle.am_serve.specs.Writing.{AreTakings, bytes_of, taken_bytes}
 use Rattle.am_serve.specs.declared.writing.WriteEnd.{WriteEnd}
 use Rattle.am_serve.specs.declared.writing.WriteEnd.TheVariants as end
-use Rattle.am_slots.specs.Connection.{spelled_on, ended_by, sent_by}
+use Rattle.am_slots.specs.Connection.{ended_by, sent_by}
 use Rattle.am_slots.specs.Sides.{IsHangUp, HangsAfterReading, HangsAfterWriting, Reads, Writes}
 use Rattle.am_slots.specs.Slots.{IsCause}
 use Rattle.am_slots.proofs.Gathered.{fails-append, filter_fails, gathered_at, only_one}

@@ -1,7 +1,6 @@
 -- What a journal says of one connection.
 use Rattle.std.specs.Prelude.{◌≡◌, ℕ, ◌==◌, Bool, false, List, [], ◌∷◌, ◌++◌, filter, if◌then◌else◌}
 use Rattle.std.specs.List.{flat_map}
-use Rattle.ninep_wire.specs.Spelling.{spelling_t}
 use Rattle.am_journal.specs.declared.ending.Ending.{Ending}
 use Rattle.am_journal.specs.declared.event.Event.{Event}
 use Rattle.am_journal.specs.declared.event.Event.TheVariants as event
@@ -19,19 +18,6 @@ is_of conn (event.Sel w range) = false
 -- the journal has nothing of the connection
 abbrev pub IsSilent : List Event → ℕ → Type 0
 IsSilent journal conn = filter (is_of conn) journal ≡ []
-
-abbrev pub spelled_on : ℕ → Event → List (List ℕ)
-spelled_on conn (event.Dial c) = []
-spelled_on conn (event.Msg c msg) = if c == conn then spelling_t msg ∷ [] else []
-spelled_on conn (event.Hang c why) = []
-spelled_on conn (event.Took c) = []
-spelled_on conn event.New = []
-spelled_on conn (event.Key w side text) = []
-spelled_on conn (event.Sel w range) = []
-
--- the bytes of each message that came on the connection
-abbrev pub messages_of : List Event → ℕ → List (List ℕ)
-messages_of journal conn = flat_map (spelled_on conn) journal
 
 abbrev pub ended_by : ℕ → Event → List Ending
 ended_by conn (event.Dial c) = []

@@ -8,11 +8,11 @@ use Rattle.am_journal.specs.declared.event.Event.{Event}
 use Rattle.am_journal.specs.declared.event.Event.TheVariants.{Dial}
 use Rattle.am_counter.specs.Played.{is_dial_of}
 use Rattle.am_serve.specs.Gained.{Rule}
-use Rattle.am_serve.specs.Reading.{GivesOf}
+use Rattle.am_serve.specs.Reading.{messages_of, GivesOf}
 use Rattle.am_serve.specs.Writing.{Gets}
 use Rattle.am_serve.specs.declared.writing.WriteEnd.{WriteEnd}
 use Rattle.am_serve.specs.declared.writing.WriteEnd.TheVariants as end
-use Rattle.am_slots.specs.Connection.{IsSilent, messages_of, endings_of, sent}
+use Rattle.am_slots.specs.Connection.{IsSilent, endings_of, sent}
 use Rattle.am_slots.specs.Sides.{Serves}
 use Rattle.am_slots.specs.declared.slot.Slot.{Slot}
 use Rattle.am_slots.specs.declared.slot.Slot.TheVariants as slot

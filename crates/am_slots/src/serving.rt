@@ -79,7 +79,8 @@ fn serve_connection<
     requires fresh { (S.faults objects.reader ≡ 0) × (K.faults objects.writer ≡ 0) }
     ensures fits { C.fits desk.now seat.new }
     ensures parts { (C.known seat.new).parts ≡ 2 }
-    ensures has { Has (outside G.name G.faults L.begins L.faults S.left S.faults K.held K.faults) C.enabled C.unsent conn (C.known seat.new).seen result (lists_of (C.known seat.new)) }
+    ensures has { Has (outside G.name G.faults L.begins L.faults S.left S.faults K.held K.faults)
+        C.enabled C.unsent conn (C.known seat.new).seen result (lists_of (C.known seat.new)) }
     ensures tells { Tells (outside G.name G.faults L.begins L.faults S.left S.faults K.held K.faults) result }
     ensures named { (path : List ℕ) → IsNamed (G.name objects.gate) path conn → HasName G.name path conn result }
     ensures bound { unbound (result ∷ []) ≡ 0 }
@@ -125,7 +126,8 @@ fn serve_gate<
     requires waits { G.faults gate ≡ 0 }
     ensures fits { C.fits desk.now seat.new }
     ensures parts { (C.known seat.new).parts ≡ 2 }
-    ensures has { Has (outside G.name G.faults L.begins L.faults S.left S.faults K.held K.faults) C.enabled C.unsent conn (C.known seat.new).seen result (lists_of (C.known seat.new)) }
+    ensures has { Has (outside G.name G.faults L.begins L.faults S.left S.faults K.held K.faults)
+        C.enabled C.unsent conn (C.known seat.new).seen result (lists_of (C.known seat.new)) }
     ensures tells { Tells (outside G.name G.faults L.begins L.faults S.left S.faults K.held K.faults) result }
     ensures named { (path : List ℕ) → IsNamed (G.name gate) path conn → HasName G.name path conn result }
     ensures bound { unbound (result ∷ []) ≡ 0 }
@@ -164,7 +166,8 @@ pub(crate) fn serve_slot<
 >(rt: &R, alloc: Global, desk: &C, bell: &Bell, conn: u32, worker: &mut Worker<T, G, L, S, K>)
     requires ready { IsReady (C.fits desk.now) C.known G.faults worker.old }
     requires conn { conn < 64 }
-    ensures { Works (C.fits desk.now) C.known (outside G.name G.faults L.begins L.faults S.left S.faults K.held K.faults) C.enabled C.unsent conn worker.old worker.new }
+    ensures { Works (C.fits desk.now) C.known (outside G.name G.faults L.begins L.faults S.left S.faults K.held K.faults)
+        C.enabled C.unsent conn worker.old worker.new }
 {
     let slot = mem::replace(&mut worker.slot, Slot::Unbound);
     worker.slot = match slot {

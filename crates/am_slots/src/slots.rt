@@ -119,13 +119,15 @@ fn serve_workers<
     ensures fits { C.fits desk.now seat.new }
     ensures gains { Gains (C.known seat.old) (gained (C.known seat.old) (C.known seat.new)) (C.known seat.new) }
     ensures ends { EndsScript C.enabled C.answer clients (C.known seat.old) (asked_by_script script.now) result (C.known seat.new) }
-    ensures works { EachWorks (C.fits desk.now) C.known (outside G.name G.faults L.begins L.faults S.left S.faults K.held K.faults) C.enabled C.unsent workers.old workers.new }
+    ensures works { EachWorks (C.fits desk.now) C.known (outside G.name G.faults L.begins L.faults S.left S.faults K.held K.faults)
+        C.enabled C.unsent workers.old workers.new }
 {
     let bell = Bell::new();
     let bell = &bell;
     let serve = |conn: usize, worker: &mut Worker<T, G, L, S, K>|
         requires { (conn < 64) × IsReady (C.fits desk.now) C.known G.faults worker.now }
-        ensures { Works (C.fits desk.entry.now) C.known (outside G.name G.faults L.begins L.faults S.left S.faults K.held K.faults) C.enabled C.unsent conn worker.entry.now worker.exit.now }
+        ensures { Works (C.fits desk.entry.now) C.known (outside G.name G.faults L.begins L.faults S.left S.faults K.held K.faults)
+            C.enabled C.unsent conn worker.entry.now worker.exit.now }
     { serve_slot(rt, alloc, desk, bell, conn as u32, worker) };
     serve_beside(
         rt, alloc, desk, bell, script, clients, &serve, workers, seat,
@@ -157,8 +159,10 @@ fn serve_bound<
     ensures fits { C.fits desk.now seat.new }
     ensures parts { (C.known seat.new).parts ≡ (C.known seat.old).parts }
     ensures count { IfOk result (λ r. length r.0 ≡ clients) }
-    ensures serves { IfOk result (λ r. ServesAll (outside G.name G.faults L.begins L.faults S.left S.faults K.held K.faults) C.enabled C.unsent C.answer clients script.now r.0 r.1 (C.known seat.new)) }
-    ensures tells { IfOk result (λ r. (path : List ℕ) → HaveNames G.name path 0 bound → EachTells (outside G.name G.faults L.begins L.faults S.left S.faults K.held K.faults) path 0 r.0) }
+    ensures serves { IfOk result (λ r. ServesAll (outside G.name G.faults L.begins L.faults S.left S.faults K.held K.faults)
+        C.enabled C.unsent C.answer clients script.now r.0 r.1 (C.known seat.new)) }
+    ensures tells { IfOk result (λ r. (path : List ℕ) → HaveNames G.name path 0 bound
+        → EachTells (outside G.name G.faults L.begins L.faults S.left S.faults K.held K.faults) path 0 r.0) }
     ensures unbound { IfOk result (λ r. unbound r.0 ≡ unbound bound) }
     ensures err { OnErr result (C.known seat.new ≡ C.known seat.old) }
 {
@@ -196,8 +200,11 @@ pub fn serve_slots<H: Host, C: Seats<Seat = T> + Sync, T: Send + Drop, R: Thread
     ensures fits { C.fits desk.now seat.new }
     ensures parts { (C.known seat.new).parts ≡ (C.known seat.old).parts }
     ensures count { IfOk result (λ r. length r.0 ≡ clients) }
-    ensures serves { IfOk result (λ r. ServesAll (outside H.G.name H.G.faults H.G.L.begins H.G.L.faults H.G.L.R.left H.G.L.R.faults H.G.L.W.held H.G.L.W.faults) C.enabled C.unsent C.answer clients script.now r.0 r.1 (C.known seat.new)) }
-    ensures tells { IfOk result (λ r. EachTells (outside H.G.name H.G.faults H.G.L.begins H.G.L.faults H.G.L.R.left H.G.L.R.faults H.G.L.W.held H.G.L.W.faults) path.now 0 r.0) }
+    ensures serves { IfOk result (λ r. ServesAll
+        (outside H.G.name H.G.faults H.G.L.begins H.G.L.faults H.G.L.R.left H.G.L.R.faults H.G.L.W.held H.G.L.W.faults)
+        C.enabled C.unsent C.answer clients script.now r.0 r.1 (C.known seat.new)) }
+    ensures tells { IfOk result (λ r. EachTells
+        (outside H.G.name H.G.faults H.G.L.begins H.G.L.faults H.G.L.R.left H.G.L.R.faults H.G.L.W.held H.G.L.W.faults) path.now 0 r.0) }
     ensures risen { IfOk result (λ r. HasRisenBy (unbound r.0) (H.faults host.old) (H.faults host.new)) }
     ensures later { H.faults host.old ≤ H.faults host.new }
     ensures err { OnErr result (C.known seat.new ≡ C.known seat.old) }

@@ -2,7 +2,7 @@ use Rattle.std.proofs.Common.{◌≤◌, length, sym, subst, List, ℕ}
 use Rattle.am_base.specs.Outside.{AreTold}
 use Rattle.am_base.specs.Stops.{StopsFor}
 use Rattle.am_base.specs.declared.reading.ReadStop.{ReadStop}
-use Rattle.acmefs.specs.Scripts.{input_limit}
+use Rattle.am_base.specs.Stops.{input_limit}
 use Rattle.acmefs.proofs.Ran.{says_short, says_long, says_none}
 use Rattle.acmefs.proofs.replay.replay.Goals as goal
 

@@ -8,7 +8,7 @@ pub returns-then-hang_up-clause-entries : goal.returns-then-hang_up-clause-entri
 returns-then-hang_up-clause-entries g c = hung_entries g.C.Counter.enabled c.args.conn _ _ _ _ _ _ _ c.in-Ends.ensures.reads c.hang_up.ensures.hangs_up c.if-hang_up.true
 
 pub returns-then-hang_up-clause-gives : goal.returns-then-hang_up-clause-gives
-returns-then-hang_up-clause-gives g c = hung_gives g.C.Counter.enabled c.args.conn _ _ _ _ _ _ _ c.in-Ends.ensures.reads c.hang_up.ensures.hangs_up
+returns-then-hang_up-clause-gives g c = hung_gives g.C.Counter.enabled c.args.conn _ _ _ _ _ _ _ c.in-Ends.ensures.reads c.hang_up.ensures.hangs_up c.if-hang_up.true
 
 pub returns-else-hang_up-clause-gains : goal.returns-else-hang_up-clause-gains
 returns-else-hang_up-clause-gains g c = hung_gains g.C.Counter.enabled c.args.conn _ _ _ _ _ _ _ c.in-Ends.ensures.reads c.hang_up.ensures.hangs_up

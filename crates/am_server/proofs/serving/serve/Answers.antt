@@ -1,10 +1,9 @@
 use Rattle.std.proofs.Common.{◌≤◌, length, List, ℕ, sym, subst}
 use Rattle.std.specs.Prelude.{IfSome}
 use Rattle.am_base.specs.Outside.{AreTold}
-use Rattle.am_base.specs.Stops.{StopsFor}
+use Rattle.am_base.specs.Stops.{StopsFor, input_limit}
 use Rattle.am_base.specs.declared.reading.ReadStop.{ReadStop}
 use Rattle.am_slots.specs.Slots.{outside}
-use Rattle.am_server.specs.Ends.{input_limit}
 use Rattle.am_server.proofs.Closing.{says_lines, says_long}
 use Rattle.am_server.proofs.serving.serve.Goals as goal
 

@@ -9,6 +9,10 @@ pub record Output : Type 0 where
   pub faults : ℕ
   pub faults_now : ℕ
 
+-- an output by what it tells and by its count of faults, before and after
+abbrev pub seen : Option (List ℕ) → Option (List ℕ) → ℕ → ℕ → Output
+seen held held_now faults faults_now = record { held = held; held_now = held_now; faults = faults; faults_now = faults_now }
+
 -- all of a text was put
 abbrev pub IsWhole : Output → List ℕ → Type 0
 IsWhole o text = o.held_now ≡ told_then o.held text
