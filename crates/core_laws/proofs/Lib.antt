@@ -1,1 +1,6 @@
 mod Unsents
+mod Fids
+mod Books
+mod Deeds
+mod Wells
+mod Ends

@@ -106,7 +106,7 @@ entry before e conn small =
 
 -- ---- all entries
 
-ahead : (before events : List Event) (conn : ℕ) → conn < 64
+pub ahead : (before events : List Event) (conn : ℕ) → conn < 64
     → output_at before conn ++ replied_from before events conn ≡ sent_from output_at before events conn ++ output_at (before ++ events) conn
 unfolding replied_from sent_from
 ahead before [] conn small = append-nil (output_at before conn) ∙ ap (λ (l : List Event). output_at l conn) (sym (append-nil before))

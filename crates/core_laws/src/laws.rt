@@ -1,9 +1,17 @@
 //! Laws of all journals.
 
-ghost use Rattle.core_laws.specs.Laws.{RepliesAreSentOrUnsent};
+ghost use Rattle.core_laws.specs.Laws.{RepliesAreSentOrUnsent, NothingAfterTheHangUp, EndedGetAllReplies};
 
 /// All that was ever replied to a connection is what was sent to it, and then what is unsent.
 #[tactic(auto, using(crate::proofs::Unsents::sent_or_unsent))]
 pub fn replies_are_sent_or_unsent()
     ensures { RepliesAreSentOrUnsent }
+{}
+
+/// Once a connection has ended, no entry replies anything to it. So where nothing was unsent then, or later, what was sent is all that
+/// it was ever replied.
+#[tactic(auto, using(crate::proofs::Ends::ended))]
+pub fn ended_connections_get_nothing_more()
+    ensures behind { NothingAfterTheHangUp }
+    ensures all { EndedGetAllReplies }
 {}

@@ -3,4 +3,4 @@
 
 mod laws;
 
-pub use laws::replies_are_sent_or_unsent;
+pub use laws::{ended_connections_get_nothing_more, replies_are_sent_or_unsent};
