@@ -3,4 +3,8 @@ mod Fids
 mod Books
 mod Deeds
 mod Wells
+mod Playing
+mod Tells
 mod Ends
+mod Quiets
+mod Flushes

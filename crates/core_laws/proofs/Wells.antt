@@ -99,7 +99,7 @@ done_sessions : (t : Tables) (xs : List Response) → (ended t xs).sessions ≡ 
 done_sessions t [] = refl
 done_sessions t (x ∷ xs) = done_sessions (after_done t x.conn x.message.tag) xs
 
-done_waiting : (P : Waiting → Type 0) (t : Tables) (xs : List Response) → All P t.waiting → All P (ended t xs).waiting
+pub done_waiting : (P : Waiting → Type 0) (t : Tables) (xs : List Response) → All P t.waiting → All P (ended t xs).waiting
 done_waiting P t [] h = h
 done_waiting P t (x ∷ xs) h =
     done_waiting P (after_done t x.conn x.message.tag) xs (All-filter (λ w. not (is_waiting x.conn x.message.tag w)) P t.waiting h)
@@ -109,7 +109,7 @@ cancelled_sessions t conn events.Nothing = refl
 cancelled_sessions t conn (events.Opens w) = refl
 cancelled_sessions t conn (events.Cancels tag) = refl
 
-cancelled_waiting : (P : Waiting → Type 0) (t : Tables) (conn : ℕ) (e : EventChange) → All P t.waiting → All P (without_cancelled t conn e).waiting
+pub cancelled_waiting : (P : Waiting → Type 0) (t : Tables) (conn : ℕ) (e : EventChange) → All P t.waiting → All P (without_cancelled t conn e).waiting
 cancelled_waiting P t conn events.Nothing h = h
 cancelled_waiting P t conn (events.Opens w) h = h
 cancelled_waiting P t conn (events.Cancels tag) h = All-filter (λ w. not (is_waiting conn tag w)) P t.waiting h
@@ -149,7 +149,7 @@ asked_book P at full (Now piece) b r living own book = book_ask P at b r living 
 asked_book P at true Waits b r living own book = book
 asked_book P at false Waits b r living own book = book_ask P at b r living own book
 
-reading_book : (P : Asker → Type 0) (at : ℕ) (t : Tables) (b : BookState) (r : Asker) → P r → IsBook P at b → IsBook P at (book_read t b r at)
+pub reading_book : (P : Asker → Type 0) (at : ℕ) (t : Tables) (b : BookState) (r : Asker) → P r → IsBook P at b → IsBook P at (book_read t b r at)
 reading_book P at t b r own book =
     elim (is_living b r.opening) as (λ l. is_living b r.opening ≡ l → IsBook P at (cond l (book_asked (is_full t r.conn) (asked_of b r) b r at) b)) [
       | true ↦ λ living. asked_book P at (is_full t r.conn) (asked_of b r) b r living own book
@@ -160,7 +160,7 @@ waits_sessions : (o : Option RBody) (t : Tables) (conn tag fid : ℕ) → (waits
 waits_sessions None t conn tag fid = refl
 waits_sessions (Some x) t conn tag fid = refl
 
-waits_waiting : (P : Waiting → Type 0) (o : Option RBody) (t : Tables) (conn tag fid : ℕ) → P (record { conn = conn; tag = tag; fid = fid }) → All P t.waiting
+pub waits_waiting : (P : Waiting → Type 0) (o : Option RBody) (t : Tables) (conn tag fid : ℕ) → P (record { conn = conn; tag = tag; fid = fid }) → All P t.waiting
     → All P (waits_unless o t conn tag fid).waiting
 waits_waiting P None t conn tag fid own h = All-push P t.waiting (record { conn = conn; tag = tag; fid = fid }) h own
 waits_waiting P (Some x) t conn tag fid own h = h
@@ -179,7 +179,7 @@ well_answered cs t at b conn tag (Reads fid opening count) live own well =
         (reading_book (IsHeld t) at t b r (own fid opening count refl) well.book);
     }
 
-served_book : (P : Asker → Type 0) (at : ℕ) (serves : Bool) (b : BookState) → IsBook P at b → IsBook P at (book_served serves at b)
+pub served_book : (P : Asker → Type 0) (at : ℕ) (serves : Bool) (b : BookState) → IsBook P at b → IsBook P at (book_served serves at b)
 served_book P at true b book = book_serve_all P at b book
 served_book P at false b book = book
 

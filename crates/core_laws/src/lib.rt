@@ -3,4 +3,6 @@
 
 mod laws;
 
-pub use laws::{ended_connections_get_nothing_more, replies_are_sent_or_unsent};
+pub use laws::{
+    ended_connections_get_nothing_more, flushed_reads_are_not_answered, replies_are_sent_or_unsent,
+};
