@@ -1,0 +1,119 @@
+-- Nothing is said to a tag that was flushed.
+use Rattle.std.proofs.Common.{◌≡◌, ℕ, ◌+◌, Bool, true, false, not, cond, eqb, ◌&&◌, List, [], ◌∷◌, ◌++◌, All, Option, None, refl, sym, ap, subst, ◌∙◌}
+use Rattle.std.specs.List.{filter, list_any}
+use Rattle.std.proofs.lemmas.Bool.{false≢true, not-true, or_parts}
+use Rattle.std.proofs.lemmas.List.Elements.{All-weaker, filter_passes}
+use Rattle.ninep_wire.specs.declared.message.RBody.{RBody}
+use Rattle.ninep_wire.specs.declared.message.RBody.TheVariants as r
+use Rattle.fid_table.specs.declared.session.Waiting.{Waiting}
+use Rattle.fid_table.specs.Tables.{is_waiting, msize_of}
+use Rattle.wait_queue.specs.Reads.{is_read}
+use Rattle.wait_queue.specs.declared.types.Asker.{Asker}
+use Rattle.win_events.specs.declared.item.Origin.TheVariants.{F}
+use Rattle.am_journal.specs.declared.event.Event.{Event}
+use Rattle.am_journal.specs.declared.event.Event.TheVariants as event
+use Rattle.am_counter.specs.Played.{ArePlayed}
+use Rattle.core_answers.specs.declared.effect.Deed.{Deed}
+use Rattle.core_answers.specs.declared.refusal.Refusal.TheVariants as refusal
+use Rattle.core_answers.specs.Deeds.{flush_deed}
+use Rattle.core_answers.specs.Fids.{is_there}
+use Rattle.core_answers.specs.Refusals.{refused}
+use Rattle.core_events.specs.declared.response.Response.{Response}
+use Rattle.core_events.specs.Waits.{ended}
+use Rattle.acme_core.specs.declared.doing.Doing.{Doing}
+use Rattle.acme_core.specs.Doings.{message_doing, deed_at, doing_of}
+use Rattle.acme_core.specs.Run.{step, run, enabled}
+use Rattle.acme_core.specs.Stages.{said, tables_after, book_after}
+use Rattle.acme_core.specs.States.{Present, State, present}
+use Rattle.acme_core.specs.Unsent.{replies_of}
+use Rattle.acme_core.proofs.Goes.{run-push}
+use Rattle.core_laws.specs.Laws.{RepliesAreSaid, NothingToAFlushedTag}
+use Rattle.core_laws.specs.Saying.{said_after, is_message, flush_of, flushed}
+use Rattle.core_laws.proofs.Playing.{played_parts, played_first}
+use Rattle.core_laws.proofs.Quiets.{IsQuiet, OfMessages, quiet_all}
+use Rattle.core_laws.proofs.Tells.{IsWaiting, Reading}
+use Rattle.core_laws.proofs.Wells.{IsWell, well_step, well_after}
+
+step_replies : (s : State) (e : Event) → (step s e).replies ≡ replies_of (said (present s) e (doing_of (present s) e))
+unfolding step
+step_replies s e = refl
+
+pub replies_said : RepliesAreSaid
+replies_said before e = ap (λ (s : State). s.replies) (run-push before e) ∙ step_replies (run before) e
+
+-- ---- a tag that nothing waits with
+
+abbrev OtherTag : ℕ → ℕ → ℕ → ℕ → Type 0
+OtherTag conn tag c t = (eqb c conn && eqb t tag) ≡ false
+
+none_waiting : (conn tag : ℕ) (ws : List Waiting) → All (λ w. is_waiting conn tag w ≡ false) (filter (λ w. not (is_waiting conn tag w)) ws)
+none_waiting conn tag ws =
+    All-weaker (λ w. not (is_waiting conn tag w) ≡ true) (λ w. is_waiting conn tag w ≡ false) (λ w h. not-true (is_waiting conn tag w) h)
+    (filter (λ w. not (is_waiting conn tag w)) ws) (filter_passes (λ w. not (is_waiting conn tag w)) ws)
+
+none_reading : (conn tag : ℕ) (rs : List Asker) → All (λ r. is_read conn tag r ≡ false) (filter (λ r. not (is_read conn tag r)) rs)
+none_reading conn tag rs =
+    All-weaker (λ r. not (is_read conn tag r) ≡ true) (λ r. is_read conn tag r ≡ false) (λ r h. not-true (is_read conn tag r) h)
+    (filter (λ r. not (is_read conn tag r)) rs) (filter_passes (λ r. not (is_read conn tag r)) rs)
+
+-- ---- a Tflush
+
+-- what a Tflush does, by whether a session is missing
+abbrev flush_or : Bool → ℕ → Deed
+flush_or missing oldtag = cond missing (refused refusal.VersionFirst) (flush_deed oldtag)
+
+flushes : RBody → Bool
+flushes r.Flush = true
+flushes body = false
+
+first_flushes : List Response → Bool
+unfolding flushes
+first_flushes [] = false
+first_flushes (x ∷ xs) = flushes x.message.body
+
+is_flush : (s : Present) (conn tag oldtag : ℕ) (missing : Bool) → said s (flush_of conn tag oldtag) (message_doing (flush_or missing oldtag) F) ≡ flushed conn tag ∷ []
+    → flush_or missing oldtag ≡ flush_deed oldtag
+unfolding first_flushes flushes
+is_flush s conn tag oldtag true h = absurd (false≢true (ap first_flushes h))
+is_flush s conn tag oldtag false h = refl
+
+abbrev QuietAfter : Present → ℕ → ℕ → ℕ → Deed → Type 0
+QuietAfter s conn tag oldtag d =
+    All (IsWaiting (OtherTag conn oldtag)) (tables_after s (flush_of conn tag oldtag) (message_doing d F)).waiting
+    × All (Reading (OtherTag conn oldtag)) (book_after s (flush_of conn tag oldtag) (message_doing d F)).reads
+
+quiet_flush : (s : Present) (conn tag oldtag : ℕ) → QuietAfter s conn tag oldtag (flush_deed oldtag)
+quiet_flush s conn tag oldtag =
+    (none_waiting conn oldtag (ended s.tables (flushed conn tag ∷ [])).waiting, none_reading conn oldtag s.book.reads)
+
+quiet_then : (s : State) (conn tag oldtag : ℕ) → said (present s) (flush_of conn tag oldtag) (doing_of (present s) (flush_of conn tag oldtag)) ≡ flushed conn tag ∷ []
+    → IsQuiet (OtherTag conn oldtag) (step s (flush_of conn tag oldtag))
+unfolding step
+quiet_then s conn tag oldtag is =
+    subst (QuietAfter (present s) conn tag oldtag) (sym (is_flush (present s) conn tag oldtag (not (is_there (msize_of s.tables conn))) is)) (quiet_flush (present s) conn tag oldtag)
+
+-- ---- behind it
+
+of_messages : (conn tag : ℕ) (events : List Event) → list_any (is_message conn tag) events ≡ false → OfMessages (OtherTag conn tag) events
+of_messages conn tag [] h = tt
+of_messages conn tag (event.Dial c ∷ events) h = (tt, of_messages conn tag events h)
+of_messages conn tag (event.Msg c msg ∷ events) h =
+    let parts = or_parts (eqb c conn && eqb msg.tag tag) (list_any (is_message conn tag) events) h in
+    (parts.0, of_messages conn tag events parts.1)
+of_messages conn tag (event.Hang c why ∷ events) h = (tt, of_messages conn tag events h)
+of_messages conn tag (event.Took c ∷ events) h = (tt, of_messages conn tag events h)
+of_messages conn tag (event.New ∷ events) h = (tt, of_messages conn tag events h)
+of_messages conn tag (event.Key w side text ∷ events) h = (tt, of_messages conn tag events h)
+of_messages conn tag (event.Sel w range ∷ events) h = (tt, of_messages conn tag events h)
+
+pub nothing_to_a_flushed : NothingToAFlushedTag
+nothing_to_a_flushed before behind conn tag oldtag played is none =
+    let e : Event = flush_of conn tag oldtag in
+    let parts : ArePlayed enabled [] before × ArePlayed enabled before (e ∷ behind) = played_parts [] before (e ∷ behind) played in
+    let first : (enabled before e ≡ None) × ArePlayed enabled (before ++ e ∷ []) behind = played_first before behind e parts.1 in
+    let well : IsWell (run before) = well_after before parts.0 in
+    quiet_all (OtherTag conn oldtag) (before ++ e ∷ []) behind first.1 (of_messages conn oldtag behind none)
+    (subst IsWell (sym (run-push before e)) (well_step (run before) e first.0 well))
+    (subst (IsQuiet (OtherTag conn oldtag)) (sym (run-push before e)) (quiet_then (run before) conn tag oldtag is))
+
+pub ruleset flushing = (replies_said, nothing_to_a_flushed)

@@ -1,0 +1,10 @@
+mod Unsents
+mod Fids
+mod Books
+mod Deeds
+mod Wells
+mod Playing
+mod Tells
+mod Ends
+mod Quiets
+mod Flushes

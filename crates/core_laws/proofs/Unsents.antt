@@ -1,0 +1,132 @@
+-- What entries reply is what they leave unsent, but for what they take.
+use Rattle.std.proofs.Common.{◌≡◌, ℕ, zero, suc, ◌<◌, Bool, true, false, cond, eqb, List, [], ◌∷◌, ◌++◌, length, fold, flat_map, refl, sym, ap, subst, ◌∙◌, append_assoc, append-nil, arith}
+use Rattle.std.specs.Prelude.{slice_set, replicate}
+use Rattle.std.proofs.lemmas.Bool.{eqb-true, eqb-false}
+use Rattle.std.proofs.lemmas.List.{get_or-set_same, get_or-set_other, length-set, length-replicate}
+use Rattle.am_journal.specs.declared.event.Event.{Event}
+use Rattle.am_journal.specs.declared.event.Event.TheVariants as event
+use Rattle.am_slots.specs.Connection.{sent, sent_by, sent_from}
+use Rattle.acme_core.specs.declared.unsent.Reply.{Reply}
+use Rattle.acme_core.specs.Run.{step, run, output_at}
+use Rattle.acme_core.specs.Stages.{said}
+use Rattle.acme_core.specs.States.{State, present, start}
+use Rattle.acme_core.specs.Doings.{doing_of}
+use Rattle.acme_core.specs.Unsent.{Unsent, nothing_unsent, unsent_at, with_reply, put_reply, put_replies, replies_of, taken}
+use Rattle.acme_core.proofs.Goes.{run-push}
+use Rattle.core_laws.specs.Replies.{bytes_to, joined_to, replied_by, replied_from, replies_to}
+use Rattle.core_laws.specs.Laws.{RepliesAreSentOrUnsent}
+
+-- ---- replies that are put
+
+abbrev bytes_at : List Unsent → ℕ → List ℕ
+bytes_at us conn = (unsent_at us conn).bytes
+
+put_one : (us : List Unsent) (x : Reply) (conn : ℕ) → conn < length us → bytes_at (put_reply us x) conn ≡ bytes_at us conn ++ bytes_to conn x
+put_one us x conn inside =
+    elim (eqb x.conn conn) as (λ b. eqb x.conn conn ≡ b → bytes_at (put_reply us x) conn ≡ bytes_at us conn ++ cond b x.bytes []) [
+      | true ↦ λ e. let at : x.conn ≡ conn = eqb-true x.conn conn e in
+          subst (λ (c : ℕ). bytes_at (slice_set us c (with_reply (unsent_at us c) x.bytes)) conn ≡ bytes_at us conn ++ x.bytes) (sym at)
+          (ap (λ (u : Unsent). u.bytes) (get_or-set_same us conn (with_reply (unsent_at us conn) x.bytes) nothing_unsent inside))
+      | false ↦ λ e.
+          ap (λ (u : Unsent). u.bytes) (get_or-set_other us x.conn conn (with_reply (unsent_at us x.conn) x.bytes) nothing_unsent (λ (s : conn ≡ x.conn). eqb-false x.conn conn e (sym s)))
+          ∙ sym (append-nil (bytes_at us conn))
+    ] refl
+
+put_all : (us : List Unsent) (xs : List Reply) (conn : ℕ) → conn < length us → bytes_at (put_replies us xs) conn ≡ bytes_at us conn ++ joined_to conn xs
+put_all us [] conn inside = sym (append-nil (bytes_at us conn))
+put_all us (x ∷ xs) conn inside =
+    put_all (put_reply us x) xs conn (omega (arith, inside, length-set us x.conn (with_reply (unsent_at us x.conn) x.bytes)))
+    ∙ ap (λ (l : List ℕ). l ++ joined_to conn xs) (put_one us x conn inside)
+    ∙ append_assoc (bytes_at us conn) (bytes_to conn x) (joined_to conn xs)
+
+-- ---- the connections stay 64
+
+length_put : (us : List Unsent) (xs : List Reply) → length (put_replies us xs) ≡ length us
+length_put us [] = refl
+length_put us (x ∷ xs) = length_put (put_reply us x) xs ∙ length-set us x.conn (with_reply (unsent_at us x.conn) x.bytes)
+
+length_taken : (us : List Unsent) (e : Event) → length (taken us e) ≡ length us
+length_taken us (event.Dial conn) = refl
+length_taken us (event.Msg conn msg) = refl
+length_taken us (event.Hang conn why) = refl
+length_taken us (event.Took conn) = length-set us conn nothing_unsent
+length_taken us event.New = refl
+length_taken us (event.Key w side text) = refl
+length_taken us (event.Sel w range) = refl
+
+length_step : (s : State) (e : Event) → length (step s e).unsent ≡ length s.unsent
+unfolding step
+length_step s e =
+    let xs : List Reply = replies_of (said (present s) e (doing_of (present s) e)) in
+    length_taken (put_replies s.unsent xs) e ∙ length_put s.unsent xs
+
+length_all : (s : State) (journal : List Event) → length (fold step s journal).unsent ≡ length s.unsent
+length_all s [] = refl
+length_all s (e ∷ journal) = length_all (step s e) journal ∙ length_step s e
+
+pub conns : (journal : List Event) → length (run journal).unsent ≡ 64
+unfolding run
+conns journal = length_all start journal ∙ length-replicate 64 nothing_unsent
+
+-- ---- one entry
+
+taken_at : (us : List Unsent) (c conn : ℕ) → conn < length us
+    → bytes_at us conn ++ [] ≡ cond (eqb c conn) (bytes_at us c) [] ++ bytes_at (slice_set us c nothing_unsent) conn
+taken_at us c conn inside =
+    elim (eqb c conn) as (λ b. eqb c conn ≡ b → bytes_at us conn ++ [] ≡ cond b (bytes_at us c) [] ++ bytes_at (slice_set us c nothing_unsent) conn) [
+      | true ↦ λ e. let at : c ≡ conn = eqb-true c conn e in
+          subst (λ (x : ℕ). bytes_at us conn ++ [] ≡ bytes_at us x ++ bytes_at (slice_set us x nothing_unsent) conn) (sym at)
+          (ap (λ (u : Unsent). bytes_at us conn ++ u.bytes) (sym (get_or-set_same us conn nothing_unsent nothing_unsent inside)))
+      | false ↦ λ e.
+          append-nil (bytes_at us conn)
+          ∙ ap (λ (u : Unsent). u.bytes) (sym (get_or-set_other us c conn nothing_unsent nothing_unsent (λ (h : conn ≡ c). eqb-false c conn e (sym h))))
+    ] refl
+
+-- what a step of this state says
+abbrev said_by : State → Event → List Reply
+said_by s e = replies_of (said (present s) e (doing_of (present s) e))
+
+one : (before : List Event) (e : Event) (conn : ℕ) → conn < length (run before).unsent
+    → output_at before conn ++ joined_to conn (step (run before) e).replies ≡ sent_by output_at conn before e ++ bytes_at (step (run before) e).unsent conn
+unfolding step
+one before (event.Dial c) conn inside = sym (put_all (run before).unsent (said_by (run before) (event.Dial c)) conn inside)
+one before (event.Msg c msg) conn inside = sym (put_all (run before).unsent (said_by (run before) (event.Msg c msg)) conn inside)
+one before (event.Hang c why) conn inside = sym (put_all (run before).unsent (said_by (run before) (event.Hang c why)) conn inside)
+one before (event.Took c) conn inside = taken_at (run before).unsent c conn inside
+one before event.New conn inside = sym (put_all (run before).unsent (said_by (run before) event.New) conn inside)
+one before (event.Key w side text) conn inside = sym (put_all (run before).unsent (said_by (run before) (event.Key w side text)) conn inside)
+one before (event.Sel w range) conn inside = sym (put_all (run before).unsent (said_by (run before) (event.Sel w range)) conn inside)
+
+entry : (before : List Event) (e : Event) (conn : ℕ) → conn < 64
+    → output_at before conn ++ replied_by conn before e ≡ sent_by output_at conn before e ++ output_at (before ++ e ∷ []) conn
+entry before e conn small =
+    let pushed : run (before ++ e ∷ []) ≡ step (run before) e = run-push before e in
+    subst (λ (s : State). output_at before conn ++ joined_to conn s.replies ≡ sent_by output_at conn before e ++ bytes_at s.unsent conn) (sym pushed)
+    (one before e conn (omega (arith, small, conns before)))
+
+-- ---- all entries
+
+pub ahead : (before events : List Event) (conn : ℕ) → conn < 64
+    → output_at before conn ++ replied_from before events conn ≡ sent_from output_at before events conn ++ output_at (before ++ events) conn
+unfolding replied_from sent_from
+ahead before [] conn small = append-nil (output_at before conn) ∙ ap (λ (l : List Event). output_at l conn) (sym (append-nil before))
+ahead before (e ∷ events) conn small =
+    let next : List Event = before ++ e ∷ [] in
+    let later : List ℕ = replied_from next events conn in
+    let taken : List ℕ = sent_by output_at conn before e in
+    sym (append_assoc (output_at before conn) (replied_by conn before e) later)
+    ∙ ap (λ (l : List ℕ). l ++ later) (entry before e conn small)
+    ∙ append_assoc taken (output_at next conn) later
+    ∙ ap (λ (l : List ℕ). taken ++ l) (ahead next events conn small)
+    ∙ sym (append_assoc taken (sent_from output_at next events conn) (output_at (next ++ events) conn))
+    ∙ ap (λ (l : List Event). (taken ++ sent_from output_at next events conn) ++ output_at l conn) (append_assoc before (e ∷ []) events)
+
+none_unsent : (n conn : ℕ) → bytes_at (replicate n nothing_unsent) conn ≡ []
+none_unsent zero conn = refl
+none_unsent (suc n) zero = refl
+none_unsent (suc n) (suc conn) = none_unsent n conn
+
+pub sent_or_unsent : RepliesAreSentOrUnsent
+unfolding run
+sent_or_unsent journal conn small =
+    ap (λ (l : List ℕ). l ++ replies_to journal conn) (sym (none_unsent 64 conn)) ∙ ahead [] journal conn small

@@ -1,0 +1,361 @@
+-- After each journal of enabled events each fid is one of a connection that lives, and so is each read that waits; those of event files
+-- are on openings of such fids.
+use Rattle.std.proofs.Common.{◌≡◌, ◌≢◌, ℕ, zero, suc, ◌+◌, ◌≤◌, Bool, true, false, not, cond, eqb, List, [], ◌∷◌, ◌++◌, length, fold, nat_eq, slice_index_or, slice_set, Option, Some, None, All, refl, sym, ap, subst, ◌∙◌, append_assoc, append-nil, arith}
+use Rattle.std.specs.List.{filter}
+use Rattle.std.specs.Map.{lookup}
+use Rattle.std.proofs.lemmas.Bool.{eqb-true, eqb-false, not-true}
+use Rattle.std.proofs.lemmas.List.Elements.{All-nil, All-push, All-filter, All-weaker, filter_passes}
+use Rattle.ninep_wire.specs.declared.message.TMsg.{TMsg}
+use Rattle.ninep_wire.specs.declared.message.RBody.{RBody}
+use Rattle.fid_table.specs.declared.types.Fid.{Fid}
+use Rattle.fid_table.specs.declared.session.Waiting.{Waiting}
+use Rattle.fid_table.specs.Tables.{Tables, nothing, fid_of, fids_of, is_waiting, is_waiting_on, after_join, after_done, after_hangup, after_put, after_take, after_version}
+use Rattle.win_events.specs.declared.item.Item.{Item}
+use Rattle.wait_queue.specs.declared.types.Asker.{Asker}
+use Rattle.wait_queue.specs.declared.types.Asked.{Asked}
+use Rattle.wait_queue.specs.declared.types.Asked.TheVariants.{Now, Waits}
+use Rattle.event_book.specs.BookState.{BookState, is_living, asked_of}
+use Rattle.event_book.proofs.LawfulLemmas.{lawful-empty}
+use Rattle.am_counter.specs.Played.{ArePlayed, IsPlayed}
+use Rattle.am_journal.specs.declared.ending.Ending.{Ending}
+use Rattle.am_journal.specs.declared.event.Event.{Event}
+use Rattle.am_journal.specs.declared.event.Event.TheVariants as event
+use Rattle.am_journal.specs.declared.event.Why.{Why}
+use Rattle.core_answers.specs.declared.effect.Answer.{Answer}
+use Rattle.core_answers.specs.declared.effect.Answer.TheVariants.{Says, Reads}
+use Rattle.core_answers.specs.declared.effect.Deed.{Deed}
+use Rattle.core_answers.specs.declared.effect.Effect.{Effect}
+use Rattle.core_answers.specs.declared.effect.Effect.TheVariants as effect
+use Rattle.core_answers.specs.declared.effect.EventChange.{EventChange}
+use Rattle.core_answers.specs.declared.effect.EventChange.TheVariants as events
+use Rattle.core_events.specs.declared.response.Response.{Response}
+use Rattle.core_events.specs.Asking.{is_full, opened, read_said, book_asked, book_read, waits_unless, tables_read}
+use Rattle.core_events.specs.Closing.{freed, cancelled, closed_with, opening_in, without_fid, without_fids, without_opening}
+use Rattle.core_events.specs.Putting.{changes_window, put_all}
+use Rattle.core_events.specs.Serving.{book_served_all}
+use Rattle.core_events.specs.Waits.{deleted_by, ended, without_cancelled}
+use Rattle.acme_core.specs.declared.connection.Connection.{Connection}
+use Rattle.acme_core.specs.declared.connection.Connection.TheVariants.{Undialed, Live, Ended}
+use Rattle.acme_core.specs.declared.doing.Doing.{Doing}
+use Rattle.acme_core.specs.Connections.{connection_at, is_live, connections_after, grown_with, ended_with}
+use Rattle.acme_core.specs.Doings.{enabled_at, deed_at, doing_of}
+use Rattle.acme_core.specs.Enabled.{first_why, live_refusal}
+use Rattle.acme_core.specs.Run.{step, run, enabled}
+use Rattle.acme_core.specs.Stages.{asker_of, answer_book, answer_tables, with_fid, grown_tables, read_book, items_made, put_book, serves, book_served, grown_book, said, closed_book, ended_tables, tables_after, book_after}
+use Rattle.acme_core.specs.States.{Present, State, present, start, next_entry}
+use Rattle.acme_core.proofs.Goes.{run-push}
+use Rattle.acme_core.proofs.Joins.{elsewhere}
+use Rattle.core_laws.proofs.Fids.{AllFids, no_fids, fids_weaker, fids_at, IsHeld, fids_join, fids_put, fids_take, fids_version, fids_same, held_join, held_put, held_take, held_version, held_same}
+use Rattle.core_laws.proofs.Books.{IsBook, IsApart, book_weaker, book_later, book_opened, book_put_all, book_ask, book_serve_all, book_without, book_without_fids, book_cancelled, book_closed, without_none, fids_none}
+use Rattle.core_laws.proofs.Deeds.{IsModed, IsPut, PutsSane, HasOpening, ReadsSane, IsSane, deed_sane}
+
+-- ---- connections
+
+abbrev pub Lives : List Connection → ℕ → Type 0
+Lives cs conn = is_live (connection_at cs conn) ≡ true
+
+live_if : (v : Connection) → live_refusal v ≡ None → is_live v ≡ true
+live_if Undialed e = absurd cc
+live_if Live e = refl
+live_if (Ended why) e = absurd cc
+
+first_none : (a b : Option Why) → first_why a b ≡ None → a ≡ None
+first_none None b e = refl
+first_none (Some w) b e = absurd cc
+
+pub message_lives : (s : Present) (conn : ℕ) (msg : TMsg) → enabled_at s (event.Msg conn msg) ≡ None → Lives s.connections conn
+message_lives s conn msg e = live_if (connection_at s.connections conn) (first_none (live_refusal (connection_at s.connections conn)) _ e)
+
+-- a connection that is dialled lives, and the others stay
+dial_lives : (cs : List Connection) (c x : ℕ) → Lives cs x → Lives (slice_set cs c Live) x
+dial_lives [] c x h = h
+dial_lives (v ∷ cs) zero zero h = refl
+dial_lives (v ∷ cs) zero (suc x) h = h
+dial_lives (v ∷ cs) (suc c) zero h = h
+dial_lives (v ∷ cs) (suc c) (suc x) h = dial_lives cs c x h
+
+hang_lives : (cs : List Connection) (c x : ℕ) (why : Ending) → x ≢ c → Lives cs x → Lives (slice_set cs c (Ended why)) x
+hang_lives cs c x why apart h = ap is_live (elsewhere cs c x (Ended why) apart) ∙ h
+
+-- ---- what holds after each journal
+
+abbrev pub IsOfLive : List Connection → ℕ → Fid → Type 0
+IsOfLive cs conn f = Lives cs conn × IsModed f
+
+abbrev pub WaitsOnLive : List Connection → Waiting → Type 0
+WaitsOnLive cs w = Lives cs w.conn
+
+pub record AreWell (cs : List Connection) (t : Tables) (at : ℕ) (b : BookState) : Type 0 where
+  pub fids : AllFids (IsOfLive cs) t
+  pub waiting : All (WaitsOnLive cs) t.waiting
+  pub book : IsBook (IsHeld t) at b
+
+abbrev pub IsWell : State → Type 0
+IsWell s = AreWell s.connections s.tables s.entries s.book
+
+-- ---- reads that wait no more
+
+done_sessions : (t : Tables) (xs : List Response) → (ended t xs).sessions ≡ t.sessions
+done_sessions t [] = refl
+done_sessions t (x ∷ xs) = done_sessions (after_done t x.conn x.message.tag) xs
+
+pub done_waiting : (P : Waiting → Type 0) (t : Tables) (xs : List Response) → All P t.waiting → All P (ended t xs).waiting
+done_waiting P t [] h = h
+done_waiting P t (x ∷ xs) h =
+    done_waiting P (after_done t x.conn x.message.tag) xs (All-filter (λ w. not (is_waiting x.conn x.message.tag w)) P t.waiting h)
+
+cancelled_sessions : (t : Tables) (conn : ℕ) (e : EventChange) → (without_cancelled t conn e).sessions ≡ t.sessions
+cancelled_sessions t conn events.Nothing = refl
+cancelled_sessions t conn (events.Opens w) = refl
+cancelled_sessions t conn (events.Cancels tag) = refl
+
+pub cancelled_waiting : (P : Waiting → Type 0) (t : Tables) (conn : ℕ) (e : EventChange) → All P t.waiting → All P (without_cancelled t conn e).waiting
+cancelled_waiting P t conn events.Nothing h = h
+cancelled_waiting P t conn (events.Opens w) h = h
+cancelled_waiting P t conn (events.Cancels tag) h = All-filter (λ w. not (is_waiting conn tag w)) P t.waiting h
+
+-- the same with reads that were answered
+well_ended : (cs : List Connection) (t : Tables) (at : ℕ) (b : BookState) (xs : List Response) → AreWell cs t at b → AreWell cs (ended t xs) at b
+well_ended cs t at b xs well = record {
+  fids = fids_same (IsOfLive cs) t (ended t xs) (done_sessions t xs) well.fids;
+  waiting = done_waiting (WaitsOnLive cs) t xs well.waiting;
+  book = book_weaker (IsHeld t) (IsHeld (ended t xs)) at b (λ r h. held_same t (ended t xs) r (done_sessions t xs) h) well.book;
+}
+
+well_cancelled : (cs : List Connection) (t : Tables) (at : ℕ) (b : BookState) (conn : ℕ) (e : EventChange) → AreWell cs t at b → AreWell cs (without_cancelled t conn e) at (cancelled b conn e)
+well_cancelled cs t at b conn e well = record {
+  fids = fids_same (IsOfLive cs) t (without_cancelled t conn e) (cancelled_sessions t conn e) well.fids;
+  waiting = cancelled_waiting (WaitsOnLive cs) t conn e well.waiting;
+  book = book_weaker (IsHeld t) (IsHeld (without_cancelled t conn e)) at (cancelled b conn e) (λ r h. held_same t (without_cancelled t conn e) r (cancelled_sessions t conn e) h)
+    (book_cancelled (IsHeld t) at b conn e well.book);
+}
+
+-- ---- what grows
+
+well_grown : (cs : List Connection) (t : Tables) (at : ℕ) (b : BookState) (conn : ℕ) (e : Effect) → Lives cs conn → PutsSane t conn e → AreWell cs t at b
+    → AreWell cs (grown_with t conn e) at b
+well_grown cs t at b conn effect.Nothing live sane well = well
+well_grown cs t at b conn (effect.Begins msize) live sane well = well
+well_grown cs t at b conn (effect.Puts number fid) live sane well = record {
+  fids = fids_put (IsOfLive cs) t conn number fid (live, sane.moded) well.fids;
+  waiting = well.waiting;
+  book = book_weaker (IsHeld t) (IsHeld (after_put t conn number fid)) at b (λ r h. held_put t conn number fid r sane.keeps h) well.book;
+}
+well_grown cs t at b conn (effect.Frees number) live sane well = well
+
+asked_book : (P : Asker → Type 0) (at : ℕ) (full : Bool) (asked : Asked) (b : BookState) (r : Asker) → is_living b r.opening ≡ true → P r → IsBook P at b
+    → IsBook P at (book_asked full asked b r at)
+asked_book P at full (Now piece) b r living own book = book_ask P at b r living own book
+asked_book P at true Waits b r living own book = book
+asked_book P at false Waits b r living own book = book_ask P at b r living own book
+
+pub reading_book : (P : Asker → Type 0) (at : ℕ) (t : Tables) (b : BookState) (r : Asker) → P r → IsBook P at b → IsBook P at (book_read t b r at)
+reading_book P at t b r own book =
+    elim (is_living b r.opening) as (λ l. is_living b r.opening ≡ l → IsBook P at (cond l (book_asked (is_full t r.conn) (asked_of b r) b r at) b)) [
+      | true ↦ λ living. asked_book P at (is_full t r.conn) (asked_of b r) b r living own book
+      | false ↦ λ dead. book
+    ] refl
+
+waits_sessions : (o : Option RBody) (t : Tables) (conn tag fid : ℕ) → (waits_unless o t conn tag fid).sessions ≡ t.sessions
+waits_sessions None t conn tag fid = refl
+waits_sessions (Some x) t conn tag fid = refl
+
+pub waits_waiting : (P : Waiting → Type 0) (o : Option RBody) (t : Tables) (conn tag fid : ℕ) → P (record { conn = conn; tag = tag; fid = fid }) → All P t.waiting
+    → All P (waits_unless o t conn tag fid).waiting
+waits_waiting P None t conn tag fid own h = All-push P t.waiting (record { conn = conn; tag = tag; fid = fid }) h own
+waits_waiting P (Some x) t conn tag fid own h = h
+
+well_answered : (cs : List Connection) (t : Tables) (at : ℕ) (b : BookState) (conn tag : ℕ) (a : Answer) → Lives cs conn
+    → ((fid opening count : ℕ) → a ≡ Reads fid opening count → IsHeld t (asker_of conn tag opening count)) → AreWell cs t at b
+    → AreWell cs (answer_tables t b conn tag (Some a)) at (answer_book t b conn tag (Some a) at)
+well_answered cs t at b conn tag (Says body) live own well = well
+well_answered cs t at b conn tag (Reads fid opening count) live own well =
+    let r : Asker = asker_of conn tag opening count in
+    let o : Option RBody = read_said t b r in
+    record {
+      fids = fids_same (IsOfLive cs) t (waits_unless o t conn tag fid) (waits_sessions o t conn tag fid) well.fids;
+      waiting = waits_waiting (WaitsOnLive cs) o t conn tag fid live well.waiting;
+      book = book_weaker (IsHeld t) (IsHeld (waits_unless o t conn tag fid)) at (book_read t b r at) (λ x h. held_same t (waits_unless o t conn tag fid) x (waits_sessions o t conn tag fid) h)
+        (reading_book (IsHeld t) at t b r (own fid opening count refl) well.book);
+    }
+
+pub served_book : (P : Asker → Type 0) (at : ℕ) (serves : Bool) (b : BookState) → IsBook P at b → IsBook P at (book_served serves at b)
+served_book P at true b book = book_serve_all P at b book
+served_book P at false b book = book
+
+-- items come, and reads are served
+pub items_book : (P : Asker → Type 0) (at : ℕ) (b : BookState) (e : EventChange) (w : Option ℕ) (items : List Item) (serves : Bool) → IsBook P at b
+    → IsBook P at (book_served serves at (put_all (opened b e) w items))
+items_book P at b e w items serves book =
+    served_book P at serves (put_all (opened b e) w items) (book_put_all P at (opened b e) w items (book_opened P at b e book))
+
+well_items : (cs : List Connection) (t : Tables) (at : ℕ) (b : BookState) (e : EventChange) (w : Option ℕ) (items : List Item) (serves : Bool) → AreWell cs t at b
+    → AreWell cs t at (book_served serves at (put_all (opened b e) w items))
+well_items cs t at b e w items serves well = record { fids = well.fids; waiting = well.waiting; book = items_book (IsHeld t) at b e w items serves well.book }
+
+-- ---- what ends
+
+-- all fids of a connection are freed
+freed_all : (t : Tables) (at : ℕ) (b : BookState) (conn : ℕ) (msize : Option ℕ) → IsBook (IsHeld t) at b → IsBook (IsHeld (after_version t conn msize)) at (without_fids at b t conn)
+freed_all t at b conn msize book =
+    let end : BookState = without_fids at b t conn in
+    let kept : IsBook (IsHeld t) at end = book_without_fids (IsHeld t) at b (fids_of t conn) book in
+    let apart : All (IsApart (fids_of t conn)) end.reads = fids_none (IsHeld t) at b (fids_of t conn) book in
+    record {
+      lawful = kept.lawful;
+      latest = kept.latest;
+      reads = λ k d h. (held_version t conn msize (slice_index_or end.reads k d) (λ number f same is opens. apart k d h number f is opens) (kept.reads k d h)).1;
+    }
+
+-- one of them is
+freed_one : (t : Tables) (at : ℕ) (b : BookState) (conn number : ℕ) → IsBook (IsHeld t) at b
+    → IsBook (IsHeld (after_take t conn number)) at (without_opening at b (opening_in (fid_of t conn number)))
+freed_one t at b conn number book =
+    let o : Option ℕ = opening_in (fid_of t conn number) in
+    let end : BookState = without_opening at b o in
+    let kept : IsBook (IsHeld t) at end = book_without (IsHeld t) at b o book in
+    let apart : All (λ r. o ≡ Some r.opening → ⊥) end.reads = without_none at b o book.lawful in
+    record {
+      lawful = kept.lawful;
+      latest = kept.latest;
+      reads = λ k d h. held_take t conn number (slice_index_or end.reads k d) (λ f same is opens. apart k d h (ap opening_in is ∙ opens)) (kept.reads k d h);
+    }
+
+others_wait : (cs : List Connection) (ws : List Waiting) (conn : ℕ) → All (WaitsOnLive cs) ws → All (WaitsOnLive cs) (filter (λ w. not (is_waiting_on conn w)) ws)
+others_wait cs ws conn h = All-filter (λ w. not (is_waiting_on conn w)) (WaitsOnLive cs) ws h
+
+well_freed : (cs : List Connection) (t : Tables) (at : ℕ) (b : BookState) (conn : ℕ) (e : Effect) → AreWell cs t at b → AreWell cs (ended_with t conn e) at (freed at b t conn e)
+well_freed cs t at b conn effect.Nothing well = well
+well_freed cs t at b conn (effect.Begins msize) well = record {
+  fids = fids_version (IsOfLive cs) (IsOfLive cs) t conn msize (λ c f apart h. h) well.fids;
+  waiting = others_wait cs t.waiting conn well.waiting;
+  book = freed_all t at b conn msize well.book;
+}
+well_freed cs t at b conn (effect.Puts number fid) well = well
+well_freed cs t at b conn (effect.Frees number) well = record {
+  fids = fids_take (IsOfLive cs) t conn number well.fids;
+  waiting = well.waiting;
+  book = freed_one t at b conn number well.book;
+}
+
+well_closed : (cs : List Connection) (t : Tables) (at : ℕ) (b : BookState) (o : Option ℕ) → AreWell cs t at b → AreWell cs t at (closed_with at b o)
+well_closed cs t at b o well = record { fids = well.fids; waiting = well.waiting; book = book_closed (IsHeld t) at b o well.book }
+
+-- a hang-up
+well_hung : (cs : List Connection) (t : Tables) (at : ℕ) (b : BookState) (conn : ℕ) (why : Ending) → AreWell cs t at b
+    → AreWell (slice_set cs conn (Ended why)) (after_hangup t conn) at (without_fids at b t conn)
+well_hung cs t at b conn why well =
+    let ws : List Waiting = filter (λ w. not (is_waiting_on conn w)) t.waiting in
+    let live : All (WaitsOnLive cs) ws = others_wait cs t.waiting conn well.waiting in
+    let apart : All (λ w. not (is_waiting_on conn w) ≡ true) ws = filter_passes (λ w. not (is_waiting_on conn w)) t.waiting in
+    record {
+      fids = fids_version (IsOfLive cs) (IsOfLive (slice_set cs conn (Ended why))) t conn None (λ c f off h. (hang_lives cs conn c why off h.0, h.1)) well.fids;
+      waiting = λ k d h. let w : Waiting = slice_index_or ws k d in
+        hang_lives cs conn w.conn why (eqb-false w.conn conn (not-true (is_waiting_on conn w) (apart k d h))) (live k d h);
+      book = freed_all t at b conn None well.book;
+    }
+
+-- ---- one event
+
+pub later : (s : State) → IsWell s → AreWell s.connections s.tables (s.entries + 1) s.book
+later s well = record { fids = well.fids; waiting = well.waiting; book = book_later (IsHeld s.tables) s.entries (s.entries + 1) s.book (omega arith) well.book }
+
+well_dial : (s : State) (conn : ℕ) → IsWell s → IsWell (step s (event.Dial conn))
+unfolding step
+well_dial s conn well =
+    let now : List Connection = slice_set s.connections conn Live in
+    record {
+      fids = fids_join (IsOfLive now) s.tables conn
+        (fids_weaker (IsOfLive s.connections) (IsOfLive now) s.tables (λ c f h. (dial_lives s.connections conn c h.0, h.1)) well.fids);
+      waiting = All-weaker (WaitsOnLive s.connections) (WaitsOnLive now) (λ w h. dial_lives s.connections conn w.conn h) s.tables.waiting well.waiting;
+      book = book_weaker (IsHeld s.tables) (IsHeld (after_join s.tables conn)) (s.entries + 1) s.book (λ r h. held_join s.tables conn r h) (later s well).book;
+    }
+
+-- what holds of the fids of a connection
+pub moded : (s : State) (conn : ℕ) → IsWell s → (number : ℕ) (f : Fid) → fid_of s.tables conn number ≡ Some f → IsModed f
+moded s conn well number f e = (fids_at (IsOfLive s.connections) s.tables conn number f well.fids e).1
+
+-- the read of a message is one of an opening that a fid has
+own_held : (t : Tables) (conn tag : ℕ) (e : Effect) (a : Answer) → ReadsSane t conn e a → (fid opening count : ℕ) → a ≡ Reads fid opening count
+    → IsHeld (grown_with t conn e) (asker_of conn tag opening count)
+own_held t conn tag e a sane fid opening count is =
+    let reads : (e ≡ effect.Nothing) × HasOpening t conn fid opening = subst (ReadsSane t conn e) is sane in
+    let has : HasOpening t conn fid opening = reads.1 in
+    subst (λ (x : Effect). IsHeld (grown_with t conn x) (asker_of conn tag opening count)) (sym reads.0)
+    (record { number = fid; fid = has.fid; is = has.is; opens = has.opens })
+
+-- with what the message puts, and takes of its opening
+pub well_read : (s : State) (conn : ℕ) (msg : TMsg) → enabled_at (present s) (event.Msg conn msg) ≡ None → IsWell s
+    → AreWell s.connections (grown_tables (present s) (event.Msg conn msg) (doing_of (present s) (event.Msg conn msg))) (s.entries + 1)
+    (read_book (present s) (event.Msg conn msg) (doing_of (present s) (event.Msg conn msg)))
+well_read s conn msg allowed well =
+    let p : Present = present s in
+    let done : Deed = deed_at p conn msg in
+    let sane : IsSane s.tables conn done = deed_sane s.tables conn (moded s conn well) p.windows (length s.book.owners) msg.body in
+    let live : Lives s.connections conn = message_lives p conn msg allowed in
+    let put : Tables = grown_with s.tables conn done.effect in
+    well_answered s.connections put (s.entries + 1) s.book conn msg.tag done.answer live (own_held s.tables conn msg.tag done.effect done.answer sane.1)
+    (well_grown s.connections s.tables (s.entries + 1) s.book conn done.effect live sane.0 (later s well))
+
+well_msg : (s : State) (conn : ℕ) (msg : TMsg) → enabled_at (present s) (event.Msg conn msg) ≡ None → IsWell s → IsWell (step s (event.Msg conn msg))
+unfolding step
+well_msg s conn msg allowed well =
+    let p : Present = present s in
+    let e : Event = event.Msg conn msg in
+    let d : Doing = doing_of p e in
+    let at : ℕ = s.entries + 1 in
+    let t : Tables = grown_tables p e d in
+    let b : BookState = grown_book p e d in
+    let xs : List Response = said p e d in
+    let cs : List Connection = s.connections in
+    let left : Tables = ended_with t conn d.effect in
+    let freed_book : BookState = freed at b t conn d.effect in
+    well_closed cs (without_cancelled (ended left xs) conn d.events) at (cancelled freed_book conn d.events) (deleted_by d.change)
+    (well_cancelled cs (ended left xs) at freed_book conn d.events
+    (well_ended cs left at freed_book xs
+    (well_freed cs t at b conn d.effect
+    (well_items cs t at (read_book p e d) d.events (changes_window d.change) (items_made p d) (serves p d) (well_read s conn msg allowed well)))))
+
+-- an event that only changes windows
+well_change : (s : State) (d : Doing) (xs : List Response) → IsWell s
+    → AreWell s.connections (ended s.tables xs) (s.entries + 1) (book_served (serves (present s) d) (s.entries + 1) (put_all s.book (changes_window d.change) (items_made (present s) d)))
+well_change s d xs well =
+    well_ended s.connections s.tables (s.entries + 1) _ xs
+    (well_items s.connections s.tables (s.entries + 1) s.book events.Nothing (changes_window d.change) (items_made (present s) d) (serves (present s) d) (later s well))
+
+pub well_step : (s : State) (e : Event) → enabled_at (present s) e ≡ None → IsWell s → IsWell (step s e)
+unfolding step
+well_step s (event.Dial conn) allowed well = well_dial s conn well
+well_step s (event.Msg conn msg) allowed well = well_msg s conn msg allowed well
+well_step s (event.Hang conn why) allowed well = well_hung s.connections s.tables (s.entries + 1) s.book conn why (later s well)
+well_step s (event.Took conn) allowed well = later s well
+well_step s event.New allowed well = later s well
+well_step s (event.Key w side text) allowed well =
+    let e : Event = event.Key w side text in
+    well_change s (doing_of (present s) e) (said (present s) e (doing_of (present s) e)) well
+well_step s (event.Sel w range) allowed well =
+    let e : Event = event.Sel w range in
+    well_change s (doing_of (present s) e) (said (present s) e (doing_of (present s) e)) well
+
+-- ---- all events
+
+no_entries : IsWell start
+no_entries = record {
+  fids = no_fids (IsOfLive start.connections);
+  waiting = All-nil (WaitsOnLive start.connections);
+  book = record { lawful = lawful-empty; latest = omega arith; reads = All-nil (IsHeld nothing) };
+}
+
+well_all : (before events : List Event) → ArePlayed enabled before events → IsWell (run before) → IsWell (run (before ++ events))
+unfolding ArePlayed
+well_all before [] played well = subst (λ (l : List Event). IsWell (run l)) (sym (append-nil before)) well
+well_all before (e ∷ events) played well =
+    subst (λ (l : List Event). IsWell (run l)) (append_assoc before (e ∷ []) events)
+    (well_all (before ++ e ∷ []) events played.2 (subst IsWell (sym (run-push before e)) (well_step (run before) e played.1 well)))
+
+none_run : IsWell (run [])
+unfolding run
+none_run = no_entries
+
+pub well_after : (journal : List Event) → IsPlayed enabled journal → IsWell (run journal)
+well_after journal played = well_all [] journal played none_run

@@ -1,0 +1,40 @@
+-- What entries say to connections, each time to the message of a tag.
+use Rattle.std.specs.Prelude.{ℕ, ◌==◌, ◌&&◌, Bool, false, List, [], ◌∷◌, ◌++◌}
+use Rattle.ninep_wire.specs.declared.message.RBody.TheVariants as r
+use Rattle.ninep_wire.specs.declared.message.TBody.TheVariants as t
+use Rattle.am_journal.specs.declared.event.Event.{Event}
+use Rattle.am_journal.specs.declared.event.Event.TheVariants as event
+use Rattle.core_events.specs.declared.response.Response.{Response}
+use Rattle.acme_core.specs.Doings.{doing_of}
+use Rattle.acme_core.specs.Run.{present_after}
+use Rattle.acme_core.specs.Stages.{response, said}
+
+-- what an entry says, after the entries before it
+abbrev pub said_after : List Event → Event → List Response
+said_after before e = said (present_after before) e (doing_of (present_after before) e)
+
+-- what entries say, each after those before it
+unfoldable pub said_from : List Event → List Event → List Response
+said_from before [] = []
+said_from before (e ∷ events) = said_after before e ++ said_from (before ++ e ∷ []) events
+
+-- whether it is said to a message of this tag on this connection
+abbrev pub is_told : ℕ → ℕ → Response → Bool
+is_told conn tag x = (x.conn == conn) && (x.message.tag == tag)
+
+-- whether it is a message of this tag on this connection
+abbrev pub is_message : ℕ → ℕ → Event → Bool
+is_message conn tag (event.Dial c) = false
+is_message conn tag (event.Msg c msg) = (c == conn) && (msg.tag == tag)
+is_message conn tag (event.Hang c why) = false
+is_message conn tag (event.Took c) = false
+is_message conn tag event.New = false
+is_message conn tag (event.Key w side text) = false
+is_message conn tag (event.Sel w range) = false
+
+-- a Tflush with this tag, for an older one, and its answer
+abbrev pub flush_of : ℕ → ℕ → ℕ → Event
+flush_of conn tag oldtag = event.Msg conn (record { tag = tag; body = t.Flush oldtag })
+
+abbrev pub flushed : ℕ → ℕ → Response
+flushed conn tag = response conn tag r.Flush

@@ -1,0 +1,25 @@
+//! Laws of all journals.
+
+ghost use Rattle.core_laws.specs.Laws.{RepliesAreSentOrUnsent, NothingAfterTheHangUp, EndedGetAllReplies, RepliesAreSaid, NothingToAFlushedTag};
+
+/// All that was ever replied to a connection is what was sent to it, and then what is unsent.
+#[tactic(auto, using(crate::proofs::Unsents::sent_or_unsent))]
+pub fn replies_are_sent_or_unsent()
+    ensures { RepliesAreSentOrUnsent }
+{}
+
+/// Once a connection has ended, no entry replies anything to it. So where nothing was unsent then, or later, what was sent is all that
+/// it was ever replied.
+#[tactic(auto, using(crate::proofs::Ends::ended))]
+pub fn ended_connections_get_nothing_more()
+    ensures behind { NothingAfterTheHangUp }
+    ensures all { EndedGetAllReplies }
+{}
+
+/// What an entry replies is what it says to connections, each time to the message of a tag. Behind a Tflush that was answered by Rflush
+/// nothing is said to the tag that it names, up to the next message of that tag. So a read that waited with it is never answered.
+#[tactic(auto, using(crate::proofs::Flushes::flushing))]
+pub fn flushed_reads_are_not_answered()
+    ensures said { RepliesAreSaid }
+    ensures behind { NothingToAFlushedTag }
+{}
