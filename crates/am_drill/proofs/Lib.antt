@@ -1,0 +1,3 @@
+pub mod Standing
+pub mod Letters
+pub mod Steps

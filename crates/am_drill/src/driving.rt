@@ -1,0 +1,94 @@
+//! A drill from its first event to its summary.
+
+ghost use Rattle.std.specs.Prelude.{◌≡◌, ◌≤◌, [], IfOk, OnOk, OnErr};
+ghost use Rattle.am_drill.specs.Brief.{IsCounted, IsFront};
+ghost use Rattle.am_drill.specs.Drill.{events};
+ghost use Rattle.am_drill.specs.Ends.{DrillSays};
+ghost use Rattle.am_drill.specs.Summary.{summary};
+
+use crate::events::{opening, round};
+use crate::numbers::{FIRST_SEED, next_seed};
+use crate::runner::Runner;
+use crate::summary::summary_text;
+use am_base::{Sink, write_all};
+use am_journal::Journal;
+use am_text::{Bytes, Items, NoMemory};
+use std::alloc::Global;
+
+/// How a drill ends.
+#[derive(Clone, Copy, Debug, PartialEq, Eq)]
+pub enum DrillEnd {
+    /// All was done and written.
+    Done,
+    /// The output could not be written.
+    WriteFault,
+    /// Memory ran out.
+    NoMemory,
+}
+
+/// How a drill ended, and the events that were done.
+#[derive(Drop)]
+pub struct Drilled {
+    pub end: DrillEnd,
+    pub journal: Journal,
+}
+
+// Does all events of so many rounds.
+fn play_rounds(alloc: Global, rounds: u64, runner: &mut Runner) -> Result<(), NoMemory>
+    requires rounds { rounds ≤ 100000 }
+    requires empty { runner.old.core.journal ≡ [] }
+    requires counted { IsCounted runner.old.count runner.old.core.journal }
+    ensures ok { OnOk result (runner.new.core.journal ≡ events rounds) }
+    ensures err { OnErr result (IsFront runner.new.core.journal (events rounds)) }
+    ensures counted { IsCounted runner.new.count runner.new.core.journal }
+{
+    runner.play(opening(alloc)?)?;
+    let mut seed = FIRST_SEED;
+    for done in 0..rounds {
+        seed = next_seed(seed);
+        runner.play(round(alloc, done + 1, seed)?)?;
+    }
+    Ok(())
+}
+
+// Does all events, and answers the summary of their run.
+#[tactic(auto, unfolding(crate::specs::Summary::summary))]
+fn run(alloc: Global, rounds: u64, runner: &mut Runner) -> Result<Bytes, NoMemory>
+    requires rounds { rounds ≤ 100000 }
+    requires empty { runner.old.core.journal ≡ [] }
+    requires counted { IsCounted runner.old.count runner.old.core.journal }
+    ensures text { IfOk result (λ text. text ≡ summary (events rounds)) }
+    ensures ok { OnOk result (runner.new.core.journal ≡ events rounds) }
+    ensures err { OnErr result (IsFront runner.new.core.journal (events rounds)) }
+{
+    play_rounds(alloc, rounds, runner)?;
+    let view = runner.core.view()?;
+    summary_text(alloc, &view, runner.count)
+}
+
+/// Does the events of a drill of so many rounds from the empty editor on, and writes the summary of their run.
+pub fn drill<O: Sink>(alloc: Global, rounds: u64, output: &mut O) -> Drilled
+    requires { (1 ≤ rounds) × (rounds ≤ 100000) }
+    ensures { DrillSays result.end rounds
+        (record { held = O.held output.old; held_now = O.held output.new; faults = O.faults output.old; faults_now = O.faults output.new })
+        result.journal }
+{
+    let Ok(mut runner) = Runner::new(alloc) else {
+        return Drilled {
+            end: DrillEnd::NoMemory,
+            journal: Items::new(alloc),
+        };
+    };
+    let end = match run(alloc, rounds, &mut runner) {
+        Ok(text) => match write_all(output, text.as_slice()) {
+            Ok(()) => DrillEnd::Done,
+            Err(_) => DrillEnd::WriteFault,
+        },
+        Err(NoMemory) => DrillEnd::NoMemory,
+    };
+    let Runner { core, .. } = runner;
+    Drilled {
+        end,
+        journal: core.into_journal(),
+    }
+}
