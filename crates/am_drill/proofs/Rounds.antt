@@ -28,13 +28,15 @@ run-append a b = fold-append step start a b
 -- what can be done from where a journal leads can be done next
 next_from : (before es : List Event) → CanDoAll (run before) es → length before + length es < 2 ^ 32 → AreNext before es
 next_from before [] all short = tt
-next_from before (e ∷ es) all short =
-    (record {
-      lawful = all.0.lawful;
-      allowed = all.0.allowed;
-      brief = subst (λ (s : State). IsBrief s.replies) (sym (run-push before e)) all.0.brief;
-      short = omega arith;
-    }, next_from (before ++ e ∷ []) es (subst (λ (s : State). CanDoAll s es) (sym (run-push before e)) all.1) (omega (arith, length-append before (e ∷ []))))
+next_from before (e ∷ es) all short = (
+  record {
+    lawful = all.0.lawful;
+    allowed = all.0.allowed;
+    brief = subst (λ (s : State). IsBrief s.replies) (sym (run-push before e)) all.0.brief;
+    short = omega arith;
+  },
+  next_from (before ++ e ∷ []) es (subst (λ (s : State). CanDoAll s es) (sym (run-push before e)) all.1) (omega (arith, length-append before (e ∷ []))),
+)
 
 played_from : (before es : List Event) → AreNext before es → ArePlayed enabled before es
 unfolding ArePlayed

@@ -1,6 +1,6 @@
 //! How many replies were made, and their bytes.
 
-ghost use Rattle.std.specs.Prelude.{◌≡◌, ◌≤◌};
+ghost use Rattle.std.specs.Prelude.{◌≡◌};
 ghost use Rattle.acme_core.specs.Run.{run};
 ghost use Rattle.am_drill.specs.Summary.{count_of};
 ghost use Rattle.am_drill.specs.Brief.{IsBrief};

@@ -57,7 +57,12 @@ pub(crate) fn summary_text(alloc: Global, view: &View, count: Count) -> Result<B
     put_line(alloc, &mut text, b"entries ", view.entries)?;
     put_line(alloc, &mut text, b"replies ", count.replies)?;
     put_line(alloc, &mut text, b"reply bytes ", count.bytes)?;
-    put_line(alloc, &mut text, b"body runes ", runes_of(1, view.windows.as_slice()))?;
+    put_line(
+        alloc,
+        &mut text,
+        b"body runes ",
+        runes_of(1, view.windows.as_slice()),
+    )?;
     put_line(alloc, &mut text, b"items ", items.len() as u64)?;
     put_line(alloc, &mut text, b"taken ", taken(items))?;
     put_line(alloc, &mut text, b"pending ", pending(items))?;
