@@ -4,7 +4,7 @@ use Rattle.std.specs.Prelude.{slice_get, sum_by}
 use Rattle.std.specs.List.{fold}
 use Rattle.std.proofs.lemmas.Grind.{fold-append}
 use Rattle.std.proofs.lemmas.List.{append-nil, take_more, length-append}
-use Rattle.std.proofs.lemmas.List.Sums.{sum_by-append, sum_by_push}
+use Rattle.std.proofs.lemmas.List.Sums.{sum_by-append, sum_by_push, sum_by_more_le}
 use Rattle.std.proofs.lemmas.Option.{slice_get_within, get_or_from_slice_get}
 use Rattle.am_journal.specs.declared.event.Event.{Event}
 use Rattle.acme_core.specs.declared.unsent.Reply.{Reply}
@@ -24,21 +24,29 @@ first_more rs k r h =
     take_more rs k r within ∙ ap (λ (x : Reply). take k rs ++ x ∷ []) here
 
 -- one reply more
-pub count_more : (rs : List Reply) (k : ℕ) (r : Reply) → slice_get rs k ≡ Some r
-    → count_of (take (k + 1) rs) ≡ record { replies = length (take k rs) + 1; bytes = sum_by bytes_in (take k rs) + length r.bytes }
-count_more rs k r h =
-    ap count_of (first_more rs k r h)
-    ∙ ap (λ (n : ℕ). record { replies = n; bytes = sum_by bytes_in (take k rs ++ r ∷ []) }) (length-append (take k rs) (r ∷ []))
-    ∙ ap (λ (n : ℕ). record { replies = length (take k rs) + 1; bytes = n }) (sum_by_push bytes_in (take k rs) r)
+pub one_more : (rs : List Reply) (k : ℕ) (r : Reply) → slice_get rs k ≡ Some r → sum_by bytes_in (take (k + 1) rs) ≡ sum_by bytes_in (take k rs) + length r.bytes
+one_more rs k r h = ap (sum_by bytes_in) (first_more rs k r h) ∙ sum_by_push bytes_in (take k rs) r
 
-none_more : (rs : List Reply) (k : ℕ) → slice_get rs k ≡ None → take k rs ≡ rs
-none_more [] zero h = refl
-none_more [] (suc k) h = refl
+-- it is one of them, and its bytes are among theirs
+pub one_within : (rs : List Reply) (k : ℕ) (r : Reply) → slice_get rs k ≡ Some r → (k < length rs) × (sum_by bytes_in (take k rs) + length r.bytes ≤ sum_by bytes_in rs)
+one_within rs k r h =
+    let within : k < length rs = slice_get_within rs k r h in
+    let here : get_or rs k r ≡ r = get_or_from_slice_get rs k r r h in
+    (within, omega (arith, sum_by_more_le bytes_in rs k r within, ap bytes_in here))
+
+none_more : (rs : List Reply) (k : ℕ) → slice_get rs k ≡ None → (length rs ≤ k) × (take k rs ≡ rs)
+none_more [] zero h = (omega arith, refl)
+none_more [] (suc k) h = (omega arith, refl)
 none_more (r ∷ rs) zero h = absurd cc
-none_more (r ∷ rs) (suc k) h = ap (λ (x : List Reply). r ∷ x) (none_more rs k h)
+none_more (r ∷ rs) (suc k) h = (omega (arith, (none_more rs k h).0), ap (λ (x : List Reply). r ∷ x) (none_more rs k h).1)
 
-pub count_done : (rs : List Reply) (k : ℕ) → slice_get rs k ≡ None → count_of (take k rs) ≡ count_of rs
-count_done rs k h = ap count_of (none_more rs k h)
+-- all of them were counted
+pub all_counted : (rs : List Reply) (k bytes : ℕ) → slice_get rs k ≡ None → k ≤ length rs → bytes ≡ sum_by bytes_in (take k rs) → record { replies = k; bytes = bytes } ≡ count_of rs
+all_counted rs k bytes h within is =
+    let none = none_more rs k h in
+    let same : k ≡ length rs = omega (arith, none.0) in
+    ap (λ (n : ℕ). record { replies = n; bytes = bytes }) same
+    ∙ ap (λ (n : ℕ). record { replies = length rs; bytes = n }) (is ∙ ap (sum_by bytes_in) none.1)
 
 -- ---- event by event
 
@@ -75,3 +83,28 @@ count_pushed count more journal e was brief is =
       few = omega (arith, was.few, brief.few, more_replies, longer);
       bytes = omega (arith, was.bytes, brief.bytes, more_bytes, longer);
     }
+
+-- none of none
+pub none_counted : (journal : List Event) → journal ≡ [] → IsCounted (record { replies = 0; bytes = 0 }) journal
+unfolding replies_from
+none_counted journal empty = subst (λ (j : List Event). IsCounted (record { replies = 0; bytes = 0 }) j) (sym empty) (record { exact = refl; few = omega arith; bytes = omega arith })
+
+-- ---- after a step
+
+pub brief_at : (before now : List Event) (e : Event) → IsNext before e → now ≡ before ++ e ∷ [] → IsBrief (run now).replies
+brief_at before now e next is = subst (λ (j : List Event). IsBrief (run j).replies) (sym is) next.brief
+
+pub counted_at : (before now : List Event) (e : Event) (count more : Count) → IsNext before e → IsCounted count before → now ≡ before ++ e ∷ [] → more ≡ count_of (run now).replies
+    → IsCounted (record { replies = count.replies + more.replies; bytes = count.bytes + more.bytes }) now
+counted_at before now e count more next was is said =
+    subst (λ (j : List Event). IsCounted (record { replies = count.replies + more.replies; bytes = count.bytes + more.bytes }) j) (sym is)
+    (count_pushed count more before e was next.brief (said ∙ ap (λ (j : List Event). count_of (run j).replies) is))
+
+-- no count wraps
+pub counts_fit : (before now : List Event) (e : Event) (count more : Count) → IsNext before e → IsCounted count before → now ≡ before ++ e ∷ [] → more ≡ count_of (run now).replies
+    → (count.replies + more.replies < 2 ^ 64) × (count.bytes + more.bytes < 2 ^ 64)
+counts_fit before now e count more next was is said =
+    let brief : IsBrief (run now).replies = brief_at before now e next is in
+    let more_replies : more.replies ≡ length (run now).replies = ap (λ (c : Count). c.replies) said in
+    let more_bytes : more.bytes ≡ sum_by bytes_in (run now).replies = ap (λ (c : Count). c.bytes) said in
+    (omega (arith, more_replies, brief.few, was.few, next.short), omega (arith, more_bytes, brief.bytes, was.bytes, next.short))

@@ -12,7 +12,7 @@ use Rattle.acme_core.specs.States.{State, start}
 use Rattle.am_drill.specs.declared.numbers.Turn.{Turn}
 use Rattle.am_drill.specs.declared.numbers.Turn.TheVariants as turn
 use Rattle.am_drill.specs.Brief.{IsBrief, AreNext}
-use Rattle.am_drill.specs.Drill.{seed, drawn, letter, turn_of, opening, read, played_turn, round, rounds, events}
+use Rattle.am_drill.specs.Drill.{seed_of, drawn, letter, turn_of, opening, read, played_turn, round, rounds, events}
 use Rattle.am_drill.proofs.Begins.{opening_goes}
 use Rattle.am_drill.proofs.Calm.{CanDo, CanDoAll}
 use Rattle.am_drill.proofs.Turns.{Goes, Stands, most_unsent, round_goes}
@@ -67,13 +67,13 @@ round_short k r = round_short_as (k % 50 == 0) r
 rounds_short : (n : ℕ) → length (rounds n) ≤ 2 * n
 unfolding rounds
 rounds_short zero = omega arith
-rounds_short (suc k) = omega (arith, rounds_short k, round_short (k + 1) (drawn (seed (k + 1))), length-append (rounds k) (round (k + 1) (drawn (seed (k + 1)))))
+rounds_short (suc k) = omega (arith, rounds_short k, round_short (k + 1) (drawn (seed_of (k + 1))), length-append (rounds k) (round (k + 1) (drawn (seed_of (k + 1)))))
 
 -- ---- from round to round
 
-pub next_events : (k : ℕ) → events (k + 1) ≡ events k ++ round (k + 1) (drawn (seed (k + 1)))
+pub next_events : (k : ℕ) → events (k + 1) ≡ events k ++ round (k + 1) (drawn (seed_of (k + 1)))
 unfolding rounds
-next_events k = ap events (add-one k) ∙ sym (append_assoc opening (rounds k) (round (k + 1) (drawn (seed (k + 1)))))
+next_events k = ap events (add-one k) ∙ sym (append_assoc opening (rounds k) (round (k + 1) (drawn (seed_of (k + 1)))))
 
 pub no_rounds : events 0 ≡ opening
 unfolding rounds
@@ -84,17 +84,17 @@ unfolding run
 stands_after zero h = subst (λ (j : List Event). Stands 0 6 (fold step start j)) (sym no_rounds) opening_goes.stands
 stands_after (suc k) h =
     let s : State = run (events k) in
-    let goes : Goes (k + 1) (most_unsent (k + 1)) s (round (k + 1) (drawn (seed (k + 1)))) = round_goes s k (drawn (seed (k + 1))) (omega arith) (stands_after k (omega arith)) in
-    let is : run (events (k + 1)) ≡ fold step s (round (k + 1) (drawn (seed (k + 1)))) = ap run (next_events k) ∙ run-append (events k) (round (k + 1) (drawn (seed (k + 1)))) in
+    let goes : Goes (k + 1) (most_unsent (k + 1)) s (round (k + 1) (drawn (seed_of (k + 1)))) = round_goes s k (drawn (seed_of (k + 1))) (omega arith) (stands_after k (omega arith)) in
+    let is : run (events (k + 1)) ≡ fold step s (round (k + 1) (drawn (seed_of (k + 1)))) = ap run (next_events k) ∙ run-append (events k) (round (k + 1) (drawn (seed_of (k + 1)))) in
     subst (λ (n : ℕ). Stands n (most_unsent n) (run (events n))) (add-one k) (subst (λ (x : State). Stands (k + 1) (most_unsent (k + 1)) x) (sym is) goes.stands)
 
 pub next_opening : AreNext [] opening
 unfolding run
 next_opening = next_from [] opening opening_goes.all (omega arith)
 
-pub next_round : (k : ℕ) → k < 100000 → AreNext (events k) (round (k + 1) (drawn (seed (k + 1))))
+pub next_round : (k : ℕ) → k < 100000 → AreNext (events k) (round (k + 1) (drawn (seed_of (k + 1))))
 next_round k h =
-    let r = drawn (seed (k + 1)) in
+    let r = drawn (seed_of (k + 1)) in
     let goes : Goes (k + 1) (most_unsent (k + 1)) (run (events k)) (round (k + 1) r) = round_goes (run (events k)) k r h (stands_after k (omega arith)) in
     next_from (events k) (round (k + 1) r) goes.all (omega (arith, length-append opening (rounds k), rounds_short k, round_short (k + 1) r))
 
@@ -103,7 +103,7 @@ next_round k h =
 pub all_played : (n : ℕ) → n ≤ 100000 → IsPlayed enabled (events n)
 all_played zero h = subst (λ (j : List Event). ArePlayed enabled [] j) (sym no_rounds) (played_from [] opening next_opening)
 all_played (suc k) h =
-    let r = drawn (seed (k + 1)) in
+    let r = drawn (seed_of (k + 1)) in
     let more : ArePlayed enabled (events k) (round (k + 1) r) = played_from (events k) (round (k + 1) r) (next_round k (omega arith)) in
     subst (λ (n : ℕ). IsPlayed enabled (events n)) (add-one k)
     (subst (λ (j : List Event). ArePlayed enabled [] j) (sym (next_events k)) (played-append [] (events k) (round (k + 1) r) (all_played k (omega arith)) more))

@@ -14,9 +14,9 @@ abbrev pub next_seed : ℕ → ℕ
 next_seed s = (s * 1103515245 + 12345) % 2 ^ 31
 
 -- the seed of a round, by its number from 1; the one before the first round is 1
-unfoldable pub seed : ℕ → ℕ
-seed zero = 1
-seed (suc k) = next_seed (seed k)
+unfoldable pub seed_of : ℕ → ℕ
+seed_of zero = 1
+seed_of (suc k) = next_seed (seed_of k)
 
 -- the number that a seed draws
 abbrev pub drawn : ℕ → ℕ
@@ -84,7 +84,7 @@ round k r = if k % 50 == 0 then read ∷ event.Took 0 ∷ [] else played_turn (t
 -- so many rounds, from round 1
 unfoldable pub rounds : ℕ → List Event
 rounds zero = []
-rounds (suc k) = rounds k ++ round (k + 1) (drawn (seed (k + 1)))
+rounds (suc k) = rounds k ++ round (k + 1) (drawn (seed_of (k + 1)))
 
 -- all events of a drill of so many rounds
 abbrev pub events : ℕ → List Event

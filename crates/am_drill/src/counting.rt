@@ -15,19 +15,19 @@ pub struct Count {
 }
 
 /// The replies that the last entry made.
+#[tactic(auto, using(crate::proofs::Replies::all_counted))]
 pub(crate) fn last_count(core: &Core) -> Count
     requires { IsBrief (run core.now.journal).replies }
     ensures { result ≡ count_of (run core.now.journal).replies }
 {
-    let mut count = Count {
-        replies: 0,
-        bytes: 0,
-    };
-    let mut k = 0;
-    while let Some((_, bytes)) = core.last_reply(k) {
-        count.replies += 1;
-        count.bytes += bytes.len() as u64;
+    let mut bytes: u64 = 0;
+    let mut k: usize = 0;
+    while let Some((_, reply)) = core.last_reply(k) {
+        bytes += reply.len() as u64;
         k += 1;
     }
-    count
+    Count {
+        replies: k as u64,
+        bytes,
+    }
 }

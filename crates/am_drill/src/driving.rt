@@ -1,8 +1,8 @@
 //! A drill from its first event to its summary.
 
-ghost use Rattle.std.specs.Prelude.{◌≡◌, ◌≤◌, [], IfOk, OnOk, OnErr};
+ghost use Rattle.std.specs.Prelude.{◌≡◌, ◌≤◌, ◌<◌, ◌+◌, [], IfOk, OnOk, OnErr};
 ghost use Rattle.am_drill.specs.Brief.{IsCounted, IsFront};
-ghost use Rattle.am_drill.specs.Drill.{events};
+ghost use Rattle.am_drill.specs.Drill.{events, seed_of};
 ghost use Rattle.am_drill.specs.Ends.{DrillSays};
 ghost use Rattle.am_drill.specs.Summary.{summary};
 
@@ -33,6 +33,32 @@ pub struct Drilled {
     pub journal: Journal,
 }
 
+// Does the events that come before the rounds.
+fn play_opening(alloc: Global, runner: &mut Runner) -> Result<(), NoMemory>
+    requires empty { runner.old.core.journal ≡ [] }
+    requires counted { IsCounted runner.old.count runner.old.core.journal }
+    ensures ok { OnOk result (runner.new.core.journal ≡ events 0) }
+    ensures err { OnErr result (IsFront runner.new.core.journal (events 0)) }
+    ensures counted { IsCounted runner.new.count runner.new.core.journal }
+{
+    let first = opening(alloc)?;
+    runner.play(first)
+}
+
+// Does the events of the round that comes after so many, with its seed.
+fn play_round(alloc: Global, done: u64, seed: u64, runner: &mut Runner) -> Result<(), NoMemory>
+    requires few { done < 100000 }
+    requires seed { seed ≡ seed_of (done + 1) }
+    requires before { runner.old.core.journal ≡ events done }
+    requires counted { IsCounted runner.old.count runner.old.core.journal }
+    ensures ok { OnOk result (runner.new.core.journal ≡ events (done + 1)) }
+    ensures err { OnErr result (IsFront runner.new.core.journal (events (done + 1))) }
+    ensures counted { IsCounted runner.new.count runner.new.core.journal }
+{
+    let next = round(alloc, done + 1, seed)?;
+    runner.play(next)
+}
+
 // Does all events of so many rounds.
 fn play_rounds(alloc: Global, rounds: u64, runner: &mut Runner) -> Result<(), NoMemory>
     requires rounds { rounds ≤ 100000 }
@@ -42,11 +68,11 @@ fn play_rounds(alloc: Global, rounds: u64, runner: &mut Runner) -> Result<(), No
     ensures err { OnErr result (IsFront runner.new.core.journal (events rounds)) }
     ensures counted { IsCounted runner.new.count runner.new.core.journal }
 {
-    runner.play(opening(alloc)?)?;
+    play_opening(alloc, runner)?;
     let mut seed = FIRST_SEED;
     for done in 0..rounds {
         seed = next_seed(seed);
-        runner.play(round(alloc, done + 1, seed)?)?;
+        play_round(alloc, done, seed, runner)?;
     }
     Ok(())
 }
