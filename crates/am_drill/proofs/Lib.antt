@@ -10,3 +10,4 @@ pub mod Begins
 pub mod Rounds
 pub mod Replies
 pub mod Playing
+pub mod Ended

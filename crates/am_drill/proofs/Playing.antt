@@ -45,13 +45,15 @@ on_err (Err e) P p = p
 
 -- ---- rounds
 
-pub next_is : (k s : ℕ) → s ≡ seed_of k → next_seed s ≡ seed_of (k + 1)
+pub seed_more : (k : ℕ) → seed_of (k + 1) ≡ next_seed (seed_of k)
 unfolding seed_of
-next_is k s h = ap next_seed h ∙ ap seed_of (sym (add-one k))
+seed_more k = ap seed_of (add-one k)
 
-pub first_seed : 1 ≡ seed_of 0
+pub first_seed : seed_of 0 ≡ 1
 unfolding seed_of
 first_seed = refl
+
+pub ruleset seeds = (seed_more, first_seed)
 
 -- a front of the first rounds is one of all
 front_more : (k more : ℕ) (now : List Event) → IsFront now (events k) → IsFront now (events (k + more))
@@ -104,9 +106,11 @@ round_done k s before es now at seed is done =
 pub round_stopped : (k s : ℕ) (before es now : List Event) → before ≡ events k → s ≡ seed_of (k + 1) → es ≡ round (k + 1) (drawn s) → Stopped before es now → IsFront now (events (k + 1))
 round_stopped k s before es now at seed is stop =
     let done : List Event = stop.0 in
-    let rest : List Event = stop.1.0 in
-    (rest, ap (λ (x : List Event). x ++ rest) (stop.2 ∙ ap (λ (x : List Event). x ++ done) at) ∙ append_assoc (events k) done rest
-    ∙ ap (λ (x : List Event). events k ++ x) (stop.1.1 ∙ round_is k s es seed is) ∙ sym (next_events k))
+    let rest : List Event = stop.1.0 in (
+      rest,
+      ap (λ (x : List Event). x ++ rest) (stop.2 ∙ ap (λ (x : List Event). x ++ done) at) ∙ append_assoc (events k) done rest
+          ∙ ap (λ (x : List Event). events k ++ x) (stop.1.1 ∙ round_is k s es seed is) ∙ sym (next_events k),
+    )
 
 pub round_unmade : (k : ℕ) (now : List Event) → now ≡ events k → IsFront now (events (k + 1))
 round_unmade k now at = front_up k (k + 1) now (omega arith) (whole_front now (events k) at)

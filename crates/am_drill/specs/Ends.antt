@@ -15,10 +15,28 @@ pub record Output : Type 0 where
   pub faults : ℕ
   pub faults_now : ℕ
 
--- What each end says of so many rounds, the output and the journal. Done: the journal is the drill's events, and the output got their
--- whole summary. WriteFault: the same journal, and the output got a front of the summary, and its count of faults has risen. NoMemory: the
--- journal is a front of the drill's events, and the output got nothing.
+-- all of a text was put
+abbrev pub IsWhole : Output → List ℕ → Type 0
+IsWhole o text = (o.held_now ≡ told_then o.held text) × (o.faults ≤ o.faults_now)
+
+-- a front of a text was put, and the count of faults has risen
+abbrev pub IsCut : Output → List ℕ → Type 0
+IsCut o text = PutsFront o.held text o.held_now × HasRisen o.faults o.faults_now
+
+-- nothing was put
+abbrev pub IsIdle : Output → Type 0
+IsIdle o = (o.held_now ≡ o.held) × (o.faults_now ≡ o.faults)
+
+-- what writing a text comes to
+abbrev pub Wrote : DrillEnd → Output → List ℕ → Type 0
+Wrote Done o text = IsWhole o text
+Wrote WriteFault o text = IsCut o text
+Wrote NoMemory o text = ⊥
+
+-- What each end says of so many rounds, the output and the journal. Done: the journal is the drill's events, and the output got the whole
+-- summary of their run. WriteFault: the same journal, and the output got a front of the summary, and its count of faults has risen.
+-- NoMemory: the journal is a front of the drill's events, and nothing was put.
 abbrev pub DrillSays : DrillEnd → ℕ → Output → List Event → Type 0
-DrillSays Done rounds o journal = (journal ≡ events rounds) × (o.held_now ≡ told_then o.held (summary (events rounds))) × (o.faults ≤ o.faults_now)
-DrillSays WriteFault rounds o journal = (journal ≡ events rounds) × PutsFront o.held (summary (events rounds)) o.held_now × HasRisen o.faults o.faults_now
-DrillSays NoMemory rounds o journal = IsFront journal (events rounds) × (o.held_now ≡ o.held) × (o.faults_now ≡ o.faults)
+DrillSays Done rounds o journal = (journal ≡ events rounds) × IsWhole o (summary (events rounds))
+DrillSays WriteFault rounds o journal = (journal ≡ events rounds) × IsCut o (summary (events rounds))
+DrillSays NoMemory rounds o journal = IsFront journal (events rounds) × IsIdle o

@@ -3,7 +3,7 @@
 ghost use Rattle.std.specs.Prelude.{◌≡◌, ◌≤◌, ◌<◌, ◌+◌, [], IfOk, OnOk, OnErr};
 ghost use Rattle.am_drill.specs.Brief.{IsCounted, IsFront};
 ghost use Rattle.am_drill.specs.Drill.{events, seed_of};
-ghost use Rattle.am_drill.specs.Ends.{DrillSays};
+ghost use Rattle.am_drill.specs.Ends.{Wrote, DrillSays};
 ghost use Rattle.am_drill.specs.Summary.{summary};
 
 use crate::events::{opening, round};
@@ -60,6 +60,7 @@ fn play_round(alloc: Global, done: u64, seed: u64, runner: &mut Runner) -> Resul
 }
 
 // Does all events of so many rounds.
+#[tactic(auto, using(crate::proofs::Playing::seeds))]
 fn play_rounds(alloc: Global, rounds: u64, runner: &mut Runner) -> Result<(), NoMemory>
     requires rounds { rounds ≤ 100000 }
     requires empty { runner.old.core.journal ≡ [] }
@@ -92,6 +93,38 @@ fn run(alloc: Global, rounds: u64, runner: &mut Runner) -> Result<Bytes, NoMemor
     summary_text(alloc, &view, runner.count)
 }
 
+// Writes a text, and answers how that ended.
+fn put<O: Sink>(output: &mut O, text: &[u8]) -> DrillEnd
+    ensures { Wrote result
+        (record { held = O.held output.old; held_now = O.held output.new; faults = O.faults output.old; faults_now = O.faults output.new })
+        text.now }
+{
+    match write_all(output, text) {
+        Ok(()) => DrillEnd::Done,
+        Err(_) => DrillEnd::WriteFault,
+    }
+}
+
+// Does all events, and writes the summary of their run.
+fn run_and_write<O: Sink>(
+    alloc: Global,
+    rounds: u64,
+    runner: &mut Runner,
+    output: &mut O,
+) -> DrillEnd
+    requires rounds { rounds ≤ 100000 }
+    requires empty { runner.old.core.journal ≡ [] }
+    requires counted { IsCounted runner.old.count runner.old.core.journal }
+    ensures { DrillSays result rounds
+        (record { held = O.held output.old; held_now = O.held output.new; faults = O.faults output.old; faults_now = O.faults output.new })
+        runner.new.core.journal }
+{
+    match run(alloc, rounds, runner) {
+        Ok(text) => put(output, text.as_slice()),
+        Err(NoMemory) => DrillEnd::NoMemory,
+    }
+}
+
 /// Does the events of a drill of so many rounds from the empty editor on, and writes the summary of their run.
 pub fn drill<O: Sink>(alloc: Global, rounds: u64, output: &mut O) -> Drilled
     requires { (1 ≤ rounds) × (rounds ≤ 100000) }
@@ -105,13 +138,7 @@ pub fn drill<O: Sink>(alloc: Global, rounds: u64, output: &mut O) -> Drilled
             journal: Items::new(alloc),
         };
     };
-    let end = match run(alloc, rounds, &mut runner) {
-        Ok(text) => match write_all(output, text.as_slice()) {
-            Ok(()) => DrillEnd::Done,
-            Err(_) => DrillEnd::WriteFault,
-        },
-        Err(NoMemory) => DrillEnd::NoMemory,
-    };
+    let end = run_and_write(alloc, rounds, &mut runner, output);
     let Runner { core, .. } = runner;
     Drilled {
         end,

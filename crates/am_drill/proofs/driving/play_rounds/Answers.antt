@@ -1,5 +1,5 @@
 use Rattle.std.proofs.Common.{arith}
-use Rattle.am_drill.proofs.Playing.{front_up, next_is, on_err}
+use Rattle.am_drill.proofs.Playing.{front_up, on_err}
 use Rattle.am_drill.proofs.driving.play_rounds.Goals as goal
 
 pub returns-in_err-play_opening-clause-err : goal.returns-in_err-play_opening-clause-err
