@@ -1,0 +1,13 @@
+pub mod Standing
+pub mod Letters
+pub mod Steps
+pub mod Shapes
+pub mod Editing
+pub mod Calm
+pub mod Turns
+pub mod Opening
+pub mod Begins
+pub mod Rounds
+pub mod Replies
+pub mod Playing
+pub mod Ended

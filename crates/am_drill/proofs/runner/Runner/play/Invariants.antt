@@ -1,0 +1,11 @@
+use Rattle.std.proofs.Common.{◌≡◌, ◌++◌}
+use Rattle.am_drill.specs.Brief.{IsCounted}
+use Rattle.am_drill.proofs.runner.Runner.play.Given as goal
+
+abbrev pub invariant-loop-event : goal.invariant-loop-event
+invariant-loop-event l = record {
+  next : (goal.iterator-loop-event).can_next l.event-iterator;
+  ends : (goal.iterator-loop-event).is_finite l.event-iterator;
+  done : l.self.core.journal ≡ l.fn.self.core.journal ++ l.yielded;
+  counted : IsCounted l.self.count l.self.core.journal;
+}

@@ -1,0 +1,4 @@
+pub mod Drill
+pub mod Summary
+pub mod Brief
+pub mod Ends

@@ -1,0 +1,186 @@
+//! The events of a drill.
+
+ghost use Rattle.std.specs.Prelude.{◌≡◌, ◌∷◌, [], codes, IfOk};
+ghost use Rattle.am_drill.specs.Drill.{message, opening, write, poll, flush, key, read, played_turn, round, drawn};
+
+use crate::numbers::{Turn, drawn, letter, turn_of};
+use am_journal::{Event, Journal, Side};
+use am_text::{Items, Names, NoMemory, Rune};
+use ninep_wire::{TBody, TMsg};
+use std::alloc::Global;
+
+/// The tag of a version message.
+const NOTAG: u16 = 0xFFFF;
+
+/// The number that is no fid.
+const NOFID: u32 = 0xFFFFFFFF;
+
+/// How many bytes of the event file are read at once, and how many of the body.
+const EVENT_BYTES: u32 = 64;
+
+const BODY_BYTES: u32 = 32;
+
+// A message of connection 0.
+fn message(tag: u16, body: TBody) -> Event
+    ensures { result ≡ message tag body }
+{
+    Event::Msg {
+        conn: 0,
+        msg: TMsg { tag, body },
+    }
+}
+
+fn names(alloc: Global, first: &[u8], second: &[u8]) -> Result<Names, NoMemory>
+    ensures { IfOk result (λ names. names ≡ first.now ∷ second.now ∷ []) }
+{
+    let mut names = Items::new(alloc);
+    names.push(Items::copied(alloc, first)?)?;
+    names.push(Items::copied(alloc, second)?)?;
+    Ok(names)
+}
+
+fn version(alloc: Global) -> Result<Event, NoMemory>
+    ensures { IfOk result (λ e. e ≡ message 0xFFFF (TBody.Version 8192 (codes "9P2000"))) }
+{
+    Ok(message(
+        NOTAG,
+        TBody::Version {
+            msize: 8192,
+            version: Items::copied(alloc, b"9P2000")?,
+        },
+    ))
+}
+
+fn attach(alloc: Global) -> Result<Event, NoMemory>
+    ensures { IfOk result (λ e. e ≡ message 1 (TBody.Attach 0 0xFFFFFFFF (codes "u") [])) }
+{
+    Ok(message(
+        1,
+        TBody::Attach {
+            fid: 0,
+            afid: NOFID,
+            uname: Items::copied(alloc, b"u")?,
+            aname: Items::new(alloc),
+        },
+    ))
+}
+
+// A walk of two names from the root.
+fn walk(alloc: Global, newfid: u32, first: &[u8], second: &[u8]) -> Result<Event, NoMemory>
+    ensures { IfOk result (λ e. e ≡ message 2 (TBody.Walk 0 newfid (first.now ∷ second.now ∷ []))) }
+{
+    Ok(message(
+        2,
+        TBody::Walk {
+            fid: 0,
+            newfid,
+            names: names(alloc, first, second)?,
+        },
+    ))
+}
+
+fn open(fid: u32, mode: u8) -> Event
+    ensures { result ≡ message 3 (TBody.Open fid mode) }
+{
+    message(3, TBody::Open { fid, mode })
+}
+
+/// The events that come before the rounds.
+pub(crate) fn opening(alloc: Global) -> Result<Journal, NoMemory>
+    ensures { IfOk result (λ events. events ≡ opening) }
+{
+    let mut events = Items::new(alloc);
+    events.push(Event::Dial { conn: 0 })?;
+    events.push(version(alloc)?)?;
+    events.push(attach(alloc)?)?;
+    events.push(walk(alloc, 1, b"new", b"body")?)?;
+    events.push(open(1, 2))?;
+    events.push(walk(alloc, 2, b"1", b"event")?)?;
+    events.push(open(2, 0))?;
+    Ok(events)
+}
+
+fn write(alloc: Global, letter: u8) -> Result<Event, NoMemory>
+    ensures { IfOk result (λ e. e ≡ write letter) }
+{
+    Ok(message(
+        4,
+        TBody::Write {
+            fid: 1,
+            offset: 0,
+            bytes: Items::copied(alloc, &[letter])?,
+        },
+    ))
+}
+
+fn poll() -> Event
+    ensures { result ≡ poll }
+{
+    message(
+        10,
+        TBody::Read {
+            fid: 2,
+            offset: 0,
+            count: EVENT_BYTES,
+        },
+    )
+}
+
+fn flush() -> Event
+    ensures { result ≡ flush }
+{
+    message(11, TBody::Flush { oldtag: 10 })
+}
+
+fn key(alloc: Global, letter: u8) -> Result<Event, NoMemory>
+    ensures { IfOk result (λ e. e ≡ key letter) }
+{
+    Ok(Event::Key {
+        window: 1,
+        side: Side::Body,
+        text: Items::copied(alloc, &[Rune::from(letter)])?,
+    })
+}
+
+fn read() -> Event
+    ensures { result ≡ read }
+{
+    message(
+        5,
+        TBody::Read {
+            fid: 1,
+            offset: 0,
+            count: BODY_BYTES,
+        },
+    )
+}
+
+fn played_turn(alloc: Global, turn: Turn, letter: u8) -> Result<Journal, NoMemory>
+    ensures { IfOk result (λ events. events ≡ played_turn turn letter) }
+{
+    let mut events = Items::new(alloc);
+    match turn {
+        Turn::Write => events.push(write(alloc, letter)?)?,
+        Turn::Events => {
+            events.push(poll())?;
+            events.push(flush())?;
+        }
+        Turn::Key => events.push(key(alloc, letter)?)?,
+        Turn::Read => events.push(read())?,
+    }
+    Ok(events)
+}
+
+/// The events of the round of this number, from 1, with this seed.
+pub(crate) fn round(alloc: Global, number: u64, seed: u64) -> Result<Journal, NoMemory>
+    ensures { IfOk result (λ events. events ≡ round number (drawn seed)) }
+{
+    let drawn = drawn(seed);
+    if number % 50 == 0 {
+        let mut events = Items::new(alloc);
+        events.push(read())?;
+        events.push(Event::Took { conn: 0 })?;
+        return Ok(events);
+    }
+    played_turn(alloc, turn_of(drawn), letter(drawn))
+}

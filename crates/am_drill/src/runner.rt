@@ -1,0 +1,66 @@
+//! The editor of a drill.
+
+ghost use Rattle.std.specs.Prelude.{◌≡◌, ◌++◌, ◌∷◌, [], IfOk, OnOk, OnErr};
+ghost use Rattle.am_drill.specs.Brief.{IsNext, AreNext, IsCounted, Stopped};
+
+use crate::counting::{Count, last_count};
+use acme_core::{Core, Refused};
+use am_journal::{Event, Journal};
+use am_text::NoMemory;
+use std::alloc::Global;
+
+/// The editor, and the replies that it has made so far.
+#[derive(Drop)]
+pub struct Runner {
+    pub(crate) core: Core,
+    pub(crate) count: Count,
+}
+
+impl Runner {
+    /// The empty editor.
+    pub(crate) fn new(alloc: Global) -> Result<Runner, NoMemory>
+        ensures journal { IfOk result (λ runner. runner.core.journal ≡ []) }
+        ensures counted { IfOk result (λ runner. IsCounted runner.count runner.core.journal) }
+    {
+        Ok(Runner {
+            core: Core::new(alloc)?,
+            count: Count {
+                replies: 0,
+                bytes: 0,
+            },
+        })
+    }
+
+    fn step(&mut self, event: Event) -> Result<(), NoMemory>
+        requires next { IsNext self.old.core.journal event }
+        requires counted { IsCounted self.old.count self.old.core.journal }
+        ensures ok { OnOk result (self.new.core.journal ≡ self.old.core.journal ++ event ∷ []) }
+        ensures err { OnErr result (self.new.core.journal ≡ self.old.core.journal) }
+        ensures counted { IsCounted self.new.count self.new.core.journal }
+    {
+        match self.core.step(event) {
+            Ok(_) => {
+                let more = last_count(&self.core);
+                self.count.replies += more.replies;
+                self.count.bytes += more.bytes;
+                Ok(())
+            }
+            Err(Refused::NoMemory) => Err(NoMemory),
+            Err(Refused::NotEnabled(_)) => unreachable!(),
+        }
+    }
+
+    /// Does events, one after another. Where memory runs out, a front of them was done.
+    pub(crate) fn play(&mut self, events: Journal) -> Result<(), NoMemory>
+        requires next { AreNext self.old.core.journal events }
+        requires counted { IsCounted self.old.count self.old.core.journal }
+        ensures ok { OnOk result (self.new.core.journal ≡ self.old.core.journal ++ events) }
+        ensures err { OnErr result (Stopped self.old.core.journal events self.new.core.journal) }
+        ensures counted { IsCounted self.new.count self.new.core.journal }
+    {
+        for event in events.into_vec() {
+            self.step(event)?;
+        }
+        Ok(())
+    }
+}
