@@ -111,11 +111,12 @@ module _ (L : ℕ → ℕ → Type 0) where
       let ends : IsBook (Reading L) at (cancelled (freed at (grown_book p e d) t conn done.effect) conn done.events) =
       book_cancelled (Reading L) at (freed at (grown_book p e d) t conn done.effect) conn done.events (freed_book at t (grown_book p e d) conn done.effect items)
       in
-      let closed : IsBook (Reading L) at _ = book_closed (Reading L) at (cancelled (freed at (grown_book p e d) t conn done.effect) conn done.events) (deleted_by done.change) ends in
-      (cancelled_waiting (IsWaiting L) (ended left xs) conn done.events
-      (done_waiting (IsWaiting L) left xs
-      (freed_waiting t conn done.effect (answered_waiting put s.book conn msg.tag done.answer own (grown_waiting s.tables conn done.effect quiet.0)))),
-      closed.reads)
+      let closed : IsBook (Reading L) at _ = book_closed (Reading L) at (cancelled (freed at (grown_book p e d) t conn done.effect) conn done.events) (deleted_by done.change) ends in (
+        cancelled_waiting (IsWaiting L) (ended left xs) conn done.events
+            (done_waiting (IsWaiting L) left xs
+            (freed_waiting t conn done.effect (answered_waiting put s.book conn msg.tag done.answer own (grown_waiting s.tables conn done.effect quiet.0)))),
+        closed.reads,
+      )
 
   pub quiet_step : (s : State) (e : Event) → OfMessage L e → IsWell s → IsQuiet s → IsQuiet (step s e)
   unfolding step

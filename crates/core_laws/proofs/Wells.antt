@@ -127,7 +127,7 @@ well_cancelled cs t at b conn e well = record {
   fids = fids_same (IsOfLive cs) t (without_cancelled t conn e) (cancelled_sessions t conn e) well.fids;
   waiting = cancelled_waiting (WaitsOnLive cs) t conn e well.waiting;
   book = book_weaker (IsHeld t) (IsHeld (without_cancelled t conn e)) at (cancelled b conn e) (λ r h. held_same t (without_cancelled t conn e) r (cancelled_sessions t conn e) h)
-    (book_cancelled (IsHeld t) at b conn e well.book);
+      (book_cancelled (IsHeld t) at b conn e well.book);
 }
 
 -- ---- what grows
@@ -176,7 +176,7 @@ well_answered cs t at b conn tag (Reads fid opening count) live own well =
       fids = fids_same (IsOfLive cs) t (waits_unless o t conn tag fid) (waits_sessions o t conn tag fid) well.fids;
       waiting = waits_waiting (WaitsOnLive cs) o t conn tag fid live well.waiting;
       book = book_weaker (IsHeld t) (IsHeld (waits_unless o t conn tag fid)) at (book_read t b r at) (λ x h. held_same t (waits_unless o t conn tag fid) x (waits_sessions o t conn tag fid) h)
-        (reading_book (IsHeld t) at t b r (own fid opening count refl) well.book);
+          (reading_book (IsHeld t) at t b r (own fid opening count refl) well.book);
     }
 
 pub served_book : (P : Asker → Type 0) (at : ℕ) (serves : Bool) (b : BookState) → IsBook P at b → IsBook P at (book_served serves at b)
@@ -251,7 +251,7 @@ well_hung cs t at b conn why well =
     record {
       fids = fids_version (IsOfLive cs) (IsOfLive (slice_set cs conn (Ended why))) t conn None (λ c f off h. (hang_lives cs conn c why off h.0, h.1)) well.fids;
       waiting = λ k d h. let w : Waiting = slice_index_or ws k d in
-        hang_lives cs conn w.conn why (eqb-false w.conn conn (not-true (is_waiting_on conn w) (apart k d h))) (live k d h);
+          hang_lives cs conn w.conn why (eqb-false w.conn conn (not-true (is_waiting_on conn w) (apart k d h))) (live k d h);
       book = freed_all t at b conn None well.book;
     }
 
@@ -266,7 +266,7 @@ well_dial s conn well =
     let now : List Connection = slice_set s.connections conn Live in
     record {
       fids = fids_join (IsOfLive now) s.tables conn
-        (fids_weaker (IsOfLive s.connections) (IsOfLive now) s.tables (λ c f h. (dial_lives s.connections conn c h.0, h.1)) well.fids);
+          (fids_weaker (IsOfLive s.connections) (IsOfLive now) s.tables (λ c f h. (dial_lives s.connections conn c h.0, h.1)) well.fids);
       waiting = All-weaker (WaitsOnLive s.connections) (WaitsOnLive now) (λ w h. dial_lives s.connections conn w.conn h) s.tables.waiting well.waiting;
       book = book_weaker (IsHeld s.tables) (IsHeld (after_join s.tables conn)) (s.entries + 1) s.book (λ r h. held_join s.tables conn r h) (later s well).book;
     }

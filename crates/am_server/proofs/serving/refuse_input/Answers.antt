@@ -6,5 +6,5 @@ pub returns-in-Ok : goal.returns-in-Ok
 returns-in-Ok g c = record {
   empty = c.idle.ensures.journal;
   none = c.idle.ensures.served;
-  put = inl (c.idle.ensures.end, put_one _ c.as_slice.result.now _ c.write_all.result (c.as_slice.ensures ∙ c.in-Ok.ensures) c.write_all.ensures.ok c.write_all.ensures.err c.write_all.ensures.cause);
+  put = inl (c.idle.ensures.end, put_one _ c.as_slice.result.now _ c.write_all-written.result (c.as_slice.ensures ∙ c.in-Ok.ensures) c.write_all-written.ensures.ok c.write_all-written.ensures.err c.write_all-written.ensures.cause);
 }
