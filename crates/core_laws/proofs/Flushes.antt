@@ -59,7 +59,7 @@ none_reading conn tag rs =
 -- ---- a Tflush
 
 -- what a Tflush does, by whether a session is missing
-abbrev flush_or : Bool → ℕ → Deed
+abbrev pub flush_or : Bool → ℕ → Deed
 flush_or missing oldtag = cond missing (refused refusal.VersionFirst) (flush_deed oldtag)
 
 flushes : RBody → Bool

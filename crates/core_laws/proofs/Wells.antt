@@ -95,7 +95,7 @@ IsWell s = AreWell s.connections s.tables s.entries s.book
 
 -- ---- reads that wait no more
 
-done_sessions : (t : Tables) (xs : List Response) → (ended t xs).sessions ≡ t.sessions
+pub done_sessions : (t : Tables) (xs : List Response) → (ended t xs).sessions ≡ t.sessions
 done_sessions t [] = refl
 done_sessions t (x ∷ xs) = done_sessions (after_done t x.conn x.message.tag) xs
 
@@ -104,7 +104,7 @@ done_waiting P t [] h = h
 done_waiting P t (x ∷ xs) h =
     done_waiting P (after_done t x.conn x.message.tag) xs (All-filter (λ w. not (is_waiting x.conn x.message.tag w)) P t.waiting h)
 
-cancelled_sessions : (t : Tables) (conn : ℕ) (e : EventChange) → (without_cancelled t conn e).sessions ≡ t.sessions
+pub cancelled_sessions : (t : Tables) (conn : ℕ) (e : EventChange) → (without_cancelled t conn e).sessions ≡ t.sessions
 cancelled_sessions t conn events.Nothing = refl
 cancelled_sessions t conn (events.Opens w) = refl
 cancelled_sessions t conn (events.Cancels tag) = refl
@@ -156,7 +156,7 @@ reading_book P at t b r own book =
       | false ↦ λ dead. book
     ] refl
 
-waits_sessions : (o : Option RBody) (t : Tables) (conn tag fid : ℕ) → (waits_unless o t conn tag fid).sessions ≡ t.sessions
+pub waits_sessions : (o : Option RBody) (t : Tables) (conn tag fid : ℕ) → (waits_unless o t conn tag fid).sessions ≡ t.sessions
 waits_sessions None t conn tag fid = refl
 waits_sessions (Some x) t conn tag fid = refl
 
