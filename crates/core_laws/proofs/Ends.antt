@@ -1,12 +1,10 @@
 -- What is said goes to connections that live, so an ended one is replied nothing more.
-use Rattle.std.proofs.Common.{◌≡◌, ◌≢◌, ℕ, ◌+◌, ◌<◌, Bool, true, false, eqb, ◌||◌, List, [], ◌∷◌, ◌++◌, Option, None, All, refl, sym, ap, subst, ◌∙◌, append_assoc, append-nil}
+use Rattle.std.proofs.Common.{◌≡◌, ◌≢◌, ℕ, ◌+◌, ◌<◌, true, false, eqb, ◌||◌, List, [], ◌∷◌, ◌++◌, None, All, refl, sym, ap, subst, ◌∙◌, append-nil}
 use Rattle.std.proofs.lemmas.Bool.{ne_eqb, or_left}
 use Rattle.std.proofs.lemmas.List.Elements.{All-head, All-tail, All-weaker}
 use Rattle.std.proofs.lemmas.List.Folds.{list_any-append}
 use Rattle.fid_table.specs.Tables.{Tables}
-use Rattle.wait_queue.specs.declared.types.Asker.{Asker}
 use Rattle.event_book.specs.BookState.{BookState}
-use Rattle.am_journal.specs.Lawful.{IsLawful}
 use Rattle.am_journal.specs.declared.event.Event.{Event}
 use Rattle.am_journal.specs.declared.event.Event.TheVariants as event
 use Rattle.am_counter.specs.Played.{ArePlayed, IsPlayed, has_hang, is_hang_of}
@@ -18,13 +16,13 @@ use Rattle.acme_core.specs.Asks.{is_ended}
 use Rattle.acme_core.specs.Connections.{connection_at, is_live}
 use Rattle.acme_core.specs.Doings.{enabled_at, doing_of}
 use Rattle.acme_core.specs.Run.{step, run, enabled, output_at}
-use Rattle.acme_core.specs.Stages.{read_book, said}
+use Rattle.acme_core.specs.Stages.{said}
 use Rattle.acme_core.specs.States.{State, present}
 use Rattle.acme_core.specs.Unsent.{replies_of}
 use Rattle.acme_core.proofs.Connected.{tells_connections}
 use Rattle.acme_core.proofs.Goes.{run-push}
 use Rattle.core_laws.specs.Laws.{NothingAfterTheHangUp, EndedGetAllReplies}
-use Rattle.am_desk.specs.Replies.{bytes_to, replies}
+use Rattle.am_desk.specs.Replies.{bytes_to}
 use Rattle.core_laws.proofs.Books.{IsBook, book_weaker}
 use Rattle.core_laws.proofs.Fids.{IsHeld, fids_at}
 use Rattle.core_laws.proofs.Playing.{played_more, played_parts}

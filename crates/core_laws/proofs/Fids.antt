@@ -1,5 +1,5 @@
 -- Fids of all connections, and what each change of them leaves.
-use Rattle.std.proofs.Common.{◌≡◌, ◌≢◌, ℕ, Bool, true, false, cond, eqb, List, [], ◌∷◌, ◌++◌, find, nat_eq, Option, Some, None, option_map, refl, sym, ap, subst, ◌∙◌}
+use Rattle.std.proofs.Common.{◌≡◌, ◌≢◌, ℕ, Bool, true, false, cond, eqb, List, [], ◌∷◌, find, nat_eq, Option, Some, None, option_map, refl, sym, ap, subst, ◌∙◌}
 use Rattle.std.specs.Map.{lookup}
 use Rattle.std.specs.Option.{option_or}
 use Rattle.std.proofs.lemmas.Bool.{eqb-true, eqb-false}
@@ -146,8 +146,8 @@ held_put t c n value r keeps h =
                   number = n;
                   fid = value;
                   is = subst (λ (x : ℕ). fid_of (after_put t c n value) x n ≡ Some value) (sym at)
-                    (ap (λ (o : Option Session). lookup (nat_eq n) (fids_in o)) (find_changed (put_in n value) (λ s. refl) t.sessions c)
-                    ∙ put_there n value h.fid (find (is_session c) t.sessions) old);
+                      (ap (λ (o : Option Session). lookup (nat_eq n) (fids_in o)) (find_changed (put_in n value) (λ s. refl) t.sessions c)
+                      ∙ put_there n value h.fid (find (is_session c) t.sessions) old);
                   opens = keeps h.fid r.opening old h.opens;
                 }
             | false ↦ λ apart. let off : h.number ≢ n = eqb-false h.number n apart in
@@ -202,13 +202,15 @@ held_version t c msize r none h =
     elim (eqb r.conn c) as (λ b. eqb r.conn c ≡ b → (r.conn ≢ c) × IsHeld (after_version t c msize) r) [
       | true ↦ λ same. let at : r.conn ≡ c = eqb-true r.conn c same in
           absurd (none h.number h.fid at (subst (λ (x : ℕ). fid_of t x h.number ≡ Some h.fid) at h.is) h.opens)
-      | false ↦ λ apart. let off : r.conn ≢ c = eqb-false r.conn c apart in
-          (off, record {
-            number = h.number;
-            fid = h.fid;
-            is = ap (lookup (nat_eq h.number)) (drops.other_fids t c r.conn msize off) ∙ h.is;
-            opens = h.opens;
-          })
+      | false ↦ λ apart. let off : r.conn ≢ c = eqb-false r.conn c apart in (
+        off,
+        record {
+          number = h.number;
+          fid = h.fid;
+          is = ap (lookup (nat_eq h.number)) (drops.other_fids t c r.conn msize off) ∙ h.is;
+          opens = h.opens;
+        },
+      )
     ] refl
 
 -- ---- where the sessions are the same

@@ -2,7 +2,7 @@
 use Rattle.std.proofs.Common.{◌≡◌, ℕ, List, [], ◌∷◌, ◌++◌, refl, sym, ap, ◌∙◌, append_assoc, append-nil}
 use Rattle.am_desk.specs.Replies.{bytes_to, replies_from, replies}
 use Rattle.am_journal.specs.declared.event.Event.{Event}
-use Rattle.acme_core.specs.Run.{step, run}
+use Rattle.acme_core.specs.Run.{run}
 use Rattle.acme_core.specs.States.{State}
 use Rattle.acme_core.proofs.Goes.{run-push}
 

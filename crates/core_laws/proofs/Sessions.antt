@@ -1,9 +1,9 @@
 -- A read waits only in a session, so a Tflush for its tag is answered by Rflush.
-use Rattle.std.proofs.Common.{◌≡◌, ◌≢◌, ℕ, ◌+◌, Bool, true, false, not, cond, eqb, ◌&&◌, ◌||◌, List, [], ◌∷◌, ◌++◌, length, find, fold, nat_lt, min, codes, slice_index_or, Option, Some, None, option_map, Result, All, refl, sym, ap, subst, ◌∙◌, append_assoc, append-nil}
+use Rattle.std.proofs.Common.{◌≡◌, ◌≢◌, ℕ, Bool, true, false, not, cond, eqb, ◌&&◌, ◌||◌, List, [], ◌∷◌, length, find, fold, nat_lt, min, codes, slice_index_or, Option, Some, None, option_map, All, refl, sym, ap, subst, ◌∙◌}
 use Rattle.std.specs.List.{filter, list_any}
 use Rattle.std.specs.Option.{option_or}
 use Rattle.std.proofs.lemmas.Bool.{false≢true, eqb-true, eqb-false, not-true}
-use Rattle.std.proofs.lemmas.List.Elements.{All-nil, All-push, All-head, All-tail, All-weaker, All-filter, filter_passes}
+use Rattle.std.proofs.lemmas.List.Elements.{All-nil, All-head, All-tail, All-weaker, All-filter, filter_passes}
 use Rattle.std.proofs.lemmas.List.Folds.{find-append}
 use Rattle.ninep_wire.specs.declared.message.TBody.{TBody}
 use Rattle.ninep_wire.specs.declared.message.TBody.TheVariants as t
@@ -12,7 +12,7 @@ use Rattle.ninep_wire.specs.declared.message.RBody.{RBody}
 use Rattle.ninep_wire.specs.declared.message.RBody.TheVariants as r
 use Rattle.fid_table.specs.declared.session.Session.{Session}
 use Rattle.fid_table.specs.declared.session.Waiting.{Waiting}
-use Rattle.fid_table.specs.Tables.{Tables, nothing, is_session, is_waiting, is_waiting_on, msize_in, msize_of, on_session, put_in, taken_from, begun, after_join, after_version}
+use Rattle.fid_table.specs.Tables.{Tables, is_session, is_waiting, is_waiting_on, msize_in, msize_of, on_session, put_in, taken_from, begun, after_join, after_version}
 use Rattle.fid_table.proofs.PlaceLemmas.{find_changed, find_other}
 use Rattle.event_book.specs.BookState.{BookState}
 use Rattle.win_events.specs.declared.item.Origin.TheVariants.{F}
@@ -35,15 +35,13 @@ use Rattle.core_answers.specs.Refusals.{refused, refused_with, deed_or_refusal}
 use Rattle.core_events.specs.declared.response.Response.{Response}
 use Rattle.core_events.specs.Asking.{read_said, waits_unless}
 use Rattle.core_events.specs.Waits.{ended, without_cancelled}
-use Rattle.acme_core.specs.declared.doing.Doing.{Doing}
 use Rattle.acme_core.specs.Connections.{grown_with, ended_with}
 use Rattle.acme_core.specs.Doings.{message_doing, deed_at, doing_of}
 use Rattle.acme_core.specs.Run.{step, run}
-use Rattle.acme_core.specs.Stages.{asker_of, answer_tables, grown_tables, said}
+use Rattle.acme_core.specs.Stages.{asker_of, answer_tables, said}
 use Rattle.acme_core.specs.States.{Present, State, present, start}
-use Rattle.acme_core.proofs.Goes.{run-push}
 use Rattle.core_laws.specs.Laws.{FlushesAreAnswered}
-use Rattle.core_laws.specs.Saying.{said_after, flush_of, flushed}
+use Rattle.core_laws.specs.Saying.{flush_of, flushed}
 use Rattle.core_laws.proofs.Flushes.{flush_or}
 use Rattle.core_laws.proofs.Wells.{done_sessions, done_waiting, cancelled_sessions, cancelled_waiting, waits_sessions, waits_waiting}
 
@@ -96,8 +94,8 @@ in_version t c msize h =
     let kept : All (InSession t) ws = All-filter (λ w. not (is_waiting_on c w)) (InSession t) t.waiting h in
     let apart : All (λ w. not (is_waiting_on c w) ≡ true) ws = filter_passes (λ w. not (is_waiting_on c w)) t.waiting in
     λ k d l. let w : Waiting = slice_index_or ws k d in
-      let off : w.conn ≢ c = eqb-false w.conn c (not-true (is_waiting_on c w) (apart k d l)) in
-      ap (λ (o : Option Session). is_there (msize_in o)) (find_other (begun msize) (λ s. refl) t.sessions c w.conn off) ∙ kept k d l
+    let off : w.conn ≢ c = eqb-false w.conn c (not-true (is_waiting_on c w) (apart k d l)) in
+    ap (λ (o : Option Session). is_there (msize_in o)) (find_other (begun msize) (λ s. refl) t.sessions c w.conn off) ∙ kept k d l
 
 in_grown : (t : Tables) (conn : ℕ) (e : Effect) → AreInSession t → AreInSession (grown_with t conn e)
 in_grown t conn effect.Nothing h = h

@@ -1,9 +1,8 @@
 -- After each journal of enabled events each fid is one of a connection that lives, and so is each read that waits; those of event files
 -- are on openings of such fids.
-use Rattle.std.proofs.Common.{◌≡◌, ◌≢◌, ℕ, zero, suc, ◌+◌, ◌≤◌, Bool, true, false, not, cond, eqb, List, [], ◌∷◌, ◌++◌, length, fold, nat_eq, slice_index_or, slice_set, Option, Some, None, All, refl, sym, ap, subst, ◌∙◌, append_assoc, append-nil, arith}
+use Rattle.std.proofs.Common.{◌≡◌, ◌≢◌, ℕ, zero, suc, ◌+◌, Bool, true, false, not, cond, List, [], ◌∷◌, ◌++◌, length, slice_index_or, slice_set, Option, Some, None, All, refl, sym, ap, subst, ◌∙◌, append_assoc, append-nil, arith}
 use Rattle.std.specs.List.{filter}
-use Rattle.std.specs.Map.{lookup}
-use Rattle.std.proofs.lemmas.Bool.{eqb-true, eqb-false, not-true}
+use Rattle.std.proofs.lemmas.Bool.{eqb-false, not-true}
 use Rattle.std.proofs.lemmas.List.Elements.{All-nil, All-push, All-filter, All-weaker, filter_passes}
 use Rattle.ninep_wire.specs.declared.message.TMsg.{TMsg}
 use Rattle.ninep_wire.specs.declared.message.RBody.{RBody}
@@ -29,25 +28,24 @@ use Rattle.core_answers.specs.declared.effect.Effect.TheVariants as effect
 use Rattle.core_answers.specs.declared.effect.EventChange.{EventChange}
 use Rattle.core_answers.specs.declared.effect.EventChange.TheVariants as events
 use Rattle.core_events.specs.declared.response.Response.{Response}
-use Rattle.core_events.specs.Asking.{is_full, opened, read_said, book_asked, book_read, waits_unless, tables_read}
-use Rattle.core_events.specs.Closing.{freed, cancelled, closed_with, opening_in, without_fid, without_fids, without_opening}
+use Rattle.core_events.specs.Asking.{is_full, opened, read_said, book_asked, book_read, waits_unless}
+use Rattle.core_events.specs.Closing.{freed, cancelled, closed_with, opening_in, without_fids, without_opening}
 use Rattle.core_events.specs.Putting.{changes_window, put_all}
-use Rattle.core_events.specs.Serving.{book_served_all}
 use Rattle.core_events.specs.Waits.{deleted_by, ended, without_cancelled}
 use Rattle.acme_core.specs.declared.connection.Connection.{Connection}
 use Rattle.acme_core.specs.declared.connection.Connection.TheVariants.{Undialed, Live, Ended}
 use Rattle.acme_core.specs.declared.doing.Doing.{Doing}
-use Rattle.acme_core.specs.Connections.{connection_at, is_live, connections_after, grown_with, ended_with}
+use Rattle.acme_core.specs.Connections.{connection_at, is_live, grown_with, ended_with}
 use Rattle.acme_core.specs.Doings.{enabled_at, deed_at, doing_of}
 use Rattle.acme_core.specs.Enabled.{first_why, live_refusal}
 use Rattle.acme_core.specs.Run.{step, run, enabled}
-use Rattle.acme_core.specs.Stages.{asker_of, answer_book, answer_tables, with_fid, grown_tables, read_book, items_made, put_book, serves, book_served, grown_book, said, closed_book, ended_tables, tables_after, book_after}
-use Rattle.acme_core.specs.States.{Present, State, present, start, next_entry}
+use Rattle.acme_core.specs.Stages.{asker_of, answer_book, answer_tables, grown_tables, read_book, items_made, serves, book_served, grown_book, said}
+use Rattle.acme_core.specs.States.{Present, State, present, start}
 use Rattle.acme_core.proofs.Goes.{run-push}
 use Rattle.acme_core.proofs.Joins.{elsewhere}
 use Rattle.core_laws.proofs.Fids.{AllFids, no_fids, fids_weaker, fids_at, IsHeld, fids_join, fids_put, fids_take, fids_version, fids_same, held_join, held_put, held_take, held_version, held_same}
 use Rattle.core_laws.proofs.Books.{IsBook, IsApart, book_weaker, book_later, book_opened, book_put_all, book_ask, book_serve_all, book_without, book_without_fids, book_cancelled, book_closed, without_none, fids_none}
-use Rattle.core_laws.proofs.Deeds.{IsModed, IsPut, PutsSane, HasOpening, ReadsSane, IsSane, deed_sane}
+use Rattle.core_laws.proofs.Deeds.{IsModed, PutsSane, HasOpening, ReadsSane, IsSane, deed_sane}
 
 -- ---- connections
 
@@ -127,7 +125,7 @@ well_cancelled cs t at b conn e well = record {
   fids = fids_same (IsOfLive cs) t (without_cancelled t conn e) (cancelled_sessions t conn e) well.fids;
   waiting = cancelled_waiting (WaitsOnLive cs) t conn e well.waiting;
   book = book_weaker (IsHeld t) (IsHeld (without_cancelled t conn e)) at (cancelled b conn e) (λ r h. held_same t (without_cancelled t conn e) r (cancelled_sessions t conn e) h)
-    (book_cancelled (IsHeld t) at b conn e well.book);
+      (book_cancelled (IsHeld t) at b conn e well.book);
 }
 
 -- ---- what grows
@@ -176,7 +174,7 @@ well_answered cs t at b conn tag (Reads fid opening count) live own well =
       fids = fids_same (IsOfLive cs) t (waits_unless o t conn tag fid) (waits_sessions o t conn tag fid) well.fids;
       waiting = waits_waiting (WaitsOnLive cs) o t conn tag fid live well.waiting;
       book = book_weaker (IsHeld t) (IsHeld (waits_unless o t conn tag fid)) at (book_read t b r at) (λ x h. held_same t (waits_unless o t conn tag fid) x (waits_sessions o t conn tag fid) h)
-        (reading_book (IsHeld t) at t b r (own fid opening count refl) well.book);
+          (reading_book (IsHeld t) at t b r (own fid opening count refl) well.book);
     }
 
 pub served_book : (P : Asker → Type 0) (at : ℕ) (serves : Bool) (b : BookState) → IsBook P at b → IsBook P at (book_served serves at b)
@@ -251,7 +249,7 @@ well_hung cs t at b conn why well =
     record {
       fids = fids_version (IsOfLive cs) (IsOfLive (slice_set cs conn (Ended why))) t conn None (λ c f off h. (hang_lives cs conn c why off h.0, h.1)) well.fids;
       waiting = λ k d h. let w : Waiting = slice_index_or ws k d in
-        hang_lives cs conn w.conn why (eqb-false w.conn conn (not-true (is_waiting_on conn w) (apart k d h))) (live k d h);
+          hang_lives cs conn w.conn why (eqb-false w.conn conn (not-true (is_waiting_on conn w) (apart k d h))) (live k d h);
       book = freed_all t at b conn None well.book;
     }
 
@@ -266,7 +264,7 @@ well_dial s conn well =
     let now : List Connection = slice_set s.connections conn Live in
     record {
       fids = fids_join (IsOfLive now) s.tables conn
-        (fids_weaker (IsOfLive s.connections) (IsOfLive now) s.tables (λ c f h. (dial_lives s.connections conn c h.0, h.1)) well.fids);
+          (fids_weaker (IsOfLive s.connections) (IsOfLive now) s.tables (λ c f h. (dial_lives s.connections conn c h.0, h.1)) well.fids);
       waiting = All-weaker (WaitsOnLive s.connections) (WaitsOnLive now) (λ w h. dial_lives s.connections conn w.conn h) s.tables.waiting well.waiting;
       book = book_weaker (IsHeld s.tables) (IsHeld (after_join s.tables conn)) (s.entries + 1) s.book (λ r h. held_join s.tables conn r h) (later s well).book;
     }

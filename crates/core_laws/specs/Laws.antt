@@ -2,6 +2,7 @@
 use Rattle.std.specs.Prelude.{◌≡◌, ℕ, ◌<◌, true, false, List, [], ◌∷◌, ◌++◌, All}
 use Rattle.std.specs.List.{list_any}
 use Rattle.fid_table.specs.Tables.{is_waiting}
+use Rattle.wait_queue.specs.Reads.{is_read}
 use Rattle.am_journal.specs.declared.event.Event.{Event}
 use Rattle.am_counter.specs.Played.{IsPrefix, IsPlayed, has_hang}
 use Rattle.am_slots.specs.Connection.{sent}
@@ -37,9 +38,16 @@ FlushesAreAnswered =
     (before : List Event) (conn tag oldtag : ℕ) → list_any (is_waiting conn oldtag) (run before).tables.waiting ≡ true
     → said_after before (flush_of conn tag oldtag) ≡ flushed conn tag ∷ []
 
--- Behind a Tflush that was answered by Rflush alone nothing is said to the tag that it names, up to the next message of that tag.
+-- no read with this tag on this connection waits after a journal
+pub record IsFree (journal : List Event) (conn tag : ℕ) : Type 0 where
+  pub waiting : list_any (is_waiting conn tag) (run journal).tables.waiting ≡ false
+  pub reads : list_any (is_read conn tag) (run journal).book.reads ≡ false
+
+-- Behind a Tflush that was answered by Rflush alone no read waits with the tag that it names, and nothing is said to that tag, up to the
+-- next message of that tag.
 abbrev pub NothingToAFlushedTag : Type 0
 NothingToAFlushedTag =
     (before behind : List Event) (conn tag oldtag : ℕ) → IsPlayed enabled (before ++ flush_of conn tag oldtag ∷ behind)
     → said_after before (flush_of conn tag oldtag) ≡ flushed conn tag ∷ [] → list_any (is_message conn oldtag) behind ≡ false
-    → All (λ x. is_told conn oldtag x ≡ false) (said_from (before ++ flush_of conn tag oldtag ∷ []) behind)
+    → IsFree (before ++ flush_of conn tag oldtag ∷ behind) conn oldtag
+    × All (λ x. is_told conn oldtag x ≡ false) (said_from (before ++ flush_of conn tag oldtag ∷ []) behind)

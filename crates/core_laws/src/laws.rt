@@ -17,7 +17,7 @@ pub fn ended_connections_get_nothing_more()
 {}
 
 /// What an entry replies is what it says to connections, each time to the message of a tag. A Tflush for the tag of a read that waits is
-/// answered by Rflush. Behind it nothing is said to that tag, up to the next message of that tag. So the read is never answered.
+/// answered by Rflush. Behind it no read waits with that tag, and nothing is said to it, up to the next message of that tag.
 #[tactic(auto, using(crate::proofs::Flushes::flushing, crate::proofs::Sessions::answering))]
 pub fn flushed_reads_are_not_answered()
     ensures said { RepliesAreSaid }
