@@ -1,16 +1,16 @@
 -- What each call of the event files leaves of their waiting reads.
-use Rattle.std.proofs.Common.{◌≡◌, ◌≢◌, ℕ, zero, suc, ◌≤◌, ◌<◌, Bool, true, false, not, cond, eqb, ◌&&◌, List, [], ◌∷◌, ◌++◌, length, fold, nat_eq, nat_lt, slice_index_or, Option, Some, None, All, refl, sym, ap, subst, ◌∙◌, arith}
-use Rattle.std.specs.List.{list_all, filter}
+use Rattle.std.proofs.Common.{◌≡◌, ◌≢◌, ℕ, zero, suc, ◌≤◌, Bool, true, false, not, cond, List, [], ◌∷◌, ◌++◌, length, fold, nat_eq, nat_lt, slice_index_or, Option, Some, None, All, refl, sym, ap, ◌∙◌, arith}
+use Rattle.std.specs.List.{list_all}
 use Rattle.std.specs.Map.{lookup}
-use Rattle.std.proofs.lemmas.Bool.{eqb-true, eqb-false, eq-eqb, not-true, and_parts, both_ways}
+use Rattle.std.proofs.lemmas.Bool.{eqb-false, not-true, and_parts, both_ways}
 use Rattle.std.proofs.lemmas.List.Elements.{All-nil, All-cons, All-head, All-tail, All-push, All-filter, All-weaker, filter_passes}
 use Rattle.fid_table.specs.declared.types.Fid.{Fid}
 use Rattle.win_events.specs.declared.item.Item.{Item}
 use Rattle.wait_queue.specs.Reads.{is_on, is_read, without_first}
 use Rattle.wait_queue.specs.declared.types.Asker.{Asker}
 use Rattle.wait_queue.specs.declared.types.Piece.{Piece}
-use Rattle.event_book.specs.BookState.{BookState, is_open_window, is_living, is_ready, next_of, after_next, after_add, after_put, read_waits, after_answer, after_ask, after_serve, served_of, after_leave, after_cancel, after_delete, is_on_window}
-use Rattle.event_book.specs.Laws.{AllLiving, IsLawful}
+use Rattle.event_book.specs.BookState.{BookState, is_open_window, is_living, is_ready, next_of, after_next, after_add, after_put, read_waits, after_answer, after_ask, after_serve, served_of, after_leave, is_on_window}
+use Rattle.event_book.specs.Laws.{IsLawful}
 use Rattle.event_book.proofs.LawfulLemmas.{lawful-add, lawful-put_in, lawful-waits, lawful-answer, lawful-serve, lawful-cancel, lawful-leave, lawful-delete}
 use Rattle.core_answers.specs.declared.effect.EventChange.{EventChange}
 use Rattle.core_answers.specs.declared.effect.EventChange.TheVariants as events

@@ -1,8 +1,7 @@
 -- What messages do to fids with openings: these are open, and keep their openings until they are freed; a read is one of such a fid.
-use Rattle.std.proofs.Common.{◌≡◌, ℕ, Bool, true, false, not, cond, eqb, List, ◌++◌, length, Option, Some, None, Result, Ok, Err, min, codes, nat_lt, ◌==◌, refl, sym, ap, subst, ◌∙◌}
+use Rattle.std.proofs.Common.{◌≡◌, ℕ, Bool, true, false, cond, eqb, List, ◌++◌, length, Option, Some, None, Result, Ok, Err, min, codes, nat_lt, ◌==◌, refl, sym, ap, subst, ◌∙◌}
 use Rattle.std.proofs.lemmas.Bool.{eqb-true}
-use Rattle.am_text.specs.Lines.{lines_of}
-use Rattle.am_text.specs.Part.{part_bytes, part_of}
+use Rattle.am_text.specs.Part.{part_bytes}
 use Rattle.am_text.specs.Pieces.{Decoded, decode_part}
 use Rattle.am_text.specs.declared.range.Range.{Range}
 use Rattle.ninep_wire.specs.declared.message.Qid.{Qid}
@@ -40,7 +39,7 @@ use Rattle.core_answers.specs.Opening.{open_refusal, or_opens, open_fid, denied,
 use Rattle.core_answers.specs.Plainly.{does}
 use Rattle.core_answers.specs.Reading.{place_at, read_dir, read_opening, read_content, use_refusal, or_reads, most, read_fid, stat_fid}
 use Rattle.core_answers.specs.Refusals.{refused_with, deed_or_refusal}
-use Rattle.core_answers.specs.Texts.{text_at, right_of, name_of, modified_of}
+use Rattle.core_answers.specs.Texts.{text_at, right_of}
 use Rattle.core_answers.specs.Walking.{trail, new_refusal, walk_refusal, arrives_at, or_walks, walk_from}
 use Rattle.core_answers.specs.Writing.{append_deed, add_deed, or_errors, errors_deed, write_content, write_fid}
 

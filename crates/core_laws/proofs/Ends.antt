@@ -1,12 +1,10 @@
 -- What is said goes to connections that live, so an ended one is replied nothing more.
-use Rattle.std.proofs.Common.{◌≡◌, ◌≢◌, ℕ, ◌+◌, ◌<◌, Bool, true, false, eqb, ◌||◌, List, [], ◌∷◌, ◌++◌, Option, None, All, refl, sym, ap, subst, ◌∙◌, append_assoc, append-nil}
+use Rattle.std.proofs.Common.{◌≡◌, ◌≢◌, ℕ, ◌+◌, ◌<◌, true, false, eqb, ◌||◌, List, [], ◌∷◌, ◌++◌, None, All, refl, sym, ap, subst, ◌∙◌, append-nil}
 use Rattle.std.proofs.lemmas.Bool.{ne_eqb, or_left}
 use Rattle.std.proofs.lemmas.List.Elements.{All-head, All-tail, All-weaker}
 use Rattle.std.proofs.lemmas.List.Folds.{list_any-append}
 use Rattle.fid_table.specs.Tables.{Tables}
-use Rattle.wait_queue.specs.declared.types.Asker.{Asker}
 use Rattle.event_book.specs.BookState.{BookState}
-use Rattle.am_journal.specs.Lawful.{IsLawful}
 use Rattle.am_journal.specs.declared.event.Event.{Event}
 use Rattle.am_journal.specs.declared.event.Event.TheVariants as event
 use Rattle.am_counter.specs.Played.{ArePlayed, IsPlayed, has_hang, is_hang_of}
@@ -18,16 +16,17 @@ use Rattle.acme_core.specs.Asks.{is_ended}
 use Rattle.acme_core.specs.Connections.{connection_at, is_live}
 use Rattle.acme_core.specs.Doings.{enabled_at, doing_of}
 use Rattle.acme_core.specs.Run.{step, run, enabled, output_at}
-use Rattle.acme_core.specs.Stages.{read_book, said}
+use Rattle.acme_core.specs.Stages.{said}
 use Rattle.acme_core.specs.States.{State, present}
 use Rattle.acme_core.specs.Unsent.{replies_of}
 use Rattle.acme_core.proofs.Connected.{tells_connections}
 use Rattle.acme_core.proofs.Goes.{run-push}
 use Rattle.core_laws.specs.Laws.{NothingAfterTheHangUp, EndedGetAllReplies}
-use Rattle.core_laws.specs.Replies.{joined_to, replied_by, replied_from, replies_to}
+use Rattle.am_desk.specs.Replies.{bytes_to}
 use Rattle.core_laws.proofs.Books.{IsBook, book_weaker}
 use Rattle.core_laws.proofs.Fids.{IsHeld, fids_at}
 use Rattle.core_laws.proofs.Playing.{played_more, played_parts}
+use Rattle.core_laws.proofs.Replying.{replied_by, replied_from, all_replied, replied_parts}
 use Rattle.core_laws.proofs.Tells.{Tells, Reading, tells}
 use Rattle.core_laws.proofs.Unsents.{ahead, sent_or_unsent}
 use Rattle.core_laws.proofs.Wells.{Lives, IsOfLive, AreWell, IsWell, later, message_lives, well_read, well_after}
@@ -64,7 +63,7 @@ both Undialed live ended = absurd cc
 both Live live ended = absurd cc
 both (Ended why) live ended = absurd cc
 
-joined_none : (conn : ℕ) (xs : List Response) → All (λ x. x.conn ≢ conn) xs → joined_to conn (replies_of xs) ≡ []
+joined_none : (conn : ℕ) (xs : List Response) → All (λ x. x.conn ≢ conn) xs → bytes_to conn (replies_of xs) ≡ []
 joined_none conn [] h = refl
 joined_none conn (x ∷ xs) h =
     let apart : eqb x.conn conn ≡ false = ne_eqb x.conn conn (All-head (λ (y : Response). y.conn ≢ conn) x xs h) in
@@ -82,7 +81,7 @@ replied_none before e conn allowed well ended =
     All-weaker (Tells (OnLive s.connections)) (λ x. x.conn ≢ conn)
     (λ x live (same : x.conn ≡ conn). both (connection_at s.connections conn) (subst (Lives s.connections) same live) ended) xs (says_live s e allowed well)
     in
-    ap (λ (u : State). joined_to conn u.replies) (run-push before e) ∙ ap (joined_to conn) (step_replies s e) ∙ joined_none conn xs apart
+    ap (λ (u : State). bytes_to conn u.replies) (run-push before e) ∙ ap (bytes_to conn) (step_replies s e) ∙ joined_none conn xs apart
 
 -- ---- all entries behind a hang-up
 
@@ -91,7 +90,7 @@ hung_more before e conn hung = list_any-append (is_hang_of conn) before (e ∷ [
 
 nothing_behind : (before events : List Event) (conn : ℕ) → conn < 64 → IsPlayed enabled before → ArePlayed enabled before events → has_hang before conn ≡ true
     → replied_from before events conn ≡ []
-unfolding replied_from ArePlayed
+unfolding ArePlayed
 nothing_behind before [] conn small was played hung = refl
 nothing_behind before (e ∷ events) conn small was played hung =
     let ended : is_ended (connection_at (run before).connections conn) ≡ true = tells_connections.ended before conn was small ∙ hung in
@@ -100,14 +99,6 @@ nothing_behind before (e ∷ events) conn small was played hung =
     ∙ nothing_behind (before ++ e ∷ []) events conn small (played_more [] before e was played.0 played.1) played.2 (hung_more before e conn hung)
 
 -- ---- the laws
-
-replied_parts : (before xs ys : List Event) (conn : ℕ) → replied_from before (xs ++ ys) conn ≡ replied_from before xs conn ++ replied_from (before ++ xs) ys conn
-unfolding replied_from
-replied_parts before [] ys conn = ap (λ (l : List Event). replied_from l ys conn) (sym (append-nil before))
-replied_parts before (x ∷ xs) ys conn =
-    ap (λ (l : List ℕ). replied_by conn before x ++ l)
-    (replied_parts (before ++ x ∷ []) xs ys conn ∙ ap (λ (l : List Event). replied_from (before ++ x ∷ []) xs conn ++ replied_from l ys conn) (append_assoc before (x ∷ []) xs))
-    ∙ sym (append_assoc (replied_by conn before x) (replied_from (before ++ x ∷ []) xs conn) (replied_from (before ++ x ∷ xs) ys conn))
 
 behind : (before rest : List Event) (conn : ℕ) → conn < 64 → IsPlayed enabled (before ++ rest) → has_hang before conn ≡ true → replied_from before rest conn ≡ []
 behind before rest conn small played hung =
@@ -119,10 +110,12 @@ nothing_after before journal conn small played front hung =
     let rest : List Event = front.0 in
     let is : before ++ rest ≡ journal = front.1 in
     let all : IsPlayed enabled (before ++ rest) = subst (IsPlayed enabled) (sym is) played in
-    ap (λ (l : List Event). replies_to l conn) (sym is)
+    sym (all_replied journal conn)
+    ∙ ap (λ (l : List Event). replied_from [] l conn) (sym is)
     ∙ replied_parts [] before rest conn
-    ∙ ap (λ (l : List ℕ). replies_to before conn ++ l) (behind before rest conn small all hung)
-    ∙ append-nil (replies_to before conn)
+    ∙ ap (λ (l : List ℕ). replied_from [] before conn ++ l) (behind before rest conn small all hung)
+    ∙ append-nil (replied_from [] before conn)
+    ∙ all_replied before conn
 
 second_nil : (a b : List ℕ) → a ++ b ≡ [] → b ≡ []
 second_nil [] b e = e

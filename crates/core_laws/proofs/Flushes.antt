@@ -1,8 +1,9 @@
 -- Nothing is said to a tag that was flushed.
-use Rattle.std.proofs.Common.{◌≡◌, ℕ, ◌+◌, Bool, true, false, not, cond, eqb, ◌&&◌, List, [], ◌∷◌, ◌++◌, All, Option, None, refl, sym, ap, subst, ◌∙◌}
+use Rattle.std.proofs.Common.{◌≡◌, ℕ, Bool, true, false, not, cond, eqb, ◌&&◌, List, [], ◌∷◌, ◌++◌, All, None, refl, sym, ap, subst, ◌∙◌, append_assoc}
 use Rattle.std.specs.List.{filter, list_any}
 use Rattle.std.proofs.lemmas.Bool.{false≢true, not-true, or_parts}
 use Rattle.std.proofs.lemmas.List.Elements.{All-weaker, filter_passes}
+use Rattle.std.proofs.lemmas.List.Folds.{list_any_none}
 use Rattle.ninep_wire.specs.declared.message.RBody.{RBody}
 use Rattle.ninep_wire.specs.declared.message.RBody.TheVariants as r
 use Rattle.fid_table.specs.declared.session.Waiting.{Waiting}
@@ -20,17 +21,16 @@ use Rattle.core_answers.specs.Fids.{is_there}
 use Rattle.core_answers.specs.Refusals.{refused}
 use Rattle.core_events.specs.declared.response.Response.{Response}
 use Rattle.core_events.specs.Waits.{ended}
-use Rattle.acme_core.specs.declared.doing.Doing.{Doing}
-use Rattle.acme_core.specs.Doings.{message_doing, deed_at, doing_of}
+use Rattle.acme_core.specs.Doings.{message_doing, doing_of}
 use Rattle.acme_core.specs.Run.{step, run, enabled}
 use Rattle.acme_core.specs.Stages.{said, tables_after, book_after}
 use Rattle.acme_core.specs.States.{Present, State, present}
 use Rattle.acme_core.specs.Unsent.{replies_of}
 use Rattle.acme_core.proofs.Goes.{run-push}
-use Rattle.core_laws.specs.Laws.{RepliesAreSaid, NothingToAFlushedTag}
-use Rattle.core_laws.specs.Saying.{said_after, is_message, flush_of, flushed}
+use Rattle.core_laws.specs.Laws.{IsFree, RepliesAreSaid, NothingToAFlushedTag}
+use Rattle.core_laws.specs.Saying.{is_message, flush_of, flushed}
 use Rattle.core_laws.proofs.Playing.{played_parts, played_first}
-use Rattle.core_laws.proofs.Quiets.{IsQuiet, OfMessages, quiet_all}
+use Rattle.core_laws.proofs.Quiets.{IsQuiet, OfMessages, quiet_all, quiet_end}
 use Rattle.core_laws.proofs.Tells.{IsWaiting, Reading}
 use Rattle.core_laws.proofs.Wells.{IsWell, well_step, well_after}
 
@@ -59,7 +59,7 @@ none_reading conn tag rs =
 -- ---- a Tflush
 
 -- what a Tflush does, by whether a session is missing
-abbrev flush_or : Bool → ℕ → Deed
+abbrev pub flush_or : Bool → ℕ → Deed
 flush_or missing oldtag = cond missing (refused refusal.VersionFirst) (flush_deed oldtag)
 
 flushes : RBody → Bool
@@ -106,14 +106,26 @@ of_messages conn tag (event.New ∷ events) h = (tt, of_messages conn tag events
 of_messages conn tag (event.Key w side text ∷ events) h = (tt, of_messages conn tag events h)
 of_messages conn tag (event.Sel w range ∷ events) h = (tt, of_messages conn tag events h)
 
+free_by : (journal : List Event) (conn tag : ℕ) → IsQuiet (OtherTag conn tag) (run journal) → IsFree journal conn tag
+free_by journal conn tag quiet = record {
+  waiting = list_any_none (is_waiting conn tag) (run journal).tables.waiting quiet.0;
+  reads = list_any_none (is_read conn tag) (run journal).book.reads quiet.1;
+}
+
 pub nothing_to_a_flushed : NothingToAFlushedTag
 nothing_to_a_flushed before behind conn tag oldtag played is none =
     let e : Event = flush_of conn tag oldtag in
+    let next : List Event = before ++ e ∷ [] in
     let parts : ArePlayed enabled [] before × ArePlayed enabled before (e ∷ behind) = played_parts [] before (e ∷ behind) played in
-    let first : (enabled before e ≡ None) × ArePlayed enabled (before ++ e ∷ []) behind = played_first before behind e parts.1 in
-    let well : IsWell (run before) = well_after before parts.0 in
-    quiet_all (OtherTag conn oldtag) (before ++ e ∷ []) behind first.1 (of_messages conn oldtag behind none)
-    (subst IsWell (sym (run-push before e)) (well_step (run before) e first.0 well))
-    (subst (IsQuiet (OtherTag conn oldtag)) (sym (run-push before e)) (quiet_then (run before) conn tag oldtag is))
+    let first : (enabled before e ≡ None) × ArePlayed enabled next behind = played_first before behind e parts.1 in
+    let own : OfMessages (OtherTag conn oldtag) behind = of_messages conn oldtag behind none in
+    let well : IsWell (run next) = subst IsWell (sym (run-push before e)) (well_step (run before) e first.0 (well_after before parts.0)) in
+    let quiet : IsQuiet (OtherTag conn oldtag) (run next) =
+    subst (IsQuiet (OtherTag conn oldtag)) (sym (run-push before e)) (quiet_then (run before) conn tag oldtag is)
+    in (
+      subst (λ (l : List Event). IsFree l conn oldtag) (append_assoc before (e ∷ []) behind)
+          (free_by (next ++ behind) conn oldtag (quiet_end (OtherTag conn oldtag) next behind first.1 own well quiet)),
+      quiet_all (OtherTag conn oldtag) next behind first.1 own well quiet,
+    )
 
 pub ruleset flushing = (replies_said, nothing_to_a_flushed)

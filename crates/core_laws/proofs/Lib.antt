@@ -1,3 +1,4 @@
+mod Replying
 mod Unsents
 mod Fids
 mod Books
@@ -8,3 +9,4 @@ mod Tells
 mod Ends
 mod Quiets
 mod Flushes
+mod Sessions

@@ -1,5 +1,5 @@
 -- Journals of enabled events, in parts.
-use Rattle.std.proofs.Common.{◌≡◌, List, [], ◌∷◌, ◌++◌, Option, None, sym, subst, append_assoc, append-nil}
+use Rattle.std.proofs.Common.{◌≡◌, List, [], ◌∷◌, ◌++◌, None, sym, subst, append_assoc, append-nil}
 use Rattle.am_journal.specs.Lawful.{IsLawful}
 use Rattle.am_journal.specs.declared.event.Event.{Event}
 use Rattle.am_counter.specs.Played.{ArePlayed}

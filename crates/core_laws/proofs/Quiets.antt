@@ -1,5 +1,5 @@
 -- What is true of the connection and the tag of each message, as long as messages come, is true of all that is said.
-use Rattle.std.proofs.Common.{◌≡◌, ℕ, ◌+◌, Bool, true, false, not, List, [], ◌∷◌, ◌++◌, fold, Option, Some, None, All, refl, sym, ap, subst, ◌∙◌, arith}
+use Rattle.std.proofs.Common.{ℕ, ◌+◌, not, List, [], ◌∷◌, ◌++◌, Some, All, sym, subst, append_assoc, append-nil}
 use Rattle.std.proofs.lemmas.List.Elements.{All-nil, All-append, All-filter}
 use Rattle.ninep_wire.specs.declared.message.TMsg.{TMsg}
 use Rattle.fid_table.specs.Tables.{Tables, fid_of, fids_of, is_waiting_on}
@@ -12,7 +12,6 @@ use Rattle.core_answers.specs.declared.effect.Answer.TheVariants.{Says, Reads}
 use Rattle.core_answers.specs.declared.effect.Deed.{Deed}
 use Rattle.core_answers.specs.declared.effect.Effect.{Effect}
 use Rattle.core_answers.specs.declared.effect.Effect.TheVariants as effect
-use Rattle.core_answers.specs.declared.effect.EventChange.TheVariants as events
 use Rattle.core_events.specs.declared.response.Response.{Response}
 use Rattle.core_events.specs.Asking.{read_said}
 use Rattle.core_events.specs.Closing.{freed, cancelled, opening_in}
@@ -20,9 +19,9 @@ use Rattle.core_events.specs.Putting.{changes_window}
 use Rattle.core_events.specs.Waits.{deleted_by, ended}
 use Rattle.acme_core.specs.declared.doing.Doing.{Doing}
 use Rattle.acme_core.specs.Connections.{grown_with, ended_with}
-use Rattle.acme_core.specs.Doings.{enabled_at, deed_at, doing_of}
+use Rattle.acme_core.specs.Doings.{deed_at, doing_of}
 use Rattle.acme_core.specs.Run.{step, run, enabled}
-use Rattle.acme_core.specs.Stages.{asker_of, answer_book, answer_tables, grown_tables, grown_book, read_book, items_made, serves, said}
+use Rattle.acme_core.specs.Stages.{asker_of, answer_book, answer_tables, grown_book, read_book, items_made, serves, said}
 use Rattle.acme_core.specs.States.{Present, State, present}
 use Rattle.acme_core.proofs.Goes.{run-push}
 use Rattle.core_laws.specs.Saying.{said_from}
@@ -146,5 +145,14 @@ module _ (L : ℕ → ℕ → Type 0) where
   quiet_all before (e ∷ events) played own well quiet =
       All-append (Tells L) (said (present (run before)) e (doing_of (present (run before)) e)) (said_from (before ++ e ∷ []) events) (quiet_says (run before) e own.0 well quiet)
       (quiet_all (before ++ e ∷ []) events played.2 own.1
+      (subst IsWell (sym (run-push before e)) (well_step (run before) e played.1 well))
+      (subst IsQuiet (sym (run-push before e)) (quiet_step (run before) e own.0 well quiet)))
+
+  pub quiet_end : (before events : List Event) → ArePlayed enabled before events → OfMessages events → IsWell (run before) → IsQuiet (run before) → IsQuiet (run (before ++ events))
+  unfolding ArePlayed
+  quiet_end before [] played own well quiet = subst (λ (l : List Event). IsQuiet (run l)) (sym (append-nil before)) quiet
+  quiet_end before (e ∷ events) played own well quiet =
+      subst (λ (l : List Event). IsQuiet (run l)) (append_assoc before (e ∷ []) events)
+      (quiet_end (before ++ e ∷ []) events played.2 own.1
       (subst IsWell (sym (run-push before e)) (well_step (run before) e played.1 well))
       (subst IsQuiet (sym (run-push before e)) (quiet_step (run before) e own.0 well quiet)))

@@ -1,11 +1,11 @@
 -- What entries reply is what they leave unsent, but for what they take.
-use Rattle.std.proofs.Common.{◌≡◌, ℕ, zero, suc, ◌<◌, Bool, true, false, cond, eqb, List, [], ◌∷◌, ◌++◌, length, fold, flat_map, refl, sym, ap, subst, ◌∙◌, append_assoc, append-nil, arith}
+use Rattle.std.proofs.Common.{◌≡◌, ℕ, zero, suc, ◌<◌, true, false, cond, eqb, List, [], ◌∷◌, ◌++◌, length, fold, refl, sym, ap, subst, ◌∙◌, append_assoc, append-nil, arith}
 use Rattle.std.specs.Prelude.{slice_set, replicate}
 use Rattle.std.proofs.lemmas.Bool.{eqb-true, eqb-false}
 use Rattle.std.proofs.lemmas.List.{get_or-set_same, get_or-set_other, length-set, length-replicate}
 use Rattle.am_journal.specs.declared.event.Event.{Event}
 use Rattle.am_journal.specs.declared.event.Event.TheVariants as event
-use Rattle.am_slots.specs.Connection.{sent, sent_by, sent_from}
+use Rattle.am_slots.specs.Connection.{sent_by, sent_from}
 use Rattle.acme_core.specs.declared.unsent.Reply.{Reply}
 use Rattle.acme_core.specs.Run.{step, run, output_at}
 use Rattle.acme_core.specs.Stages.{said}
@@ -13,7 +13,8 @@ use Rattle.acme_core.specs.States.{State, present, start}
 use Rattle.acme_core.specs.Doings.{doing_of}
 use Rattle.acme_core.specs.Unsent.{Unsent, nothing_unsent, unsent_at, with_reply, put_reply, put_replies, replies_of, taken}
 use Rattle.acme_core.proofs.Goes.{run-push}
-use Rattle.core_laws.specs.Replies.{bytes_to, joined_to, replied_by, replied_from, replies_to}
+use Rattle.am_desk.specs.Replies.{bytes_to}
+use Rattle.core_laws.proofs.Replying.{replied_by, replied_from, all_replied}
 use Rattle.core_laws.specs.Laws.{RepliesAreSentOrUnsent}
 
 -- ---- replies that are put
@@ -21,7 +22,7 @@ use Rattle.core_laws.specs.Laws.{RepliesAreSentOrUnsent}
 abbrev bytes_at : List Unsent → ℕ → List ℕ
 bytes_at us conn = (unsent_at us conn).bytes
 
-put_one : (us : List Unsent) (x : Reply) (conn : ℕ) → conn < length us → bytes_at (put_reply us x) conn ≡ bytes_at us conn ++ bytes_to conn x
+put_one : (us : List Unsent) (x : Reply) (conn : ℕ) → conn < length us → bytes_at (put_reply us x) conn ≡ bytes_at us conn ++ cond (eqb x.conn conn) x.bytes []
 put_one us x conn inside =
     elim (eqb x.conn conn) as (λ b. eqb x.conn conn ≡ b → bytes_at (put_reply us x) conn ≡ bytes_at us conn ++ cond b x.bytes []) [
       | true ↦ λ e. let at : x.conn ≡ conn = eqb-true x.conn conn e in
@@ -32,12 +33,12 @@ put_one us x conn inside =
           ∙ sym (append-nil (bytes_at us conn))
     ] refl
 
-put_all : (us : List Unsent) (xs : List Reply) (conn : ℕ) → conn < length us → bytes_at (put_replies us xs) conn ≡ bytes_at us conn ++ joined_to conn xs
+put_all : (us : List Unsent) (xs : List Reply) (conn : ℕ) → conn < length us → bytes_at (put_replies us xs) conn ≡ bytes_at us conn ++ bytes_to conn xs
 put_all us [] conn inside = sym (append-nil (bytes_at us conn))
 put_all us (x ∷ xs) conn inside =
     put_all (put_reply us x) xs conn (omega (arith, inside, length-set us x.conn (with_reply (unsent_at us x.conn) x.bytes)))
-    ∙ ap (λ (l : List ℕ). l ++ joined_to conn xs) (put_one us x conn inside)
-    ∙ append_assoc (bytes_at us conn) (bytes_to conn x) (joined_to conn xs)
+    ∙ ap (λ (l : List ℕ). l ++ bytes_to conn xs) (put_one us x conn inside)
+    ∙ append_assoc (bytes_at us conn) (cond (eqb x.conn conn) x.bytes []) (bytes_to conn xs)
 
 -- ---- the connections stay 64
 
@@ -87,7 +88,7 @@ abbrev said_by : State → Event → List Reply
 said_by s e = replies_of (said (present s) e (doing_of (present s) e))
 
 one : (before : List Event) (e : Event) (conn : ℕ) → conn < length (run before).unsent
-    → output_at before conn ++ joined_to conn (step (run before) e).replies ≡ sent_by output_at conn before e ++ bytes_at (step (run before) e).unsent conn
+    → output_at before conn ++ bytes_to conn (step (run before) e).replies ≡ sent_by output_at conn before e ++ bytes_at (step (run before) e).unsent conn
 unfolding step
 one before (event.Dial c) conn inside = sym (put_all (run before).unsent (said_by (run before) (event.Dial c)) conn inside)
 one before (event.Msg c msg) conn inside = sym (put_all (run before).unsent (said_by (run before) (event.Msg c msg)) conn inside)
@@ -101,14 +102,14 @@ entry : (before : List Event) (e : Event) (conn : ℕ) → conn < 64
     → output_at before conn ++ replied_by conn before e ≡ sent_by output_at conn before e ++ output_at (before ++ e ∷ []) conn
 entry before e conn small =
     let pushed : run (before ++ e ∷ []) ≡ step (run before) e = run-push before e in
-    subst (λ (s : State). output_at before conn ++ joined_to conn s.replies ≡ sent_by output_at conn before e ++ bytes_at s.unsent conn) (sym pushed)
+    subst (λ (s : State). output_at before conn ++ bytes_to conn s.replies ≡ sent_by output_at conn before e ++ bytes_at s.unsent conn) (sym pushed)
     (one before e conn (omega (arith, small, conns before)))
 
 -- ---- all entries
 
 pub ahead : (before events : List Event) (conn : ℕ) → conn < 64
     → output_at before conn ++ replied_from before events conn ≡ sent_from output_at before events conn ++ output_at (before ++ events) conn
-unfolding replied_from sent_from
+unfolding sent_from
 ahead before [] conn small = append-nil (output_at before conn) ∙ ap (λ (l : List Event). output_at l conn) (sym (append-nil before))
 ahead before (e ∷ events) conn small =
     let next : List Event = before ++ e ∷ [] in
@@ -126,7 +127,10 @@ none_unsent zero conn = refl
 none_unsent (suc n) zero = refl
 none_unsent (suc n) (suc conn) = none_unsent n conn
 
-pub sent_or_unsent : RepliesAreSentOrUnsent
+none_yet : (conn : ℕ) → output_at [] conn ≡ []
 unfolding run
+none_yet conn = none_unsent 64 conn
+
+pub sent_or_unsent : RepliesAreSentOrUnsent
 sent_or_unsent journal conn small =
-    ap (λ (l : List ℕ). l ++ replies_to journal conn) (sym (none_unsent 64 conn)) ∙ ahead [] journal conn small
+    sym (all_replied journal conn) ∙ ap (λ (l : List ℕ). l ++ replied_from [] journal conn) (sym (none_yet conn)) ∙ ahead [] journal conn small

@@ -1,9 +1,8 @@
 -- After each journal of enabled events each fid is one of a connection that lives, and so is each read that waits; those of event files
 -- are on openings of such fids.
-use Rattle.std.proofs.Common.{◌≡◌, ◌≢◌, ℕ, zero, suc, ◌+◌, ◌≤◌, Bool, true, false, not, cond, eqb, List, [], ◌∷◌, ◌++◌, length, fold, nat_eq, slice_index_or, slice_set, Option, Some, None, All, refl, sym, ap, subst, ◌∙◌, append_assoc, append-nil, arith}
+use Rattle.std.proofs.Common.{◌≡◌, ◌≢◌, ℕ, zero, suc, ◌+◌, Bool, true, false, not, cond, List, [], ◌∷◌, ◌++◌, length, slice_index_or, slice_set, Option, Some, None, All, refl, sym, ap, subst, ◌∙◌, append_assoc, append-nil, arith}
 use Rattle.std.specs.List.{filter}
-use Rattle.std.specs.Map.{lookup}
-use Rattle.std.proofs.lemmas.Bool.{eqb-true, eqb-false, not-true}
+use Rattle.std.proofs.lemmas.Bool.{eqb-false, not-true}
 use Rattle.std.proofs.lemmas.List.Elements.{All-nil, All-push, All-filter, All-weaker, filter_passes}
 use Rattle.ninep_wire.specs.declared.message.TMsg.{TMsg}
 use Rattle.ninep_wire.specs.declared.message.RBody.{RBody}
@@ -29,25 +28,24 @@ use Rattle.core_answers.specs.declared.effect.Effect.TheVariants as effect
 use Rattle.core_answers.specs.declared.effect.EventChange.{EventChange}
 use Rattle.core_answers.specs.declared.effect.EventChange.TheVariants as events
 use Rattle.core_events.specs.declared.response.Response.{Response}
-use Rattle.core_events.specs.Asking.{is_full, opened, read_said, book_asked, book_read, waits_unless, tables_read}
-use Rattle.core_events.specs.Closing.{freed, cancelled, closed_with, opening_in, without_fid, without_fids, without_opening}
+use Rattle.core_events.specs.Asking.{is_full, opened, read_said, book_asked, book_read, waits_unless}
+use Rattle.core_events.specs.Closing.{freed, cancelled, closed_with, opening_in, without_fids, without_opening}
 use Rattle.core_events.specs.Putting.{changes_window, put_all}
-use Rattle.core_events.specs.Serving.{book_served_all}
 use Rattle.core_events.specs.Waits.{deleted_by, ended, without_cancelled}
 use Rattle.acme_core.specs.declared.connection.Connection.{Connection}
 use Rattle.acme_core.specs.declared.connection.Connection.TheVariants.{Undialed, Live, Ended}
 use Rattle.acme_core.specs.declared.doing.Doing.{Doing}
-use Rattle.acme_core.specs.Connections.{connection_at, is_live, connections_after, grown_with, ended_with}
+use Rattle.acme_core.specs.Connections.{connection_at, is_live, grown_with, ended_with}
 use Rattle.acme_core.specs.Doings.{enabled_at, deed_at, doing_of}
 use Rattle.acme_core.specs.Enabled.{first_why, live_refusal}
 use Rattle.acme_core.specs.Run.{step, run, enabled}
-use Rattle.acme_core.specs.Stages.{asker_of, answer_book, answer_tables, with_fid, grown_tables, read_book, items_made, put_book, serves, book_served, grown_book, said, closed_book, ended_tables, tables_after, book_after}
-use Rattle.acme_core.specs.States.{Present, State, present, start, next_entry}
+use Rattle.acme_core.specs.Stages.{asker_of, answer_book, answer_tables, grown_tables, read_book, items_made, serves, book_served, grown_book, said}
+use Rattle.acme_core.specs.States.{Present, State, present, start}
 use Rattle.acme_core.proofs.Goes.{run-push}
 use Rattle.acme_core.proofs.Joins.{elsewhere}
 use Rattle.core_laws.proofs.Fids.{AllFids, no_fids, fids_weaker, fids_at, IsHeld, fids_join, fids_put, fids_take, fids_version, fids_same, held_join, held_put, held_take, held_version, held_same}
 use Rattle.core_laws.proofs.Books.{IsBook, IsApart, book_weaker, book_later, book_opened, book_put_all, book_ask, book_serve_all, book_without, book_without_fids, book_cancelled, book_closed, without_none, fids_none}
-use Rattle.core_laws.proofs.Deeds.{IsModed, IsPut, PutsSane, HasOpening, ReadsSane, IsSane, deed_sane}
+use Rattle.core_laws.proofs.Deeds.{IsModed, PutsSane, HasOpening, ReadsSane, IsSane, deed_sane}
 
 -- ---- connections
 
@@ -95,7 +93,7 @@ IsWell s = AreWell s.connections s.tables s.entries s.book
 
 -- ---- reads that wait no more
 
-done_sessions : (t : Tables) (xs : List Response) → (ended t xs).sessions ≡ t.sessions
+pub done_sessions : (t : Tables) (xs : List Response) → (ended t xs).sessions ≡ t.sessions
 done_sessions t [] = refl
 done_sessions t (x ∷ xs) = done_sessions (after_done t x.conn x.message.tag) xs
 
@@ -104,7 +102,7 @@ done_waiting P t [] h = h
 done_waiting P t (x ∷ xs) h =
     done_waiting P (after_done t x.conn x.message.tag) xs (All-filter (λ w. not (is_waiting x.conn x.message.tag w)) P t.waiting h)
 
-cancelled_sessions : (t : Tables) (conn : ℕ) (e : EventChange) → (without_cancelled t conn e).sessions ≡ t.sessions
+pub cancelled_sessions : (t : Tables) (conn : ℕ) (e : EventChange) → (without_cancelled t conn e).sessions ≡ t.sessions
 cancelled_sessions t conn events.Nothing = refl
 cancelled_sessions t conn (events.Opens w) = refl
 cancelled_sessions t conn (events.Cancels tag) = refl
@@ -156,7 +154,7 @@ reading_book P at t b r own book =
       | false ↦ λ dead. book
     ] refl
 
-waits_sessions : (o : Option RBody) (t : Tables) (conn tag fid : ℕ) → (waits_unless o t conn tag fid).sessions ≡ t.sessions
+pub waits_sessions : (o : Option RBody) (t : Tables) (conn tag fid : ℕ) → (waits_unless o t conn tag fid).sessions ≡ t.sessions
 waits_sessions None t conn tag fid = refl
 waits_sessions (Some x) t conn tag fid = refl
 

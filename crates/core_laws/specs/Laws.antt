@@ -1,38 +1,53 @@
 -- Laws of all journals.
 use Rattle.std.specs.Prelude.{◌≡◌, ℕ, ◌<◌, true, false, List, [], ◌∷◌, ◌++◌, All}
 use Rattle.std.specs.List.{list_any}
+use Rattle.fid_table.specs.Tables.{is_waiting}
+use Rattle.wait_queue.specs.Reads.{is_read}
 use Rattle.am_journal.specs.declared.event.Event.{Event}
 use Rattle.am_counter.specs.Played.{IsPrefix, IsPlayed, has_hang}
 use Rattle.am_slots.specs.Connection.{sent}
 use Rattle.acme_core.specs.Run.{run, enabled, output_at}
 use Rattle.acme_core.specs.Unsent.{replies_of}
-use Rattle.core_laws.specs.Replies.{replies_to}
+use Rattle.am_desk.specs.Replies.{replies}
 use Rattle.core_laws.specs.Saying.{said_after, said_from, is_told, is_message, flush_of, flushed}
 
 -- What was replied to a connection is what was sent to it, and then what is unsent.
 abbrev pub RepliesAreSentOrUnsent : Type 0
 RepliesAreSentOrUnsent =
-    (journal : List Event) (conn : ℕ) → conn < 64 → replies_to journal conn ≡ sent output_at journal conn ++ output_at journal conn
+    (journal : List Event) (conn : ℕ) → conn < 64 → replies journal conn ≡ sent output_at journal conn ++ output_at journal conn
 
 -- A connection whose hang-up the journal has is replied nothing by the entries behind.
 abbrev pub NothingAfterTheHangUp : Type 0
 NothingAfterTheHangUp =
     (before journal : List Event) (conn : ℕ) → conn < 64 → IsPlayed enabled journal → IsPrefix before journal → has_hang before conn ≡ true
-    → replies_to journal conn ≡ replies_to before conn
+    → replies journal conn ≡ replies before conn
 
 -- So where its hang-up was there and nothing was unsent, all that it was ever replied was sent.
 abbrev pub EndedGetAllReplies : Type 0
 EndedGetAllReplies =
     (before journal : List Event) (conn : ℕ) → conn < 64 → IsPlayed enabled journal → IsPrefix before journal → has_hang before conn ≡ true
-    → output_at before conn ≡ [] → sent output_at journal conn ≡ replies_to journal conn
+    → output_at before conn ≡ [] → sent output_at journal conn ≡ replies journal conn
 
 -- The replies of an entry are the bytes of what it says.
 abbrev pub RepliesAreSaid : Type 0
 RepliesAreSaid = (before : List Event) (e : Event) → (run (before ++ e ∷ [])).replies ≡ replies_of (said_after before e)
 
--- Behind a Tflush that was answered by Rflush alone nothing is said to the tag that it names, up to the next message of that tag.
+-- Where a read waits with the tag that a Tflush names, it is answered by Rflush, and nothing else is said.
+abbrev pub FlushesAreAnswered : Type 0
+FlushesAreAnswered =
+    (before : List Event) (conn tag oldtag : ℕ) → list_any (is_waiting conn oldtag) (run before).tables.waiting ≡ true
+    → said_after before (flush_of conn tag oldtag) ≡ flushed conn tag ∷ []
+
+-- no read with this tag on this connection waits after a journal
+pub record IsFree (journal : List Event) (conn tag : ℕ) : Type 0 where
+  pub waiting : list_any (is_waiting conn tag) (run journal).tables.waiting ≡ false
+  pub reads : list_any (is_read conn tag) (run journal).book.reads ≡ false
+
+-- Behind a Tflush that was answered by Rflush alone no read waits with the tag that it names, and nothing is said to that tag, up to the
+-- next message of that tag.
 abbrev pub NothingToAFlushedTag : Type 0
 NothingToAFlushedTag =
     (before behind : List Event) (conn tag oldtag : ℕ) → IsPlayed enabled (before ++ flush_of conn tag oldtag ∷ behind)
     → said_after before (flush_of conn tag oldtag) ≡ flushed conn tag ∷ [] → list_any (is_message conn oldtag) behind ≡ false
-    → All (λ x. is_told conn oldtag x ≡ false) (said_from (before ++ flush_of conn tag oldtag ∷ []) behind)
+    → IsFree (before ++ flush_of conn tag oldtag ∷ behind) conn oldtag
+    × All (λ x. is_told conn oldtag x ≡ false) (said_from (before ++ flush_of conn tag oldtag ∷ []) behind)

@@ -1,6 +1,6 @@
 //! Laws of all journals.
 
-ghost use Rattle.core_laws.specs.Laws.{RepliesAreSentOrUnsent, NothingAfterTheHangUp, EndedGetAllReplies, RepliesAreSaid, NothingToAFlushedTag};
+ghost use Rattle.core_laws.specs.Laws.{RepliesAreSentOrUnsent, NothingAfterTheHangUp, EndedGetAllReplies, RepliesAreSaid, FlushesAreAnswered, NothingToAFlushedTag};
 
 /// All that was ever replied to a connection is what was sent to it, and then what is unsent.
 #[tactic(auto, using(crate::proofs::Unsents::sent_or_unsent))]
@@ -16,10 +16,11 @@ pub fn ended_connections_get_nothing_more()
     ensures all { EndedGetAllReplies }
 {}
 
-/// What an entry replies is what it says to connections, each time to the message of a tag. Behind a Tflush that was answered by Rflush
-/// nothing is said to the tag that it names, up to the next message of that tag. So a read that waited with it is never answered.
-#[tactic(auto, using(crate::proofs::Flushes::flushing))]
+/// What an entry replies is what it says to connections, each time to the message of a tag. A Tflush for the tag of a read that waits is
+/// answered by Rflush. Behind it no read waits with that tag, and nothing is said to it, up to the next message of that tag.
+#[tactic(auto, using(crate::proofs::Flushes::flushing, crate::proofs::Sessions::answering))]
 pub fn flushed_reads_are_not_answered()
     ensures said { RepliesAreSaid }
+    ensures answered { FlushesAreAnswered }
     ensures behind { NothingToAFlushedTag }
 {}

@@ -1,0 +1,33 @@
+-- Replies, entry by entry, each after the entries before it.
+use Rattle.std.proofs.Common.{◌≡◌, ℕ, List, [], ◌∷◌, ◌++◌, refl, sym, ap, ◌∙◌, append_assoc, append-nil}
+use Rattle.am_desk.specs.Replies.{bytes_to, replies_from, replies}
+use Rattle.am_journal.specs.declared.event.Event.{Event}
+use Rattle.acme_core.specs.Run.{run}
+use Rattle.acme_core.specs.States.{State}
+use Rattle.acme_core.proofs.Goes.{run-push}
+
+-- what an entry replies to the connection, after the entries before it
+abbrev pub replied_by : ℕ → List Event → Event → List ℕ
+replied_by conn before e = bytes_to conn (run (before ++ e ∷ [])).replies
+
+-- what entries reply to it, each after those before it
+abbrev pub replied_from : List Event → List Event → ℕ → List ℕ
+replied_from before [] conn = []
+replied_from before (e ∷ events) conn = replied_by conn before e ++ replied_from (before ++ e ∷ []) events conn
+
+from_state : (before events : List Event) (conn : ℕ) → replied_from before events conn ≡ replies_from (run before) events conn
+from_state before [] conn = refl
+from_state before (e ∷ events) conn =
+    ap (λ (l : List ℕ). replied_by conn before e ++ l) (from_state (before ++ e ∷ []) events conn)
+    ∙ ap (λ (s : State). bytes_to conn s.replies ++ replies_from s events conn) (run-push before e)
+
+pub all_replied : (journal : List Event) (conn : ℕ) → replied_from [] journal conn ≡ replies journal conn
+unfolding run
+all_replied journal conn = from_state [] journal conn
+
+pub replied_parts : (before xs ys : List Event) (conn : ℕ) → replied_from before (xs ++ ys) conn ≡ replied_from before xs conn ++ replied_from (before ++ xs) ys conn
+replied_parts before [] ys conn = ap (λ (l : List Event). replied_from l ys conn) (sym (append-nil before))
+replied_parts before (x ∷ xs) ys conn =
+    ap (λ (l : List ℕ). replied_by conn before x ++ l)
+    (replied_parts (before ++ x ∷ []) xs ys conn ∙ ap (λ (l : List Event). replied_from (before ++ x ∷ []) xs conn ++ replied_from l ys conn) (append_assoc before (x ∷ []) xs))
+    ∙ sym (append_assoc (replied_by conn before x) (replied_from (before ++ x ∷ []) xs conn) (replied_from (before ++ x ∷ xs) ys conn))

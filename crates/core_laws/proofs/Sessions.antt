@@ -1,0 +1,232 @@
+-- A read waits only in a session, so a Tflush for its tag is answered by Rflush.
+use Rattle.std.proofs.Common.{◌≡◌, ◌≢◌, ℕ, Bool, true, false, not, cond, eqb, ◌&&◌, ◌||◌, List, [], ◌∷◌, length, find, fold, nat_lt, min, codes, slice_index_or, Option, Some, None, option_map, All, refl, sym, ap, subst, ◌∙◌}
+use Rattle.std.specs.List.{filter, list_any}
+use Rattle.std.specs.Option.{option_or}
+use Rattle.std.proofs.lemmas.Bool.{false≢true, eqb-true, eqb-false, not-true}
+use Rattle.std.proofs.lemmas.List.Elements.{All-nil, All-head, All-tail, All-weaker, All-filter, filter_passes}
+use Rattle.std.proofs.lemmas.List.Folds.{find-append}
+use Rattle.ninep_wire.specs.declared.message.TBody.{TBody}
+use Rattle.ninep_wire.specs.declared.message.TBody.TheVariants as t
+use Rattle.ninep_wire.specs.declared.message.TMsg.{TMsg}
+use Rattle.ninep_wire.specs.declared.message.RBody.{RBody}
+use Rattle.ninep_wire.specs.declared.message.RBody.TheVariants as r
+use Rattle.fid_table.specs.declared.session.Session.{Session}
+use Rattle.fid_table.specs.declared.session.Waiting.{Waiting}
+use Rattle.fid_table.specs.Tables.{Tables, is_session, is_waiting, is_waiting_on, msize_in, msize_of, on_session, put_in, taken_from, begun, after_join, after_version}
+use Rattle.fid_table.proofs.PlaceLemmas.{find_changed, find_other}
+use Rattle.event_book.specs.BookState.{BookState}
+use Rattle.win_events.specs.declared.item.Origin.TheVariants.{F}
+use Rattle.am_journal.specs.declared.event.Event.{Event}
+use Rattle.am_journal.specs.declared.event.Event.TheVariants as event
+use Rattle.core_answers.specs.declared.effect.Answer.{Answer}
+use Rattle.core_answers.specs.declared.effect.Answer.TheVariants.{Says, Reads}
+use Rattle.core_answers.specs.declared.effect.Deed.{Deed}
+use Rattle.core_answers.specs.declared.effect.Effect.{Effect}
+use Rattle.core_answers.specs.declared.effect.Effect.TheVariants as effect
+use Rattle.core_answers.specs.declared.effect.EventChange.{EventChange}
+use Rattle.core_answers.specs.declared.refusal.Refusal.TheVariants as refusal
+use Rattle.core_answers.specs.Attaching.{is_version, agreed, version_deed}
+use Rattle.core_answers.specs.Deeds.{needs_session, served}
+use Rattle.core_answers.specs.Plainly.{does}
+use Rattle.core_windows.specs.declared.change.Change.TheVariants as change
+use Rattle.core_windows.specs.Windows.{Window, world_of}
+use Rattle.core_answers.specs.Fids.{is_there}
+use Rattle.core_answers.specs.Refusals.{refused, refused_with, deed_or_refusal}
+use Rattle.core_events.specs.declared.response.Response.{Response}
+use Rattle.core_events.specs.Asking.{read_said, waits_unless}
+use Rattle.core_events.specs.Waits.{ended, without_cancelled}
+use Rattle.acme_core.specs.Connections.{grown_with, ended_with}
+use Rattle.acme_core.specs.Doings.{message_doing, deed_at, doing_of}
+use Rattle.acme_core.specs.Run.{step, run}
+use Rattle.acme_core.specs.Stages.{asker_of, answer_tables, said}
+use Rattle.acme_core.specs.States.{Present, State, present, start}
+use Rattle.core_laws.specs.Laws.{FlushesAreAnswered}
+use Rattle.core_laws.specs.Saying.{flush_of, flushed}
+use Rattle.core_laws.proofs.Flushes.{flush_or}
+use Rattle.core_laws.proofs.Wells.{done_sessions, done_waiting, cancelled_sessions, cancelled_waiting, waits_sessions, waits_waiting}
+
+-- a session of the connection is open
+abbrev HasSession : Tables → ℕ → Type 0
+HasSession t conn = is_there (msize_of t conn) ≡ true
+
+abbrev InSession : Tables → Waiting → Type 0
+InSession t w = HasSession t w.conn
+
+abbrev AreInSession : Tables → Type 0
+AreInSession t = All (InSession t) t.waiting
+
+-- ---- what changes of a session
+
+same_in : (t u : Tables) → ((conn : ℕ) → msize_of u conn ≡ msize_of t conn) → (ws : List Waiting) → All (InSession t) ws → All (InSession u) ws
+same_in t u same ws h = All-weaker (InSession t) (InSession u) (λ w k. ap is_there (same w.conn) ∙ k) ws h
+
+by_sessions : (t u : Tables) → u.sessions ≡ t.sessions → (conn : ℕ) → msize_of u conn ≡ msize_of t conn
+by_sessions t u same conn = ap (λ (ss : List Session). msize_in (find (is_session conn) ss)) same
+
+joined_msize : (n : Session) (b : Bool) (o : Option Session) → n.msize ≡ None → msize_in (option_or o (cond b (Some n) None)) ≡ msize_in o
+joined_msize n true None e = e
+joined_msize n false None e = refl
+joined_msize n true (Some s) e = refl
+joined_msize n false (Some s) e = refl
+
+join_msize : (t : Tables) (c conn : ℕ) → msize_of (after_join t c) conn ≡ msize_of t conn
+join_msize t c conn =
+    let n : Session = record { conn = c; msize = None; fids = [] } in
+    ap msize_in (find-append (is_session conn) t.sessions (n ∷ [])) ∙ joined_msize n (eqb c conn) (find (is_session conn) t.sessions) refl
+
+module _ (f : Session → Session) (conn_same : (s : Session) → (f s).conn ≡ s.conn) (msize_same : (s : Session) → (f s).msize ≡ s.msize) where
+  changed_msize : (o : Option Session) → msize_in (option_map f o) ≡ msize_in o
+  changed_msize None = refl
+  changed_msize (Some s) = msize_same s
+
+  on_msize : (ss : List Session) (c conn : ℕ) → msize_in (find (is_session conn) (on_session f c ss)) ≡ msize_in (find (is_session conn) ss)
+  on_msize ss c conn =
+      elim (eqb conn c) as (λ b. eqb conn c ≡ b → msize_in (find (is_session conn) (on_session f c ss)) ≡ msize_in (find (is_session conn) ss)) [
+        | true ↦ λ e. let at : conn ≡ c = eqb-true conn c e in
+            subst (λ (x : ℕ). msize_in (find (is_session x) (on_session f c ss)) ≡ msize_in (find (is_session x) ss)) (sym at)
+            (ap msize_in (find_changed f conn_same ss c) ∙ changed_msize (find (is_session c) ss))
+        | false ↦ λ e. ap msize_in (find_other f conn_same ss c conn (eqb-false conn c e))
+      ] refl
+
+in_version : (t : Tables) (c : ℕ) (msize : Option ℕ) → AreInSession t → AreInSession (after_version t c msize)
+in_version t c msize h =
+    let ws : List Waiting = filter (λ w. not (is_waiting_on c w)) t.waiting in
+    let kept : All (InSession t) ws = All-filter (λ w. not (is_waiting_on c w)) (InSession t) t.waiting h in
+    let apart : All (λ w. not (is_waiting_on c w) ≡ true) ws = filter_passes (λ w. not (is_waiting_on c w)) t.waiting in
+    λ k d l. let w : Waiting = slice_index_or ws k d in
+    let off : w.conn ≢ c = eqb-false w.conn c (not-true (is_waiting_on c w) (apart k d l)) in
+    ap (λ (o : Option Session). is_there (msize_in o)) (find_other (begun msize) (λ s. refl) t.sessions c w.conn off) ∙ kept k d l
+
+in_grown : (t : Tables) (conn : ℕ) (e : Effect) → AreInSession t → AreInSession (grown_with t conn e)
+in_grown t conn effect.Nothing h = h
+in_grown t conn (effect.Begins msize) h = h
+in_grown t conn (effect.Puts number fid) h = same_in t (grown_with t conn (effect.Puts number fid)) (λ c. on_msize (put_in number fid) (λ s. refl) (λ s. refl) t.sessions conn c) t.waiting h
+in_grown t conn (effect.Frees number) h = h
+
+grown_msize : (t : Tables) (conn : ℕ) (e : Effect) (c : ℕ) → msize_of (grown_with t conn e) c ≡ msize_of t c
+grown_msize t conn effect.Nothing c = refl
+grown_msize t conn (effect.Begins msize) c = refl
+grown_msize t conn (effect.Puts number fid) c = on_msize (put_in number fid) (λ s. refl) (λ s. refl) t.sessions conn c
+grown_msize t conn (effect.Frees number) c = refl
+
+in_freed : (t : Tables) (conn : ℕ) (e : Effect) → AreInSession t → AreInSession (ended_with t conn e)
+in_freed t conn effect.Nothing h = h
+in_freed t conn (effect.Begins msize) h = in_version t conn msize h
+in_freed t conn (effect.Puts number fid) h = h
+in_freed t conn (effect.Frees number) h = same_in t (ended_with t conn (effect.Frees number)) (λ c. on_msize (taken_from number) (λ s. refl) (λ s. refl) t.sessions conn c) t.waiting h
+
+in_ended : (t : Tables) (xs : List Response) → AreInSession t → AreInSession (ended t xs)
+in_ended t xs h = same_in t (ended t xs) (by_sessions t (ended t xs) (done_sessions t xs)) (ended t xs).waiting (done_waiting (InSession t) t xs h)
+
+in_cancelled : (t : Tables) (conn : ℕ) (e : EventChange) → AreInSession t → AreInSession (without_cancelled t conn e)
+in_cancelled t conn e h =
+    same_in t (without_cancelled t conn e) (by_sessions t (without_cancelled t conn e) (cancelled_sessions t conn e)) (without_cancelled t conn e).waiting
+    (cancelled_waiting (InSession t) t conn e h)
+
+in_waits : (t : Tables) (o : Option RBody) (conn tag fid : ℕ) → HasSession t conn → AreInSession t → AreInSession (waits_unless o t conn tag fid)
+in_waits t o conn tag fid own h =
+    same_in t (waits_unless o t conn tag fid) (by_sessions t (waits_unless o t conn tag fid) (waits_sessions o t conn tag fid)) (waits_unless o t conn tag fid).waiting
+    (waits_waiting (InSession t) o t conn tag fid own h)
+
+in_answered : (t : Tables) (b : BookState) (conn tag : ℕ) (a : Answer) → ((fid opening count : ℕ) → a ≡ Reads fid opening count → HasSession t conn) → AreInSession t
+    → AreInSession (answer_tables t b conn tag (Some a))
+in_answered t b conn tag (Says body) own h = h
+in_answered t b conn tag (Reads fid opening count) own h = in_waits t (read_said t b (asker_of conn tag opening count)) conn tag fid (own fid opening count refl) h
+
+-- ---- a read is asked in a session
+
+abbrev is_reads : Answer → Bool
+is_reads (Says body) = false
+is_reads (Reads fid opening count) = true
+
+says_or : (b : Bool) (d e : Deed) → is_reads d.answer ≡ false → is_reads e.answer ≡ false → is_reads (cond b d e).answer ≡ false
+says_or true d e g h = g
+says_or false d e g h = h
+
+version_says : (msize : ℕ) (version : List ℕ) → is_reads (version_deed msize version).answer ≡ false
+version_says msize version =
+    says_or (nat_lt msize 256) (refused_with (effect.Begins None) refusal.MsizeTooSmall) (agreed (min msize 65560) version) refl
+    (says_or (is_version version) (does (effect.Begins (Some (min msize 65560))) change.Nothing (r.Version (min msize 65560) (codes "9P2000")))
+    (does (effect.Begins None) change.Nothing (r.Version (min msize 65560) (codes "unknown"))) refl refl)
+
+-- what a message does, by whether a session is missing
+abbrev deed_or : Tables → List (Option Window) → ℕ → ℕ → TBody → Bool → Deed
+deed_or tables windows openings conn body missing =
+    cond (needs_session body && missing) (refused refusal.VersionFirst) (deed_or_refusal (served tables (world_of windows) windows openings conn body))
+
+missing_says : (tables : Tables) (windows : List (Option Window)) (openings conn : ℕ) (body : TBody) → is_reads (deed_or tables windows openings conn body true).answer ≡ false
+missing_says tables windows openings conn (t.Version msize version) = version_says msize version
+missing_says tables windows openings conn (t.Auth afid uname aname) = refl
+missing_says tables windows openings conn (t.Flush oldtag) = refl
+missing_says tables windows openings conn (t.Attach fid afid uname aname) = refl
+missing_says tables windows openings conn (t.Walk fid newfid names) = refl
+missing_says tables windows openings conn (t.Open fid mode) = refl
+missing_says tables windows openings conn (t.Create fid name perm mode) = refl
+missing_says tables windows openings conn (t.Read fid offset count) = refl
+missing_says tables windows openings conn (t.Write fid offset bytes) = refl
+missing_says tables windows openings conn (t.Clunk fid) = refl
+missing_says tables windows openings conn (t.Remove fid) = refl
+missing_says tables windows openings conn (t.Stat fid) = refl
+missing_says tables windows openings conn (t.Wstat fid stat) = refl
+
+asked_in : (tables : Tables) (windows : List (Option Window)) (openings conn : ℕ) (body : TBody) (fid opening count : ℕ) (there : Bool)
+    → (deed_or tables windows openings conn body (not there)).answer ≡ Reads fid opening count → there ≡ true
+asked_in tables windows openings conn body fid opening count true h = refl
+asked_in tables windows openings conn body fid opening count false h =
+    absurd (false≢true (sym (missing_says tables windows openings conn body) ∙ ap is_reads h))
+
+-- ---- one event
+
+in_message : (s : State) (conn : ℕ) (msg : TMsg) → AreInSession s.tables → AreInSession (step s (event.Msg conn msg)).tables
+unfolding step
+in_message s conn msg h =
+    let p : Present = present s in
+    let e : Event = event.Msg conn msg in
+    let done : Deed = deed_at p conn msg in
+    let put : Tables = grown_with s.tables conn done.effect in
+    let read : Tables = answer_tables put s.book conn msg.tag (Some done.answer) in
+    let left : Tables = ended_with read conn done.effect in
+    let xs : List Response = said p e (doing_of p e) in
+    in_cancelled (ended left xs) conn done.events
+    (in_ended left xs
+    (in_freed read conn done.effect
+    (in_answered put s.book conn msg.tag done.answer
+    (λ fid opening count is. ap is_there (grown_msize s.tables conn done.effect conn)
+    ∙ asked_in s.tables p.windows (length s.book.owners) conn msg.body fid opening count (is_there (msize_of s.tables conn)) is)
+    (in_grown s.tables conn done.effect h))))
+
+in_step : (s : State) (e : Event) → AreInSession s.tables → AreInSession (step s e).tables
+unfolding step
+in_step s (event.Dial conn) h = same_in s.tables (after_join s.tables conn) (join_msize s.tables conn) s.tables.waiting h
+in_step s (event.Msg conn msg) h = in_message s conn msg h
+in_step s (event.Hang conn why) h = in_version s.tables conn None h
+in_step s (event.Took conn) h = h
+in_step s event.New h = h
+in_step s (event.Key w side text) h = in_ended s.tables (said (present s) (event.Key w side text) (doing_of (present s) (event.Key w side text))) h
+in_step s (event.Sel w range) h = in_ended s.tables (said (present s) (event.Sel w range) (doing_of (present s) (event.Sel w range))) h
+
+in_fold : (s : State) (events : List Event) → AreInSession s.tables → AreInSession (fold step s events).tables
+in_fold s [] h = h
+in_fold s (e ∷ events) h = in_fold (step s e) events (in_step s e h)
+
+in_run : (journal : List Event) → AreInSession (run journal).tables
+unfolding run
+in_run journal = in_fold start journal (All-nil (InSession start.tables))
+
+-- ---- a Tflush
+
+any_session : (t : Tables) (conn tag : ℕ) (ws : List Waiting) → All (InSession t) ws → list_any (is_waiting conn tag) ws ≡ true → HasSession t conn
+any_session t conn tag [] all h = absurd (false≢true h)
+any_session t conn tag (w ∷ ws) all h =
+    elim (eqb w.conn conn) as (λ b. eqb w.conn conn ≡ b → ((b && eqb w.tag tag) || list_any (is_waiting conn tag) ws) ≡ true → HasSession t conn) [
+      | true ↦ λ e k. subst (λ (c : ℕ). HasSession t c) (eqb-true w.conn conn e) (All-head (InSession t) w ws all)
+      | false ↦ λ e k. any_session t conn tag ws (All-tail (InSession t) w ws all) k
+    ] refl h
+
+pub flushes_answered : FlushesAreAnswered
+flushes_answered before conn tag oldtag waits =
+    let s : Present = present (run before) in
+    let there : is_there (msize_of s.tables conn) ≡ true = any_session s.tables conn oldtag s.tables.waiting (in_run before) waits in
+    subst (λ (b : Bool). said s (flush_of conn tag oldtag) (message_doing (flush_or (not b) oldtag) F) ≡ flushed conn tag ∷ []) (sym there) refl
+
+pub ruleset answering = (flushes_answered)
