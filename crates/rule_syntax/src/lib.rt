@@ -4,6 +4,7 @@
 mod argument;
 mod expression;
 mod fault;
+mod fit;
 mod laws;
 mod parsing;
 mod rule;
