@@ -18,6 +18,11 @@ abbrev pub place_from : ℕ → List Attr → List ℕ → Option ℕ
 place_from n [] name = None
 place_from n (a ∷ attrs) name = if has_name name a then Some n else place_from (n + 1) attrs name
 
+-- the place that stands for a name here
+abbrev pub place_among : List (List ℕ × ℕ) → List ℕ → Option ℕ
+place_among [] name = None
+place_among (e ∷ es) name = if bytes_eq e.0 name then Some e.1 else place_among es name
+
 -- with an attribute at a place, or at the end
 abbrev pub put_at : Option ℕ → List Attr → Attr → List Attr
 put_at None attrs a = attrs ++ a ∷ []

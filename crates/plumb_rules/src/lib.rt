@@ -8,6 +8,7 @@ mod draft;
 mod laws;
 mod message;
 mod pattern;
+mod placed;
 mod routing;
 mod sets;
 mod state;
