@@ -1,7 +1,8 @@
 //! Attributes of a message: the value of one, put in place of one, and taken away.
 
 ghost use Rattle.std.specs.Prelude.{◌≡◌, not, option_copied, IfOk};
-ghost use Rattle.plumb_rules.specs.Attributes.{has_name, attr_value, with_attrs, without_attr, click_of, unclicked};
+ghost use Rattle.am_text.specs.Number.{number_of};
+ghost use Rattle.plumb_rules.specs.Attributes.{has_name, attr_value, with_attrs, without_attr, is_absent, click_read, click_of, unclicked};
 
 use crate::message::copied_attr;
 use crate::placed::PlacedAttrs;
@@ -56,14 +57,44 @@ pub fn without_attr(attrs: Attrs, name: &[u8]) -> Attrs
     Items::from_vec(all)
 }
 
-/// Whether a message has a click, and its place where that is a decimal.
+/// The click of a message: its place in the data.
+#[derive(Clone, Copy, Debug, PartialEq, Eq)]
+pub enum Click {
+    /// There is none.
+    Absent,
+    /// There is one that is no decimal.
+    Unread,
+    /// There is one at this place.
+    At(u64),
+}
+
+/// Whether there is no click.
+pub fn is_absent(click: Click) -> bool
+    ensures { result ≡ is_absent click }
+{
+    match click {
+        Click::Absent => true,
+        _ => false,
+    }
+}
+
+fn click_read(value: &[u8]) -> Click
+    ensures { result ≡ click_read (number_of value.now) }
+{
+    match read_decimal(value) {
+        None => Click::Unread,
+        Some(place) => Click::At(place),
+    }
+}
+
+/// The click of a message with these attributes.
 #[tactic(auto, unfolding(crate::specs::Attributes::click_of))]
-pub fn click_of(attrs: &[Attr]) -> Option<Option<u64>>
+pub fn click_of(attrs: &[Attr]) -> Click
     ensures { result ≡ click_of attrs.now }
 {
     match attr_value(attrs, b"click") {
-        None => None,
-        Some(value) => Some(read_decimal(value)),
+        None => Click::Absent,
+        Some(value) => click_read(value),
     }
 }
 

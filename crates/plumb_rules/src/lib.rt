@@ -3,9 +3,9 @@
 
 mod answer;
 mod attributes;
-mod click;
 mod draft;
 mod laws;
+mod matching;
 mod message;
 mod pattern;
 mod placed;
