@@ -18,9 +18,13 @@ is_of opening o = o.opening == opening
 abbrev pub is_on : ℕ → Inbox → Bool
 is_on port o = o.port == port
 
+-- an opening of a port with these messages, of which no read has begun any
+abbrev pub inbox_with : ℕ → ℕ → List (List ℕ) → Inbox
+inbox_with opening port messages = record { opening = opening; port = port; messages = messages; carry = [] }
+
 -- an opening with nothing for its reads
 abbrev pub blank : ℕ → ℕ → Inbox
-blank opening port = record { opening = opening; port = port; messages = []; carry = [] }
+blank opening port = inbox_with opening port []
 
 -- the inbox of an opening; one with nothing in it where the opening isn't there
 abbrev pub inbox_of : List Inbox → ℕ → Inbox

@@ -8,7 +8,7 @@ use Rattle.wait_queue.specs.declared.types.Piece.{Piece}
 use Rattle.wait_queue.specs.declared.types.Asked.{Asked}
 use Rattle.wait_queue.specs.declared.types.Asked.TheVariants.{Now, Waits}
 use Rattle.plumb_ports.specs.PortList.{Port, named, edit_name, number_of, number_or_next, with_name, kept_of, with_kept}
-use Rattle.plumb_ports.specs.Inboxes.{Inbox, is_of, is_on, inbox_of, delivered, must_wait, piece_of, after_read}
+use Rattle.plumb_ports.specs.Inboxes.{Inbox, is_of, is_on, inbox_with, inbox_of, delivered, must_wait, piece_of, after_read}
 use Rattle.plumb_ports.specs.declared.fault.PortFault.{PortFault}
 use Rattle.plumb_ports.specs.declared.fault.PortFault.TheVariants.{NoPort, Closed, Full, NoMemory}
 
@@ -45,7 +45,7 @@ after_add s name = record s { ports = with_name (number_of s.ports name) s.ports
 abbrev pub after_join : PortsState → ℕ → ℕ → PortsState
 after_join s port opening = record s {
   ports = with_kept s.ports port [];
-  openings = s.openings ++ record { opening = opening; port = port; messages = kept_of s.ports port; carry = [] } ∷ [];
+  openings = s.openings ++ inbox_with opening port (kept_of s.ports port) ∷ [];
 }
 
 -- a port keeps at most 64 messages

@@ -1,6 +1,6 @@
 //! The messages that a port keeps.
 
-ghost use Rattle.std.specs.Prelude.{◌≡◌, [], ◌∷◌, ◌++◌, length, OnOk, OnErr};
+ghost use Rattle.std.specs.Prelude.{◌≡◌, [], ◌∷◌, ◌++◌, OnOk, OnErr};
 ghost use Rattle.plumb_ports.specs.Undo.{without_last};
 
 use am_text::{Bytes, NoMemory};
@@ -29,13 +29,6 @@ impl KeptMessages {
         KeptMessages {
             all: Vec::new(alloc),
         }
-    }
-
-    /// How many there are.
-    pub fn len(&self) -> usize
-        ensures { result ≡ length self.now }
-    {
-        self.all.len()
     }
 
     /// The messages, the first first.

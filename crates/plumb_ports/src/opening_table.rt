@@ -3,7 +3,7 @@
 ghost use Rattle.std.specs.Prelude.{◌≡◌, ◌<◌, ◌≤◌, false, not, [], ◌∷◌, ◌++◌, map, filter, length, position, IfOk, IfSome, OnOk, OnErr};
 ghost use Rattle.std.specs.List.{list_any};
 ghost use Rattle.am_text.specs.Twice.{Twice, both, IsSteady};
-ghost use Rattle.plumb_ports.specs.Inboxes.{is_of, is_on, inbox_of, delivered, must_wait, piece_of, after_read};
+ghost use Rattle.plumb_ports.specs.Inboxes.{is_of, is_on, inbox_with, inbox_of, delivered, must_wait, piece_of, after_read};
 ghost use Rattle.plumb_ports.specs.Shown.{present_of, kept_of, with_present, with_kept, with_delivered};
 
 use crate::opening_queue::OpeningQueue;
@@ -149,7 +149,7 @@ impl OpeningTable {
 
     /// Adds an opening of this port, with copies of these messages.
     pub fn join(&mut self, port: u32, opening: u32, messages: &[Bytes]) -> Result<(), NoMemory>
-        ensures ok { OnOk result (self.new ≡ record self.old { present = self.old.present ++ record { opening = opening; port = port; messages = messages.now; carry = [] } ∷ [] }) }
+        ensures ok { OnOk result (self.new ≡ record self.old { present = self.old.present ++ inbox_with opening port messages.now ∷ [] }) }
         ensures err { OnErr result (self.new ≡ self.old) }
     {
         let mut queue = OpeningQueue::new(self.alloc, opening, port)?;

@@ -79,18 +79,25 @@ fn each_opening_gets_a_copy(rt: HostRuntime) -> Result<(), Fail> {
     Ok(())
 }
 
-// Whether 64 messages are kept for this port, and then no more.
+// Whether 64 messages, the bytes 0 to 63, are kept for this port, and then no more.
 fn keeps_64(ports: &mut Ports, name: &[u8]) -> Result<bool, PortFault> {
-    for _ in 0..64 {
-        ports.deliver(name, b"m", true)?;
+    for i in 0..64u8 {
+        ports.deliver(name, &[i], true)?;
     }
-    match ports.deliver(name, b"m", true) {
-        Err(PortFault::Full) => Ok(true),
-        _ => Ok(false),
-    }
+    Ok(ports.deliver(name, b"m", true) == Err(PortFault::Full))
 }
 
-// A port without openings keeps 64 messages, and the next opening takes them.
+// Whether the opening gets the bytes 0 to 63 as messages, in order, and then waits.
+fn gets_64(ports: &mut Ports, opening: u32) -> Result<bool, NoMemory> {
+    for i in 0..64u8 {
+        if !is_bytes(asked(ports, read(1, opening, 8))?, &[i]) {
+            return Ok(false);
+        }
+    }
+    Ok(asked(ports, read(1, opening, 8))?.is_none())
+}
+
+// A port without openings keeps 64 messages, and the next opening takes them; where that is taken back the port has them again.
 #[test]
 fn kept_messages_wait_for_the_next_opening(rt: HostRuntime) -> Result<(), Fail> {
     let mut ports = Ports::new(rt.alloc()).map_err(|_| AllocError)?;
@@ -105,9 +112,16 @@ fn kept_messages_wait_for_the_next_opening(rt: HostRuntime) -> Result<(), Fail> 
     ports.keep();
     join(&mut ports, web, 1).map_err(|_| AllocError)?;
     let first = asked(&mut ports, read(1, 1, 8)).map_err(|_| AllocError)?;
-    assert!(rt; is_bytes(first, b"m"));
+    assert!(rt; is_bytes(first, &[0]));
     ports.back();
     assert!(rt; !ports.has_joined(1) && !ports.is_open(web));
+    let again = ports.deliver(b"web", b"m", true);
+    assert!(rt; again == Err(PortFault::Full));
+    join(&mut ports, web, 2).map_err(|_| AllocError)?;
+    let all = gets_64(&mut ports, 2).map_err(|_| AllocError)?;
+    assert!(rt; all);
+    let open = ports.deliver(b"web", b"m", false);
+    assert!(rt; open == Ok(()));
     Ok(())
 }
 

@@ -1,12 +1,11 @@
 -- Lists, one member further.
 use Rattle.std.proofs.Common.{◌≡◌, ℕ, suc, ◌+◌, ◌<◌, ◌≤◌, List, [], ◌∷◌, ◌++◌, length, get_or, take, drop, Option, Some, None, refl, ap, sym, ◌∙◌, append_assoc, drop-cons, length-drop, add-one, arith}
-use Rattle.std.specs.List.{flat_map}
 use Rattle.std.proofs.lemmas.List.{append-nil, take_more}
 use Rattle.plumb_msg.specs.declared.message.Attr.{Attr}
 use Rattle.plumb_msg.specs.declared.message.PlumbMsg.{PlumbMsg}
 use Rattle.rule_syntax.specs.declared.rule.Piece.{Piece}
 use Rattle.rule_syntax.specs.declared.rule.Rule.{Rule}
-use Rattle.plumb_rules.specs.Attributes.{place_from, with_attr, with_attrs}
+use Rattle.plumb_rules.specs.Attributes.{with_attr, with_attrs}
 use Rattle.plumb_rules.specs.Routes.{and_then, or_else, rule_holds, rules_hold, set_route, sets_route}
 use Rattle.plumb_rules.specs.Texts.{piece_text, argument_text}
 use Rattle.plumb_rules.specs.Verbs.{Nodes}
@@ -19,15 +18,6 @@ pub attrs_more : (attrs : List Attr) (i : ℕ) (a : Attr) → i < length attrs �
 attrs_more attrs i a h = take_more attrs i a h
 
 pub ruleset attributes = (attrs_more)
-
-pub place_more : (n : ℕ) (attrs : List Attr) (name : List ℕ) (i : ℕ) (a : Attr) → i < length attrs → place_from n (drop i attrs) name ≡ place_from n (get_or attrs i a ∷ drop (i + 1) attrs) name
-place_more n attrs name i a h = rw add-one (ap (λ (l : List Attr). place_from n l name) (drop-cons attrs i a h))
-
-pub place_end : (n : ℕ) (attrs : List Attr) (name : List ℕ) → length attrs ≡ 0 → place_from n attrs name ≡ None
-place_end n [] name h = refl
-place_end n (a ∷ attrs) name h = absurd (omega arith)
-
-pub ruleset places = (place_more, place_end, length-drop)
 
 pub with_attrs_more : (attrs more : List Attr) (i : ℕ) (a : Attr) → i < length more → with_attrs (with_attr attrs (get_or more i a)) (drop (i + 1) more) ≡ with_attrs attrs (drop i more)
 with_attrs_more attrs more i a h = rw add-one (sym (ap (with_attrs attrs) (drop-cons more i a h)))

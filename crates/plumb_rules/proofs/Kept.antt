@@ -3,6 +3,7 @@ use Rattle.std.proofs.Common.{◌≡◌, ℕ, ◌||◌, Bool, true, false, cond,
 use Rattle.std.specs.List.{list_any, filter}
 use Rattle.std.specs.Str.{bytes_eq}
 use Rattle.std.proofs.lemmas.Bool.{false≢true}
+use Rattle.am_text.specs.Number.{number_of}
 use Rattle.am_text.specs.Utf8.{decode, utf8}
 use Rattle.name_tree.specs.Kinds.{is_file, is_directory}
 use Rattle.plumb_msg.specs.Spelling.{can_spell}
@@ -15,20 +16,22 @@ use Rattle.rule_syntax.specs.declared.rule.Field.TheVariants.{Src, Dst, Wdir, So
 use Rattle.rule_syntax.specs.declared.rule.Rule.{Rule}
 use Rattle.rule_syntax.specs.declared.rule.Verb.{Verb}
 use Rattle.rule_syntax.specs.declared.rule.Verb.TheVariants as verb
-use Rattle.plumb_rules.specs.Attributes.{has_name, attr_value, without_attr, click_told, click_of}
+use Rattle.plumb_rules.specs.Attributes.{has_name, attr_value, without_attr, click_told, click_read, click_of}
 use Rattle.plumb_rules.specs.Laws.{may_change_data, DataAreKept}
 use Rattle.plumb_rules.specs.Patterns.{pattern_of, is_whole}
 use Rattle.plumb_rules.specs.Routes.{and_then, begun, spelled, rule_holds, rules_hold, with_dst, route_in, route_at, set_route}
 use Rattle.plumb_rules.specs.Texts.{field_text, with_field, whole_name, data_name, argument_text}
 use Rattle.plumb_rules.specs.Verbs.{Nodes, with_match, whole_data, click_data, field_matches, pattern_matches, with_attributes, verb_done, rule_done}
 use Rattle.plumb_rules.specs.declared.answer.Route.{Route}
+use Rattle.plumb_rules.specs.declared.attributes.Click.{Click}
+use Rattle.plumb_rules.specs.declared.attributes.Click.TheVariants.{Absent, Unread, At}
 use Rattle.plumb_rules.specs.declared.state.State.{State}
 use Rattle.plumb_rules.proofs.Further.{holds-cons}
 use Rattle.plumb_rules.proofs.Taken.{same_if, set_has}
 
 -- without a click, and with these data
 record Keeps (body : List ℕ) (s : State) : Type 0 where
-  unclicked : click_of s.msg.attrs ≡ None
+  unclicked : click_of s.msg.attrs ≡ Absent
   same : s.msg.body ≡ body
 
 -- ---- no click comes by taking an attribute away
@@ -44,11 +47,15 @@ value_kept (a ∷ attrs) name other e =
       ]
     ] refl e
 
-told_none : (o : Option (List ℕ)) → click_told o ≡ None → o ≡ None
-told_none None e = refl
-told_none (Some v) e = absurd cc
+read_some : (o : Option ℕ) → click_read o ≡ Absent → ⊥
+read_some None e = cc
+read_some (Some n) e = cc
 
-click_kept : (attrs : List Attr) (other : List ℕ) → click_of attrs ≡ None → click_of (without_attr other attrs) ≡ None
+told_none : (o : Option (List ℕ)) → click_told o ≡ Absent → o ≡ None
+told_none None e = refl
+told_none (Some v) e = absurd (read_some (number_of v) e)
+
+click_kept : (attrs : List Attr) (other : List ℕ) → click_of attrs ≡ Absent → click_of (without_attr other attrs) ≡ Absent
 unfolding click_of
 click_kept attrs other e = ap click_told (value_kept attrs _ other (told_none _ e))
 
@@ -64,9 +71,10 @@ module _ (body : List ℕ) where
   keeps_if : (b : Bool) (s t : State) → cond b (Some s) None ≡ Some t → Keeps body s → Keeps body t
   keeps_if b s t e k = subst (Keeps body) (same_if b s t e).1 k
 
-  data_kept : (s t : State) (r : Tree) (o : Option (Option ℕ)) → o ≡ None → click_data s r (decode s.msg.body) o ≡ Some t → Keeps body s → Keeps body t
-  data_kept s t r None is e k = keeps_if (is_whole r (decode s.msg.body)) (with_match s r (decode s.msg.body) (span 0 (length (decode s.msg.body)))) t e (record { unclicked = k.unclicked; same = k.same })
-  data_kept s t r (Some o) is e k = absurd cc
+  data_kept : (s t : State) (r : Tree) (o : Click) → o ≡ Absent → click_data s r (decode s.msg.body) o ≡ Some t → Keeps body s → Keeps body t
+  data_kept s t r Absent is e k = keeps_if (is_whole r (decode s.msg.body)) (with_match s r (decode s.msg.body) (span 0 (length (decode s.msg.body)))) t e (record { unclicked = k.unclicked; same = k.same })
+  data_kept s t r Unread is e k = absurd cc
+  data_kept s t r (At n) is e k = absurd cc
 
   matches_kept : (s t : State) (f : Field) (o : Option Tree) → pattern_matches s f o ≡ Some t → Keeps body s → Keeps body t
   matches_kept s t f None e k = absurd cc

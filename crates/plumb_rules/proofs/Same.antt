@@ -1,6 +1,5 @@
 -- A rule that leaves the message as it is.
 use Rattle.std.proofs.Common.{◌≡◌, ℕ, Bool, true, false, cond, List, length, Option, Some, None, refl, ap, sym, subst, ◌∙◌}
-use Rattle.std.specs.Prelude.{is_none}
 use Rattle.std.specs.Str.{bytes_eq}
 use Rattle.std.proofs.lemmas.Bool.{false≢true}
 use Rattle.am_text.specs.Utf8.{decode, utf8}
@@ -13,11 +12,14 @@ use Rattle.rule_syntax.specs.declared.rule.Field.TheVariants.{Src, Dst, Wdir, So
 use Rattle.rule_syntax.specs.declared.rule.Rule.{Rule}
 use Rattle.rule_syntax.specs.declared.rule.Verb.{Verb}
 use Rattle.rule_syntax.specs.declared.rule.Verb.TheVariants as verb
-use Rattle.plumb_rules.specs.Attributes.{click_of}
+use Rattle.plumb_rules.specs.Attributes.{click_of, is_absent}
 use Rattle.plumb_rules.specs.Patterns.{pattern_of, is_whole}
 use Rattle.plumb_rules.specs.Routes.{and_then, spelled, rule_holds}
 use Rattle.plumb_rules.specs.Texts.{field_text, whole_name, data_name, argument_text}
-use Rattle.plumb_rules.specs.Verbs.{Nodes, with_match, click_data, pattern_matches, verb_done, rule_done, keeps_message}
+use Rattle.plumb_rules.specs.Verbs.{Nodes, with_match, click_data, pattern_matches, verb_done, rule_done}
+use Rattle.plumb_rules.specs.Unchanged.{keeps_message}
+use Rattle.plumb_rules.specs.declared.attributes.Click.{Click}
+use Rattle.plumb_rules.specs.declared.attributes.Click.TheVariants.{Absent, Unread, At}
 use Rattle.plumb_rules.specs.declared.state.State.{State}
 use Rattle.plumb_rules.proofs.Taken.{same_if}
 
@@ -31,9 +33,10 @@ module _ (s t : State) where
   same_where : (b : Bool) (u : State) → u.msg ≡ s.msg → cond b (Some u) None ≡ Some t → t.msg ≡ s.msg
   same_where b u h e = subst (λ (v : State). v.msg ≡ s.msg) (same_if b u t e).1 h
 
-  same_data : (r : Tree) (o : Option (Option ℕ)) → is_none o ≡ true → click_data s r (decode s.msg.body) o ≡ Some t → t.msg ≡ s.msg
-  same_data r None p e = same_where (is_whole r (decode s.msg.body)) (with_match s r (decode s.msg.body) (span 0 (length (decode s.msg.body)))) refl e
-  same_data r (Some o) p e = absurd (false≢true p)
+  same_data : (r : Tree) (o : Click) → is_absent o ≡ true → click_data s r (decode s.msg.body) o ≡ Some t → t.msg ≡ s.msg
+  same_data r Absent p e = same_where (is_whole r (decode s.msg.body)) (with_match s r (decode s.msg.body) (span 0 (length (decode s.msg.body)))) refl e
+  same_data r Unread p e = absurd (false≢true p)
+  same_data r (At n) p e = absurd (false≢true p)
 
   same_match : (f : Field) (o : Option Tree) → keeps_message s.msg (verb.Matches f) ≡ true → pattern_matches s f o ≡ Some t → t.msg ≡ s.msg
   same_match f None p e = absurd cc

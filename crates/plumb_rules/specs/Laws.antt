@@ -10,6 +10,7 @@ use Rattle.rule_syntax.specs.declared.rule.Rule.{Rule}
 use Rattle.rule_syntax.specs.declared.rule.Verb.{Verb}
 use Rattle.rule_syntax.specs.declared.rule.Verb.TheVariants as verb
 use Rattle.plumb_rules.specs.Attributes.{click_of}
+use Rattle.plumb_rules.specs.declared.attributes.Click.TheVariants.{Absent}
 use Rattle.plumb_rules.specs.Patterns.{expression_of}
 use Rattle.plumb_rules.specs.Routes.{set_route, own_route, route_of}
 use Rattle.plumb_rules.specs.Verbs.{Nodes}
@@ -21,19 +22,28 @@ TreesAreThose = (text : List ℕ) (r : Tree) → (expression_of text ≡ Some r)
 
 -- the first set that holds is taken, whatever follows it
 abbrev pub FirstSetIsTaken : Type 0
-FirstSetIsTaken = (tree : Nodes) (m : PlumbMsg) (before after : List (List Rule)) (rules : List Rule) (found : Route) → can_spell m ≡ true → AllByRecursion (λ s. set_route tree m s ≡ None) before → set_route tree m rules ≡ Some found → route_of tree (before ++ rules ∷ after) m ≡ Some found
+FirstSetIsTaken =
+    (tree : Nodes) (m : PlumbMsg) (before after : List (List Rule)) (rules : List Rule) (found : Route) →
+    can_spell m ≡ true → AllByRecursion (λ s. set_route tree m s ≡ None) before → set_route tree m rules ≡ Some found →
+    route_of tree (before ++ rules ∷ after) m ≡ Some found
 
 -- where no set holds the message goes to the port that it names
 abbrev pub ElseToItsPort : Type 0
-ElseToItsPort = (tree : Nodes) (m : PlumbMsg) (sets : List (List Rule)) → AllByRecursion (λ s. set_route tree m s ≡ None) sets → route_of tree sets m ≡ own_route m
+ElseToItsPort =
+    (tree : Nodes) (m : PlumbMsg) (sets : List (List Rule)) →
+    AllByRecursion (λ s. set_route tree m s ≡ None) sets → route_of tree sets m ≡ own_route m
 
 -- the message that is delivered to a port has it as dst
 abbrev pub PortIsDst : Type 0
-PortIsDst = (tree : Nodes) (sets : List (List Rule)) (m : PlumbMsg) (found : Route) (port : List ℕ) → route_of tree sets m ≡ Some found → found.port ≡ Some port → found.msg.dst ≡ port
+PortIsDst =
+    (tree : Nodes) (sets : List (List Rule)) (m : PlumbMsg) (found : Route) (port : List ℕ) →
+    route_of tree sets m ≡ Some found → found.port ≡ Some port → found.msg.dst ≡ port
 
 -- a message that can be spelled is delivered as one that can
 abbrev pub SpelledStaysSo : Type 0
-SpelledStaysSo = (tree : Nodes) (sets : List (List Rule)) (m : PlumbMsg) (found : Route) → can_spell m ≡ true → route_of tree sets m ≡ Some found → can_spell found.msg ≡ true
+SpelledStaysSo =
+    (tree : Nodes) (sets : List (List Rule)) (m : PlumbMsg) (found : Route) →
+    can_spell m ≡ true → route_of tree sets m ≡ Some found → can_spell found.msg ≡ true
 
 -- whether a rule sets the data, or adds attributes, among them maybe a click
 abbrev pub may_change_data : Verb → Bool
@@ -56,4 +66,7 @@ may_change_data verb.Client = false
 
 -- data that no rule sets are delivered as they came, byte by byte, where there is no click
 abbrev pub DataAreKept : Type 0
-DataAreKept = (tree : Nodes) (m : PlumbMsg) (rules : List Rule) (found : Route) → click_of m.attrs ≡ None → list_any (λ r. may_change_data r.verb) rules ≡ false → set_route tree m rules ≡ Some found → found.msg.body ≡ m.body
+DataAreKept =
+    (tree : Nodes) (m : PlumbMsg) (rules : List Rule) (found : Route) →
+    click_of m.attrs ≡ Absent → list_any (λ r. may_change_data r.verb) rules ≡ false →
+    set_route tree m rules ≡ Some found → found.msg.body ≡ m.body

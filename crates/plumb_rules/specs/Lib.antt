@@ -4,4 +4,5 @@ pub mod Laws
 pub mod Patterns
 pub mod Routes
 pub mod Texts
+pub mod Unchanged
 pub mod Verbs

@@ -1,4 +1,4 @@
--- Patterns: the expression that a text is, and the match at a click.
+-- Patterns: the expression that a text is, the match at a click, and its groups.
 use Rattle.std.specs.Prelude.{◌≤◌, ℕ, Bool, List, length, Option, Some, None, nat_le, if◌then◌else◌}
 use Rattle.am_text.specs.declared.range.Range.{Range}
 use Rattle.re_syntax.specs.Build.{finished}
@@ -6,8 +6,10 @@ use Rattle.re_syntax.specs.Match.{Matches}
 use Rattle.re_syntax.specs.Read.{Reading, begin, reads, is_complete}
 use Rattle.re_syntax.specs.Tree.{Tree, tree, nodes}
 use Rattle.re_syntax.specs.declared.re.Re.{Re}
+use Rattle.re_spans.specs.Groups.{groups_of}
 use Rattle.re_spans.specs.Over.{match_over}
 use Rattle.re_spans.specs.Search.{matches}
+use Rattle.plumb_rules.specs.declared.state.Matched.{Matched}
 
 abbrev pub tree_read : Option Reading → Option Tree
 tree_read None = None
@@ -37,6 +39,10 @@ is_whole r t = matches r t 0 (length t)
 -- that begin there the longest. There is none past the text's end.
 abbrev pub click_span : Tree → List ℕ → ℕ → Option Range
 click_span r t n = if nat_le n (length t) then match_over r t n else None
+
+-- a match of a text, with its groups
+abbrev pub matched : Tree → List ℕ → Range → Matched
+matched r t found = record { text = t; groups = groups_of r t found }
 
 -- a match inside a text
 pub record IsMatchIn (r : Tree) (t : List ℕ) (s : Range) : Type 0 where

@@ -1,5 +1,5 @@
 -- What each verb does. None where the rule doesn't hold.
-use Rattle.std.specs.Prelude.{ℕ, Bool, true, false, List, [], length, slice_range, Option, Some, None, is_none, if◌then◌else◌}
+use Rattle.std.specs.Prelude.{ℕ, List, length, slice_range, Option, Some, None, if◌then◌else◌}
 use Rattle.std.specs.Str.{bytes_eq}
 use Rattle.am_text.specs.Utf8.{decode, utf8}
 use Rattle.am_text.specs.declared.range.Range.{Range}
@@ -8,7 +8,7 @@ use Rattle.name_tree.specs.declared.types.Node.{Node}
 use Rattle.plumb_msg.specs.Attributes.{attrs_of}
 use Rattle.plumb_msg.specs.declared.message.Attr.{Attr}
 use Rattle.plumb_msg.specs.declared.message.PlumbMsg.{PlumbMsg}
-use Rattle.re_spans.specs.Groups.{span, groups_of}
+use Rattle.re_spans.specs.Groups.{span}
 use Rattle.re_syntax.specs.Tree.{Tree}
 use Rattle.rule_syntax.specs.declared.rule.Field.{Field}
 use Rattle.rule_syntax.specs.declared.rule.Field.TheVariants.{Src, Dst, Wdir, Sort, Data}
@@ -16,10 +16,12 @@ use Rattle.rule_syntax.specs.declared.rule.Rule.{Rule}
 use Rattle.rule_syntax.specs.declared.rule.Verb.{Verb}
 use Rattle.rule_syntax.specs.declared.rule.Verb.TheVariants as verb
 use Rattle.plumb_rules.specs.Attributes.{with_attrs, without_attr, click_of, unclicked}
-use Rattle.plumb_rules.specs.Patterns.{pattern_of, is_whole, click_span}
+use Rattle.plumb_rules.specs.Patterns.{pattern_of, is_whole, click_span, matched}
 use Rattle.plumb_rules.specs.Texts.{field_text, with_field, whole_name, data_name, argument_text}
 use Rattle.plumb_rules.specs.declared.answer.Way.{Way}
 use Rattle.plumb_rules.specs.declared.answer.Way.TheVariants.{Start, Client}
+use Rattle.plumb_rules.specs.declared.attributes.Click.{Click}
+use Rattle.plumb_rules.specs.declared.attributes.Click.TheVariants.{Absent, Unread, At}
 use Rattle.plumb_rules.specs.declared.state.State.{State}
 
 -- files and directories, each with its path
@@ -38,7 +40,7 @@ set s f text = Some (record s { msg = with_field s.msg f text })
 
 -- with the match of a text
 abbrev pub with_match : State → Tree → List ℕ → Range → State
-with_match s r text found = record s { matched = Some (record { text = text; groups = groups_of r text found }) }
+with_match s r text found = record s { matched = Some (matched r text found) }
 
 -- the whole data match
 abbrev pub whole_data : State → Tree → List ℕ → Option State
@@ -52,10 +54,10 @@ abbrev pub clicked : State → Tree → List ℕ → Option Range → Option Sta
 clicked s r text None = None
 clicked s r text (Some found) = Some (with_match (record s { msg = clicked_msg s.msg text found }) r text found)
 
-abbrev pub click_data : State → Tree → List ℕ → Option (Option ℕ) → Option State
-click_data s r text None = whole_data s r text
-click_data s r text (Some None) = None
-click_data s r text (Some (Some n)) = clicked s r text (click_span r text n)
+abbrev pub click_data : State → Tree → List ℕ → Click → Option State
+click_data s r text Absent = whole_data s r text
+click_data s r text Unread = None
+click_data s r text (At n) = clicked s r text (click_span r text n)
 
 abbrev pub data_matches : State → Tree → Option State
 data_matches s r = click_data s r (decode s.msg.body) (click_of s.msg.attrs)
@@ -125,25 +127,6 @@ verb_done tree s verb.Delete text = delete s text
 verb_done tree s verb.To text = to s text
 verb_done tree s verb.Start text = by_way s (Start text)
 verb_done tree s verb.Client text = by_way s (Client text)
-
--- whether a rule with this verb leaves the message as it is, where it holds
-abbrev pub keeps_message : PlumbMsg → Verb → Bool
-keeps_message m (verb.Is f) = true
-keeps_message m (verb.Matches Src) = true
-keeps_message m (verb.Matches Dst) = true
-keeps_message m (verb.Matches Wdir) = true
-keeps_message m (verb.Matches Sort) = true
-keeps_message m (verb.Matches Data) = is_none (click_of m.attrs)
-keeps_message m (verb.Set f) = false
-keeps_message m verb.ArgIsFile = true
-keeps_message m verb.ArgIsDir = true
-keeps_message m verb.DataIsFile = true
-keeps_message m verb.DataIsDir = true
-keeps_message m verb.Add = false
-keeps_message m verb.Delete = false
-keeps_message m verb.To = true
-keeps_message m verb.Start = true
-keeps_message m verb.Client = true
 
 abbrev pub rule_done : Nodes → State → Rule → Option State
 rule_done tree s r = verb_done tree s r.verb (argument_text s r.argument)

@@ -3,14 +3,14 @@
 use am_text::{Bytes, Runes};
 use plumb_msg::PlumbMsg;
 
-/// What is done where the port isn't open.
+/// What is done where the port isn't open. Where there is no port the command is always started, and nothing is kept.
 #[derive(Drop)]
 pub enum Way {
     /// Nothing: the message goes to the port alone.
     Port,
     /// The command is started, and the message isn't kept.
     Start(Runes),
-    /// The command is started, and the message is kept for the port.
+    /// The command is started, and the message is kept for the port, if there is one.
     Client(Runes),
 }
 

@@ -1,9 +1,11 @@
 //! Attributes of a message: the value of one, put in place of one, and taken away.
 
-ghost use Rattle.std.specs.Prelude.{◌≡◌, ◌<◌, not, length, option_copied, IfOk, IfSome};
-ghost use Rattle.plumb_rules.specs.Attributes.{has_name, attr_value, place_from, put_at, with_attr, with_attrs, without_attr, click_of, unclicked};
+ghost use Rattle.std.specs.Prelude.{◌≡◌, not, option_copied, IfOk};
+ghost use Rattle.am_text.specs.Number.{number_of};
+ghost use Rattle.plumb_rules.specs.Attributes.{has_name, attr_value, with_attrs, without_attr, is_absent, click_read, click_of, unclicked};
 
 use crate::message::copied_attr;
+use crate::placed::PlacedAttrs;
 use am_text::{Items, NoMemory, read_decimal};
 use plumb_msg::{Attr, Attrs};
 use std::alloc::Global;
@@ -22,49 +24,16 @@ fn attr_value<'a>(attrs: &'a [Attr], name: &[u8]) -> Option<&'a [u8]>
     None
 }
 
-// The place of the attribute with this name.
-#[tactic(auto, using(crate::proofs::Further::places))]
-fn place_of(attrs: &[Attr], name: &[u8]) -> Option<usize>
-    ensures value { result ≡ place_from 0 attrs.now name.now }
-    ensures inside { IfSome result (λ i. i < length attrs.now) }
-{
-    for (i, attr) in attrs.iter().enumerate() {
-        if attr.name.as_slice() == name {
-            return Some(i);
-        }
-    }
-    None
-}
-
-fn put_at(attrs: Attrs, place: Option<usize>, attr: Attr) -> Result<Attrs, NoMemory>
-    requires { IfSome place (λ i. i < length attrs) }
-    ensures { IfOk result (λ new. new ≡ put_at place attrs attr) }
-{
-    let mut all = attrs.into_vec();
-    match place {
-        None => all.push(attr)?,
-        Some(i) => all[i] = attr,
-    }
-    Ok(Items::from_vec(all))
-}
-
-fn with_attr(attrs: Attrs, attr: Attr) -> Result<Attrs, NoMemory>
-    ensures { IfOk result (λ new. new ≡ with_attr attrs attr) }
-{
-    let place = place_of(attrs.as_slice(), attr.name.as_slice());
-    put_at(attrs, place, attr)
-}
-
 /// With these attributes, each in place of the one with its name, or at the end.
 #[tactic(auto, using(crate::proofs::Further::additions))]
 pub fn with_attrs(alloc: Global, attrs: Attrs, more: &[Attr]) -> Result<Attrs, NoMemory>
     ensures { IfOk result (λ new. new ≡ with_attrs attrs more.now) }
 {
-    let mut all = attrs;
+    let mut all = PlacedAttrs::of(alloc, attrs)?;
     for attr in more {
-        all = with_attr(all, copied_attr(alloc, attr)?)?;
+        all = all.with(alloc, copied_attr(alloc, attr)?)?;
     }
-    Ok(all)
+    Ok(all.into_attrs())
 }
 
 fn is_other(attr: &Attr, name: &[u8]) -> bool
@@ -88,14 +57,44 @@ pub fn without_attr(attrs: Attrs, name: &[u8]) -> Attrs
     Items::from_vec(all)
 }
 
-/// Whether a message has a click, and its place where that is a decimal.
+/// The click of a message: its place in the data.
+#[derive(Clone, Copy, Debug, PartialEq, Eq)]
+pub enum Click {
+    /// There is none.
+    Absent,
+    /// There is one that is no decimal.
+    Unread,
+    /// There is one at this place.
+    At(u64),
+}
+
+/// Whether there is no click.
+pub fn is_absent(click: Click) -> bool
+    ensures { result ≡ is_absent click }
+{
+    match click {
+        Click::Absent => true,
+        _ => false,
+    }
+}
+
+fn click_read(value: &[u8]) -> Click
+    ensures { result ≡ click_read (number_of value.now) }
+{
+    match read_decimal(value) {
+        None => Click::Unread,
+        Some(place) => Click::At(place),
+    }
+}
+
+/// The click of a message with these attributes.
 #[tactic(auto, unfolding(crate::specs::Attributes::click_of))]
-pub fn click_of(attrs: &[Attr]) -> Option<Option<u64>>
+pub fn click_of(attrs: &[Attr]) -> Click
     ensures { result ≡ click_of attrs.now }
 {
     match attr_value(attrs, b"click") {
-        None => None,
-        Some(value) => Some(read_decimal(value)),
+        None => Click::Absent,
+        Some(value) => click_read(value),
     }
 }
 

@@ -3,11 +3,12 @@
 
 mod answer;
 mod attributes;
-mod click;
 mod draft;
 mod laws;
+mod matching;
 mod message;
 mod pattern;
+mod placed;
 mod routing;
 mod sets;
 mod state;

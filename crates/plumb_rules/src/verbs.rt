@@ -3,19 +3,19 @@
 ghost use Rattle.std.specs.Prelude.{◌≡◌, IfOk};
 ghost use Rattle.re_syntax.specs.Tree.{tree};
 ghost use Rattle.plumb_rules.specs.Patterns.{click_span, IsMatchIn};
-ghost use Rattle.plumb_rules.specs.Verbs.{keeps_message, is_text, set, with_match, whole_data, clicked_msg, clicked, click_data, data_matches, field_matches, tree_matches, matches, isfile, isdir, add, delete, to, by_way, verb_done, rule_done};
+ghost use Rattle.plumb_rules.specs.Unchanged.{keeps_message};
+ghost use Rattle.plumb_rules.specs.Verbs.{is_text, set, with_match, whole_data, clicked_msg, clicked, click_data, data_matches, field_matches, tree_matches, matches, isfile, isdir, add, delete, to, by_way, verb_done, rule_done};
 
 use crate::answer::Way;
-use crate::attributes::{click_of, unclicked, with_attrs, without_attr};
-use crate::click::click_span;
+use crate::attributes::{Click, click_of, is_absent, unclicked, with_attrs, without_attr};
 use crate::draft::Draft;
-use crate::pattern::{is_whole, pattern_of};
-use crate::state::{Matched, State};
+use crate::matching::{click_span, is_whole, matched};
+use crate::pattern::pattern_of;
+use crate::state::State;
 use crate::texts::{argument_text, data_name, field_text, part_of, whole_name, with_field};
 use am_text::{Items, NoMemory, Range, Runes, encode};
 use name_tree::Tree;
 use plumb_msg::{PlumbMsg, read_attrs};
-use re_spans::groups;
 use re_syntax::Re;
 use rule_syntax::{Field, Rule, Verb};
 use std::alloc::Global;
@@ -30,7 +30,7 @@ pub fn keeps_message(msg: &PlumbMsg, verb: Verb) -> bool
         Verb::Matches(Field::Dst) => true,
         Verb::Matches(Field::Wdir) => true,
         Verb::Matches(Field::Sort) => true,
-        Verb::Matches(Field::Data) => click_of(msg.attrs.as_slice()).is_none(),
+        Verb::Matches(Field::Data) => is_absent(click_of(msg.attrs.as_slice())),
         Verb::Set(_) => false,
         Verb::ArgIsFile => true,
         Verb::ArgIsDir => true,
@@ -87,11 +87,8 @@ fn with_match<'a>(
     requires { IsMatchIn (tree re.now) text found }
     ensures { IfOk result (λ s. s ≡ with_match state.entry (tree re.now) text found) }
 {
-    let groups = groups(alloc, re, &text, found)?;
-    Ok(State {
-        matched: Some(Matched { text, groups }),
-        ..state
-    })
+    let matched = Some(matched(alloc, re, text, found)?);
+    Ok(State { matched, ..state })
 }
 
 // The whole data match.
@@ -153,9 +150,9 @@ fn data_matches<'a>(alloc: Global, state: State<'a>, re: &Re) -> Result<Option<S
 {
     let text = field_text(alloc, state.msg.get(), Field::Data)?;
     match click_of(state.msg.get().attrs.as_slice()) {
-        None => whole_data(alloc, state, re, text),
-        Some(None) => Ok(None),
-        Some(Some(at)) => clicked(alloc, state, re, text, at),
+        Click::Absent => whole_data(alloc, state, re, text),
+        Click::Unread => Ok(None),
+        Click::At(at) => clicked(alloc, state, re, text, at),
     }
 }
 

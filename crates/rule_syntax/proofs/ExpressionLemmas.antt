@@ -14,8 +14,9 @@ use Rattle.am_text.specs.declared.memory.NoMemory.{NoMemory}
 use Rattle.re_syntax.specs.Read.{Reading, begin, reads, is_complete}
 use Rattle.re_syntax.proofs.Sound.{whole}
 use Rattle.re_syntax.proofs.Complete.{complete_read}
-use Rattle.rule_syntax.specs.Expressions.{size_read, size_of, parsed_large, HasSize}
-use Rattle.rule_syntax.specs.Verbs.{large_of}
+use Rattle.rule_syntax.specs.Expressions.{size_read, size_of, size_fit, parsed_fit, HasSize}
+use Rattle.rule_syntax.specs.declared.fit.Fit.{Fit}
+use Rattle.rule_syntax.specs.declared.fit.Fit.TheVariants.{Unfit, Fits, TooLarge}
 
 tree_is : (r s : Tree) → Some r ≡ Some s → r ≡ s
 tree_is r s e = cc
@@ -60,11 +61,11 @@ whole_slice text = take_all (length text - 0) text (omega arith)
 pub read_whole : (text : List ℕ) (end : ℕ) (r : Tree) → IsRead None text 0 end r → IsExpression None text r
 read_whole text end r is = subst (λ (t : List ℕ). IsExpression None t r) (ap (λ (n : ℕ). slice_range text 0 n) (at_end text end is.ends) ∙ whole_slice text) is.written
 
-pub large_ok : (text : List ℕ) (end : ℕ) (r : Tree) → IsRead None text 0 end r → nodes r ≤ 2048 → Some false ≡ large_of (size_of text)
-large_ok text end r is small = sym (ap large_of (sized text r (read_whole text end r is)) ∙ ap (λ (t : Bool). Some t) (le-ltb 2049 (nodes r + 1) (omega arith)))
+pub fit_ok : (text : List ℕ) (end : ℕ) (r : Tree) → IsRead None text 0 end r → nodes r ≤ 2048 → Fits ≡ size_fit (size_of text)
+fit_ok text end r is small = sym (ap size_fit (sized text r (read_whole text end r is)) ∙ ap (λ (t : Bool). cond t TooLarge Fits) (le-ltb 2049 (nodes r + 1) (omega arith)))
 
-pub large_nodes : (text : List ℕ) (end : ℕ) (r : Tree) → IsRead None text 0 end r → 2048 < nodes r → Some true ≡ large_of (size_of text)
-large_nodes text end r is large = sym (ap large_of (sized text r (read_whole text end r is)) ∙ ap (λ (t : Bool). Some t) (lt-ltb 2049 (nodes r + 1) (omega arith)))
+pub fit_nodes : (text : List ℕ) (end : ℕ) (r : Tree) → IsRead None text 0 end r → 2048 < nodes r → TooLarge ≡ size_fit (size_of text)
+fit_nodes text end r is large = sym (ap size_fit (sized text r (read_whole text end r is)) ∙ ap (λ (t : Bool). cond t TooLarge Fits) (lt-ltb 2049 (nodes r + 1) (omega arith)))
 
 -- the text is no expression, where none goes on from it or it only stops short
 pub never_written : (text : List ℕ) (place : ℕ) → IsBad None text 0 place → (r : Tree) → IsExpression None text r → ⊥
@@ -78,15 +79,15 @@ never_written text place bad r is = elim (cases_lt place (length text)) [
     goes_on : (n : ℕ) → GoesOn None (slice_range text 0 n)
     goes_on n = (drop (n - 0) text, r, subst (λ (t : List ℕ). IsExpression None t r) (sym (take-append-drop (n - 0) text)) is)
 
-large_bad : (text : List ℕ) (place : ℕ) → IsBad None text 0 place → None ≡ large_of (size_of text)
-large_bad text place bad = of (size_of text) refl
+fit_bad : (text : List ℕ) (place : ℕ) → IsBad None text 0 place → Unfit ≡ size_fit (size_of text)
+fit_bad text place bad = of (size_of text) refl
   where
-    of : (o : Option ℕ) → size_of text ≡ o → None ≡ large_of o
+    of : (o : Option ℕ) → size_of text ≡ o → Unfit ≡ size_fit o
     of None e = refl
     of (Some n) e = absurd (let u = unsized text n e in never_written text place bad u.0 u.1)
 
-pub large_is : (text : List ℕ) (r : Result (Re × ℕ) ReFault) (o : Result (Option Bool) NoMemory) → o ≡ parsed_large r → IfOk r (λ a. IsRead None text 0 a.1 (tree a.0)) → IfOk r (λ a. nodes (tree a.0) ≤ 2048) → IfErr r (Refuses None text 0) → IfOk o (λ large. large ≡ large_of (size_of text))
-large_is text (Ok a) o e read small refused = subst (λ (x : Result (Option Bool) NoMemory). IfOk x (λ large. large ≡ large_of (size_of text))) (sym e) (large_ok text a.1 (tree a.0) read small)
-large_is text (Err fault.Nodes) o e read small refused = subst (λ (x : Result (Option Bool) NoMemory). IfOk x (λ large. large ≡ large_of (size_of text))) (sym e) (large_nodes text refused.0 refused.1 refused.2 refused.3)
-large_is text (Err (fault.Bad place)) o e read small refused = subst (λ (x : Result (Option Bool) NoMemory). IfOk x (λ large. large ≡ large_of (size_of text))) (sym e) (large_bad text place refused)
-large_is text (Err fault.NoMemory) o e read small refused = subst (λ (x : Result (Option Bool) NoMemory). IfOk x (λ large. large ≡ large_of (size_of text))) (sym e) tt
+pub fit_is : (text : List ℕ) (r : Result (Re × ℕ) ReFault) (o : Result Fit NoMemory) → o ≡ parsed_fit r → IfOk r (λ a. IsRead None text 0 a.1 (tree a.0)) → IfOk r (λ a. nodes (tree a.0) ≤ 2048) → IfErr r (Refuses None text 0) → IfOk o (λ fit. fit ≡ size_fit (size_of text))
+fit_is text (Ok a) o e read small refused = subst (λ (x : Result Fit NoMemory). IfOk x (λ fit. fit ≡ size_fit (size_of text))) (sym e) (fit_ok text a.1 (tree a.0) read small)
+fit_is text (Err fault.Nodes) o e read small refused = subst (λ (x : Result Fit NoMemory). IfOk x (λ fit. fit ≡ size_fit (size_of text))) (sym e) (fit_nodes text refused.0 refused.1 refused.2 refused.3)
+fit_is text (Err (fault.Bad place)) o e read small refused = subst (λ (x : Result Fit NoMemory). IfOk x (λ fit. fit ≡ size_fit (size_of text))) (sym e) (fit_bad text place refused)
+fit_is text (Err fault.NoMemory) o e read small refused = subst (λ (x : Result Fit NoMemory). IfOk x (λ fit. fit ≡ size_fit (size_of text))) (sym e) tt

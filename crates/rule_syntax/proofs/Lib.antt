@@ -1,3 +1,4 @@
 pub mod ArgumentLemmas
 pub mod ExpressionLemmas
 pub mod ParsingLemmas
+pub mod PartLemmas

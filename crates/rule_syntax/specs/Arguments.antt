@@ -99,9 +99,13 @@ ended_at (Name name) vars pieces = Some (pieces ++ named vars name)
 abbrev pub ended : List Var → Reader → Option (List Piece)
 ended vars r = ended_at r.mode vars r.pieces
 
+-- what a text is read as
+abbrev pub text_pieces : List Var → List ℕ → Option (List Piece)
+text_pieces vars text = ended vars (reads vars (reader [] Plain) text)
+
 -- the argument of a text; blanks at its end are dropped
 abbrev pub argument_of : List Var → List ℕ → Option (List Piece)
-argument_of vars raw = ended vars (reads vars (reader [] Plain) (trimmed raw))
+argument_of vars raw = text_pieces vars (trimmed raw)
 
 -- ---- texts
 

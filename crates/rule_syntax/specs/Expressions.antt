@@ -1,5 +1,5 @@
 -- Which texts are expressions, and how large they are.
-use Rattle.std.specs.Prelude.{◌≡◌, ◌+◌, ℕ, Bool, true, false, List, Option, Some, None, Result, Ok, Err, if◌then◌else◌}
+use Rattle.std.specs.Prelude.{◌≡◌, ◌+◌, ℕ, nat_lt, List, Option, Some, None, Result, Ok, Err, if◌then◌else◌}
 use Rattle.am_text.specs.declared.memory.NoMemory.{NoMemory}
 use Rattle.re_syntax.specs.declared.re.Re.{Re}
 use Rattle.re_syntax.specs.declared.re.ReFault.{ReFault}
@@ -7,6 +7,8 @@ use Rattle.re_syntax.specs.declared.re.ReFault.TheVariants as fault
 use Rattle.re_syntax.specs.Tree.{Tree, nodes}
 use Rattle.re_syntax.specs.Grammar.{IsExpression}
 use Rattle.re_syntax.specs.Read.{Reading, begin, reads, is_complete}
+use Rattle.rule_syntax.specs.declared.fit.Fit.{Fit}
+use Rattle.rule_syntax.specs.declared.fit.Fit.TheVariants.{Unfit, Fits, TooLarge}
 
 abbrev pub size_read : Option Reading → Option ℕ
 size_read None = None
@@ -16,12 +18,17 @@ size_read (Some m) = if is_complete m.scanner then Some m.size else None
 unfoldable pub size_of : List ℕ → Option ℕ
 size_of text = size_read (reads (Some (begin None)) text)
 
--- what parsing tells of the size: whether it is too large
-abbrev pub parsed_large : Result (Re × ℕ) ReFault → Result (Option Bool) NoMemory
-parsed_large (Ok found) = Ok (Some false)
-parsed_large (Err fault.Nodes) = Ok (Some true)
-parsed_large (Err (fault.Bad place)) = Ok None
-parsed_large (Err fault.NoMemory) = Err (record {})
+-- how a text of this size fits as an expression: its tree has at most 2,048 nodes
+abbrev pub size_fit : Option ℕ → Fit
+size_fit None = Unfit
+size_fit (Some n) = if nat_lt 2049 n then TooLarge else Fits
+
+-- the same of what parsing answers
+abbrev pub parsed_fit : Result (Re × ℕ) ReFault → Result Fit NoMemory
+parsed_fit (Ok found) = Ok Fits
+parsed_fit (Err fault.Nodes) = Ok TooLarge
+parsed_fit (Err (fault.Bad place)) = Ok Unfit
+parsed_fit (Err fault.NoMemory) = Err (record {})
 
 -- A text has a size exactly where it is an expression, and it is one more than the nodes of its tree.
 pub record HasSize : Type 0 where

@@ -1,5 +1,6 @@
 pub mod Arguments
 pub mod Expressions
+pub mod Laws
 pub mod Parsing
 pub mod Verbs
 pub mod Words

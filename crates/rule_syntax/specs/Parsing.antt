@@ -1,11 +1,13 @@
 -- Texts of rules, line by line.
-use Rattle.std.specs.Prelude.{◌≡◌, ℕ, ◌+◌, Bool, false, ◌&&◌, ◌||◌, ◌==◌, not, List, [], ◌∷◌, ◌++◌, length, Option, Some, None, Result, Ok, Err, if◌then◌else◌}
+use Rattle.std.specs.Prelude.{◌≡◌, ℕ, ◌+◌, Bool, true, false, ◌&&◌, ◌||◌, ◌==◌, not, List, [], ◌∷◌, ◌++◌, length, Option, Some, None, Result, Ok, Err, if◌then◌else◌}
 use Rattle.am_text.specs.Lines.{lines_of}
 use Rattle.rule_syntax.specs.Words.{word, after_word, after_gaps, after_blanks, trimmed, name_part, after_name, is_blank_line, is_comment, begins_with_digit}
 use Rattle.rule_syntax.specs.Arguments.{argument_of, runes_of}
-use Rattle.rule_syntax.specs.Verbs.{verb_of, needs_none, checked, is_repeated, plumbs}
+use Rattle.rule_syntax.specs.Verbs.{verb_of, needs_none, argument_fit, is_repeated, plumbs}
 use Rattle.rule_syntax.specs.declared.fault.RuleFault.{RuleFault}
 use Rattle.rule_syntax.specs.declared.fault.RuleFault.TheVariants.{Bad, Nodes, NoMemory}
+use Rattle.rule_syntax.specs.declared.fit.Fit.{Fit}
+use Rattle.rule_syntax.specs.declared.fit.Fit.TheVariants as fit
 use Rattle.rule_syntax.specs.declared.parsing.State.{State}
 use Rattle.rule_syntax.specs.declared.rule.Piece.{Piece}
 use Rattle.rule_syntax.specs.declared.rule.Rule.{Rule}
@@ -39,13 +41,18 @@ rule v pieces = record { verb = v; argument = pieces }
 abbrev pub with_rule : State → Rule → Bool → State
 with_rule s r large = record s { rules = s.rules ++ r ∷ []; large = s.large || large }
 
-abbrev pub rule_checked : State → Rule → Option Bool → Option State
-rule_checked s r None = None
-rule_checked s r (Some large) = if is_repeated r.verb s.rules then None else Some (with_rule s r large)
+-- a set has some rules once
+abbrev pub rule_added : State → Rule → Bool → Option State
+rule_added s r large = if is_repeated r.verb s.rules then None else Some (with_rule s r large)
+
+abbrev pub rule_judged : State → Rule → Fit → Option State
+rule_judged s r fit.Unfit = None
+rule_judged s r fit.Fits = rule_added s r false
+rule_judged s r fit.TooLarge = rule_added s r true
 
 abbrev pub rule_told : State → Verb → Option (List Piece) → Option State
 rule_told s v None = None
-rule_told s v (Some pieces) = rule_checked s (rule v pieces) (checked v pieces)
+rule_told s v (Some pieces) = rule_judged s (rule v pieces) (argument_fit v pieces)
 
 -- a rule with this text for its argument
 abbrev pub rule_from : State → Option Verb → List ℕ → Option State

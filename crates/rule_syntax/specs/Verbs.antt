@@ -1,10 +1,12 @@
 -- Objects and verbs of rules, and what their arguments have to be.
-use Rattle.std.specs.Prelude.{ℕ, Bool, true, false, ◌&&◌, ◌||◌, ◌==◌, not, nat_lt, nat_le, List, [], ◌∷◌, length, Option, Some, None, if◌then◌else◌, codes}
+use Rattle.std.specs.Prelude.{ℕ, Bool, true, false, ◌&&◌, ◌||◌, ◌==◌, not, nat_le, List, [], ◌∷◌, length, Option, Some, None, if◌then◌else◌, codes}
 use Rattle.std.specs.List.{list_all, list_any}
 use Rattle.std.specs.Str.{bytes_eq}
 use Rattle.rule_syntax.specs.Words.{is_name_rune}
 use Rattle.rule_syntax.specs.Arguments.{is_literal, runes_of}
-use Rattle.rule_syntax.specs.Expressions.{size_of}
+use Rattle.rule_syntax.specs.Expressions.{size_of, size_fit}
+use Rattle.rule_syntax.specs.declared.fit.Fit.{Fit}
+use Rattle.rule_syntax.specs.declared.fit.Fit.TheVariants.{Unfit, Fits}
 use Rattle.rule_syntax.specs.declared.rule.Field.{Field}
 use Rattle.rule_syntax.specs.declared.rule.Field.TheVariants.{Src, Dst, Wdir, Sort, Data}
 use Rattle.rule_syntax.specs.declared.rule.Verb.{Verb}
@@ -86,32 +88,27 @@ is_taken name = bytes_eq name (codes "send") || bytes_eq name (codes "rules")
 unfoldable pub is_port_name : List ℕ → Bool
 is_port_name name = if nat_le 1 (length name) && nat_le (length name) 64 then are_port_runes name && not (is_taken name) else false
 
--- whether the expression is too large; there is none where it is no expression
-abbrev pub large_of : Option ℕ → Option Bool
-large_of None = None
-large_of (Some n) = Some (nat_lt 2049 n)
-
 -- an expression with variables is read when matched
-abbrev pub large_pattern : List Piece → Option Bool
-large_pattern pieces = if is_literal pieces then large_of (size_of (runes_of pieces)) else Some false
+abbrev pub pattern_fit : List Piece → Fit
+pattern_fit pieces = if is_literal pieces then size_fit (size_of (runes_of pieces)) else Fits
 
-abbrev pub port_told : List Piece → Option Bool
-port_told pieces = if is_literal pieces && is_port_name (runes_of pieces) then Some false else None
+abbrev pub port_fit : List Piece → Fit
+port_fit pieces = if is_literal pieces && is_port_name (runes_of pieces) then Fits else Unfit
 
--- whether the expression of the rule is too large; there is none where the argument is none for the verb
-abbrev pub checked : Verb → List Piece → Option Bool
-checked (verb.Is f) pieces = Some false
-checked (verb.Matches f) pieces = large_pattern pieces
-checked (verb.Set f) pieces = Some false
-checked verb.ArgIsFile pieces = Some false
-checked verb.ArgIsDir pieces = Some false
-checked verb.DataIsFile pieces = Some false
-checked verb.DataIsDir pieces = Some false
-checked verb.Add pieces = Some false
-checked verb.Delete pieces = Some false
-checked verb.To pieces = port_told pieces
-checked verb.Start pieces = Some false
-checked verb.Client pieces = Some false
+-- how the argument fits the verb
+abbrev pub argument_fit : Verb → List Piece → Fit
+argument_fit (verb.Is f) pieces = Fits
+argument_fit (verb.Matches f) pieces = pattern_fit pieces
+argument_fit (verb.Set f) pieces = Fits
+argument_fit verb.ArgIsFile pieces = Fits
+argument_fit verb.ArgIsDir pieces = Fits
+argument_fit verb.DataIsFile pieces = Fits
+argument_fit verb.DataIsDir pieces = Fits
+argument_fit verb.Add pieces = Fits
+argument_fit verb.Delete pieces = Fits
+argument_fit verb.To pieces = port_fit pieces
+argument_fit verb.Start pieces = Fits
+argument_fit verb.Client pieces = Fits
 
 -- ---- what a set has once
 

@@ -4,6 +4,7 @@
 mod argument;
 mod expression;
 mod fault;
+mod fit;
 mod laws;
 mod parsing;
 mod rule;
@@ -11,7 +12,7 @@ mod verbs;
 mod words;
 
 pub use fault::RuleFault;
-pub use laws::expressions_have_sizes;
+pub use laws::{arguments_are_read_in_parts, expressions_have_sizes};
 pub use parsing::parse_rules;
 pub use rule::{Argument, Field, Late, Piece, Rule, RuleSets, Rules, Var, Vars, Verb};
 

@@ -3,12 +3,13 @@
 ghost use Rattle.std.specs.Prelude.{◌≡◌, IfOk, IfErr, Ok, option_copied};
 ghost use Rattle.am_text.specs.Lines.{lines_of};
 ghost use Rattle.am_text.specs.Utf8.{decode};
-ghost use Rattle.rule_syntax.specs.Parsing.{after_equals, value_text, defined, rule_checked, rule_told, rule_from, rule_line, definition_or_rule, set_ended, line_read, told, end_told, lines_read, begun, rules_of, Refuses};
+ghost use Rattle.rule_syntax.specs.Parsing.{after_equals, value_text, defined, rule_added, rule_judged, rule_told, rule_from, rule_line, definition_or_rule, set_ended, line_read, told, end_told, lines_read, begun, rules_of, Refuses};
 
 use crate::argument::{argument_of, runes_of};
 use crate::fault::RuleFault;
+use crate::fit::Fit;
 use crate::rule::{Argument, Rule, RuleSets, Rules, Var, Vars, Verb};
-use crate::verbs::{checked, is_repeated, needs_none, plumbs, verb_of};
+use crate::verbs::{argument_fit, is_repeated, needs_none, plumbs, verb_of};
 use crate::words::{
     after_blanks, after_gaps, begins_with_digit, cut_line, is_blank_line, is_comment, split_name,
     split_word, trimmed,
@@ -66,12 +67,10 @@ fn defined(
     Ok(Some(state))
 }
 
-fn rule_checked(state: State, rule: Rule, large: Option<bool>) -> Result<Option<State>, NoMemory>
-    ensures { IfOk result (λ s. s ≡ rule_checked state rule large) }
+// A set has some rules once.
+fn rule_added(state: State, rule: Rule, large: bool) -> Result<Option<State>, NoMemory>
+    ensures { IfOk result (λ s. s ≡ rule_added state rule large) }
 {
-    let Some(large) = large else {
-        return Ok(None);
-    };
     if is_repeated(rule.verb, state.rules.as_slice()) {
         return Ok(None);
     }
@@ -79,6 +78,16 @@ fn rule_checked(state: State, rule: Rule, large: Option<bool>) -> Result<Option<
     state.rules.push(rule)?;
     state.large = state.large || large;
     Ok(Some(state))
+}
+
+fn rule_judged(state: State, rule: Rule, fit: Fit) -> Result<Option<State>, NoMemory>
+    ensures { IfOk result (λ s. s ≡ rule_judged state rule fit) }
+{
+    match fit {
+        Fit::Unfit => Ok(None),
+        Fit::Fits => rule_added(state, rule, false),
+        Fit::TooLarge => rule_added(state, rule, true),
+    }
 }
 
 fn rule_told(
@@ -92,8 +101,8 @@ fn rule_told(
     let Some(argument) = argument else {
         return Ok(None);
     };
-    let large = checked(alloc, verb, argument.as_slice())?;
-    rule_checked(state, Rule { verb, argument }, large)
+    let fit = argument_fit(alloc, verb, argument.as_slice())?;
+    rule_judged(state, Rule { verb, argument }, fit)
 }
 
 fn rule_from(

@@ -36,9 +36,9 @@ pub enum Verb {
     Delete,
     /// `plumb to`: the port.
     To,
-    /// `plumb start`: the command that is started where the port isn't open.
+    /// `plumb start`: the command that is started where the port isn't open, and always where there is none.
     Start,
-    /// `plumb client`: the same, and the message is kept for the port.
+    /// `plumb client`: the same, and the message is kept for the port, if there is one.
     Client,
 }
 

@@ -1,10 +1,11 @@
 //! Objects and verbs of rules, and what their arguments have to be.
 
 ghost use Rattle.std.specs.Prelude.{◌≡◌, IfOk};
-ghost use Rattle.rule_syntax.specs.Verbs.{field_of, text_verb, data_verb, field_verb, arg_verb, attr_verb, plumb_verb, verb_of, needs_none, is_port_rune, are_port_runes, is_taken, is_port_name, large_pattern, port_told, checked, is_to, is_request, any_to, any_request, is_repeated, plumbs};
+ghost use Rattle.rule_syntax.specs.Verbs.{field_of, text_verb, data_verb, field_verb, arg_verb, attr_verb, plumb_verb, verb_of, needs_none, is_port_rune, are_port_runes, is_taken, is_port_name, pattern_fit, port_fit, argument_fit, is_to, is_request, any_to, any_request, is_repeated, plumbs};
 
 use crate::argument::{is_literal, runes_of};
-use crate::expression::is_large;
+use crate::expression::expression_fit;
+use crate::fit::Fit;
 use crate::rule::{Field, Piece, Rule, Verb};
 use crate::words::{is_name_rune, is_word};
 use am_text::{NoMemory, Rune};
@@ -170,36 +171,36 @@ fn is_port_name(name: &[Rune]) -> bool
     }
 }
 
-fn large_pattern(alloc: Global, pieces: &[Piece]) -> Result<Option<bool>, NoMemory>
-    ensures { IfOk result (λ large. large ≡ large_pattern pieces.now) }
+fn pattern_fit(alloc: Global, pieces: &[Piece]) -> Result<Fit, NoMemory>
+    ensures { IfOk result (λ fit. fit ≡ pattern_fit pieces.now) }
 {
     if !is_literal(pieces) {
-        return Ok(Some(false));
+        return Ok(Fit::Fits);
     }
-    is_large(alloc, runes_of(alloc, pieces)?.as_slice())
+    expression_fit(alloc, runes_of(alloc, pieces)?.as_slice())
 }
 
-fn port_told(alloc: Global, pieces: &[Piece]) -> Result<Option<bool>, NoMemory>
-    ensures { IfOk result (λ told. told ≡ port_told pieces.now) }
+fn port_fit(alloc: Global, pieces: &[Piece]) -> Result<Fit, NoMemory>
+    ensures { IfOk result (λ fit. fit ≡ port_fit pieces.now) }
 {
     if !is_literal(pieces) {
-        return Ok(None);
+        return Ok(Fit::Unfit);
     }
     if is_port_name(runes_of(alloc, pieces)?.as_slice()) {
-        Ok(Some(false))
+        Ok(Fit::Fits)
     } else {
-        Ok(None)
+        Ok(Fit::Unfit)
     }
 }
 
-/// Whether the expression of a rule is too large. There is none where the argument is none for the verb.
-pub(crate) fn checked(alloc: Global, verb: Verb, pieces: &[Piece]) -> Result<Option<bool>, NoMemory>
-    ensures { IfOk result (λ large. large ≡ checked verb pieces.now) }
+/// How an argument fits a verb.
+pub(crate) fn argument_fit(alloc: Global, verb: Verb, pieces: &[Piece]) -> Result<Fit, NoMemory>
+    ensures { IfOk result (λ fit. fit ≡ argument_fit verb pieces.now) }
 {
     match verb {
-        Verb::Matches(_) => large_pattern(alloc, pieces),
-        Verb::To => port_told(alloc, pieces),
-        _ => Ok(Some(false)),
+        Verb::Matches(_) => pattern_fit(alloc, pieces),
+        Verb::To => port_fit(alloc, pieces),
+        _ => Ok(Fit::Fits),
     }
 }
 

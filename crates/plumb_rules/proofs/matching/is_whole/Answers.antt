@@ -1,6 +1,6 @@
 use Rattle.re_syntax.specs.Tree.{tree}
 use Rattle.plumb_rules.proofs.Expressions.{whole_tells, whole_inside}
-use Rattle.plumb_rules.proofs.pattern.is_whole.Goals as goal
+use Rattle.plumb_rules.proofs.matching.is_whole.Goals as goal
 
 pub returns-clause-value : goal.returns-clause-value
 returns-clause-value c = whole_tells (tree c.args.re.now) c.args.text.now c.len.result c.in_ok-yes.yes c.len.ensures c.in_ok-yes.ensures
