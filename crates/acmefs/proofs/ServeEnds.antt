@@ -10,7 +10,7 @@ use Rattle.am_slots.specs.declared.slot.Slot.{Slot}
 use Rattle.am_server.specs.Ends as ends
 use Rattle.am_server.specs.Ends.{SaysServe, Given, end_at, end_done, is_undialled, Writes}
 use Rattle.am_server.specs.Texts.{has_failed, served_text}
-use Rattle.am_server.specs.Written as put
+use Rattle.am_base.specs.Written as put
 use Rattle.am_server.specs.declared.served.Served.{Served}
 use Rattle.am_server.specs.declared.writing.ServeEnd.{ServeEnd}
 use Rattle.am_server.specs.declared.writing.ServeEnd.TheVariants as end
