@@ -15,6 +15,7 @@ pub struct Count {
 }
 
 /// The replies that the last entry made.
+#[tactic(auto, using(crate::proofs::Replies::all_counted))]
 pub(crate) fn last_count(core: &Core) -> Count
     requires { IsBrief (run core.now.journal).replies }
     ensures { result ≡ count_of (run core.now.journal).replies }

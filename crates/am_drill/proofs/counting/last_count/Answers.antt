@@ -1,7 +1,5 @@
-use Rattle.std.proofs.Common.{◌≡◌, None, arith, rules}
-use Rattle.std.specs.Prelude.{slice_get}
-use Rattle.acme_core.specs.Run.{run}
-use Rattle.am_drill.proofs.Replies.{one_more, one_within, all_counted}
+use Rattle.std.proofs.Common.{arith, sym, ◌∙◌}
+use Rattle.am_drill.proofs.Replies.{one_more, one_within}
 use Rattle.am_drill.proofs.counting.last_count.Goals as goal
 
 pub overflow_add-bytes : goal.overflow_add-bytes
@@ -15,8 +13,3 @@ loop-reply-preserved c = record {
 
 pub loop-reply-smaller : goal.loop-reply-smaller
 loop-reply-smaller c = omega (arith, (one_within _ c.loop-reply.k _ c.in-Some.ensures.exact).0)
-
-pub returns : goal.returns
-returns c =
-    let none : slice_get (run c.args.core.now.journal).replies c.loop-reply.k ≡ None = first_of (search rules, grind arith, cc) in
-    all_counted _ c.loop-reply.k c.loop-reply.bytes none c.loop-reply.invariant.within c.loop-reply.invariant.bytes

@@ -1,4 +1,4 @@
-use Rattle.std.proofs.Common.{arith}
+use Rattle.std.proofs.Common.{◌+◌, arith}
 use Rattle.am_drill.proofs.Playing.{front_up, on_err}
 use Rattle.am_drill.proofs.driving.play_rounds.Goals as goal
 
