@@ -6,7 +6,7 @@ use Rattle.std.proofs.lemmas.Iterator.Adapters.{YieldsList-from_vec}
 use Rattle.std.proofs.lemmas.List.{append-nil}
 use Rattle.am_journal.specs.declared.event.Event.{Event}
 use Rattle.am_drill.specs.Brief.{IsNext, AreNext, IsFront, Stopped}
-use Rattle.am_drill.specs.Drill.{seed_of, next_seed, drawn, opening, round, rounds, events}
+use Rattle.am_drill.specs.Drill.{seed_of, next_seed, drawn, opening, round, events}
 use Rattle.am_drill.proofs.Rounds.{next_events, no_rounds, next_opening, next_round}
 
 -- the items of a vector come one after another
