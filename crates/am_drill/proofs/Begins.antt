@@ -1,5 +1,5 @@
 -- The events before the rounds can be done, and the editor then stands as each round finds it.
-use Rattle.std.proofs.Common.{◌≡◌, ℕ, ◌+◌, ◌<◌, ◌≤◌, List, [], ◌∷◌, length, refl, sym, ap, subst, ◌∙◌, arith, Some, None}
+use Rattle.std.proofs.Common.{◌≡◌, ℕ, ◌≤◌, List, [], ◌∷◌, length, refl, sym, subst, arith, None}
 use Rattle.std.specs.List.{fold}
 use Rattle.ninep_wire.specs.declared.message.RBody.{RBody}
 use Rattle.ninep_wire.specs.declared.message.RBody.TheVariants as r
@@ -15,8 +15,8 @@ use Rattle.acme_core.specs.Doings.{enabled_at}
 use Rattle.acme_core.specs.Run.{step}
 use Rattle.acme_core.specs.States.{State, present, start}
 use Rattle.am_drill.specs.Brief.{IsBrief}
-use Rattle.am_drill.specs.Drill.{message, notag, opening}
-use Rattle.am_drill.proofs.Calm.{CanDo, CanDoAll, room, none_brief, one_brief}
+use Rattle.am_drill.specs.Drill.{notag, opening}
+use Rattle.am_drill.proofs.Calm.{CanDoAll, room, none_brief, one_brief}
 use Rattle.am_drill.proofs.Opening.{Begun, told, dialed, version, attach, walk_body, open_body, walk_event, open_event, dial_step, version_step, attach_step, walk_body_step, open_body_step, walk_event_step, open_event_step, version_lawful, attach_lawful, walk_body_lawful, walk_event_lawful, open_lawful, facts_of}
 use Rattle.am_drill.proofs.Standing.{standing}
 use Rattle.am_drill.proofs.Steps.{said_of}

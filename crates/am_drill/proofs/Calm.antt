@@ -1,6 +1,6 @@
 -- Each event of a drill is lawful and enabled where it stands, and makes few replies.
-use Rattle.std.proofs.Common.{◌≡◌, ℕ, ◌+◌, ◌-◌, ◌<◌, ◌≤◌, Bool, true, false, List, [], ◌∷◌, ◌++◌, length, take, refl, sym, ap, ◌∙◌, arith, Option, Some, None}
-use Rattle.std.specs.Prelude.{nat_lt, nat_le, ◌==◌, sum_by, if◌then◌else◌}
+use Rattle.std.proofs.Common.{◌≡◌, ℕ, ◌+◌, ◌-◌, ◌<◌, ◌≤◌, Bool, true, false, List, [], ◌∷◌, length, take, refl, ap, arith, Some, None}
+use Rattle.std.specs.Prelude.{nat_le, ◌==◌, if◌then◌else◌}
 use Rattle.std.proofs.lemmas.Bool.Decides.{nat_tests}
 use Rattle.std.proofs.lemmas.List.{length-take}
 use Rattle.ninep_wire.specs.declared.message.TBody.TheVariants as t
@@ -9,7 +9,6 @@ use Rattle.ninep_wire.specs.declared.message.RBody.TheVariants as r
 use Rattle.ninep_wire.specs.Spelling.{spelling_r, spelling_t}
 use Rattle.am_journal.specs.declared.event.Event.{Event}
 use Rattle.am_journal.specs.declared.event.Event.TheVariants as event
-use Rattle.am_journal.specs.declared.event.Why.{Why}
 use Rattle.am_journal.specs.declared.event.Why.TheVariants as why
 use Rattle.am_journal.specs.Lawful.{IsLawful}
 use Rattle.wait_queue.specs.WaitState.{piece_from}
@@ -20,7 +19,6 @@ use Rattle.acme_core.specs.Run.{step}
 use Rattle.acme_core.specs.States.{State, present}
 use Rattle.am_drill.specs.Brief.{IsBrief}
 use Rattle.am_drill.specs.Drill.{write, key, poll, flush, read}
-use Rattle.am_drill.specs.Summary.{bytes_in}
 use Rattle.am_drill.proofs.Editing.{text_of, dot_of}
 use Rattle.am_drill.proofs.Standing.{Facts, standing}
 use Rattle.am_drill.proofs.Steps.{said_of, reader, reading}

@@ -1,10 +1,10 @@
 -- What a letter that is written or typed makes of the editor.
-use Rattle.std.proofs.Common.{◌≡◌, ℕ, ◌+◌, ◌-◌, ◌<◌, ◌≤◌, Bool, true, false, List, [], ◌∷◌, ◌++◌, length, refl, sym, ap, ◌∙◌, arith, Option, Some, None, Ok, Err}
-use Rattle.std.specs.Prelude.{nat_lt, nat_le, ◌==◌, ◌&&◌, not, replicate, if◌then◌else◌}
+use Rattle.std.proofs.Common.{◌≡◌, ℕ, ◌+◌, ◌<◌, Bool, true, false, List, [], ◌∷◌, ◌++◌, length, refl, ap, ◌∙◌, arith, Option, Some, None, Ok, Err}
+use Rattle.std.specs.Prelude.{nat_lt, ◌==◌, not, replicate, if◌then◌else◌}
 use Rattle.std.specs.Option.{option_to_list}
 use Rattle.std.proofs.lemmas.Bool.Decides.{nat_tests}
 use Rattle.am_text.specs.Part.{part_of}
-use Rattle.am_text.specs.Pieces.{Decoded, decode_part}
+use Rattle.am_text.specs.Pieces.{Decoded}
 use Rattle.am_text.specs.declared.range.Range.{Range}
 use Rattle.ninep_wire.specs.declared.message.RBody.TheVariants as r
 use Rattle.edit_log.specs.declared.types.Edit.{Edit}
@@ -28,7 +28,6 @@ use Rattle.core_events.specs.Serving.{served_most, book_served_most}
 use Rattle.core_events.specs.Waits.{ended}
 use Rattle.event_book.specs.Lives.{fresh}
 use Rattle.event_book.specs.WindowFiles.{WindowFile}
-use Rattle.event_book.specs.declared.lives.Recorded.{Recorded}
 use Rattle.acme_core.specs.declared.doing.Doing.{Doing}
 use Rattle.acme_core.specs.Doings.{doing_of, message_doing, changing}
 use Rattle.acme_core.specs.Run.{step}

@@ -1,14 +1,25 @@
--- The end of a drill is how its summary was written.
-use Rattle.std.proofs.Common.{◌≡◌, ℕ, List, sym, subst}
+-- The summary of a drill, and its end, which is how the summary was written.
+use Rattle.std.proofs.Common.{◌≡◌, ℕ, List, [], ◌∷◌, ◌++◌, refl, ap, subst, ◌∙◌, append_assoc, Option}
+use Rattle.std.specs.Fmt.{decimal}
 use Rattle.am_journal.specs.declared.event.Event.{Event}
 use Rattle.am_drill.specs.declared.driving.DrillEnd.{DrillEnd}
 use Rattle.am_drill.specs.declared.driving.DrillEnd.TheVariants.{Done, WriteFault, NoMemory}
 use Rattle.am_drill.specs.Drill.{events}
 use Rattle.am_drill.specs.Ends.{Output, IsWhole, IsCut, Wrote, DrillSays}
-use Rattle.am_drill.specs.Summary.{summary}
+use Rattle.am_drill.specs.Summary.{line, summary}
 
 pub says : (end : DrillEnd) (rounds : ℕ) (o : Output) (journal : List Event) (text : List ℕ) → Wrote end o text → journal ≡ events rounds → text ≡ summary (events rounds)
     → DrillSays end rounds o journal
 says Done rounds o journal text wrote done is = (done, subst (λ (x : List ℕ). IsWhole o x) is wrote)
 says WriteFault rounds o journal text wrote done is = (done, subst (λ (x : List ℕ). IsCut o x) is wrote)
 says NoMemory rounds o journal text wrote done is = absurd wrote
+
+-- nothing was done and put
+pub none : (rounds : ℕ) (held : Option (List ℕ)) (faults : ℕ) → DrillSays NoMemory rounds (record { held = held; held_now = held; faults = faults; faults_now = faults }) []
+none rounds held faults = ((events rounds, refl), (refl, refl))
+
+-- a line more
+pub line_put : (out a b c name : List ℕ) (n : ℕ) → a ≡ out ++ name → b ≡ a ++ decimal n → c ≡ b ++ 10 ∷ [] → c ≡ out ++ line name n
+line_put out a b c name n first second third =
+    third ∙ ap (λ (x : List ℕ). x ++ 10 ∷ []) (second ∙ ap (λ (x : List ℕ). x ++ decimal n) first)
+    ∙ append_assoc (out ++ name) (decimal n) (10 ∷ []) ∙ append_assoc out name (decimal n ++ 10 ∷ [])

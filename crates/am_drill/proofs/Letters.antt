@@ -1,10 +1,10 @@
 -- A letter is a rune of one byte.
-use Rattle.std.proofs.Common.{◌≡◌, ℕ, ◌+◌, ◌-◌, ◌<◌, ◌≤◌, Bool, true, false, ◌&&◌, List, [], ◌∷◌, refl, sym, ap, ◌∙◌, arith}
-use Rattle.std.specs.Prelude.{nat_lt, nat_le, slice_index}
+use Rattle.std.proofs.Common.{◌≡◌, ℕ, ◌<◌, true, false, [], ◌∷◌, refl, arith}
+use Rattle.std.specs.Prelude.{nat_lt}
 use Rattle.std.specs.Int.{is_in_range}
 use Rattle.std.proofs.lemmas.Bool.Decides.{nat_tests}
-use Rattle.am_text.specs.Pieces.{Decoded, decode_part, is_begun, rest_of, whole_of}
-use Rattle.am_text.specs.Utf8.{decode, decode_after, front_width, front_rune}
+use Rattle.am_text.specs.Pieces.{decode_part, is_begun, rest_of, whole_of}
+use Rattle.am_text.specs.Utf8.{decode_after, front_width, front_rune}
 
 pub outside : (low high c : ℕ) → c < low → is_in_range low high c ≡ false
 outside low high c h = grind (arith, nat_tests)

@@ -1,12 +1,10 @@
 -- The events before the rounds, one after another.
-use Rattle.std.proofs.Common.{◌≡◌, ℕ, zero, suc, ◌+◌, ◌^◌, ◌<◌, ◌≤◌, Bool, true, false, List, [], ◌∷◌, ◌++◌, length, refl, sym, ap, subst, ◌∙◌, arith, Option, Some, None}
-use Rattle.std.specs.Prelude.{codes, replicate, find, bytes_eq, if◌then◌else◌, All}
-use Rattle.std.specs.List.{fold}
+use Rattle.std.proofs.Common.{◌≡◌, ℕ, zero, suc, ◌+◌, ◌^◌, ◌<◌, true, List, [], ◌∷◌, length, refl, ap, ◌∙◌, arith, Option, Some, None}
+use Rattle.std.specs.Prelude.{codes, replicate, bytes_eq, if◌then◌else◌, All}
 use Rattle.std.specs.Str.{is_utf8, chars}
 use Rattle.std.specs.Char.{encode_utf8}
 use Rattle.std.proofs.lemmas.Fmt.{decimal_digit}
 use Rattle.ninep_wire.specs.Fields.{is_text}
-use Rattle.ninep_wire.specs.declared.message.TBody.{TBody}
 use Rattle.ninep_wire.specs.declared.message.TBody.TheVariants as t
 use Rattle.ninep_wire.specs.declared.message.RBody.{RBody}
 use Rattle.ninep_wire.specs.declared.message.RBody.TheVariants as r
@@ -22,7 +20,6 @@ use Rattle.acme_tree.specs.Access.{may_open}
 use Rattle.acme_tree.specs.Trees.{qid_of, entries}
 use Rattle.acme_tree.specs.Walks.{walk_one, entry_named, file_named, to_entry}
 use Rattle.fid_table.specs.declared.types.Fid.{Fid}
-use Rattle.fid_table.specs.Tables.{Tables}
 use Rattle.event_book.specs.BookState.{BookState, empty_book}
 use Rattle.core_windows.specs.Stories.{WindowStory, made_story, shown_windows}
 use Rattle.core_windows.specs.Windows.{world_of}
@@ -39,8 +36,8 @@ use Rattle.acme_core.specs.declared.unsent.Reply.{Reply}
 use Rattle.acme_core.specs.Run.{step}
 use Rattle.acme_core.specs.States.{State, present, start}
 use Rattle.acme_core.specs.Unsent.{Unsent, nothing_unsent, with_reply}
-use Rattle.am_drill.specs.Drill.{message, notag, nofid, opening}
-use Rattle.am_drill.proofs.Standing.{Facts, body_fid, fids, tables_with, standing}
+use Rattle.am_drill.specs.Drill.{message, notag, nofid}
+use Rattle.am_drill.proofs.Standing.{Facts, body_fid, standing}
 use Rattle.am_drill.proofs.Steps.{said_of}
 
 -- ---- what changes, and all of it

@@ -6,7 +6,7 @@ use Rattle.std.proofs.lemmas.Iterator.Adapters.{YieldsList-from_vec}
 use Rattle.std.proofs.lemmas.List.{append-nil}
 use Rattle.am_journal.specs.declared.event.Event.{Event}
 use Rattle.am_drill.specs.Brief.{IsNext, AreNext, IsFront, Stopped}
-use Rattle.am_drill.specs.Drill.{seed_of, next_seed, drawn, opening, round, rounds, events}
+use Rattle.am_drill.specs.Drill.{seed_of, next_seed, drawn, opening, round, events}
 use Rattle.am_drill.proofs.Rounds.{next_events, no_rounds, next_opening, next_round}
 
 -- the items of a vector come one after another
@@ -57,17 +57,22 @@ pub ruleset seeds = (seed_more, first_seed)
 
 -- a front of the first rounds is one of all
 front_more : (k more : ℕ) (now : List Event) → IsFront now (events k) → IsFront now (events (k + more))
-front_more k zero now front = subst (λ (n : ℕ). IsFront now (events n)) (omega arith) front
+front_more k zero now front =
+    let same : k ≡ k + 0 = omega arith in
+    subst (λ (n : ℕ). IsFront now (events n)) same front
 front_more k (suc more) now front =
     let n : ℕ = k + more in
     let before : IsFront now (events n) = front_more k more now front in
     let r : List Event = round (n + 1) (drawn (seed_of (n + 1))) in
     let longer : IsFront now (events (n + 1)) = (before.0 ++ r, sym (append_assoc now before.0 r) ∙ ap (λ (x : List Event). x ++ r) before.1 ∙ sym (next_events n)) in
-    subst (λ (m : ℕ). IsFront now (events m)) (omega arith) longer
+    let same : (k + more) + 1 ≡ k + suc more = omega arith in
+    subst (λ (m : ℕ). IsFront now (events m)) same longer
 
 -- a front of the events up to a round
 pub front_up : (k n : ℕ) (now : List Event) → k ≤ n → IsFront now (events k) → IsFront now (events n)
-front_up k n now within front = subst (λ (m : ℕ). IsFront now (events m)) (omega arith) (front_more k (n - k) now front)
+front_up k n now within front =
+    let same : k + (n - k) ≡ n = omega arith in
+    subst (λ (m : ℕ). IsFront now (events m)) same (front_more k (n - k) now front)
 
 whole_front : (now whole : List Event) → now ≡ whole → IsFront now whole
 whole_front now whole is = ([], append-nil now ∙ is)

@@ -1,5 +1,5 @@
 -- Replies, counted event by event.
-use Rattle.std.proofs.Common.{◌≡◌, ℕ, zero, suc, ◌+◌, ◌*◌, ◌^◌, ◌<◌, ◌≤◌, List, [], ◌∷◌, ◌++◌, length, take, get_or, Some, None, refl, sym, ap, subst, ◌∙◌, arith, append_assoc}
+use Rattle.std.proofs.Common.{◌≡◌, ℕ, zero, suc, ◌+◌, ◌^◌, ◌<◌, ◌≤◌, List, [], ◌∷◌, ◌++◌, length, take, get_or, Some, None, refl, sym, ap, subst, ◌∙◌, arith, append_assoc}
 use Rattle.std.specs.Prelude.{slice_get, sum_by}
 use Rattle.std.specs.List.{fold}
 use Rattle.std.proofs.lemmas.Grind.{fold-append}
@@ -13,7 +13,6 @@ use Rattle.acme_core.specs.States.{State, start}
 use Rattle.am_drill.specs.declared.counting.Count.{Count}
 use Rattle.am_drill.specs.Brief.{IsBrief, IsNext, IsCounted}
 use Rattle.am_drill.specs.Summary.{bytes_in, replies_from, replies_of, count_of, count_at}
-use Rattle.am_drill.proofs.Rounds.{run-push}
 
 -- ---- the replies of one entry, one after another
 

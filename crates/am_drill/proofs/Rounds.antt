@@ -1,5 +1,5 @@
 -- Each event of a drill can be done at its place.
-use Rattle.std.proofs.Common.{◌≡◌, ℕ, zero, suc, ◌+◌, ◌*◌, ◌%◌, ◌^◌, ◌<◌, ◌≤◌, Bool, true, false, List, [], ◌∷◌, ◌++◌, length, refl, sym, ap, subst, ◌∙◌, arith, append_assoc, add-one, None}
+use Rattle.std.proofs.Common.{◌≡◌, ℕ, zero, suc, ◌+◌, ◌*◌, ◌%◌, ◌^◌, ◌<◌, ◌≤◌, Bool, true, false, List, [], ◌∷◌, ◌++◌, length, sym, ap, subst, ◌∙◌, arith, append_assoc, add-one}
 use Rattle.std.specs.Prelude.{◌==◌, if◌then◌else◌}
 use Rattle.std.specs.List.{fold}
 use Rattle.std.proofs.lemmas.Grind.{fold-append}
@@ -14,7 +14,7 @@ use Rattle.am_drill.specs.declared.numbers.Turn.TheVariants as turn
 use Rattle.am_drill.specs.Brief.{IsBrief, AreNext}
 use Rattle.am_drill.specs.Drill.{seed_of, drawn, letter, turn_of, opening, read, played_turn, round, rounds, events}
 use Rattle.am_drill.proofs.Begins.{opening_goes}
-use Rattle.am_drill.proofs.Calm.{CanDo, CanDoAll}
+use Rattle.am_drill.proofs.Calm.{CanDoAll}
 use Rattle.am_drill.proofs.Turns.{Goes, Stands, most_unsent, round_goes}
 
 pub run-push : (journal : List Event) (e : Event) → run (journal ++ e ∷ []) ≡ step (run journal) e

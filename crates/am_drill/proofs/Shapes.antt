@@ -1,14 +1,14 @@
 -- The event file of window 1 stays listed, and keeps its opening.
-use Rattle.std.proofs.Common.{◌≡◌, ℕ, ◌+◌, Bool, true, false, ◌||◌, ◌&&◌, List, [], ◌∷◌, ◌++◌, length, take, drop, refl, sym, ap, ◌∙◌, arith, Option, Some, None}
+use Rattle.std.proofs.Common.{◌≡◌, ℕ, Bool, true, false, ◌||◌, ◌&&◌, List, [], ◌∷◌, length, drop, refl, ap, ◌∙◌}
 use Rattle.std.specs.Prelude.{if◌then◌else◌, nat_lt}
 use Rattle.wait_queue.specs.Carry.{OpenCarry, set_carry}
-use Rattle.wait_queue.specs.WaitState.{WaitState, after_from, after_piece, piece_of}
+use Rattle.wait_queue.specs.WaitState.{WaitState, after_from, piece_of}
 use Rattle.wait_queue.specs.declared.pending.Pending.{Pending}
 use Rattle.win_events.specs.declared.item.Life.TheVariants.{Taken}
 use Rattle.event_book.specs.declared.lives.Recorded.{Recorded}
-use Rattle.event_book.specs.BookState.{BookState, after_answer}
+use Rattle.event_book.specs.BookState.{after_answer}
 use Rattle.event_book.specs.Lives.{pending_from}
-use Rattle.event_book.specs.WindowFiles.{EventFile, WindowFile, is_used, with_file, given, queue_of, items_after}
+use Rattle.event_book.specs.WindowFiles.{EventFile, WindowFile, with_file, given, queue_of, items_after}
 use Rattle.am_drill.proofs.Standing.{Facts, book_with, file_with}
 use Rattle.am_drill.proofs.Steps.{reader}
 

@@ -1,6 +1,5 @@
 -- The editor in a drill: what stands fixed from round to round, and the facts that change.
-use Rattle.std.specs.Prelude.{ℕ, ◌+◌, List, [], ◌∷◌, ◌++◌, replicate, Option, Some, None}
-use Rattle.am_text.specs.Part.{part_of}
+use Rattle.std.specs.Prelude.{ℕ, List, [], ◌∷◌, replicate, Some, None}
 use Rattle.fid_table.specs.declared.types.Fid.{Fid}
 use Rattle.fid_table.specs.declared.session.Waiting.{Waiting}
 use Rattle.fid_table.specs.Tables.{Tables}
@@ -10,7 +9,7 @@ use Rattle.core_answers.specs.Fids.{fresh, opened}
 use Rattle.core_windows.specs.Stories.{WindowStory}
 use Rattle.event_book.specs.declared.lives.Recorded.{Recorded}
 use Rattle.event_book.specs.BookState.{BookState}
-use Rattle.event_book.specs.WindowFiles.{EventFile, WindowFile}
+use Rattle.event_book.specs.WindowFiles.{EventFile}
 use Rattle.wait_queue.specs.declared.types.Asker.{Asker}
 use Rattle.acme_core.specs.declared.connection.Connection.TheVariants.{Undialed, Live}
 use Rattle.acme_core.specs.declared.unsent.Reply.{Reply}

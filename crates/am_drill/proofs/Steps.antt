@@ -1,6 +1,6 @@
 -- What each event of a drill makes of the editor.
-use Rattle.std.proofs.Common.{◌≡◌, ℕ, ◌+◌, ◌-◌, ◌<◌, ◌≤◌, Bool, true, false, ◌||◌, List, [], ◌∷◌, ◌++◌, length, take, drop, refl, sym, ap, ◌∙◌, arith, Some, None}
-use Rattle.std.specs.Prelude.{nat_lt, nat_le, replicate, if◌then◌else◌}
+use Rattle.std.proofs.Common.{◌≡◌, ℕ, ◌+◌, Bool, true, false, [], ◌∷◌, ◌++◌, take, drop, refl, ap, ◌∙◌}
+use Rattle.std.specs.Prelude.{replicate, if◌then◌else◌}
 use Rattle.ninep_wire.specs.declared.message.RBody.{RBody}
 use Rattle.ninep_wire.specs.declared.message.RBody.TheVariants as r
 use Rattle.ninep_wire.specs.Spelling.{spelling_r}
@@ -10,7 +10,7 @@ use Rattle.win_text.specs.BodyStories.{story_text}
 use Rattle.acme_core.specs.declared.unsent.Reply.{Reply}
 use Rattle.acme_core.specs.Run.{step}
 use Rattle.acme_core.specs.Unsent.{nothing_unsent, with_reply}
-use Rattle.am_drill.specs.Drill.{read, flush, poll, opening}
+use Rattle.am_drill.specs.Drill.{read, flush, poll}
 use Rattle.fid_table.specs.declared.session.Waiting.{Waiting}
 use Rattle.wait_queue.specs.declared.types.Asker.{Asker}
 use Rattle.wait_queue.specs.declared.types.Asked.{Asked}
@@ -21,7 +21,7 @@ use Rattle.acme_core.specs.Stages.{if_said}
 use Rattle.acme_core.specs.States.{State}
 use Rattle.acme_core.specs.Unsent.{replies_of, put_replies}
 use Rattle.event_book.specs.BookState.{BookState, read_waits, after_answer, piece_for}
-use Rattle.am_drill.proofs.Standing.{Facts, tables_with, book_with, file_with, standing}
+use Rattle.am_drill.proofs.Standing.{Facts, tables_with, book_with, standing}
 
 -- the reply to the message of a tag
 abbrev pub said_of : ℕ → RBody → Reply

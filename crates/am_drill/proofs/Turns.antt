@@ -1,6 +1,6 @@
 -- What holds of the editor before each round, and that a round leaves it so.
-use Rattle.std.proofs.Common.{◌≡◌, ℕ, suc, ◌+◌, ◌-◌, ◌*◌, ◌/◌, ◌%◌, ◌<◌, ◌≤◌, ◌≢◌, Bool, true, false, List, [], ◌∷◌, ◌++◌, length, take, drop, refl, sym, ap, subst, ◌∙◌, arith, Option, Some, None}
-use Rattle.std.specs.Prelude.{nat_lt, nat_le, ◌==◌, if◌then◌else◌}
+use Rattle.std.proofs.Common.{◌≡◌, ℕ, ◌+◌, ◌*◌, ◌%◌, ◌<◌, ◌≤◌, ◌≢◌, Bool, true, false, List, [], ◌∷◌, ◌++◌, length, take, drop, refl, sym, ap, subst, ◌∙◌, arith}
+use Rattle.std.specs.Prelude.{◌==◌, if◌then◌else◌}
 use Rattle.std.specs.List.{fold}
 use Rattle.std.proofs.lemmas.Bool.Decides.{nat_tests}
 use Rattle.std.proofs.lemmas.List.{length-append, length-take, length-drop}
@@ -13,16 +13,16 @@ use Rattle.edit_log.specs.Edited.{after, text_after, images}
 use Rattle.event_book.specs.Lives.{pending_from}
 use Rattle.event_book.specs.BookState.{BookState, piece_for}
 use Rattle.acme_core.specs.Run.{step}
-use Rattle.acme_core.specs.States.{State, present}
+use Rattle.acme_core.specs.States.{State}
 use Rattle.am_drill.specs.declared.numbers.Turn.{Turn}
 use Rattle.am_drill.specs.declared.numbers.Turn.TheVariants as turn
 use Rattle.am_drill.specs.Brief.{IsBrief}
 use Rattle.am_drill.specs.Drill.{write, key, poll, flush, read, letter, turn_of, played_turn, round}
 use Rattle.am_drill.proofs.Calm.{CanDo, CanDoAll, write_allowed, poll_allowed, flush_allowed, flush_waiting_allowed, read_allowed, took_allowed, key_allowed, write_lawful, poll_lawful, flush_lawful, read_lawful, took_lawful, key_lawful, none_brief, wrote_brief, flushed_brief, read_brief, front_short, piece_short}
-use Rattle.am_drill.proofs.Editing.{text_of, dot_of, gone_on, with_item, story_written, story_typed, end_edit, dot_edit, write_step, key_step}
+use Rattle.am_drill.proofs.Editing.{text_of, dot_of, write_step, key_step}
 use Rattle.am_drill.proofs.Shapes.{items_left, carry_left, answered_book}
 use Rattle.am_drill.proofs.Standing.{Facts, book_with, standing}
-use Rattle.am_drill.proofs.Steps.{answered, said_of, reader, reading, waits, with_book, read_step, flush_step, took_step, flush_waiting_step, poll_waits_step, poll_now_step}
+use Rattle.am_drill.proofs.Steps.{answered, reader, reading, waits, with_book, read_step, flush_step, took_step, flush_waiting_step, poll_waits_step, poll_now_step}
 
 -- The body has a rune for each round at most, dot is null, and few replies are unsent.
 pub record IsCalm (runes unsent : ℕ) (f : Facts) : Type 0 where

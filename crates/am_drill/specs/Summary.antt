@@ -1,10 +1,10 @@
 -- The summary of a drill.
 use Rattle.std.specs.Prelude.{ℕ, ◌==◌, Bool, true, false, List, [], ◌∷◌, ◌++◌, length, sum_by, count_by, codes, if◌then◌else◌}
+use Rattle.std.specs.Fmt.{decimal}
 use Rattle.am_journal.specs.declared.event.Event.{Event}
 use Rattle.am_journal.specs.declared.view.WindowView.{WindowView}
 use Rattle.am_journal.specs.declared.view.ItemView.{ItemView}
 use Rattle.am_journal.specs.declared.view.View.{View}
-use Rattle.am_journal.specs.Parts.{around}
 use Rattle.win_events.specs.declared.item.Life.{Life}
 use Rattle.win_events.specs.declared.item.Life.TheVariants.{Pending, Taken, Back, Dropped}
 use Rattle.acme_core.specs.declared.unsent.Reply.{Reply}
@@ -62,7 +62,7 @@ has_pending item = is_pending item.life
 
 -- `name n`
 abbrev pub line : List ℕ → ℕ → List ℕ
-line name n = around name n (10 ∷ [])
+line name n = name ++ (decimal n ++ 10 ∷ [])
 
 unfoldable pub summary_text : View → Count → List ℕ
 summary_text view count =

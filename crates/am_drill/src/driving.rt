@@ -125,6 +125,17 @@ fn run_and_write<O: Sink>(
     }
 }
 
+// There was no memory for the editor.
+fn nothing_done(alloc: Global) -> Drilled
+    ensures end { result.end ≡ DrillEnd.NoMemory }
+    ensures journal { result.journal ≡ [] }
+{
+    Drilled {
+        end: DrillEnd::NoMemory,
+        journal: Items::new(alloc),
+    }
+}
+
 /// Does the events of a drill of so many rounds from the empty editor on, and writes the summary of their run.
 pub fn drill<O: Sink>(alloc: Global, rounds: u64, output: &mut O) -> Drilled
     requires { (1 ≤ rounds) × (rounds ≤ 100000) }
@@ -133,10 +144,7 @@ pub fn drill<O: Sink>(alloc: Global, rounds: u64, output: &mut O) -> Drilled
         result.journal }
 {
     let Ok(mut runner) = Runner::new(alloc) else {
-        return Drilled {
-            end: DrillEnd::NoMemory,
-            journal: Items::new(alloc),
-        };
+        return nothing_done(alloc);
     };
     let end = run_and_write(alloc, rounds, &mut runner, output);
     let Runner { core, .. } = runner;

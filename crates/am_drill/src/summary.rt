@@ -22,10 +22,12 @@ fn put_line(alloc: Global, out: &mut Bytes, name: &[u8], number: u64) -> Result<
 fn runes_of(window: u32, views: &[WindowView]) -> u64
     ensures { result ≡ runes_of window views.now }
 {
-    for view in views {
+    let mut rest = views;
+    while let [view, after @ ..] = rest {
         if view.id == window {
             return view.body.len() as u64;
         }
+        rest = after;
     }
     0
 }
@@ -49,6 +51,7 @@ fn pending(items: &[ItemView]) -> u64
 }
 
 /// The summary of what the view and the count of replies tell.
+#[tactic(auto, unfolding(crate::specs::Summary::summary_text))]
 pub(crate) fn summary_text(alloc: Global, view: &View, count: Count) -> Result<Bytes, NoMemory>
     ensures { IfOk result (λ text. text ≡ summary_text view.now count) }
 {

@@ -1,4 +1,4 @@
-use Rattle.std.proofs.Common.{arith, sym, ◌∙◌}
+use Rattle.std.proofs.Common.{arith}
 use Rattle.am_drill.proofs.Replies.{one_more, one_within}
 use Rattle.am_drill.proofs.counting.last_count.Goals as goal
 
