@@ -1,6 +1,6 @@
 use crate::{PortFault, Ports};
 use am_text::{Bytes, NoMemory};
-use std::alloc::AllocError;
+use std::alloc::{AllocError, Global};
 use std::test::Fail;
 use wait_queue::{Asked, Asker};
 
@@ -97,7 +97,7 @@ fn gets_64(ports: &mut Ports, opening: u32) -> Result<bool, NoMemory> {
     Ok(asked(ports, read(1, opening, 8))?.is_none())
 }
 
-// A port without openings keeps 64 messages, and the next opening takes them; where that is taken back the port has them again.
+// A port without openings keeps 64 messages, and the next opening takes them, in order.
 #[test]
 fn kept_messages_wait_for_the_next_opening(rt: HostRuntime) -> Result<(), Fail> {
     let mut ports = Ports::new(rt.alloc()).map_err(|_| AllocError)?;
@@ -109,19 +109,30 @@ fn kept_messages_wait_for_the_next_opening(rt: HostRuntime) -> Result<(), Fail> 
     assert!(rt; ports.deliver(b"mail", b"m", true) == Err(PortFault::NoPort));
     let full = keeps_64(&mut ports, b"web").map_err(|_| AllocError)?;
     assert!(rt; full);
-    ports.keep();
     join(&mut ports, web, 1).map_err(|_| AllocError)?;
-    let first = asked(&mut ports, read(1, 1, 8)).map_err(|_| AllocError)?;
-    assert!(rt; is_bytes(first, &[0]));
-    ports.back();
-    assert!(rt; !ports.has_joined(1) && !ports.is_open(web));
-    let again = ports.deliver(b"web", b"m", true);
-    assert!(rt; again == Err(PortFault::Full));
-    join(&mut ports, web, 2).map_err(|_| AllocError)?;
-    let all = gets_64(&mut ports, 2).map_err(|_| AllocError)?;
+    let all = gets_64(&mut ports, 1).map_err(|_| AllocError)?;
     assert!(rt; all);
-    let open = ports.deliver(b"web", b"m", false);
-    assert!(rt; open == Ok(()));
+    Ok(())
+}
+
+// Whether a port has its kept messages again where it is taken back that an opening took them.
+fn has_them_again(alloc: Global) -> Result<bool, PortFault> {
+    let mut ports = Ports::new(alloc)?;
+    let web = added(&mut ports, b"web")?;
+    let full = keeps_64(&mut ports, b"web")?;
+    ports.keep();
+    join(&mut ports, web, 1)?;
+    let first = asked(&mut ports, read(1, 1, 8))?;
+    ports.back();
+    let joined = ports.has_joined(1) || ports.is_open(web);
+    let again = ports.deliver(b"web", b"m", true);
+    Ok(full && is_bytes(first, &[0]) && !joined && again == Err(PortFault::Full))
+}
+
+#[test]
+fn messages_that_are_taken_back_are_kept(rt: HostRuntime) -> Result<(), Fail> {
+    let again = has_them_again(rt.alloc()).map_err(|_| AllocError)?;
+    assert!(rt; again);
     Ok(())
 }
 
