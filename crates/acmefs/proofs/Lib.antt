@@ -2,9 +2,10 @@ pub mod Fronts
 pub mod Promised
 pub mod Ran
 pub mod Replied
-pub mod OneWord
 pub mod Wrote
 pub mod OwnText
 pub mod RoundTrip
+pub mod Drills
+pub mod Idle
+pub mod Words
 pub mod ServeEnds
-pub mod Stripped

@@ -1,5 +1,5 @@
 -- The output got the journal's own text.
-use Rattle.std.proofs.Common.{◌≡◌, ◌⊎◌, inl, inr, ℕ, ◌≤◌, Bool, List, length, take, Option, Some, None, sym, ap, subst, ◌∙◌, arith}
+use Rattle.std.proofs.Common.{◌≡◌, ◌⊎◌, inl, inr, ℕ, ◌≤◌, List, length, take, Option, Some, None, sym, ap, subst, ◌∙◌, arith}
 use Rattle.std.proofs.lemmas.List.{length-append}
 use Rattle.am_base.specs.Outside.{told_then, PutsFront}
 use Rattle.am_journal.specs.declared.event.Event.{Event}
@@ -9,7 +9,7 @@ use Rattle.acmefs.specs.Scripts as scripts
 use Rattle.acmefs.specs.Scripts.{ended, text_of}
 use Rattle.am_base.specs.Written.{Output, IsWhole, IsCut}
 use Rattle.acmefs.specs.Written.{IsFront}
-use Rattle.acmefs.specs.Ends.{Ran, Says, ProgramSays}
+use Rattle.acmefs.specs.Ends.{Ran, Says}
 use Rattle.acmefs.specs.Own.{told_text, PutsOwn}
 use Rattle.std.proofs.Math.Seq.{take-length}
 use Rattle.acmefs.proofs.Fronts.{front_whole, front_caught_up}
@@ -53,12 +53,3 @@ says_own ends.Script told before now o journal (bytes, t, r) = ran_own ends.Scri
 says_own ends.ReadFault told before now o journal h = h.0
 says_own ends.WriteFault told before now o journal (bytes, t, r) = ran_own ends.WriteFault (scripts.script_of bytes) o journal r
 says_own ends.NoMemory told before now o journal (bytes, t, r) = ran_own ends.NoMemory (scripts.script_of bytes) o journal r
-
-pub program_own : (end : End) (asked : Bool) (told told_now : Option (List ℕ)) (before now : ℕ) (o : Output) (journal : List Event)
-    → ProgramSays asked end told told_now before now o journal → PutsOwn end o journal
-program_own ends.Done asked told told_now before now o journal h = says_own ends.Done told before now o journal h.1
-program_own ends.Usage asked told told_now before now o journal h = h.2
-program_own ends.Script asked told told_now before now o journal h = says_own ends.Script told before now o journal h.1
-program_own ends.ReadFault asked told told_now before now o journal h = says_own ends.ReadFault told before now o journal h.1
-program_own ends.WriteFault asked told told_now before now o journal h = says_own ends.WriteFault told before now o journal h.1
-program_own ends.NoMemory asked told told_now before now o journal h = says_own ends.NoMemory told before now o journal h.1

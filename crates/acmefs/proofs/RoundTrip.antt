@@ -18,7 +18,7 @@ use Rattle.acmefs.specs.declared.replay.End.TheVariants as ends
 use Rattle.acmefs.specs.Scripts.{Script, ended, refused_at, play, play_line, play_event, script_of, text_of}
 use Rattle.am_base.specs.Stops.{input_limit}
 use Rattle.am_base.specs.Written.{Output}
-use Rattle.acmefs.specs.Ends.{Ran, Says, ProgramSays}
+use Rattle.acmefs.specs.Ends.{Ran, Says}
 use Rattle.acmefs.specs.Own.{transcript_of, RoundTrips}
 use Rattle.acmefs.proofs.Ran.{short_script}
 use Rattle.std.specs.List.{AllByRecursion}
@@ -30,7 +30,7 @@ abbrev pub AreDone : List Event → List Event → Type 0
 AreDone before [] = Unit {0}
 AreDone before (e ∷ es) = IsLawful e × IsInRange e × (enabled before e ≡ None) × AreDone (before ++ e ∷ []) es
 
-front-done : (a b before : List Event) → AreDone before (a ++ b) → AreDone before a
+pub front-done : (a b before : List Event) → AreDone before (a ++ b) → AreDone before a
 front-done [] b before h = tt
 front-done (e ∷ a) b before h = (h.0, h.1, h.2, front-done a b (before ++ e ∷ []) h.3)
 
@@ -95,15 +95,6 @@ says-done ends.ReadFault told before now o journal h = none-done journal h.0.emp
 says-done ends.WriteFault told before now o journal h = ran-done ends.WriteFault (script_of h.0) o journal (script-done h.0) h.2
 says-done ends.NoMemory told before now o journal h = ran-done ends.NoMemory (script_of h.0) o journal (script-done h.0) h.2
 
-program-done : (end : End) (asked : Bool) (told told_now : Option (List ℕ)) (before now : ℕ) (o : Output) (journal : List Event)
-    → ProgramSays asked end told told_now before now o journal → AreDone [] journal
-program-done ends.Done asked told told_now before now o journal h = says-done ends.Done told before now o journal h.1
-program-done ends.Usage asked told told_now before now o journal h = none-done journal h.2.empty
-program-done ends.Script asked told told_now before now o journal h = says-done ends.Script told before now o journal h.1
-program-done ends.ReadFault asked told told_now before now o journal h = says-done ends.ReadFault told before now o journal h.1
-program-done ends.WriteFault asked told told_now before now o journal h = says-done ends.WriteFault told before now o journal h.1
-program-done ends.NoMemory asked told told_now before now o journal h = says-done ends.NoMemory told before now o journal h.1
-
 -- ---- their lines
 
 -- what a line does, by whether it ends the script and by its event
@@ -133,7 +124,7 @@ in_range-done : (es before : List Event) → AreDone before es → AllByRecursio
 in_range-done [] before h = tt
 in_range-done (e ∷ es) before h = (h.1, in_range-done es (before ++ e ∷ []) h.3)
 
-trips : (journal : List Event) → AreDone [] journal → RoundTrips journal
+pub trips : (journal : List Event) → AreDone [] journal → RoundTrips journal
 trips journal d = λ short.
     let report : View = view_of journal in
     let begins = lines_of-report report in
@@ -147,7 +138,3 @@ trips journal d = λ short.
 
 pub says_trips : (end : End) (told : Option (List ℕ)) (before now : ℕ) (o : Output) (journal : List Event) → Says end told before now o journal → RoundTrips journal
 says_trips end told before now o journal h = trips journal (says-done end told before now o journal h)
-
-pub program_trips : (end : End) (asked : Bool) (told told_now : Option (List ℕ)) (before now : ℕ) (o : Output) (journal : List Event)
-    → ProgramSays asked end told told_now before now o journal → RoundTrips journal
-program_trips end asked told told_now before now o journal h = trips journal (program-done end asked told told_now before now o journal h)

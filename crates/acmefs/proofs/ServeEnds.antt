@@ -1,5 +1,5 @@
 -- What each exit status says where connections are served.
-use Rattle.std.proofs.Common.{◌≡◌, ◌⊎◌, inl, inr, ℕ, Bool, true, false, cond, List, [], ◌∷◌, Option, Some, None, ◌∙◌, refl, sym, ap, subst, ⊎_elim, arith}
+use Rattle.std.proofs.Common.{◌≡◌, ◌⊎◌, inl, inr, ℕ, Bool, true, false, cond, List, ◌∙◌, sym, ap, subst, ⊎_elim, arith}
 use Rattle.std.specs.List.{list_any}
 use Rattle.am_base.specs.Outside.{HasRisen}
 use Rattle.am_journal.specs.declared.event.Event.{Event}
@@ -9,16 +9,12 @@ use Rattle.am_slots.specs.Slots.{Outside}
 use Rattle.am_slots.specs.declared.slot.Slot.{Slot}
 use Rattle.am_server.specs.Ends as ends
 use Rattle.am_server.specs.Ends.{SaysServe, Given, end_at, end_done, is_undialled, Writes}
-use Rattle.am_server.specs.Texts.{has_failed, served_text}
+use Rattle.am_server.specs.Texts.{has_failed}
 use Rattle.am_base.specs.Written as put
 use Rattle.am_server.specs.declared.served.Served.{Served}
 use Rattle.am_server.specs.declared.writing.ServeEnd.{ServeEnd}
 use Rattle.am_server.specs.declared.writing.ServeEnd.TheVariants as end
-use Rattle.acmefs.specs.declared.replay.End.{End}
-use Rattle.acmefs.specs.declared.replay.End.TheVariants as replay
-use Rattle.acmefs.specs.Ends.{serve_code, Says, ProgramSays}
-use Rattle.std.specs.Str.{IsUtf8}
-use Rattle.acmefs.specs.Words.{are_replay, asks_serve, AreKnown}
+use Rattle.acmefs.specs.Ends.{serve_code}
 use Rattle.am_base.specs.Written.{Output}
 
 -- no end of serving has status 1
@@ -98,44 +94,3 @@ module _ {G L S K : Type 0} where
       → p ≡ q → a ≡ b → Said m p a i o journal served status → Said m q b i o journal served status
   at_path m p q a b i o journal served status e f s =
       subst (λ (x : List ℕ). Said m x b i o journal served status) e (subst (λ (x : ℕ). Said m p x i o journal served status) f s)
-
--- words ask for one path and one number
-pub asked_once : (words : List (List ℕ)) (p q : List ℕ) (a b : ℕ) → asks_serve words ≡ Some (p, a) → asks_serve words ≡ Some (q, b) → (p ≡ q) × (a ≡ b)
-asked_once words p q a b h k = let e : Some (p, a) ≡ Some (q, b) = sym h ∙ k in (ap (path_in p) e, ap (number_in a) e)
-  where
-    path_in : List ℕ → Option (List ℕ × ℕ) → List ℕ
-    path_in other None = other
-    path_in other (Some x) = x.0
-
-    number_in : ℕ → Option (List ℕ × ℕ) → ℕ
-    number_in other None = other
-    number_in other (Some x) = x.1
-
-pub not_true : (b : Bool) → ¬ (b ≡ true) → b ≡ false
-not_true true n = absurd (n refl)
-not_true false n = refl
-
-pub says_replay : (e : End) (told told_now : Option (List ℕ)) (before now : ℕ) (o : Output) (journal : List Event) (asked : Bool) → asked ≡ true
-    → ProgramSays asked e told told_now before now o journal → Says e told before now o journal
-says_replay replay.Done told told_now before now o journal asked h p = p.1
-says_replay replay.Usage told told_now before now o journal asked h p = absurd (let a = p.0 in cc)
-says_replay replay.Script told told_now before now o journal asked h p = p.1
-says_replay replay.ReadFault told told_now before now o journal asked h p = p.1
-says_replay replay.WriteFault told told_now before now o journal asked h p = p.1
-says_replay replay.NoMemory told told_now before now o journal asked h p = p.1
-
--- words that ask for a replay ask for nothing else
-pub replay_alone : (words : List (List ℕ)) → are_replay words ≡ true → asks_serve words ≡ None
-replay_alone [] h = cc
-replay_alone (word ∷ []) h = cc
-replay_alone (word ∷ other ∷ words) h = absurd (cc)
-
--- words that ask for serving a path are known where it is a text
-pub known_serving : (words : List (List ℕ)) (path : List ℕ) (clients : ℕ) → asks_serve words ≡ Some (path, clients) → AreKnown words → IsUtf8 path
-known_serving words path clients asks (inl r) = absurd (let a = sym (replay_alone words r) ∙ asks in cc)
-known_serving words path clients asks (inr (p, n, x)) = subst IsUtf8 (asked_once words p path n clients x.0 asks).0 x.1
-
--- words that ask for neither
-pub known_replay : (words : List (List ℕ)) → asks_serve words ≡ None → are_replay words ≡ false → ¬ AreKnown words
-known_replay words none other (inl r) = absurd (let a = sym other ∙ r in cc)
-known_replay words none other (inr (p, n, x)) = absurd (let e = sym none ∙ x.0 in cc)

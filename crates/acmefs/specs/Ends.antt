@@ -1,10 +1,15 @@
 -- How a replay ends.
-use Rattle.std.specs.Prelude.{◌≡◌, ◌⊎◌, ℕ, List, [], Bool, true, false, Option, Some, None, IfSome}
+use Rattle.std.specs.Prelude.{◌≡◌, ◌⊎◌, ℕ, List, [], Option, Some, None, IfSome}
 use Rattle.am_base.specs.Outside.{AreTold, HasRisen}
 use Rattle.am_base.specs.Written.{Output, IsWhole, IsCut}
 use Rattle.am_journal.specs.declared.event.Event.{Event}
 use Rattle.am_server.specs.declared.writing.ServeEnd.{ServeEnd}
 use Rattle.am_server.specs.declared.writing.ServeEnd.TheVariants as serving
+use Rattle.am_drill.specs.declared.driving.DrillEnd.{DrillEnd}
+use Rattle.am_drill.specs.declared.driving.DrillEnd.TheVariants as drilling
+use Rattle.am_drill.specs.Drill.{events}
+use Rattle.am_drill.specs.Ends.{DrillSays}
+use Rattle.am_drill.specs.Summary.{summary}
 use Rattle.acmefs.specs.declared.replay.End.{End}
 use Rattle.acmefs.specs.declared.replay.End.TheVariants.{Done, Usage, Script, ReadFault, WriteFault, NoMemory}
 use Rattle.acmefs.specs.Scripts as scripts
@@ -28,6 +33,12 @@ serve_code serving.ReadFault = 3
 serve_code serving.WriteFault = 4
 serve_code serving.HostFault = 5
 serve_code serving.NoMemory = 6
+
+-- the exit status of a drill
+abbrev pub drill_code : DrillEnd → ℕ
+drill_code drilling.Done = 0
+drill_code drilling.WriteFault = 4
+drill_code drilling.NoMemory = 6
 
 -- Memory ran out: a front of the events was done, and what was put is the lines of their replies, but perhaps those of the last.
 pub record RanOut (script : scripts.Script) (o : Output) (journal : List Event) : Type 0 where
@@ -65,15 +76,6 @@ Says ReadFault told before now o journal = IsIdle o journal × HasRisen before n
 Says WriteFault told before now o journal = Replays WriteFault told o journal
 Says NoMemory told before now o journal = Replays NoMemory told o journal
 
--- what each end says of the words, which ask for a replay or don't, and of all the rest
-abbrev pub ProgramSays : Bool → End → Option (List ℕ) → Option (List ℕ) → ℕ → ℕ → Output → List Event → Type 0
-ProgramSays asked Usage told told_now before now o journal = (asked ≡ false) × (told_now ≡ told) × IsIdle o journal
-ProgramSays asked Done told told_now before now o journal = (asked ≡ true) × Says Done told before now o journal
-ProgramSays asked Script told told_now before now o journal = (asked ≡ true) × Says Script told before now o journal
-ProgramSays asked ReadFault told told_now before now o journal = (asked ≡ true) × Says ReadFault told before now o journal
-ProgramSays asked WriteFault told told_now before now o journal = (asked ≡ true) × Says WriteFault told before now o journal
-ProgramSays asked NoMemory told told_now before now o journal = (asked ≡ true) × Says NoMemory told before now o journal
-
 -- where the input tells its bytes, their script ran so
 abbrev pub RanTold : End → Option (List ℕ) → Output → List Event → Type 0
 RanTold end told o journal = IfSome told (λ bytes. Ran end (script_of bytes) o journal)
@@ -82,3 +84,12 @@ RanTold end told o journal = IfSome told (λ bytes. Ran end (script_of bytes) o 
 abbrev pub IsComplete : ℕ → scripts.Script → ℕ → ℕ → Output → List Event → Type 0
 IsComplete status script before now o journal = script.refused ≡ None → ¬ HasRisen before now → ¬ HasRisen o.faults o.faults_now
     → ((status ≡ 0) × Ran Done script o journal) ⊎ (status ≡ 6)
+
+-- what a drill of so many rounds comes to, by its status
+abbrev pub Drilled : ℕ → ℕ → Output → List Event → Type 0
+Drilled status rounds o journal = (end : DrillEnd) × (status ≡ drill_code end) × DrillSays end rounds o journal
+
+-- Completeness of a drill: where the output's count of faults doesn't rise, the whole summary is written, or memory runs out.
+abbrev pub IsDrilled : ℕ → ℕ → Output → List Event → Type 0
+IsDrilled status rounds o journal = ¬ HasRisen o.faults o.faults_now
+    → ((status ≡ 0) × (journal ≡ events rounds) × IsWhole o (summary (events rounds))) ⊎ (status ≡ 6)

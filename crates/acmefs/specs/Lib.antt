@@ -3,4 +3,3 @@ pub mod Written
 pub mod Playing
 pub mod Ends
 pub mod Own
-pub mod Words

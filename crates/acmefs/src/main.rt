@@ -1,6 +1,7 @@
 //! acmefs: the files of Acme over 9P2000.
 #![tactic(auto)]
 
+mod drill;
 mod program;
 mod replay;
 mod script;
@@ -8,7 +9,6 @@ mod script;
 mod serving_tests;
 #[cfg(test)]
 mod tests;
-mod words;
 
 use am_base::{InputSource, OutputSink, UnixHost};
 use am_text::{Items, NoMemory, Words};

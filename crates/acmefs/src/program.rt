@@ -1,27 +1,26 @@
 //! All that the program does.
 
-ghost use Rattle.std.specs.Prelude.{◌≡◌, ◌≤◌, ℕ, List, [], None, true, IfSome};
-ghost use Rattle.std.specs.Str.{IsUtf8};
+ghost use Rattle.std.specs.Prelude.{◌≡◌, ◌≤◌, ℕ, List, [], Some, None, true, IfSome};
 ghost use Rattle.am_base.specs.Outside.{HasRisen};
 ghost use Rattle.am_base.specs.Written.{seen};
 ghost use Rattle.core_answers.specs.Laws.{EachIsAnswered};
-ghost use Rattle.acmefs.specs.declared.replay.End.TheVariants.{Done, Script, WriteFault, NoMemory};
+ghost use Rattle.acmefs.specs.declared.replay.End.TheVariants as ends;
 ghost use Rattle.acmefs.specs.Scripts.{script_of};
-ghost use Rattle.acmefs.specs.Ends.{Says, ProgramSays, IsIdle, RanTold, IsComplete, code_of, serve_code};
+ghost use Rattle.acmefs.specs.Ends.{Says, IsIdle, RanTold, IsComplete, Drilled, IsDrilled, code_of, serve_code};
 ghost use Rattle.acmefs.specs.Own.{PutsOwn, RoundTrips};
-ghost use Rattle.acmefs.specs.Words.{are_replay, asks_serve, AskServe, AreKnown};
+ghost use Rattle.am_words.specs.Words.{are_replay, asks_drill, asks_serve, AskServe, AreKnown};
 ghost use Rattle.am_server.specs.Ends.{SaysServe, given};
 ghost use Rattle.am_slots.specs.Slots.{outside};
 
-use crate::replay::{End, Ended, ReplayEnd, code, no_events, replay};
-use crate::words::{is_replay, serve_words};
+use crate::drill::drill_main;
+use crate::replay::{End, ReplayEnd, code, replay};
 use acme_core::messages_are_answered;
 use am_base::{Host, Sink, Source};
 use am_journal::Journal;
 use am_server::{HostServing, ServeEnd, ServedList, Serving, serve};
-use am_text::{Items, Words};
+use am_text::{Items, NoMemory, Words};
+use am_words::{Asked, read_words};
 use std::alloc::Global;
-use std::str;
 use std::sync::Wait;
 use std::thread::Threads;
 
@@ -34,15 +33,47 @@ pub struct Outcome<H: Host> {
     pub served: ServedList<H>,
 }
 
-fn run<I: Source, O: Sink>(alloc: Global, words: &Words, input: &mut I, output: &mut O) -> Ended
-    ensures { ProgramSays (are_replay words.now) result.end (I.left input.old) (I.left input.new) (I.faults input.old) (I.faults input.new)
-        (seen (O.held output.old) (O.held output.new) (O.faults output.old) (O.faults output.new))
-        result.journal }
+// What a replay comes to.
+fn replayed<I: Source, O: Sink, H: Host>(alloc: Global, input: &mut I, output: &mut O) -> Outcome<H>
+    ensures says { (end : _) × (result.status ≡ code_of end)
+        × Says end (I.left input.old) (I.faults input.old) (I.faults input.new)
+        (seen (O.held output.old) (O.held output.new) (O.faults output.old) (O.faults output.new)) result.journal }
+    ensures none_served { result.served ≡ [] }
 {
-    if is_replay(words.as_slice()) {
-        replay(alloc, input, output)
-    } else {
-        no_events(alloc, End::Usage)
+    let ended = replay(alloc, input, output);
+    Outcome {
+        status: code(ended.end),
+        journal: ended.journal,
+        served: Items::new(alloc),
+    }
+}
+
+// What a drill comes to.
+fn drilled<O: Sink, H: Host>(alloc: Global, rounds: u64, output: &mut O) -> Outcome<H>
+    requires rounds { (1 ≤ rounds) × (rounds ≤ 100000) }
+    ensures drills { Drilled result.status rounds
+        (seen (O.held output.old) (O.held output.new) (O.faults output.old) (O.faults output.new)) result.journal }
+    ensures round_trip { RoundTrips result.journal }
+    ensures none_served { result.served ≡ [] }
+{
+    let ended = drill_main(alloc, rounds, output);
+    Outcome {
+        status: ended.status,
+        journal: ended.journal,
+        served: Items::new(alloc),
+    }
+}
+
+// Nothing is done, for this reason.
+fn idle<H: Host>(alloc: Global, end: End) -> Outcome<H>
+    ensures status { result.status ≡ code_of end }
+    ensures journal { result.journal ≡ [] }
+    ensures none_served { result.served ≡ [] }
+{
+    Outcome {
+        status: code(end),
+        journal: Items::new(alloc),
+        served: Items::new(alloc),
     }
 }
 
@@ -97,60 +128,8 @@ pub fn serve_main<I: Source, O: Sink, H: Host, R: Threads + Wait + Sync>(
     outcome_of(serve(rt, alloc, path, clients, input, output, host))
 }
 
-// A replay, or other words.
-fn replay_words<I: Source, O: Sink, H: Host>(
-    alloc: Global,
-    words: &Words,
-    input: &mut I,
-    output: &mut O,
-) -> Outcome<H>
-    ensures says { (end : _) × (result.status ≡ code_of end)
-        × ProgramSays (are_replay words.now) end (I.left input.old) (I.left input.new) (I.faults input.old) (I.faults input.new)
-        (seen (O.held output.old) (O.held output.new) (O.faults output.old) (O.faults output.new)) result.journal }
-    ensures none_served { result.served ≡ [] }
-{
-    let ended = run(alloc, words, input, output);
-    Outcome {
-        status: code(ended.end),
-        journal: ended.journal,
-        served: Items::new(alloc),
-    }
-}
-
-fn serve_path<I: Source, O: Sink, H: Host, R: Threads + Wait + Sync>(
-    rt: &R,
-    alloc: Global,
-    path: &[u8],
-    clients: u32,
-    input: &mut I,
-    output: &mut O,
-    host: &mut H,
-) -> Outcome<H>
-    requires clients { (1 ≤ clients) × (clients ≤ 64) }
-    ensures serves { IsUtf8 path.now → (end : _) × (result.status ≡ serve_code end)
-        × SaysServe (outside H.G.name H.G.faults H.G.L.begins H.G.L.faults H.G.L.R.left H.G.L.R.faults H.G.L.W.held H.G.L.W.faults) path.now clients
-        (given (I.left input.old) (I.faults input.old) (I.faults input.new) (H.faults host.old) (H.faults host.new))
-        (seen (O.held output.old) (O.held output.new) (O.faults output.old) (O.faults output.new))
-        result.journal result.served end }
-    ensures read_fault { result.status ≡ 3 → HasRisen (I.faults input.old) (I.faults input.new) }
-    ensures idle_fault { result.status ≡ 3 → IsIdle
-        (seen (O.held output.old) (O.held output.new) (O.faults output.old) (O.faults output.new)) result.journal }
-    ensures write_cause { result.status ≡ 4 → HasRisen (O.faults output.old) (O.faults output.new) }
-    ensures other { ¬ IsUtf8 path.now → (result.status ≡ 1) × (I.left input.new ≡ I.left input.old)
-        × IsIdle (seen (O.held output.old) (O.held output.new) (O.faults output.old) (O.faults output.new)) result.journal }
-{
-    match str::from_utf8(path) {
-        Ok(path) => serve_main(rt, alloc, path, clients, input, output, host),
-        Err(_) => Outcome {
-            status: code(End::Usage),
-            journal: Items::new(alloc),
-            served: Items::new(alloc),
-        },
-    }
-}
-
 /// Does all that the program does: what the words after its name ask for. The word `replay` alone asks for a replay of the transcript that
-/// the input gives. The words `serve PATH --clients N` ask for serving one connection for each of N slots, at the gates that the host makes
+/// the input gives. The words `drill N` ask for a drill of N rounds, 1 to 100,000, which reads nothing. The words `serve PATH --clients N` ask for serving one connection for each of N slots, at the gates that the host makes
 /// for the path, with the script that the input gives beside them; the option may stand before the path, and may be one word,
 /// `--clients=N`. Every other list of words is refused.
 ///
@@ -164,7 +143,7 @@ pub fn acmefs<I: Source, O: Sink, H: Host, R: Threads + Wait + Sync>(
     output: &mut O,
     host: &mut H,
 ) -> Outcome<H>
-    // Status 1 comes exactly where the words ask for neither a replay nor serving; then nothing is read, written or done.
+    // Status 1 comes exactly where the words ask for neither a replay nor a drill nor serving; then nothing is read, written or done.
     ensures usage { result.status ≡ 1 → ¬ AreKnown words.now }
     ensures other_words { ¬ AreKnown words.now → result.status ≡ 1 }
     ensures unread { result.status ≡ 1 → I.left input.new ≡ I.left input.old }
@@ -175,17 +154,17 @@ pub fn acmefs<I: Source, O: Sink, H: Host, R: Threads + Wait + Sync>(
     ensures idle_fault { result.status ≡ 3 → IsIdle
         (seen (O.held output.old) (O.held output.new) (O.faults output.old) (O.faults output.new)) result.journal }
     // A replay with status 0: no line is refused, the journal is the events of the script, and the whole text is written.
-    ensures done { are_replay words.now ≡ true → result.status ≡ 0 → RanTold Done (I.left input.old)
+    ensures done { are_replay words.now ≡ true → result.status ≡ 0 → RanTold ends.Done (I.left input.old)
         (seen (O.held output.old) (O.held output.new) (O.faults output.old) (O.faults output.new)) result.journal }
     // Status 2: a line, or the whole input, is refused; all events before it are done and written.
-    ensures script { are_replay words.now ≡ true → result.status ≡ 2 → RanTold Script (I.left input.old)
+    ensures script { are_replay words.now ≡ true → result.status ≡ 2 → RanTold ends.Script (I.left input.old)
         (seen (O.held output.old) (O.held output.new) (O.faults output.old) (O.faults output.new)) result.journal }
     // Status 4 comes only where the output's count rose: all events are done, a front of the text is written.
-    ensures write_fault { are_replay words.now ≡ true → result.status ≡ 4 → RanTold WriteFault (I.left input.old)
+    ensures write_fault { are_replay words.now ≡ true → result.status ≡ 4 → RanTold ends.WriteFault (I.left input.old)
         (seen (O.held output.old) (O.held output.new) (O.faults output.old) (O.faults output.new)) result.journal }
     ensures write_cause { result.status ≡ 4 → HasRisen (O.faults output.old) (O.faults output.new) }
     // Status 6: a front of the events is done, and the lines of their replies are written.
-    ensures no_memory { are_replay words.now ≡ true → result.status ≡ 6 → RanTold NoMemory (I.left input.old)
+    ensures no_memory { are_replay words.now ≡ true → result.status ≡ 6 → RanTold ends.NoMemory (I.left input.old)
         (seen (O.held output.old) (O.held output.new) (O.faults output.old) (O.faults output.new)) result.journal }
     // No line refused and no fault outside: the whole text, or want of memory.
     ensures complete { are_replay words.now ≡ true → IfSome (I.left input.old) (λ bytes.
@@ -199,7 +178,13 @@ pub fn acmefs<I: Source, O: Sink, H: Host, R: Threads + Wait + Sync>(
     // status all of it, or a front.
     ensures own_text { are_replay words.now ≡ true → (end : _) × (result.status ≡ code_of end) × PutsOwn end
         (seen (O.held output.old) (O.held output.new) (O.faults output.old) (O.faults output.new)) result.journal }
-    ensures none_served { are_replay words.now ≡ true → result.served ≡ [] }
+    // A drill: its events, and the summary of their run. The input isn't read.
+    ensures drills { (rounds : ℕ) → asks_drill words.now ≡ Some rounds → Drilled result.status rounds
+        (seen (O.held output.old) (O.held output.new) (O.faults output.old) (O.faults output.new)) result.journal }
+    ensures drilled { (rounds : ℕ) → asks_drill words.now ≡ Some rounds → IsDrilled result.status rounds
+        (seen (O.held output.old) (O.held output.new) (O.faults output.old) (O.faults output.new)) result.journal }
+    ensures drill_reads_none { (rounds : ℕ) → asks_drill words.now ≡ Some rounds → I.left input.new ≡ I.left input.old }
+    ensures none_served { asks_serve words.now ≡ None → result.served ≡ [] }
     // Serving: one journal has the entries of all connections and of the script and no others. What each connection was sent, and the text
     // that is written at the end, are those of that journal.
     ensures serves { (path : List ℕ) (clients : ℕ) → AskServe words.now path clients → (end : _) × (result.status ≡ serve_code end)
@@ -215,9 +200,14 @@ pub fn acmefs<I: Source, O: Sink, H: Host, R: Threads + Wait + Sync>(
     ensures answered { EachIsAnswered }
 {
     messages_are_answered();
-    match serve_words(words.as_slice()) {
-        Some((path, clients)) => serve_path(rt, alloc, path, clients, input, output, host),
-        None => replay_words(alloc, words, input, output),
+    match read_words(alloc, words.as_slice()) {
+        Ok(Some(Asked::Replay)) => replayed(alloc, input, output),
+        Ok(Some(Asked::Drill { rounds })) => drilled(alloc, rounds, output),
+        Ok(Some(Asked::Serve { path, clients })) => {
+            serve_main(rt, alloc, &path, clients, input, output, host)
+        }
+        Ok(None) => idle(alloc, End::Usage),
+        Err(NoMemory) => idle(alloc, End::NoMemory),
     }
 }
 

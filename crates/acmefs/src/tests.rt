@@ -123,6 +123,49 @@ fn words_and_faults(rt: HostRuntime) -> Result<(), Fail> {
     Ok(())
 }
 
+// The status and the entries of a run over two words, and what it writes.
+fn show_two<R: Threads + Wait + Sync>(
+    rt: &R,
+    alloc: Global,
+    first: &[u8],
+    second: &[u8],
+    write_faults: &[u64],
+) -> Result<Shown, NoMemory> {
+    let mut words = Items::new(alloc);
+    words.push(Items::copied(alloc, first)?)?;
+    words.push(Items::copied(alloc, second)?)?;
+    show(rt, alloc, &words, HELLO, 100, &[1], write_faults)
+}
+
+// A drill reads nothing: an input that would fail does no harm.
+#[test]
+fn drills(rt: HostRuntime) -> Result<(), Fail> {
+    let alloc = rt.alloc();
+    let four = show_two(&rt, alloc, b"drill", b"4", &[])?;
+    let text =
+        b"entries 12\nreplies 9\nreply bytes 200\nbody runes 2\nitems 2\ntaken 1\npending 1\n";
+    assert_eq!(rt; (four.status, four.entries), (0, 12));
+    assert_eq!(rt; four.sink.held(), text.as_slice());
+    let failed = show_two(&rt, alloc, b"drill", b"1", &[1])?;
+    assert_eq!(rt; (failed.status, failed.entries), (4, 8));
+    assert_eq!(rt; failed.sink.held().len(), 0);
+    Ok(())
+}
+
+#[test]
+fn other_drills(rt: HostRuntime) -> Result<(), Fail> {
+    let alloc = rt.alloc();
+    let numbers = [b"0".as_slice(), b"04", b"100001", b"", b"4x", b"-1"];
+    for number in numbers {
+        let other = show_two(&rt, alloc, b"drill", number, &[])?;
+        assert_eq!(rt; (other.status, other.entries), (1, 0));
+        assert_eq!(rt; other.sink.held().len(), 0);
+    }
+    let capital = show_two(&rt, alloc, b"Drill", b"4", &[])?;
+    assert_eq!(rt; (capital.status, capital.entries), (1, 0));
+    Ok(())
+}
+
 #[test]
 fn limit(rt: HostRuntime) -> Result<(), Fail> {
     let alloc = rt.alloc();

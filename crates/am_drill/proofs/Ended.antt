@@ -5,12 +5,13 @@ use Rattle.am_journal.specs.declared.event.Event.{Event}
 use Rattle.am_drill.specs.declared.driving.DrillEnd.{DrillEnd}
 use Rattle.am_drill.specs.declared.driving.DrillEnd.TheVariants.{Done, WriteFault, NoMemory}
 use Rattle.am_drill.specs.Drill.{events}
-use Rattle.am_drill.specs.Ends.{Output, IsWhole, IsCut, Wrote, DrillSays}
+use Rattle.am_base.specs.Written.{Output, IsWhole, IsCut}
+use Rattle.am_drill.specs.Ends.{Wrote, DrillSays}
 use Rattle.am_drill.specs.Summary.{line, summary}
 
 pub says : (end : DrillEnd) (rounds : ℕ) (o : Output) (journal : List Event) (text : List ℕ) → Wrote end o text → journal ≡ events rounds → text ≡ summary (events rounds)
     → DrillSays end rounds o journal
-says Done rounds o journal text wrote done is = (done, subst (λ (x : List ℕ). IsWhole o x) is wrote)
+says Done rounds o journal text wrote done is = (done, subst (λ (x : List ℕ). IsWhole o x) is wrote.0, wrote.1)
 says WriteFault rounds o journal text wrote done is = (done, subst (λ (x : List ℕ). IsCut o x) is wrote)
 says NoMemory rounds o journal text wrote done is = absurd wrote
 

@@ -8,6 +8,7 @@ pub mod Turns
 pub mod Opening
 pub mod Begins
 pub mod Rounds
+pub mod Ranges
 pub mod Replies
 pub mod Playing
 pub mod Ended

@@ -1,6 +1,7 @@
 //! A drill from its first event to its summary.
 
 ghost use Rattle.std.specs.Prelude.{◌≡◌, ◌≤◌, ◌<◌, ◌+◌, [], IfOk, OnOk, OnErr};
+ghost use Rattle.am_base.specs.Written.{seen};
 ghost use Rattle.am_drill.specs.Brief.{IsCounted, IsFront};
 ghost use Rattle.am_drill.specs.Drill.{events, seed_of};
 ghost use Rattle.am_drill.specs.Ends.{Wrote, DrillSays};
@@ -96,7 +97,7 @@ fn run(alloc: Global, rounds: u64, runner: &mut Runner) -> Result<Bytes, NoMemor
 // Writes a text, and answers how that ended.
 fn put<O: Sink>(output: &mut O, text: &[u8]) -> DrillEnd
     ensures { Wrote result
-        (record { held = O.held output.old; held_now = O.held output.new; faults = O.faults output.old; faults_now = O.faults output.new })
+        (seen (O.held output.old) (O.held output.new) (O.faults output.old) (O.faults output.new))
         text.now }
 {
     match write_all(output, text) {
@@ -116,7 +117,7 @@ fn run_and_write<O: Sink>(
     requires empty { runner.old.core.journal ≡ [] }
     requires counted { IsCounted runner.old.count runner.old.core.journal }
     ensures { DrillSays result rounds
-        (record { held = O.held output.old; held_now = O.held output.new; faults = O.faults output.old; faults_now = O.faults output.new })
+        (seen (O.held output.old) (O.held output.new) (O.faults output.old) (O.faults output.new))
         runner.new.core.journal }
 {
     match run(alloc, rounds, runner) {
@@ -140,7 +141,7 @@ fn nothing_done(alloc: Global) -> Drilled
 pub fn drill<O: Sink>(alloc: Global, rounds: u64, output: &mut O) -> Drilled
     requires { (1 ≤ rounds) × (rounds ≤ 100000) }
     ensures { DrillSays result.end rounds
-        (record { held = O.held output.old; held_now = O.held output.new; faults = O.faults output.old; faults_now = O.faults output.new })
+        (seen (O.held output.old) (O.held output.new) (O.faults output.old) (O.faults output.new))
         result.journal }
 {
     let Ok(mut runner) = Runner::new(alloc) else {

@@ -1,118 +1,232 @@
-use Rattle.std.proofs.Common.{◌≡◌, inl, inr, ℕ, List, true, false, Some, None, ◌∙◌, sym, ap, arith}
-use Rattle.std.specs.Str.{IsUtf8}
+use Rattle.std.proofs.Common.{inl, inr, ℕ, List, ◌∙◌, refl, sym, subst}
+use Rattle.std.specs.Prelude.{string_bytes}
 use Rattle.am_slots.specs.Slots.{outside}
-use Rattle.acmefs.specs.Words.{are_replay, asks_serve, AreKnown}
-use Rattle.acmefs.proofs.OwnText.{program_own}
+use Rattle.am_words.specs.declared.asked.Asked.TheVariants as asked
+use Rattle.am_words.specs.Words.{AreKnown}
+use Rattle.acmefs.proofs.Drills.{drill_usage, drill_write_fault, drill_complete}
+use Rattle.acmefs.proofs.Idle as idle
+use Rattle.acmefs.proofs.OwnText.{says_own}
 use Rattle.acmefs.proofs.Promised as promised
-use Rattle.acmefs.proofs.RoundTrip.{program_trips}
-use Rattle.acmefs.proofs.ServeEnds.{never_usage, replay_alone, asked_once, at_path, not_true, says_replay, known_serving, known_replay}
+use Rattle.acmefs.proofs.RoundTrip.{says_trips}
+use Rattle.acmefs.proofs.ServeEnds.{never_usage, at_path, serve_read_fault, serve_write_fault}
+use Rattle.acmefs.proofs.Words.{asked_at, none_at, replay_alone, replay_no_drill, drill_no_serving, asked_once, rounds_once}
 use Rattle.acmefs.proofs.program.acmefs.Goals as goal
+
+-- ---- a replay
+
+pub returns-in-Ok-Some-Replay-clause-idle_fault : goal.returns-in-Ok-Some-Replay-clause-idle_fault
+returns-in-Ok-Some-Replay-clause-idle_fault g c = let s = c.replayed.ensures.says in promised.idle_fault s.0 _ _ _ _ _ _ s.1 s.2
+
+pub returns-in-Ok-Some-Replay-clause-read_fault : goal.returns-in-Ok-Some-Replay-clause-read_fault
+returns-in-Ok-Some-Replay-clause-read_fault g c = let s = c.replayed.ensures.says in promised.read_fault s.0 _ _ _ _ _ _ s.1 s.2
+
+pub returns-in-Ok-Some-Replay-clause-write_cause : goal.returns-in-Ok-Some-Replay-clause-write_cause
+returns-in-Ok-Some-Replay-clause-write_cause g c = let s = c.replayed.ensures.says in promised.write_cause s.0 _ _ _ _ _ _ s.1 s.2
+
+pub returns-in-Ok-Some-Replay-clause-idle_words : goal.returns-in-Ok-Some-Replay-clause-idle_words
+returns-in-Ok-Some-Replay-clause-idle_words g c = let s = c.replayed.ensures.says in λ h. absurd (promised.usage s.0 _ _ _ _ _ _ s.1 s.2 h)
+
+pub returns-in-Ok-Some-Replay-clause-done : goal.returns-in-Ok-Some-Replay-clause-done
+returns-in-Ok-Some-Replay-clause-done g c = let s = c.replayed.ensures.says in λ r. promised.done s.0 _ _ _ _ _ _ s.1 s.2
+
+pub returns-in-Ok-Some-Replay-clause-script : goal.returns-in-Ok-Some-Replay-clause-script
+returns-in-Ok-Some-Replay-clause-script g c = let s = c.replayed.ensures.says in λ r. promised.script s.0 _ _ _ _ _ _ s.1 s.2
+
+pub returns-in-Ok-Some-Replay-clause-write_fault : goal.returns-in-Ok-Some-Replay-clause-write_fault
+returns-in-Ok-Some-Replay-clause-write_fault g c = let s = c.replayed.ensures.says in λ r. promised.write_fault s.0 _ _ _ _ _ _ s.1 s.2
+
+pub returns-in-Ok-Some-Replay-clause-no_memory : goal.returns-in-Ok-Some-Replay-clause-no_memory
+returns-in-Ok-Some-Replay-clause-no_memory g c = let s = c.replayed.ensures.says in λ r. promised.no_memory s.0 _ _ _ _ _ _ s.1 s.2
+
+pub returns-in-Ok-Some-Replay-clause-complete : goal.returns-in-Ok-Some-Replay-clause-complete
+returns-in-Ok-Some-Replay-clause-complete g c = let s = c.replayed.ensures.says in λ r. promised.complete s.0 _ _ _ _ _ _ s.1 s.2
+
+pub returns-in-Ok-Some-Replay-clause-own_text : goal.returns-in-Ok-Some-Replay-clause-own_text
+returns-in-Ok-Some-Replay-clause-own_text g c = let s = c.replayed.ensures.says in λ r. (s.0, s.1, says_own s.0 _ _ _ _ _ s.2)
+
+pub returns-in-Ok-Some-Replay-clause-drills : goal.returns-in-Ok-Some-Replay-clause-drills
+returns-in-Ok-Some-Replay-clause-drills g c = λ n a. absurd (let e = sym (replay_no_drill c.args.words.now (asked_at c.args.words.now _ c.in-Ok-Some-Replay.field-0 c.in-Ok-Some-Replay.field-0-0 asked.Replay c.in-Ok-Some-Replay.field-0-is c.in-Ok-Some-Replay.field-0-0-is c.as_slice.ensures c.in-Ok-Some-Replay.ensures.asked)) ∙ a in cc)
+
+pub returns-in-Ok-Some-Replay-clause-drilled : goal.returns-in-Ok-Some-Replay-clause-drilled
+returns-in-Ok-Some-Replay-clause-drilled g c = λ n a. absurd (let e = sym (replay_no_drill c.args.words.now (asked_at c.args.words.now _ c.in-Ok-Some-Replay.field-0 c.in-Ok-Some-Replay.field-0-0 asked.Replay c.in-Ok-Some-Replay.field-0-is c.in-Ok-Some-Replay.field-0-0-is c.as_slice.ensures c.in-Ok-Some-Replay.ensures.asked)) ∙ a in cc)
+
+pub returns-in-Ok-Some-Replay-clause-drill_reads_none : goal.returns-in-Ok-Some-Replay-clause-drill_reads_none
+returns-in-Ok-Some-Replay-clause-drill_reads_none g c = λ n a. absurd (let e = sym (replay_no_drill c.args.words.now (asked_at c.args.words.now _ c.in-Ok-Some-Replay.field-0 c.in-Ok-Some-Replay.field-0-0 asked.Replay c.in-Ok-Some-Replay.field-0-is c.in-Ok-Some-Replay.field-0-0-is c.as_slice.ensures c.in-Ok-Some-Replay.ensures.asked)) ∙ a in cc)
+
+pub returns-in-Ok-Some-Replay-clause-serves : goal.returns-in-Ok-Some-Replay-clause-serves
+returns-in-Ok-Some-Replay-clause-serves g c = λ path clients a. absurd (let e = sym (replay_alone c.args.words.now (asked_at c.args.words.now _ c.in-Ok-Some-Replay.field-0 c.in-Ok-Some-Replay.field-0-0 asked.Replay c.in-Ok-Some-Replay.field-0-is c.in-Ok-Some-Replay.field-0-0-is c.as_slice.ensures c.in-Ok-Some-Replay.ensures.asked)) ∙ a.0 in cc)
+
+pub returns-in-Ok-Some-Replay-clause-round_trip : goal.returns-in-Ok-Some-Replay-clause-round_trip
+returns-in-Ok-Some-Replay-clause-round_trip g c = let s = c.replayed.ensures.says in λ n. says_trips s.0 _ _ _ _ _ s.2
+
+-- ---- a drill
+
+pub returns-in-Ok-Some-Drill-clause-usage : goal.returns-in-Ok-Some-Drill-clause-usage
+returns-in-Ok-Some-Drill-clause-usage g c = λ h. absurd (drill_usage _ _ _ _ c.drilled.ensures.drills h)
+
+pub returns-in-Ok-Some-Drill-clause-other_words : goal.returns-in-Ok-Some-Drill-clause-other_words
+returns-in-Ok-Some-Drill-clause-other_words g c = λ unknown. absurd (unknown (inr (inl (c.in-Ok-Some-Drill.rounds, (asked_at c.args.words.now _ c.in-Ok-Some-Drill.field-0 c.in-Ok-Some-Drill.field-0-0 (asked.Drill c.in-Ok-Some-Drill.rounds) c.in-Ok-Some-Drill.field-0-is c.in-Ok-Some-Drill.field-0-0-is c.as_slice.ensures c.in-Ok-Some-Drill.ensures.asked)))))
+
+pub returns-in-Ok-Some-Drill-clause-done : goal.returns-in-Ok-Some-Drill-clause-done
+returns-in-Ok-Some-Drill-clause-done g c = λ r. absurd (let a = sym (replay_no_drill c.args.words.now r) ∙ (asked_at c.args.words.now _ c.in-Ok-Some-Drill.field-0 c.in-Ok-Some-Drill.field-0-0 (asked.Drill c.in-Ok-Some-Drill.rounds) c.in-Ok-Some-Drill.field-0-is c.in-Ok-Some-Drill.field-0-0-is c.as_slice.ensures c.in-Ok-Some-Drill.ensures.asked) in cc)
+
+pub returns-in-Ok-Some-Drill-clause-script : goal.returns-in-Ok-Some-Drill-clause-script
+returns-in-Ok-Some-Drill-clause-script g c = λ r. absurd (let a = sym (replay_no_drill c.args.words.now r) ∙ (asked_at c.args.words.now _ c.in-Ok-Some-Drill.field-0 c.in-Ok-Some-Drill.field-0-0 (asked.Drill c.in-Ok-Some-Drill.rounds) c.in-Ok-Some-Drill.field-0-is c.in-Ok-Some-Drill.field-0-0-is c.as_slice.ensures c.in-Ok-Some-Drill.ensures.asked) in cc)
+
+pub returns-in-Ok-Some-Drill-clause-write_fault : goal.returns-in-Ok-Some-Drill-clause-write_fault
+returns-in-Ok-Some-Drill-clause-write_fault g c = λ r. absurd (let a = sym (replay_no_drill c.args.words.now r) ∙ (asked_at c.args.words.now _ c.in-Ok-Some-Drill.field-0 c.in-Ok-Some-Drill.field-0-0 (asked.Drill c.in-Ok-Some-Drill.rounds) c.in-Ok-Some-Drill.field-0-is c.in-Ok-Some-Drill.field-0-0-is c.as_slice.ensures c.in-Ok-Some-Drill.ensures.asked) in cc)
+
+pub returns-in-Ok-Some-Drill-clause-no_memory : goal.returns-in-Ok-Some-Drill-clause-no_memory
+returns-in-Ok-Some-Drill-clause-no_memory g c = λ r. absurd (let a = sym (replay_no_drill c.args.words.now r) ∙ (asked_at c.args.words.now _ c.in-Ok-Some-Drill.field-0 c.in-Ok-Some-Drill.field-0-0 (asked.Drill c.in-Ok-Some-Drill.rounds) c.in-Ok-Some-Drill.field-0-is c.in-Ok-Some-Drill.field-0-0-is c.as_slice.ensures c.in-Ok-Some-Drill.ensures.asked) in cc)
+
+pub returns-in-Ok-Some-Drill-clause-complete : goal.returns-in-Ok-Some-Drill-clause-complete
+returns-in-Ok-Some-Drill-clause-complete g c = λ r. absurd (let a = sym (replay_no_drill c.args.words.now r) ∙ (asked_at c.args.words.now _ c.in-Ok-Some-Drill.field-0 c.in-Ok-Some-Drill.field-0-0 (asked.Drill c.in-Ok-Some-Drill.rounds) c.in-Ok-Some-Drill.field-0-is c.in-Ok-Some-Drill.field-0-0-is c.as_slice.ensures c.in-Ok-Some-Drill.ensures.asked) in cc)
+
+pub returns-in-Ok-Some-Drill-clause-headline : goal.returns-in-Ok-Some-Drill-clause-headline
+returns-in-Ok-Some-Drill-clause-headline g c = λ r. absurd (let a = sym (replay_no_drill c.args.words.now r) ∙ (asked_at c.args.words.now _ c.in-Ok-Some-Drill.field-0 c.in-Ok-Some-Drill.field-0-0 (asked.Drill c.in-Ok-Some-Drill.rounds) c.in-Ok-Some-Drill.field-0-is c.in-Ok-Some-Drill.field-0-0-is c.as_slice.ensures c.in-Ok-Some-Drill.ensures.asked) in cc)
+
+pub returns-in-Ok-Some-Drill-clause-own_text : goal.returns-in-Ok-Some-Drill-clause-own_text
+returns-in-Ok-Some-Drill-clause-own_text g c = λ r. absurd (let a = sym (replay_no_drill c.args.words.now r) ∙ (asked_at c.args.words.now _ c.in-Ok-Some-Drill.field-0 c.in-Ok-Some-Drill.field-0-0 (asked.Drill c.in-Ok-Some-Drill.rounds) c.in-Ok-Some-Drill.field-0-is c.in-Ok-Some-Drill.field-0-0-is c.as_slice.ensures c.in-Ok-Some-Drill.ensures.asked) in cc)
+
+pub returns-in-Ok-Some-Drill-clause-write_cause : goal.returns-in-Ok-Some-Drill-clause-write_cause
+returns-in-Ok-Some-Drill-clause-write_cause g c = drill_write_fault _ _ _ _ c.drilled.ensures.drills
+
+pub returns-in-Ok-Some-Drill-clause-drilled : goal.returns-in-Ok-Some-Drill-clause-drilled
+returns-in-Ok-Some-Drill-clause-drilled g c = λ n a. drill_complete c.in-Ok-Some-Drill.rounds n _ _ _ (rounds_once c.args.words.now c.in-Ok-Some-Drill.rounds n (asked_at c.args.words.now _ c.in-Ok-Some-Drill.field-0 c.in-Ok-Some-Drill.field-0-0 (asked.Drill c.in-Ok-Some-Drill.rounds) c.in-Ok-Some-Drill.field-0-is c.in-Ok-Some-Drill.field-0-0-is c.as_slice.ensures c.in-Ok-Some-Drill.ensures.asked) a) c.drilled.ensures.drills
+
+pub returns-in-Ok-Some-Drill-clause-serves : goal.returns-in-Ok-Some-Drill-clause-serves
+returns-in-Ok-Some-Drill-clause-serves g c = λ path clients a. absurd (let e = sym (drill_no_serving c.args.words.now c.in-Ok-Some-Drill.rounds (asked_at c.args.words.now _ c.in-Ok-Some-Drill.field-0 c.in-Ok-Some-Drill.field-0-0 (asked.Drill c.in-Ok-Some-Drill.rounds) c.in-Ok-Some-Drill.field-0-is c.in-Ok-Some-Drill.field-0-0-is c.as_slice.ensures c.in-Ok-Some-Drill.ensures.asked)) ∙ a.0 in cc)
 
 -- ---- serving
 
-pub returns-in-Some-clause-usage : goal.returns-in-Some-clause-usage
-returns-in-Some-clause-usage g c = λ h known. (λ (u : IsUtf8 c.in-Some.path.now). let s = c.serve_path.ensures.serves u in never_usage s.0 (sym s.1 ∙ h)) (known_serving c.args.words.now c.in-Some.path.now c.in-Some.clients (ap (λ (x : List (List ℕ)). asks_serve x) (sym c.as_slice.ensures) ∙ c.in-Some.ensures.some) known)
+pub returns-in-Ok-Some-Serve-clause-usage : goal.returns-in-Ok-Some-Serve-clause-usage
+returns-in-Ok-Some-Serve-clause-usage g c = λ h. let s = c.serve_main.ensures.serves in absurd (never_usage s.0 (sym s.1 ∙ h))
 
-pub returns-in-Some-clause-other_words : goal.returns-in-Some-clause-other_words
-returns-in-Some-clause-other_words g c = λ unknown. (c.serve_path.ensures.other (λ u. unknown (inr (c.in-Some.path.now, c.in-Some.clients, ((ap (λ (x : List (List ℕ)). asks_serve x) (sym c.as_slice.ensures) ∙ c.in-Some.ensures.some), u))))).0
+pub returns-in-Ok-Some-Serve-clause-other_words : goal.returns-in-Ok-Some-Serve-clause-other_words
+returns-in-Ok-Some-Serve-clause-other_words g c = λ unknown. absurd (unknown (inr (inr (string_bytes c.in-Ok-Some-Serve.path, c.in-Ok-Some-Serve.clients, (asked_at c.args.words.now _ c.in-Ok-Some-Serve.field-0 c.in-Ok-Some-Serve.field-0-0 (asked.Serve c.in-Ok-Some-Serve.path c.in-Ok-Some-Serve.clients) c.in-Ok-Some-Serve.field-0-is c.in-Ok-Some-Serve.field-0-0-is c.as_slice.ensures c.in-Ok-Some-Serve.ensures.asked)))))
 
-pub returns-in-Some-clause-unread : goal.returns-in-Some-clause-unread
-returns-in-Some-clause-unread g c = λ h. (c.serve_path.ensures.other (λ (u : IsUtf8 c.in-Some.path.now). let s = c.serve_path.ensures.serves u in never_usage s.0 (sym s.1 ∙ h))).1
+pub returns-in-Ok-Some-Serve-clause-unread : goal.returns-in-Ok-Some-Serve-clause-unread
+returns-in-Ok-Some-Serve-clause-unread g c = λ h. let s = c.serve_main.ensures.serves in absurd (never_usage s.0 (sym s.1 ∙ h))
 
-pub returns-in-Some-clause-idle_words : goal.returns-in-Some-clause-idle_words
-returns-in-Some-clause-idle_words g c = λ h. (c.serve_path.ensures.other (λ (u : IsUtf8 c.in-Some.path.now). let s = c.serve_path.ensures.serves u in never_usage s.0 (sym s.1 ∙ h))).2
+pub returns-in-Ok-Some-Serve-clause-idle_words : goal.returns-in-Ok-Some-Serve-clause-idle_words
+returns-in-Ok-Some-Serve-clause-idle_words g c = λ h. let s = c.serve_main.ensures.serves in absurd (never_usage s.0 (sym s.1 ∙ h))
 
-pub returns-in-Some-clause-read_fault : goal.returns-in-Some-clause-read_fault
-returns-in-Some-clause-read_fault g c = c.serve_path.ensures.read_fault
+pub returns-in-Ok-Some-Serve-clause-read_fault : goal.returns-in-Ok-Some-Serve-clause-read_fault
+returns-in-Ok-Some-Serve-clause-read_fault g c = λ h. let s = c.serve_main.ensures.serves in (serve_read_fault {G = g.row.H-G.Denot} {L = g.row.H-G-L.Denot} {S = g.row.H-G-L-R.Denot} {K = g.row.H-G-L-W.Denot}
+    (outside g.H.G.Gate.name g.H.G.Gate.faults g.H.G.L.Link.begins g.H.G.L.Link.faults g.H.G.L.R.Source.left g.H.G.L.R.Source.faults g.H.G.L.W.Sink.held g.H.G.L.W.Sink.faults)
+    _ _ _ _ _ _ _ s.0 s.1 s.2 h).0
 
-pub returns-in-Some-clause-idle_fault : goal.returns-in-Some-clause-idle_fault
-returns-in-Some-clause-idle_fault g c = c.serve_path.ensures.idle_fault
+pub returns-in-Ok-Some-Serve-clause-idle_fault : goal.returns-in-Ok-Some-Serve-clause-idle_fault
+returns-in-Ok-Some-Serve-clause-idle_fault g c = λ h. let s = c.serve_main.ensures.serves in let idle = (serve_read_fault {G = g.row.H-G.Denot} {L = g.row.H-G-L.Denot} {S = g.row.H-G-L-R.Denot} {K = g.row.H-G-L-W.Denot}
+    (outside g.H.G.Gate.name g.H.G.Gate.faults g.H.G.L.Link.begins g.H.G.L.Link.faults g.H.G.L.R.Source.left g.H.G.L.R.Source.faults g.H.G.L.W.Sink.held g.H.G.L.W.Sink.faults)
+    _ _ _ _ _ _ _ s.0 s.1 s.2 h).1 in record { silent = idle.silent; empty = idle.empty }
 
-pub returns-in-Some-clause-write_cause : goal.returns-in-Some-clause-write_cause
-returns-in-Some-clause-write_cause g c = c.serve_path.ensures.write_cause
+pub returns-in-Ok-Some-Serve-clause-write_cause : goal.returns-in-Ok-Some-Serve-clause-write_cause
+returns-in-Ok-Some-Serve-clause-write_cause g c = λ h. let s = c.serve_main.ensures.serves in serve_write_fault {G = g.row.H-G.Denot} {L = g.row.H-G-L.Denot} {S = g.row.H-G-L-R.Denot} {K = g.row.H-G-L-W.Denot}
+    (outside g.H.G.Gate.name g.H.G.Gate.faults g.H.G.L.Link.begins g.H.G.L.Link.faults g.H.G.L.R.Source.left g.H.G.L.R.Source.faults g.H.G.L.W.Sink.held g.H.G.L.W.Sink.faults)
+    _ _ _ _ _ _ _ s.0 s.1 s.2 h
 
-pub returns-in-Some-clause-done : goal.returns-in-Some-clause-done
-returns-in-Some-clause-done g c = λ r. absurd (let a = sym (replay_alone c.args.words.now r) ∙ (ap (λ (x : List (List ℕ)). asks_serve x) (sym c.as_slice.ensures) ∙ c.in-Some.ensures.some) in cc)
+pub returns-in-Ok-Some-Serve-clause-done : goal.returns-in-Ok-Some-Serve-clause-done
+returns-in-Ok-Some-Serve-clause-done g c = λ r. absurd (let a = sym (replay_alone c.args.words.now r) ∙ (asked_at c.args.words.now _ c.in-Ok-Some-Serve.field-0 c.in-Ok-Some-Serve.field-0-0 (asked.Serve c.in-Ok-Some-Serve.path c.in-Ok-Some-Serve.clients) c.in-Ok-Some-Serve.field-0-is c.in-Ok-Some-Serve.field-0-0-is c.as_slice.ensures c.in-Ok-Some-Serve.ensures.asked).0 in cc)
 
-pub returns-in-Some-clause-script : goal.returns-in-Some-clause-script
-returns-in-Some-clause-script g c = λ r. absurd (let a = sym (replay_alone c.args.words.now r) ∙ (ap (λ (x : List (List ℕ)). asks_serve x) (sym c.as_slice.ensures) ∙ c.in-Some.ensures.some) in cc)
+pub returns-in-Ok-Some-Serve-clause-script : goal.returns-in-Ok-Some-Serve-clause-script
+returns-in-Ok-Some-Serve-clause-script g c = λ r. absurd (let a = sym (replay_alone c.args.words.now r) ∙ (asked_at c.args.words.now _ c.in-Ok-Some-Serve.field-0 c.in-Ok-Some-Serve.field-0-0 (asked.Serve c.in-Ok-Some-Serve.path c.in-Ok-Some-Serve.clients) c.in-Ok-Some-Serve.field-0-is c.in-Ok-Some-Serve.field-0-0-is c.as_slice.ensures c.in-Ok-Some-Serve.ensures.asked).0 in cc)
 
-pub returns-in-Some-clause-write_fault : goal.returns-in-Some-clause-write_fault
-returns-in-Some-clause-write_fault g c = λ r. absurd (let a = sym (replay_alone c.args.words.now r) ∙ (ap (λ (x : List (List ℕ)). asks_serve x) (sym c.as_slice.ensures) ∙ c.in-Some.ensures.some) in cc)
+pub returns-in-Ok-Some-Serve-clause-write_fault : goal.returns-in-Ok-Some-Serve-clause-write_fault
+returns-in-Ok-Some-Serve-clause-write_fault g c = λ r. absurd (let a = sym (replay_alone c.args.words.now r) ∙ (asked_at c.args.words.now _ c.in-Ok-Some-Serve.field-0 c.in-Ok-Some-Serve.field-0-0 (asked.Serve c.in-Ok-Some-Serve.path c.in-Ok-Some-Serve.clients) c.in-Ok-Some-Serve.field-0-is c.in-Ok-Some-Serve.field-0-0-is c.as_slice.ensures c.in-Ok-Some-Serve.ensures.asked).0 in cc)
 
-pub returns-in-Some-clause-no_memory : goal.returns-in-Some-clause-no_memory
-returns-in-Some-clause-no_memory g c = λ r. absurd (let a = sym (replay_alone c.args.words.now r) ∙ (ap (λ (x : List (List ℕ)). asks_serve x) (sym c.as_slice.ensures) ∙ c.in-Some.ensures.some) in cc)
+pub returns-in-Ok-Some-Serve-clause-no_memory : goal.returns-in-Ok-Some-Serve-clause-no_memory
+returns-in-Ok-Some-Serve-clause-no_memory g c = λ r. absurd (let a = sym (replay_alone c.args.words.now r) ∙ (asked_at c.args.words.now _ c.in-Ok-Some-Serve.field-0 c.in-Ok-Some-Serve.field-0-0 (asked.Serve c.in-Ok-Some-Serve.path c.in-Ok-Some-Serve.clients) c.in-Ok-Some-Serve.field-0-is c.in-Ok-Some-Serve.field-0-0-is c.as_slice.ensures c.in-Ok-Some-Serve.ensures.asked).0 in cc)
 
-pub returns-in-Some-clause-complete : goal.returns-in-Some-clause-complete
-returns-in-Some-clause-complete g c = λ r. absurd (let a = sym (replay_alone c.args.words.now r) ∙ (ap (λ (x : List (List ℕ)). asks_serve x) (sym c.as_slice.ensures) ∙ c.in-Some.ensures.some) in cc)
+pub returns-in-Ok-Some-Serve-clause-complete : goal.returns-in-Ok-Some-Serve-clause-complete
+returns-in-Ok-Some-Serve-clause-complete g c = λ r. absurd (let a = sym (replay_alone c.args.words.now r) ∙ (asked_at c.args.words.now _ c.in-Ok-Some-Serve.field-0 c.in-Ok-Some-Serve.field-0-0 (asked.Serve c.in-Ok-Some-Serve.path c.in-Ok-Some-Serve.clients) c.in-Ok-Some-Serve.field-0-is c.in-Ok-Some-Serve.field-0-0-is c.as_slice.ensures c.in-Ok-Some-Serve.ensures.asked).0 in cc)
 
-pub returns-in-Some-clause-headline : goal.returns-in-Some-clause-headline
-returns-in-Some-clause-headline g c = λ r. absurd (let a = sym (replay_alone c.args.words.now r) ∙ (ap (λ (x : List (List ℕ)). asks_serve x) (sym c.as_slice.ensures) ∙ c.in-Some.ensures.some) in cc)
+pub returns-in-Ok-Some-Serve-clause-headline : goal.returns-in-Ok-Some-Serve-clause-headline
+returns-in-Ok-Some-Serve-clause-headline g c = λ r. absurd (let a = sym (replay_alone c.args.words.now r) ∙ (asked_at c.args.words.now _ c.in-Ok-Some-Serve.field-0 c.in-Ok-Some-Serve.field-0-0 (asked.Serve c.in-Ok-Some-Serve.path c.in-Ok-Some-Serve.clients) c.in-Ok-Some-Serve.field-0-is c.in-Ok-Some-Serve.field-0-0-is c.as_slice.ensures c.in-Ok-Some-Serve.ensures.asked).0 in cc)
 
-pub returns-in-Some-clause-own_text : goal.returns-in-Some-clause-own_text
-returns-in-Some-clause-own_text g c = λ r. absurd (let a = sym (replay_alone c.args.words.now r) ∙ (ap (λ (x : List (List ℕ)). asks_serve x) (sym c.as_slice.ensures) ∙ c.in-Some.ensures.some) in cc)
+pub returns-in-Ok-Some-Serve-clause-own_text : goal.returns-in-Ok-Some-Serve-clause-own_text
+returns-in-Ok-Some-Serve-clause-own_text g c = λ r. absurd (let a = sym (replay_alone c.args.words.now r) ∙ (asked_at c.args.words.now _ c.in-Ok-Some-Serve.field-0 c.in-Ok-Some-Serve.field-0-0 (asked.Serve c.in-Ok-Some-Serve.path c.in-Ok-Some-Serve.clients) c.in-Ok-Some-Serve.field-0-is c.in-Ok-Some-Serve.field-0-0-is c.as_slice.ensures c.in-Ok-Some-Serve.ensures.asked).0 in cc)
 
-pub returns-in-Some-clause-none_served : goal.returns-in-Some-clause-none_served
-returns-in-Some-clause-none_served g c = λ r. absurd (let a = sym (replay_alone c.args.words.now r) ∙ (ap (λ (x : List (List ℕ)). asks_serve x) (sym c.as_slice.ensures) ∙ c.in-Some.ensures.some) in cc)
+pub returns-in-Ok-Some-Serve-clause-drills : goal.returns-in-Ok-Some-Serve-clause-drills
+returns-in-Ok-Some-Serve-clause-drills g c = λ n a. absurd (let e = sym (drill_no_serving c.args.words.now n a) ∙ (asked_at c.args.words.now _ c.in-Ok-Some-Serve.field-0 c.in-Ok-Some-Serve.field-0-0 (asked.Serve c.in-Ok-Some-Serve.path c.in-Ok-Some-Serve.clients) c.in-Ok-Some-Serve.field-0-is c.in-Ok-Some-Serve.field-0-0-is c.as_slice.ensures c.in-Ok-Some-Serve.ensures.asked).0 in cc)
 
-pub returns-in-Some-clause-serves : goal.returns-in-Some-clause-serves
-returns-in-Some-clause-serves g c = λ path clients a. let same = asked_once c.args.words.now c.in-Some.path.now path c.in-Some.clients clients (ap (λ (x : List (List ℕ)). asks_serve x) (sym c.as_slice.ensures) ∙ c.in-Some.ensures.some) a.0 in
+pub returns-in-Ok-Some-Serve-clause-drilled : goal.returns-in-Ok-Some-Serve-clause-drilled
+returns-in-Ok-Some-Serve-clause-drilled g c = λ n a. absurd (let e = sym (drill_no_serving c.args.words.now n a) ∙ (asked_at c.args.words.now _ c.in-Ok-Some-Serve.field-0 c.in-Ok-Some-Serve.field-0-0 (asked.Serve c.in-Ok-Some-Serve.path c.in-Ok-Some-Serve.clients) c.in-Ok-Some-Serve.field-0-is c.in-Ok-Some-Serve.field-0-0-is c.as_slice.ensures c.in-Ok-Some-Serve.ensures.asked).0 in cc)
+
+pub returns-in-Ok-Some-Serve-clause-drill_reads_none : goal.returns-in-Ok-Some-Serve-clause-drill_reads_none
+returns-in-Ok-Some-Serve-clause-drill_reads_none g c = λ n a. absurd (let e = sym (drill_no_serving c.args.words.now n a) ∙ (asked_at c.args.words.now _ c.in-Ok-Some-Serve.field-0 c.in-Ok-Some-Serve.field-0-0 (asked.Serve c.in-Ok-Some-Serve.path c.in-Ok-Some-Serve.clients) c.in-Ok-Some-Serve.field-0-is c.in-Ok-Some-Serve.field-0-0-is c.as_slice.ensures c.in-Ok-Some-Serve.ensures.asked).0 in cc)
+
+pub returns-in-Ok-Some-Serve-clause-none_served : goal.returns-in-Ok-Some-Serve-clause-none_served
+returns-in-Ok-Some-Serve-clause-none_served g c = λ n. absurd (let a = sym n ∙ (asked_at c.args.words.now _ c.in-Ok-Some-Serve.field-0 c.in-Ok-Some-Serve.field-0-0 (asked.Serve c.in-Ok-Some-Serve.path c.in-Ok-Some-Serve.clients) c.in-Ok-Some-Serve.field-0-is c.in-Ok-Some-Serve.field-0-0-is c.as_slice.ensures c.in-Ok-Some-Serve.ensures.asked).0 in cc)
+
+pub returns-in-Ok-Some-Serve-clause-round_trip : goal.returns-in-Ok-Some-Serve-clause-round_trip
+returns-in-Ok-Some-Serve-clause-round_trip g c = λ n. absurd (let a = sym n ∙ (asked_at c.args.words.now _ c.in-Ok-Some-Serve.field-0 c.in-Ok-Some-Serve.field-0-0 (asked.Serve c.in-Ok-Some-Serve.path c.in-Ok-Some-Serve.clients) c.in-Ok-Some-Serve.field-0-is c.in-Ok-Some-Serve.field-0-0-is c.as_slice.ensures c.in-Ok-Some-Serve.ensures.asked).0 in cc)
+
+pub returns-in-Ok-Some-Serve-clause-serves : goal.returns-in-Ok-Some-Serve-clause-serves
+returns-in-Ok-Some-Serve-clause-serves g c = λ path clients a. let same = asked_once c.args.words.now (string_bytes c.in-Ok-Some-Serve.path) path c.in-Ok-Some-Serve.clients clients (asked_at c.args.words.now _ c.in-Ok-Some-Serve.field-0 c.in-Ok-Some-Serve.field-0-0 (asked.Serve c.in-Ok-Some-Serve.path c.in-Ok-Some-Serve.clients) c.in-Ok-Some-Serve.field-0-is c.in-Ok-Some-Serve.field-0-0-is c.as_slice.ensures c.in-Ok-Some-Serve.ensures.asked).0 a.0 in
     at_path {G = g.row.H-G.Denot} {L = g.row.H-G-L.Denot} {S = g.row.H-G-L-R.Denot} {K = g.row.H-G-L-W.Denot}
     (outside g.H.G.Gate.name g.H.G.Gate.faults g.H.G.L.Link.begins g.H.G.L.Link.faults g.H.G.L.R.Source.left g.H.G.L.R.Source.faults g.H.G.L.W.Sink.held g.H.G.L.W.Sink.faults)
-    c.in-Some.path.now path c.in-Some.clients clients _ _ _ _ _ same.0 same.1 (c.serve_path.ensures.serves (known_serving c.args.words.now c.in-Some.path.now c.in-Some.clients (ap (λ (x : List (List ℕ)). asks_serve x) (sym c.as_slice.ensures) ∙ c.in-Some.ensures.some) (inr (path, clients, a))))
+    c.deref.result.now path c.in-Ok-Some-Serve.clients clients _ _ _ _ _ (c.deref.ensures ∙ same.0) same.1 c.serve_main.ensures.serves
 
-pub returns-in-Some-clause-round_trip : goal.returns-in-Some-clause-round_trip
-returns-in-Some-clause-round_trip g c = λ n. absurd (let a = sym n ∙ (ap (λ (x : List (List ℕ)). asks_serve x) (sym c.as_slice.ensures) ∙ c.in-Some.ensures.some) in cc)
+-- ---- other words
 
--- ---- a replay, or other words
+pub returns-in-Ok-None-clause-usage : goal.returns-in-Ok-None-clause-usage
+returns-in-Ok-None-clause-usage g c = λ h. (none_at c.args.words.now _ c.in-Ok-None.field-0 c.in-Ok-None.field-0-is c.as_slice.ensures c.in-Ok-None.ensures.other)
 
-pub returns-in-None-clause-usage : goal.returns-in-None-clause-usage
-returns-in-None-clause-usage g c = let s = c.replay_words.ensures.says in λ h. known_replay c.args.words.now (ap (λ (x : List (List ℕ)). asks_serve x) (sym c.as_slice.ensures) ∙ c.in-None.ensures.none) (promised.usage s.0 _ _ _ _ _ _ _ _ s.1 s.2 h)
+pub returns-in-Ok-None-clause-done : goal.returns-in-Ok-None-clause-done
+returns-in-Ok-None-clause-done g c = λ r. absurd ((none_at c.args.words.now _ c.in-Ok-None.field-0 c.in-Ok-None.field-0-is c.as_slice.ensures c.in-Ok-None.ensures.other) (inl r))
 
-pub returns-in-None-clause-other_words : goal.returns-in-None-clause-other_words
-returns-in-None-clause-other_words g c = let s = c.replay_words.ensures.says in λ unknown. promised.other_words s.0 _ _ _ _ _ _ _ _ s.1 s.2 (not_true (are_replay c.args.words.now) (λ r. unknown (inl r)))
+pub returns-in-Ok-None-clause-script : goal.returns-in-Ok-None-clause-script
+returns-in-Ok-None-clause-script g c = λ r. absurd ((none_at c.args.words.now _ c.in-Ok-None.field-0 c.in-Ok-None.field-0-is c.as_slice.ensures c.in-Ok-None.ensures.other) (inl r))
 
-pub returns-in-None-clause-unread : goal.returns-in-None-clause-unread
-returns-in-None-clause-unread g c = let s = c.replay_words.ensures.says in promised.unread s.0 _ _ _ _ _ _ _ _ s.1 s.2
+pub returns-in-Ok-None-clause-write_fault : goal.returns-in-Ok-None-clause-write_fault
+returns-in-Ok-None-clause-write_fault g c = λ r. absurd ((none_at c.args.words.now _ c.in-Ok-None.field-0 c.in-Ok-None.field-0-is c.as_slice.ensures c.in-Ok-None.ensures.other) (inl r))
 
-pub returns-in-None-clause-idle_words : goal.returns-in-None-clause-idle_words
-returns-in-None-clause-idle_words g c = let s = c.replay_words.ensures.says in promised.idle_words s.0 _ _ _ _ _ _ _ _ s.1 s.2
+pub returns-in-Ok-None-clause-no_memory : goal.returns-in-Ok-None-clause-no_memory
+returns-in-Ok-None-clause-no_memory g c = λ r. absurd ((none_at c.args.words.now _ c.in-Ok-None.field-0 c.in-Ok-None.field-0-is c.as_slice.ensures c.in-Ok-None.ensures.other) (inl r))
 
-pub returns-in-None-clause-read_fault : goal.returns-in-None-clause-read_fault
-returns-in-None-clause-read_fault g c = let s = c.replay_words.ensures.says in promised.read_fault s.0 _ _ _ _ _ _ _ _ s.1 s.2
+pub returns-in-Ok-None-clause-complete : goal.returns-in-Ok-None-clause-complete
+returns-in-Ok-None-clause-complete g c = λ r. absurd ((none_at c.args.words.now _ c.in-Ok-None.field-0 c.in-Ok-None.field-0-is c.as_slice.ensures c.in-Ok-None.ensures.other) (inl r))
 
-pub returns-in-None-clause-idle_fault : goal.returns-in-None-clause-idle_fault
-returns-in-None-clause-idle_fault g c = let s = c.replay_words.ensures.says in promised.idle_fault s.0 _ _ _ _ _ _ _ _ s.1 s.2
+pub returns-in-Ok-None-clause-headline : goal.returns-in-Ok-None-clause-headline
+returns-in-Ok-None-clause-headline g c = λ r. absurd ((none_at c.args.words.now _ c.in-Ok-None.field-0 c.in-Ok-None.field-0-is c.as_slice.ensures c.in-Ok-None.ensures.other) (inl r))
 
-pub returns-in-None-clause-write_cause : goal.returns-in-None-clause-write_cause
-returns-in-None-clause-write_cause g c = let s = c.replay_words.ensures.says in promised.write_cause s.0 _ _ _ _ _ _ _ _ s.1 s.2
+pub returns-in-Ok-None-clause-own_text : goal.returns-in-Ok-None-clause-own_text
+returns-in-Ok-None-clause-own_text g c = λ r. absurd ((none_at c.args.words.now _ c.in-Ok-None.field-0 c.in-Ok-None.field-0-is c.as_slice.ensures c.in-Ok-None.ensures.other) (inl r))
 
-pub returns-in-None-clause-done : goal.returns-in-None-clause-done
-returns-in-None-clause-done g c = let s = c.replay_words.ensures.says in λ r. promised.done s.0 _ _ _ _ _ _ _ _ s.1 s.2
+pub returns-in-Ok-None-clause-drills : goal.returns-in-Ok-None-clause-drills
+returns-in-Ok-None-clause-drills g c = λ n a. absurd ((none_at c.args.words.now _ c.in-Ok-None.field-0 c.in-Ok-None.field-0-is c.as_slice.ensures c.in-Ok-None.ensures.other) (inr (inl (n, a))))
 
-pub returns-in-None-clause-script : goal.returns-in-None-clause-script
-returns-in-None-clause-script g c = let s = c.replay_words.ensures.says in λ r. promised.script s.0 _ _ _ _ _ _ _ _ s.1 s.2
+pub returns-in-Ok-None-clause-drilled : goal.returns-in-Ok-None-clause-drilled
+returns-in-Ok-None-clause-drilled g c = λ n a. absurd ((none_at c.args.words.now _ c.in-Ok-None.field-0 c.in-Ok-None.field-0-is c.as_slice.ensures c.in-Ok-None.ensures.other) (inr (inl (n, a))))
 
-pub returns-in-None-clause-write_fault : goal.returns-in-None-clause-write_fault
-returns-in-None-clause-write_fault g c = let s = c.replay_words.ensures.says in λ r. promised.write_fault s.0 _ _ _ _ _ _ _ _ s.1 s.2
+pub returns-in-Ok-None-clause-serves : goal.returns-in-Ok-None-clause-serves
+returns-in-Ok-None-clause-serves g c = λ path clients a. absurd ((none_at c.args.words.now _ c.in-Ok-None.field-0 c.in-Ok-None.field-0-is c.as_slice.ensures c.in-Ok-None.ensures.other) (inr (inr (path, clients, a))))
 
-pub returns-in-None-clause-no_memory : goal.returns-in-None-clause-no_memory
-returns-in-None-clause-no_memory g c = let s = c.replay_words.ensures.says in λ r. promised.no_memory s.0 _ _ _ _ _ _ _ _ s.1 s.2
+pub returns-in-Ok-None-clause-round_trip : goal.returns-in-Ok-None-clause-round_trip
+returns-in-Ok-None-clause-round_trip g c = λ n. idle.trips _ c.idle.ensures.journal
 
-pub returns-in-None-clause-complete : goal.returns-in-None-clause-complete
-returns-in-None-clause-complete g c = let s = c.replay_words.ensures.says in promised.complete s.0 _ _ _ _ _ _ _ _ s.1 s.2
+-- ---- want of memory
 
-pub returns-in-None-clause-headline : goal.returns-in-None-clause-headline
-returns-in-None-clause-headline g c = let s = c.replay_words.ensures.says in λ r. (s.0, s.1, says_replay s.0 _ _ _ _ _ _ _ r s.2)
+pub returns-in-Err-clause-other_words : goal.returns-in-Err-clause-other_words
+returns-in-Err-clause-other_words g c = λ unknown. absurd (unknown (subst (λ (x : List (List ℕ)). AreKnown x) c.as_slice.ensures c.in-Err.ensures.known))
 
-pub returns-in-None-clause-own_text : goal.returns-in-None-clause-own_text
-returns-in-None-clause-own_text g c = let s = c.replay_words.ensures.says in λ r. (s.0, s.1, program_own s.0 _ _ _ _ _ _ _ s.2)
+pub returns-in-Err-clause-no_memory : goal.returns-in-Err-clause-no_memory
+returns-in-Err-clause-no_memory g c = λ r is. idle.no_memory _ _ _ refl c.idle-in-Err.ensures.journal
 
-pub returns-in-None-clause-none_served : goal.returns-in-None-clause-none_served
-returns-in-None-clause-none_served g c = let s = c.replay_words.ensures.says in λ r. c.replay_words.ensures.none_served
+pub returns-in-Err-clause-headline : goal.returns-in-Err-clause-headline
+returns-in-Err-clause-headline g c = λ r. idle.headline _ _ _ _ _ _ refl c.idle-in-Err.ensures.status c.idle-in-Err.ensures.journal
 
-pub returns-in-None-clause-serves : goal.returns-in-None-clause-serves
-returns-in-None-clause-serves g c = let s = c.replay_words.ensures.says in λ path clients a. absurd (let e = sym (ap (λ (x : List (List ℕ)). asks_serve x) (sym c.as_slice.ensures) ∙ c.in-None.ensures.none) ∙ a.0 in cc)
+pub returns-in-Err-clause-own_text : goal.returns-in-Err-clause-own_text
+returns-in-Err-clause-own_text g c = λ r. idle.own_text _ _ _ refl c.idle-in-Err.ensures.status
 
-pub returns-in-None-clause-round_trip : goal.returns-in-None-clause-round_trip
-returns-in-None-clause-round_trip g c = let s = c.replay_words.ensures.says in λ n. program_trips s.0 _ _ _ _ _ _ _ s.2
+pub returns-in-Err-clause-drills : goal.returns-in-Err-clause-drills
+returns-in-Err-clause-drills g c = λ n a. idle.drills _ n _ _ refl refl c.idle-in-Err.ensures.status c.idle-in-Err.ensures.journal
+
+pub returns-in-Err-clause-serves : goal.returns-in-Err-clause-serves
+returns-in-Err-clause-serves g c = λ path clients a. idle.serves {G = g.row.H-G.Denot} {L = g.row.H-G-L.Denot} {S = g.row.H-G-L-R.Denot} {K = g.row.H-G-L-W.Denot}
+    (outside g.H.G.Gate.name g.H.G.Gate.faults g.H.G.L.Link.begins g.H.G.L.Link.faults g.H.G.L.R.Source.left g.H.G.L.R.Source.faults g.H.G.L.W.Sink.held g.H.G.L.W.Sink.faults)
+    path clients _ _ _ _ _ refl c.idle-in-Err.ensures.status c.idle-in-Err.ensures.journal c.idle-in-Err.ensures.none_served
+
+pub returns-in-Err-clause-round_trip : goal.returns-in-Err-clause-round_trip
+returns-in-Err-clause-round_trip g c = λ n. idle.trips _ c.idle-in-Err.ensures.journal

@@ -1,0 +1,66 @@
+-- What holds where nothing is done.
+use Rattle.std.proofs.Common.{◌≡◌, inl, inr, ℕ, List, [], ◌++◌, Option, Some, None, ◌∙◌, refl, sym, ap, subst, arith}
+use Rattle.std.proofs.lemmas.List.{append-nil}
+use Rattle.am_base.specs.Outside.{AreTold, told_then}
+use Rattle.am_base.specs.Written.{Output}
+use Rattle.am_journal.specs.declared.event.Event.{Event}
+use Rattle.am_drill.specs.declared.driving.DrillEnd.TheVariants as drilling
+use Rattle.am_drill.specs.Drill.{events}
+use Rattle.am_slots.specs.Slots.{Outside}
+use Rattle.am_server.specs.Ends.{SaysServe, Given}
+use Rattle.am_server.specs.declared.served.Served.{Served}
+use Rattle.am_server.specs.declared.writing.ServeEnd.{ServeEnd}
+use Rattle.am_server.specs.declared.writing.ServeEnd.TheVariants as serving
+use Rattle.acmefs.specs.declared.replay.End.{End}
+use Rattle.acmefs.specs.declared.replay.End.TheVariants as end
+use Rattle.acmefs.specs.Scripts as scripts
+use Rattle.acmefs.specs.Scripts.{script_of, replied_from, text_of}
+use Rattle.acmefs.specs.Ends.{RanOut, RanTold, Says, Drilled, code_of, serve_code}
+use Rattle.acmefs.specs.Own.{PutsOwn, RoundTrips}
+use Rattle.acmefs.proofs.RoundTrip as round
+
+pub trips : (journal : List Event) → journal ≡ [] → RoundTrips journal
+trips journal none = subst RoundTrips (sym none) (round.trips [] tt)
+
+nothing_told : (held : Option (List ℕ)) → held ≡ told_then held []
+nothing_told None = refl
+nothing_told (Some bytes) = ap Some (sym (append-nil bytes))
+
+-- want of memory before the first event
+ran_out : (script : scripts.Script) (o : Output) (journal : List Event) → o.held_now ≡ o.held → journal ≡ [] → RanOut script o journal
+unfolding replied_from
+ran_out script o journal silent none = subst (RanOut script o) (sym none) (record {
+  events = (script.events, refl);
+  put = ([], inl refl, (text_of script, refl), inl (silent ∙ nothing_told o.held));
+})
+
+pub no_memory : (told : Option (List ℕ)) (o : Output) (journal : List Event) → o.held_now ≡ o.held → journal ≡ [] → RanTold end.NoMemory told o journal
+no_memory None o journal silent none = tt
+no_memory (Some bytes) o journal silent none = ran_out (script_of bytes) o journal silent none
+
+bytes_in : Option (List ℕ) → List ℕ
+bytes_in None = []
+bytes_in (Some bytes) = bytes
+
+are_told : (told : Option (List ℕ)) → AreTold told (bytes_in told)
+unfolding bytes_in
+are_told None = tt
+are_told (Some bytes) = refl
+
+pub headline : (status : ℕ) (told : Option (List ℕ)) (before now : ℕ) (o : Output) (journal : List Event) → o.held_now ≡ o.held → status ≡ 6 → journal ≡ []
+    → (e : End) × (status ≡ code_of e) × Says e told before now o journal
+headline status told before now o journal silent is none =
+    (end.NoMemory, is, (bytes_in told, are_told told, ran_out (script_of (bytes_in told)) o journal silent none))
+
+pub own_text : (status : ℕ) (o : Output) (journal : List Event) → o.held_now ≡ o.held → status ≡ 6 → (e : End) × (status ≡ code_of e) × PutsOwn e o journal
+own_text status o journal silent is = (end.NoMemory, is, (0, omega arith, silent ∙ nothing_told o.held))
+
+pub drills : (status rounds : ℕ) (o : Output) (journal : List Event) → o.held_now ≡ o.held → o.faults_now ≡ o.faults → status ≡ 6 → journal ≡ [] → Drilled status rounds o journal
+drills status rounds o journal silent calm is none = (drilling.NoMemory, is, ((events rounds, ap (λ (j : List Event). j ++ events rounds) none), (silent, calm)))
+
+module _ {G L S K : Type 0} where
+  pub serves : (m : Outside G L S K) (path : List ℕ) (clients : ℕ) (i : Given) (o : Output) (journal : List Event) (served : List (Served G L S K)) (status : ℕ)
+      → o.held_now ≡ o.held → status ≡ 6 → journal ≡ [] → served ≡ []
+      → (e : ServeEnd) × (status ≡ serve_code e) × SaysServe m path clients i o journal served e
+  serves m path clients i o journal served status silent is none unserved =
+      (serving.NoMemory, is, inr (inr (inl (refl, record { silent = silent; empty = none; none = unserved }))))

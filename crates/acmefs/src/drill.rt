@@ -1,0 +1,39 @@
+//! A drill, by its exit status.
+
+ghost use Rattle.std.specs.Prelude.{◌≡◌, ◌≤◌};
+ghost use Rattle.am_base.specs.Written.{seen};
+ghost use Rattle.acmefs.specs.Ends.{drill_code, Drilled};
+ghost use Rattle.acmefs.specs.Own.{RoundTrips};
+
+use crate::replay::ReplayEnd;
+use am_base::Sink;
+use am_drill::{DrillEnd, drill, drill_is_played};
+use std::alloc::Global;
+
+fn drill_code(end: DrillEnd) -> u8
+    ensures { result ≡ drill_code end }
+{
+    match end {
+        DrillEnd::Done => 0,
+        DrillEnd::WriteFault => 4,
+        DrillEnd::NoMemory => 6,
+    }
+}
+
+/// Does the events of a drill of so many rounds from the empty editor on, and writes the summary of their run (docs/formats/drill.md). The
+/// status is 0 where all was done and written, 4 where the output failed, 6 where memory ran out.
+pub fn drill_main<O: Sink>(alloc: Global, rounds: u64, output: &mut O) -> ReplayEnd
+    requires rounds { (1 ≤ rounds) × (rounds ≤ 100000) }
+    ensures drills { Drilled result.status rounds
+        (seen (O.held output.old) (O.held output.new) (O.faults output.old) (O.faults output.new)) result.journal }
+    // The journal's lines and then its report are a transcript, where they aren't too long, that gives the same journal
+    // and the same report.
+    ensures round_trip { RoundTrips result.journal }
+{
+    drill_is_played();
+    let drilled = drill(alloc, rounds, output);
+    ReplayEnd {
+        status: drill_code(drilled.end),
+        journal: drilled.journal,
+    }
+}

@@ -1,0 +1,83 @@
+//! The table of the words, as a test that takes no memory.
+
+ghost use Rattle.std.specs.Prelude.{◌≡◌, is_some, option_copied};
+ghost use Rattle.am_words.specs.Words.{after_front, are_replay, clients_of, in_three, in_two, is_path, path_and_clients, rounds_of};
+
+use am_text::{Bytes, read_decimal};
+
+/// Whether the words ask for a replay.
+pub(crate) fn is_replay(words: &[Bytes]) -> bool
+    ensures { result ≡ are_replay words.now }
+{
+    match words {
+        [word] => word.as_slice() == b"replay".as_slice(),
+        _ => false,
+    }
+}
+
+/// The number of rounds, where the word is one.
+pub(crate) fn rounds_of(number: &[u8]) -> Option<u64>
+    ensures { result ≡ rounds_of number.now }
+{
+    match read_decimal(number) {
+        Some(n) if 0 < n && n <= 100_000 => Some(n),
+        _ => None,
+    }
+}
+
+/// The number of clients, where the word is one.
+pub(crate) fn clients_of(number: &[u8]) -> Option<u32>
+    ensures { result ≡ clients_of number.now }
+{
+    match read_decimal(number) {
+        Some(n) if 0 < n && n <= 64 => Some(n as u32),
+        _ => None,
+    }
+}
+
+fn is_path(path: &[u8]) -> bool
+    ensures { result ≡ is_path path.now }
+{
+    match path.first() {
+        Some(byte) => *byte != b'-',
+        None => false,
+    }
+}
+
+fn are_path_and_clients(path: &[u8], number: &[u8]) -> bool
+    ensures { result ≡ is_some (path_and_clients path.now number.now) }
+{
+    is_path(path) && clients_of(number).is_some()
+}
+
+fn after_front<'a>(front: &[u8], word: &'a [u8]) -> Option<&'a [u8]>
+    ensures { option_copied result ≡ after_front front.now word.now }
+{
+    word.strip_prefix(front)
+}
+
+/// Whether the words after `serve` are a path and the option, in one word with its number.
+pub(crate) fn asks_in_two(first: &[u8], second: &[u8]) -> bool
+    ensures { result ≡ is_some (in_two first.now second.now) }
+{
+    match after_front(b"--clients=", first) {
+        Some(number) => are_path_and_clients(second, number),
+        None => match after_front(b"--clients=", second) {
+            Some(number) => are_path_and_clients(first, number),
+            None => false,
+        },
+    }
+}
+
+/// Whether the words after `serve` are a path, the option and its number.
+pub(crate) fn asks_in_three(first: &[u8], second: &[u8], third: &[u8]) -> bool
+    ensures { result ≡ is_some (in_three first.now second.now third.now) }
+{
+    if first == b"--clients".as_slice() {
+        are_path_and_clients(third, second)
+    } else if second == b"--clients".as_slice() {
+        are_path_and_clients(first, third)
+    } else {
+        false
+    }
+}
