@@ -21,7 +21,7 @@ use Rattle.plumb_rules.specs.Laws.{may_change_data, DataAreKept}
 use Rattle.plumb_rules.specs.Patterns.{pattern_of, is_whole}
 use Rattle.plumb_rules.specs.Routes.{and_then, begun, spelled, rule_holds, rules_hold, with_dst, route_in, route_at, set_route}
 use Rattle.plumb_rules.specs.Texts.{field_text, with_field, whole_name, data_name, argument_text}
-use Rattle.plumb_rules.specs.Verbs.{Nodes, with_match, whole_data, click_data, field_matches, pattern_matches, with_attributes, verb_done, rule_done}
+use Rattle.plumb_rules.specs.Verbs.{Nodes, is_text, set, with_match, whole_data, click_data, data_matches, field_matches, tree_matches, pattern_matches, matches, isfile, isdir, with_attributes, delete, to, verb_done, rule_done}
 use Rattle.plumb_rules.specs.declared.answer.Route.{Route}
 use Rattle.plumb_rules.specs.declared.attributes.Click.{Click}
 use Rattle.plumb_rules.specs.declared.attributes.Click.TheVariants.{Absent, Unread, At}
@@ -72,11 +72,13 @@ module _ (body : List ℕ) where
   keeps_if b s t e k = subst (Keeps body) (same_if b s t e).1 k
 
   data_kept : (s t : State) (r : Tree) (o : Click) → o ≡ Absent → click_data s r (decode s.msg.body) o ≡ Some t → Keeps body s → Keeps body t
+  unfolding whole_data
   data_kept s t r Absent is e k = keeps_if (is_whole r (decode s.msg.body)) (with_match s r (decode s.msg.body) (span 0 (length (decode s.msg.body)))) t e (record { unclicked = k.unclicked; same = k.same })
   data_kept s t r Unread is e k = absurd cc
   data_kept s t r (At n) is e k = absurd cc
 
   matches_kept : (s t : State) (f : Field) (o : Option Tree) → pattern_matches s f o ≡ Some t → Keeps body s → Keeps body t
+  unfolding tree_matches field_matches data_matches
   matches_kept s t f None e k = absurd cc
   matches_kept s t Src (Some r) e k = keeps_if (is_whole r (field_text s.msg Src)) s t e k
   matches_kept s t Dst (Some r) e k = keeps_if (is_whole r (field_text s.msg Dst)) s t e k
@@ -85,6 +87,7 @@ module _ (body : List ℕ) where
   matches_kept s t Data (Some r) e k = data_kept s t r (click_of s.msg.attrs) k.unclicked e k
 
   set_kept : (s t : State) (f : Field) (text : List ℕ) → may_change_data (verb.Set f) ≡ false → verb_done [] s (verb.Set f) text ≡ Some t → Keeps body s → Keeps body t
+  unfolding set
   set_kept s t Src text p e k = keeps_at (record s { msg = with_field s.msg Src text }) t e (record { unclicked = k.unclicked; same = k.same })
   set_kept s t Dst text p e k = keeps_at (record s { msg = with_field s.msg Dst text }) t e (record { unclicked = k.unclicked; same = k.same })
   set_kept s t Wdir text p e k = keeps_at (record s { msg = with_field s.msg Wdir text }) t e (record { unclicked = k.unclicked; same = k.same })
@@ -92,6 +95,7 @@ module _ (body : List ℕ) where
   set_kept s t Data text p e k = absurd (false≢true (sym p))
 
   verb_kept : (tree : Nodes) (s t : State) (v : Verb) (text : List ℕ) → may_change_data v ≡ false → verb_done tree s v text ≡ Some t → Keeps body s → Keeps body t
+  unfolding is_text matches isfile isdir delete to
   verb_kept tree s t (verb.Is f) text p e k = keeps_if (bytes_eq (field_text s.msg f) text) s t e k
   verb_kept tree s t (verb.Matches f) text p e k = matches_kept s t f (pattern_of text) e k
   verb_kept tree s t (verb.Set f) text p e k = set_kept s t f text p e k

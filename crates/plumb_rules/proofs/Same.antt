@@ -16,7 +16,7 @@ use Rattle.plumb_rules.specs.Attributes.{click_of, is_absent}
 use Rattle.plumb_rules.specs.Patterns.{pattern_of, is_whole}
 use Rattle.plumb_rules.specs.Routes.{and_then, spelled, rule_holds}
 use Rattle.plumb_rules.specs.Texts.{field_text, whole_name, data_name, argument_text}
-use Rattle.plumb_rules.specs.Verbs.{Nodes, with_match, click_data, pattern_matches, verb_done, rule_done}
+use Rattle.plumb_rules.specs.Verbs.{Nodes, is_text, whole_data, data_matches, field_matches, tree_matches, matches, isfile, isdir, to, with_match, click_data, pattern_matches, verb_done, rule_done}
 use Rattle.plumb_rules.specs.Unchanged.{keeps_message}
 use Rattle.plumb_rules.specs.declared.attributes.Click.{Click}
 use Rattle.plumb_rules.specs.declared.attributes.Click.TheVariants.{Absent, Unread, At}
@@ -34,11 +34,13 @@ module _ (s t : State) where
   same_where b u h e = subst (λ (v : State). v.msg ≡ s.msg) (same_if b u t e).1 h
 
   same_data : (r : Tree) (o : Click) → is_absent o ≡ true → click_data s r (decode s.msg.body) o ≡ Some t → t.msg ≡ s.msg
+  unfolding whole_data
   same_data r Absent p e = same_where (is_whole r (decode s.msg.body)) (with_match s r (decode s.msg.body) (span 0 (length (decode s.msg.body)))) refl e
   same_data r Unread p e = absurd (false≢true p)
   same_data r (At n) p e = absurd (false≢true p)
 
   same_match : (f : Field) (o : Option Tree) → keeps_message s.msg (verb.Matches f) ≡ true → pattern_matches s f o ≡ Some t → t.msg ≡ s.msg
+  unfolding tree_matches field_matches data_matches
   same_match f None p e = absurd cc
   same_match Src (Some r) p e = same_where (is_whole r (field_text s.msg Src)) s refl e
   same_match Dst (Some r) p e = same_where (is_whole r (field_text s.msg Dst)) s refl e
@@ -47,6 +49,7 @@ module _ (s t : State) where
   same_match Data (Some r) p e = same_data r (click_of s.msg.attrs) p e
 
   same_verb : (tree : Nodes) (v : Verb) (text : List ℕ) → keeps_message s.msg v ≡ true → verb_done tree s v text ≡ Some t → t.msg ≡ s.msg
+  unfolding is_text matches isfile isdir to
   same_verb tree (verb.Is f) text p e = same_where (bytes_eq (field_text s.msg f) text) s refl e
   same_verb tree (verb.Matches f) text p e = same_match f (pattern_of text) p e
   same_verb tree (verb.Set f) text p e = absurd (false≢true p)

@@ -1,8 +1,8 @@
 -- A message while the rules of a set are done.
+use Rattle.std.specs.Prelude.{Option, Some, None}
 use Rattle.plumb_msg.specs.declared.message.PlumbMsg.{PlumbMsg}
-use Rattle.plumb_rules.specs.declared.draft.Form.{Form}
-use Rattle.plumb_rules.specs.declared.draft.Form.TheVariants.{Given, Changed}
 
-abbrev pub msg_in : Form → PlumbMsg
-msg_in (Given m) = m.now
-msg_in (Changed m) = m
+-- what the rules made of a message, or else the message as it was given
+abbrev pub changed_or : Option PlumbMsg → PlumbMsg → PlumbMsg
+changed_or None given = given
+changed_or (Some m) given = m

@@ -1,5 +1,5 @@
 -- What each verb does. None where the rule doesn't hold.
-use Rattle.std.specs.Prelude.{ℕ, List, length, slice_range, Option, Some, None, if◌then◌else◌}
+use Rattle.std.specs.Prelude.{ℕ, Bool, List, length, slice_range, Option, Some, None, if◌then◌else◌}
 use Rattle.std.specs.Str.{bytes_eq}
 use Rattle.am_text.specs.Utf8.{decode, utf8}
 use Rattle.am_text.specs.declared.range.Range.{Range}
@@ -28,12 +28,16 @@ use Rattle.plumb_rules.specs.declared.state.State.{State}
 abbrev pub Nodes : Type 0
 Nodes = List (List ℕ × Node)
 
+-- the state after a rule, where it holds
+abbrev pub where_holds : State → Bool → Option State
+where_holds s holds = if holds then Some s else None
+
 -- ---- `is`, `set`
 
-abbrev pub is_text : State → Field → List ℕ → Option State
+unfoldable pub is_text : State → Field → List ℕ → Option State
 is_text s f text = if bytes_eq (field_text s.msg f) text then Some s else None
 
-abbrev pub set : State → Field → List ℕ → Option State
+unfoldable pub set : State → Field → List ℕ → Option State
 set s f text = Some (record s { msg = with_field s.msg f text })
 
 -- ---- `matches`
@@ -43,14 +47,14 @@ abbrev pub with_match : State → Tree → List ℕ → Range → State
 with_match s r text found = record s { matched = Some (matched r text found) }
 
 -- the whole data match
-abbrev pub whole_data : State → Tree → List ℕ → Option State
+unfoldable pub whole_data : State → Tree → List ℕ → Option State
 whole_data s r text = if is_whole r text then Some (with_match s r text (span 0 (length text))) else None
 
 -- the data become the match at the click, and the click goes
 abbrev pub clicked_msg : PlumbMsg → List ℕ → Range → PlumbMsg
 clicked_msg m text found = record m { attrs = unclicked m.attrs; body = utf8 (slice_range text found.q0 found.q1) }
 
-abbrev pub clicked : State → Tree → List ℕ → Option Range → Option State
+unfoldable pub clicked : State → Tree → List ℕ → Option Range → Option State
 clicked s r text None = None
 clicked s r text (Some found) = Some (with_match (record s { msg = clicked_msg s.msg text found }) r text found)
 
@@ -59,13 +63,13 @@ click_data s r text Absent = whole_data s r text
 click_data s r text Unread = None
 click_data s r text (At n) = clicked s r text (click_span r text n)
 
-abbrev pub data_matches : State → Tree → Option State
+unfoldable pub data_matches : State → Tree → Option State
 data_matches s r = click_data s r (decode s.msg.body) (click_of s.msg.attrs)
 
-abbrev pub field_matches : State → Field → Tree → Option State
+unfoldable pub field_matches : State → Field → Tree → Option State
 field_matches s f r = if is_whole r (field_text s.msg f) then Some s else None
 
-abbrev pub tree_matches : State → Field → Tree → Option State
+unfoldable pub tree_matches : State → Field → Tree → Option State
 tree_matches s Src r = field_matches s Src r
 tree_matches s Dst r = field_matches s Dst r
 tree_matches s Wdir r = field_matches s Wdir r
@@ -76,15 +80,15 @@ abbrev pub pattern_matches : State → Field → Option Tree → Option State
 pattern_matches s f None = None
 pattern_matches s f (Some r) = tree_matches s f r
 
-abbrev pub matches : State → Field → List ℕ → Option State
+unfoldable pub matches : State → Field → List ℕ → Option State
 matches s f text = pattern_matches s f (pattern_of text)
 
 -- ---- `isfile`, `isdir`
 
-abbrev pub isfile : Nodes → State → List ℕ → Option State
+unfoldable pub isfile : Nodes → State → List ℕ → Option State
 isfile tree s name = if is_file tree (utf8 name) then Some (record s { file = Some name }) else None
 
-abbrev pub isdir : Nodes → State → List ℕ → Option State
+unfoldable pub isdir : Nodes → State → List ℕ → Option State
 isdir tree s name = if is_directory tree (utf8 name) then Some (record s { dir = Some name }) else None
 
 -- ---- `add`, `delete`
@@ -97,15 +101,15 @@ added s None = None
 added s (Some more) = Some (with_attributes s (with_attrs s.msg.attrs more))
 
 -- the argument is a line of attributes
-abbrev pub add : State → List ℕ → Option State
+unfoldable pub add : State → List ℕ → Option State
 add s text = added s (attrs_of (utf8 text))
 
-abbrev pub delete : State → List ℕ → Option State
+unfoldable pub delete : State → List ℕ → Option State
 delete s text = Some (with_attributes s (without_attr (utf8 text) s.msg.attrs))
 
 -- ---- `plumb`
 
-abbrev pub to : State → List ℕ → Option State
+unfoldable pub to : State → List ℕ → Option State
 to s text = Some (record s { port = Some (utf8 text) })
 
 abbrev pub by_way : State → Way → Option State

@@ -8,28 +8,22 @@ use plumb_msg::PlumbMsg;
 use std::alloc::Global;
 use std::marker::Model;
 
-/// Whose message it is.
-#[derive(Drop)]
-pub enum Form<'a> {
-    /// The one that was given.
-    Given(&'a PlumbMsg),
-    /// What a rule made of it.
-    Changed(PlumbMsg),
-}
-
 /// A message that rules may change. It is copied at the first change.
 #[derive(Drop)]
 pub struct Draft<'a> {
-    form: Form<'a>,
+    /// The one that was given.
+    given: &'a PlumbMsg,
+    /// What the rules made of it.
+    changed: Option<PlumbMsg>,
 }
 
 impl<'a> Model for Draft<'a> {
     ghost use Rattle.plumb_msg.specs.declared.message.PlumbMsg.{PlumbMsg};
-    ghost use Rattle.plumb_rules.specs.Drafts.{msg_in};
+    ghost use Rattle.plumb_rules.specs.Drafts.{changed_or};
 
     ghost Value = { PlumbMsg };
 
-    ghost view = { λ d. msg_in d.form };
+    ghost view = { λ d. changed_or d.changed d.given.now };
 }
 
 impl<'a> Draft<'a> {
@@ -38,16 +32,8 @@ impl<'a> Draft<'a> {
         ensures { result ≡ msg.now }
     {
         Draft {
-            form: Form::Given(msg),
-        }
-    }
-
-    /// A message that a rule made.
-    pub fn changed(msg: PlumbMsg) -> Self
-        ensures { result ≡ msg }
-    {
-        Draft {
-            form: Form::Changed(msg),
+            given: msg,
+            changed: None,
         }
     }
 
@@ -55,19 +41,26 @@ impl<'a> Draft<'a> {
     pub fn get(&self) -> &PlumbMsg
         ensures { result.now ≡ self.now }
     {
-        match &self.form {
-            Form::Given(msg) => msg,
-            Form::Changed(msg) => msg,
+        match &self.changed {
+            None => self.given,
+            Some(msg) => msg,
         }
     }
 
-    /// The message itself, to be changed: a copy of the one that was given.
-    pub fn into_msg(self, alloc: Global) -> Result<PlumbMsg, NoMemory>
-        ensures { IfOk result (λ msg. msg ≡ self.entry) }
+    /// Takes the message itself, to be changed and put back: a copy of the one that was given, where no rule has changed it yet.
+    pub fn take(&mut self, alloc: Global) -> Result<PlumbMsg, NoMemory>
+        ensures { IfOk result (λ msg. msg ≡ self.old) }
     {
-        match self.form {
-            Form::Given(msg) => copied_msg(alloc, msg),
-            Form::Changed(msg) => Ok(msg),
+        match self.changed.take() {
+            None => copied_msg(alloc, self.given),
+            Some(msg) => Ok(msg),
         }
+    }
+
+    /// Puts a message that a rule made.
+    pub fn put(&mut self, msg: PlumbMsg)
+        ensures { self.new ≡ msg }
+    {
+        self.changed = Some(msg);
     }
 }

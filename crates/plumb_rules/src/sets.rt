@@ -1,8 +1,9 @@
 //! The rules of a set in order.
 
-ghost use Rattle.std.specs.Prelude.{◌≡◌, true, IfOk, IfSome};
+ghost use Rattle.std.specs.Prelude.{◌≡◌, true, IfOk, IsTrue};
 ghost use Rattle.plumb_msg.specs.Spelling as spelling;
-ghost use Rattle.plumb_rules.specs.Routes.{begun, spelled, rule_holds, rules_hold, with_dst, route_in, route_at, set_route};
+ghost use Rattle.plumb_rules.specs.Routes.{begun, rule_holds, rules_hold, with_dst, route_in, route_at, set_route};
+ghost use Rattle.plumb_rules.specs.Verbs.{where_holds};
 
 use crate::answer::{Route, Way};
 use crate::draft::Draft;
@@ -28,56 +29,39 @@ fn begun(msg: &PlumbMsg) -> State
     }
 }
 
-fn spelled(alloc: Global, state: State) -> Result<Option<State>, NoMemory>
-    ensures value { IfOk result (λ s. s ≡ spelled state.entry) }
-    ensures spelled { IfOk result (λ s. IfSome s (λ t. spelling.can_spell t.msg ≡ true)) }
-{
-    if can_spell(alloc, state.msg.get())? {
-        return Ok(Some(state));
-    }
-    Ok(None)
-}
-
 // A rule that leaves a message which can't be spelled doesn't hold. A message that stays as it is can still be spelled.
 #[tactic(auto, using(crate::proofs::Same::same))]
-fn rule_holds<'a>(
-    alloc: Global,
-    tree: &Tree,
-    state: State<'a>,
-    rule: &Rule,
-) -> Result<Option<State<'a>>, NoMemory>
-    requires { spelling.can_spell state.msg ≡ true }
-    ensures value { IfOk result (λ s. s ≡ rule_holds tree.now.present state.entry rule.now) }
-    ensures spelled { IfOk result (λ s. IfSome s (λ t. spelling.can_spell t.msg ≡ true)) }
+fn rule_holds(alloc: Global, tree: &Tree, state: &mut State, rule: &Rule) -> Result<bool, NoMemory>
+    requires { spelling.can_spell state.old.msg ≡ true }
+    ensures value { IfOk result (λ holds. where_holds state.new holds ≡ rule_holds tree.now.present state.old rule.now) }
+    ensures spelled { IfOk result (λ holds. IsTrue holds → spelling.can_spell state.new.msg ≡ true) }
 {
     let is_same = keeps_message(state.msg.get(), rule.verb);
-    let Some(state) = rule_done(alloc, tree, state, rule)? else {
-        return Ok(None);
-    };
-    if is_same {
-        return Ok(Some(state));
+    if !rule_done(alloc, tree, state, rule)? {
+        return Ok(false);
     }
-    spelled(alloc, state)
+    if is_same {
+        return Ok(true);
+    }
+    can_spell(alloc, state.msg.get())
 }
 
 #[tactic(auto, using(crate::proofs::Further::rules))]
-fn rules_hold<'a>(
+fn rules_hold(
     alloc: Global,
     tree: &Tree,
-    state: State<'a>,
+    state: &mut State,
     rules: &[Rule],
-) -> Result<Option<State<'a>>, NoMemory>
-    requires { spelling.can_spell state.msg ≡ true }
-    ensures { IfOk result (λ s. s ≡ rules_hold tree.now.present state.entry rules.now) }
+) -> Result<bool, NoMemory>
+    requires { spelling.can_spell state.old.msg ≡ true }
+    ensures { IfOk result (λ holds. where_holds state.new holds ≡ rules_hold tree.now.present state.old rules.now) }
 {
-    let mut state = state;
     for rule in rules {
-        let Some(next) = rule_holds(alloc, tree, state, rule)? else {
-            return Ok(None);
-        };
-        state = next;
+        if !rule_holds(alloc, tree, state, rule)? {
+            return Ok(false);
+        }
     }
-    Ok(Some(state))
+    Ok(true)
 }
 
 // The message with the port as dst, if there is one.
@@ -96,8 +80,13 @@ fn with_dst(alloc: Global, msg: PlumbMsg, port: &Option<Bytes>) -> Result<PlumbM
 fn route_in(alloc: Global, state: State) -> Result<Route, NoMemory>
     ensures { IfOk result (λ r. r ≡ route_in state.entry) }
 {
-    let State { msg, port, way, .. } = state;
-    let msg = with_dst(alloc, msg.into_msg(alloc)?, &port)?;
+    let State {
+        mut msg,
+        port,
+        way,
+        ..
+    } = state;
+    let msg = with_dst(alloc, msg.take(alloc)?, &port)?;
     Ok(Route { port, way, msg })
 }
 
@@ -121,9 +110,9 @@ pub fn set_route(
     requires { spelling.can_spell msg.now ≡ true }
     ensures { IfOk result (λ r. r ≡ set_route tree.now.present msg.now rules.now) }
 {
-    let state = begun(msg);
-    match rules_hold(alloc, tree, state, rules)? {
-        None => Ok(None),
-        Some(state) => route_at(alloc, state),
+    let mut state = begun(msg);
+    if !rules_hold(alloc, tree, &mut state, rules)? {
+        return Ok(None);
     }
+    route_at(alloc, state)
 }

@@ -1,14 +1,13 @@
-//! What each verb does. `None` where the rule doesn't hold.
+//! What each verb does to the state, and whether the rule holds.
 
-ghost use Rattle.std.specs.Prelude.{◌≡◌, IfOk};
+ghost use Rattle.std.specs.Prelude.{◌≡◌, IfOk, OnOk};
 ghost use Rattle.re_syntax.specs.Tree.{tree};
 ghost use Rattle.plumb_rules.specs.Patterns.{click_span, IsMatchIn};
 ghost use Rattle.plumb_rules.specs.Unchanged.{keeps_message};
-ghost use Rattle.plumb_rules.specs.Verbs.{is_text, set, with_match, whole_data, clicked_msg, clicked, click_data, data_matches, field_matches, tree_matches, matches, isfile, isdir, add, delete, to, by_way, verb_done, rule_done};
+ghost use Rattle.plumb_rules.specs.Verbs.{where_holds, is_text, set, with_match, whole_data, clicked_msg, clicked, data_matches, field_matches, tree_matches, matches, isfile, isdir, add, delete, to, verb_done, rule_done};
 
 use crate::answer::Way;
 use crate::attributes::{Click, click_of, is_absent, unclicked, with_attrs, without_attr};
-use crate::draft::Draft;
 use crate::matching::{click_span, is_whole, matched};
 use crate::pattern::pattern_of;
 use crate::state::State;
@@ -45,69 +44,53 @@ pub fn keeps_message(msg: &PlumbMsg, verb: Verb) -> bool
 }
 
 // The text is that of the field.
-fn is_text<'a>(
-    alloc: Global,
-    state: State<'a>,
-    field: Field,
-    text: &Runes,
-) -> Result<Option<State<'a>>, NoMemory>
-    ensures { IfOk result (λ s. s ≡ is_text state.entry field text.now) }
+#[tactic(auto, unfolding(crate::specs::Verbs::is_text))]
+fn is_text(alloc: Global, state: &State, field: Field, text: &Runes) -> Result<bool, NoMemory>
+    ensures { IfOk result (λ holds. where_holds state.now holds ≡ is_text state.now field text.now) }
 {
     let present = field_text(alloc, state.msg.get(), field)?;
-    if present.as_slice() == text.as_slice() {
-        return Ok(Some(state));
-    }
-    Ok(None)
+    Ok(present.as_slice() == text.as_slice())
 }
 
 // The field gets the text.
-fn set<'a>(
-    alloc: Global,
-    state: State<'a>,
-    field: Field,
-    text: &Runes,
-) -> Result<Option<State<'a>>, NoMemory>
-    ensures { IfOk result (λ s. s ≡ set state.entry field text.now) }
+#[tactic(auto, unfolding(crate::specs::Verbs::set))]
+fn set(alloc: Global, state: &mut State, field: Field, text: &Runes) -> Result<bool, NoMemory>
+    ensures { IfOk result (λ holds. where_holds state.new holds ≡ set state.old field text.now) }
 {
-    let msg = with_field(alloc, state.msg.into_msg(alloc)?, field, text)?;
-    Ok(Some(State {
-        msg: Draft::changed(msg),
-        ..state
-    }))
+    let msg = with_field(alloc, state.msg.take(alloc)?, field, text)?;
+    state.msg.put(msg);
+    Ok(true)
 }
 
 // With the match of a text.
-fn with_match<'a>(
+fn with_match(
     alloc: Global,
-    state: State<'a>,
+    state: &mut State,
     re: &Re,
     text: Runes,
     found: Range,
-) -> Result<State<'a>, NoMemory>
+) -> Result<(), NoMemory>
     requires { IsMatchIn (tree re.now) text found }
-    ensures { IfOk result (λ s. s ≡ with_match state.entry (tree re.now) text found) }
+    ensures { OnOk result (state.new ≡ with_match state.old (tree re.now) text found) }
 {
-    let matched = Some(matched(alloc, re, text, found)?);
-    Ok(State { matched, ..state })
+    state.matched = Some(matched(alloc, re, text, found)?);
+    Ok(())
 }
 
 // The whole data match.
-fn whole_data<'a>(
-    alloc: Global,
-    state: State<'a>,
-    re: &Re,
-    text: Runes,
-) -> Result<Option<State<'a>>, NoMemory>
-    ensures { IfOk result (λ s. s ≡ whole_data state.entry (tree re.now) text) }
+#[tactic(auto, unfolding(crate::specs::Verbs::whole_data))]
+fn whole_data(alloc: Global, state: &mut State, re: &Re, text: Runes) -> Result<bool, NoMemory>
+    ensures { IfOk result (λ holds. where_holds state.new holds ≡ whole_data state.old (tree re.now) text) }
 {
     if !is_whole(alloc, re, &text)? {
-        return Ok(None);
+        return Ok(false);
     }
     let found = Range {
         q0: 0,
         q1: text.len(),
     };
-    Ok(Some(with_match(alloc, state, re, text, found)?))
+    with_match(alloc, state, re, text, found)?;
+    Ok(true)
 }
 
 // The data become the match at the click, and the click goes.
@@ -125,59 +108,48 @@ fn clicked_msg(
     Ok(PlumbMsg { attrs, body, ..msg })
 }
 
-fn clicked<'a>(
+#[tactic(auto, unfolding(crate::specs::Verbs::clicked))]
+fn clicked(
     alloc: Global,
-    state: State<'a>,
+    state: &mut State,
     re: &Re,
     text: Runes,
     at: u64,
-) -> Result<Option<State<'a>>, NoMemory>
-    ensures { IfOk result (λ s. s ≡ clicked state.entry (tree re.now) text (click_span (tree re.now) text at)) }
+) -> Result<bool, NoMemory>
+    ensures { IfOk result (λ holds. where_holds state.new holds ≡ clicked state.old (tree re.now) text (click_span (tree re.now) text at)) }
 {
     let Some(found) = click_span(alloc, re, &text, at)? else {
-        return Ok(None);
+        return Ok(false);
     };
-    let msg = clicked_msg(alloc, state.msg.into_msg(alloc)?, &text, found)?;
-    let state = State {
-        msg: Draft::changed(msg),
-        ..state
-    };
-    Ok(Some(with_match(alloc, state, re, text, found)?))
+    let msg = clicked_msg(alloc, state.msg.take(alloc)?, &text, found)?;
+    state.msg.put(msg);
+    with_match(alloc, state, re, text, found)?;
+    Ok(true)
 }
 
-fn data_matches<'a>(alloc: Global, state: State<'a>, re: &Re) -> Result<Option<State<'a>>, NoMemory>
-    ensures { IfOk result (λ s. s ≡ data_matches state.entry (tree re.now)) }
+#[tactic(auto, unfolding(crate::specs::Verbs::data_matches))]
+fn data_matches(alloc: Global, state: &mut State, re: &Re) -> Result<bool, NoMemory>
+    ensures { IfOk result (λ holds. where_holds state.new holds ≡ data_matches state.old (tree re.now)) }
 {
     let text = field_text(alloc, state.msg.get(), Field::Data)?;
     match click_of(state.msg.get().attrs.as_slice()) {
         Click::Absent => whole_data(alloc, state, re, text),
-        Click::Unread => Ok(None),
+        Click::Unread => Ok(false),
         Click::At(at) => clicked(alloc, state, re, text, at),
     }
 }
 
-fn field_matches<'a>(
-    alloc: Global,
-    state: State<'a>,
-    field: Field,
-    re: &Re,
-) -> Result<Option<State<'a>>, NoMemory>
-    ensures { IfOk result (λ s. s ≡ field_matches state.entry field (tree re.now)) }
+#[tactic(auto, unfolding(crate::specs::Verbs::field_matches))]
+fn field_matches(alloc: Global, state: &State, field: Field, re: &Re) -> Result<bool, NoMemory>
+    ensures { IfOk result (λ holds. where_holds state.now holds ≡ field_matches state.now field (tree re.now)) }
 {
     let text = field_text(alloc, state.msg.get(), field)?;
-    if is_whole(alloc, re, &text)? {
-        return Ok(Some(state));
-    }
-    Ok(None)
+    is_whole(alloc, re, &text)
 }
 
-fn tree_matches<'a>(
-    alloc: Global,
-    state: State<'a>,
-    field: Field,
-    re: &Re,
-) -> Result<Option<State<'a>>, NoMemory>
-    ensures { IfOk result (λ s. s ≡ tree_matches state.entry field (tree re.now)) }
+#[tactic(auto, unfolding(crate::specs::Verbs::tree_matches))]
+fn tree_matches(alloc: Global, state: &mut State, field: Field, re: &Re) -> Result<bool, NoMemory>
+    ensures { IfOk result (λ holds. where_holds state.new holds ≡ tree_matches state.old field (tree re.now)) }
 {
     match field {
         Field::Src => field_matches(alloc, state, Field::Src, re),
@@ -189,102 +161,83 @@ fn tree_matches<'a>(
 }
 
 // The text is a pattern that matches.
-fn matches<'a>(
-    alloc: Global,
-    state: State<'a>,
-    field: Field,
-    text: &Runes,
-) -> Result<Option<State<'a>>, NoMemory>
-    ensures { IfOk result (λ s. s ≡ matches state.entry field text.now) }
+#[tactic(auto, unfolding(crate::specs::Verbs::matches))]
+fn matches(alloc: Global, state: &mut State, field: Field, text: &Runes) -> Result<bool, NoMemory>
+    ensures { IfOk result (λ holds. where_holds state.new holds ≡ matches state.old field text.now) }
 {
     match pattern_of(alloc, text.as_slice())? {
-        None => Ok(None),
+        None => Ok(false),
         Some(re) => tree_matches(alloc, state, field, &re),
     }
 }
 
 // The name is that of a file.
-fn isfile<'a>(
-    alloc: Global,
-    tree: &Tree,
-    state: State<'a>,
-    name: Runes,
-) -> Result<Option<State<'a>>, NoMemory>
-    ensures { IfOk result (λ s. s ≡ isfile tree.now.present state.entry name) }
+#[tactic(auto, unfolding(crate::specs::Verbs::isfile))]
+fn isfile(alloc: Global, tree: &Tree, state: &mut State, name: Runes) -> Result<bool, NoMemory>
+    ensures { IfOk result (λ holds. where_holds state.new holds ≡ isfile tree.now.present state.old name) }
 {
     if !tree.is_file(encode(alloc, &name)?.as_slice()) {
-        return Ok(None);
+        return Ok(false);
     }
-    Ok(Some(State {
-        file: Some(name),
-        ..state
-    }))
+    state.file = Some(name);
+    Ok(true)
 }
 
 // The name is that of a directory.
-fn isdir<'a>(
-    alloc: Global,
-    tree: &Tree,
-    state: State<'a>,
-    name: Runes,
-) -> Result<Option<State<'a>>, NoMemory>
-    ensures { IfOk result (λ s. s ≡ isdir tree.now.present state.entry name) }
+#[tactic(auto, unfolding(crate::specs::Verbs::isdir))]
+fn isdir(alloc: Global, tree: &Tree, state: &mut State, name: Runes) -> Result<bool, NoMemory>
+    ensures { IfOk result (λ holds. where_holds state.new holds ≡ isdir tree.now.present state.old name) }
 {
     if !tree.is_directory(encode(alloc, &name)?.as_slice()) {
-        return Ok(None);
+        return Ok(false);
     }
-    Ok(Some(State {
-        dir: Some(name),
-        ..state
-    }))
+    state.dir = Some(name);
+    Ok(true)
 }
 
 // The attributes of a line are put.
-fn add<'a>(alloc: Global, state: State<'a>, text: &Runes) -> Result<Option<State<'a>>, NoMemory>
-    ensures { IfOk result (λ s. s ≡ add state.entry text.now) }
+#[tactic(auto, unfolding(crate::specs::Verbs::add))]
+fn add(alloc: Global, state: &mut State, text: &Runes) -> Result<bool, NoMemory>
+    ensures { IfOk result (λ holds. where_holds state.new holds ≡ add state.old text.now) }
 {
     let line = encode(alloc, text)?;
     let Some(more) = read_attrs(alloc, line.as_slice())? else {
-        return Ok(None);
+        return Ok(false);
     };
-    let msg = state.msg.into_msg(alloc)?;
+    let msg = state.msg.take(alloc)?;
     let attrs = with_attrs(alloc, msg.attrs, more.as_slice())?;
-    let msg = Draft::changed(PlumbMsg { attrs, ..msg });
-    Ok(Some(State { msg, ..state }))
+    state.msg.put(PlumbMsg { attrs, ..msg });
+    Ok(true)
 }
 
 // The attribute with this name goes.
-fn delete<'a>(alloc: Global, state: State<'a>, text: &Runes) -> Result<Option<State<'a>>, NoMemory>
-    ensures { IfOk result (λ s. s ≡ delete state.entry text.now) }
+#[tactic(auto, unfolding(crate::specs::Verbs::delete))]
+fn delete(alloc: Global, state: &mut State, text: &Runes) -> Result<bool, NoMemory>
+    ensures { IfOk result (λ holds. where_holds state.new holds ≡ delete state.old text.now) }
 {
     let name = encode(alloc, text)?;
-    let msg = state.msg.into_msg(alloc)?;
+    let msg = state.msg.take(alloc)?;
     let attrs = without_attr(msg.attrs, name.as_slice());
-    let msg = Draft::changed(PlumbMsg { attrs, ..msg });
-    Ok(Some(State { msg, ..state }))
+    state.msg.put(PlumbMsg { attrs, ..msg });
+    Ok(true)
 }
 
-fn to<'a>(alloc: Global, state: State<'a>, text: &Runes) -> Result<Option<State<'a>>, NoMemory>
-    ensures { IfOk result (λ s. s ≡ to state.entry text.now) }
+#[tactic(auto, unfolding(crate::specs::Verbs::to))]
+fn to(alloc: Global, state: &mut State, text: &Runes) -> Result<bool, NoMemory>
+    ensures { IfOk result (λ holds. where_holds state.new holds ≡ to state.old text.now) }
 {
-    let port = Some(encode(alloc, text)?);
-    Ok(Some(State { port, ..state }))
+    state.port = Some(encode(alloc, text)?);
+    Ok(true)
 }
 
-fn by_way(state: State, way: Way) -> Option<State>
-    ensures { result ≡ by_way state.entry way }
-{
-    Some(State { way, ..state })
-}
-
-fn verb_done<'a>(
+fn verb_done(
     alloc: Global,
     tree: &Tree,
-    state: State<'a>,
+    state: &mut State,
     verb: Verb,
     text: Runes,
-) -> Result<Option<State<'a>>, NoMemory>
-    ensures { IfOk result (λ s. s ≡ verb_done tree.now.present state.entry verb text) }
+) -> Result<bool, NoMemory>
+    ensures { IfOk result (λ holds. where_holds state.new holds ≡ verb_done tree.now.present state.old verb text) }
 {
     match verb {
         Verb::Is(field) => is_text(alloc, state, field, &text),
@@ -309,20 +262,26 @@ fn verb_done<'a>(
         Verb::Add => add(alloc, state, &text),
         Verb::Delete => delete(alloc, state, &text),
         Verb::To => to(alloc, state, &text),
-        Verb::Start => Ok(by_way(state, Way::Start(text))),
-        Verb::Client => Ok(by_way(state, Way::Client(text))),
+        Verb::Start => {
+            state.way = Way::Start(text);
+            Ok(true)
+        }
+        Verb::Client => {
+            state.way = Way::Client(text);
+            Ok(true)
+        }
     }
 }
 
-/// The state after a rule, where the rule holds.
-pub fn rule_done<'a>(
+/// Does a rule to the state, and answers whether it holds. Where it doesn't, the state is of no use any more.
+pub fn rule_done(
     alloc: Global,
     tree: &Tree,
-    state: State<'a>,
+    state: &mut State,
     rule: &Rule,
-) -> Result<Option<State<'a>>, NoMemory>
-    ensures { IfOk result (λ s. s ≡ rule_done tree.now.present state.entry rule.now) }
+) -> Result<bool, NoMemory>
+    ensures { IfOk result (λ holds. where_holds state.new holds ≡ rule_done tree.now.present state.old rule.now) }
 {
-    let text = argument_text(alloc, &state, rule.argument.as_slice())?;
+    let text = argument_text(alloc, state, rule.argument.as_slice())?;
     verb_done(alloc, tree, state, rule.verb, text)
 }
