@@ -13,8 +13,6 @@ mod origin;
 mod parts;
 mod planning;
 mod prepared;
-#[cfg(test)]
-mod tests;
 mod typing;
 mod unsent;
 mod view;

@@ -8,8 +8,6 @@ mod entries;
 mod listing;
 mod names;
 mod node;
-#[cfg(test)]
-mod tests;
 mod walk;
 
 pub use access::{May, may_open};

@@ -7,8 +7,6 @@ mod replay;
 mod script;
 #[cfg(test)]
 mod serving_tests;
-#[cfg(test)]
-mod tests;
 
 use am_base::{InputSource, OutputSink, UnixHost};
 use am_text::{Items, NoMemory, Words};
