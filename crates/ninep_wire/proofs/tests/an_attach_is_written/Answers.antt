@@ -1,8 +1,8 @@
 use Rattle.std.proofs.Common.{[], ◌∷◌, refl, arith}
 use Rattle.std.specs.Str.{is_utf8, chars}
 use Rattle.std.specs.Char.{encode_utf8}
-use Rattle.ninep_wire.specs.Fields.{is_text}
-use Rattle.ninep_wire.specs.Spelling.{IsString}
+use Rattle.ninep_types.specs.Fields.{is_text}
+use Rattle.ninep_types.specs.Spelling.{IsString}
 use Rattle.ninep_wire.proofs.tests.an_attach_is_written.Goals as goal
 
 u_is_string : IsString (117 ∷ [])

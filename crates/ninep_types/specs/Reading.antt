@@ -1,15 +1,15 @@
 -- Reading a message from left to right, with the first fault that is met.
 use Rattle.std.specs.Prelude.{ℕ, List, length, take, drop, Result, Ok, Err, nat_lt, ◌==◌, if◌then◌else◌, slice_index, [], ◌∷◌}
 use Rattle.std.specs.Int.{w16, w32, w64, from_le_bytes}
-use Rattle.ninep_wire.specs.declared.fault.WireFault.{WireFault}
-use Rattle.ninep_wire.specs.declared.fault.WireFault.TheVariants.{Size, Kind, Long}
-use Rattle.ninep_wire.specs.declared.message.TMsg.{TMsg}
-use Rattle.ninep_wire.specs.declared.message.TBody.{TBody}
-use Rattle.ninep_wire.specs.declared.message.TBody.TheVariants as t
-use Rattle.ninep_wire.specs.declared.message.RMsg.{RMsg}
-use Rattle.ninep_wire.specs.declared.message.RBody.{RBody}
-use Rattle.ninep_wire.specs.declared.message.RBody.TheVariants as r
-use Rattle.ninep_wire.specs.Fields.{◌>>=◌, number_at, byte_at, string_at, counted_at, qid_at, listed_at}
+use Rattle.ninep_types.specs.declared.fault.WireFault.{WireFault}
+use Rattle.ninep_types.specs.declared.fault.WireFault.TheVariants.{Size, Kind, Long}
+use Rattle.ninep_types.specs.declared.message.TMsg.{TMsg}
+use Rattle.ninep_types.specs.declared.message.TBody.{TBody}
+use Rattle.ninep_types.specs.declared.message.TBody.TheVariants as t
+use Rattle.ninep_types.specs.declared.message.RMsg.{RMsg}
+use Rattle.ninep_types.specs.declared.message.RBody.{RBody}
+use Rattle.ninep_types.specs.declared.message.RBody.TheVariants as r
+use Rattle.ninep_types.specs.Fields.{◌>>=◌, number_at, byte_at, string_at, counted_at, qid_at, listed_at}
 
 -- the type byte, the tag, and the bytes after them, where the size is the number of bytes
 unfoldable pub head_at : List ℕ → Result (ℕ × ℕ × List ℕ) WireFault

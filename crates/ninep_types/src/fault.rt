@@ -1,7 +1,7 @@
 //! Why a message could not be read.
 
 ghost use Rattle.std.specs.Prelude.{◌≡◌};
-ghost use Rattle.ninep_wire.specs.declared.fault.WireError.TheVariants.{NoMemory};
+ghost use Rattle.ninep_types.specs.declared.fault.WireError.TheVariants.{NoMemory};
 
 /// What is wrong with the bytes of a message: the first fault from left to right.
 #[derive(Clone, Copy, Debug, PartialEq, Eq)]

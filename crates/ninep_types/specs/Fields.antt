@@ -4,11 +4,11 @@ use Rattle.std.specs.Prelude.{zero, suc, ◌≡◌, ℕ, Bool, not, ◌&&◌, Li
 use Rattle.std.specs.Int.{Width, w16, w32, w64, byte_len, from_le_bytes, to_le_bytes}
 use Rattle.std.specs.List.{list_any, flat_map}
 use Rattle.std.specs.Str.{is_utf8}
-use Rattle.ninep_wire.specs.declared.fault.WireFault.{WireFault}
-use Rattle.ninep_wire.specs.declared.fault.WireFault.TheVariants.{Short, Text, Names}
-use Rattle.ninep_wire.specs.declared.fault.WireError.{WireError}
-use Rattle.ninep_wire.specs.declared.fault.WireError.TheVariants as errors
-use Rattle.ninep_wire.specs.declared.message.Qid.{Qid}
+use Rattle.ninep_types.specs.declared.fault.WireFault.{WireFault}
+use Rattle.ninep_types.specs.declared.fault.WireFault.TheVariants.{Short, Text, Names}
+use Rattle.ninep_types.specs.declared.fault.WireError.{WireError}
+use Rattle.ninep_types.specs.declared.fault.WireError.TheVariants as errors
+use Rattle.ninep_types.specs.declared.message.Qid.{Qid}
 
 infixl 10 ◌>>=◌
 abbrev pub ◌>>=◌ : {A B : Type 0} → Result A WireFault → (A → Result B WireFault) → Result B WireFault
