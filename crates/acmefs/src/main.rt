@@ -6,8 +6,6 @@ mod program;
 mod replay;
 mod script;
 #[cfg(test)]
-mod serving_tests;
-#[cfg(test)]
 mod tests;
 
 use am_base::{InputSource, OutputSink, UnixHost};
