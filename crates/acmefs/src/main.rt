@@ -5,8 +5,6 @@ mod drill;
 mod program;
 mod replay;
 mod script;
-#[cfg(test)]
-mod serving_tests;
 
 use am_base::{InputSource, OutputSink, UnixHost};
 use am_text::{Items, NoMemory, Words};
