@@ -7,3 +7,5 @@ pub mod Rows
 pub mod Places
 pub mod Rules
 pub mod Fronts
+pub mod Cuts
+pub mod Trees

@@ -1,8 +1,10 @@
 -- Laws over the grammar of addresses.
-use Rattle.std.specs.Prelude.{◌≡◌, Bool, true, false, List, [], ◌∷◌, ◌++◌, Some}
+use Rattle.std.specs.Prelude.{◌≡◌, ◌↔◌, ℕ, Bool, true, false, List, [], ◌∷◌, ◌++◌, Some}
 use Rattle.addr_syntax.specs.Tree.{Tree}
 use Rattle.addr_syntax.specs.Pieces.{Piece, Part, Adds, Splits}
 use Rattle.addr_syntax.specs.Joined.{Reading, begin, added, spanned, may_follow, whole, joined_on}
+use Rattle.addr_syntax.specs.Grammar.{IsAddress}
+use Rattle.addr_syntax.specs.Addresses.{address_of}
 use Rattle.addr_syntax.specs.declared.mark.Sign.{Sign}
 use Rattle.addr_syntax.specs.declared.mark.Separator.{Separator}
 
@@ -24,3 +26,7 @@ abbrev pub SignsJoinFromTheLeft : Type 0
 SignsJoinFromTheLeft =
     (ps : List Piece) (k : Sign) (q : Tree) (r : Reading) → is_row ps ≡ true → may_follow q ≡ true → joined_on (Some begin) ps ≡ Some r →
     (t : Reading) × (joined_on (Some begin) (ps ++ Adds k ∷ Part q ∷ []) ≡ Some t) × (whole t ≡ added k (whole r) q)
+
+-- a text has a tree exactly where it is an address with that tree
+abbrev pub TreesAreThose : Type 0
+TreesAreThose = (text : List ℕ) (a : Tree) → (address_of text ≡ Some a) ↔ IsAddress text a

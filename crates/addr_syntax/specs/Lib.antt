@@ -6,4 +6,5 @@ pub mod Grammar
 pub mod Answer
 pub mod Read
 pub mod Scan
+pub mod Addresses
 pub mod Laws

@@ -5,7 +5,7 @@ use Rattle.std.specs.List.{ends_with}
 use Rattle.am_text.specs.declared.range.Range.{Range}
 use Rattle.am_text.specs.Utf8.{decode}
 use Rattle.addr_syntax.specs.Tree.{Tree}
-use Rattle.addr_trees.specs.Addresses.{small_address}
+use Rattle.addr_syntax.specs.Addresses.{small_address}
 use Rattle.sam_address.specs.Value.{Outcome, value}
 use Rattle.sam_address.specs.declared.fault.AddrFault.{AddrFault}
 use Rattle.sam_address.specs.declared.fault.AddrFault.TheVariants as fault

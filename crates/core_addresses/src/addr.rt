@@ -7,7 +7,7 @@ ghost use Rattle.core_addresses.specs.Ranges.{rune_number, range_text, without_n
 ghost use Rattle.core_addresses.specs.Data.{Tells};
 
 use crate::fault::RangeFault;
-use addr_trees::{Addr, read_address};
+use addr_syntax::{Addr, read_address};
 use am_text::{Bytes, Items, Letters, NoMemory, Range, Rune, decimal, decode_whole};
 use sam_address::{AddrFault, value};
 use std::alloc::Global;

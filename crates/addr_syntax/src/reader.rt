@@ -3,9 +3,10 @@
 ghost use Rattle.std.specs.Prelude.{◌≡◌, IfOk};
 ghost use Rattle.std.specs.Option.{option_map};
 ghost use Rattle.addr_syntax.specs.Tree.{tree};
-ghost use Rattle.addr_trees.specs.Addresses.{small_address};
+ghost use Rattle.addr_syntax.specs.Addresses.{small_address};
 
-use addr_syntax::{Addr, SynFault, parse_addr};
+use crate::address::{Addr, SynFault};
+use crate::parser::parse_addr;
 use am_text::{NoMemory, Rune};
 use std::alloc::Global;
 

@@ -11,8 +11,8 @@ use Rattle.addr_syntax.specs.Joined.{Reading, begin, whole, joined_on}
 use Rattle.addr_syntax.specs.Grammar.{IsAddress, GoesOn}
 use Rattle.addr_syntax.specs.Answer.{IsBad, IsInLimits, Refuses}
 use Rattle.addr_syntax.specs.declared.address.SynFault.TheVariants as fault
-use Rattle.addr_trees.specs.Addresses.{Cut, first_piece, with_piece, pieces_within, pieces_of, tree_of_pieces, address_of, small_one, small_address}
-use Rattle.addr_trees.proofs.Cuts.{piece_cut, piece_back}
+use Rattle.addr_syntax.specs.Addresses.{Cut, first_piece, with_piece, pieces_within, pieces_of, tree_of_pieces, address_of, small_one, small_address}
+use Rattle.addr_syntax.proofs.Cuts.{piece_cut, piece_back}
 
 -- ---- rows of pieces
 

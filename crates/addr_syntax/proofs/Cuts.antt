@@ -19,7 +19,7 @@ use Rattle.addr_syntax.specs.declared.mark.Mark.{Mark}
 use Rattle.addr_syntax.specs.declared.mark.Mark.TheVariants as mark
 use Rattle.addr_syntax.proofs.Bodies.{Stopped, whole_expression, whole_length}
 use Rattle.addr_syntax.proofs.Digits.{goes, step_true, step_false, digit_inside, number_of_digits, is_number}
-use Rattle.addr_trees.specs.Addresses.{tree_read, expression_of, Cut, digits, number_piece, behind_delimiter, search_piece, piece_by, first_piece}
+use Rattle.addr_syntax.specs.Addresses.{tree_read, expression_of, Cut, digits, number_piece, behind_delimiter, search_piece, piece_by, first_piece}
 
 -- ---- what is cut
 

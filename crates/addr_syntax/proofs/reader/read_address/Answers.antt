@@ -1,6 +1,6 @@
 use Rattle.addr_syntax.specs.Tree.{tree}
-use Rattle.addr_trees.proofs.Trees.{address_ok, address_bad, address_large, address_deep}
-use Rattle.addr_trees.proofs.reader.read_address.Goals as goal
+use Rattle.addr_syntax.proofs.Trees.{address_ok, address_bad, address_large, address_deep}
+use Rattle.addr_syntax.proofs.reader.read_address.Goals as goal
 
 pub returns-in-Ok : goal.returns-in-Ok
 returns-in-Ok c = address_ok c.args.text.now (tree c.in-Ok.address) c.in-Ok.ensures.read c.in-Ok.ensures.small

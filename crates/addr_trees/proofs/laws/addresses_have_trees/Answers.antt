@@ -1,5 +1,0 @@
-use Rattle.addr_trees.proofs.Trees.{address_some, address_only}
-use Rattle.addr_trees.proofs.laws.addresses_have_trees.Goals as goal
-
-pub returns : goal.returns
-returns c = λ text a. (address_only text a, address_some text a)

@@ -1,0 +1,28 @@
+// A table of cases for expressions: each line of standard input is a case, and its answer is written in a line. A
+// line that is no case is answered `?`.
+//
+// It is a test program. Its stored input and output are compared when it is run; no contract says what it
+// writes.
+#![tactic(auto)]
+
+mod expressions;
+mod fault;
+
+use expressions::answer;
+use fault::Fault;
+use std::alloc::AllocError;
+use std::io::{self, BufRead, BufReader, BufWriter, Write};
+
+fn main(rt: HostRuntime) -> io::Result<()> {
+    let alloc = rt.alloc();
+    let mut output = BufWriter::new(alloc, io::writer(&rt))?;
+    for line in BufReader::new(alloc, rt.reader())?.lines(alloc) {
+        match answer(alloc, line?.as_str()) {
+            Ok(text) => output.write_all(text.as_slice())?,
+            Err(Fault::NoCase) => output.write_all(b"?")?,
+            Err(Fault::NoMemory) => return Err(AllocError.into()),
+        }
+        output.write_all(b"\n")?;
+    }
+    output.flush()
+}
