@@ -14,11 +14,7 @@ mod sink;
 mod socket_name;
 mod source;
 mod streams;
-#[cfg(test)]
-mod tests;
 mod unix;
-#[cfg(test)]
-mod unix_tests;
 
 pub use link::{Gate, Host, Link};
 pub use mem_gate::MemGate;
