@@ -19,6 +19,3 @@ pub use laws::{searches_choose_a_match, successive_matches_follow};
 pub use over::match_over;
 pub use re_syntax::{Groups, Re};
 pub use successive::successive_matches;
-
-#[cfg(test)]
-mod tests;

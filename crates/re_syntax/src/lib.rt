@@ -9,6 +9,3 @@ mod sign;
 
 pub use parser::{a_text_has_one_tree, parse_re};
 pub use re::{Groups, Re, ReFault, RuneSpans};
-
-#[cfg(test)]
-mod tests;

@@ -1,6 +1,6 @@
 use Rattle.std.proofs.Common.{◌≡◌, false}
 use Rattle.turn_lock.specs.Words.{lock_of, view_of}
-use Rattle.bench_turn_lock.proofs.tape.append_all.Given as goal
+use Rattle.benches.proofs.tape.append_all.Given as goal
 
 abbrev pub invariant-loop-number : goal.invariant-loop-number
 invariant-loop-number g l =

@@ -1,4 +1,4 @@
-// A list of numbers under a turn lock, and threads that append to it.
+//! A list of numbers under a turn lock, and threads that append to it.
 ghost use Rattle.std.specs.Prelude.{◌≡◌, ◌≤◌, ◌<◌, ◌^◌, ◌++◌, ◌∷◌, [], length, false, OnOk, OnErr, IfOk};
 ghost use Rattle.turn_lock.specs.Words.{view_of, lock_of, id_of, parts_of};
 

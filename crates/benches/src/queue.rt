@@ -1,15 +1,11 @@
-// Time of items that are put and reads that are asked at one queue.
-#![tactic(auto)]
-
-mod pairs;
-
-use pairs::{Given, give_pairs};
+//! Time of items that are put and reads that are asked at one queue.
+use crate::pairs::{Given, give_pairs};
 use std::alloc::{AllocError, Global};
-use std::rt::{Clock, Env};
+use std::io;
+use std::rt::Clock;
 use std::time::Instant;
-use std::{env, io};
 
-// How many pairs where no argument says so. No time is printed then.
+// How many pairs where no number is asked for. No time is printed then.
 const FEW_PAIRS: u64 = 1_000;
 
 const MOST_PAIRS: u64 = 10_000_000;
@@ -38,8 +34,7 @@ fn tell<R: Print>(rt: &R, alloc: Global, pairs: u64) -> io::Result<()> {
 }
 
 // The time of so many pairs and of twice as many, and their ratio.
-fn compare<R: Clock + Print>(rt: &R, alloc: Global, pairs: u64) -> io::Result<()> {
-    let twice = pairs.saturating_mul(2);
+fn compare<R: Clock + Print>(rt: &R, alloc: Global, pairs: u64, twice: u64) -> io::Result<()> {
     let mut once_time = time(rt, alloc, pairs)?;
     let mut twice_time = time(rt, alloc, twice)?;
     for _ in 1..ROUNDS {
@@ -50,21 +45,16 @@ fn compare<R: Clock + Print>(rt: &R, alloc: Global, pairs: u64) -> io::Result<()
     println!(rt; "pairs {pairs}: {once_time} ns, {twice}: {twice_time} ns, {percent} %")
 }
 
-// The number of pairs that the first argument asks for.
-fn pairs_asked<R: Env + Alloc>(rt: &R) -> io::Result<Option<u64>> {
-    let Some(word) = env::args(rt)?.nth(1) else {
-        return Ok(None);
-    };
-    Ok(word.as_str().parse().ok())
-}
-
-fn main(rt: HostRuntime) -> io::Result<()> {
-    let asked = pairs_asked(&rt)?;
-    let pairs = asked.unwrap_or(FEW_PAIRS).min(MOST_PAIRS);
-    tell(&rt, rt.alloc(), pairs)?;
-    tell(&rt, rt.alloc(), pairs.saturating_mul(2))?;
+/// Lines for so many pairs and for twice as many, and with a number for their times.
+pub fn run<R: Clock + Print>(rt: &R, alloc: Global, asked: Option<usize>) -> io::Result<()> {
+    let pairs = asked
+        .map_or(FEW_PAIRS, |pairs| pairs as u64)
+        .min(MOST_PAIRS);
+    let twice = pairs.saturating_mul(2);
+    tell(rt, alloc, pairs)?;
+    tell(rt, alloc, twice)?;
     if asked.is_some() {
-        compare(&rt, rt.alloc(), pairs)?;
+        compare(rt, alloc, pairs, twice)?;
     }
     Ok(())
 }

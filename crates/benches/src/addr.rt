@@ -1,15 +1,15 @@
-// What values of addresses cost.
-#![tactic(auto)]
-
-use am_text::{Items, Range, Runes, decode_whole};
-use re_syntax::{Re, parse_re};
+//! What values of addresses cost.
+use crate::size::{Size, end_line, size_of};
+use crate::texts::{repeated, runes, tree};
+use am_text::{NoMemory, Range, Runes};
+use re_syntax::Re;
 use sam_address::{Addr, AddrFault, value};
 use std::alloc::{AllocError, Global};
-use std::rt::{Clock, Env};
+use std::io;
+use std::rt::Clock;
 use std::time::Instant;
-use std::{env, io};
 
-#[derive(Clone, Copy, Debug)]
+#[derive(Clone, Copy)]
 enum Address {
     // `$-1`, the line before the end.
     LineBeforeTheEnd,
@@ -35,34 +35,28 @@ const VALUES: [Valued; 8] = [
     (Address::LineInTheMiddle, 40_000),
 ];
 
-fn runes(alloc: Global, text: &str) -> Result<Runes, AllocError> {
-    decode_whole(alloc, text.as_bytes()).map_err(|_| AllocError)
-}
+// Without a number, this part of the lines.
+const PART: usize = 20;
+
+const LINE: &str = "abcdefghijklmnopqrstuvwabcdefgh\n";
 
 // So many lines of 32 runes, and a last one that is `x`.
-fn text_of(alloc: Global, lines: usize) -> Result<Runes, AllocError> {
-    let line = runes(alloc, "abcdefghijklmnopqrstuvwabcdefgh\n")?;
-    let mut all = Items::new(alloc);
-    for _ in 1..lines {
-        all.append(line.as_slice()).map_err(|_| AllocError)?;
-    }
-    all.append(runes(alloc, "x\n")?.as_slice())
-        .map_err(|_| AllocError)?;
+fn text_of(alloc: Global, lines: usize) -> Result<Runes, NoMemory> {
+    let count = lines.saturating_sub(1).saturating_mul(LINE.len());
+    let mut all = repeated(alloc, LINE, count)?;
+    all.append(runes(alloc, "x\n")?.as_slice())?;
     Ok(all)
 }
 
-fn expression(alloc: Global) -> Result<Re, AllocError> {
-    match parse_re(alloc, runes(alloc, "x")?.as_slice(), 0, None) {
-        Ok((re, _)) => Ok(re),
-        Err(_) => Err(AllocError),
-    }
+fn expression(alloc: Global) -> Result<Re, NoMemory> {
+    tree(alloc, &runes(alloc, "x")?)
 }
 
-fn boxed(alloc: Global, addr: Addr) -> Result<Option<Box<Addr>>, AllocError> {
+fn boxed(alloc: Global, addr: Addr) -> Result<Option<Box<Addr>>, NoMemory> {
     Ok(Some(Box::new(alloc, addr)?))
 }
 
-fn tree(alloc: Global, address: Address, lines: usize) -> Result<Addr, AllocError> {
+fn addr_of(alloc: Global, address: Address, lines: usize) -> Result<Addr, NoMemory> {
     match address {
         Address::LineBeforeTheEnd => {
             let end = boxed(alloc, Addr::Last)?;
@@ -84,19 +78,18 @@ fn value_of(alloc: Global, addr: &Addr, text: &Runes) -> Result<Range, AddrFault
     value(alloc, addr, text, Range { q0: 0, q1: 0 }, limit)
 }
 
-// A line for a value, with its time if that is asked for.
-fn run<R: Clock + Print>(
+// A line for a value.
+fn line<R: Clock + Print>(
     rt: &R,
     alloc: Global,
     number: usize,
     valued: Valued,
-    part: usize,
-    is_timed: bool,
+    size: Size,
 ) -> io::Result<()> {
     let (address, lines) = valued;
-    let lines = lines / part.max(1);
-    let text = text_of(alloc, lines)?;
-    let addr = tree(alloc, address, lines)?;
+    let lines = lines / size.part.max(1);
+    let text = text_of(alloc, lines).map_err(|_| AllocError)?;
+    let addr = addr_of(alloc, address, lines).map_err(|_| AllocError)?;
     let start = Instant::now(rt)?;
     let found = value_of(alloc, &addr, &text);
     let micros = start.elapsed(rt)?.as_micros();
@@ -105,27 +98,14 @@ fn run<R: Clock + Print>(
         Ok(range) => print!(rt; "{} to {}", range.q0, range.q1)?,
         Err(_) => print!(rt; "none")?,
     }
-    if is_timed {
-        print!(rt; ", {micros} microseconds")?;
-    }
-    println!(rt; "")
+    end_line(rt, size, micros)
 }
 
-// The number of the value that the first argument asks for.
-fn number_asked<R: Env + Alloc>(rt: &R) -> io::Result<Option<usize>> {
-    let Some(word) = env::args(rt)?.nth(1) else {
-        return Ok(None);
-    };
-    Ok(word.as_str().parse().ok())
-}
-
-fn main(rt: HostRuntime) -> io::Result<()> {
-    let asked = number_asked(&rt)?;
+/// The value with this number, or a part of each.
+pub fn run<R: Clock + Print>(rt: &R, alloc: Global, asked: Option<usize>) -> io::Result<()> {
     for number in 0..VALUES.len() {
-        match asked {
-            Some(n) if n == number => run(&rt, rt.alloc(), number, VALUES[number], 1, true)?,
-            Some(_) => {}
-            None => run(&rt, rt.alloc(), number, VALUES[number], 20, false)?,
+        if let Some(size) = size_of(asked, number, PART) {
+            line(rt, alloc, number, VALUES[number], size)?;
         }
     }
     Ok(())

@@ -1,4 +1,4 @@
-// A queue with waiting reads, and items for them.
+//! A queue with waiting reads, and items for them.
 use am_text::{Bytes, NoMemory};
 use std::alloc::Global;
 use wait_queue::{Asker, WaitQueue};

@@ -1,4 +1,4 @@
-// A list of numbers under std's `Mutex`, and threads that append to it.
+//! A list of numbers under std's `Mutex`, and threads that append to it.
 use std::alloc::Global;
 use std::sync::{Mutex, Wait};
 use std::thread::{Threads, join};

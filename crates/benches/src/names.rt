@@ -1,13 +1,11 @@
-// What storing files in a tree and looking them up cost.
-#![tactic(auto)]
-
+//! What storing files in a tree and looking them up cost.
 use name_tree::{Found, Tree};
 use std::alloc::{AllocError, Global};
-use std::rt::{Clock, Env};
+use std::io;
+use std::rt::Clock;
 use std::time::Instant;
-use std::{env, io};
 
-// How many paths there are where no argument says so. No time is printed then.
+// How many paths there are where no number is asked for. No time is printed then.
 const FEW_PATHS: usize = 1_000;
 
 const MOST_PATHS: usize = 1_000_000;
@@ -45,15 +43,9 @@ fn found(alloc: Global, tree: &Tree, count: usize) -> Result<usize, AllocError> 
     Ok(files)
 }
 
-// The number of paths that the first argument asks for.
-fn count_asked<R: Env + Alloc>(rt: &R) -> io::Result<Option<usize>> {
-    let Some(word) = env::args(rt)?.nth(1) else {
-        return Ok(None);
-    };
-    Ok(word.as_str().parse().ok())
-}
-
-fn run<R: Clock + Print>(rt: &R, alloc: Global, count: usize, is_timed: bool) -> io::Result<()> {
+/// A line for so many paths.
+pub fn run<R: Clock + Print>(rt: &R, alloc: Global, asked: Option<usize>) -> io::Result<()> {
+    let count = asked.unwrap_or(FEW_PATHS).min(MOST_PATHS);
     let start = Instant::now(rt)?;
     let tree = stored(alloc, count)?;
     let storing = start.elapsed(rt)?.as_micros();
@@ -61,14 +53,8 @@ fn run<R: Clock + Print>(rt: &R, alloc: Global, count: usize, is_timed: bool) ->
     let files = found(alloc, &tree, count)?;
     let looking = start.elapsed(rt)?.as_micros();
     print!(rt; "{count} paths, {files} files found")?;
-    if is_timed {
+    if asked.is_some() {
         print!(rt; ", {storing} + {looking} microseconds")?;
     }
     println!(rt; "")
-}
-
-fn main(rt: HostRuntime) -> io::Result<()> {
-    let asked = count_asked(&rt)?;
-    let count = asked.unwrap_or(FEW_PATHS).min(MOST_PATHS);
-    run(&rt, rt.alloc(), count, asked.is_some())
 }

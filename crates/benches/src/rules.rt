@@ -1,14 +1,13 @@
-// What routes of messages cost.
-#![tactic(auto)]
-
+//! What routes of messages cost.
+use crate::size::{Size, end_line, size_of};
 use am_text::{Bytes, NoMemory};
 use name_tree::Tree;
 use plumb_msg::{Attrs, PlumbMsg};
 use plumb_rules::{RuleSets, Vars, parse_rules, route};
 use std::alloc::{AllocError, Global};
-use std::rt::{Clock, Env};
+use std::io;
+use std::rt::Clock;
 use std::time::Instant;
-use std::{env, io};
 
 // How many sets of rules, and how many messages.
 type Routed = (usize, usize);
@@ -19,6 +18,9 @@ const RUNS: [Routed; 4] = [
     (1_000, 2_000),
     (2_000, 2_000),
 ];
+
+// Without a number, this part of the sets and messages.
+const PART: usize = 40;
 
 // What the set with this number takes: six digits, scattered so that sets that follow one another differ in the first.
 fn code_of(number: usize) -> usize {
@@ -61,54 +63,39 @@ fn msg_of(alloc: Global, number: usize) -> Result<PlumbMsg, NoMemory> {
 // How many of the messages go to a port. They ask for the sets in turn, with steps of 617 between.
 fn routed(alloc: Global, sets: &RuleSets, count: usize) -> Result<usize, NoMemory> {
     let tree = Tree::new(alloc);
-    let mut found = 0;
+    let mut found: usize = 0;
     for n in 0..count {
         let msg = msg_of(alloc, n.wrapping_mul(617) % sets.len().max(1))?;
         if route(alloc, sets, &msg, &tree)?.is_some() {
-            found += 1;
+            found = found.saturating_add(1);
         }
     }
     Ok(found)
 }
 
-// A line for a run, with its time if that is asked for.
-fn run<R: Clock + Print>(
+// A line for a run.
+fn line<R: Clock + Print>(
     rt: &R,
     alloc: Global,
     number: usize,
     counts: Routed,
-    part: usize,
-    is_timed: bool,
+    size: Size,
 ) -> io::Result<()> {
-    let (sets, messages) = counts;
-    let sets = sets / part.max(1);
-    let messages = messages / part.max(1);
+    let sets = counts.0 / size.part.max(1);
+    let messages = counts.1 / size.part.max(1);
     let rules = sets_of(alloc, sets)?;
     let start = Instant::now(rt)?;
     let found = routed(alloc, &rules, messages).map_err(|_| AllocError)?;
     let micros = start.elapsed(rt)?.as_micros();
     print!(rt; "run {number}, {sets} sets, {messages} messages: {found} routed")?;
-    if is_timed {
-        print!(rt; ", {micros} microseconds")?;
-    }
-    println!(rt; "")
+    end_line(rt, size, micros)
 }
 
-// The number of the run that the first argument asks for.
-fn number_asked<R: Env + Alloc>(rt: &R) -> io::Result<Option<usize>> {
-    let Some(word) = env::args(rt)?.nth(1) else {
-        return Ok(None);
-    };
-    Ok(word.as_str().parse().ok())
-}
-
-fn main(rt: HostRuntime) -> io::Result<()> {
-    let asked = number_asked(&rt)?;
+/// The run with this number, or a part of each.
+pub fn run<R: Clock + Print>(rt: &R, alloc: Global, asked: Option<usize>) -> io::Result<()> {
     for number in 0..RUNS.len() {
-        match asked {
-            Some(n) if n == number => run(&rt, rt.alloc(), number, RUNS[number], 1, true)?,
-            Some(_) => {}
-            None => run(&rt, rt.alloc(), number, RUNS[number], 40, false)?,
+        if let Some(size) = size_of(asked, number, PART) {
+            line(rt, alloc, number, RUNS[number], size)?;
         }
     }
     Ok(())
