@@ -13,7 +13,7 @@ ghost use Rattle.std.specs.Prelude.{IfOk};
 ghost use Rattle.sam_address.specs.Value.{IsInside};
 
 use crate::fault::Fault;
-use crate::fields::{cut, number_of, range_in, text_of};
+use crate::fields::{cut, cut_twice, number_of, range_in, range_line, text_of};
 use addr_syntax::{Limited, addr_at, parse_addr};
 use am_text::{Range, Runes};
 use sam_address::{Addr, AddrFault, value};
@@ -47,15 +47,25 @@ fn address_of(alloc: Global, field: &str) -> Result<Addr, Fault> {
     Ok(parse_addr(alloc, text.as_slice())?)
 }
 
+fn value_line(
+    alloc: Global,
+    addr: &Addr,
+    text: &Runes,
+    dot: &str,
+    limit: &str,
+) -> Result<Vec<u8>, Fault> {
+    let dot = range_in(dot, text)?;
+    let limit = limit_in(limit, text)?;
+    range_line(alloc, value(alloc, addr, text, dot, limit)?)
+}
+
 /// The value of an address.
 pub fn valued(alloc: Global, case: &str) -> Result<Vec<u8>, Fault> {
-    let [text, dot, limit, addr] = cut::<4>(case)?;
+    let (text, dot, fields) = cut_twice(case)?;
+    let (limit, addr) = cut(fields)?;
     let text = text_of(alloc, text)?;
-    let dot = range_in(dot, &text)?;
-    let limit = limit_in(limit, &text)?;
     let addr = address_of(alloc, addr)?;
-    let range = value(alloc, &addr, &text, dot, limit)?;
-    Ok(format!(in alloc; "{} {}", range.q0, range.q1)?.into_bytes())
+    value_line(alloc, &addr, &text, dot, limit)
 }
 
 fn part_word(addr: &Addr) -> &'static str {
@@ -80,7 +90,7 @@ pub fn address_word(addr: &Limited<Addr>) -> &'static str {
 
 /// Where an address ends.
 pub fn ended(alloc: Global, case: &str) -> Result<Vec<u8>, Fault> {
-    let [place, text] = cut::<2>(case)?;
+    let (place, text) = cut(case)?;
     let from: usize = number_of(place)?;
     let text = text_of(alloc, text)?;
     if text.len() < from {

@@ -10,9 +10,12 @@
 //! | `range`, `no match`, `order`, `sequence`, `overlap` | why it can't be done |
 //! | `bad PLACE`, `nodes`, `deep` | why it is no command |
 
+ghost use Rattle.std.specs.Prelude.{◌≡◌, IfOk};
+
 use crate::fault::Fault;
-use crate::fields::{cut, number_of, range_in, text_of};
+use crate::fields::{cut_twice, number_of, range_in, text_of};
 use crate::plans::plan_line;
+use am_text::{Range, Runes};
 use edit_run::{EditFault, Site, changes};
 use sam_syntax::{Cmd, parse_edit};
 use std::alloc::Global;
@@ -35,16 +38,33 @@ fn command_of(alloc: Global, field: &str) -> Result<Cmd, Fault> {
     Ok(parse_edit(alloc, text.as_slice())?)
 }
 
+fn site_of(alloc: Global, window: &str, name: &str, dot: Range) -> Result<Site, Fault>
+    ensures { IfOk result (λ site. site.dot ≡ dot) }
+{
+    let window = number_of(window)?;
+    let name = text_of(alloc, name)?;
+    Ok(Site { window, name, dot })
+}
+
+// What a command does to a text in a window with this number and name.
+fn done_in(
+    alloc: Global,
+    (window, name): (&str, &str),
+    text: &Runes,
+    dot: &str,
+    command: &Cmd,
+) -> Result<Vec<u8>, Fault> {
+    let dot = range_in(dot, text)?;
+    let site = site_of(alloc, window, name, dot)?;
+    let plan = changes(alloc, command, text, &site)?;
+    plan_line(alloc, &plan, text)
+}
+
 /// What a command does.
 pub fn done(alloc: Global, case: &str) -> Result<Vec<u8>, Fault> {
-    let [window, name, text, dot, command] = cut::<5>(case)?;
+    let (window, name, fields) = cut_twice(case)?;
+    let (text, dot, command) = cut_twice(fields)?;
     let text = text_of(alloc, text)?;
-    let site = Site {
-        window: number_of(window)?,
-        name: text_of(alloc, name)?,
-        dot: range_in(dot, &text)?,
-    };
     let command = command_of(alloc, command)?;
-    let plan = changes(alloc, &command, &text, &site)?;
-    plan_line(alloc, &plan, &text)
+    done_in(alloc, (window, name), &text, dot, &command)
 }

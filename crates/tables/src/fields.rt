@@ -8,14 +8,19 @@ use am_text::{JobKind, Range, Rune, Runes, escape, unescape};
 use std::alloc::Global;
 use std::str::FromStr;
 
-/// The fields of a line, of which the last may have tabs.
-pub fn cut<const N: usize>(line: &str) -> Result<[&str; N], Fault> {
-    let mut fields = [line; N];
-    let mut rest = line.splitn(N, '\t');
-    for field in &mut fields {
-        *field = rest.next().ok_or(Fault::NoCase)?;
+/// The first field of a line, and the fields behind it.
+pub fn cut(fields: &str) -> Result<(&str, &str), Fault> {
+    match fields.split_once('\t') {
+        Some(parts) => Ok(parts),
+        None => Err(Fault::NoCase),
     }
-    Ok(fields)
+}
+
+/// The first two fields of a line, and the fields behind them.
+pub fn cut_twice(fields: &str) -> Result<(&str, &str, &str), Fault> {
+    let (first, fields) = cut(fields)?;
+    let (second, fields) = cut(fields)?;
+    Ok((first, second, fields))
 }
 
 /// The text of an escaped field.
@@ -53,6 +58,11 @@ pub fn range_in(field: &str, text: &Runes) -> Result<Range, Fault>
     } else {
         Err(Fault::NoCase)
     }
+}
+
+/// An answer that is a range.
+pub fn range_line(alloc: Global, range: Range) -> Result<Vec<u8>, Fault> {
+    Ok(format!(in alloc; "{} {}", range.q0, range.q1)?.into_bytes())
 }
 
 /// The word of a request to the outside.

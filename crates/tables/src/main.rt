@@ -25,7 +25,7 @@ mod plans;
 mod rules;
 
 use fault::Fault;
-use fields::{cut, number_of};
+use fields::{cut, cut_twice, number_of};
 use name_tree::Tree;
 use plumb_rules::Vars;
 use rules::Coding;
@@ -55,13 +55,14 @@ fn found(alloc: Global, state: &mut State, word: &str, case: &str) -> Result<Vec
 }
 
 fn asked(alloc: Global, state: &mut State, line: &str) -> Result<Vec<u8>, Fault> {
-    let [word, case] = cut::<2>(line)?;
+    let (word, case) = cut(line)?;
     found(alloc, state, word, case)
 }
 
 // The line with parts repeated in it.
 fn widened(alloc: Global, fields: &str) -> Result<String, Fault> {
-    let [count, front, behind, line] = cut::<4>(fields)?;
+    let (count, front, fields) = cut_twice(fields)?;
+    let (behind, line) = cut(fields)?;
     let count = number_of(count)?;
     let mut parts = front.repeat(alloc, count)?;
     parts.push_str(behind.repeat(alloc, count)?.as_str())?;

@@ -11,7 +11,7 @@
 //! | `keep`, `back` | `ok` |
 
 use crate::fault::Fault;
-use crate::fields::{cut, kind_word, number_of, put, says, text_of};
+use crate::fields::{cut, cut_twice, kind_word, number_of, put, range_line, says, text_of};
 use acme_cmd::{Click, Command, classify, expand, whole};
 use am_text::{Range, decode_whole, encode, escape};
 use name_tree::{Found, Tree, TreeFault};
@@ -27,7 +27,7 @@ impl From<TreeFault> for Fault {
 }
 
 fn whole_name(alloc: Global, fields: &str) -> Result<Vec<u8>, Fault> {
-    let [dir, name] = cut::<2>(fields)?;
+    let (dir, name) = cut(fields)?;
     let dir = text_of(alloc, dir)?;
     let name = text_of(alloc, name)?;
     let made = whole(alloc, dir.as_slice(), name.as_slice())?;
@@ -59,7 +59,8 @@ fn dot_of(q0: &str, q1: &str) -> Result<Option<Range>, Fault> {
 }
 
 fn expansion(alloc: Global, fields: &str, click: Click) -> Result<Vec<u8>, Fault> {
-    let [at, q0, q1, text] = cut::<4>(fields)?;
+    let (at, q0, fields) = cut_twice(fields)?;
+    let (q1, text) = cut(fields)?;
     let at: usize = number_of(at)?;
     let dot = dot_of(q0, q1)?;
     let text = text_of(alloc, text)?;
@@ -67,13 +68,13 @@ fn expansion(alloc: Global, fields: &str, click: Click) -> Result<Vec<u8>, Fault
         return Err(Fault::NoCase);
     }
     match expand(&text, dot, at, click) {
-        Some(range) => Ok(format!(in alloc; "{} {}", range.q0, range.q1)?.into_bytes()),
+        Some(range) => range_line(alloc, range),
         None => says(alloc, "none"),
     }
 }
 
 fn file(alloc: Global, tree: &mut Tree, fields: &str) -> Result<Vec<u8>, Fault> {
-    let [path, text] = cut::<2>(fields)?;
+    let (path, text) = cut(fields)?;
     let bytes = encode(alloc, &text_of(alloc, text)?)?;
     tree.file(path.as_bytes(), bytes.as_slice())?;
     says(alloc, "ok")
@@ -116,7 +117,7 @@ fn kind(alloc: Global, tree: &Tree, path: &str) -> Result<Vec<u8>, Fault> {
 }
 
 fn with_fields(alloc: Global, tree: &mut Tree, line: &str) -> Result<Vec<u8>, Fault> {
-    let [word, fields] = cut::<2>(line)?;
+    let (word, fields) = cut(line)?;
     match word {
         "whole" => whole_name(alloc, fields),
         "classify" => command(alloc, fields),

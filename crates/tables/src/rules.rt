@@ -17,7 +17,7 @@
 //! PORT is `-` where there is none. WAY is `port`, or `start` or `client` and the command.
 
 use crate::fault::Fault;
-use crate::fields::{cut, put, says, text_of};
+use crate::fields::{cut_twice, put, says, text_of};
 use am_text::{Bytes, Rune, Runes, decode_whole, encode};
 use name_tree::{Tree, TreeFault};
 use plumb_msg::{PlumbMsg, PlumbRead, can_spell, read_msg, write_msg};
@@ -132,10 +132,10 @@ fn route_line(alloc: Global, found: &Route, coding: Coding) -> Result<Vec<u8>, F
 
 /// Where a message goes.
 pub fn routed(alloc: Global, known: &Vars, case: &str, coding: Coding) -> Result<Vec<u8>, Fault> {
-    let [files, msg, rules] = cut::<3>(case)?;
-    let tree = tree_of(alloc, files)?;
+    let (files, msg, rules) = cut_twice(case)?;
     let msg = msg_of(alloc, msg, coding)?;
     let (sets, _) = rules_of(alloc, rules, known)?;
+    let tree = tree_of(alloc, files)?;
     match route(alloc, &sets, &msg, &tree)? {
         Some(found) => route_line(alloc, &found, coding),
         None => says(alloc, "none"),
