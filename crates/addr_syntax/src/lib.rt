@@ -15,6 +15,3 @@ pub use parser::{
     separators_join_last, signs_join_from_the_left,
 };
 pub use scan::{delimiter_at, expression, number};
-
-#[cfg(test)]
-mod tests;
