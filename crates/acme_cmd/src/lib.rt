@@ -6,8 +6,6 @@ mod command;
 mod expansion;
 mod names;
 mod reading;
-#[cfg(test)]
-mod tests;
 
 pub use command::{Builtin, Command};
 pub use expansion::{Click, expand};

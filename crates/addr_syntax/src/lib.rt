@@ -19,6 +19,3 @@ pub use parser::{
 };
 pub use reader::read_address;
 pub use scan::{delimiter_at, expression, number};
-
-#[cfg(test)]
-mod tests;

@@ -13,6 +13,3 @@ pub use addr_syntax::{Addr, Limited, SynFault};
 pub use command::{Act, Cmd, Cmds};
 pub use kind::{Kind, Letter, Loop, Place, Request, Way, kind_of};
 pub use token::{Token, a_piece_may_end_a_line, a_text_begins_with_one_piece, token_at};
-
-#[cfg(test)]
-mod tests;

@@ -22,6 +22,3 @@ pub use fault::EditFault;
 pub use laws::{no_match_wants_nothing, texts_and_matches_are_the_range};
 pub use planning::changes;
 pub use types::{EditPlan, Site};
-
-#[cfg(test)]
-mod tests;

@@ -21,6 +21,3 @@ pub use routing::route;
 pub use rule_syntax::{
     Argument, Field, Late, Piece, Rule, RuleFault, RuleSets, Rules, Var, Vars, Verb, parse_rules,
 };
-
-#[cfg(test)]
-mod tests;

@@ -15,6 +15,3 @@ pub use fault::RuleFault;
 pub use laws::{arguments_are_read_in_parts, expressions_have_sizes};
 pub use parsing::parse_rules;
 pub use rule::{Argument, Field, Late, Piece, Rule, RuleSets, Rules, Var, Vars, Verb};
-
-#[cfg(test)]
-mod tests;

@@ -5,8 +5,6 @@ mod fault;
 mod laws;
 mod lines;
 mod search;
-#[cfg(test)]
-mod tests;
 mod tree;
 
 pub use addr_syntax::Addr;

@@ -12,6 +12,3 @@ pub use parser::{
     a_block_holds_its_lines, a_loop_takes_the_rest, an_edit_has_one_tree, an_edit_is_as_written,
     parse_edit,
 };
-
-#[cfg(test)]
-mod tests;
