@@ -11,6 +11,3 @@ pub use log::UndoLog;
 pub use places::image;
 pub use splicing::splice;
 pub use types::{Done, DoneList, Edit, Edits, SpliceFault};
-
-#[cfg(test)]
-mod tests;

@@ -17,6 +17,3 @@ pub use laws::{
     answers_append, begins_with_nothing, dropped_at_close, ended_stay, flushed_takes_none,
     nothing_else_gives, taken_by_answers, written_once,
 };
-
-#[cfg(test)]
-mod tests;

@@ -13,6 +13,3 @@ pub use laws::{cancelled_is_gone, leaves_others, loses_nothing, only_ask_waits};
 pub use queue::WaitQueue;
 pub use reads::{Answers, Reads};
 pub use types::{Asked, Asker, Piece};
-
-#[cfg(test)]
-mod tests;

@@ -14,6 +14,3 @@ pub use laws::{
     stays_ready, text_is_its_history, undo_and_redo_are_plans, undo_takes_back,
 };
 pub use types::{PlanKind, Ready, TextPlan};
-
-#[cfg(test)]
-mod tests;

@@ -1,0 +1,68 @@
+//! The tables. A line is a table's word, a call and its fields, with one tab before each: first the numbers, with a comma
+//! between them, and then the texts. What is missing at the end is empty. Texts are escaped: a newline as `\n`, a
+//! backslash as `\\`. What a table's calls change lives on from line to line, until a line `new`, with which all tables
+//! begin afresh. The modules of the tables say which calls there are.
+//!
+//! | in a table | is |
+//! |---|---|
+//! | ASKER | the numbers of a read: its connection, its tag, its opening and its count |
+//! | EDITS | the fields of edits or changes, each `Q0,Q1,TEXT` |
+//!
+//! | answer | is |
+//! |---|---|
+//! | `gets "`PIECE`"` | a read is given this now |
+//! | `waits` | a read isn't answered yet |
+//! | `none`, `yes`, `no`, `ok` | there is none; it is so; it isn't; it is done |
+
+use crate::answers::says;
+use crate::call::{Call, read_call};
+use crate::fault::Fault;
+use crate::{body, book, queue};
+use am_text::{Bytes, NoMemory};
+use event_book::Book;
+use std::alloc::Global;
+use wait_queue::WaitQueue;
+use win_text::Body;
+
+/// The value of each table.
+#[derive(Drop)]
+pub struct Tables {
+    body: Body,
+    queue: WaitQueue,
+    book: Book,
+}
+
+impl Tables {
+    /// The value with which each table begins.
+    pub fn new(alloc: Global) -> Result<Tables, NoMemory> {
+        Ok(Tables {
+            body: Body::new(alloc),
+            queue: WaitQueue::new(alloc),
+            book: Book::new(alloc),
+        })
+    }
+}
+
+fn called(
+    alloc: Global,
+    tables: &mut Tables,
+    table: &str,
+    call: &Call<'_>,
+) -> Result<Bytes, Fault> {
+    match table {
+        "body" => body::answer(alloc, &mut tables.body, call),
+        "queue" => queue::answer(alloc, &mut tables.queue, call),
+        "book" => book::answer(alloc, &mut tables.book, call),
+        _ => Err(Fault::NoCase),
+    }
+}
+
+/// The answer to a line, without its newline.
+pub fn answer(alloc: Global, tables: &mut Tables, line: &str) -> Result<Bytes, Fault> {
+    if line == "new" {
+        *tables = Tables::new(alloc)?;
+        return says(alloc, "ok");
+    }
+    let (table, call) = read_call(alloc, line)?;
+    called(alloc, tables, table, &call)
+}
