@@ -7,6 +7,7 @@
 // | `addr`, `address` | addresses.rt |
 // | `piece` | pieces.rt |
 // | `edit` | commands.rt |
+// | `re` | expressions.rt |
 // | `names` | names.rt |
 // | `rules`, `bytes`, `sets` | rules.rt |
 // | `times` COUNT FRONT BEHIND LINE | the line, with each `@` of it as so many FRONT and then so many BEHIND |
@@ -17,6 +18,7 @@
 
 mod addresses;
 mod commands;
+mod expressions;
 mod fault;
 mod fields;
 mod names;
@@ -46,6 +48,7 @@ fn found(alloc: Global, state: &mut State, word: &str, case: &str) -> Result<Vec
         "address" => addresses::ended(alloc, case),
         "piece" => pieces::first(alloc, case),
         "edit" => commands::done(alloc, case),
+        "re" => Ok(expressions::answer(alloc, case)?.into_vec()),
         "names" => names::answer(alloc, &mut state.tree, case),
         "rules" => rules::routed(alloc, &state.known, case, Coding::Utf8),
         "bytes" => rules::routed(alloc, &state.known, case, Coding::Bytes),

@@ -17,37 +17,24 @@
 ghost use Rattle.std.specs.Prelude.{◌≤◌, length, IfOk};
 
 use crate::fault::Fault;
-use am_text::{Bytes, Items, Range, Rune, Runes, unescape};
+use crate::fields::{cut, number_of, text_of};
+use am_text::{Bytes, Items, Range, Rune, Runes};
 use re_spans::{Re, first_match, groups, last_match, match_over, matches_span, successive_matches};
 use re_syntax::{ReFault, parse_re};
 use std::alloc::Global;
 
-fn cut(fields: &str, at: char) -> Result<(&str, &str), Fault> {
+fn parted(fields: &str, at: char) -> Result<(&str, &str), Fault> {
     match fields.split_once(at) {
         Some(parts) => Ok(parts),
         None => Err(Fault::NoCase),
     }
 }
 
-fn text_of(alloc: Global, field: &str) -> Result<Runes, Fault> {
-    match unescape(alloc, field.as_bytes())? {
-        Some(text) => Ok(text),
-        None => Err(Fault::NoCase),
-    }
-}
-
-fn place_of(field: &str) -> Result<usize, Fault> {
-    match field.parse() {
-        Ok(place) => Ok(place),
-        Err(_) => Err(Fault::NoCase),
-    }
-}
-
 fn range_of(field: &str) -> Result<Range, Fault> {
-    let (q0, q1) = cut(field, ',')?;
+    let (q0, q1) = parted(field, ',')?;
     Ok(Range {
-        q0: place_of(q0)?,
-        q1: place_of(q1)?,
+        q0: number_of(q0)?,
+        q1: number_of(q1)?,
     })
 }
 
@@ -72,7 +59,7 @@ fn bounds_of(field: &str, text: &Runes) -> Result<Range, Fault>
 fn no_null_of(field: &str) -> Result<Option<usize>, Fault> {
     match field {
         "-" => Ok(None),
-        place => Ok(Some(place_of(place)?)),
+        place => Ok(Some(number_of(place)?)),
     }
 }
 
@@ -89,17 +76,17 @@ fn stop_of(field: &str) -> Result<Option<Rune>, Fault> {
 
 fn append_often(alloc: Global, all: &mut Runes, part: &str, times: &str) -> Result<(), Fault> {
     let part = text_of(alloc, part)?;
-    for _ in 0..place_of(times)? {
+    for _ in 0..number_of::<usize>(times)? {
         all.append(part.as_slice())?;
     }
     Ok(())
 }
 
 fn made_of(alloc: Global, parts: &str) -> Result<Runes, Fault> {
-    let (times, parts) = cut(parts, ' ')?;
-    let (open, parts) = cut(parts, ' ')?;
-    let (inner, parts) = cut(parts, ' ')?;
-    let (close, times_closed) = cut(parts, ' ')?;
+    let (times, parts) = parted(parts, ' ')?;
+    let (open, parts) = parted(parts, ' ')?;
+    let (inner, parts) = parted(parts, ' ')?;
+    let (close, times_closed) = parted(parts, ' ')?;
     let mut all = Items::new(alloc);
     append_often(alloc, &mut all, open, times)?;
     append_often(alloc, &mut all, inner, "1")?;
@@ -137,7 +124,7 @@ fn put_span(alloc: Global, line: &mut Bytes, span: Option<Range>) -> Result<(), 
 }
 
 fn spans_line(alloc: Global, re: &Re, text: &Runes, fields: &str) -> Result<Bytes, Fault> {
-    let (bounds, no_null) = cut(fields, '\t')?;
+    let (bounds, no_null) = cut(fields)?;
     let bounds = bounds_of(bounds, text)?;
     let no_null = no_null_of(no_null)?;
     let first = first_match(alloc, re, text, bounds.q0, bounds.q1, no_null)?;
@@ -160,7 +147,7 @@ fn each_line(alloc: Global, re: &Re, text: &Runes, fields: &str) -> Result<Bytes
 }
 
 fn over_line(alloc: Global, re: &Re, text: &Runes, fields: &str) -> Result<Bytes, Fault> {
-    let place = place_of(fields)?;
+    let place = number_of(fields)?;
     if place > text.len() {
         return Err(Fault::NoCase);
     }
@@ -183,7 +170,7 @@ fn groups_line(alloc: Global, re: &Re, text: &Runes, fields: &str) -> Result<Byt
 }
 
 fn search_line(alloc: Global, word: &str, re: &Re, fields: &str) -> Result<Bytes, Fault> {
-    let (text, fields) = cut(fields, '\t')?;
+    let (text, fields) = cut(fields)?;
     let text = text_of(alloc, text)?;
     match word {
         "spans" => spans_line(alloc, re, &text, fields),
@@ -194,24 +181,24 @@ fn search_line(alloc: Global, word: &str, re: &Re, fields: &str) -> Result<Bytes
     }
 }
 
-fn fault_line(alloc: Global, fault: ReFault) -> Result<Bytes, Fault> {
+fn fault_of(fault: ReFault) -> Fault {
     match fault {
-        ReFault::Bad(place) => tells(alloc, "bad", place),
-        ReFault::Nodes => says(alloc, "nodes"),
-        ReFault::NoMemory => Err(Fault::NoMemory),
+        ReFault::Bad(place) => Fault::Bad(place),
+        ReFault::Nodes => Fault::Says("nodes"),
+        ReFault::NoMemory => Fault::NoMemory,
     }
 }
 
 /// The answer to a line, without its newline.
 pub fn answer(alloc: Global, line: &str) -> Result<Bytes, Fault> {
-    let (word, fields) = cut(line, '\t')?;
-    let (expression, fields) = cut(fields, '\t')?;
+    let (word, fields) = cut(line)?;
+    let (expression, fields) = cut(fields)?;
     let expression = expression_of(alloc, expression)?;
     let is_parsed = word == "parse";
     let stop = if is_parsed { stop_of(fields)? } else { None };
     match parse_re(alloc, expression.as_slice(), 0, stop) {
         Ok((_, end)) if is_parsed => tells(alloc, "ends", end),
         Ok((re, _)) => search_line(alloc, word, &re, fields),
-        Err(fault) => fault_line(alloc, fault),
+        Err(fault) => Err(fault_of(fault)),
     }
 }
