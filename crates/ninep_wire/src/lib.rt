@@ -13,8 +13,6 @@ mod r_reading;
 mod r_writing;
 mod t_reading;
 mod t_writing;
-#[cfg(test)]
-mod tests;
 
 pub use am_text::{Bytes, Items, Names, NoMemory};
 pub use fault::{WireError, WireFault};
