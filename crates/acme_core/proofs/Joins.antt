@@ -24,7 +24,7 @@ use Rattle.acme_core.specs.States.{Present}
 use Rattle.acme_core.specs.Doings.{enabled_at}
 use Rattle.acme_core.specs.Stages.{asker_of, answer_tables, event_tables, said, tables_after}
 use Rattle.acme_core.specs.declared.doing.Doing.{Doing}
-use Rattle.ninep_wire.specs.declared.message.RBody.{RBody}
+use Rattle.ninep_types.specs.declared.message.RBody.{RBody}
 use Rattle.event_book.specs.BookState.{BookState}
 use Rattle.core_answers.specs.declared.effect.Answer.{Answer}
 use Rattle.core_answers.specs.declared.effect.Answer.TheVariants.{Says, Reads}

@@ -1,10 +1,10 @@
 -- What an event does, as the editor stands.
 use Rattle.std.specs.Prelude.{ℕ, ◌&&◌, not, Bool, true, false, [], length, Option, Some, None}
 use Rattle.std.specs.List.{list_any}
-use Rattle.ninep_wire.specs.declared.message.TMsg.{TMsg}
-use Rattle.ninep_wire.specs.declared.message.TBody.{TBody}
-use Rattle.ninep_wire.specs.declared.message.TBody.TheVariants as t
-use Rattle.ninep_wire.specs.Spelling.{spelling_t}
+use Rattle.ninep_types.specs.declared.message.TMsg.{TMsg}
+use Rattle.ninep_types.specs.declared.message.TBody.{TBody}
+use Rattle.ninep_types.specs.declared.message.TBody.TheVariants as t
+use Rattle.ninep_types.specs.Spelling.{spelling_t}
 use Rattle.acme_tree.specs.Trees.{is_full}
 use Rattle.fid_table.specs.Tables.{Tables, msize_of, is_waiting}
 use Rattle.win_events.specs.declared.item.Origin.{Origin}

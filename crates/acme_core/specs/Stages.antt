@@ -1,7 +1,7 @@
 -- A step, part by part. First comes what it makes: the message does what it does and is answered, or waits; items come; waiting reads
 -- are answered. Then comes what it ends: openings of freed fids and of a deleted window, and reads that wait no more.
 use Rattle.std.specs.Prelude.{ℕ, ◌==◌, ◌&&◌, not, Bool, true, false, List, [], ◌∷◌, ◌++◌, length, Option, Some, None, if◌then◌else◌}
-use Rattle.ninep_wire.specs.declared.message.RBody.{RBody}
+use Rattle.ninep_types.specs.declared.message.RBody.{RBody}
 use Rattle.fid_table.specs.Tables.{Tables, after_hangup}
 use Rattle.wait_queue.specs.declared.types.Asker.{Asker}
 use Rattle.win_events.specs.declared.item.Item.{Item}

@@ -2,7 +2,7 @@
 use Rattle.std.specs.Prelude.{ℕ, ◌<◌, ◌+◌, List, [], ◌++◌, length, map, slice_set, slice_index_or, All}
 use Rattle.std.specs.List.{fold}
 use Rattle.am_text.specs.Twice.{Twice}
-use Rattle.ninep_wire.specs.Spelling.{spelling_r}
+use Rattle.ninep_types.specs.Spelling.{spelling_r}
 use Rattle.core_events.specs.declared.response.Response.{Response}
 use Rattle.acme_core.specs.declared.unsent.Reply.{Reply}
 use Rattle.am_journal.specs.declared.event.Event.{Event}

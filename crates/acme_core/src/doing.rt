@@ -1,7 +1,7 @@
 //! What an event does, as the editor stands.
 
 ghost use Rattle.std.specs.Prelude.{◌≡◌, [], None, IfOk};
-ghost use Rattle.ninep_wire.specs.Spelling.{Fits_t};
+ghost use Rattle.ninep_types.specs.Spelling.{Fits_t};
 ghost use Rattle.am_journal.specs.Lawful.{IsLawful};
 ghost use Rattle.core_windows.specs.Possible.{IsPossible};
 ghost use Rattle.core_windows.specs.declared.change.Change.TheVariants as change;
@@ -17,7 +17,7 @@ use am_journal::Event;
 use am_text::{Items, NoMemory};
 use core_answers::{Answer, Deed, Effect, EventChange, deed_of};
 use core_windows::Change;
-use ninep_wire::TMsg;
+use ninep_types::TMsg;
 use std::alloc::Global;
 use win_events::Origin;
 

@@ -34,7 +34,8 @@ use core_events::{
 };
 use core_items::NewItems;
 use fid_table::Sessions;
-use ninep_wire::{RBody, RMsg, write_r};
+use ninep_types::{RBody, RMsg};
+use ninep_wire::write_r;
 use std::alloc::Global;
 use wait_queue::Asker;
 

@@ -13,8 +13,6 @@ mod origin;
 mod parts;
 mod planning;
 mod prepared;
-#[cfg(test)]
-mod tests;
 mod typing;
 mod unsent;
 mod view;
@@ -28,5 +26,5 @@ pub use am_text::{Bytes, Items, NoMemory, Range, Rune, Runes};
 pub use core_answers::messages_are_answered;
 pub use editor::{Core, Plan};
 pub use laws::journals_tell_connections;
-pub use ninep_wire::{RBody, RMsg, TBody, TMsg};
+pub use ninep_types::{RBody, RMsg, TBody, TMsg};
 pub use unsent::Reply;

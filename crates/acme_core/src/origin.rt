@@ -5,7 +5,7 @@ ghost use Rattle.acme_core.specs.Origins.{is_text, origin_at, message_origin};
 
 use acme_tree::{Node, WinFile};
 use fid_table::{Fid, Sessions};
-use ninep_wire::TBody;
+use ninep_types::TBody;
 use win_events::Origin;
 
 fn is_text(node: Node) -> bool

@@ -27,7 +27,8 @@ use am_text::NoMemory;
 use core_events::Book;
 use core_windows::Windows;
 use fid_table::Sessions;
-use ninep_wire::{TBody, TMsg, t_size};
+use ninep_types::{TBody, TMsg};
+use ninep_wire::t_size;
 use std::alloc::Global;
 
 /// How many connections there are.

@@ -8,14 +8,12 @@ mod entries;
 mod listing;
 mod names;
 mod node;
-#[cfg(test)]
-mod tests;
 mod walk;
 
 pub use access::{May, may_open};
 pub use am_text::{Bytes, Ids, Items, Names, NoMemory};
 pub use listing::{children, qid_of, stat_of};
 pub use ninep_frame::{Stat, Stats};
-pub use ninep_wire::Qid;
+pub use ninep_types::Qid;
 pub use node::{Node, WinFile, World, is_dir, is_full, is_live};
 pub use walk::{Step, walk_one};

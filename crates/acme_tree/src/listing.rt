@@ -9,7 +9,7 @@ use crate::names::name_of;
 use crate::node::{Node, WinFile, World};
 use am_text::{Items, NoMemory};
 use ninep_frame::{Stat, Stats};
-use ninep_wire::Qid;
+use ninep_types::Qid;
 use std::alloc::Global;
 
 /// The mode of a directory.

@@ -7,33 +7,37 @@ mod replay;
 mod script;
 #[cfg(test)]
 mod serving_tests;
-#[cfg(test)]
-mod tests;
 
 use am_base::{InputSource, OutputSink, UnixHost};
 use am_text::{Items, NoMemory, Words};
 use program::acmefs;
 use std::alloc::Global;
+use std::env;
+use std::io::{self, ErrorKind};
 use std::process::ExitCode;
 use std::rt::Env;
-use std::{env, io};
 
-fn words_of(rt: &(impl Env + AllocGlobal)) -> Result<Words, NoMemory> {
+// The words after the program's name, or none where one isn't UTF-8.
+fn words_of(rt: &(impl Env + AllocGlobal)) -> Result<Option<Words>, NoMemory> {
     let mut words = Items::new(rt.alloc());
-    let Ok(args) = env::args(rt) else {
-        return Err(NoMemory);
+    let args = match env::args(rt) {
+        Ok(args) => args,
+        Err(error) if error.kind() == ErrorKind::InvalidData => return Ok(None),
+        Err(_) => return Err(NoMemory),
     };
     for (k, arg) in args.enumerate() {
         if 0 < k {
             words.push(Items::from_vec(arg.into_bytes()))?;
         }
     }
-    Ok(words)
+    Ok(Some(words))
 }
 
 fn main(rt: HostRuntime) -> ExitCode {
-    let Ok(words) = words_of(&rt) else {
-        return ExitCode::from(6);
+    let words = match words_of(&rt) {
+        Ok(Some(words)) => words,
+        Ok(None) => return ExitCode::from(1),
+        Err(NoMemory) => return ExitCode::from(6),
     };
     let mut input = InputSource::new(rt.reader());
     let mut output = OutputSink::new(io::writer(&rt));

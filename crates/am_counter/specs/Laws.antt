@@ -1,6 +1,6 @@
 -- What each counter says of connections.
 use Rattle.std.specs.Prelude.{◌≡◌, ℕ, ◌<◌, Bool, List, Option}
-use Rattle.ninep_wire.specs.declared.message.TMsg.{TMsg}
+use Rattle.ninep_types.specs.declared.message.TMsg.{TMsg}
 use Rattle.am_journal.specs.declared.ending.Ending.{Ending}
 use Rattle.am_journal.specs.declared.event.Event.{Event}
 use Rattle.am_journal.specs.declared.event.Event.TheVariants.{Msg, Hang}

@@ -1,9 +1,9 @@
 -- The events before the rounds can be done, and the editor then stands as each round finds it.
 use Rattle.std.proofs.Common.{◌≡◌, ℕ, ◌≤◌, List, [], ◌∷◌, length, refl, sym, subst, arith, None}
 use Rattle.std.specs.List.{fold}
-use Rattle.ninep_wire.specs.declared.message.RBody.{RBody}
-use Rattle.ninep_wire.specs.declared.message.RBody.TheVariants as r
-use Rattle.ninep_wire.specs.Spelling.{spelling_r}
+use Rattle.ninep_types.specs.declared.message.RBody.{RBody}
+use Rattle.ninep_types.specs.declared.message.RBody.TheVariants as r
+use Rattle.ninep_types.specs.Spelling.{spelling_r}
 use Rattle.std.specs.Prelude.{codes}
 use Rattle.am_journal.specs.declared.event.Event.{Event}
 use Rattle.am_journal.specs.declared.event.Event.TheVariants as event

@@ -3,10 +3,10 @@ use Rattle.std.proofs.Common.{◌≡◌, ℕ, ◌+◌, ◌-◌, ◌<◌, ◌≤�
 use Rattle.std.specs.Prelude.{nat_le, ◌==◌, if◌then◌else◌}
 use Rattle.std.proofs.lemmas.Bool.Decides.{nat_tests}
 use Rattle.std.proofs.lemmas.List.{length-take}
-use Rattle.ninep_wire.specs.declared.message.TBody.TheVariants as t
-use Rattle.ninep_wire.specs.declared.message.RBody.{RBody}
-use Rattle.ninep_wire.specs.declared.message.RBody.TheVariants as r
-use Rattle.ninep_wire.specs.Spelling.{spelling_r, spelling_t}
+use Rattle.ninep_types.specs.declared.message.TBody.TheVariants as t
+use Rattle.ninep_types.specs.declared.message.RBody.{RBody}
+use Rattle.ninep_types.specs.declared.message.RBody.TheVariants as r
+use Rattle.ninep_types.specs.Spelling.{spelling_r, spelling_t}
 use Rattle.am_journal.specs.declared.event.Event.{Event}
 use Rattle.am_journal.specs.declared.event.Event.TheVariants as event
 use Rattle.am_journal.specs.declared.event.Why.TheVariants as why

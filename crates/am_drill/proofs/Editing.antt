@@ -6,7 +6,7 @@ use Rattle.std.proofs.lemmas.Bool.Decides.{nat_tests}
 use Rattle.am_text.specs.Part.{part_of}
 use Rattle.am_text.specs.Pieces.{Decoded}
 use Rattle.am_text.specs.declared.range.Range.{Range}
-use Rattle.ninep_wire.specs.declared.message.RBody.TheVariants as r
+use Rattle.ninep_types.specs.declared.message.RBody.TheVariants as r
 use Rattle.edit_log.specs.declared.types.Edit.{Edit}
 use Rattle.win_events.specs.declared.item.Item.{Item}
 use Rattle.win_events.specs.declared.item.Origin.{Origin}

@@ -3,9 +3,9 @@ use Rattle.std.proofs.Common.{◌≡◌, ℕ, zero, suc, ◌+◌, ◌%◌, ◌^�
 use Rattle.std.specs.Prelude.{nat_lt, ◌&&◌, ◌==◌, if◌then◌else◌}
 use Rattle.std.proofs.lemmas.Bool.Decides.{nat_tests}
 use Rattle.std.specs.List.{AllByRecursion}
-use Rattle.ninep_wire.specs.declared.message.TBody.{TBody}
-use Rattle.ninep_wire.specs.declared.message.TBody.TheVariants as t
-use Rattle.ninep_wire.specs.Spelling.{spelling_t, BodyInRange_t}
+use Rattle.ninep_types.specs.declared.message.TBody.{TBody}
+use Rattle.ninep_types.specs.declared.message.TBody.TheVariants as t
+use Rattle.ninep_types.specs.Spelling.{spelling_t, BodyInRange_t}
 use Rattle.am_journal.specs.declared.event.Event.{Event}
 use Rattle.am_journal.specs.declared.event.Event.TheVariants as event
 use Rattle.am_journal.specs.Lawful.{AreBytes, IsInRange}

@@ -1,9 +1,9 @@
 -- What each event of a drill makes of the editor.
 use Rattle.std.proofs.Common.{◌≡◌, ℕ, ◌+◌, Bool, true, false, [], ◌∷◌, ◌++◌, take, drop, refl, ap, ◌∙◌}
 use Rattle.std.specs.Prelude.{replicate, if◌then◌else◌}
-use Rattle.ninep_wire.specs.declared.message.RBody.{RBody}
-use Rattle.ninep_wire.specs.declared.message.RBody.TheVariants as r
-use Rattle.ninep_wire.specs.Spelling.{spelling_r}
+use Rattle.ninep_types.specs.declared.message.RBody.{RBody}
+use Rattle.ninep_types.specs.declared.message.RBody.TheVariants as r
+use Rattle.ninep_types.specs.Spelling.{spelling_r}
 use Rattle.am_journal.specs.declared.event.Event.TheVariants as event
 use Rattle.am_text.specs.Utf8.{utf8}
 use Rattle.win_text.specs.BodyStories.{story_text}

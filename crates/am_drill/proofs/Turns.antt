@@ -5,7 +5,7 @@ use Rattle.std.specs.List.{fold}
 use Rattle.std.proofs.lemmas.Bool.Decides.{nat_tests}
 use Rattle.std.proofs.lemmas.List.{length-append, length-take, length-drop}
 use Rattle.am_text.specs.Utf8.{utf8}
-use Rattle.ninep_wire.specs.declared.message.RBody.TheVariants as r
+use Rattle.ninep_types.specs.declared.message.RBody.TheVariants as r
 use Rattle.am_journal.specs.declared.event.Event.{Event}
 use Rattle.am_journal.specs.declared.event.Event.TheVariants as event
 use Rattle.edit_log.specs.declared.types.Edit.{Edit}

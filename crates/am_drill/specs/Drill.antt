@@ -1,7 +1,7 @@
 -- The events of a drill.
 use Rattle.std.specs.Prelude.{ℕ, zero, suc, ◌+◌, ◌*◌, ◌/◌, ◌%◌, ◌^◌, ◌==◌, List, [], ◌∷◌, ◌++◌, codes, if◌then◌else◌}
-use Rattle.ninep_wire.specs.declared.message.TBody.{TBody}
-use Rattle.ninep_wire.specs.declared.message.TBody.TheVariants as t
+use Rattle.ninep_types.specs.declared.message.TBody.{TBody}
+use Rattle.ninep_types.specs.declared.message.TBody.TheVariants as t
 use Rattle.am_journal.specs.declared.event.Event.{Event}
 use Rattle.am_journal.specs.declared.event.Event.TheVariants as event
 use Rattle.am_journal.specs.declared.event.Side.TheVariants.{Body}

@@ -6,7 +6,7 @@ ghost use Rattle.am_drill.specs.Drill.{message, opening, write, poll, flush, key
 use crate::numbers::{Turn, drawn, letter, turn_of};
 use am_journal::{Event, Journal, Side};
 use am_text::{Items, Names, NoMemory, Rune};
-use ninep_wire::{TBody, TMsg};
+use ninep_types::{TBody, TMsg};
 use std::alloc::Global;
 
 /// The tag of a version message.

@@ -8,8 +8,6 @@ mod laws;
 mod numbers;
 mod runner;
 mod summary;
-#[cfg(test)]
-mod tests;
 
 pub use am_base::Sink;
 pub use am_journal::Journal;

@@ -2,7 +2,7 @@
 use Rattle.std.proofs.Common.{◌≡◌, ℕ, true, false, cond, List, [], ◌∷◌, Option, Some, None, refl, ap, ◌∙◌}
 use Rattle.std.specs.Str.{bytes_eq}
 use Rattle.std.proofs.lemmas.Slice.Eq.{bytes_eq-Decides}
-use Rattle.ninep_wire.specs.declared.fault.WireFault.TheVariants as fault
+use Rattle.ninep_types.specs.declared.fault.WireFault.TheVariants as fault
 use Rattle.am_journal.specs.declared.ending.Bad.TheVariants as bad
 use Rattle.am_journal.specs.declared.ending.Ending.{Ending}
 use Rattle.am_journal.specs.declared.ending.Ending.TheVariants as ending

@@ -6,13 +6,13 @@ use Rattle.std.specs.Fmt.{decimal}
 use Rattle.std.specs.List.{AllByRecursion, flat_map, onto_first}
 use Rattle.std.proofs.lemmas.Bool.{cases_lt, lt-ltb, le-ltb, eqb-true}
 use lib.Utf8.{scalar}
-use Rattle.ninep_wire.specs.Spelling.{spelling_t}
+use Rattle.ninep_types.specs.Spelling.{spelling_t}
 use Rattle.am_text.specs.Lines.{escaped, lines_of}
 use Rattle.am_text.specs.Utf8.{rune_bytes}
 use Rattle.am_journal.specs.declared.ending.Ending.{Ending}
 use Rattle.am_journal.specs.declared.ending.Ending.TheVariants as ending
 use Rattle.am_journal.specs.declared.ending.Bad.TheVariants as bad
-use Rattle.ninep_wire.specs.declared.fault.WireFault.TheVariants as fault
+use Rattle.ninep_types.specs.declared.fault.WireFault.TheVariants as fault
 use Rattle.am_journal.specs.declared.event.Event.{Event}
 use Rattle.am_journal.specs.declared.event.Event.TheVariants as event
 use Rattle.am_journal.specs.declared.event.Side.{Side}

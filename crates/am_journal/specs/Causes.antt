@@ -1,8 +1,8 @@
 -- Why a connection ended, in words.
 use Rattle.std.specs.Prelude.{ℕ, List, [], ◌∷◌, ◌++◌, Option, Some, None, codes, if◌then◌else◌}
 use Rattle.std.specs.Str.{bytes_eq}
-use Rattle.ninep_wire.specs.declared.fault.WireFault.{WireFault}
-use Rattle.ninep_wire.specs.declared.fault.WireFault.TheVariants as fault
+use Rattle.ninep_types.specs.declared.fault.WireFault.{WireFault}
+use Rattle.ninep_types.specs.declared.fault.WireFault.TheVariants as fault
 use Rattle.am_journal.specs.declared.ending.Bad.{Bad}
 use Rattle.am_journal.specs.declared.ending.Bad.TheVariants as bad
 use Rattle.am_journal.specs.declared.ending.Ending.{Ending}

@@ -7,10 +7,10 @@ use Rattle.am_text.specs.Number.{number_of}
 use Rattle.am_text.specs.Lines.{escaped}
 use Rattle.am_text.specs.Escapes.{unescaped}
 use Rattle.am_text.specs.declared.range.Range.{Range}
-use Rattle.ninep_wire.specs.declared.fault.WireFault.{WireFault}
-use Rattle.ninep_wire.specs.declared.message.TMsg.{TMsg}
-use Rattle.ninep_wire.specs.Spelling.{spelling_t}
-use Rattle.ninep_wire.specs.Reading.{t_of}
+use Rattle.ninep_types.specs.declared.fault.WireFault.{WireFault}
+use Rattle.ninep_types.specs.declared.message.TMsg.{TMsg}
+use Rattle.ninep_types.specs.Spelling.{spelling_t}
+use Rattle.ninep_types.specs.Reading.{t_of}
 use Rattle.am_journal.specs.declared.event.Event.{Event}
 use Rattle.am_journal.specs.declared.event.Event.TheVariants as event
 use Rattle.am_journal.specs.declared.event.Side.{Side}

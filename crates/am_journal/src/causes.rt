@@ -5,7 +5,7 @@ ghost use Rattle.am_journal.specs.Causes.{fault_word, bad_word, cause, plain_cau
 
 use crate::ending::{Bad, Ending};
 use am_text::{Bytes, NoMemory};
-use ninep_wire::WireFault;
+use ninep_types::WireFault;
 
 fn fault_word(fault: WireFault) -> &'static [u8]
     ensures { result.now ≡ fault_word fault }

@@ -1,6 +1,6 @@
 //! Why a connection ended.
 
-use ninep_wire::WireFault;
+use ninep_types::WireFault;
 
 /// What was wrong with the bytes of a connection.
 #[derive(Clone, Copy, Debug, PartialEq, Eq)]

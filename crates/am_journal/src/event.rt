@@ -5,7 +5,7 @@ ghost use Rattle.am_journal.specs.declared.event.Refused.TheVariants.{NoMemory};
 
 use crate::ending::Ending;
 use am_text::{Items, Range, Runes};
-use ninep_wire::TMsg;
+use ninep_types::TMsg;
 use std::alloc::{AllocError, AllocFailed};
 
 /// A text of a window.

@@ -17,7 +17,7 @@ pub use ending::{Bad, Ending};
 pub use event::{Event, Journal, Refused, Side, Why};
 pub use journal::journal_law;
 pub use lines::{line_law, read_line, write_line};
-pub use ninep_wire::{TBody, TMsg, WireError, WireFault};
+pub use ninep_types::{TBody, TMsg, WireError, WireFault};
 pub use replies::{refused_line, reply_line, word};
 pub use reporting::report;
 pub use view::{ConnView, ConnViews, ItemView, ItemViews, View, WindowView, WindowViews};

@@ -1,7 +1,7 @@
 //! Lines of a transcript.
 
 ghost use Rattle.std.specs.Prelude.{◌≡◌, ◌<◌, ◌≤◌, ◌++◌, length, IfOk, IfSome, Some};
-ghost use Rattle.ninep_wire.specs.Spelling.{spelling_t, Fits_t};
+ghost use Rattle.ninep_types.specs.Spelling.{spelling_t, Fits_t};
 ghost use Rattle.am_journal.specs.declared.event.Event.{Event};
 ghost use Rattle.am_journal.specs.Lawful.{IsLawful, IsInRange};
 ghost use Rattle.am_journal.specs.Line.{dial_at, dial_line, msg_at, msg_line, hang_at, hang_line, took_at, took_line, new_at, new_line, key_at, key_line, sel_at, sel_line, line_text, event_of};
@@ -14,7 +14,8 @@ use crate::fields::{
 };
 use crate::hexadecimal::{bytes_of_hex, hex_text};
 use am_text::{Bytes, Items, NoMemory, Range, decimal, escape};
-use ninep_wire::{TMsg, WireError, read_t, write_t};
+use ninep_types::{TMsg, WireError};
+use ninep_wire::{read_t, write_t};
 use std::alloc::Global;
 
 /// The most bytes that a message of a line has.

@@ -2,10 +2,10 @@
 use Rattle.std.proofs.Common.{◌≡◌, ◌⊎◌, inl, inr, ℕ, Bool, true, false, List, [], ◌∷◌, ◌++◌, length, Option, Some, None, refl, sym, ap, ◌∙◌, arith}
 use Rattle.std.specs.Prelude.{is_ok, Result, Ok, Err}
 use Rattle.std.proofs.lemmas.List.{length-append}
-use Rattle.ninep_wire.specs.declared.fault.WireFault.{WireFault}
-use Rattle.ninep_wire.specs.declared.fault.WireFault.TheVariants as wire
-use Rattle.ninep_wire.specs.declared.message.TMsg.{TMsg}
-use Rattle.ninep_wire.specs.Reading.{t_of}
+use Rattle.ninep_types.specs.declared.fault.WireFault.{WireFault}
+use Rattle.ninep_types.specs.declared.fault.WireFault.TheVariants as wire
+use Rattle.ninep_types.specs.declared.message.TMsg.{TMsg}
+use Rattle.ninep_types.specs.Reading.{t_of}
 use Rattle.ninep_cut.specs.declared.cut.Cut.TheVariants as cut
 use Rattle.ninep_cut.specs.Cuts.{Stream, cut_of}
 use Rattle.am_journal.specs.declared.ending.Bad.TheVariants as bad

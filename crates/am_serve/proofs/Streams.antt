@@ -3,7 +3,7 @@ use Rattle.std.proofs.Common.{◌≡◌, inl, inr, ℕ, ◌+◌, Bool, true, fal
 use Rattle.std.proofs.lemmas.List.{append-nil}
 use Rattle.std.proofs.lemmas.List.Concat.{flat_map-append}
 use Rattle.am_base.specs.Outside.{then_told}
-use Rattle.ninep_wire.specs.declared.fault.WireFault.TheVariants as wire
+use Rattle.ninep_types.specs.declared.fault.WireFault.TheVariants as wire
 use Rattle.ninep_cut.specs.declared.cut.Cut.TheVariants as cut
 use Rattle.ninep_cut.specs.Cuts.{Stream, TakesFirst, TakesNone, then_cut, cut_of, cut_stream}
 use Rattle.ninep_cut.specs.Laws.{JoinsPieces}

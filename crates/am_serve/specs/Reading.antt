@@ -2,11 +2,11 @@
 use Rattle.std.specs.Prelude.{◌≡◌, ◌≢◌, ◌⊎◌, ℕ, ◌+◌, ◌==◌, true, false, List, [], ◌∷◌, ◌++◌, length, Option, Some, None, Ok, Err, if◌then◌else◌}
 use Rattle.std.specs.List.{flat_map, AllByRecursion}
 use Rattle.am_base.specs.Outside.{then_told}
-use Rattle.ninep_wire.specs.declared.fault.WireFault.{WireFault}
-use Rattle.ninep_wire.specs.declared.fault.WireFault.TheVariants as wire
-use Rattle.ninep_wire.specs.declared.message.TMsg.{TMsg}
-use Rattle.ninep_wire.specs.Reading.{t_of}
-use Rattle.ninep_wire.specs.Spelling.{spelling_t}
+use Rattle.ninep_types.specs.declared.fault.WireFault.{WireFault}
+use Rattle.ninep_types.specs.declared.fault.WireFault.TheVariants as wire
+use Rattle.ninep_types.specs.declared.message.TMsg.{TMsg}
+use Rattle.ninep_types.specs.Reading.{t_of}
+use Rattle.ninep_types.specs.Spelling.{spelling_t}
 use Rattle.ninep_cut.specs.declared.cut.Cut.TheVariants.{More, Broken}
 use Rattle.ninep_cut.specs.Cuts.{Stream, cut_of, cut_stream}
 use Rattle.am_journal.specs.declared.ending.Bad.{Bad}

@@ -1,9 +1,9 @@
 -- What the steps of a side that reads messages do.
 use Rattle.std.specs.Prelude.{◌≡◌, ◌≢◌, ℕ, true, List, [], Option, Some, Ok, Err}
 use Rattle.am_base.specs.Outside.{then_told, AreTold, HasRisen}
-use Rattle.ninep_wire.specs.declared.message.TMsg.{TMsg}
-use Rattle.ninep_wire.specs.Reading.{t_of}
-use Rattle.ninep_wire.specs.Spelling.{spelling_t}
+use Rattle.ninep_types.specs.declared.message.TMsg.{TMsg}
+use Rattle.ninep_types.specs.Reading.{t_of}
+use Rattle.ninep_types.specs.Spelling.{spelling_t}
 use Rattle.ninep_cut.specs.Cuts.{Stream, then_cut, cut_stream}
 use Rattle.am_journal.specs.declared.ending.Bad.{Bad}
 use Rattle.am_journal.specs.declared.ending.Bad.TheVariants as bad

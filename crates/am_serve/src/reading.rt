@@ -17,7 +17,7 @@ use am_counter::Counter;
 use am_journal::{Bad, Ending};
 use am_text::{Items, NoMemory};
 use ninep_cut::{Cut, Cutter, pieces_are_joined};
-use ninep_wire::WireFault;
+use ninep_types::WireFault;
 use std::alloc::Global;
 use std::sync::Wait;
 use turn_lock::Bell;

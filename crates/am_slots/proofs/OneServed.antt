@@ -5,7 +5,7 @@ use Rattle.std.specs.List.{flat_map}
 use Rattle.std.proofs.lemmas.List.{map-append}
 use Rattle.turn_lock.specs.Journal.{total, once, times, Stands, AllStand}
 use Rattle.turn_lock.specs.Kinds.{plain, AllFail, NoneHas, KeepsOrder}
-use Rattle.ninep_wire.specs.Spelling.{spelling_t}
+use Rattle.ninep_types.specs.Spelling.{spelling_t}
 use Rattle.am_journal.specs.declared.ending.Ending.{Ending}
 use Rattle.am_journal.specs.declared.event.Event.{Event}
 use Rattle.am_journal.specs.declared.event.Event.TheVariants as event

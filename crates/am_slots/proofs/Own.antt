@@ -7,8 +7,8 @@ use Rattle.std.proofs.lemmas.List.{map-append}
 use Rattle.std.proofs.lemmas.List.Concat.{flat_map-append}
 use Rattle.turn_lock.specs.Journal.{Stands}
 use Rattle.turn_lock.specs.Kinds.{plain, AllFail}
-use Rattle.ninep_wire.specs.declared.message.TMsg.{TMsg}
-use Rattle.ninep_wire.specs.Spelling.{spelling_t}
+use Rattle.ninep_types.specs.declared.message.TMsg.{TMsg}
+use Rattle.ninep_types.specs.Spelling.{spelling_t}
 use Rattle.am_journal.specs.declared.ending.Ending.{Ending}
 use Rattle.am_journal.specs.declared.ending.Ending.TheVariants as ending
 use Rattle.am_journal.specs.declared.event.Event.{Event}

@@ -5,8 +5,6 @@ mod asked;
 mod commands;
 mod reading;
 mod table;
-#[cfg(test)]
-mod tests;
 
 pub use asked::Asked;
 pub use reading::read_words;

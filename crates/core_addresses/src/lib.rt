@@ -4,8 +4,6 @@
 mod addr;
 mod data;
 mod fault;
-#[cfg(test)]
-mod tests;
 
 pub use addr::{addressed, range_text};
 pub use data::{Given, Taken, data_given, data_taken, replacing, xdata_given};

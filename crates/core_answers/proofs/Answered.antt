@@ -5,10 +5,10 @@ use Rattle.am_text.specs.Part.{part_bytes, part_of}
 use Rattle.am_text.specs.Pieces.{Decoded, decode_part}
 use Rattle.ninep_frame.specs.Records.{record_of}
 use Rattle.acme_tree.specs.Trees.{is_live, stat_of}
-use Rattle.ninep_wire.specs.declared.message.Qid.{Qid}
-use Rattle.ninep_wire.specs.declared.message.TBody.{TBody}
-use Rattle.ninep_wire.specs.declared.message.TBody.TheVariants as t
-use Rattle.ninep_wire.specs.declared.message.RBody.TheVariants as r
+use Rattle.ninep_types.specs.declared.message.Qid.{Qid}
+use Rattle.ninep_types.specs.declared.message.TBody.{TBody}
+use Rattle.ninep_types.specs.declared.message.TBody.TheVariants as t
+use Rattle.ninep_types.specs.declared.message.RBody.TheVariants as r
 use Rattle.acme_tree.specs.declared.node.World.{World}
 use Rattle.fid_table.specs.declared.types.Fid.{Fid}
 use Rattle.fid_table.specs.Tables.{Tables, fid_of, msize_of}

@@ -5,7 +5,7 @@ use Rattle.std.specs.Prelude.{All}
 use Rattle.std.proofs.lemmas.List.Elements.{All-from_recursion}
 use Rattle.std.specs.Str.{is_utf8, chars}
 use Rattle.std.specs.Char.{encode_utf8}
-use Rattle.ninep_wire.specs.Fields.{is_text}
+use Rattle.ninep_types.specs.Fields.{is_text}
 use Rattle.ninep_frame.specs.Records.{IsName}
 use Rattle.core_windows.specs.Windows.{Window, ports, world_of}
 

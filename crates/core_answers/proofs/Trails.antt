@@ -3,7 +3,7 @@ use Rattle.std.proofs.Common.{◌≡◌, ℕ, Bool, true, false, cond, not, List
 use Rattle.std.specs.Prelude.{codes}
 use Rattle.std.specs.Str.{bytes_eq}
 use Rattle.std.proofs.lemmas.List.{append-nil}
-use Rattle.ninep_wire.specs.declared.message.Qid.{Qid}
+use Rattle.ninep_types.specs.declared.message.Qid.{Qid}
 use Rattle.acme_tree.specs.declared.node.Node.{Node}
 use Rattle.acme_tree.specs.declared.node.Node.TheVariants as node
 use Rattle.acme_tree.specs.declared.node.WinFile.{WinFile}

@@ -1,8 +1,8 @@
 -- What each message does, and its answer.
 use Rattle.std.specs.Prelude.{ℕ, Bool, true, false, not, ◌&&◌, List, Option, Result, Ok, Err, if◌then◌else◌}
-use Rattle.ninep_wire.specs.declared.message.TBody.{TBody}
-use Rattle.ninep_wire.specs.declared.message.TBody.TheVariants as t
-use Rattle.ninep_wire.specs.declared.message.RBody.TheVariants as r
+use Rattle.ninep_types.specs.declared.message.TBody.{TBody}
+use Rattle.ninep_types.specs.declared.message.TBody.TheVariants as t
+use Rattle.ninep_types.specs.declared.message.RBody.TheVariants as r
 use Rattle.acme_tree.specs.declared.node.World.{World}
 use Rattle.fid_table.specs.Tables.{Tables, fid_of, msize_of}
 use Rattle.core_answers.specs.declared.effect.Effect.TheVariants as effect

@@ -1,7 +1,7 @@
 -- What holds of each deed: what it is answered has a spelling, and its change of the windows can be made.
 use Rattle.std.specs.Prelude.{◌≡◌, ◌<◌, ◌+◌, ◌^◌, false, List, Option}
-use Rattle.ninep_wire.specs.declared.message.RBody.{RBody}
-use Rattle.ninep_wire.specs.Spelling.{BodyFits_r, size_r}
+use Rattle.ninep_types.specs.declared.message.RBody.{RBody}
+use Rattle.ninep_types.specs.Spelling.{BodyFits_r, size_r}
 use Rattle.acme_tree.specs.declared.node.World.{World}
 use Rattle.acme_tree.specs.Trees.{is_full}
 use Rattle.core_windows.specs.Possible.{IsPossible}

@@ -1,9 +1,9 @@
 -- Laws of messages.
 use Rattle.std.specs.Prelude.{◌≡◌, ◌⊎◌, ℕ, ◌+◌, List, Option}
-use Rattle.ninep_wire.specs.declared.message.TBody.{TBody}
-use Rattle.ninep_wire.specs.declared.message.RBody.{RBody}
-use Rattle.ninep_wire.specs.declared.message.RBody.TheVariants as r
-use Rattle.ninep_wire.specs.Spelling.{kind_t, kind_r}
+use Rattle.ninep_types.specs.declared.message.TBody.{TBody}
+use Rattle.ninep_types.specs.declared.message.RBody.{RBody}
+use Rattle.ninep_types.specs.declared.message.RBody.TheVariants as r
+use Rattle.ninep_types.specs.Spelling.{kind_t, kind_r}
 use Rattle.fid_table.specs.Tables.{Tables}
 use Rattle.core_windows.specs.Windows.{Window}
 use Rattle.core_answers.specs.declared.effect.Answer.{Answer}

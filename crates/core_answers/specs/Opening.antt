@@ -1,7 +1,7 @@
 -- Topen, and the messages that ask for what isn't given.
 use Rattle.std.specs.Prelude.{ℕ, zero, suc, ◌+◌, Bool, false, ◌==◌, ◌&&◌, ◌||◌, not, nat_lt, [], ◌∷◌, Option, Some, None, Result, Ok, Err, if◌then◌else◌}
 use Rattle.std.specs.List.{list_any}
-use Rattle.ninep_wire.specs.declared.message.RBody.TheVariants as r
+use Rattle.ninep_types.specs.declared.message.RBody.TheVariants as r
 use Rattle.acme_tree.specs.declared.access.May.{May}
 use Rattle.acme_tree.specs.declared.access.May.TheVariants as may
 use Rattle.acme_tree.specs.Access.{may_open}

@@ -1,5 +1,5 @@
 -- What a message does that has nothing to do with event files, and is answered at once.
-use Rattle.ninep_wire.specs.declared.message.RBody.{RBody}
+use Rattle.ninep_types.specs.declared.message.RBody.{RBody}
 use Rattle.core_windows.specs.declared.change.Change.{Change}
 use Rattle.core_answers.specs.declared.effect.Effect.{Effect}
 use Rattle.core_answers.specs.declared.effect.EventChange.TheVariants as events

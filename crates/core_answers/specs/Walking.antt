@@ -1,7 +1,7 @@
 -- Walks: where the names lead, and what a Twalk does.
 use Rattle.std.specs.Prelude.{ℕ, ◌==◌, List, [], ◌∷◌, length, Option, Some, None, Result, Ok, Err, if◌then◌else◌}
-use Rattle.ninep_wire.specs.declared.message.Qid.{Qid}
-use Rattle.ninep_wire.specs.declared.message.RBody.TheVariants as r
+use Rattle.ninep_types.specs.declared.message.Qid.{Qid}
+use Rattle.ninep_types.specs.declared.message.RBody.TheVariants as r
 use Rattle.acme_tree.specs.declared.node.Node.{Node}
 use Rattle.acme_tree.specs.declared.node.Node.TheVariants.{File}
 use Rattle.acme_tree.specs.declared.node.World.{World}

@@ -3,8 +3,8 @@ use Rattle.std.specs.Prelude.{ℕ, List, ◌++◌, length, Option, Some, None, R
 use Rattle.am_text.specs.Lines.{lines_of}
 use Rattle.am_text.specs.Part.{part_bytes, part_of}
 use Rattle.am_text.specs.Pieces.{Decoded, decode_part}
-use Rattle.ninep_wire.specs.declared.message.RBody.{RBody}
-use Rattle.ninep_wire.specs.declared.message.RBody.TheVariants as r
+use Rattle.ninep_types.specs.declared.message.RBody.{RBody}
+use Rattle.ninep_types.specs.declared.message.RBody.TheVariants as r
 use Rattle.acme_tree.specs.declared.node.World.{World}
 use Rattle.fid_table.specs.declared.types.Fid.{Fid}
 use Rattle.fid_table.specs.Tables.{Tables, fid_of}

@@ -15,7 +15,7 @@ use core_addresses::{
     Given, RangeFault, Taken, addressed, data_given, data_taken, range_text, xdata_given,
 };
 use core_windows::{Change, Setting, Windows};
-use ninep_wire::RBody;
+use ninep_types::RBody;
 use std::alloc::Global;
 
 fn sets_addr(alloc: Global, window: u32, range: Range) -> Result<Change, NoMemory>

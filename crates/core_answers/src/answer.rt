@@ -1,7 +1,7 @@
 //! What each message does, and its answer.
 
 ghost use Rattle.std.specs.Prelude.{◌≡◌, IfOk, IfErr, Ok, All};
-ghost use Rattle.ninep_wire.specs.Spelling.{BodyFits_t};
+ghost use Rattle.ninep_types.specs.Spelling.{BodyFits_t};
 ghost use Rattle.ninep_frame.specs.Records.{IsName};
 ghost use Rattle.core_answers.specs.Deeds.{flush_deed, served, needs_session, comes_first, deed};
 ghost use Rattle.core_answers.specs.Done.{IsDone};
@@ -19,7 +19,7 @@ use acme_tree::World;
 use am_text::NoMemory;
 use core_windows::{Change, Windows};
 use fid_table::Sessions;
-use ninep_wire::{RBody, TBody};
+use ninep_types::{RBody, TBody};
 use std::alloc::Global;
 
 fn flush(windows: &Windows, oldtag: u16) -> Deed

@@ -12,7 +12,7 @@ use acme_tree::{Node, qid_of};
 use am_text::{Items, NoMemory};
 use core_windows::{Change, Windows};
 use fid_table::Sessions;
-use ninep_wire::RBody;
+use ninep_types::RBody;
 use std::alloc::Global;
 
 /// The lowest msize.

@@ -5,7 +5,7 @@ ghost use Rattle.core_answers.specs.Plainly.{does};
 
 use core_windows::Change;
 use fid_table::Fid;
-use ninep_wire::RBody;
+use ninep_types::RBody;
 
 /// What a message does to the fids and the session of its connection.
 #[derive(Drop)]

@@ -24,5 +24,5 @@ pub use core_windows::{Change, Windows};
 pub use effect::{Answer, Deed, Effect, EventChange};
 pub use fids::copy;
 pub use laws::messages_are_answered;
-pub use ninep_wire::{RBody, TBody};
+pub use ninep_types::{RBody, TBody};
 pub use refusal::{Refusal, error};

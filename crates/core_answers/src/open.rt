@@ -18,7 +18,7 @@ use acme_tree::{May, Node, WinFile, World, is_live, may_open, qid_of};
 use am_text::{Items, NoMemory, Range};
 use core_windows::{Change, Setting, Windows};
 use fid_table::{Fid, Sessions};
-use ninep_wire::RBody;
+use ninep_types::RBody;
 use std::alloc::Global;
 
 /// How many connections there are.

@@ -22,7 +22,7 @@ use am_text::{Bytes, Items, utf8_slice};
 use core_windows::{Change, Windows};
 use fid_table::{Fid, Sessions};
 use ninep_frame::stat_write;
-use ninep_wire::RBody;
+use ninep_types::RBody;
 use std::alloc::Global;
 
 /// The deed that answers bytes, and changes nothing.

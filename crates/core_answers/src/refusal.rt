@@ -8,7 +8,7 @@ ghost use Rattle.core_answers.specs.declared.refusal.Fault.TheVariants.{NoMemory
 use crate::effect::{Deed, Effect};
 use am_text::{Items, NoMemory};
 use core_windows::{Change, Windows};
-use ninep_wire::RBody;
+use ninep_types::RBody;
 use std::alloc::Global;
 
 /// Why a message is refused.

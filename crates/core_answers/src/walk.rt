@@ -14,7 +14,7 @@ use acme_tree::{Node, Step, WinFile, World, qid_of, walk_one};
 use am_text::{Bytes, Items, NoMemory};
 use core_windows::{Change, Windows};
 use fid_table::{Fid, Sessions};
-use ninep_wire::{Qids, RBody};
+use ninep_types::{Qids, RBody};
 use std::alloc::Global;
 
 /// Where a walk ends.

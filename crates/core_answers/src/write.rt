@@ -28,7 +28,7 @@ use acme_tree::World;
 use am_text::{NoMemory, Part, Runes, decode_part};
 use core_windows::{Change, Windows};
 use fid_table::{Fid, Sessions};
-use ninep_wire::RBody;
+use ninep_types::RBody;
 use std::alloc::Global;
 
 // The whole runes of what the fid holds and of these bytes, and the bytes of an unfinished one.

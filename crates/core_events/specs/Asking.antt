@@ -1,7 +1,7 @@
 -- Opening and reading event files.
 use Rattle.std.specs.Prelude.{ℕ, Bool, true, false, nat_le, nat_lt, count_by, Option, Some, None, if◌then◌else◌}
-use Rattle.ninep_wire.specs.declared.message.RBody.{RBody}
-use Rattle.ninep_wire.specs.declared.message.RBody.TheVariants as r
+use Rattle.ninep_types.specs.declared.message.RBody.{RBody}
+use Rattle.ninep_types.specs.declared.message.RBody.TheVariants as r
 use Rattle.fid_table.specs.Tables.{Tables, is_waiting_on, after_wait}
 use Rattle.wait_queue.specs.declared.types.Asker.{Asker}
 use Rattle.wait_queue.specs.declared.types.Asked.{Asked}

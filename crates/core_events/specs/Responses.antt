@@ -1,6 +1,6 @@
 -- What is said to connections, each time in answer to the message of a tag.
 use Rattle.std.specs.Prelude.{ℕ, List, map, All}
-use Rattle.ninep_wire.specs.declared.message.RBody.TheVariants as r
+use Rattle.ninep_types.specs.declared.message.RBody.TheVariants as r
 use Rattle.fid_table.specs.declared.session.Waiting.{Waiting}
 use Rattle.core_answers.specs.declared.refusal.Refusal.{Refusal}
 use Rattle.core_answers.specs.Done.{IsSent}

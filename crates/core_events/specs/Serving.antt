@@ -1,6 +1,6 @@
 -- Waiting reads that can be answered now are answered, the oldest first.
 use Rattle.std.specs.Prelude.{ℕ, zero, suc, List, [], ◌∷◌, length, Option, Some, None}
-use Rattle.ninep_wire.specs.declared.message.RBody.TheVariants as r
+use Rattle.ninep_types.specs.declared.message.RBody.TheVariants as r
 use Rattle.wait_queue.specs.declared.types.Asker.{Asker}
 use Rattle.wait_queue.specs.declared.types.Piece.{Piece}
 use Rattle.event_book.specs.BookState.{BookState, served_of, after_serve}

@@ -6,8 +6,6 @@ mod closing;
 mod putting;
 mod response;
 mod serving;
-#[cfg(test)]
-mod tests;
 mod waits;
 
 pub use am_text::{Items, NoMemory};

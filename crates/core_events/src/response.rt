@@ -1,7 +1,7 @@
 //! What is said to connections.
 
 use am_text::Items;
-use ninep_wire::RMsg;
+use ninep_types::RMsg;
 
 /// What is said to a connection in answer to the message that has the same tag.
 #[derive(Drop)]

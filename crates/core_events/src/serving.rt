@@ -9,7 +9,7 @@ use crate::response::{Response, Responses};
 use am_text::{Items, NoMemory};
 use core_answers::RBody;
 use event_book::Book;
-use ninep_wire::RMsg;
+use ninep_types::RMsg;
 use std::alloc::Global;
 
 /// Answers the waiting reads that can be answered, the oldest first, until none can.

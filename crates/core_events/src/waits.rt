@@ -12,7 +12,7 @@ use am_text::{Items, NoMemory};
 use core_answers::{Effect, EventChange, Refusal, error};
 use core_windows::Change;
 use fid_table::{Fid, Sessions};
-use ninep_wire::RMsg;
+use ninep_types::RMsg;
 use std::alloc::Global;
 
 // Says that a waiting read is refused.

@@ -6,8 +6,6 @@ mod making;
 mod plain;
 mod size;
 mod tags;
-#[cfg(test)]
-mod tests;
 
 pub use making::items_of;
 pub use plain::NewItems;

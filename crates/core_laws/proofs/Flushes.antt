@@ -4,8 +4,8 @@ use Rattle.std.specs.List.{filter, list_any}
 use Rattle.std.proofs.lemmas.Bool.{false≢true, not-true, or_parts}
 use Rattle.std.proofs.lemmas.List.Elements.{All-weaker, filter_passes}
 use Rattle.std.proofs.lemmas.List.Folds.{list_any_none}
-use Rattle.ninep_wire.specs.declared.message.RBody.{RBody}
-use Rattle.ninep_wire.specs.declared.message.RBody.TheVariants as r
+use Rattle.ninep_types.specs.declared.message.RBody.{RBody}
+use Rattle.ninep_types.specs.declared.message.RBody.TheVariants as r
 use Rattle.fid_table.specs.declared.session.Waiting.{Waiting}
 use Rattle.fid_table.specs.Tables.{is_waiting, msize_of}
 use Rattle.wait_queue.specs.Reads.{is_read}

@@ -1,7 +1,7 @@
 -- What is true of the connection and the tag of each message, as long as messages come, is true of all that is said.
 use Rattle.std.proofs.Common.{ℕ, ◌+◌, not, List, [], ◌∷◌, ◌++◌, Some, All, sym, subst, append_assoc, append-nil}
 use Rattle.std.proofs.lemmas.List.Elements.{All-nil, All-append, All-filter}
-use Rattle.ninep_wire.specs.declared.message.TMsg.{TMsg}
+use Rattle.ninep_types.specs.declared.message.TMsg.{TMsg}
 use Rattle.fid_table.specs.Tables.{Tables, fid_of, fids_of, is_waiting_on}
 use Rattle.event_book.specs.BookState.{BookState}
 use Rattle.am_journal.specs.declared.event.Event.{Event}

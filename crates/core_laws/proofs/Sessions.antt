@@ -5,11 +5,11 @@ use Rattle.std.specs.Option.{option_or}
 use Rattle.std.proofs.lemmas.Bool.{false≢true, eqb-true, eqb-false, not-true}
 use Rattle.std.proofs.lemmas.List.Elements.{All-nil, All-head, All-tail, All-weaker, All-filter, filter_passes}
 use Rattle.std.proofs.lemmas.List.Folds.{find-append}
-use Rattle.ninep_wire.specs.declared.message.TBody.{TBody}
-use Rattle.ninep_wire.specs.declared.message.TBody.TheVariants as t
-use Rattle.ninep_wire.specs.declared.message.TMsg.{TMsg}
-use Rattle.ninep_wire.specs.declared.message.RBody.{RBody}
-use Rattle.ninep_wire.specs.declared.message.RBody.TheVariants as r
+use Rattle.ninep_types.specs.declared.message.TBody.{TBody}
+use Rattle.ninep_types.specs.declared.message.TBody.TheVariants as t
+use Rattle.ninep_types.specs.declared.message.TMsg.{TMsg}
+use Rattle.ninep_types.specs.declared.message.RBody.{RBody}
+use Rattle.ninep_types.specs.declared.message.RBody.TheVariants as r
 use Rattle.fid_table.specs.declared.session.Session.{Session}
 use Rattle.fid_table.specs.declared.session.Waiting.{Waiting}
 use Rattle.fid_table.specs.Tables.{Tables, is_session, is_waiting, is_waiting_on, msize_in, msize_of, on_session, put_in, taken_from, begun, after_join, after_version}

@@ -2,7 +2,7 @@
 use Rattle.std.proofs.Common.{◌≡◌, ℕ, zero, suc, Bool, true, false, List, [], ◌++◌, length, Option, Some, None, All, refl}
 use Rattle.std.specs.List.{filter}
 use Rattle.std.proofs.lemmas.List.Elements.{All-nil, All-cons, All-append, All-map, All-filter, All-contains}
-use Rattle.ninep_wire.specs.declared.message.RBody.{RBody}
+use Rattle.ninep_types.specs.declared.message.RBody.{RBody}
 use Rattle.fid_table.specs.declared.session.Waiting.{Waiting}
 use Rattle.fid_table.specs.Tables.{Tables}
 use Rattle.wait_queue.specs.declared.types.Asker.{Asker}

@@ -1,7 +1,7 @@
 -- What entries say to connections, each time to the message of a tag.
 use Rattle.std.specs.Prelude.{ℕ, ◌==◌, ◌&&◌, Bool, false, List, [], ◌∷◌, ◌++◌}
-use Rattle.ninep_wire.specs.declared.message.RBody.TheVariants as r
-use Rattle.ninep_wire.specs.declared.message.TBody.TheVariants as t
+use Rattle.ninep_types.specs.declared.message.RBody.TheVariants as r
+use Rattle.ninep_types.specs.declared.message.TBody.TheVariants as t
 use Rattle.am_journal.specs.declared.event.Event.{Event}
 use Rattle.am_journal.specs.declared.event.Event.TheVariants as event
 use Rattle.core_events.specs.declared.response.Response.{Response}

@@ -8,8 +8,6 @@ mod pane;
 mod places;
 mod prepared;
 mod preparing;
-#[cfg(test)]
-mod tests;
 mod windows;
 
 pub use acme_tree::World;

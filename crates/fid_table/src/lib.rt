@@ -12,6 +12,3 @@ mod undo;
 pub use laws::{drops_all_fids, finds_what_was_put, forgets_what_was_taken, leaves_other_fids};
 pub use sessions::Sessions;
 pub use types::Fid;
-
-#[cfg(test)]
-mod tests;

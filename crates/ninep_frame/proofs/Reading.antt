@@ -7,7 +7,7 @@ use Rattle.std.proofs.lemmas.Bool.{eqb-true, eq-eqb, le-leb, cases_lt}
 use Rattle.std.proofs.lemmas.List.{take_at, length-take, get_or-drop, get_or-take, get_or_past}
 use Rattle.std.proofs.lemmas.Nat.{from_le_bytes-to_le_bytes_2, from_le_bytes-to_le_bytes_4, from_le_bytes-to_le_bytes_8}
 use Rattle.std.proofs.lemmas.Slice.Eq.{bytes_eq-Decides}
-use Rattle.ninep_wire.specs.Fields.{is_text}
+use Rattle.ninep_types.specs.Fields.{is_text}
 use Rattle.ninep_frame.specs.declared.stat.Stat.{Stat}
 use Rattle.ninep_frame.specs.Places.{u16_at, u32_at, u64_at, name_at, stat_at, is_formed, stat_of}
 use Rattle.ninep_frame.specs.Records.{owners, no_device, no_times, stat_fields, record_of, IsRecord, InRange}

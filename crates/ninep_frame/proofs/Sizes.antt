@@ -1,7 +1,7 @@
 -- How many bytes a record has.
 use Rattle.std.proofs.Common.{◌≡◌, ℕ, ◌+◌, List, length, arith, length-append}
 use Rattle.std.specs.Int.{w16, to_le_bytes}
-use Rattle.ninep_wire.specs.Fields.{string}
+use Rattle.ninep_types.specs.Fields.{string}
 use Rattle.ninep_frame.specs.declared.stat.Stat.{Stat}
 use Rattle.ninep_frame.specs.Records.{owners, no_device, no_times, stat_fields, record_of}
 

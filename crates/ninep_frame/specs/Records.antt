@@ -1,8 +1,8 @@
 -- Stat records: what they are, and which stats have one.
 use Rattle.std.specs.Prelude.{◌≡◌, ◌<◌, ◌^◌, ◌+◌, ℕ, true, List, ◌++◌, length, codes}
 use Rattle.std.specs.Int.{w16, w32, w64, to_le_bytes}
-use Rattle.ninep_wire.specs.Fields.{string, counted, qid_bytes, is_text}
-use Rattle.ninep_wire.specs.Spelling.{IsQid}
+use Rattle.ninep_types.specs.Fields.{string, counted, qid_bytes, is_text}
+use Rattle.ninep_types.specs.Spelling.{IsQid}
 use Rattle.ninep_frame.specs.declared.stat.Stat.{Stat}
 
 -- uid, gid and muid

@@ -1,12 +1,12 @@
 //! The fields of a record, each taken from its place.
 
 ghost use Rattle.std.specs.Prelude.{◌≡◌, ◌≤◌, ◌<◌, ◌+◌, ◌^◌, IfOk, IsTrue, length, take, drop, true};
-ghost use Rattle.ninep_wire.specs.Fields.{is_text};
+ghost use Rattle.ninep_types.specs.Fields.{is_text};
 ghost use Rattle.ninep_frame.specs.Places.{u16_at, u32_at, u64_at, name_at, stat_at, is_formed};
 
 use crate::stat::Stat;
 use am_text::{Items, NoMemory, is_utf8};
-use ninep_wire::Qid;
+use ninep_types::Qid;
 use std::alloc::Global;
 
 /// The place of the name's length.
@@ -55,7 +55,7 @@ fn u64_at(bytes: &[u8], at: usize) -> u64
     ])
 }
 
-#[tactic(auto, unfolding(ninep_wire::specs::Fields::is_text))]
+#[tactic(auto, unfolding(ninep_types::specs::Fields::is_text))]
 fn is_text(bytes: &[u8]) -> bool
     ensures { result ≡ is_text bytes.now }
 {

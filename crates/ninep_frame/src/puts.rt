@@ -2,11 +2,11 @@
 
 ghost use Rattle.std.specs.Prelude.{◌≡◌, ◌<◌, ◌^◌, ◌++◌, length, OnOk};
 ghost use Rattle.std.specs.Int.{w16, w32, w64, to_le_bytes};
-ghost use Rattle.ninep_wire.specs.Fields.{string, qid_bytes};
+ghost use Rattle.ninep_types.specs.Fields.{string, qid_bytes};
 ghost use Rattle.ninep_frame.specs.Records.{no_device, no_times, owners};
 
 use am_text::{Bytes, NoMemory};
-use ninep_wire::Qid;
+use ninep_types::Qid;
 
 pub(crate) fn put_u16(out: &mut Bytes, number: u16) -> Result<(), NoMemory>
     ensures { OnOk result (out.new ≡ out.old ++ to_le_bytes w16 number) }

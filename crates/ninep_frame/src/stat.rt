@@ -8,7 +8,7 @@ ghost use Rattle.ninep_frame.specs.Records.{record_of, record_size, HasName, IsR
 use crate::places::{is_formed, stat_at};
 use crate::record::{put_record, record_size};
 use am_text::{Bytes, Items, NoMemory};
-use ninep_wire::Qid;
+use ninep_types::Qid;
 use std::alloc::Global;
 
 /// What a stat record says of a file.

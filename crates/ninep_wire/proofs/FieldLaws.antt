@@ -7,11 +7,11 @@ use Rattle.std.proofs.lemmas.Bool.{cases_lt, ltb-false, le-ltb}
 use Rattle.std.proofs.lemmas.List.{take_at, drop_at, take-append-drop, length-append, length-take, get_or-drop, get_or-take, get_or_past}
 use Rattle.std.proofs.lemmas.List.Elements.{recursion_from_All, All-from_recursion}
 use Rattle.std.proofs.lemmas.Nat.{le_bytes_2, le_bytes_4, le_bytes_8, from_le_bytes-to_le_bytes_2, from_le_bytes-to_le_bytes_4, from_le_bytes-to_le_bytes_8}
-use Rattle.ninep_wire.specs.declared.fault.WireFault.{WireFault}
-use Rattle.ninep_wire.specs.declared.fault.WireFault.TheVariants.{Short, Text, Names}
-use Rattle.ninep_wire.specs.declared.message.Qid.{Qid}
-use Rattle.ninep_wire.specs.Fields.{◌>>=◌, bytes_at, number_at, byte_at, string_at, counted_at, qid_at, count_at, several_at, listed_at, string, counted, listed, qid_bytes, is_text}
-use Rattle.ninep_wire.specs.Spelling.{IsString, AreNames, IsQid}
+use Rattle.ninep_types.specs.declared.fault.WireFault.{WireFault}
+use Rattle.ninep_types.specs.declared.fault.WireFault.TheVariants.{Short, Text, Names}
+use Rattle.ninep_types.specs.declared.message.Qid.{Qid}
+use Rattle.ninep_types.specs.Fields.{◌>>=◌, bytes_at, number_at, byte_at, string_at, counted_at, qid_at, count_at, several_at, listed_at, string, counted, listed, qid_bytes, is_text}
+use Rattle.ninep_types.specs.Spelling.{IsString, AreNames, IsQid}
 
 abbrev pub IsBytes : List ℕ → Type 0
 IsBytes bytes = (i : ℕ) → get_or bytes i 0 < 256

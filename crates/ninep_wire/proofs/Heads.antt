@@ -3,10 +3,10 @@ use Rattle.std.proofs.Common.{◌⊎◌, inl, inr, ◌≡◌, ℕ, ◌+◌, ◌^
 use Rattle.std.specs.Int.{w16, w32, from_le_bytes, to_le_bytes}
 use Rattle.std.proofs.lemmas.Bool.{eqb-true, ltb-false, le-ltb}
 use Rattle.std.proofs.lemmas.List.{length-take, length-drop}
-use Rattle.ninep_wire.specs.declared.fault.WireFault.{WireFault}
-use Rattle.ninep_wire.specs.declared.fault.WireFault.TheVariants.{Size}
-use Rattle.ninep_wire.specs.Reading.{head_at, read_by}
-use Rattle.ninep_wire.specs.Spelling.{head, framed}
+use Rattle.ninep_types.specs.declared.fault.WireFault.{WireFault}
+use Rattle.ninep_types.specs.declared.fault.WireFault.TheVariants.{Size}
+use Rattle.ninep_types.specs.Reading.{head_at, read_by}
+use Rattle.ninep_types.specs.Spelling.{head, framed}
 use Rattle.ninep_wire.proofs.FieldLaws.{IsBytes, IsBytes-take, IsBytes-drop, guard_else, guard_then, ok_is, wide16, wide32}
 
 seven : (bytes : List ℕ) → 7 ≤ length bytes → bytes ≡ take 4 bytes ++ (get_or bytes 4 0 ∷ (take 2 (drop 5 bytes) ++ drop 7 bytes))

@@ -1,10 +1,10 @@
 -- Reading the members of a list one after the other, as a loop does.
 use Rattle.std.proofs.Common.{◌≡◌, ℕ, suc, ◌-◌, ◌+◌, ◌≤◌, ◌<◌, List, [], ◌∷◌, ◌++◌, Result, Ok, Err, refl, sym, ap, ◌∙◌, append_assoc, arith}
 use Rattle.std.proofs.lemmas.List.{append-nil}
-use Rattle.ninep_wire.specs.declared.fault.WireFault.{WireFault}
-use Rattle.ninep_wire.specs.declared.fault.WireError.{WireError}
-use Rattle.ninep_wire.specs.declared.fault.WireError.TheVariants as errors
-use Rattle.ninep_wire.specs.Fields.{◌>>=◌, Fails, several_at}
+use Rattle.ninep_types.specs.declared.fault.WireFault.{WireFault}
+use Rattle.ninep_types.specs.declared.fault.WireError.{WireError}
+use Rattle.ninep_types.specs.declared.fault.WireError.TheVariants as errors
+use Rattle.ninep_types.specs.Fields.{◌>>=◌, Fails, several_at}
 
 -- what was read before, and what is still read
 abbrev pub with_front : {A : Type 0} → List A → Result (List A × List ℕ) WireFault → Result (List A × List ℕ) WireFault

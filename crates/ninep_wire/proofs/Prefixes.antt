@@ -2,10 +2,10 @@
 use Rattle.std.proofs.Common.{◌≡◌, ℕ, ◌+◌, ◌<◌, ◌^◌, List, [], ◌∷◌, ◌++◌, length, take, Result, Ok, refl, sym, ap, ◌∙◌, arith, length-append}
 use Rattle.std.specs.Int.{w16, w32, from_le_bytes, to_le_bytes}
 use Rattle.std.proofs.lemmas.List.{append-nil, nil_from_length}
-use Rattle.ninep_wire.specs.declared.fault.WireFault.{WireFault}
+use Rattle.ninep_types.specs.declared.fault.WireFault.{WireFault}
 use Rattle.ninep_wire.specs.Laws.{PrefixFree_t, PrefixFree_r}
-use Rattle.ninep_wire.specs.Reading.{t_of, r_of}
-use Rattle.ninep_wire.specs.Spelling.{kind_t, kind_r, fields_t, fields_r, spelling_t, spelling_r}
+use Rattle.ninep_types.specs.Reading.{t_of, r_of}
+use Rattle.ninep_types.specs.Spelling.{kind_t, kind_r, fields_t, fields_r, spelling_t, spelling_r}
 use Rattle.ninep_wire.proofs.FieldLaws.{wide32}
 use Rattle.ninep_wire.proofs.Sizes.{size_t-is, size_r-is}
 use Rattle.ninep_wire.proofs.TLaws.{t_again}

@@ -1,12 +1,12 @@
 -- Bodies of messages from the server: what is read is spelled so, and what is spelled so is read.
 use Rattle.std.proofs.Common.{◌≡◌, ℕ, ◌^◌, List, [], ◌++◌, Ok, refl, ap, subst, ◌∙◌, append_assoc}
 use Rattle.std.specs.Int.{w16, w32, to_le_bytes}
-use Rattle.ninep_wire.specs.declared.message.Qid.{Qid}
-use Rattle.ninep_wire.specs.declared.message.RBody.{RBody}
-use Rattle.ninep_wire.specs.declared.message.RBody.TheVariants as r
-use Rattle.ninep_wire.specs.Fields.{◌>>=◌, number_at, string_at, counted_at, qid_at, listed_at, string, qid_bytes}
-use Rattle.ninep_wire.specs.Reading.{r_readers, r_body_at, r_version_at, r_auth_at, r_error_at, r_flush_at, r_attach_at, r_walk_at, r_open_at, r_create_at, r_read_at, r_write_at, r_clunk_at, r_remove_at, r_stat_at, r_wstat_at}
-use Rattle.ninep_wire.specs.Spelling.{kind_r, fields_r, BodyFits_r, BodyInRange_r}
+use Rattle.ninep_types.specs.declared.message.Qid.{Qid}
+use Rattle.ninep_types.specs.declared.message.RBody.{RBody}
+use Rattle.ninep_types.specs.declared.message.RBody.TheVariants as r
+use Rattle.ninep_types.specs.Fields.{◌>>=◌, number_at, string_at, counted_at, qid_at, listed_at, string, qid_bytes}
+use Rattle.ninep_types.specs.Reading.{r_readers, r_body_at, r_version_at, r_auth_at, r_error_at, r_flush_at, r_attach_at, r_walk_at, r_open_at, r_create_at, r_read_at, r_write_at, r_clunk_at, r_remove_at, r_stat_at, r_wstat_at}
+use Rattle.ninep_types.specs.Spelling.{kind_r, fields_r, BodyFits_r, BodyInRange_r}
 use Rattle.ninep_wire.proofs.FieldLaws.{IsBytes, bind_ok, done, ok_is, Takes, Takes-then, wide16, wide32, number_takes, number_again, string_takes, string_again, counted_takes, counted_again, qid_takes, qid_again, qids_takes, qids_again}
 use Rattle.ninep_wire.proofs.Heads.{read_by_takes}
 

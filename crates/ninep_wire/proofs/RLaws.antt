@@ -3,12 +3,12 @@ use Rattle.std.proofs.Common.{◌≡◌, ℕ, ◌+◌, ◌^◌, ◌<◌, cond, e
 use Rattle.std.specs.Prelude.{IfOk}
 use Rattle.std.proofs.lemmas.Bool.{eqb-true}
 use Rattle.std.proofs.lemmas.List.{append-nil, nil_from_length}
-use Rattle.ninep_wire.specs.declared.fault.WireFault.TheVariants.{Long}
-use Rattle.ninep_wire.specs.declared.fault.WireError.{WireError}
-use Rattle.ninep_wire.specs.declared.message.RMsg.{RMsg}
-use Rattle.ninep_wire.specs.Fields.{◌>>=◌, Gives}
-use Rattle.ninep_wire.specs.Reading.{head_at, r_body_at, r_of}
-use Rattle.ninep_wire.specs.Spelling.{kind_r, fields_r, head, framed, spelling_r, Fits_r, InRange_r}
+use Rattle.ninep_types.specs.declared.fault.WireFault.TheVariants.{Long}
+use Rattle.ninep_types.specs.declared.fault.WireError.{WireError}
+use Rattle.ninep_types.specs.declared.message.RMsg.{RMsg}
+use Rattle.ninep_types.specs.Fields.{◌>>=◌, Gives}
+use Rattle.ninep_types.specs.Reading.{head_at, r_body_at, r_of}
+use Rattle.ninep_types.specs.Spelling.{kind_r, fields_r, head, framed, spelling_r, Fits_r, InRange_r}
 use Rattle.ninep_wire.proofs.FieldLaws.{IsBytes, bind_ok, guard_then, ok_is}
 use Rattle.ninep_wire.proofs.Heads.{head_takes, head_again}
 use Rattle.ninep_wire.proofs.RBodies.{r_body_takes, r_body_again}

@@ -1,11 +1,11 @@
 -- Bodies of messages to the server: what is read is spelled so, and what is spelled so is read.
 use Rattle.std.proofs.Common.{◌≡◌, ℕ, ◌^◌, List, [], ◌∷◌, ◌++◌, Ok, refl, ap, subst, ◌∙◌, append_assoc}
 use Rattle.std.specs.Int.{w16, w32, w64, to_le_bytes}
-use Rattle.ninep_wire.specs.declared.message.TBody.{TBody}
-use Rattle.ninep_wire.specs.declared.message.TBody.TheVariants as t
-use Rattle.ninep_wire.specs.Fields.{◌>>=◌, number_at, byte_at, string_at, counted_at, listed_at, string, counted, listed}
-use Rattle.ninep_wire.specs.Reading.{t_readers, t_body_at, t_version_at, t_auth_at, t_flush_at, t_attach_at, t_walk_at, t_open_at, t_create_at, t_read_at, t_write_at, t_clunk_at, t_remove_at, t_stat_at, t_wstat_at}
-use Rattle.ninep_wire.specs.Spelling.{kind_t, fields_t, BodyFits_t, BodyInRange_t}
+use Rattle.ninep_types.specs.declared.message.TBody.{TBody}
+use Rattle.ninep_types.specs.declared.message.TBody.TheVariants as t
+use Rattle.ninep_types.specs.Fields.{◌>>=◌, number_at, byte_at, string_at, counted_at, listed_at, string, counted, listed}
+use Rattle.ninep_types.specs.Reading.{t_readers, t_body_at, t_version_at, t_auth_at, t_flush_at, t_attach_at, t_walk_at, t_open_at, t_create_at, t_read_at, t_write_at, t_clunk_at, t_remove_at, t_stat_at, t_wstat_at}
+use Rattle.ninep_types.specs.Spelling.{kind_t, fields_t, BodyFits_t, BodyInRange_t}
 use Rattle.ninep_wire.proofs.FieldLaws.{IsBytes, bind_ok, ok_is, Takes, Takes-then, wide16, wide32, wide64, number_takes, number_again, byte_takes, string_takes, string_again, counted_takes, counted_again, names_takes, names_again}
 use Rattle.ninep_wire.proofs.Heads.{read_by_takes}
 

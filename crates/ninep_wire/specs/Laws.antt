@@ -3,10 +3,10 @@
 -- ReadAgain: reading the spelling of a message gives the message.
 -- HasSize: how many bytes a spelling has.
 use Rattle.std.specs.Prelude.{◌≡◌, ℕ, List, [], ◌++◌, length, Ok}
-use Rattle.ninep_wire.specs.declared.message.TMsg.{TMsg}
-use Rattle.ninep_wire.specs.declared.message.RMsg.{RMsg}
-use Rattle.ninep_wire.specs.Reading.{t_of, r_of}
-use Rattle.ninep_wire.specs.Spelling.{spelling_t, spelling_r, size_t, size_r, Fits_t, Fits_r, InRange_t, InRange_r}
+use Rattle.ninep_types.specs.declared.message.TMsg.{TMsg}
+use Rattle.ninep_types.specs.declared.message.RMsg.{RMsg}
+use Rattle.ninep_types.specs.Reading.{t_of, r_of}
+use Rattle.ninep_types.specs.Spelling.{spelling_t, spelling_r, size_t, size_r, Fits_t, Fits_r, InRange_t, InRange_r}
 
 -- ---- messages to the server
 

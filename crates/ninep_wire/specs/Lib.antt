@@ -1,4 +1,1 @@
-pub mod Fields
 pub mod Laws
-pub mod Reading
-pub mod Spelling

@@ -3,12 +3,11 @@
 ghost use Rattle.std.specs.Prelude.{◌≡◌, ◌==◌, length};
 ghost use Rattle.std.specs.List.{list_any};
 ghost use Rattle.std.specs.Int.{w16, w32, w64};
-ghost use Rattle.ninep_wire.specs.Fields.{Gives, bytes_at, number_at, byte_at, string_at, counted_at, qid_at, count_at, several_at, listed_at, is_text};
-ghost use Rattle.ninep_wire.specs.Reading.{head_at};
+ghost use Rattle.ninep_types.specs.Fields.{Gives, bytes_at, number_at, byte_at, string_at, counted_at, qid_at, count_at, several_at, listed_at, is_text};
+ghost use Rattle.ninep_types.specs.Reading.{head_at};
 
-use crate::fault::{WireError, WireFault};
-use crate::message::{Qid, Qids};
 use am_text::{Bytes, Items, Names, is_utf8};
+use ninep_types::{Qid, Qids, WireError, WireFault};
 use std::alloc::Global;
 
 pub(crate) fn take_u8(bytes: &[u8]) -> Result<(u8, &[u8]), WireError>
@@ -70,7 +69,7 @@ fn has_nul(bytes: &[u8]) -> bool
     bytes.contains(&0)
 }
 
-#[tactic(auto, unfolding(crate::specs::Fields::is_text))]
+#[tactic(auto, unfolding(ninep_types::specs::Fields::is_text))]
 fn is_text(bytes: &[u8]) -> bool
     ensures { result ≡ is_text bytes.now }
 {
@@ -78,7 +77,7 @@ fn is_text(bytes: &[u8]) -> bool
 }
 
 /// A string: two bytes of its length, and UTF-8 without NUL.
-#[tactic(auto, unfolding(crate::specs::Fields::string_at))]
+#[tactic(auto, unfolding(ninep_types::specs::Fields::string_at))]
 pub(crate) fn take_string(alloc: Global, bytes: &[u8]) -> Result<(Bytes, &[u8]), WireError>
     ensures { Gives (λ x. (x.0, x.1.now)) result (string_at bytes.now) }
 {
@@ -91,7 +90,7 @@ pub(crate) fn take_string(alloc: Global, bytes: &[u8]) -> Result<(Bytes, &[u8]),
 }
 
 /// The data of a read or a write: four bytes of their number, and the bytes.
-#[tactic(auto, unfolding(crate::specs::Fields::counted_at))]
+#[tactic(auto, unfolding(ninep_types::specs::Fields::counted_at))]
 pub(crate) fn take_data(alloc: Global, bytes: &[u8]) -> Result<(Bytes, &[u8]), WireError>
     ensures { Gives (λ x. (x.0, x.1.now)) result (counted_at w32 bytes.now) }
 {
@@ -101,7 +100,7 @@ pub(crate) fn take_data(alloc: Global, bytes: &[u8]) -> Result<(Bytes, &[u8]), W
 }
 
 /// A stat record, carried as bytes: two bytes of their number, and the bytes.
-#[tactic(auto, unfolding(crate::specs::Fields::counted_at))]
+#[tactic(auto, unfolding(ninep_types::specs::Fields::counted_at))]
 pub(crate) fn take_stat(alloc: Global, bytes: &[u8]) -> Result<(Bytes, &[u8]), WireError>
     ensures { Gives (λ x. (x.0, x.1.now)) result (counted_at w16 bytes.now) }
 {
@@ -111,7 +110,7 @@ pub(crate) fn take_stat(alloc: Global, bytes: &[u8]) -> Result<(Bytes, &[u8]), W
 }
 
 /// A qid: type[1] vers[4] path[8].
-#[tactic(auto, unfolding(crate::specs::Fields::qid_at))]
+#[tactic(auto, unfolding(ninep_types::specs::Fields::qid_at))]
 pub(crate) fn take_qid(bytes: &[u8]) -> Result<(Qid, &[u8]), WireError>
     ensures { Gives (λ x. (x.0, x.1.now)) result (qid_at bytes.now) }
 {
@@ -146,7 +145,7 @@ fn take_strings(alloc: Global, count: u16, bytes: &[u8]) -> Result<(Names, &[u8]
 }
 
 /// The names of a walk: two bytes of their number, and each as a string.
-#[tactic(auto, unfolding(crate::specs::Fields::listed_at))]
+#[tactic(auto, unfolding(ninep_types::specs::Fields::listed_at))]
 pub(crate) fn take_names(alloc: Global, bytes: &[u8]) -> Result<(Names, &[u8]), WireError>
     ensures { Gives (λ x. (x.0, x.1.now)) result (listed_at string_at bytes.now) }
 {
@@ -168,7 +167,7 @@ fn take_several_qids(alloc: Global, count: u16, bytes: &[u8]) -> Result<(Qids, &
 }
 
 /// The qids of a walk: two bytes of their number, and each qid.
-#[tactic(auto, unfolding(crate::specs::Fields::listed_at))]
+#[tactic(auto, unfolding(ninep_types::specs::Fields::listed_at))]
 pub(crate) fn take_qids(alloc: Global, bytes: &[u8]) -> Result<(Qids, &[u8]), WireError>
     ensures { Gives (λ x. (x.0, x.1.now)) result (listed_at qid_at bytes.now) }
 {
@@ -177,7 +176,7 @@ pub(crate) fn take_qids(alloc: Global, bytes: &[u8]) -> Result<(Qids, &[u8]), Wi
 }
 
 /// The type byte, the tag, and the bytes after them.
-#[tactic(auto, unfolding(crate::specs::Reading::head_at))]
+#[tactic(auto, unfolding(ninep_types::specs::Reading::head_at))]
 pub(crate) fn take_head(bytes: &[u8]) -> Result<(u8, u16, &[u8]), WireError>
     ensures { Gives (λ x. (x.0, x.1, x.2.now)) result (head_at bytes.now) }
 {

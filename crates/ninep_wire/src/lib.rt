@@ -1,13 +1,11 @@
-//! The messages of 9P2000 as bytes, after section 5 of the Plan 9 manual.
+//! The messages of 9P2000 read from bytes and written to them, after section 5 of the Plan 9 manual.
 //!
 //! A message is size[4] type[1] tag[2] and its fields. Numbers are little-endian, and the size counts
 //! its own four bytes. `docs/formats/messages.md` has the table of messages.
 #![tactic(auto)]
 
-mod fault;
 mod fields;
 mod laws;
-mod message;
 mod puts;
 mod r_reading;
 mod r_writing;
@@ -15,9 +13,8 @@ mod t_reading;
 mod t_writing;
 
 pub use am_text::{Bytes, Items, Names, NoMemory};
-pub use fault::{WireError, WireFault};
 pub use laws::{spellings_are_prefix_free, spellings_are_read_again, spellings_have_their_size};
-pub use message::{Qid, Qids, RBody, RMsg, TBody, TMsg};
+pub use ninep_types::{Qid, Qids, RBody, RMsg, TBody, TMsg, WireError, WireFault};
 pub use r_reading::read_r;
 pub use r_writing::write_r;
 pub use t_reading::read_t;

@@ -3,11 +3,11 @@
 ghost use Rattle.std.specs.Prelude.{◌≡◌, ◌<◌, ◌≤◌, ◌^◌, ◌++◌, ◌+◌, ◌∷◌, length, OnOk, IfOk, All};
 ghost use Rattle.std.specs.List.{flat_map};
 ghost use Rattle.std.specs.Int.{w16, w32, w64, to_le_bytes};
-ghost use Rattle.ninep_wire.specs.Fields.{string, counted, listed, qid_bytes};
-ghost use Rattle.ninep_wire.specs.Spelling.{head, IsString, AreNames};
+ghost use Rattle.ninep_types.specs.Fields.{string, counted, listed, qid_bytes};
+ghost use Rattle.ninep_types.specs.Spelling.{head, IsString, AreNames};
 
-use crate::message::Qid;
 use am_text::{Bytes, Items, NoMemory};
+use ninep_types::Qid;
 use std::alloc::Global;
 
 pub(crate) fn put_u16(out: &mut Bytes, number: u16) -> Result<(), NoMemory>

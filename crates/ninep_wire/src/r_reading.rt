@@ -1,17 +1,16 @@
 //! Messages from the server, from their bytes.
 
 ghost use Rattle.std.specs.Prelude.{◌≡◌, IfOk, Ok};
-ghost use Rattle.ninep_wire.specs.declared.message.RMsg.{RMsg};
-ghost use Rattle.ninep_wire.specs.Fields.{Gives};
-ghost use Rattle.ninep_wire.specs.Reading.{r_version_at, r_auth_at, r_error_at, r_attach_at, r_walk_at, r_open_at, r_create_at, r_read_at, r_write_at, r_stat_at, r_body_at, r_of};
-ghost use Rattle.ninep_wire.specs.Spelling.{spelling_r, Fits_r, InRange_r};
+ghost use Rattle.ninep_types.specs.declared.message.RMsg.{RMsg};
+ghost use Rattle.ninep_types.specs.Fields.{Gives};
+ghost use Rattle.ninep_types.specs.Reading.{r_version_at, r_auth_at, r_error_at, r_attach_at, r_walk_at, r_open_at, r_create_at, r_read_at, r_write_at, r_stat_at, r_body_at, r_of};
+ghost use Rattle.ninep_types.specs.Spelling.{spelling_r, Fits_r, InRange_r};
 
-use crate::fault::{WireError, WireFault};
 use crate::fields::{take_data, take_head, take_qid, take_qids, take_stat, take_string, take_u32};
-use crate::message::{RBody, RMsg};
+use ninep_types::{RBody, RMsg, WireError, WireFault};
 use std::alloc::Global;
 
-#[tactic(auto, unfolding(crate::specs::Reading::r_version_at))]
+#[tactic(auto, unfolding(ninep_types::specs::Reading::r_version_at))]
 fn take_r_version(alloc: Global, rest: &[u8]) -> Result<(RBody, &[u8]), WireError>
     ensures { Gives (λ x. (x.0, x.1.now)) result (r_version_at rest.now) }
 {
@@ -20,7 +19,7 @@ fn take_r_version(alloc: Global, rest: &[u8]) -> Result<(RBody, &[u8]), WireErro
     Ok((RBody::Version { msize, version }, rest))
 }
 
-#[tactic(auto, unfolding(crate::specs::Reading::r_auth_at))]
+#[tactic(auto, unfolding(ninep_types::specs::Reading::r_auth_at))]
 fn take_r_auth(rest: &[u8]) -> Result<(RBody, &[u8]), WireError>
     ensures { Gives (λ x. (x.0, x.1.now)) result (r_auth_at rest.now) }
 {
@@ -28,7 +27,7 @@ fn take_r_auth(rest: &[u8]) -> Result<(RBody, &[u8]), WireError>
     Ok((RBody::Auth { aqid }, rest))
 }
 
-#[tactic(auto, unfolding(crate::specs::Reading::r_error_at))]
+#[tactic(auto, unfolding(ninep_types::specs::Reading::r_error_at))]
 fn take_r_error(alloc: Global, rest: &[u8]) -> Result<(RBody, &[u8]), WireError>
     ensures { Gives (λ x. (x.0, x.1.now)) result (r_error_at rest.now) }
 {
@@ -36,7 +35,7 @@ fn take_r_error(alloc: Global, rest: &[u8]) -> Result<(RBody, &[u8]), WireError>
     Ok((RBody::Error { ename }, rest))
 }
 
-#[tactic(auto, unfolding(crate::specs::Reading::r_attach_at))]
+#[tactic(auto, unfolding(ninep_types::specs::Reading::r_attach_at))]
 fn take_r_attach(rest: &[u8]) -> Result<(RBody, &[u8]), WireError>
     ensures { Gives (λ x. (x.0, x.1.now)) result (r_attach_at rest.now) }
 {
@@ -44,7 +43,7 @@ fn take_r_attach(rest: &[u8]) -> Result<(RBody, &[u8]), WireError>
     Ok((RBody::Attach { qid }, rest))
 }
 
-#[tactic(auto, unfolding(crate::specs::Reading::r_walk_at))]
+#[tactic(auto, unfolding(ninep_types::specs::Reading::r_walk_at))]
 fn take_r_walk(alloc: Global, rest: &[u8]) -> Result<(RBody, &[u8]), WireError>
     ensures { Gives (λ x. (x.0, x.1.now)) result (r_walk_at rest.now) }
 {
@@ -52,7 +51,7 @@ fn take_r_walk(alloc: Global, rest: &[u8]) -> Result<(RBody, &[u8]), WireError>
     Ok((RBody::Walk { qids }, rest))
 }
 
-#[tactic(auto, unfolding(crate::specs::Reading::r_open_at))]
+#[tactic(auto, unfolding(ninep_types::specs::Reading::r_open_at))]
 fn take_r_open(rest: &[u8]) -> Result<(RBody, &[u8]), WireError>
     ensures { Gives (λ x. (x.0, x.1.now)) result (r_open_at rest.now) }
 {
@@ -61,7 +60,7 @@ fn take_r_open(rest: &[u8]) -> Result<(RBody, &[u8]), WireError>
     Ok((RBody::Open { qid, iounit }, rest))
 }
 
-#[tactic(auto, unfolding(crate::specs::Reading::r_create_at))]
+#[tactic(auto, unfolding(ninep_types::specs::Reading::r_create_at))]
 fn take_r_create(rest: &[u8]) -> Result<(RBody, &[u8]), WireError>
     ensures { Gives (λ x. (x.0, x.1.now)) result (r_create_at rest.now) }
 {
@@ -70,7 +69,7 @@ fn take_r_create(rest: &[u8]) -> Result<(RBody, &[u8]), WireError>
     Ok((RBody::Create { qid, iounit }, rest))
 }
 
-#[tactic(auto, unfolding(crate::specs::Reading::r_read_at))]
+#[tactic(auto, unfolding(ninep_types::specs::Reading::r_read_at))]
 fn take_r_read(alloc: Global, rest: &[u8]) -> Result<(RBody, &[u8]), WireError>
     ensures { Gives (λ x. (x.0, x.1.now)) result (r_read_at rest.now) }
 {
@@ -78,7 +77,7 @@ fn take_r_read(alloc: Global, rest: &[u8]) -> Result<(RBody, &[u8]), WireError>
     Ok((RBody::Read { bytes }, rest))
 }
 
-#[tactic(auto, unfolding(crate::specs::Reading::r_write_at))]
+#[tactic(auto, unfolding(ninep_types::specs::Reading::r_write_at))]
 fn take_r_write(rest: &[u8]) -> Result<(RBody, &[u8]), WireError>
     ensures { Gives (λ x. (x.0, x.1.now)) result (r_write_at rest.now) }
 {
@@ -86,7 +85,7 @@ fn take_r_write(rest: &[u8]) -> Result<(RBody, &[u8]), WireError>
     Ok((RBody::Write { count }, rest))
 }
 
-#[tactic(auto, unfolding(crate::specs::Reading::r_stat_at))]
+#[tactic(auto, unfolding(ninep_types::specs::Reading::r_stat_at))]
 fn take_r_stat(alloc: Global, rest: &[u8]) -> Result<(RBody, &[u8]), WireError>
     ensures { Gives (λ x. (x.0, x.1.now)) result (r_stat_at rest.now) }
 {
@@ -94,7 +93,7 @@ fn take_r_stat(alloc: Global, rest: &[u8]) -> Result<(RBody, &[u8]), WireError>
     Ok((RBody::Stat { stat }, rest))
 }
 
-#[tactic(auto, unfolding(crate::specs::Reading::r_body_at))]
+#[tactic(auto, unfolding(ninep_types::specs::Reading::r_body_at))]
 fn take_r_body(alloc: Global, kind: u8, rest: &[u8]) -> Result<(RBody, &[u8]), WireError>
     ensures { Gives (λ x. (x.0, x.1.now)) result (r_body_at kind rest.now) }
 {
@@ -117,7 +116,7 @@ fn take_r_body(alloc: Global, kind: u8, rest: &[u8]) -> Result<(RBody, &[u8]), W
     }
 }
 
-#[tactic(auto, unfolding(crate::specs::Reading::r_of))]
+#[tactic(auto, unfolding(ninep_types::specs::Reading::r_of))]
 fn take_r_message(alloc: Global, bytes: &[u8]) -> Result<RMsg, WireError>
     ensures { Gives (λ m. m) result (r_of bytes.now) }
 {

@@ -1,11 +1,11 @@
 //! Messages from the server, to their bytes.
 
 ghost use Rattle.std.specs.Prelude.{◌≡◌, ◌<◌, ◌≤◌, ◌^◌, ◌++◌, ◌+◌, length, OnOk, IfOk};
-ghost use Rattle.ninep_wire.specs.Spelling.{kind_r, fields_r, size_r, spelling_r, Fits_r, BodyFits_r, IsString};
+ghost use Rattle.ninep_types.specs.Spelling.{kind_r, fields_r, size_r, spelling_r, Fits_r, BodyFits_r, IsString};
 
-use crate::message::{Qid, RBody, RMsg};
 use crate::puts::{begun, put_data, put_qid, put_qids, put_stat, put_string, put_u32};
 use am_text::{Bytes, NoMemory};
+use ninep_types::{Qid, RBody, RMsg};
 use std::alloc::Global;
 
 #[tactic(auto, using(crate::proofs::Joins::joins))]

@@ -1,19 +1,18 @@
 //! Messages to the server, from their bytes.
 
 ghost use Rattle.std.specs.Prelude.{◌≡◌, IfOk, Ok};
-ghost use Rattle.ninep_wire.specs.declared.message.TMsg.{TMsg};
-ghost use Rattle.ninep_wire.specs.Fields.{Gives};
-ghost use Rattle.ninep_wire.specs.Reading.{t_version_at, t_auth_at, t_flush_at, t_attach_at, t_walk_at, t_open_at, t_create_at, t_read_at, t_write_at, t_clunk_at, t_remove_at, t_stat_at, t_wstat_at, t_body_at, t_of};
-ghost use Rattle.ninep_wire.specs.Spelling.{spelling_t, Fits_t, InRange_t};
+ghost use Rattle.ninep_types.specs.declared.message.TMsg.{TMsg};
+ghost use Rattle.ninep_types.specs.Fields.{Gives};
+ghost use Rattle.ninep_types.specs.Reading.{t_version_at, t_auth_at, t_flush_at, t_attach_at, t_walk_at, t_open_at, t_create_at, t_read_at, t_write_at, t_clunk_at, t_remove_at, t_stat_at, t_wstat_at, t_body_at, t_of};
+ghost use Rattle.ninep_types.specs.Spelling.{spelling_t, Fits_t, InRange_t};
 
-use crate::fault::{WireError, WireFault};
 use crate::fields::{
     take_data, take_head, take_names, take_stat, take_string, take_u8, take_u16, take_u32, take_u64,
 };
-use crate::message::{TBody, TMsg};
+use ninep_types::{TBody, TMsg, WireError, WireFault};
 use std::alloc::Global;
 
-#[tactic(auto, unfolding(crate::specs::Reading::t_version_at))]
+#[tactic(auto, unfolding(ninep_types::specs::Reading::t_version_at))]
 fn take_t_version(alloc: Global, rest: &[u8]) -> Result<(TBody, &[u8]), WireError>
     ensures { Gives (λ x. (x.0, x.1.now)) result (t_version_at rest.now) }
 {
@@ -22,7 +21,7 @@ fn take_t_version(alloc: Global, rest: &[u8]) -> Result<(TBody, &[u8]), WireErro
     Ok((TBody::Version { msize, version }, rest))
 }
 
-#[tactic(auto, unfolding(crate::specs::Reading::t_auth_at))]
+#[tactic(auto, unfolding(ninep_types::specs::Reading::t_auth_at))]
 fn take_t_auth(alloc: Global, rest: &[u8]) -> Result<(TBody, &[u8]), WireError>
     ensures { Gives (λ x. (x.0, x.1.now)) result (t_auth_at rest.now) }
 {
@@ -32,7 +31,7 @@ fn take_t_auth(alloc: Global, rest: &[u8]) -> Result<(TBody, &[u8]), WireError>
     Ok((TBody::Auth { afid, uname, aname }, rest))
 }
 
-#[tactic(auto, unfolding(crate::specs::Reading::t_flush_at))]
+#[tactic(auto, unfolding(ninep_types::specs::Reading::t_flush_at))]
 fn take_t_flush(rest: &[u8]) -> Result<(TBody, &[u8]), WireError>
     ensures { Gives (λ x. (x.0, x.1.now)) result (t_flush_at rest.now) }
 {
@@ -40,7 +39,7 @@ fn take_t_flush(rest: &[u8]) -> Result<(TBody, &[u8]), WireError>
     Ok((TBody::Flush { oldtag }, rest))
 }
 
-#[tactic(auto, unfolding(crate::specs::Reading::t_attach_at))]
+#[tactic(auto, unfolding(ninep_types::specs::Reading::t_attach_at))]
 fn take_t_attach(alloc: Global, rest: &[u8]) -> Result<(TBody, &[u8]), WireError>
     ensures { Gives (λ x. (x.0, x.1.now)) result (t_attach_at rest.now) }
 {
@@ -59,7 +58,7 @@ fn take_t_attach(alloc: Global, rest: &[u8]) -> Result<(TBody, &[u8]), WireError
     ))
 }
 
-#[tactic(auto, unfolding(crate::specs::Reading::t_walk_at))]
+#[tactic(auto, unfolding(ninep_types::specs::Reading::t_walk_at))]
 fn take_t_walk(alloc: Global, rest: &[u8]) -> Result<(TBody, &[u8]), WireError>
     ensures { Gives (λ x. (x.0, x.1.now)) result (t_walk_at rest.now) }
 {
@@ -69,7 +68,7 @@ fn take_t_walk(alloc: Global, rest: &[u8]) -> Result<(TBody, &[u8]), WireError>
     Ok((TBody::Walk { fid, newfid, names }, rest))
 }
 
-#[tactic(auto, unfolding(crate::specs::Reading::t_open_at))]
+#[tactic(auto, unfolding(ninep_types::specs::Reading::t_open_at))]
 fn take_t_open(rest: &[u8]) -> Result<(TBody, &[u8]), WireError>
     ensures { Gives (λ x. (x.0, x.1.now)) result (t_open_at rest.now) }
 {
@@ -78,7 +77,7 @@ fn take_t_open(rest: &[u8]) -> Result<(TBody, &[u8]), WireError>
     Ok((TBody::Open { fid, mode }, rest))
 }
 
-#[tactic(auto, unfolding(crate::specs::Reading::t_create_at))]
+#[tactic(auto, unfolding(ninep_types::specs::Reading::t_create_at))]
 fn take_t_create(alloc: Global, rest: &[u8]) -> Result<(TBody, &[u8]), WireError>
     ensures { Gives (λ x. (x.0, x.1.now)) result (t_create_at rest.now) }
 {
@@ -97,7 +96,7 @@ fn take_t_create(alloc: Global, rest: &[u8]) -> Result<(TBody, &[u8]), WireError
     ))
 }
 
-#[tactic(auto, unfolding(crate::specs::Reading::t_read_at))]
+#[tactic(auto, unfolding(ninep_types::specs::Reading::t_read_at))]
 fn take_t_read(rest: &[u8]) -> Result<(TBody, &[u8]), WireError>
     ensures { Gives (λ x. (x.0, x.1.now)) result (t_read_at rest.now) }
 {
@@ -107,7 +106,7 @@ fn take_t_read(rest: &[u8]) -> Result<(TBody, &[u8]), WireError>
     Ok((TBody::Read { fid, offset, count }, rest))
 }
 
-#[tactic(auto, unfolding(crate::specs::Reading::t_write_at))]
+#[tactic(auto, unfolding(ninep_types::specs::Reading::t_write_at))]
 fn take_t_write(alloc: Global, rest: &[u8]) -> Result<(TBody, &[u8]), WireError>
     ensures { Gives (λ x. (x.0, x.1.now)) result (t_write_at rest.now) }
 {
@@ -117,7 +116,7 @@ fn take_t_write(alloc: Global, rest: &[u8]) -> Result<(TBody, &[u8]), WireError>
     Ok((TBody::Write { fid, offset, bytes }, rest))
 }
 
-#[tactic(auto, unfolding(crate::specs::Reading::t_clunk_at))]
+#[tactic(auto, unfolding(ninep_types::specs::Reading::t_clunk_at))]
 fn take_t_clunk(rest: &[u8]) -> Result<(TBody, &[u8]), WireError>
     ensures { Gives (λ x. (x.0, x.1.now)) result (t_clunk_at rest.now) }
 {
@@ -125,7 +124,7 @@ fn take_t_clunk(rest: &[u8]) -> Result<(TBody, &[u8]), WireError>
     Ok((TBody::Clunk { fid }, rest))
 }
 
-#[tactic(auto, unfolding(crate::specs::Reading::t_remove_at))]
+#[tactic(auto, unfolding(ninep_types::specs::Reading::t_remove_at))]
 fn take_t_remove(rest: &[u8]) -> Result<(TBody, &[u8]), WireError>
     ensures { Gives (λ x. (x.0, x.1.now)) result (t_remove_at rest.now) }
 {
@@ -133,7 +132,7 @@ fn take_t_remove(rest: &[u8]) -> Result<(TBody, &[u8]), WireError>
     Ok((TBody::Remove { fid }, rest))
 }
 
-#[tactic(auto, unfolding(crate::specs::Reading::t_stat_at))]
+#[tactic(auto, unfolding(ninep_types::specs::Reading::t_stat_at))]
 fn take_t_stat(rest: &[u8]) -> Result<(TBody, &[u8]), WireError>
     ensures { Gives (λ x. (x.0, x.1.now)) result (t_stat_at rest.now) }
 {
@@ -141,7 +140,7 @@ fn take_t_stat(rest: &[u8]) -> Result<(TBody, &[u8]), WireError>
     Ok((TBody::Stat { fid }, rest))
 }
 
-#[tactic(auto, unfolding(crate::specs::Reading::t_wstat_at))]
+#[tactic(auto, unfolding(ninep_types::specs::Reading::t_wstat_at))]
 fn take_t_wstat(alloc: Global, rest: &[u8]) -> Result<(TBody, &[u8]), WireError>
     ensures { Gives (λ x. (x.0, x.1.now)) result (t_wstat_at rest.now) }
 {
@@ -150,7 +149,7 @@ fn take_t_wstat(alloc: Global, rest: &[u8]) -> Result<(TBody, &[u8]), WireError>
     Ok((TBody::Wstat { fid, stat }, rest))
 }
 
-#[tactic(auto, unfolding(crate::specs::Reading::t_body_at))]
+#[tactic(auto, unfolding(ninep_types::specs::Reading::t_body_at))]
 fn take_t_body(alloc: Global, kind: u8, rest: &[u8]) -> Result<(TBody, &[u8]), WireError>
     ensures { Gives (λ x. (x.0, x.1.now)) result (t_body_at kind rest.now) }
 {
@@ -172,7 +171,7 @@ fn take_t_body(alloc: Global, kind: u8, rest: &[u8]) -> Result<(TBody, &[u8]), W
     }
 }
 
-#[tactic(auto, unfolding(crate::specs::Reading::t_of))]
+#[tactic(auto, unfolding(ninep_types::specs::Reading::t_of))]
 fn take_t_message(alloc: Global, bytes: &[u8]) -> Result<TMsg, WireError>
     ensures { Gives (λ m. m) result (t_of bytes.now) }
 {

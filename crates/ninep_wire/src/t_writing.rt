@@ -1,13 +1,13 @@
 //! Messages to the server, to their bytes.
 
 ghost use Rattle.std.specs.Prelude.{◌≡◌, ◌<◌, ◌≤◌, ◌^◌, ◌++◌, ◌+◌, length, OnOk, IfOk};
-ghost use Rattle.ninep_wire.specs.Spelling.{kind_t, fields_t, size_t, spelling_t, Fits_t, BodyFits_t, IsString, AreNames};
+ghost use Rattle.ninep_types.specs.Spelling.{kind_t, fields_t, size_t, spelling_t, Fits_t, BodyFits_t, IsString, AreNames};
 
-use crate::message::{TBody, TMsg};
 use crate::puts::{
     begun, put_data, put_names, put_stat, put_string, put_u16, put_u32, put_u64, strings_len,
 };
 use am_text::{Bytes, NoMemory};
+use ninep_types::{TBody, TMsg};
 use std::alloc::Global;
 
 #[tactic(auto, using(crate::proofs::Joins::joins))]

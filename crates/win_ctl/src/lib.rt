@@ -13,6 +13,3 @@ pub use message::{CtlFault, CtlMsg};
 pub use parsing::parse_ctl;
 pub use paths::directory;
 pub use tags::{Shown, Tag, tag_text};
-
-#[cfg(test)]
-mod tests;

@@ -1,5 +1,5 @@
 use Rattle.std.proofs.Common.{◌≡◌, ◌-◌}
-use Rattle.ninep_wire.specs.Fields.{qid_at, several_at}
+use Rattle.ninep_types.specs.Fields.{qid_at, several_at}
 use Rattle.ninep_wire.proofs.Loops.{with_front}
 use Rattle.ninep_wire.proofs.fields.take_several_qids.Given as goal
 

@@ -1,5 +1,5 @@
 use Rattle.std.proofs.lemmas.Result.{err_from_is_err_and}
-use Rattle.ninep_wire.specs.Fields.{string_at, several_at}
+use Rattle.ninep_types.specs.Fields.{string_at, several_at}
 use Rattle.ninep_wire.proofs.Loops.{goes_on, ends, is_done}
 use Rattle.ninep_wire.proofs.fields.take_strings.Goals as goal
 

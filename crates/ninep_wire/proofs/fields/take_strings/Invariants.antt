@@ -1,5 +1,5 @@
 use Rattle.std.proofs.Common.{◌≡◌, ◌-◌}
-use Rattle.ninep_wire.specs.Fields.{string_at, several_at}
+use Rattle.ninep_types.specs.Fields.{string_at, several_at}
 use Rattle.ninep_wire.proofs.Loops.{with_front}
 use Rattle.ninep_wire.proofs.fields.take_strings.Given as goal
 

@@ -1,6 +1,6 @@
 use Rattle.std.proofs.Common.{ap, subst, ◌∙◌, arith}
-use Rattle.ninep_wire.specs.Fields.{Gives}
-use Rattle.ninep_wire.specs.Reading.{r_of}
+use Rattle.ninep_types.specs.Fields.{Gives}
+use Rattle.ninep_types.specs.Reading.{r_of}
 use Rattle.ninep_wire.proofs.RLaws.{is_found, found_fits, found_in_range, r_again}
 use Rattle.ninep_wire.proofs.r_reading.read_r.Goals as goal
 

@@ -1,6 +1,6 @@
 use Rattle.std.proofs.Common.{ap, subst, ◌∙◌, arith}
-use Rattle.ninep_wire.specs.Fields.{Gives}
-use Rattle.ninep_wire.specs.Reading.{t_of}
+use Rattle.ninep_types.specs.Fields.{Gives}
+use Rattle.ninep_types.specs.Reading.{t_of}
 use Rattle.ninep_wire.proofs.TLaws.{is_found, found_fits, found_in_range, t_again}
 use Rattle.ninep_wire.proofs.t_reading.read_t.Goals as goal
 

@@ -1,5 +1,5 @@
 use Rattle.std.specs.Int.{w32, w64, to_le_bytes}
-use Rattle.ninep_wire.specs.Fields.{counted}
+use Rattle.ninep_types.specs.Fields.{counted}
 use Rattle.ninep_wire.proofs.Joins.{three}
 use Rattle.ninep_wire.proofs.t_writing.put_t_write.Goals as goal
 
