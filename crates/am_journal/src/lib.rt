@@ -10,8 +10,6 @@ mod journal;
 mod lines;
 mod replies;
 mod reporting;
-#[cfg(test)]
-mod tests;
 mod view;
 
 pub use am_text::{Bytes, Items, Job, JobKind, Jobs, NoMemory, Range, Runes};

@@ -12,8 +12,6 @@ mod number;
 mod part;
 mod range;
 mod roomy;
-#[cfg(test)]
-mod tests;
 mod utf8;
 
 pub use column::column11;

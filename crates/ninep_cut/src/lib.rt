@@ -7,8 +7,6 @@
 mod cut;
 mod cutter;
 mod laws;
-#[cfg(test)]
-mod tests;
 
 pub use am_text::{Bytes, Items, NoMemory};
 pub use cut::Cut;

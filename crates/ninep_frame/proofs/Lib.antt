@@ -4,4 +4,3 @@ pub mod Longest
 pub mod PrefixFree
 pub mod Reading
 pub mod Sizes
-pub mod Tested

@@ -10,8 +10,6 @@ mod places;
 mod puts;
 mod record;
 mod stat;
-#[cfg(test)]
-mod tests;
 
 pub use am_text::{Bytes, Items, NoMemory};
 pub use directory::dir_read;

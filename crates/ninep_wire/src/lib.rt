@@ -11,8 +11,6 @@ mod r_reading;
 mod r_writing;
 mod t_reading;
 mod t_writing;
-#[cfg(test)]
-mod tests;
 
 pub use am_text::{Bytes, Items, Names, NoMemory};
 pub use laws::{spellings_are_prefix_free, spellings_are_read_again, spellings_have_their_size};

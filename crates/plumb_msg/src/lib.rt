@@ -17,6 +17,3 @@ pub use message::{Attr, Attrs, PlumbMsg, PlumbRead};
 pub use reading::read_msg;
 pub use scanning::read_attrs;
 pub use writing::{attrs_text, can_spell, write_msg};
-
-#[cfg(test)]
-mod tests;

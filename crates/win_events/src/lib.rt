@@ -8,6 +8,3 @@ mod spelling;
 pub use back::read_back;
 pub use item::{BackMsg, Item, Life, Origin, Sort};
 pub use spelling::spell;
-
-#[cfg(test)]
-mod tests;
