@@ -17,6 +17,3 @@ pub use laws::{
     loses_nothing, only_ask_waits,
 };
 pub use ports::Ports;
-
-#[cfg(test)]
-mod tests;

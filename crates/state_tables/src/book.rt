@@ -27,7 +27,7 @@ ghost use Rattle.am_text.specs.Twice.{IsSteady};
 use crate::answers::{asked_line, put_text, says, says_whether, served_line};
 use crate::call::{Call, asker_of, bytes_of, one_of, tag_of, two_of};
 use crate::fault::Fault;
-use crate::items::{Put, chord, expanded, key};
+use crate::items::{Put, read_put};
 use am_text::{Bytes, decimal};
 use event_book::{BackFault, Book, ItemView, ItemViews};
 use std::alloc::Global;
@@ -45,12 +45,13 @@ fn add(alloc: Global, book: &mut Book, numbers: &[u32]) -> Result<Bytes, Fault> 
     Ok(decimal(alloc, opening.into())?)
 }
 
-fn put(alloc: Global, book: &mut Book, put: Put) -> Result<Bytes, Fault> {
-    let Put { window, item } = put;
+fn put(alloc: Global, book: &mut Book, call: &Call<'_>) -> Result<Bytes, Fault> {
+    let Put { window, item } = read_put(alloc, call)?;
     if !book.is_open(window) {
         return Err(Fault::NoCase);
     }
-    Ok(decimal(alloc, book.put(window, item)?)?)
+    let number = book.put(window, item)?;
+    Ok(decimal(alloc, number)?)
 }
 
 fn asked(alloc: Global, book: &mut Book, asker: Asker, at: u64) -> Result<Bytes, Fault> {
@@ -123,6 +124,16 @@ fn views_line(alloc: Global, views: &ItemViews) -> Result<Bytes, Fault> {
         put_view(alloc, &mut line, view)?;
     }
     Ok(line)
+}
+
+fn ledger(alloc: Global, book: &Book) -> Result<Bytes, Fault> {
+    let views = book.ledger()?;
+    views_line(alloc, &views)
+}
+
+fn kept_ledger(alloc: Global, book: &Book) -> Result<Bytes, Fault> {
+    let views = book.kept_ledger()?;
+    views_line(alloc, &views)
 }
 
 fn written(alloc: Global, book: &mut Book, numbers: &[u32]) -> Result<Bytes, Fault>
@@ -201,8 +212,8 @@ fn look(alloc: Global, book: &Book, call: &Call<'_>) -> Result<Bytes, Fault> {
         "living" => says_whether(alloc, book.is_living(one_of(numbers)?)),
         "openings" => Ok(decimal(alloc, book.openings() as u64)?),
         "latest" => Ok(decimal(alloc, book.latest())?),
-        "ledger" => views_line(alloc, &book.ledger()?),
-        "kept" => views_line(alloc, &book.kept_ledger()?),
+        "ledger" => ledger(alloc, book),
+        "kept" => kept_ledger(alloc, book),
         _ => Err(Fault::NoCase),
     }
 }
@@ -212,9 +223,7 @@ pub fn answer(alloc: Global, book: &mut Book, call: &Call<'_>) -> Result<Bytes, 
     let numbers = call.numbers.as_slice();
     match call.name {
         "add" => add(alloc, book, numbers),
-        "key" => put(alloc, book, key(alloc, numbers, call.texts)?),
-        "click" => put(alloc, book, expanded(alloc, numbers, call.texts)?),
-        "chord" => put(alloc, book, chord(alloc, numbers, call.texts)?),
+        "key" | "click" | "chord" => put(alloc, book, call),
         "ask" => ask(alloc, book, numbers),
         "serve" => serve(alloc, book, numbers),
         "back" => back(alloc, book),

@@ -1,6 +1,6 @@
 //! Items of a book: how they are read.
 
-use crate::call::{cut, text_of};
+use crate::call::{Call, cut, text_of};
 use crate::fault::Fault;
 use am_text::{Range, Runes};
 use std::alloc::Global;
@@ -20,8 +20,8 @@ fn range(q0: u32, q1: u32) -> Range {
     }
 }
 
-/// An insertion into the body by the keyboard.
-pub fn key(alloc: Global, numbers: &[u32], field: &str) -> Result<Put, Fault> {
+// An insertion into the body by the keyboard.
+fn key(alloc: Global, numbers: &[u32], field: &str) -> Result<Put, Fault> {
     let [window, q0] = numbers else {
         return Err(Fault::NoCase);
     };
@@ -57,8 +57,8 @@ fn click(range: Range, flag: u32, text: Runes) -> Item {
     }
 }
 
-/// A click of the mouse in the body, expanded to a range with a text.
-pub fn expanded(alloc: Global, numbers: &[u32], field: &str) -> Result<Put, Fault> {
+// A click of the mouse in the body, expanded to a range with a text.
+fn expanded(alloc: Global, numbers: &[u32], field: &str) -> Result<Put, Fault> {
     let [window, q0, q1, flag, from, to] = numbers else {
         return Err(Fault::NoCase);
     };
@@ -70,8 +70,8 @@ pub fn expanded(alloc: Global, numbers: &[u32], field: &str) -> Result<Put, Faul
     })
 }
 
-/// A click of the mouse on a text, with an argument and its place.
-pub fn chord(alloc: Global, numbers: &[u32], fields: &str) -> Result<Put, Fault> {
+// A click of the mouse on a text, with an argument and its place.
+fn chord(alloc: Global, numbers: &[u32], fields: &str) -> Result<Put, Fault> {
     let [window, q0, q1, flag] = numbers else {
         return Err(Fault::NoCase);
     };
@@ -83,4 +83,15 @@ pub fn chord(alloc: Global, numbers: &[u32], fields: &str) -> Result<Put, Fault>
         window: *window,
         item,
     })
+}
+
+/// The item of a call, and its window.
+pub fn read_put(alloc: Global, call: &Call<'_>) -> Result<Put, Fault> {
+    let numbers = call.numbers.as_slice();
+    match call.name {
+        "key" => key(alloc, numbers, call.texts),
+        "click" => expanded(alloc, numbers, call.texts),
+        "chord" => chord(alloc, numbers, call.texts),
+        _ => Err(Fault::NoCase),
+    }
 }

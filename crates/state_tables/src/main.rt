@@ -12,6 +12,7 @@ mod call;
 mod edits;
 mod fault;
 mod items;
+mod ports;
 mod queue;
 mod tables;
 
@@ -20,12 +21,12 @@ use std::alloc::AllocError;
 use std::io::{self, BufRead, BufReader, BufWriter, Write};
 use tables::{Tables, answer};
 
-fn main(rt: HostRuntime) -> io::Result<()> {
+// Answers the lines of the input. The tables are borrowed, since `main` would drop them at each `?`.
+fn answer_lines<R: Input + Print + AllocGlobal>(rt: &R, tables: &mut Tables) -> io::Result<()> {
     let alloc = rt.alloc();
-    let mut tables = Tables::new(alloc).map_err(|_| AllocError)?;
-    let mut output = BufWriter::new(alloc, io::writer(&rt))?;
+    let mut output = BufWriter::new(alloc, io::writer(rt))?;
     for line in BufReader::new(alloc, rt.reader())?.lines(alloc) {
-        match answer(alloc, &mut tables, line?.as_str()) {
+        match answer(alloc, tables, line?.as_str()) {
             Ok(text) => output.write_all(text.as_slice())?,
             Err(Fault::NoCase) => output.write_all(b"?")?,
             Err(Fault::NoMemory) => return Err(AllocError.into()),
@@ -33,4 +34,9 @@ fn main(rt: HostRuntime) -> io::Result<()> {
         output.write_all(b"\n")?;
     }
     output.flush()
+}
+
+fn main(rt: HostRuntime) -> io::Result<()> {
+    let mut tables = Tables::new(rt.alloc()).map_err(|_| AllocError)?;
+    answer_lines(&rt, &mut tables)
 }

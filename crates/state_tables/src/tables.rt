@@ -17,9 +17,10 @@
 use crate::answers::says;
 use crate::call::{Call, read_call};
 use crate::fault::Fault;
-use crate::{body, book, queue};
+use crate::{body, book, ports, queue};
 use am_text::{Bytes, NoMemory};
 use event_book::Book;
+use plumb_ports::Ports;
 use std::alloc::Global;
 use wait_queue::WaitQueue;
 use win_text::Body;
@@ -30,15 +31,18 @@ pub struct Tables {
     body: Body,
     queue: WaitQueue,
     book: Book,
+    ports: Ports,
 }
 
 impl Tables {
     /// The value with which each table begins.
     pub fn new(alloc: Global) -> Result<Tables, NoMemory> {
+        let ports = Ports::new(alloc)?;
         Ok(Tables {
             body: Body::new(alloc),
             queue: WaitQueue::new(alloc),
             book: Book::new(alloc),
+            ports,
         })
     }
 }
@@ -53,15 +57,20 @@ fn called(
         "body" => body::answer(alloc, &mut tables.body, call),
         "queue" => queue::answer(alloc, &mut tables.queue, call),
         "book" => book::answer(alloc, &mut tables.book, call),
+        "ports" => ports::answer(alloc, &mut tables.ports, call),
         _ => Err(Fault::NoCase),
     }
+}
+
+fn begin(alloc: Global, tables: &mut Tables) -> Result<Bytes, Fault> {
+    *tables = Tables::new(alloc)?;
+    says(alloc, "ok")
 }
 
 /// The answer to a line, without its newline.
 pub fn answer(alloc: Global, tables: &mut Tables, line: &str) -> Result<Bytes, Fault> {
     if line == "new" {
-        *tables = Tables::new(alloc)?;
-        return says(alloc, "ok");
+        return begin(alloc, tables);
     }
     let (table, call) = read_call(alloc, line)?;
     called(alloc, tables, table, &call)

@@ -10,10 +10,7 @@ use std::str::FromStr;
 
 /// The first field of a line, and the fields behind it.
 pub fn cut(fields: &str) -> Result<(&str, &str), Fault> {
-    match fields.split_once('\t') {
-        Some(parts) => Ok(parts),
-        None => Err(Fault::NoCase),
-    }
+    fields.split_once('\t').ok_or(Fault::NoCase)
 }
 
 /// The first two fields of a line, and the fields behind them.

@@ -62,13 +62,18 @@ fn asked(alloc: Global, state: &mut State, line: &str) -> Result<Vec<u8>, Fault>
     found(alloc, state, word, case)
 }
 
+// So many of one part, and then so many of another.
+fn repeated(alloc: Global, count: usize, front: &str, behind: &str) -> Result<String, AllocError> {
+    let mut parts = front.repeat(alloc, count)?;
+    parts.push_str(behind.repeat(alloc, count)?.as_str())?;
+    Ok(parts)
+}
+
 // The line with parts repeated in it.
 fn widened(alloc: Global, fields: &str) -> Result<String, Fault> {
     let (count, front, fields) = cut_twice(fields)?;
     let (behind, line) = cut(fields)?;
-    let count = number_of(count)?;
-    let mut parts = front.repeat(alloc, count)?;
-    parts.push_str(behind.repeat(alloc, count)?.as_str())?;
+    let parts = repeated(alloc, number_of(count)?, front, behind)?;
     Ok(line.replace(alloc, '@', parts.as_str())?)
 }
 
