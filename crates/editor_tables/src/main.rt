@@ -38,14 +38,14 @@ fn answer(alloc: Global, core: &mut Core, line: &str) -> Result<String, Fault>
     }
 }
 
-// Answers the lines of the input.
-fn answer_lines<R: Input + Print + AllocGlobal>(rt: &R, mut core: Core) -> io::Result<()>
-    requires { core.planned ≡ None }
+// Answers the lines of the input. The core is borrowed, since its owner drops it at each way out.
+fn answer_lines<R: Input + Print + AllocGlobal>(rt: &R, core: &mut Core) -> io::Result<()>
+    requires { core.old.planned ≡ None }
 {
     let alloc = rt.alloc();
     let mut output = BufWriter::new(alloc, io::writer(rt))?;
     for line in BufReader::new(alloc, rt.reader())?.lines(alloc) {
-        match answer(alloc, &mut core, line?.as_str()) {
+        match answer(alloc, core, line?.as_str()) {
             Ok(text) => output.write_all(text.as_bytes())?,
             Err(Fault::NoCase) => output.write_all(b"?")?,
             Err(Fault::NoMemory) => return Err(AllocError.into()),
@@ -56,6 +56,6 @@ fn answer_lines<R: Input + Print + AllocGlobal>(rt: &R, mut core: Core) -> io::R
 }
 
 fn main(rt: HostRuntime) -> io::Result<()> {
-    let core = Core::new(rt.alloc()).map_err(|_| AllocError)?;
-    answer_lines(&rt, core)
+    let mut core = Core::new(rt.alloc()).map_err(|_| AllocError)?;
+    answer_lines(&rt, &mut core)
 }
