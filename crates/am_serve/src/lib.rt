@@ -8,8 +8,6 @@ mod laws;
 mod reading;
 mod scripting;
 mod sending;
-#[cfg(test)]
-mod tests;
 mod writing;
 
 pub use asked::Asked;
