@@ -1,6 +1,6 @@
 //! A journal that seats add to.
 
-ghost use Rattle.std.specs.Prelude.{◌≡◌, ℕ, ◌<◌, Bool, List, [], Option, Ok, false, true, IfOk, OnErr, IfErr};
+ghost use Rattle.std.specs.Prelude.{◌≡◌, ℕ, ◌<◌, Bool, List, [], Option, Ok, false, true, IfOk, OnOk, OnErr, IfErr};
 ghost use Rattle.am_journal.specs.declared.event.Event.{Event};
 ghost use Rattle.am_journal.specs.declared.event.Why.{Why};
 ghost use Rattle.am_journal.specs.Lawful.{IsLawful};
@@ -10,8 +10,10 @@ ghost use Rattle.am_counter.specs.declared.ask.Taken.TheVariants as taken;
 ghost use Rattle.am_counter.specs.Known.{Known, Looks, Submits, TakesBytes};
 ghost use Rattle.am_counter.specs.Laws.{TellsConnections};
 ghost use Rattle.am_counter.specs.Played.{IsPlayed, IsHang, IsWhy, Refuses};
+ghost use Rattle.am_counter.specs.Telling.{with_told};
 
 use crate::ask::{Ask, Taken};
+use crate::told::Told;
 use am_journal::{Event, Refused};
 use am_text::{Bytes, NoMemory};
 use std::sync::Wait;
@@ -40,9 +42,18 @@ pub trait Counter {
     /// The answer to a question after a journal.
     ghost answer: { List Event → Ask → Bool };
 
-    /// Does an event in one turn, if it is enabled then, and answers the number of its entry. A refusal changes nothing but what
-    /// the seat has seen.
-    fn submit<R: Wait>(&self, rt: &R, seat: &mut Self::Seat, event: Event) -> Result<u64, Refused>
+    /// The connections that the last entry of a journal replied to, in the order of the replies.
+    ghost told_by: { List Event → List ℕ };
+
+    /// Does an event in one turn, if it is enabled then, and answers the number of its entry. The connections that it replied to are
+    /// added to `told`. A refusal changes nothing but what the seat has seen.
+    fn submit<R: Wait>(
+        &self,
+        rt: &R,
+        seat: &mut Self::Seat,
+        event: Event,
+        told: &mut Told,
+    ) -> Result<u64, Refused>
         requires fits { fits self.now seat.old }
         requires lawful { IsLawful event }
         ensures fits { fits self.now seat.new }
@@ -50,6 +61,8 @@ pub trait Counter {
         ensures ok { IfOk result (λ n. Submits enabled (known seat.old) event n (known seat.new)) }
         ensures err { OnErr result (Looks (known seat.old) (known seat.new)) }
         ensures refused { IfErr result (λ e. Refuses e (enabled (known seat.new).seen event)) }
+        ensures told { OnOk result (told.new.are ≡ with_told told.old.are (told_by (known seat.new).seen)) }
+        ensures untold { OnErr result (told.new ≡ told.old) }
         // A hang-up is never refused for memory.
         ensures hang { IsHang event → IfErr result IsWhy };
 

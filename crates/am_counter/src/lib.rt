@@ -4,7 +4,9 @@
 mod ask;
 mod counter;
 mod seats;
+mod told;
 
 pub use ask::{Ask, Taken};
 pub use counter::Counter;
 pub use seats::Seats;
+pub use told::Told;

@@ -1,8 +1,8 @@
 -- The replies that a journal makes.
-use Rattle.std.specs.Prelude.{ℕ, ◌==◌, List, [], ◌∷◌, ◌++◌, if◌then◌else◌}
+use Rattle.std.specs.Prelude.{ℕ, ◌==◌, List, [], ◌∷◌, ◌++◌, map, if◌then◌else◌}
 use Rattle.am_journal.specs.declared.event.Event.{Event}
 use Rattle.acme_core.specs.declared.unsent.Reply.{Reply}
-use Rattle.acme_core.specs.Run.{step}
+use Rattle.acme_core.specs.Run.{step, run}
 use Rattle.acme_core.specs.States.{State, start}
 
 -- the bytes of those to a connection, one after another
@@ -18,3 +18,7 @@ replies_from s (e ∷ events) conn = bytes_to conn (step s e).replies ++ replies
 -- all replies to a connection
 abbrev pub replies : List Event → ℕ → List ℕ
 replies journal conn = replies_from start journal conn
+
+-- the connections that the last entry replied to, in the order of its replies
+abbrev pub told_by : List Event → List ℕ
+told_by journal = map (λ (reply : Reply). reply.conn) (run journal).replies

@@ -2,7 +2,7 @@
 
 use crate::desk::{Desk, DeskSeat};
 use acme_core::{Ask, Bytes, Event, NoMemory, Refused};
-use am_counter::{Counter, Seats, Taken};
+use am_counter::{Counter, Seats, Taken, Told};
 use std::sync::Wait;
 
 impl Counter for Desk {
@@ -10,7 +10,7 @@ impl Counter for Desk {
     ghost use Rattle.acme_core.specs.Asks.{answer_at};
     ghost use Rattle.acme_core.specs.Run.{enabled, output_at};
     ghost use Rattle.am_desk.specs.Desks.{desk_id, seat_lock, known_of};
-    ghost use Rattle.am_desk.specs.Replies.{replies};
+    ghost use Rattle.am_desk.specs.Replies.{replies, told_by};
     ghost use Rattle.acme_core.proofs.Connected.{tells_connections};
 
     type Seat = DeskSeat;
@@ -27,8 +27,16 @@ impl Counter for Desk {
 
     ghost answer = { answer_at };
 
-    fn submit<R: Wait>(&self, rt: &R, seat: &mut DeskSeat, event: Event) -> Result<u64, Refused> {
-        Desk::submit(self, rt, seat, event)
+    ghost told_by = { told_by };
+
+    fn submit<R: Wait>(
+        &self,
+        rt: &R,
+        seat: &mut DeskSeat,
+        event: Event,
+        told: &mut Told,
+    ) -> Result<u64, Refused> {
+        Desk::submit(self, rt, seat, event, told)
     }
 
     fn take<R: Wait>(

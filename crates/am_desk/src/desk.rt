@@ -1,6 +1,6 @@
 //! The desk, and its seats.
 
-ghost use Rattle.std.specs.Prelude.{◌≡◌, ◌<◌, ◌≤◌, false, true, [], IfOk, OnErr, IfErr, Ok};
+ghost use Rattle.std.specs.Prelude.{◌≡◌, ◌<◌, ◌≤◌, false, true, [], IfOk, OnOk, OnErr, IfErr, Ok};
 ghost use Rattle.turn_lock.specs.Words.{view_of};
 ghost use Rattle.turn_lock.specs.Journal.{AllStand};
 ghost use Rattle.turn_lock.specs.Kinds.{KeepsOrder};
@@ -9,13 +9,15 @@ ghost use Rattle.am_counter.specs.declared.ask.Ask.TheVariants as ask;
 ghost use Rattle.am_counter.specs.declared.ask.Taken.TheVariants as taken;
 ghost use Rattle.am_counter.specs.Known.{Looks, Submits, TakesBytes, without_parts, new_known, lists_of, TakesIn};
 ghost use Rattle.am_counter.specs.Played.{IsPlayed, IsHang, IsWhy, Refuses};
+ghost use Rattle.am_counter.specs.Telling.{with_told};
 ghost use Rattle.acme_core.specs.Asks.{answer_at};
 ghost use Rattle.acme_core.specs.Run.{enabled, output_at, settled};
 ghost use Rattle.am_desk.specs.Knowing.{first_known, joined, EachOnce};
+ghost use Rattle.am_desk.specs.Replies.{told_by};
 
 use crate::settled::Settled;
 use acme_core::{Ask, Bytes, Core, Event, NoMemory, Refused};
-use am_counter::Taken;
+use am_counter::{Taken, Told};
 use std::alloc::Global;
 use std::sync::Wait;
 use turn_lock::{Seat, Turn};
@@ -47,9 +49,15 @@ impl Desk {
         Ok((Desk { turn }, DeskSeat { seat }))
     }
 
-    /// Does an event in one turn, if it is enabled then, and answers the number of its entry. A refusal changes nothing but what
-    /// the seat has seen.
-    pub fn submit<R: Wait>(&self, rt: &R, seat: &mut DeskSeat, event: Event) -> Result<u64, Refused>
+    /// Does an event in one turn, if it is enabled then, and answers the number of its entry. The connections that it replied to are
+    /// added to `told`. A refusal changes nothing but what the seat has seen.
+    pub fn submit<R: Wait>(
+        &self,
+        rt: &R,
+        seat: &mut DeskSeat,
+        event: Event,
+        told: &mut Told,
+    ) -> Result<u64, Refused>
         requires lock { seat_lock seat.old ≡ desk_id self.now }
         requires lawful { IsLawful event }
         ensures lock { seat_lock seat.new ≡ seat_lock seat.old }
@@ -57,12 +65,14 @@ impl Desk {
         ensures ok { IfOk result (λ n. Submits enabled (known_of seat.old) event n (known_of seat.new)) }
         ensures err { OnErr result (Looks (known_of seat.old) (known_of seat.new)) }
         ensures refused { IfErr result (λ e. Refuses e (enabled (known_of seat.new).seen event)) }
+        ensures told { OnOk result (told.new.are ≡ with_told told.old.are (told_by (known_of seat.new).seen)) }
+        ensures untold { OnErr result (told.new ≡ told.old) }
         // A hang-up is never refused for memory.
         ensures hang { IsHang event → IfErr result IsWhy }
     {
         let place = &mut seat.seat;
         let mut held = self.turn.enter(rt, place);
-        match held.value().step(event) {
+        match held.value().step(event, told) {
             Ok(number) => {
                 self.turn.note(place, &mut held);
                 self.turn.leave(place, held);

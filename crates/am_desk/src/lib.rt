@@ -8,6 +8,6 @@ mod settled;
 mod tests;
 
 pub use acme_core::{Core, Event, NoMemory, Refused, Why};
-pub use am_counter::{Ask, Counter, Taken};
+pub use am_counter::{Ask, Counter, Taken, Told};
 pub use am_text::Bytes;
 pub use desk::{Desk, DeskSeat};

@@ -11,7 +11,7 @@ ghost use Rattle.acme_core.specs.Run.{enabled, output_at, settled, Refuses, IsHa
 ghost use Rattle.am_desk.specs.Knowing.{nothing_taken};
 
 use acme_core::{Ask, Bytes, Core, Event, Items, NoMemory, Refused};
-use am_counter::Taken;
+use am_counter::{Taken, Told};
 use std::alloc::Global;
 use turn_lock::Kept;
 
@@ -46,7 +46,9 @@ impl Kept for Settled {
 }
 
 impl Settled {
+    ghost use Rattle.am_counter.specs.Telling.{with_told};
     ghost use Rattle.am_desk.specs.Journals.{journal_of};
+    ghost use Rattle.am_desk.specs.Replies.{told_by};
 
     /// The empty editor.
     pub fn new(alloc: Global) -> Result<Settled, NoMemory>
@@ -56,8 +58,8 @@ impl Settled {
         Ok(Settled { alloc, core })
     }
 
-    /// One step of the core.
-    pub fn step(&mut self, event: Event) -> Result<u64, Refused>
+    // One step of the core.
+    fn step_alone(&mut self, event: Event) -> Result<u64, Refused>
         requires { IsLawful event }
         ensures ok { IfOk result (λ n. (enabled (journal_of self.old) event ≡ None) × (n ≡ length (journal_of self.old) + 1)) }
         ensures done { OnOk result (journal_of self.new ≡ journal_of self.old ++ event ∷ []) }
@@ -70,6 +72,38 @@ impl Settled {
         let _entries = self.core.journal().len();
         self.core.events_were_enabled();
         answer
+    }
+
+    // Adds the connections that the last entry replied to.
+    fn tell(&self, told: &mut Told)
+        ensures { told.new.are ≡ with_told told.old.are (told_by (journal_of self.now)) }
+    {
+        let mut k = 0;
+        while let Some((conn, _)) = self.core.last_reply(k) {
+            told.add(conn);
+            k += 1;
+        }
+    }
+
+    /// One step of the core. The connections that it replied to are added to `told`.
+    pub fn step(&mut self, event: Event, told: &mut Told) -> Result<u64, Refused>
+        requires { IsLawful event }
+        ensures ok { IfOk result (λ n. (enabled (journal_of self.old) event ≡ None) × (n ≡ length (journal_of self.old) + 1)) }
+        ensures done { OnOk result (journal_of self.new ≡ journal_of self.old ++ event ∷ []) }
+        ensures refused { IfErr result (λ e. Refuses e (enabled (journal_of self.old) event)) }
+        ensures err { OnErr result (journal_of self.new ≡ journal_of self.old) }
+        ensures hang { IsHang event → IfErr result IsWhy }
+        ensures played { IsPlayed enabled (journal_of self.new) }
+        ensures told { OnOk result (told.new.are ≡ with_told told.old.are (told_by (journal_of self.new))) }
+        ensures untold { OnErr result (told.new ≡ told.old) }
+    {
+        match self.step_alone(event) {
+            Ok(number) => {
+                self.tell(told);
+                Ok(number)
+            }
+            Err(refused) => Err(refused),
+        }
     }
 
     /// The answer to a question.
@@ -106,7 +140,7 @@ impl Settled {
         if bytes.is_empty() {
             return Ok(nothing_taken(ended));
         }
-        match self.step(Event::Took { conn }) {
+        match self.step_alone(Event::Took { conn }) {
             Ok(_) => {
                 *into = bytes;
                 Ok(Taken::Bytes)

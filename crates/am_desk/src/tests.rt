@@ -3,7 +3,7 @@
 ghost use Rattle.std.specs.Prelude.{◌≡◌};
 ghost use Rattle.am_desk.specs.Desks.{desk_id, seat_lock, known_of};
 
-use crate::{Desk, DeskSeat, Event, Refused};
+use crate::{Desk, DeskSeat, Event, Refused, Told};
 use std::sync::Wait;
 use std::test::Fail;
 
@@ -13,7 +13,7 @@ fn submit<R: Wait>(rt: &R, desk: &Desk, seat: &mut DeskSeat) -> Result<u64, Refu
     ensures lock { seat_lock seat.new ≡ seat_lock seat.old }
     ensures parts { (known_of seat.new).parts ≡ (known_of seat.old).parts }
 {
-    desk.submit(rt, seat, Event::New)
+    desk.submit(rt, seat, Event::New, &mut Told::none())
 }
 
 #[test]

@@ -4,17 +4,17 @@ ghost use Rattle.std.specs.Prelude.{◌≡◌, ◌<◌, true};
 ghost use Rattle.am_counter.specs.Played.{IsPlayed, has_dial, has_hang};
 ghost use Rattle.am_serve.specs.Gained.{HangsUp};
 
-use am_counter::Counter;
+use crate::bells::Bells;
+use am_counter::{Counter, Told};
 use am_journal::{Ending, Event};
 use std::sync::Wait;
-use turn_lock::Bell;
 
 /// Ends a connection, unless it has ended, and answers whether it did.
 pub(crate) fn hang_up<C: Counter, R: Wait>(
     rt: &R,
     desk: &C,
     seat: &mut C::Seat,
-    bell: &Bell,
+    bells: &Bells,
     conn: u32,
     why: Ending,
 ) -> bool
@@ -26,9 +26,11 @@ pub(crate) fn hang_up<C: Counter, R: Wait>(
     ensures hangs_up { HangsUp (C.known seat.old) conn why result (C.known seat.new) }
     ensures ended { has_hang (C.known seat.new).seen conn ≡ true }
 {
-    match desk.submit(rt, seat, Event::Hang { conn, why }) {
+    let mut told = Told::none();
+    match desk.submit(rt, seat, Event::Hang { conn, why }, &mut told) {
         Ok(_) => {
-            bell.ring();
+            bells.replied(&told);
+            bells.ended(conn);
             true
         }
         Err(_) => false,

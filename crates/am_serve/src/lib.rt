@@ -2,7 +2,9 @@
 #![tactic(auto)]
 
 mod asked;
+mod bells;
 mod budget;
+mod due;
 mod hanging;
 mod laws;
 mod reading;
@@ -11,6 +13,7 @@ mod sending;
 mod writing;
 
 pub use asked::Asked;
+pub use bells::Bells;
 pub use laws::what_stands_next_decides;
 pub use reading::read_side;
 pub use scripting::{LineFault, ScriptEnd, script_side};

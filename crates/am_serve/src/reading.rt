@@ -9,7 +9,9 @@ ghost use Rattle.am_serve.specs.Reading.{AreRead, GivesOf, spellings};
 ghost use Rattle.am_serve.specs.Sending.{HasEnded, ReadUntil};
 ghost use Rattle.am_serve.specs.declared.sending.Stop.TheVariants as stop;
 
+use crate::bells::Bells;
 use crate::budget::Budget;
+use crate::due::Due;
 use crate::hanging::hang_up;
 use crate::sending::{Stop, read_more, send_message};
 use am_base::Source;
@@ -20,7 +22,6 @@ use ninep_cut::{Cut, Cutter, pieces_are_joined};
 use ninep_types::WireFault;
 use std::alloc::Global;
 use std::sync::Wait;
-use turn_lock::Bell;
 
 // Submits messages until something stops it.
 fn read_messages<C: Counter, S: Source, R: Wait>(
@@ -28,7 +29,7 @@ fn read_messages<C: Counter, S: Source, R: Wait>(
     alloc: Global,
     desk: &C,
     seat: &mut C::Seat,
-    bell: &Bell,
+    due: &mut Due<'_>,
     conn: u32,
     source: &mut S,
 ) -> Stop
@@ -55,12 +56,12 @@ fn read_messages<C: Counter, S: Source, R: Wait>(
                 if !budget.spend(bytes.len()) {
                     return Stop::Ends(Ending::Spent);
                 }
-                if let Err(stop) = send_message(rt, alloc, desk, seat, bell, conn, bytes) {
+                if let Err(stop) = send_message(rt, alloc, desk, seat, due, conn, bytes) {
                     return stop;
                 }
             }
             Ok(Cut::More) => {
-                if let Err(stop) = read_more(rt, desk, seat, bell, conn, source, &mut cutter) {
+                if let Err(stop) = read_more(rt, desk, seat, due, conn, source, &mut cutter) {
                     return stop;
                 }
             }
@@ -72,8 +73,8 @@ fn read_messages<C: Counter, S: Source, R: Wait>(
 }
 
 /// Cuts a source into messages and submits each, until something ends the connection, and answers the cause of the hang-up that it
-/// makes then, or `None` where the connection had ended. It holds reading, and waits for the bell, while the connection has no room for a
-/// reply, and rings it after each entry. The causes: `End` and `Torn` at the end of the source, between two messages or inside one,
+/// makes then, or `None` where the connection had ended. It holds reading, and waits for its bell, while the connection has no room for a
+/// reply. It rings for the sides that its entries did something for, once for the messages of a piece. The causes: `End` and `Torn` at the end of the source, between two messages or inside one,
 /// `ReadFault` where the source fails, `Spent` where the next message would be the 1,000,001st, or would bring the bytes of all above
 /// 67,108,864, `Broken` where the next message can't be read, is above the connection's msize or has a tag that waits, in this order, and
 /// `NoMemory`.
@@ -82,7 +83,7 @@ pub fn read_side<C: Counter, S: Source, R: Wait>(
     alloc: Global,
     desk: &C,
     seat: &mut C::Seat,
-    bell: &Bell,
+    bells: &Bells,
     conn: u32,
     source: &mut S,
 ) -> Option<Ending>
@@ -102,10 +103,13 @@ pub fn read_side<C: Counter, S: Source, R: Wait>(
     ensures fault { result ≡ Some ending.ReadFault → HasRisen (S.faults source.old) (S.faults source.new) }
     ensures later { S.faults source.old ≤ S.faults source.new }
 {
-    match read_messages(rt, alloc, desk, seat, bell, conn, source) {
+    let mut due = Due::new(bells);
+    let stop = read_messages(rt, alloc, desk, seat, &mut due, conn, source);
+    due.ring();
+    match stop {
         Stop::Ended => None,
         Stop::Ends(why) => {
-            if hang_up(rt, desk, seat, bell, conn, why) {
+            if hang_up(rt, desk, seat, bells, conn, why) {
                 Some(why)
             } else {
                 None

@@ -9,12 +9,12 @@ ghost use Rattle.am_serve.specs.Script.{HaveEnded, EndsScript, asked_by_script, 
 ghost use Rattle.am_serve.specs.Doing.{DoesLine, DoesEvent, GoesOn};
 
 use crate::asked::{Asked, asked_by};
-use am_counter::{Ask, Counter};
+use crate::bells::Bells;
+use am_counter::{Ask, Counter, Told};
 use am_journal::{Event, Refused, Why};
 use am_text::{NoMemory, split_line};
 use std::alloc::Global;
 use std::sync::Wait;
-use turn_lock::Bell;
 
 /// Why a line of a script is refused.
 #[derive(Clone, Copy, Debug, PartialEq, Eq)]
@@ -69,7 +69,7 @@ fn await_window<C: Counter, R: Wait>(
     rt: &R,
     desk: &C,
     seat: &mut C::Seat,
-    bell: &Bell,
+    bells: &Bells,
     window: u32,
     clients: u32,
 ) -> bool
@@ -90,7 +90,7 @@ fn await_window<C: Counter, R: Wait>(
         if alone {
             return false;
         }
-        rung = bell.wait(rt, rung);
+        rung = bells.wait_for_script(rt, rung);
     }
     unreachable!()
 }
@@ -99,7 +99,7 @@ fn submit<C: Counter, R: Wait>(
     rt: &R,
     desk: &C,
     seat: &mut C::Seat,
-    bell: &Bell,
+    bells: &Bells,
     event: Event,
 ) -> LineEnd
     requires fits { C.fits desk.now seat.old }
@@ -107,9 +107,10 @@ fn submit<C: Counter, R: Wait>(
     ensures fits { C.fits desk.now seat.new }
     ensures does { DoesEvent C.enabled (C.known seat.old) event result (C.known seat.new) }
 {
-    match desk.submit(rt, seat, event) {
+    let mut told = Told::none();
+    match desk.submit(rt, seat, event, &mut told) {
         Ok(_) => {
-            bell.ring();
+            bells.replied(&told);
             LineEnd::Passed
         }
         Err(Refused::NotEnabled(why)) => LineEnd::Refused(LineFault::NotEnabled(why)),
@@ -122,7 +123,7 @@ fn do_line<C: Counter, R: Wait>(
     alloc: Global,
     desk: &C,
     seat: &mut C::Seat,
-    bell: &Bell,
+    bells: &Bells,
     line: &[u8],
     clients: u32,
 ) -> LineEnd
@@ -132,9 +133,9 @@ fn do_line<C: Counter, R: Wait>(
     ensures does { DoesLine C.enabled C.answer clients (C.known seat.old) (asked_by line.now) result (C.known seat.new) }
 {
     match asked_by(alloc, line) {
-        Ok(Asked::Does(event)) => submit(rt, desk, seat, bell, event),
+        Ok(Asked::Does(event)) => submit(rt, desk, seat, bells, event),
         Ok(Asked::Awaits(window)) => {
-            if await_window(rt, desk, seat, bell, window, clients) {
+            if await_window(rt, desk, seat, bells, window, clients) {
                 LineEnd::Passed
             } else {
                 LineEnd::Refused(LineFault::Alone)
@@ -148,13 +149,14 @@ fn do_line<C: Counter, R: Wait>(
 
 /// Does the lines of a script, one after another, up to a line `report` or the end. These are the lines of a transcript but `dial`,
 /// `msg`, `hang` and `took`, and `await W` beside them, which waits until window W's event file is open. It is alone where that
-/// isn't open and all of the first `clients` connections have ended. It rings the bell after each entry.
+/// isn't open and all of the first `clients` connections have ended. It rings for
+/// the connections that its entries replied to.
 pub fn script_side<C: Counter, R: Wait>(
     rt: &R,
     alloc: Global,
     desk: &C,
     seat: &mut C::Seat,
-    bell: &Bell,
+    bells: &Bells,
     script: &[u8],
     clients: u32,
 ) -> ScriptEnd
@@ -168,7 +170,7 @@ pub fn script_side<C: Counter, R: Wait>(
     let mut line: u64 = 1;
     while !rest.is_empty() {
         let (first, after) = split_line(rest);
-        match do_line(rt, alloc, desk, seat, bell, first, clients) {
+        match do_line(rt, alloc, desk, seat, bells, first, clients) {
             LineEnd::Passed => {
                 rest = after;
                 line += 1;

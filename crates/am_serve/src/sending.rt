@@ -8,15 +8,16 @@ ghost use Rattle.am_counter.specs.Known.{Looks};
 ghost use Rattle.am_counter.specs.Played.{has_dial};
 ghost use Rattle.am_serve.specs.Sending.{HasEnded, Sends, Keeps, Tries, sent_for, EndsIn, StopsIn, source_with};
 
+use crate::bells::Bells;
+use crate::due::Due;
 use am_base::Source;
 use am_counter::{Ask, Counter};
 use am_journal::{Bad, Ending, Event, Refused, Why};
 use ninep_cut::Cutter;
-use ninep_types::WireError;
+use ninep_types::{TBody, WireError};
 use ninep_wire::read_t;
 use std::alloc::Global;
 use std::sync::Wait;
-use turn_lock::Bell;
 
 /// Why reading stopped.
 #[derive(Clone, Copy, Debug, PartialEq, Eq)]
@@ -41,7 +42,7 @@ pub(crate) fn wait_for_room<C: Counter, R: Wait>(
     rt: &R,
     desk: &C,
     seat: &mut C::Seat,
-    bell: &Bell,
+    bells: &Bells,
     conn: u32,
 ) -> bool
     requires fits { C.fits desk.now seat.old }
@@ -59,7 +60,7 @@ pub(crate) fn wait_for_room<C: Counter, R: Wait>(
         if desk.look(rt, seat, Ask::Room(conn)) {
             return true;
         }
-        rung = bell.wait(rt, rung);
+        rung = bells.wait_for_room(rt, conn, rung);
     }
     unreachable!()
 }
@@ -82,7 +83,7 @@ fn try_message<C: Counter, R: Wait>(
     alloc: Global,
     desk: &C,
     seat: &mut C::Seat,
-    bell: &Bell,
+    due: &mut Due<'_>,
     conn: u32,
     message: &[u8],
 ) -> Sent
@@ -94,26 +95,29 @@ fn try_message<C: Counter, R: Wait>(
     ensures tries { Tries C.enabled conn (C.known seat.old) message.now result (C.known seat.new) }
 {
     match read_t(alloc, message) {
-        Ok(msg) => match desk.submit(rt, seat, Event::Msg { conn, msg }) {
-            Ok(_) => {
-                bell.ring();
-                Sent::Done
+        Ok(msg) => {
+            let opens = matches!(&msg.body, TBody::Open { .. });
+            match desk.submit(rt, seat, Event::Msg { conn, msg }, &mut due.told) {
+                Ok(_) => {
+                    due.opened |= opens;
+                    Sent::Done
+                }
+                Err(Refused::NotEnabled(why)) => sent_for(why),
+                Err(Refused::NoMemory) => Sent::Stops(Stop::Ends(Ending::NoMemory)),
             }
-            Err(Refused::NotEnabled(why)) => sent_for(why),
-            Err(Refused::NoMemory) => Sent::Stops(Stop::Ends(Ending::NoMemory)),
-        },
+        }
         Err(WireError::Fault(fault)) => Sent::Stops(Stop::Ends(Ending::Broken(Bad::Wire(fault)))),
         Err(WireError::NoMemory) => Sent::Stops(Stop::Ends(Ending::NoMemory)),
     }
 }
 
-/// Submits the message that the bytes spell, once there is room for its reply.
+/// Submits the message that the bytes spell, once there is room for its reply. It rings for what is due before it waits for that.
 pub(crate) fn send_message<C: Counter, R: Wait>(
     rt: &R,
     alloc: Global,
     desk: &C,
     seat: &mut C::Seat,
-    bell: &Bell,
+    due: &mut Due<'_>,
     conn: u32,
     message: &[u8],
 ) -> Result<(), Stop>
@@ -126,13 +130,14 @@ pub(crate) fn send_message<C: Counter, R: Wait>(
     ensures err { IfErr result (λ stop. Keeps C.enabled conn (C.known seat.old) message.now stop (C.known seat.new)) }
 {
     for _ in rt.forever() {
-        match try_message(rt, alloc, desk, seat, bell, conn, message) {
+        match try_message(rt, alloc, desk, seat, due, conn, message) {
             Sent::Done => return Ok(()),
             Sent::Stops(stop) => return Err(stop),
             Sent::Waits => {}
         }
         // The event was dropped, and is read anew.
-        if !wait_for_room(rt, desk, seat, bell, conn) {
+        due.ring();
+        if !wait_for_room(rt, desk, seat, due.bells(), conn) {
             return Err(Stop::Ended);
         }
     }
@@ -165,12 +170,12 @@ fn read_piece<S: Source>(source: &mut S, cutter: &mut Cutter) -> Result<(), Endi
     }
 }
 
-/// Reads a piece, once there is room for a reply.
+/// Rings for what is due, and reads a piece, once there is room for a reply.
 pub(crate) fn read_more<C: Counter, S: Source, R: Wait>(
     rt: &R,
     desk: &C,
     seat: &mut C::Seat,
-    bell: &Bell,
+    due: &mut Due<'_>,
     conn: u32,
     source: &mut S,
     cutter: &mut Cutter,
@@ -184,7 +189,8 @@ pub(crate) fn read_more<C: Counter, S: Source, R: Wait>(
         (source_with (S.left source.old) (S.left source.new) (S.faults source.old) (S.faults source.new) cutter.old)) }
     ensures later { S.faults source.old ≤ S.faults source.new }
 {
-    if !wait_for_room(rt, desk, seat, bell, conn) {
+    due.ring();
+    if !wait_for_room(rt, desk, seat, due.bells(), conn) {
         return Err(Stop::Ended);
     }
     match read_piece(source, cutter) {

@@ -7,6 +7,7 @@ ghost use Rattle.am_serve.specs.Gained.{Gains, gained};
 ghost use Rattle.am_serve.specs.Writing.{AreWritten, Gets, taken_bytes, Wrote};
 ghost use Rattle.am_serve.specs.declared.writing.WriteEnd.TheVariants as end;
 
+use crate::bells::Bells;
 use crate::hanging::hang_up;
 use am_base::{Sink, write_all};
 use am_counter::{Counter, Taken};
@@ -14,7 +15,6 @@ use am_journal::Ending;
 use am_text::{Bytes, Items, NoMemory};
 use std::alloc::Global;
 use std::sync::Wait;
-use turn_lock::Bell;
 
 /// Why a side stopped writing.
 #[derive(Clone, Copy, Debug, PartialEq, Eq)]
@@ -33,7 +33,7 @@ fn write_replies<C: Counter, K: Sink, R: Wait>(
     alloc: Global,
     desk: &C,
     seat: &mut C::Seat,
-    bell: &Bell,
+    bells: &Bells,
     conn: u32,
     sink: &mut K,
 ) -> WriteEnd
@@ -51,12 +51,12 @@ fn write_replies<C: Counter, K: Sink, R: Wait>(
     for _ in rt.forever() {
         match desk.take(rt, seat, conn, &mut replies) {
             Ok(Taken::Bytes) => {
-                bell.ring();
+                bells.taken(conn);
                 if write_all(sink, replies.as_slice()).is_err() {
                     return WriteEnd::Gone;
                 }
             }
-            Ok(Taken::NothingYet) => rung = bell.wait(rt, rung),
+            Ok(Taken::NothingYet) => rung = bells.wait_for_replies(rt, conn, rung),
             Ok(Taken::Ended) => return WriteEnd::Ended,
             Err(NoMemory) => return WriteEnd::NoMemory,
         }
@@ -65,14 +65,14 @@ fn write_replies<C: Counter, K: Sink, R: Wait>(
 }
 
 /// Takes the replies of a connection and writes them, until it has ended and none is left. Where the sink fails, or memory runs
-/// out, it ends the connection, unless that has ended. It rings the bell after each entry, and waits for it where there is no
-/// reply yet.
+/// out, it ends the connection, unless that has ended. It rings where it has taken replies, and where it has ended the connection, and waits
+/// for its bell where there is no reply yet.
 pub fn write_side<C: Counter, K: Sink, R: Wait>(
     rt: &R,
     alloc: Global,
     desk: &C,
     seat: &mut C::Seat,
-    bell: &Bell,
+    bells: &Bells,
     conn: u32,
     sink: &mut K,
 ) -> WriteEnd
@@ -91,14 +91,14 @@ pub fn write_side<C: Counter, K: Sink, R: Wait>(
     ensures later { K.faults sink.old ≤ K.faults sink.new }
     ensures gone { result ≡ end.Gone → HasRisen (K.faults sink.old) (K.faults sink.new) }
 {
-    let end = write_replies(rt, alloc, desk, seat, bell, conn, sink);
+    let end = write_replies(rt, alloc, desk, seat, bells, conn, sink);
     match end {
         WriteEnd::Ended => {}
         WriteEnd::Gone => {
-            hang_up(rt, desk, seat, bell, conn, Ending::Gone);
+            hang_up(rt, desk, seat, bells, conn, Ending::Gone);
         }
         WriteEnd::NoMemory => {
-            hang_up(rt, desk, seat, bell, conn, Ending::NoMemory);
+            hang_up(rt, desk, seat, bells, conn, Ending::NoMemory);
         }
     }
     end

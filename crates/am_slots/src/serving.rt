@@ -10,14 +10,13 @@ ghost use Rattle.am_slots.specs.Working.{DidRead, DidWrite, HasDialled, IsFresh,
 use crate::slot::{Objects, Slot};
 use crate::working::Worker;
 use am_base::{Gate, Link, Sink, Source};
-use am_counter::{Counter, Seats};
+use am_counter::{Counter, Seats, Told};
 use am_journal::{Ending, Event};
-use am_serve::{WriteEnd, read_side, write_side};
+use am_serve::{Bells, WriteEnd, read_side, write_side};
 use std::alloc::Global;
 use std::mem;
 use std::sync::Wait;
 use std::thread::{Threads, join_mut};
-use turn_lock::Bell;
 
 // The two sides of a connection, at once.
 fn serve_sides<
@@ -30,7 +29,7 @@ fn serve_sides<
     rt: &R,
     alloc: Global,
     desk: &C,
-    bell: &Bell,
+    bells: &Bells,
     seat: &mut T,
     other: &mut T,
     conn: u32,
@@ -48,8 +47,8 @@ fn serve_sides<
 {
     join_mut(
         rt,
-        &mut || read_side(rt, alloc, desk, seat, bell, conn, reader),
-        &mut || write_side(rt, alloc, desk, other, bell, conn, writer),
+        &mut || read_side(rt, alloc, desk, seat, bells, conn, reader),
+        &mut || write_side(rt, alloc, desk, other, bells, conn, writer),
     )
 }
 
@@ -66,7 +65,7 @@ fn serve_connection<
     rt: &R,
     alloc: Global,
     desk: &C,
-    bell: &Bell,
+    bells: &Bells,
     seat: &mut T,
     conn: u32,
     objects: Objects<G, L, S, K>,
@@ -91,7 +90,7 @@ fn serve_connection<
         rt,
         alloc,
         desk,
-        bell,
+        bells,
         seat,
         &mut other,
         conn,
@@ -115,7 +114,7 @@ fn serve_gate<
     rt: &R,
     alloc: Global,
     desk: &C,
-    bell: &Bell,
+    bells: &Bells,
     seat: &mut T,
     conn: u32,
     gate: G,
@@ -145,11 +144,9 @@ fn serve_gate<
         reader,
         writer,
     };
-    match desk.submit(rt, seat, Event::Dial { conn }) {
-        Ok(_) => {
-            bell.ring();
-            serve_connection(rt, alloc, desk, bell, seat, conn, objects)
-        }
+    // Nobody waits for a dialling, and it replies to none.
+    match desk.submit(rt, seat, Event::Dial { conn }, &mut Told::none()) {
+        Ok(_) => serve_connection(rt, alloc, desk, bells, seat, conn, objects),
         Err(_) => Slot::Undialled(objects),
     }
 }
@@ -163,7 +160,7 @@ pub(crate) fn serve_slot<
     S: Source + Drop + Send,
     K: Sink + Drop + Send,
     R: Threads + Wait + Sync,
->(rt: &R, alloc: Global, desk: &C, bell: &Bell, conn: u32, worker: &mut Worker<T, G, L, S, K>)
+>(rt: &R, alloc: Global, desk: &C, bells: &Bells, conn: u32, worker: &mut Worker<T, G, L, S, K>)
     requires ready { IsReady (C.fits desk.now) C.known G.faults worker.old }
     requires conn { conn < 64 }
     ensures { Works (C.fits desk.now) C.known (outside G.name G.faults L.begins L.faults S.left S.faults K.held K.faults)
@@ -171,7 +168,7 @@ pub(crate) fn serve_slot<
 {
     let slot = mem::replace(&mut worker.slot, Slot::Unbound);
     worker.slot = match slot {
-        Slot::Bound(gate) => serve_gate(rt, alloc, desk, bell, &mut worker.seat, conn, gate),
+        Slot::Bound(gate) => serve_gate(rt, alloc, desk, bells, &mut worker.seat, conn, gate),
         slot => slot,
     };
 }

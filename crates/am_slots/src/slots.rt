@@ -15,12 +15,11 @@ use crate::slot::{HostSlots, Slots};
 use crate::working::{Worker, gather, hire};
 use am_base::{Gate, Host, Link, Sink, Source};
 use am_counter::{Counter, Seats};
-use am_serve::{ScriptEnd, script_side};
+use am_serve::{Bells, ScriptEnd, script_side};
 use am_text::NoMemory;
 use std::alloc::Global;
 use std::sync::Wait;
 use std::thread::{Threads, for_each_mut, join_mut};
-use turn_lock::Bell;
 
 // Serves each worker, all at once.
 fn serve_each<W: Send, F: Fn(usize, &mut W) + Sync, R: Threads + Sync>(
@@ -43,7 +42,7 @@ fn do_script<C: Seats<Seat = T>, T, R: Wait>(
     rt: &R,
     alloc: Global,
     desk: &C,
-    bell: &Bell,
+    bells: &Bells,
     script: &[u8],
     clients: u32,
     seat: &mut T,
@@ -54,7 +53,7 @@ fn do_script<C: Seats<Seat = T>, T, R: Wait>(
     ensures gains { Gains (C.known seat.old) (gained (C.known seat.old) (C.known seat.new)) (C.known seat.new) }
     ensures ends { EndsScript C.enabled C.answer clients (C.known seat.old) (asked_by_script script.now) result (C.known seat.new) }
 {
-    script_side(rt, alloc, desk, seat, bell, script, clients)
+    script_side(rt, alloc, desk, seat, bells, script, clients)
 }
 
 // Serves each worker, and does the script beside them.
@@ -68,7 +67,7 @@ fn serve_beside<
     rt: &R,
     alloc: Global,
     desk: &C,
-    bell: &Bell,
+    bells: &Bells,
     script: &[u8],
     clients: u32,
     serve: &F,
@@ -89,7 +88,7 @@ fn serve_beside<
             requires { AcceptsEach F.Fn serve.now workers.now }
             ensures { ServesEach F.Fn serve.entry.now workers.entry.now workers.exit.now }
         { serve_each(rt, workers, serve) },
-        &mut || do_script(rt, alloc, desk, bell, script, clients, seat),
+        &mut || do_script(rt, alloc, desk, bells, script, clients, seat),
     );
     end
 }
@@ -107,6 +106,7 @@ fn serve_workers<
     rt: &R,
     alloc: Global,
     desk: &C,
+    bells: &Bells,
     seat: &mut T,
     workers: &mut [Worker<T, G, L, S, K>],
     script: &[u8],
@@ -122,15 +122,13 @@ fn serve_workers<
     ensures works { EachWorks (C.fits desk.now) C.known (outside G.name G.faults L.begins L.faults S.left S.faults K.held K.faults)
         C.enabled C.unsent workers.old workers.new }
 {
-    let bell = Bell::new();
-    let bell = &bell;
     let serve = |conn: usize, worker: &mut Worker<T, G, L, S, K>|
         requires { (conn < 64) × IsReady (C.fits desk.now) C.known G.faults worker.now }
         ensures { Works (C.fits desk.entry.now) C.known (outside G.name G.faults L.begins L.faults S.left S.faults K.held K.faults)
             C.enabled C.unsent conn worker.entry.now worker.exit.now }
-    { serve_slot(rt, alloc, desk, bell, conn as u32, worker) };
+    { serve_slot(rt, alloc, desk, bells, conn as u32, worker) };
     serve_beside(
-        rt, alloc, desk, bell, script, clients, &serve, workers, seat,
+        rt, alloc, desk, bells, script, clients, &serve, workers, seat,
     )
 }
 
@@ -168,11 +166,13 @@ fn serve_bound<
 {
     let slots = Vec::with_capacity(alloc, bound.len())?;
     let workers = Vec::with_capacity(alloc, bound.len())?;
+    let bells = Bells::new(alloc)?;
     let mut workers = hire(desk, seat, bound, workers);
     let end = serve_workers(
         rt,
         alloc,
         desk,
+        &bells,
         seat,
         workers.as_mut_slice(),
         script,

@@ -1,0 +1,103 @@
+//! The bells that the sides of connections and of a script wait for.
+
+ghost use Rattle.std.specs.Prelude.{◌≡◌, ◌≢◌, ◌<◌, IfOk, length};
+
+use am_counter::Told;
+use am_text::NoMemory;
+use std::alloc::Global;
+use std::sync::Wait;
+use turn_lock::Bell;
+
+/// How many connections there are at most.
+const CONNECTIONS: usize = 64;
+
+/// The bells of one connection.
+#[derive(Drop)]
+struct Pair {
+    // Rings where replies were made to the connection, for the side that writes.
+    replies: Bell,
+    // Rings where its replies were taken, for the side that reads and waits for room.
+    room: Bell,
+}
+
+/// A bell for each side of each connection, and one for a script. A side waits for its own alone, so an entry wakes those sides alone for
+/// which it did something. That a ring is heard is not claimed.
+#[derive(Drop)]
+pub struct Bells {
+    connections: Vec<Pair>,
+    // Rings where a file was opened, or a connection has ended.
+    script: Bell,
+    ghost all: { length connections.items ≡ 64 },
+}
+
+impl Bells {
+    /// Bells that were not rung. Only want of memory refuses them.
+    pub fn new(alloc: Global) -> Result<Bells, NoMemory> {
+        let mut connections = Vec::with_capacity(alloc, CONNECTIONS)?;
+        for _ in 0..CONNECTIONS {
+            connections.push_reserved(Pair {
+                replies: Bell::new(),
+                room: Bell::new(),
+            });
+        }
+        Ok(Bells {
+            connections,
+            script: Bell::new(),
+        })
+    }
+
+    /// Replies were made to these connections.
+    pub fn replied(&self, told: &Told) {
+        for (conn, pair) in self.connections.iter().enumerate() {
+            if told.has(conn as u32) {
+                pair.replies.ring();
+            }
+        }
+    }
+
+    /// The replies of a connection were taken.
+    pub fn taken(&self, conn: u32)
+        requires { conn < 64 }
+    {
+        self.connections[conn as usize].room.ring();
+    }
+
+    /// A file was opened.
+    pub fn opened(&self) {
+        self.script.ring();
+    }
+
+    /// A connection has ended.
+    pub fn ended(&self, conn: u32)
+        requires { conn < 64 }
+    {
+        let pair = &self.connections[conn as usize];
+        pair.replies.ring();
+        pair.room.ring();
+        self.script.ring();
+    }
+
+    /// Sleeps until replies were made to a connection, or it has ended, since the number `seen`, and answers the number that it found
+    /// then. The first number is 0.
+    pub fn wait_for_replies<R: Wait>(&self, rt: &R, conn: u32, seen: u64) -> u64
+        requires { conn < 64 }
+        ensures { result ≢ seen }
+    {
+        self.connections[conn as usize].replies.wait(rt, seen)
+    }
+
+    /// Sleeps until the replies of a connection were taken, or it has ended, as `wait_for_replies` does.
+    pub fn wait_for_room<R: Wait>(&self, rt: &R, conn: u32, seen: u64) -> u64
+        requires { conn < 64 }
+        ensures { result ≢ seen }
+    {
+        self.connections[conn as usize].room.wait(rt, seen)
+    }
+
+    /// Sleeps until a file was opened, or a connection has ended, as `wait_for_replies` does.
+    pub fn wait_for_script<R: Wait>(&self, rt: &R, seen: u64) -> u64
+        ensures { result ≢ seen }
+    {
+        self.script.wait(rt, seen)
+    }
+}
