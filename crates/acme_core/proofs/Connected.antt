@@ -16,7 +16,7 @@ use Rattle.am_journal.specs.declared.event.Why.TheVariants as why
 use Rattle.am_journal.specs.Lawful.{IsLawful}
 use Rattle.am_counter.specs.declared.ask.Ask.TheVariants as ask
 use Rattle.am_counter.specs.Laws.{TellsConnections}
-use Rattle.am_counter.specs.Played.{ArePlayed, IsPlayed, has_dial, has_hang, is_dial_of, is_hang_of, hang_why, IsMessageWhy}
+use Rattle.am_counter.specs.Played.{ArePlayed, IsPlayed, has_dial, has_hang, is_dial_of, is_hang_of, dial_why, hang_why, IsMessageWhy}
 use Rattle.acme_core.specs.declared.connection.Connection.{Connection}
 use Rattle.acme_core.specs.declared.connection.Connection.TheVariants.{Undialed, Live, Ended}
 use Rattle.acme_core.specs.Asks.{answer_at, is_ended}
@@ -142,6 +142,12 @@ told_by journal played = told_all [] journal played none_told
 
 -- ---- the law
 
+dial_told : (v : Connection) (d h : Bool) → IsTold v d h → dial_refusal v ≡ cond d (Some why.Dialed) None
+unfolding IsTold
+dial_told Undialed d h told = sym (ap (λ (b : Bool). cond b (Some why.Dialed) None) told.0)
+dial_told Live d h told = sym (ap (λ (b : Bool). cond b (Some why.Dialed) None) told.0)
+dial_told (Ended reason) d h told = sym (ap (λ (b : Bool). cond b (Some why.Dialed) None) told.0)
+
 hang_told : (v : Connection) (d h : Bool) → IsTold v d h → live_refusal v ≡ cond d (cond h (Some why.Ended) None) (Some why.Conn)
 unfolding IsTold
 hang_told Undialed d h told = sym (ap (λ (b : Bool). cond b (cond h (Some why.Ended) None) (Some why.Conn)) told.0)
@@ -175,6 +181,10 @@ message_told journal conn Undialed later told h = told.0
 message_told journal conn Live later told h = h
 message_told journal conn (Ended reason) later told h = told.1
 
+dial_law : (journal : List Event) (conn : ℕ) → IsPlayed enabled journal → enabled journal (event.Dial conn) ≡ dial_why journal conn
+dial_law journal conn played =
+    dial_told (connection_at (run journal).connections conn) (has_dial journal conn) (has_hang journal conn) ((told_by journal played).told conn)
+
 hang_law : (journal : List Event) (conn : ℕ) (reason : Ending) → IsPlayed enabled journal → enabled journal (event.Hang conn reason) ≡ hang_why journal conn
 hang_law journal conn reason played =
     hang_told (connection_at (run journal).connections conn) (has_dial journal conn) (has_hang journal conn) ((told_by journal played).told conn)
@@ -197,6 +207,7 @@ ended_law journal conn played =
 
 pub tells_connections : TellsConnections enabled answer_at
 tells_connections = record {
+  dial = λ journal conn played inside. dial_law journal conn played;
   hang = λ journal conn reason played inside. hang_law journal conn reason played;
   message = λ journal conn msg played inside. message_law journal conn msg played;
   ended = λ journal conn played inside. ended_law journal conn played;

@@ -5,7 +5,7 @@ use Rattle.am_base.specs.Outside.{HasRisen}
 use Rattle.am_base.specs.Written.{Output}
 use Rattle.am_journal.specs.declared.event.Event.{Event}
 use Rattle.am_journal.specs.Lawful.{IsInRange}
-use Rattle.am_counter.specs.Played.{ArePlayed, IsPlayed}
+use Rattle.am_counter.specs.Played.{IsPlayed}
 use Rattle.acme_core.specs.Run.{enabled}
 use Rattle.am_drill.specs.declared.driving.DrillEnd.{DrillEnd}
 use Rattle.am_drill.specs.declared.driving.DrillEnd.TheVariants as end
@@ -13,14 +13,9 @@ use Rattle.am_drill.specs.Drill.{events}
 use Rattle.am_drill.specs.Ends.{DrillSays}
 use Rattle.acmefs.specs.Ends.{drill_code, Drilled, IsDrilled}
 use Rattle.acmefs.specs.Own.{RoundTrips}
-use Rattle.acmefs.proofs.RoundTrip.{AreDone, front-done, trips}
+use Rattle.acmefs.proofs.RoundTrip.{AreDone, done-from, front-done, played-done, trips}
 
 -- ---- the journal
-
-done_from : (before es : List Event) → ArePlayed enabled before es → AllByRecursion IsInRange es → AreDone before es
-unfolding ArePlayed
-done_from before [] played ranged = tt
-done_from before (e ∷ es) played ranged = (played.0, ranged.0, played.1, done_from (before ++ e ∷ []) es played.2 ranged.1)
 
 said-done : (e : DrillEnd) (rounds : ℕ) (o : Output) (journal : List Event) → AreDone [] (events rounds) → DrillSays e rounds o journal → AreDone [] journal
 said-done end.Done rounds o journal d h = subst (AreDone []) (sym h.0) d
@@ -29,7 +24,11 @@ said-done end.NoMemory rounds o journal d h = front-done journal h.0.0 [] (subst
 
 pub drill_trips : (e : DrillEnd) (rounds : ℕ) (o : Output) (journal : List Event) → IsPlayed enabled (events rounds) → AllByRecursion IsInRange (events rounds)
     → DrillSays e rounds o journal → RoundTrips journal
-drill_trips e rounds o journal played ranged says = trips journal (said-done e rounds o journal (done_from [] (events rounds) played ranged) says)
+drill_trips e rounds o journal played ranged says = trips journal (said-done e rounds o journal (done-from [] (events rounds) played ranged) says)
+
+pub drill_played : (e : DrillEnd) (rounds : ℕ) (o : Output) (journal : List Event) → IsPlayed enabled (events rounds) → AllByRecursion IsInRange (events rounds)
+    → DrillSays e rounds o journal → IsPlayed enabled journal
+drill_played e rounds o journal played ranged says = played-done [] journal (said-done e rounds o journal (done-from [] (events rounds) played ranged) says)
 
 -- ---- the status
 

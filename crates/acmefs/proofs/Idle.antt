@@ -4,6 +4,8 @@ use Rattle.std.proofs.lemmas.List.{append-nil}
 use Rattle.am_base.specs.Outside.{AreTold, told_then}
 use Rattle.am_base.specs.Written.{Output}
 use Rattle.am_journal.specs.declared.event.Event.{Event}
+use Rattle.am_counter.specs.Played.{ArePlayed, IsPlayed}
+use Rattle.acme_core.specs.Run.{enabled}
 use Rattle.am_drill.specs.declared.driving.DrillEnd.TheVariants as drilling
 use Rattle.am_drill.specs.Drill.{events}
 use Rattle.am_slots.specs.Slots.{Outside}
@@ -21,6 +23,10 @@ use Rattle.acmefs.proofs.RoundTrip as round
 
 pub trips : (journal : List Event) → journal ≡ [] → RoundTrips journal
 trips journal none = subst RoundTrips (sym none) (round.trips [] tt)
+
+pub plays : (journal : List Event) → journal ≡ [] → IsPlayed enabled journal
+unfolding ArePlayed
+plays journal none = subst (IsPlayed enabled) (sym none) tt
 
 nothing_told : (held : Option (List ℕ)) → held ≡ told_then held []
 nothing_told None = refl

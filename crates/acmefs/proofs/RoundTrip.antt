@@ -11,6 +11,7 @@ use Rattle.am_journal.specs.Line.{line_text, event_of}
 use Rattle.am_journal.specs.Report.{report_text}
 use Rattle.am_journal.proofs.LineLaws.{line-is, line-again}
 use Rattle.am_journal.proofs.JournalLaws.{line-no_report, lines_of-journal, lines_of-report}
+use Rattle.am_counter.specs.Played.{ArePlayed, IsPlayed}
 use Rattle.acme_core.specs.Run.{enabled}
 use Rattle.acme_core.specs.Views.{view_of}
 use Rattle.acmefs.specs.declared.replay.End.{End}
@@ -29,6 +30,17 @@ use Rattle.std.specs.List.{AllByRecursion}
 abbrev pub AreDone : List Event → List Event → Type 0
 AreDone before [] = Unit {0}
 AreDone before (e ∷ es) = IsLawful e × IsInRange e × (enabled before e ≡ None) × AreDone (before ++ e ∷ []) es
+
+-- played events whose numbers fit their fields are done, and those that are done were played
+pub done-from : (before es : List Event) → ArePlayed enabled before es → AllByRecursion IsInRange es → AreDone before es
+unfolding ArePlayed
+done-from before [] played ranged = tt
+done-from before (e ∷ es) played ranged = (played.0, ranged.0, played.1, done-from (before ++ e ∷ []) es played.2 ranged.1)
+
+pub played-done : (before es : List Event) → AreDone before es → ArePlayed enabled before es
+unfolding ArePlayed
+played-done before [] d = tt
+played-done before (e ∷ es) d = (d.0, d.2, played-done (before ++ e ∷ []) es d.3)
 
 pub front-done : (a b before : List Event) → AreDone before (a ++ b) → AreDone before a
 front-done [] b before h = tt
@@ -84,7 +96,7 @@ ran-done ends.ReadFault script o journal d h = absurd h
 ran-done ends.WriteFault script o journal d h = subst (AreDone []) (sym h.0) d
 ran-done ends.NoMemory script o journal d h = front-done journal h.events.0 [] (subst (AreDone []) (sym h.events.1) d)
 
-none-done : (journal : List Event) → journal ≡ [] → AreDone [] journal
+pub none-done : (journal : List Event) → journal ≡ [] → AreDone [] journal
 none-done journal e = subst (AreDone []) (sym e) tt
 
 says-done : (end : End) (told : Option (List ℕ)) (before now : ℕ) (o : Output) (journal : List Event) → Says end told before now o journal → AreDone [] journal
@@ -125,16 +137,20 @@ in_range-done [] before h = tt
 in_range-done (e ∷ es) before h = (h.1, in_range-done es (before ++ e ∷ []) h.3)
 
 pub trips : (journal : List Event) → AreDone [] journal → RoundTrips journal
-trips journal d = λ short.
+trips journal d =
     let report : View = view_of journal in
     let begins = lines_of-report report in
     let lines : lines_of (transcript_of journal) ≡ map line_text journal ++ codes "report" ∷ begins.0 =
     lines_of-journal journal (report_text report) (in_range-done journal [] d) ∙ ap (λ (l : List (List ℕ)). map line_text journal ++ l) begins.1
     in
-    let again : script_of (transcript_of journal) ≡ ended journal =
-    sym (short_script (transcript_of journal) short) ∙ ap (play [] 1) lines ∙ play-again journal [] 1 begins.0 d
-    in
-    record { events = again; text = ap text_of again }
+    let read : play [] 1 (lines_of (transcript_of journal)) ≡ ended journal = ap (play [] 1) lines ∙ play-again journal [] 1 begins.0 d in
+    record {
+      lines = read;
+      again = λ short. let again = sym (short_script (transcript_of journal) short) ∙ read in record { events = again; text = ap text_of again };
+    }
 
 pub says_trips : (end : End) (told : Option (List ℕ)) (before now : ℕ) (o : Output) (journal : List Event) → Says end told before now o journal → RoundTrips journal
 says_trips end told before now o journal h = trips journal (says-done end told before now o journal h)
+
+pub says_played : (end : End) (told : Option (List ℕ)) (before now : ℕ) (o : Output) (journal : List Event) → Says end told before now o journal → IsPlayed enabled journal
+says_played end told before now o journal h = played-done [] journal (says-done end told before now o journal h)

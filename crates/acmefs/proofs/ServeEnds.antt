@@ -1,5 +1,6 @@
 -- What each exit status says where connections are served.
-use Rattle.std.proofs.Common.{◌≡◌, ◌⊎◌, inl, inr, ℕ, Bool, true, false, cond, List, [], ◌∙◌, sym, ap, subst, ⊎_elim, arith}
+use Rattle.std.proofs.Common.{◌≡◌, ◌⊎◌, inl, inr, ℕ, Bool, true, false, cond, List, [], ◌∙◌, Option, Some, None, refl, sym, ap, subst, ⊎_elim, arith}
+use Rattle.std.specs.Prelude.{IfSome}
 use Rattle.std.specs.List.{list_any, AllByRecursion}
 use Rattle.am_base.specs.Outside.{HasRisen}
 use Rattle.am_journal.specs.declared.event.Event.{Event}
@@ -9,13 +10,17 @@ use Rattle.am_slots.specs.Slots.{Outside}
 use Rattle.am_slots.specs.declared.slot.Slot.{Slot}
 use Rattle.am_server.specs.Ends as ends
 use Rattle.am_server.specs.Ends.{SaysServe, Given, AllDone, end_at, end_done, wants_untold, Writes}
+use Rattle.am_server.specs.Complete.{IsComplete}
 use Rattle.am_server.specs.Replied.{GotAll}
+use Rattle.am_server.specs.Sound.{EndsWell}
+use Rattle.am_server.proofs.Completing.{says_complete}
+use Rattle.acmefs.proofs.RoundTrip.{AreDone, done-from, none-done}
 use Rattle.am_server.specs.Texts.{has_failed}
 use Rattle.am_base.specs.Written as put
 use Rattle.am_server.specs.declared.served.Served.{Served}
 use Rattle.am_server.specs.declared.writing.ServeEnd.{ServeEnd}
 use Rattle.am_server.specs.declared.writing.ServeEnd.TheVariants as end
-use Rattle.acmefs.specs.Ends.{serve_code}
+use Rattle.acmefs.specs.Ends.{IsServeComplete, serve_code}
 use Rattle.am_base.specs.Written.{Output}
 
 -- no end of serving has status 1
@@ -106,6 +111,49 @@ module _ {G L S K : Type 0} where
   serve_replied m path clients i o journal served status e is (inr (inl (long, t))) h = none_replied m journal served t.none
   serve_replied m path clients i o journal served status e is (inr (inr (inl w))) h = none_replied m journal served w.1.none
   serve_replied m path clients i o journal served status e is (inr (inr (inr (lines, told, fits, s)))) h = s.replied (all_done e status is h)
+
+module _ {G L S K : Type 0} where
+  -- where nothing was served, none ended otherwise
+  pub none_ended : (m : Outside G L S K) (journal : List Event) (served : List (Served G L S K)) → served ≡ [] → AllByRecursion (EndsWell m journal) served
+  none_ended m journal served none = subst (λ (l : List (Served G L S K)). AllByRecursion (EndsWell m journal) l) (sym none) tt
+
+  -- a connection with sound objects ends well
+  pub serve_sound : (m : Outside G L S K) (path : List ℕ) (clients : ℕ) (i : Given) (o : put.Output) (journal : List Event) (served : List (Served G L S K)) (e : ServeEnd)
+      → SaysServe m path clients i o journal served e → AllByRecursion (EndsWell m journal) served
+  serve_sound m path clients i o journal served e (inl s) = none_ended m journal served s.2.none
+  serve_sound m path clients i o journal served e (inr (inl (long, t))) = none_ended m journal served t.none
+  serve_sound m path clients i o journal served e (inr (inr (inl w))) = none_ended m journal served w.1.none
+  serve_sound m path clients i o journal served e (inr (inr (inr (lines, told, fits, s)))) = s.sound
+
+  -- the journal's events were enabled, and their numbers fit their fields
+  pub serve_done : (m : Outside G L S K) (path : List ℕ) (clients : ℕ) (i : Given) (o : put.Output) (journal : List Event) (served : List (Served G L S K)) (e : ServeEnd)
+      → SaysServe m path clients i o journal served e → AreDone [] journal
+  serve_done m path clients i o journal served e (inl s) = none-done journal s.2.empty
+  serve_done m path clients i o journal served e (inr (inl (long, t))) = none-done journal t.empty
+  serve_done m path clients i o journal served e (inr (inr (inl w))) = none-done journal w.1.empty
+  serve_done m path clients i o journal served e (inr (inr (inr (lines, told, fits, s)))) = done-from [] journal s.played s.in_range
+
+  complete_as : (m : Outside G L S K) (clients : ℕ) (lines : List ℕ) (i : Given) (o : put.Output) (journal : List Event) (served : List (Served G L S K)) (status : ℕ) (e : ServeEnd)
+      → status ≡ serve_code e → IsComplete m clients lines i o journal served e → IsServeComplete status m clients lines i o journal served
+  complete_as m clients lines i o journal served status e is h = λ n. ⊎_elim (λ w. inl (is ∙ ap serve_code w.0, w.1)) (λ w. inr (is ∙ ap serve_code w)) (h n)
+
+  -- a script that tells its bytes is done, and its text written, where nothing fails
+  pub serve_complete : (m : Outside G L S K) (path : List ℕ) (clients : ℕ) (i : Given) (o : put.Output) (journal : List Event) (served : List (Served G L S K)) (status : ℕ) (e : ServeEnd)
+      → status ≡ serve_code e → SaysServe m path clients i o journal served e → IfSome i.told (λ bytes. IsServeComplete status m clients bytes i o journal served)
+  serve_complete m path clients i o journal served status e is says = by_case i.told refl
+    where
+      by_case : (t : Option (List ℕ)) → i.told ≡ t → IfSome t (λ bytes. IsServeComplete status m clients bytes i o journal served)
+      by_case None told = tt
+      by_case (Some bytes) told = complete_as m clients bytes i o journal served status e is (says_complete m path clients bytes i o journal served e told says)
+
+  pub none_complete : (m : Outside G L S K) (clients : ℕ) (told : Option (List ℕ)) (i : Given) (o : put.Output) (journal : List Event) (served : List (Served G L S K)) (status : ℕ)
+      → status ≡ 6 → IfSome told (λ bytes. IsServeComplete status m clients bytes i o journal served)
+  none_complete m clients None i o journal served status is = tt
+  none_complete m clients (Some bytes) i o journal served status is = λ h. inr is
+
+  pub complete_at : (m : Outside G L S K) (a b : ℕ) (told : Option (List ℕ)) (i : Given) (o : put.Output) (journal : List Event) (served : List (Served G L S K)) (status : ℕ)
+      → a ≡ b → IfSome told (λ bytes. IsServeComplete status m a bytes i o journal served) → IfSome told (λ bytes. IsServeComplete status m b bytes i o journal served)
+  complete_at m a b told i o journal served status same h = subst (λ (n : ℕ). IfSome told (λ bytes. IsServeComplete status m n bytes i o journal served)) same h
 
 module _ {G L S K : Type 0} where
   -- a status of serving, and what it says

@@ -3,6 +3,10 @@ use Rattle.std.specs.Prelude.{◌≡◌, ◌⊎◌, ℕ, List, [], Option, Some,
 use Rattle.am_base.specs.Outside.{AreTold, HasRisen}
 use Rattle.am_base.specs.Written.{Output, IsWhole, IsCut}
 use Rattle.am_journal.specs.declared.event.Event.{Event}
+use Rattle.am_slots.specs.Slots.{Outside}
+use Rattle.am_server.specs.Complete.{NothingFails, whole_text}
+use Rattle.am_server.specs.Ends.{Given}
+use Rattle.am_server.specs.declared.served.Served.{Served}
 use Rattle.am_server.specs.declared.writing.ServeEnd.{ServeEnd}
 use Rattle.am_server.specs.declared.writing.ServeEnd.TheVariants as serving
 use Rattle.am_drill.specs.declared.driving.DrillEnd.{DrillEnd}
@@ -93,3 +97,8 @@ Drilled status rounds o journal = (end : DrillEnd) × (status ≡ drill_code end
 abbrev pub IsDrilled : ℕ → ℕ → Output → List Event → Type 0
 IsDrilled status rounds o journal = ¬ HasRisen o.faults o.faults_now
     → ((status ≡ 0) × (journal ≡ events rounds) × IsWhole o (summary (events rounds))) ⊎ (status ≡ 6)
+
+-- Completeness of serving: where no line is refused and no count of faults rises, the whole text is written, or memory runs out.
+abbrev pub IsServeComplete : {G L S K : Type 0} → ℕ → Outside G L S K → ℕ → List ℕ → Given → Output → List Event → List (Served G L S K) → Type 0
+IsServeComplete status m clients script i o journal served =
+    NothingFails m clients script i o journal served → ((status ≡ 0) × IsWhole o (whole_text journal)) ⊎ (status ≡ 6)

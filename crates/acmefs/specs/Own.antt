@@ -1,5 +1,6 @@
 -- A journal's own text, and a journal as a transcript.
-use Rattle.std.specs.Prelude.{◌≡◌, ◌⊎◌, ℕ, ◌≤◌, List, ◌++◌, length}
+use Rattle.std.specs.Prelude.{◌≡◌, ◌⊎◌, ℕ, ◌≤◌, List, [], ◌++◌, length}
+use Rattle.am_text.specs.Lines.{lines_of}
 use Rattle.am_base.specs.Outside.{PutsFront}
 use Rattle.am_base.specs.Stops.{input_limit}
 use Rattle.am_base.specs.Written.{Output, IsWhole, IsCut}
@@ -9,7 +10,7 @@ use Rattle.am_journal.specs.Report.{report_text}
 use Rattle.acme_core.specs.Views.{view_of}
 use Rattle.acmefs.specs.declared.replay.End.{End}
 use Rattle.acmefs.specs.declared.replay.End.TheVariants.{Done, Usage, Script, ReadFault, WriteFault, NoMemory}
-use Rattle.acmefs.specs.Scripts.{Refusal, ended, refused_at, script_of, replied, text_of}
+use Rattle.acmefs.specs.Scripts.{Refusal, ended, refused_at, play, script_of, replied, text_of}
 use Rattle.acmefs.specs.Ends.{IsIdle}
 
 -- the lines of the journal's replies, and then the report of its run
@@ -38,6 +39,8 @@ pub record GivesAgain (bytes : List ℕ) (journal : List Event) : Type 0 where
   pub events : script_of bytes ≡ ended journal
   pub text : text_of (script_of bytes) ≡ replied journal ++ report_text (view_of journal)
 
--- where they are no more bytes than a transcript has
-abbrev pub RoundTrips : List Event → Type 0
-RoundTrips journal = length (transcript_of journal) ≤ input_limit → GivesAgain (transcript_of journal) journal
+-- The lines of the journal, and then the report of its run, ask for the journal's events and no others, each enabled at its place, however
+-- many they are. Where they are no more bytes than a transcript has, they are one.
+pub record RoundTrips (journal : List Event) : Type 0 where
+  pub lines : play [] 1 (lines_of (transcript_of journal)) ≡ ended journal
+  pub again : length (transcript_of journal) ≤ input_limit → GivesAgain (transcript_of journal) journal

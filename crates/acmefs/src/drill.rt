@@ -2,6 +2,8 @@
 
 ghost use Rattle.std.specs.Prelude.{◌≡◌, ◌≤◌};
 ghost use Rattle.am_base.specs.Written.{seen};
+ghost use Rattle.am_counter.specs.Played.{IsPlayed};
+ghost use Rattle.acme_core.specs.Run.{enabled};
 ghost use Rattle.acmefs.specs.Ends.{drill_code, Drilled};
 ghost use Rattle.acmefs.specs.Own.{RoundTrips};
 
@@ -26,8 +28,10 @@ pub fn drill_main<O: Sink>(alloc: Global, rounds: u64, output: &mut O) -> Replay
     requires rounds { (1 ≤ rounds) × (rounds ≤ 100000) }
     ensures drills { Drilled result.status rounds
         (seen (O.held output.old) (O.held output.new) (O.faults output.old) (O.faults output.new)) result.journal }
-    // The journal's lines and then its report are a transcript, where they aren't too long, that gives the same journal
-    // and the same report.
+    // Each event of the journal is lawful, and was enabled at its place.
+    ensures played { IsPlayed enabled result.journal }
+    // The journal's lines and then its report ask for the journal's events again, and are a transcript, where they aren't too long, that
+    // gives the same report.
     ensures round_trip { RoundTrips result.journal }
 {
     drill_is_played();

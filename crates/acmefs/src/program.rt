@@ -4,14 +4,17 @@ ghost use Rattle.std.specs.Prelude.{◌≡◌, ◌⊎◌, ◌≤◌, ℕ, List, 
 ghost use Rattle.std.specs.List.{AllByRecursion};
 ghost use Rattle.am_base.specs.Outside.{HasRisen};
 ghost use Rattle.am_base.specs.Written.{seen};
+ghost use Rattle.am_counter.specs.Played.{IsPlayed};
+ghost use Rattle.acme_core.specs.Run.{enabled};
 ghost use Rattle.core_answers.specs.Laws.{EachIsAnswered};
 ghost use Rattle.acmefs.specs.declared.replay.End.TheVariants as ends;
 ghost use Rattle.acmefs.specs.Scripts.{script_of};
-ghost use Rattle.acmefs.specs.Ends.{Says, IsIdle, RanTold, IsComplete, Drilled, IsDrilled, code_of, serve_code};
+ghost use Rattle.acmefs.specs.Ends.{Says, IsIdle, RanTold, IsComplete, Drilled, IsDrilled, IsServeComplete, code_of, serve_code};
 ghost use Rattle.acmefs.specs.Own.{PutsOwn, RoundTrips};
 ghost use Rattle.am_words.specs.Words.{are_replay, asks_drill, asks_serve, AskServe, AreKnown};
 ghost use Rattle.am_server.specs.Ends.{SaysServe, given};
 ghost use Rattle.am_server.specs.Replied.{GotAll};
+ghost use Rattle.am_server.specs.Sound.{EndsWell};
 ghost use Rattle.am_slots.specs.Slots.{outside};
 
 use crate::drill::drill_main;
@@ -40,6 +43,8 @@ fn replayed<I: Source, O: Sink, H: Host>(alloc: Global, input: &mut I, output: &
     ensures says { (end : _) × (result.status ≡ code_of end)
         × Says end (I.left input.old) (I.faults input.old) (I.faults input.new)
         (seen (O.held output.old) (O.held output.new) (O.faults output.old) (O.faults output.new)) result.journal }
+    ensures played { IsPlayed enabled result.journal }
+    ensures round_trip { RoundTrips result.journal }
     ensures none_served { result.served ≡ [] }
 {
     let ended = replay(alloc, input, output);
@@ -55,6 +60,7 @@ fn drilled<O: Sink, H: Host>(alloc: Global, rounds: u64, output: &mut O) -> Outc
     requires rounds { (1 ≤ rounds) × (rounds ≤ 100000) }
     ensures drills { Drilled result.status rounds
         (seen (O.held output.old) (O.held output.new) (O.faults output.old) (O.faults output.new)) result.journal }
+    ensures played { IsPlayed enabled result.journal }
     ensures round_trip { RoundTrips result.journal }
     ensures none_served { result.served ≡ [] }
 {
@@ -70,6 +76,8 @@ fn drilled<O: Sink, H: Host>(alloc: Global, rounds: u64, output: &mut O) -> Outc
 fn idle<H: Host>(alloc: Global, end: End) -> Outcome<H>
     ensures status { result.status ≡ code_of end }
     ensures journal { result.journal ≡ [] }
+    ensures played { IsPlayed enabled result.journal }
+    ensures round_trip { RoundTrips result.journal }
     ensures none_served { result.served ≡ [] }
 {
     Outcome {
@@ -129,6 +137,16 @@ pub fn serve_main<I: Source, O: Sink, H: Host, R: Threads + Wait + Sync>(
     ensures replied { (result.status ≡ 0) ⊎ (result.status ≡ 4) → AllByRecursion
         (GotAll (outside H.G.name H.G.faults H.G.L.begins H.G.L.faults H.G.L.R.left H.G.L.R.faults H.G.L.W.held H.G.L.W.faults) result.journal)
         result.served }
+    ensures sound { AllByRecursion
+        (EndsWell (outside H.G.name H.G.faults H.G.L.begins H.G.L.faults H.G.L.R.left H.G.L.R.faults H.G.L.W.held H.G.L.W.faults) result.journal)
+        result.served }
+    ensures complete { IfSome (I.left input.old) (λ bytes. IsServeComplete result.status
+        (outside H.G.name H.G.faults H.G.L.begins H.G.L.faults H.G.L.R.left H.G.L.R.faults H.G.L.W.held H.G.L.W.faults) clients bytes
+        (given (I.left input.old) (I.faults input.old) (I.faults input.new) (H.faults host.old) (H.faults host.new))
+        (seen (O.held output.old) (O.held output.new) (O.faults output.old) (O.faults output.new))
+        result.journal result.served) }
+    ensures played { IsPlayed enabled result.journal }
+    ensures round_trip { RoundTrips result.journal }
 {
     outcome_of(serve(rt, alloc, path, clients, input, output, host))
 }
@@ -202,9 +220,24 @@ pub fn acmefs<I: Source, O: Sink, H: Host, R: Threads + Wait + Sync>(
     ensures replied { (result.status ≡ 0) ⊎ (result.status ≡ 4) → AllByRecursion
         (GotAll (outside H.G.name H.G.faults H.G.L.begins H.G.L.faults H.G.L.R.left H.G.L.R.faults H.G.L.W.held H.G.L.W.faults) result.journal)
         result.served }
-    // The journal's lines and then its report are a transcript, where they aren't too long, that gives the same journal
-    // and the same report.
-    ensures round_trip { asks_serve words.now ≡ None → RoundTrips result.journal }
+    // A connection whose source tells whole messages within the limits that may come in their turn ends with the end of its source, or for
+    // want of memory, where neither its source nor its sink has failed.
+    ensures sound { AllByRecursion
+        (EndsWell (outside H.G.name H.G.faults H.G.L.begins H.G.L.faults H.G.L.R.left H.G.L.R.faults H.G.L.W.held H.G.L.W.faults) result.journal)
+        result.served }
+    // No line of the script refused and no fault outside: the whole text, or want of memory.
+    ensures serve_complete { (path : List ℕ) (clients : ℕ) → AskServe words.now path clients → IfSome (I.left input.old) (λ bytes. IsServeComplete result.status
+        (outside H.G.name H.G.faults H.G.L.begins H.G.L.faults H.G.L.R.left H.G.L.R.faults H.G.L.W.held H.G.L.W.faults) clients bytes
+        (given (I.left input.old) (I.faults input.old) (I.faults input.new) (H.faults host.old) (H.faults host.new))
+        (seen (O.held output.old) (O.held output.new) (O.faults output.old) (O.faults output.new))
+        result.journal result.served) }
+    // Only words that ask for serving touch the host.
+    ensures untouched { asks_serve words.now ≡ None → host.new ≡ host.old }
+    // Each event of the journal is lawful, and was enabled at its place.
+    ensures played { IsPlayed enabled result.journal }
+    // The journal's lines and then its report ask for the journal's events again, and are a transcript, where they aren't too long, that
+    // gives the same report.
+    ensures round_trip { RoundTrips result.journal }
     // Each message of the journal is answered by its own R message, unless one of the named refusals applies, whose
     // text is answered then.
     ensures answered { EachIsAnswered }
@@ -231,8 +264,10 @@ pub fn replay_main<I: Source, O: Sink>(alloc: Global, input: &mut I, output: &mu
     // status all of it, or a front.
     ensures own_text { (end : _) × (result.status ≡ code_of end)
         × PutsOwn end (seen (O.held output.old) (O.held output.new) (O.faults output.old) (O.faults output.new)) result.journal }
-    // The journal's lines and then its report are a transcript, where they aren't too long, that gives the same journal
-    // and the same report.
+    // Each event of the journal is lawful, and was enabled at its place.
+    ensures played { IsPlayed enabled result.journal }
+    // The journal's lines and then its report ask for the journal's events again, and are a transcript, where they aren't too long, that
+    // gives the same report.
     ensures round_trip { RoundTrips result.journal }
 {
     let ended = replay(alloc, input, output);

@@ -72,6 +72,10 @@ abbrev pub Refuses : Refused → Option Why → Type 0
 Refuses (NotEnabled why) enabled = enabled ≡ Some why
 Refuses NoMemory enabled = enabled ≡ None
 
+-- the reason why a dialling isn't enabled: its connection was dialled
+abbrev pub dial_why : List Event → ℕ → Option Why
+dial_why journal conn = if has_dial journal conn then Some why.Dialed else None
+
 -- the reason why a hang-up isn't enabled: its connection wasn't dialled, or has ended
 abbrev pub hang_why : List Event → ℕ → Option Why
 hang_why journal conn = if has_dial journal conn then (if has_hang journal conn then Some why.Ended else None) else Some why.Conn

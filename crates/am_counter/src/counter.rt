@@ -3,7 +3,7 @@
 ghost use Rattle.std.specs.Prelude.{◌≡◌, ℕ, ◌<◌, Bool, List, [], Option, Ok, false, true, IfOk, OnOk, OnErr, IfErr};
 ghost use Rattle.am_journal.specs.declared.event.Event.{Event};
 ghost use Rattle.am_journal.specs.declared.event.Why.{Why};
-ghost use Rattle.am_journal.specs.Lawful.{IsLawful};
+ghost use Rattle.am_journal.specs.Lawful.{IsLawful, IsInRange};
 ghost use Rattle.am_counter.specs.declared.ask.Ask.{Ask};
 ghost use Rattle.am_counter.specs.declared.ask.Ask.TheVariants as ask;
 ghost use Rattle.am_counter.specs.declared.ask.Taken.TheVariants as taken;
@@ -36,9 +36,6 @@ pub trait Counter {
     /// The bytes of a connection's unsent replies after a journal.
     ghost unsent: { List Event → ℕ → List ℕ };
 
-    /// The bytes of all replies to a connection that a journal makes.
-    ghost replies: { List Event → ℕ → List ℕ };
-
     /// The answer to a question after a journal.
     ghost answer: { List Event → Ask → Bool };
 
@@ -56,6 +53,7 @@ pub trait Counter {
     ) -> Result<u64, Refused>
         requires fits { fits self.now seat.old }
         requires lawful { IsLawful event }
+        requires in_range { IsInRange event }
         ensures fits { fits self.now seat.new }
         ensures played { IsPlayed enabled (known seat.new).seen }
         ensures ok { IfOk result (λ n. Submits enabled (known seat.old) event n (known seat.new)) }

@@ -10,7 +10,7 @@ impl Counter for Desk {
     ghost use Rattle.acme_core.specs.Asks.{answer_at};
     ghost use Rattle.acme_core.specs.Run.{enabled, output_at};
     ghost use Rattle.am_desk.specs.Desks.{desk_id, seat_lock, known_of};
-    ghost use Rattle.am_desk.specs.Replies.{replies, told_by};
+    ghost use Rattle.am_desk.specs.Replies.{told_by};
     ghost use Rattle.acme_core.proofs.Connected.{tells_connections};
 
     type Seat = DeskSeat;
@@ -22,8 +22,6 @@ impl Counter for Desk {
     ghost enabled = { enabled };
 
     ghost unsent = { output_at };
-
-    ghost replies = { replies };
 
     ghost answer = { answer_at };
 

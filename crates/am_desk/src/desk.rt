@@ -1,10 +1,11 @@
 //! The desk, and its seats.
 
 ghost use Rattle.std.specs.Prelude.{◌≡◌, ◌<◌, ◌≤◌, false, true, [], IfOk, OnOk, OnErr, IfErr, Ok};
+ghost use Rattle.std.specs.List.{AllByRecursion};
 ghost use Rattle.turn_lock.specs.Words.{view_of};
 ghost use Rattle.turn_lock.specs.Journal.{AllStand};
 ghost use Rattle.turn_lock.specs.Kinds.{KeepsOrder};
-ghost use Rattle.am_journal.specs.Lawful.{IsLawful};
+ghost use Rattle.am_journal.specs.Lawful.{IsLawful, IsInRange};
 ghost use Rattle.am_counter.specs.declared.ask.Ask.TheVariants as ask;
 ghost use Rattle.am_counter.specs.declared.ask.Taken.TheVariants as taken;
 ghost use Rattle.am_counter.specs.Known.{Looks, Submits, TakesBytes, without_parts, new_known, lists_of, TakesIn};
@@ -60,6 +61,7 @@ impl Desk {
     ) -> Result<u64, Refused>
         requires lock { seat_lock seat.old ≡ desk_id self.now }
         requires lawful { IsLawful event }
+        requires in_range { IsInRange event }
         ensures lock { seat_lock seat.new ≡ seat_lock seat.old }
         ensures played { IsPlayed enabled (known_of seat.new).seen }
         ensures ok { IfOk result (λ n. Submits enabled (known_of seat.old) event n (known_of seat.new)) }
@@ -189,6 +191,7 @@ impl Desk {
         requires whole { (known_of seat).parts ≡ desk_parts self }
         ensures journal { result ≡ settled (known_of seat).seen }
         ensures played { IsPlayed enabled (known_of seat).seen }
+        ensures in_range { AllByRecursion IsInRange (known_of seat).seen }
         ensures own { AllStand (known_of seat).seen (lists_of (known_of seat)) }
         ensures once { EachOnce (known_of seat) }
         ensures order { KeepsOrder (known_of seat).seen (lists_of (known_of seat)) }

@@ -1,8 +1,9 @@
 //! The value under the lock: a core without a plan that waits.
 
 ghost use Rattle.std.specs.Prelude.{◌≡◌, ◌≢◌, ◌+◌, ◌<◌, ◌^◌, ◌++◌, ◌∷◌, [], None, length, IfOk, OnOk, OnErr, IfErr, Ok, true, false};
+ghost use Rattle.std.specs.List.{AllByRecursion};
 ghost use Rattle.am_journal.specs.declared.event.Event.TheVariants.{Took};
-ghost use Rattle.am_journal.specs.Lawful.{IsLawful};
+ghost use Rattle.am_journal.specs.Lawful.{IsLawful, IsInRange};
 ghost use Rattle.am_counter.specs.declared.ask.Ask.TheVariants as ask;
 ghost use Rattle.am_counter.specs.declared.ask.Taken.TheVariants as taken;
 ghost use Rattle.am_counter.specs.Played.{IsPlayed};
@@ -15,13 +16,14 @@ use am_counter::{Taken, Told};
 use std::alloc::Global;
 use turn_lock::Kept;
 
-/// A core without a plan that waits, with fewer than 2^64 entries.
+/// A core without a plan that waits, with fewer than 2^64 entries, each number of which fits its field.
 #[derive(Drop)]
 pub struct Settled {
     alloc: Global,
     core: Core,
     ghost few: { length core.journal < 2 ^ 64 },
     ghost idle: { core.planned ≡ None },
+    ghost in_range: { AllByRecursion IsInRange core.journal },
 }
 
 // What came of a take where there is nothing to take.
@@ -60,7 +62,8 @@ impl Settled {
 
     // One step of the core.
     fn step_alone(&mut self, event: Event) -> Result<u64, Refused>
-        requires { IsLawful event }
+        requires lawful { IsLawful event }
+        requires in_range { IsInRange event }
         ensures ok { IfOk result (λ n. (enabled (journal_of self.old) event ≡ None) × (n ≡ length (journal_of self.old) + 1)) }
         ensures done { OnOk result (journal_of self.new ≡ journal_of self.old ++ event ∷ []) }
         ensures refused { IfErr result (λ e. Refuses e (enabled (journal_of self.old) event)) }
@@ -87,7 +90,8 @@ impl Settled {
 
     /// One step of the core. The connections that it replied to are added to `told`.
     pub fn step(&mut self, event: Event, told: &mut Told) -> Result<u64, Refused>
-        requires { IsLawful event }
+        requires lawful { IsLawful event }
+        requires in_range { IsInRange event }
         ensures ok { IfOk result (λ n. (enabled (journal_of self.old) event ≡ None) × (n ≡ length (journal_of self.old) + 1)) }
         ensures done { OnOk result (journal_of self.new ≡ journal_of self.old ++ event ∷ []) }
         ensures refused { IfErr result (λ e. Refuses e (enabled (journal_of self.old) event)) }
@@ -151,7 +155,8 @@ impl Settled {
 
     /// The core, at the end.
     pub fn into_core(self) -> Core
-        ensures { result ≡ settled (journal_of self) }
+        ensures settled { result ≡ settled (journal_of self) }
+        ensures in_range { AllByRecursion IsInRange (journal_of self) }
     {
         let Settled { alloc: _, core } = self;
         core

@@ -36,7 +36,7 @@ has_hang_added now conn cause =
 
 -- ---- whether it is made
 
-played_front : (enabled : Rule) (before xs ys : List Event) → ArePlayed enabled before (xs ++ ys) → ArePlayed enabled before xs
+pub played_front : (enabled : Rule) (before xs ys : List Event) → ArePlayed enabled before (xs ++ ys) → ArePlayed enabled before xs
 unfolding ArePlayed
 played_front enabled before [] ys p = tt
 played_front enabled before (x ∷ xs) ys p = (p.0, p.1, played_front enabled (before ++ x ∷ []) xs ys p.2)

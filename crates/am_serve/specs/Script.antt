@@ -4,7 +4,7 @@ use Rattle.am_text.specs.Lines.{lines_of}
 use Rattle.am_journal.specs.declared.event.Event.{Event}
 use Rattle.am_journal.specs.declared.event.Event.TheVariants as event
 use Rattle.am_journal.specs.Journal.{is_report}
-use Rattle.am_journal.specs.Lawful.{IsLawful}
+use Rattle.am_journal.specs.Lawful.{IsLawful, IsInRange}
 use Rattle.am_journal.specs.Line.{after_front, event_of, window_at}
 use Rattle.am_counter.specs.declared.ask.Ask.{Ask}
 use Rattle.am_counter.specs.declared.ask.Ask.TheVariants.{EventOpen}
@@ -53,6 +53,13 @@ DoesLawful (Does e) = IsLawful e
 DoesLawful (Awaits w) = Unit {0}
 DoesLawful Ends = Unit {0}
 DoesLawful Faulty = Unit {0}
+
+-- and each of its numbers fits its field
+abbrev pub DoesInRange : Asked → Type 0
+DoesInRange (Does e) = IsInRange e
+DoesInRange (Awaits w) = Unit {0}
+DoesInRange Ends = Unit {0}
+DoesInRange Faulty = Unit {0}
 
 abbrev pub then_asked : Asked → List Asked → List Asked
 then_asked (Does e) others = Does e ∷ others

@@ -2,7 +2,7 @@
 
 ghost use Rattle.std.specs.Prelude.{◌≡◌, IfOk, option_copied};
 ghost use Rattle.am_journal.specs.Line.{after_front, window_at};
-ghost use Rattle.am_serve.specs.Script.{is_scripted, asks_window, asks_event, asked_by, DoesLawful};
+ghost use Rattle.am_serve.specs.Script.{is_scripted, asks_window, asks_event, asked_by, DoesLawful, DoesInRange};
 
 use am_journal::{Event, read_line};
 use am_text::{NoMemory, read_decimal};
@@ -77,6 +77,7 @@ fn after_front<'a>(front: &[u8], line: &'a [u8]) -> Option<&'a [u8]>
 pub(crate) fn asked_by(alloc: Global, line: &[u8]) -> Result<Asked, NoMemory>
     ensures exact { IfOk result (λ a. a ≡ asked_by line.now) }
     ensures lawful { IfOk result DoesLawful }
+    ensures in_range { IfOk result DoesInRange }
 {
     if line == b"report".as_slice() {
         return Ok(Asked::Ends);

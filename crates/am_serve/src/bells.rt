@@ -34,7 +34,7 @@ impl Bells {
     /// Bells that were not rung. Only want of memory refuses them.
     pub fn new(alloc: Global) -> Result<Bells, NoMemory> {
         let mut connections = Vec::with_capacity(alloc, CONNECTIONS)?;
-        for _ in 0..CONNECTIONS {
+        for _conn in 0..CONNECTIONS {
             connections.push_reserved(Pair {
                 replies: Bell::new(),
                 room: Bell::new(),

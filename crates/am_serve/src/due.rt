@@ -4,6 +4,7 @@ use crate::bells::Bells;
 use am_counter::Told;
 
 /// Bells, and for whom they have still to be rung: a side that submits several messages rings once for them all.
+#[derive(Drop)]
 pub(crate) struct Due<'a> {
     bells: &'a Bells,
     /// The connections that were replied to since the last ring.

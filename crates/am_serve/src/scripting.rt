@@ -1,7 +1,7 @@
 //! The side that does the lines of a script.
 
 ghost use Rattle.std.specs.Prelude.{◌≡◌, ◌<◌, ◌≤◌, Bool, true, false};
-ghost use Rattle.am_journal.specs.Lawful.{IsLawful};
+ghost use Rattle.am_journal.specs.Lawful.{IsLawful, IsInRange};
 ghost use Rattle.am_counter.specs.declared.ask.Ask.TheVariants.{EventOpen};
 ghost use Rattle.am_counter.specs.Known.{Looks};
 ghost use Rattle.am_serve.specs.Gained.{Gains, gained};
@@ -104,6 +104,7 @@ fn submit<C: Counter, R: Wait>(
 ) -> LineEnd
     requires fits { C.fits desk.now seat.old }
     requires lawful { IsLawful event }
+    requires in_range { IsInRange event }
     ensures fits { C.fits desk.now seat.new }
     ensures does { DoesEvent C.enabled (C.known seat.old) event result (C.known seat.new) }
 {

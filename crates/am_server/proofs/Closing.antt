@@ -8,7 +8,8 @@ use Rattle.am_base.specs.Outside.{AreTold, PutsFront, HasCause}
 use Rattle.am_base.specs.Stops.{input_limit}
 use Rattle.am_base.specs.Written.{Output, IsWhole, IsCut, IsPut}
 use Rattle.am_journal.specs.declared.event.Event.{Event}
-use Rattle.am_journal.specs.Lawful.{IsLawful}
+use Rattle.ninep_cut.specs.Laws.{JoinsPieces, CutsNoMore}
+use Rattle.am_journal.specs.Lawful.{IsLawful, IsInRange}
 use Rattle.am_counter.specs.Known.{Known, lists_of}
 use Rattle.am_counter.specs.Played.{IsPlayed, ArePlayed}
 use Rattle.am_serve.specs.declared.scripting.ScriptEnd.{ScriptEnd}
@@ -22,7 +23,9 @@ use Rattle.am_slots.specs.Slots.{Outside, unbound, HasRisenBy}
 use Rattle.am_slots.specs.declared.slot.Slot.{Slot}
 use Rattle.core_laws.specs.Laws.{EndedGetAllReplies}
 use Rattle.am_server.proofs.Replying.{got_all, wrote_well}
+use Rattle.am_server.proofs.Sounds.{sound_all}
 use Rattle.am_server.specs.Replied.{GotAll}
+use Rattle.am_server.specs.Sound.{EndsWell}
 use Rattle.am_server.specs.Ends.{Given, Writes, IsTooLong, ServesLines, SaysServe, end_at}
 use Rattle.am_server.specs.Served.{served_from}
 use Rattle.am_server.specs.Texts.{served_text}
@@ -68,13 +71,13 @@ module _ {G L S K : Type 0} where
       by_cases (inr c) = inr (inl (at ∙ ap (end_at slots script) c.0, c.1))
 
   -- the slots of one seat, which has all entries at the end
-  pub served_lines : (law : EndedGetAllReplies) (m : Outside G L S K) (path : List ℕ) (clients : ℕ) (lines : List ℕ) (before now : ℕ) (o : Output) (slots : List (Slot G L S K)) (script : ScriptEnd) (w : Known)
+  pub served_lines : (law : EndedGetAllReplies) (joins : JoinsPieces) (breaks : CutsNoMore) (m : Outside G L S K) (path : List ℕ) (clients : ℕ) (lines : List ℕ) (before now : ℕ) (o : Output) (slots : List (Slot G L S K)) (script : ScriptEnd) (w : Known)
       (core journal : List Event) (served : List (Served G L S K)) (e : ServeEnd)
-      → length slots ≡ clients → clients ≤ 64 → IsPlayed enabled w.seen → AllStand w.seen (lists_of w) → EachOnce w → KeepsOrder w.seen (lists_of w)
+      → length slots ≡ clients → clients ≤ 64 → IsPlayed enabled w.seen → AllByRecursion IsInRange w.seen → AllStand w.seen (lists_of w) → EachOnce w → KeepsOrder w.seen (lists_of w)
       → ServesAll m enabled output_at answer_at clients lines slots script w → EachTells m path 0 slots → HasRisenBy (unbound slots) before now
       → core ≡ w.seen → journal ≡ core → served ≡ served_from core 0 slots → Writes slots script o (served_text core slots script) e
       → ServesLines m path clients lines before now o journal served e
-  served_lines law m path clients lines before now o slots script w core journal served e count few played own once order serves tells risen same is told writes =
+  served_lines law joins breaks m path clients lines before now o slots script w core journal served e count few played ranged own once order serves tells risen same is told writes =
       let now_played : IsPlayed enabled journal = subst (IsPlayed enabled) (sym (is ∙ same)) played in
       let run : IsRun m enabled output_at answer_at clients lines journal slots script =
       subst (λ (l : List Event). IsRun m enabled output_at answer_at clients lines l slots script) (sym (is ∙ same))
@@ -85,6 +88,7 @@ module _ {G L S K : Type 0} where
         done = script;
         count = count;
         played = now_played;
+        in_range = subst (λ (l : List Event). AllByRecursion IsInRange l) (sym (is ∙ same)) ranged;
         run = run;
         tells = tells;
         risen = risen;
@@ -92,6 +96,7 @@ module _ {G L S K : Type 0} where
         writes = subst (λ (l : List Event). Writes slots script o (served_text l slots script) e) (sym is) writes;
         replied = λ well. subst (λ (l : List (Served G L S K)). AllByRecursion (GotAll m journal) l) (sym now_told)
             (got_all m journal law now_played path 0 slots (omega (arith, count, few)) run.each tells (wrote_well slots script o (served_text core slots script) e writes well));
+        sound = subst (λ (l : List (Served G L S K)). AllByRecursion (EndsWell m journal) l) (sym now_told) (sound_all joins breaks m journal path 0 slots run.each tells);
       }
 
   pub says_lines : (m : Outside G L S K) (path : List ℕ) (clients : ℕ) (i : Given) (o : Output) (journal : List Event) (served : List (Served G L S K)) (e : ServeEnd) (lines : List ℕ)

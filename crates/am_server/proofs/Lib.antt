@@ -1,2 +1,4 @@
 pub mod Replying
+pub mod Sounds
+pub mod Completing
 pub mod Closing

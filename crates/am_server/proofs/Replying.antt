@@ -35,12 +35,12 @@ told_whole : (held empty : Option (List ℕ)) (bytes : List ℕ) → AreTold emp
 told_whole held None bytes none is = subst (λ (h : Option (List ℕ)). AreTold h bytes) (sym is) tt
 told_whole held (Some before) bytes none is = subst (λ (h : Option (List ℕ)). AreTold h bytes) (sym is) (ap (λ (l : List ℕ). l ++ bytes) none)
 
-risen_above : (n : ℕ) → HasRisen 0 n → n ≡ 0 → ⊥
+pub risen_above : (n : ℕ) → HasRisen 0 n → n ≡ 0 → ⊥
 risen_above n (inl lt) z = absurd (omega (arith, lt, z))
 risen_above n (inr le) z = absurd (omega (arith, le, z))
 
 -- the one cause of a connection's hang-ups is the one that is told
-cause_told : (causes : List Ending) (cause why : Ending) → causes ≡ cause ∷ [] → ended_with (first_of causes) ≡ served.Ended why → cause ≡ why
+pub cause_told : (causes : List Ending) (cause why : Ending) → causes ≡ cause ∷ [] → ended_with (first_of causes) ≡ served.Ended why → cause ≡ why
 cause_told causes cause why one is = let same : served.Ended cause ≡ served.Ended why = ap (λ (l : List Ending). ended_with (first_of l)) (sym one) ∙ is in cc
 
 for_memory : (why : Ending) → ended_otherwise (Some why) ≡ false → why ≡ ending.NoMemory
@@ -75,7 +75,7 @@ module _ {G L S K : Type 0} (m : Outside G L S K) (journal : List Event) (law : 
   got_one n (slot.Bound gate) low is tells told = absurd tells
   got_one n (slot.Unlinked gate) low is tells told = λ why sink ended other there fine. absurd cc
   got_one n (slot.Unhalved gate link) low is tells told = λ why sink ended other there fine. absurd cc
-  got_one n (slot.Undialled x) low is tells told = absurd cc
+  got_one n (slot.Undialled x refused) low is tells told = absurd cc
   got_one n (slot.Served x read wrote) low is tells told = λ why sink ended other there fine.
       let cause : is.cause ≡ why = cause_told (endings_of journal n) is.cause why is.ended ended in
       let same : x.writer ≡ sink = cc in

@@ -7,6 +7,7 @@ use Rattle.am_base.specs.Written.{Output, IsWhole, IsCut, IsPut}
 use Rattle.am_journal.specs.declared.ending.Ending.{Ending}
 use Rattle.am_journal.specs.declared.ending.Ending.TheVariants as ending
 use Rattle.am_journal.specs.declared.event.Event.{Event}
+use Rattle.am_journal.specs.Lawful.{IsInRange}
 use Rattle.am_journal.specs.Texts.{refused_text}
 use Rattle.am_counter.specs.Played.{IsPlayed}
 use Rattle.acme_core.specs.Asks.{answer_at}
@@ -19,6 +20,7 @@ use Rattle.am_slots.specs.Slots.{Outside, unbound, HasRisenBy}
 use Rattle.am_slots.specs.declared.slot.Slot.{Slot}
 use Rattle.am_slots.specs.declared.slot.Slot.TheVariants as slot
 use Rattle.am_server.specs.Replied.{GotAll}
+use Rattle.am_server.specs.Sound.{EndsWell}
 use Rattle.am_server.specs.Served.{served_from}
 use Rattle.am_server.specs.Texts.{has_failed, served_text}
 use Rattle.am_server.specs.declared.served.Served.{Served}
@@ -48,7 +50,7 @@ module _ {G L S K : Type 0} where
   wants_untold (slot.Bound gate) = true
   wants_untold (slot.Unlinked gate) = false
   wants_untold (slot.Unhalved gate link) = false
-  wants_untold (slot.Undialled x) = true
+  wants_untold (slot.Undialled x refused) = true
   wants_untold (slot.Served x read write.Ended) = false
   wants_untold (slot.Served x read write.Gone) = false
   wants_untold (slot.Served x read write.NoMemory) = ended_otherwise read
@@ -89,18 +91,20 @@ AllDone end.NoMemory = ⊥
 AllDone end.WriteFault = Unit {0}
 
 -- A script was served: its slots, the script's end, and one journal that has just their entries. Where all was done, each sink that has
--- not failed got all replies.
+-- not failed got all replies. A connection with sound objects ends well.
 pub record Serves {G L S K : Type 0} (m : Outside G L S K) (path : List ℕ) (clients : ℕ) (lines : List ℕ) (before now : ℕ) (o : Output) (journal : List Event) (served : List (Served G L S K)) (e : ServeEnd) : Type 0 where
   pub slots : List (Slot G L S K)
   pub done : ScriptEnd
   pub count : length slots ≡ clients
   pub played : IsPlayed enabled journal
+  pub in_range : AllByRecursion IsInRange journal
   pub run : IsRun m enabled output_at answer_at clients lines journal slots done
   pub tells : EachTells m path 0 slots
   pub risen : HasRisenBy (unbound slots) before now
   pub told : served ≡ served_from journal 0 slots
   pub writes : Writes slots done o (served_text journal slots done) e
   pub replied : AllDone e → AllByRecursion (GotAll m journal) served
+  pub sound : AllByRecursion (EndsWell m journal) served
 
 -- what came of a script of lawful length: it was served, or there was no memory to begin
 abbrev pub ServesLines : {G L S K : Type 0} → Outside G L S K → List ℕ → ℕ → List ℕ → ℕ → ℕ → Output → List Event → List (Served G L S K) → ServeEnd → Type 0

@@ -28,7 +28,7 @@ module _ {G L S K : Type 0} where
   served_of journal n (slot.Bound g) = record { slot = n; gate = Some g; link = None; reader = None; writer = None; end = end.NoMemory }
   served_of journal n (slot.Unlinked g) = record { slot = n; gate = Some g; link = None; reader = None; writer = None; end = end.Accept }
   served_of journal n (slot.Unhalved g l) = record { slot = n; gate = Some g; link = Some l; reader = None; writer = None; end = end.Halve }
-  served_of journal n (slot.Undialled x) = record { slot = n; gate = Some x.gate; link = Some x.link; reader = Some x.reader; writer = Some x.writer; end = end.NoMemory }
+  served_of journal n (slot.Undialled x refused) = record { slot = n; gate = Some x.gate; link = Some x.link; reader = Some x.reader; writer = Some x.writer; end = end.NoMemory }
   served_of journal n (slot.Served x read wrote) = record { slot = n; gate = Some x.gate; link = Some x.link; reader = Some x.reader; writer = Some x.writer; end = ended_with (ending_of journal n) }
 
   -- slots one after another, from this number on

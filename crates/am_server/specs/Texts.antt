@@ -35,7 +35,7 @@ module _ {G L S K : Type 0} where
   has_failed (slot.Bound gate) = false
   has_failed (slot.Unlinked gate) = true
   has_failed (slot.Unhalved gate link) = true
-  has_failed (slot.Undialled x) = false
+  has_failed (slot.Undialled x refused) = false
   has_failed (slot.Served x read wrote) = false
 
   -- a line for each slot that has failed, from this number on

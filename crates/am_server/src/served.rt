@@ -123,7 +123,7 @@ fn served_by<G, L, S, K>(
             writer: None,
             end: ServedEnd::Halve,
         },
-        Slot::Undialled(objects) => with_objects(slot, objects, ServedEnd::NoMemory),
+        Slot::Undialled(objects, _) => with_objects(slot, objects, ServedEnd::NoMemory),
         Slot::Served(objects, _, _) => with_objects(slot, objects, end_in(journal, slot)),
     }
 }

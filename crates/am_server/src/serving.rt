@@ -12,6 +12,7 @@ use am_journal::refused_line;
 use am_slots::serve_slots;
 use am_text::NoMemory;
 use core_laws::ended_connections_get_nothing_more;
+use ninep_cut::pieces_are_joined;
 use std::alloc::Global;
 use std::sync::Wait;
 use std::thread::Threads;
@@ -46,8 +47,9 @@ fn serve_lines<O: Sink, H: Host, R: Threads + Wait + Sync>(
     let Ok((desk, mut seat)) = Desk::new(alloc, 2 * u64::from(clients) + 1) else {
         return idle(alloc, ServeEnd::NoMemory);
     };
-    // An ended connection is replied nothing more.
+    // An ended connection is replied nothing more, and its messages don't depend on the pieces that were read.
     ended_connections_get_nothing_more();
+    pieces_are_joined();
     match serve_slots(rt, alloc, &desk, &mut seat, host, path, clients, script) {
         Ok((slots, end)) => finish(alloc, desk.close(seat), slots, end, served, output),
         Err(NoMemory) => idle(alloc, ServeEnd::NoMemory),

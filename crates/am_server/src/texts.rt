@@ -41,7 +41,7 @@ pub(crate) fn has_failed<G, L, S, K>(slot: &Slot<G, L, S, K>) -> bool
 {
     match slot {
         Slot::Unbound | Slot::Unlinked(_) | Slot::Unhalved(_, _) => true,
-        Slot::Bound(_) | Slot::Undialled(_) | Slot::Served(_, _, _) => false,
+        Slot::Bound(_) | Slot::Undialled(_, _) | Slot::Served(_, _, _) => false,
     }
 }
 

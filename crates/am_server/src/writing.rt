@@ -59,7 +59,7 @@ fn wants_untold<G, L, S, K>(slot: &Slot<G, L, S, K>) -> bool
     ensures { result ≡ wants_untold slot.now }
 {
     match slot {
-        Slot::Bound(_) | Slot::Undialled(_) => true,
+        Slot::Bound(_) | Slot::Undialled(_, _) => true,
         Slot::Served(_, read, WriteEnd::NoMemory) => ended_otherwise(*read),
         Slot::Unbound | Slot::Unlinked(_) | Slot::Unhalved(_, _) | Slot::Served(_, _, _) => false,
     }

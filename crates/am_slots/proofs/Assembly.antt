@@ -1,15 +1,19 @@
 -- From what the seats of all slots have to what the journal has.
-use Rattle.std.proofs.Common.{◌≡◌, ℕ, ◌+◌, ◌<◌, ◌≤◌, Bool, true, false, cond, ◌==◌, List, [], ◌∷◌, ◌++◌, length, refl, sym, ap, subst, ◌∙◌, append_assoc, arith}
+use Rattle.std.proofs.Common.{◌≡◌, ℕ, ◌+◌, ◌<◌, ◌≤◌, Bool, true, false, cond, ◌==◌, List, [], ◌∷◌, ◌++◌, length, Option, Some, None, refl, sym, ap, subst, ◌∙◌, append_assoc, arith}
 use Rattle.std.specs.Prelude.{filter}
 use Rattle.std.specs.List.{AllByRecursion}
-use Rattle.std.proofs.lemmas.Bool.{eq-eqb, ne_eqb, eqb-true}
+use Rattle.std.proofs.lemmas.Bool.{eq-eqb, ne_eqb, eqb-true, or_from}
 use Rattle.turn_lock.specs.Journal.{total, once, times, AllStand}
 use Rattle.turn_lock.specs.Kinds.{AllFail, NoneHas, KeepsOrder}
 use Rattle.am_journal.specs.declared.ending.Ending.{Ending}
 use Rattle.am_journal.specs.declared.event.Event.{Event}
 use Rattle.am_journal.specs.declared.event.Event.TheVariants as event
+use Rattle.am_journal.specs.declared.event.Refused.{Refused}
+use Rattle.am_journal.specs.declared.event.Refused.TheVariants as why
+use Rattle.am_journal.specs.declared.event.Why.{Why}
+use Rattle.am_journal.specs.declared.event.Why.TheVariants as reason
 use Rattle.am_counter.specs.Laws.{TellsConnections}
-use Rattle.am_counter.specs.Played.{IsPlayed}
+use Rattle.am_counter.specs.Played.{IsPlayed, has_dial, is_dial_of, Refuses}
 use Rattle.am_serve.specs.Gained.{Rule, plain}
 use Rattle.am_serve.specs.Script.{Answers, is_scripted}
 use Rattle.am_slots.specs.Connection.{is_of, IsSilent}
@@ -18,7 +22,9 @@ use Rattle.am_slots.specs.Slots.{Outside, Has, EachHas, IsOf}
 use Rattle.am_slots.specs.declared.slot.Slot.{Slot}
 use Rattle.am_slots.specs.declared.slot.Slot.TheVariants as slot
 use Rattle.am_slots.proofs.Gathered.{none-append, filter_fails}
-use Rattle.am_slots.proofs.OneServed.{served}
+use Rattle.am_serve.proofs.HangUps.{played_front}
+use Rattle.am_slots.specs.Sides.{WasRefused}
+use Rattle.am_slots.proofs.OneServed.{no_dial, served}
 use Rattle.am_slots.proofs.Own.{reads_fail, writes_fail}
 
 -- ---- one event
@@ -56,6 +62,35 @@ all_scripted : (xs : List (ℕ × Event)) → AllByRecursion (λ (x : ℕ × Eve
 all_scripted [] a = refl
 all_scripted (x ∷ xs) a = ap (λ b. cond b (x.1 ∷ filter is_scripted (plain xs)) (filter is_scripted (plain xs))) a.0 ∙ ap (λ l. x.1 ∷ l) (all_scripted xs a.1)
 
+-- ---- a connection that was not dialled
+
+none_dialled : (conn : ℕ) (xs rest : List Event) → filter (is_of conn) (xs ++ rest) ≡ [] → has_dial xs conn ≡ false
+none_dialled conn [] rest none = refl
+none_dialled conn (x ∷ xs) rest none =
+    elim (is_of conn x) as (λ b. is_of conn x ≡ b → has_dial (x ∷ xs) conn ≡ false) [
+      | true ↦ λ e. absurd (let more : x ∷ filter (is_of conn) (xs ++ rest) ≡ [] = sym (ap (λ b. cond b (x ∷ filter (is_of conn) (xs ++ rest)) (filter (is_of conn) (xs ++ rest))) e) ∙ none in cc)
+      | false ↦ λ e. let others : filter (is_of conn) (xs ++ rest) ≡ [] = sym (ap (λ b. cond b (x ∷ filter (is_of conn) (xs ++ rest)) (filter (is_of conn) (xs ++ rest))) e) ∙ none in
+          or_from (is_dial_of conn x) (has_dial xs conn) (no_dial conn x e) (none_dialled conn xs rest others)
+    ] refl
+
+-- its dialling was enabled, so it was refused for memory alone
+for_memory : (enabled : Rule) (journal : List Event) (answer : Answers) → TellsConnections enabled answer → IsPlayed enabled journal → (conn : ℕ) → conn < 64 → IsSilent journal conn
+    → (refused : Refused) → WasRefused enabled conn journal refused → refused ≡ why.NoMemory
+for_memory enabled journal answer laws played conn low silent refused was = by_cause refused (subst (λ (r : Option Why). Refuses refused r) allowed was.2)
+  where
+    now_played : IsPlayed enabled was.0
+    now_played = played_front enabled [] was.0 was.1.0 (subst (IsPlayed enabled) (sym was.1.1) played)
+
+    undialled : has_dial was.0 conn ≡ false
+    undialled = none_dialled conn was.0 was.1.0 (ap (filter (is_of conn)) was.1.1 ∙ silent)
+
+    allowed : enabled was.0 (event.Dial conn) ≡ None
+    allowed = laws.dial was.0 conn now_played low ∙ ap (λ (b : Bool). cond b (Some reason.Dialed) None) undialled
+
+    by_cause : (r : Refused) → Refuses r None → r ≡ why.NoMemory
+    by_cause (why.NotEnabled x) h = absurd cc
+    by_cause why.NoMemory h = refl
+
 module _ {G L S K : Type 0} (o : Outside G L S K) (enabled : Rule) (unsent : List Event → ℕ → List ℕ) (journal : List Event) where
   -- ---- kinds that the lists of slots have none of
 
@@ -68,7 +103,7 @@ module _ {G L S K : Type 0} (o : Outside G L S K) (enabled : Rule) (unsent : Lis
   none_of_slot p conn (slot.Bound gate) own h has = none_of_empty p own has
   none_of_slot p conn (slot.Unlinked gate) own h has = none_of_empty p own has
   none_of_slot p conn (slot.Unhalved gate link) own h has = none_of_empty p own has
-  none_of_slot p conn (slot.Undialled x) own h has = none_of_empty p own has
+  none_of_slot p conn (slot.Undialled x refused) own h has = none_of_empty p own has.0
   none_of_slot p conn (slot.Served x read wrote) own h has =
       let P : List (List (ℕ × Event)) → Type 0 = λ l. NoneHas p l in
       let here : (conn == conn) ≡ true = eq-eqb conn conn refl in
@@ -112,7 +147,7 @@ module _ {G L S K : Type 0} (o : Outside G L S K) (enabled : Rule) (unsent : Lis
         by_cases (slot.Bound gate) has = empty has
         by_cases (slot.Unlinked gate) has = empty has
         by_cases (slot.Unhalved gate link) has = empty has
-        by_cases (slot.Undialled x) has = empty has
+        by_cases (slot.Undialled x refused) has = let none = empty has.0 in (none, for_memory enabled journal answer laws played conn low none refused has.1)
         by_cases (slot.Served x read wrote) has =
             let all : mine ∷ own ≡ (mine ∷ before) ++ has.reads ∷ has.writes ∷ after = ap (λ l. mine ∷ l) are ∙ ap (λ l. (mine ∷ before) ++ (l ++ after)) has.are in
             served journal (mine ∷ own) order conn (mine ∷ before) after has.reads has.writes all (scripted_fails conn mine scripted, nb) na

@@ -32,7 +32,7 @@ module _ {G L S K : Type 0} where
   unbound-cons (slot.Bound gate) slots = omega arith
   unbound-cons (slot.Unlinked gate) slots = omega arith
   unbound-cons (slot.Unhalved gate link) slots = omega arith
-  unbound-cons (slot.Undialled x) slots = omega arith
+  unbound-cons (slot.Undialled x refused) slots = omega arith
   unbound-cons (slot.Served x read wrote) slots = omega arith
 
   pub unbound-append : (xs ys : List (Slot G L S K)) → unbound (xs ++ ys) ≡ unbound xs + unbound ys

@@ -11,13 +11,14 @@ use Rattle.am_journal.specs.declared.ending.Ending.TheVariants as ending
 use Rattle.am_journal.specs.declared.event.Event.{Event}
 use Rattle.am_journal.specs.declared.event.Event.TheVariants.{Dial, Hang}
 use Rattle.am_counter.specs.Known.{Known, Looks, Submits, TakesIn, lists_of, without_parts, new_known}
-use Rattle.am_counter.specs.Played.{has_dial, has_hang, is_dial_of}
+use Rattle.am_journal.specs.declared.event.Refused.{Refused}
+use Rattle.am_counter.specs.Played.{has_dial, has_hang, is_dial_of, Refuses}
 use Rattle.am_serve.specs.Gained.{Rule, gained, hang_up}
 use Rattle.am_serve.specs.Reading.{AreRead, AreMessages, GivesOf, spelling_of, spellings}
 use Rattle.am_serve.specs.Writing.{AreWritten, AreTakings}
 use Rattle.am_serve.specs.declared.writing.WriteEnd.{WriteEnd}
 use Rattle.am_serve.specs.declared.writing.WriteEnd.TheVariants as end
-use Rattle.am_slots.specs.Sides.{IsHangUp, HangsAfterReading, HangsAfterWriting, Reads, Writes, Serves}
+use Rattle.am_slots.specs.Sides.{WasRefused, IsHangUp, HangsAfterReading, HangsAfterWriting, Reads, Writes, Serves}
 use Rattle.am_slots.specs.Working.{Read, DidRead, DidWrite, HasDialled, IsFresh}
 use Rattle.am_serve.proofs.Gaining.{stands_lower}
 use Rattle.am_serve.proofs.HangUps.{has_hang_kept}
@@ -33,8 +34,12 @@ fresh_lists n v f =
 pub looked_parts : (n : ℕ) (v w : Known) → IsFresh n v → Looks v w → w.parts ≡ n
 looked_parts n v w f l = ap (λ (k : Known). k.parts) l.2 ∙ f.parts
 
-pub looked_lists : (n : ℕ) (v w : Known) → IsFresh n v → Looks v w → lists_of w ≡ [] ∷ []
+looked_lists : (n : ℕ) (v w : Known) → IsFresh n v → Looks v w → lists_of w ≡ [] ∷ []
 looked_lists n v w f l = ap (λ (k : Known). lists_of k) l.2 ∙ fresh_lists n v f
+
+pub undialled : (enabled : Rule) (n conn : ℕ) (v w : Known) (refused : Refused) → IsFresh n v → Looks v w → Refuses refused (enabled w.seen (Dial conn))
+    → (lists_of w ≡ [] ∷ []) × WasRefused enabled conn w.seen refused
+undialled enabled n conn v w refused f l r = (looked_lists n v w f l, (w.seen, ([], append-nil w.seen), r))
 
 has_dial_added : (now : List Event) (conn : ℕ) → has_dial (now ++ Dial conn ∷ []) conn ≡ true
 has_dial_added now conn =

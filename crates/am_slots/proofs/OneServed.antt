@@ -26,7 +26,7 @@ use Rattle.am_slots.proofs.Own.{reads_fail, writes_fail, dial_read, spelled_read
 
 -- ---- events of other connections
 
-no_dial : (conn : ℕ) (e : Event) → is_of conn e ≡ false → is_dial_of conn e ≡ false
+pub no_dial : (conn : ℕ) (e : Event) → is_of conn e ≡ false → is_dial_of conn e ≡ false
 no_dial conn (event.Dial c) h = h
 no_dial conn e h = refl
 

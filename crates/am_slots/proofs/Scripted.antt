@@ -15,13 +15,13 @@ use Rattle.am_serve.specs.declared.scripting.ScriptEnd.TheVariants as end
 use Rattle.am_slots.specs.Serving.{unseen}
 
 -- a line that asks for an event asks for one of windows
-abbrev IsScripted : Asked → Type 0
+abbrev pub IsScripted : Asked → Type 0
 IsScripted (Does e) = is_scripted e ≡ true
 IsScripted (Awaits w) = Unit {0}
 IsScripted Ends = Unit {0}
 IsScripted Faulty = Unit {0}
 
-abbrev AreScripted : List Asked → Type 0
+abbrev pub AreScripted : List Asked → Type 0
 AreScripted [] = Unit {0}
 AreScripted (a ∷ others) = IsScripted a × AreScripted others
 
@@ -56,12 +56,12 @@ then_scripted (Awaits w) others p q = (tt, q)
 then_scripted Ends others p q = tt
 then_scripted Faulty others p q = (tt, tt)
 
-lines_scripted : (lines : List (List ℕ)) → AreScripted (asked_by_lines lines)
+pub lines_scripted : (lines : List (List ℕ)) → AreScripted (asked_by_lines lines)
 unfolding asked_by_lines
 lines_scripted [] = tt
 lines_scripted (line ∷ lines) = then_scripted (asked_by line) (asked_by_lines lines) (line_scripted line) (lines_scripted lines)
 
-front_scripted : (xs ys : List Asked) → AreScripted (xs ++ ys) → AreScripted xs
+pub front_scripted : (xs ys : List Asked) → AreScripted (xs ++ ys) → AreScripted xs
 front_scripted [] ys p = tt
 front_scripted (x ∷ xs) ys p = (p.0, front_scripted xs ys p.1)
 

@@ -6,13 +6,18 @@ use Rattle.am_journal.specs.declared.ending.Ending.{Ending}
 use Rattle.am_journal.specs.declared.ending.Ending.TheVariants as ending
 use Rattle.am_journal.specs.declared.event.Event.{Event}
 use Rattle.am_journal.specs.declared.event.Event.TheVariants.{Dial, Hang}
-use Rattle.am_counter.specs.Played.{has_hang}
+use Rattle.am_journal.specs.declared.event.Refused.{Refused}
+use Rattle.am_counter.specs.Played.{IsPrefix, has_hang, Refuses}
 use Rattle.am_serve.specs.Gained.{Rule}
 use Rattle.am_serve.specs.Reading.{AreMessages, GivesOf, spellings}
 use Rattle.am_serve.specs.Writing.{AreTakings, taken_bytes, Gets}
 use Rattle.am_serve.specs.declared.writing.WriteEnd.{WriteEnd}
 use Rattle.am_serve.specs.declared.writing.WriteEnd.TheVariants as end
 use Rattle.am_slots.specs.Connection.{IsDrained}
+
+-- its dialling was refused so, after a journal with which what was seen begins
+abbrev pub WasRefused : Rule → ℕ → List Event → Refused → Type 0
+WasRefused enabled conn seen refused = (now : List Event) × IsPrefix now seen × Refuses refused (enabled now (Dial conn))
 
 -- the hang-up of a connection with this cause, as an entry
 abbrev pub IsHangUp : ℕ → Ending → List (ℕ × Event) → Type 0

@@ -6,6 +6,7 @@ use Rattle.am_journal.specs.declared.ending.Ending.{Ending}
 use Rattle.am_journal.specs.declared.ending.Ending.TheVariants as ending
 use Rattle.am_journal.specs.declared.event.Event.{Event}
 use Rattle.am_journal.specs.declared.event.Event.TheVariants.{Dial}
+use Rattle.am_journal.specs.declared.event.Refused.TheVariants as why
 use Rattle.am_counter.specs.Played.{is_dial_of}
 use Rattle.am_serve.specs.Gained.{Rule}
 use Rattle.am_serve.specs.Reading.{messages_of, GivesOf}
@@ -13,7 +14,7 @@ use Rattle.am_serve.specs.Writing.{Gets}
 use Rattle.am_serve.specs.declared.writing.WriteEnd.{WriteEnd}
 use Rattle.am_serve.specs.declared.writing.WriteEnd.TheVariants as end
 use Rattle.am_slots.specs.Connection.{IsSilent, IsDrained, endings_of, sent}
-use Rattle.am_slots.specs.Sides.{Serves}
+use Rattle.am_slots.specs.Sides.{WasRefused, Serves}
 use Rattle.am_slots.specs.declared.slot.Slot.{Slot}
 use Rattle.am_slots.specs.declared.slot.Slot.TheVariants as slot
 
@@ -61,7 +62,7 @@ module _ {G L S K : Type 0} where
   IsWaiting faults (slot.Bound gate) = faults gate ≡ 0
   IsWaiting faults (slot.Unlinked gate) = ⊥
   IsWaiting faults (slot.Unhalved gate link) = ⊥
-  IsWaiting faults (slot.Undialled x) = ⊥
+  IsWaiting faults (slot.Undialled x refused) = ⊥
   IsWaiting faults (slot.Served x read wrote) = ⊥
 
   -- its gate is of this path and of the slot's number, where it tells a name
@@ -70,7 +71,7 @@ module _ {G L S K : Type 0} where
   HasName name path conn (slot.Bound gate) = IsNamed (name gate) path conn
   HasName name path conn (slot.Unlinked gate) = IsNamed (name gate) path conn
   HasName name path conn (slot.Unhalved gate link) = IsNamed (name gate) path conn
-  HasName name path conn (slot.Undialled x) = IsNamed (name x.gate) path conn
+  HasName name path conn (slot.Undialled x refused) = IsNamed (name x.gate) path conn
   HasName name path conn (slot.Served x read wrote) = IsNamed (name x.gate) path conn
 
   -- what its objects tell once it was served: one that failed has counted it, and a source that has ended has nothing left; none waits
@@ -79,7 +80,7 @@ module _ {G L S K : Type 0} where
   Tells o (slot.Bound gate) = ⊥
   Tells o (slot.Unlinked gate) = HasRisen 0 (o.gate_faults gate)
   Tells o (slot.Unhalved gate link) = HasRisen 0 (o.link_faults link)
-  Tells o (slot.Undialled x) = Unit {0}
+  Tells o (slot.Undialled x refused) = Unit {0}
   Tells o (slot.Served x read wrote) =
       (read ≡ Some ending.ReadFault → HasRisen 0 (o.reader_faults x.reader))
       × (read ≡ Some ending.End → AreTold (o.left x.reader) [])
@@ -93,7 +94,7 @@ module _ {G L S K : Type 0} where
   unbound (slot.Bound gate ∷ slots) = unbound slots
   unbound (slot.Unlinked gate ∷ slots) = unbound slots
   unbound (slot.Unhalved gate link ∷ slots) = unbound slots
-  unbound (slot.Undialled x ∷ slots) = unbound slots
+  unbound (slot.Undialled x refused ∷ slots) = unbound slots
   unbound (slot.Served x read wrote ∷ slots) = unbound slots
 
 -- a count of faults has risen by so many at least, or stands at its type's end
@@ -109,7 +110,7 @@ module _ {G L S K : Type 0} (o : Outside G L S K) (enabled : Rule) (unsent : Lis
   Has conn seen (slot.Bound gate) lists = lists ≡ [] ∷ []
   Has conn seen (slot.Unlinked gate) lists = lists ≡ [] ∷ []
   Has conn seen (slot.Unhalved gate link) lists = lists ≡ [] ∷ []
-  Has conn seen (slot.Undialled x) lists = lists ≡ [] ∷ []
+  Has conn seen (slot.Undialled x refused) lists = (lists ≡ [] ∷ []) × WasRefused enabled conn seen refused
   Has conn seen (slot.Served x read wrote) lists = Serves enabled unsent conn seen (o.begins x.link) (o.left x.reader) read wrote (o.held x.writer) lists
 
   -- the same of slots one after another, from this connection on
@@ -119,11 +120,11 @@ module _ {G L S K : Type 0} (o : Outside G L S K) (enabled : Rule) (unsent : Lis
       (own : List (List (ℕ × Event))) × (others : List (List (ℕ × Event)))
       × (lists ≡ own ++ others) × Has conn seen s own × EachHas (conn + 1) seen slots others
 
-  -- what a journal has of a slot
+  -- What a journal has of a slot. One was not dialled for want of memory alone.
   abbrev pub IsOf : List Event → ℕ → Slot G L S K → Type 0
   IsOf journal conn slot.Unbound = IsSilent journal conn
   IsOf journal conn (slot.Bound gate) = IsSilent journal conn
   IsOf journal conn (slot.Unlinked gate) = IsSilent journal conn
   IsOf journal conn (slot.Unhalved gate link) = IsSilent journal conn
-  IsOf journal conn (slot.Undialled x) = IsSilent journal conn
+  IsOf journal conn (slot.Undialled x refused) = IsSilent journal conn × (refused ≡ why.NoMemory)
   IsOf journal conn (slot.Served x read wrote) = IsServed enabled unsent journal conn (o.begins x.link) (o.left x.reader) read wrote (o.held x.writer)

@@ -147,7 +147,7 @@ fn serve_gate<
     // Nobody waits for a dialling, and it replies to none.
     match desk.submit(rt, seat, Event::Dial { conn }, &mut Told::none()) {
         Ok(_) => serve_connection(rt, alloc, desk, bells, seat, conn, objects),
-        Err(_) => Slot::Undialled(objects),
+        Err(refused) => Slot::Undialled(objects, refused),
     }
 }
 

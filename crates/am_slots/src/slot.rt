@@ -1,7 +1,7 @@
 //! What becomes of a slot.
 
 use am_base::{Gate, Host, Link};
-use am_journal::Ending;
+use am_journal::{Ending, Refused};
 use am_serve::WriteEnd;
 use am_text::Items;
 
@@ -25,8 +25,8 @@ pub enum Slot<G, L, S, K> {
     Unlinked(G),
     /// Its link gave no halves.
     Unhalved(G, L),
-    /// Memory ran out before its connection was dialled.
-    Undialled(Objects<G, L, S, K>),
+    /// Its connection was not dialled, for this reason.
+    Undialled(Objects<G, L, S, K>, Refused),
     /// Its connection was dialled, and has ended: what its sides answered.
     Served(Objects<G, L, S, K>, Option<Ending>, WriteEnd),
 }

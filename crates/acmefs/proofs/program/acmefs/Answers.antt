@@ -7,8 +7,7 @@ use Rattle.acmefs.proofs.Drills.{drill_usage, drill_write_fault, drill_complete}
 use Rattle.acmefs.proofs.Idle as idle
 use Rattle.acmefs.proofs.OwnText.{says_own}
 use Rattle.acmefs.proofs.Promised as promised
-use Rattle.acmefs.proofs.RoundTrip.{says_trips}
-use Rattle.acmefs.proofs.ServeEnds.{never_usage, at_path, serve_read_fault, serve_write_fault, none_replied}
+use Rattle.acmefs.proofs.ServeEnds.{never_usage, at_path, serve_read_fault, serve_write_fault, none_replied, none_ended, none_complete, complete_at}
 use Rattle.acmefs.proofs.Words.{asked_at, none_at, replay_alone, replay_no_drill, drill_no_serving, asked_once, rounds_once}
 use Rattle.acmefs.proofs.program.acmefs.Goals as goal
 
@@ -56,13 +55,18 @@ returns-in-Ok-Some-Replay-clause-drill_reads_none g c = λ n a. absurd (let e = 
 pub returns-in-Ok-Some-Replay-clause-serves : goal.returns-in-Ok-Some-Replay-clause-serves
 returns-in-Ok-Some-Replay-clause-serves g c = λ path clients a. absurd (let e = sym (replay_alone c.args.words.now (asked_at c.args.words.now _ c.in-Ok-Some-Replay.field-0 c.in-Ok-Some-Replay.field-0-0 asked.Replay c.in-Ok-Some-Replay.field-0-is c.in-Ok-Some-Replay.field-0-0-is c.as_slice.ensures c.in-Ok-Some-Replay.ensures.asked)) ∙ a.0 in cc)
 
-pub returns-in-Ok-Some-Replay-clause-round_trip : goal.returns-in-Ok-Some-Replay-clause-round_trip
-returns-in-Ok-Some-Replay-clause-round_trip g c = let s = c.replayed.ensures.says in λ n. says_trips s.0 _ _ _ _ _ s.2
-
 pub returns-in-Ok-Some-Replay-clause-replied : goal.returns-in-Ok-Some-Replay-clause-replied
 returns-in-Ok-Some-Replay-clause-replied g c = λ h. none_replied {G = g.row.H-G.Denot} {L = g.row.H-G-L.Denot} {S = g.row.H-G-L-R.Denot} {K = g.row.H-G-L-W.Denot}
     (outside g.H.G.Gate.name g.H.G.Gate.faults g.H.G.L.Link.begins g.H.G.L.Link.faults g.H.G.L.R.Source.left g.H.G.L.R.Source.faults g.H.G.L.W.Sink.held g.H.G.L.W.Sink.faults)
     _ _ c.replayed.ensures.none_served
+
+pub returns-in-Ok-Some-Replay-clause-sound : goal.returns-in-Ok-Some-Replay-clause-sound
+returns-in-Ok-Some-Replay-clause-sound g c = none_ended {G = g.row.H-G.Denot} {L = g.row.H-G-L.Denot} {S = g.row.H-G-L-R.Denot} {K = g.row.H-G-L-W.Denot}
+    (outside g.H.G.Gate.name g.H.G.Gate.faults g.H.G.L.Link.begins g.H.G.L.Link.faults g.H.G.L.R.Source.left g.H.G.L.R.Source.faults g.H.G.L.W.Sink.held g.H.G.L.W.Sink.faults)
+    _ _ c.replayed.ensures.none_served
+
+pub returns-in-Ok-Some-Replay-clause-serve_complete : goal.returns-in-Ok-Some-Replay-clause-serve_complete
+returns-in-Ok-Some-Replay-clause-serve_complete g c = λ path clients a. absurd (let e = sym (replay_alone c.args.words.now (asked_at c.args.words.now _ c.in-Ok-Some-Replay.field-0 c.in-Ok-Some-Replay.field-0-0 asked.Replay c.in-Ok-Some-Replay.field-0-is c.in-Ok-Some-Replay.field-0-0-is c.as_slice.ensures c.in-Ok-Some-Replay.ensures.asked)) ∙ a.0 in cc)
 
 -- ---- a drill
 
@@ -106,6 +110,14 @@ pub returns-in-Ok-Some-Drill-clause-replied : goal.returns-in-Ok-Some-Drill-clau
 returns-in-Ok-Some-Drill-clause-replied g c = λ h. none_replied {G = g.row.H-G.Denot} {L = g.row.H-G-L.Denot} {S = g.row.H-G-L-R.Denot} {K = g.row.H-G-L-W.Denot}
     (outside g.H.G.Gate.name g.H.G.Gate.faults g.H.G.L.Link.begins g.H.G.L.Link.faults g.H.G.L.R.Source.left g.H.G.L.R.Source.faults g.H.G.L.W.Sink.held g.H.G.L.W.Sink.faults)
     _ _ c.drilled.ensures.none_served
+
+pub returns-in-Ok-Some-Drill-clause-sound : goal.returns-in-Ok-Some-Drill-clause-sound
+returns-in-Ok-Some-Drill-clause-sound g c = none_ended {G = g.row.H-G.Denot} {L = g.row.H-G-L.Denot} {S = g.row.H-G-L-R.Denot} {K = g.row.H-G-L-W.Denot}
+    (outside g.H.G.Gate.name g.H.G.Gate.faults g.H.G.L.Link.begins g.H.G.L.Link.faults g.H.G.L.R.Source.left g.H.G.L.R.Source.faults g.H.G.L.W.Sink.held g.H.G.L.W.Sink.faults)
+    _ _ c.drilled.ensures.none_served
+
+pub returns-in-Ok-Some-Drill-clause-serve_complete : goal.returns-in-Ok-Some-Drill-clause-serve_complete
+returns-in-Ok-Some-Drill-clause-serve_complete g c = λ path clients a. absurd (let e = sym (drill_no_serving c.args.words.now c.in-Ok-Some-Drill.rounds (asked_at c.args.words.now _ c.in-Ok-Some-Drill.field-0 c.in-Ok-Some-Drill.field-0-0 (asked.Drill c.in-Ok-Some-Drill.rounds) c.in-Ok-Some-Drill.field-0-is c.in-Ok-Some-Drill.field-0-0-is c.as_slice.ensures c.in-Ok-Some-Drill.ensures.asked)) ∙ a.0 in cc)
 
 -- ---- serving
 
@@ -169,14 +181,21 @@ returns-in-Ok-Some-Serve-clause-drill_reads_none g c = λ n a. absurd (let e = s
 pub returns-in-Ok-Some-Serve-clause-none_served : goal.returns-in-Ok-Some-Serve-clause-none_served
 returns-in-Ok-Some-Serve-clause-none_served g c = λ n. absurd (let a = sym n ∙ (asked_at c.args.words.now _ c.in-Ok-Some-Serve.field-0 c.in-Ok-Some-Serve.field-0-0 (asked.Serve c.in-Ok-Some-Serve.path c.in-Ok-Some-Serve.clients) c.in-Ok-Some-Serve.field-0-is c.in-Ok-Some-Serve.field-0-0-is c.as_slice.ensures c.in-Ok-Some-Serve.ensures.asked).0 in cc)
 
-pub returns-in-Ok-Some-Serve-clause-round_trip : goal.returns-in-Ok-Some-Serve-clause-round_trip
-returns-in-Ok-Some-Serve-clause-round_trip g c = λ n. absurd (let a = sym n ∙ (asked_at c.args.words.now _ c.in-Ok-Some-Serve.field-0 c.in-Ok-Some-Serve.field-0-0 (asked.Serve c.in-Ok-Some-Serve.path c.in-Ok-Some-Serve.clients) c.in-Ok-Some-Serve.field-0-is c.in-Ok-Some-Serve.field-0-0-is c.as_slice.ensures c.in-Ok-Some-Serve.ensures.asked).0 in cc)
-
 pub returns-in-Ok-Some-Serve-clause-serves : goal.returns-in-Ok-Some-Serve-clause-serves
 returns-in-Ok-Some-Serve-clause-serves g c = λ path clients a. let same = asked_once c.args.words.now (string_bytes c.in-Ok-Some-Serve.path) path c.in-Ok-Some-Serve.clients clients (asked_at c.args.words.now _ c.in-Ok-Some-Serve.field-0 c.in-Ok-Some-Serve.field-0-0 (asked.Serve c.in-Ok-Some-Serve.path c.in-Ok-Some-Serve.clients) c.in-Ok-Some-Serve.field-0-is c.in-Ok-Some-Serve.field-0-0-is c.as_slice.ensures c.in-Ok-Some-Serve.ensures.asked).0 a.0 in
     at_path {G = g.row.H-G.Denot} {L = g.row.H-G-L.Denot} {S = g.row.H-G-L-R.Denot} {K = g.row.H-G-L-W.Denot}
     (outside g.H.G.Gate.name g.H.G.Gate.faults g.H.G.L.Link.begins g.H.G.L.Link.faults g.H.G.L.R.Source.left g.H.G.L.R.Source.faults g.H.G.L.W.Sink.held g.H.G.L.W.Sink.faults)
     c.deref.result.now path c.in-Ok-Some-Serve.clients clients _ _ _ _ _ (c.deref.ensures ∙ same.0) same.1 c.serve_main.ensures.serves
+
+pub returns-in-Ok-Some-Serve-clause-serve_complete : goal.returns-in-Ok-Some-Serve-clause-serve_complete
+returns-in-Ok-Some-Serve-clause-serve_complete g c = λ path clients a.
+    let same = asked_once c.args.words.now (string_bytes c.in-Ok-Some-Serve.path) path c.in-Ok-Some-Serve.clients clients (asked_at c.args.words.now _ c.in-Ok-Some-Serve.field-0 c.in-Ok-Some-Serve.field-0-0 (asked.Serve c.in-Ok-Some-Serve.path c.in-Ok-Some-Serve.clients) c.in-Ok-Some-Serve.field-0-is c.in-Ok-Some-Serve.field-0-0-is c.as_slice.ensures c.in-Ok-Some-Serve.ensures.asked).0 a.0 in
+    complete_at {G = g.row.H-G.Denot} {L = g.row.H-G-L.Denot} {S = g.row.H-G-L-R.Denot} {K = g.row.H-G-L-W.Denot}
+    (outside g.H.G.Gate.name g.H.G.Gate.faults g.H.G.L.Link.begins g.H.G.L.Link.faults g.H.G.L.R.Source.left g.H.G.L.R.Source.faults g.H.G.L.W.Sink.held g.H.G.L.W.Sink.faults)
+    c.in-Ok-Some-Serve.clients clients _ _ _ _ _ _ same.1 c.serve_main.ensures.complete
+
+pub returns-in-Ok-Some-Serve-clause-untouched : goal.returns-in-Ok-Some-Serve-clause-untouched
+returns-in-Ok-Some-Serve-clause-untouched g c = λ n. absurd (let a = sym n ∙ (asked_at c.args.words.now _ c.in-Ok-Some-Serve.field-0 c.in-Ok-Some-Serve.field-0-0 (asked.Serve c.in-Ok-Some-Serve.path c.in-Ok-Some-Serve.clients) c.in-Ok-Some-Serve.field-0-is c.in-Ok-Some-Serve.field-0-0-is c.as_slice.ensures c.in-Ok-Some-Serve.ensures.asked).0 in cc)
 
 -- ---- other words
 
@@ -213,13 +232,18 @@ returns-in-Ok-None-clause-drilled g c = λ n a. absurd ((none_at c.args.words.no
 pub returns-in-Ok-None-clause-serves : goal.returns-in-Ok-None-clause-serves
 returns-in-Ok-None-clause-serves g c = λ path clients a. absurd ((none_at c.args.words.now _ c.in-Ok-None.field-0 c.in-Ok-None.field-0-is c.as_slice.ensures c.in-Ok-None.ensures.other) (inr (inr (path, clients, a))))
 
-pub returns-in-Ok-None-clause-round_trip : goal.returns-in-Ok-None-clause-round_trip
-returns-in-Ok-None-clause-round_trip g c = λ n. idle.trips _ c.idle.ensures.journal
-
 pub returns-in-Ok-None-clause-replied : goal.returns-in-Ok-None-clause-replied
 returns-in-Ok-None-clause-replied g c = λ h. none_replied {G = g.row.H-G.Denot} {L = g.row.H-G-L.Denot} {S = g.row.H-G-L-R.Denot} {K = g.row.H-G-L-W.Denot}
     (outside g.H.G.Gate.name g.H.G.Gate.faults g.H.G.L.Link.begins g.H.G.L.Link.faults g.H.G.L.R.Source.left g.H.G.L.R.Source.faults g.H.G.L.W.Sink.held g.H.G.L.W.Sink.faults)
     _ _ c.idle.ensures.none_served
+
+pub returns-in-Ok-None-clause-sound : goal.returns-in-Ok-None-clause-sound
+returns-in-Ok-None-clause-sound g c = none_ended {G = g.row.H-G.Denot} {L = g.row.H-G-L.Denot} {S = g.row.H-G-L-R.Denot} {K = g.row.H-G-L-W.Denot}
+    (outside g.H.G.Gate.name g.H.G.Gate.faults g.H.G.L.Link.begins g.H.G.L.Link.faults g.H.G.L.R.Source.left g.H.G.L.R.Source.faults g.H.G.L.W.Sink.held g.H.G.L.W.Sink.faults)
+    _ _ c.idle.ensures.none_served
+
+pub returns-in-Ok-None-clause-serve_complete : goal.returns-in-Ok-None-clause-serve_complete
+returns-in-Ok-None-clause-serve_complete g c = λ path clients a. absurd ((none_at c.args.words.now _ c.in-Ok-None.field-0 c.in-Ok-None.field-0-is c.as_slice.ensures c.in-Ok-None.ensures.other) (inr (inr (path, clients, a))))
 
 -- ---- want of memory
 
@@ -243,10 +267,17 @@ returns-in-Err-clause-serves g c = λ path clients a. idle.serves {G = g.row.H-G
     (outside g.H.G.Gate.name g.H.G.Gate.faults g.H.G.L.Link.begins g.H.G.L.Link.faults g.H.G.L.R.Source.left g.H.G.L.R.Source.faults g.H.G.L.W.Sink.held g.H.G.L.W.Sink.faults)
     path clients _ _ _ _ _ refl c.idle-in-Err.ensures.status c.idle-in-Err.ensures.journal c.idle-in-Err.ensures.none_served
 
-pub returns-in-Err-clause-round_trip : goal.returns-in-Err-clause-round_trip
-returns-in-Err-clause-round_trip g c = λ n. idle.trips _ c.idle-in-Err.ensures.journal
-
 pub returns-in-Err-clause-replied : goal.returns-in-Err-clause-replied
 returns-in-Err-clause-replied g c = λ h. none_replied {G = g.row.H-G.Denot} {L = g.row.H-G-L.Denot} {S = g.row.H-G-L-R.Denot} {K = g.row.H-G-L-W.Denot}
     (outside g.H.G.Gate.name g.H.G.Gate.faults g.H.G.L.Link.begins g.H.G.L.Link.faults g.H.G.L.R.Source.left g.H.G.L.R.Source.faults g.H.G.L.W.Sink.held g.H.G.L.W.Sink.faults)
     _ _ c.idle-in-Err.ensures.none_served
+
+pub returns-in-Err-clause-sound : goal.returns-in-Err-clause-sound
+returns-in-Err-clause-sound g c = none_ended {G = g.row.H-G.Denot} {L = g.row.H-G-L.Denot} {S = g.row.H-G-L-R.Denot} {K = g.row.H-G-L-W.Denot}
+    (outside g.H.G.Gate.name g.H.G.Gate.faults g.H.G.L.Link.begins g.H.G.L.Link.faults g.H.G.L.R.Source.left g.H.G.L.R.Source.faults g.H.G.L.W.Sink.held g.H.G.L.W.Sink.faults)
+    _ _ c.idle-in-Err.ensures.none_served
+
+pub returns-in-Err-clause-serve_complete : goal.returns-in-Err-clause-serve_complete
+returns-in-Err-clause-serve_complete g c = λ path clients a. none_complete {G = g.row.H-G.Denot} {L = g.row.H-G-L.Denot} {S = g.row.H-G-L-R.Denot} {K = g.row.H-G-L-W.Denot}
+    (outside g.H.G.Gate.name g.H.G.Gate.faults g.H.G.L.Link.begins g.H.G.L.Link.faults g.H.G.L.R.Source.left g.H.G.L.R.Source.faults g.H.G.L.W.Sink.held g.H.G.L.W.Sink.faults)
+    clients _ _ _ _ _ _ c.idle-in-Err.ensures.status

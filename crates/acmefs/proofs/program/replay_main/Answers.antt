@@ -1,5 +1,5 @@
 use Rattle.acmefs.proofs.OwnText.{says_own}
-use Rattle.acmefs.proofs.RoundTrip.{says_trips}
+use Rattle.acmefs.proofs.RoundTrip.{says_played, says_trips}
 use Rattle.acmefs.proofs.program.replay_main.Goals as goal
 
 pub returns-clause-own_text : goal.returns-clause-own_text
@@ -7,3 +7,6 @@ returns-clause-own_text g c = (c.replay-ended.result.end, c.code.ensures, says_o
 
 pub returns-clause-round_trip : goal.returns-clause-round_trip
 returns-clause-round_trip g c = says_trips c.replay-ended.result.end _ _ _ _ _ c.replay-ended.ensures
+
+pub returns-clause-played : goal.returns-clause-played
+returns-clause-played g c = says_played c.replay-ended.result.end _ _ _ _ _ c.replay-ended.ensures
