@@ -2,3 +2,4 @@ pub mod Knowing
 pub mod Journals
 pub mod Desks
 pub mod Replies
+pub mod Ranged

@@ -10,6 +10,7 @@ ghost use Rattle.am_counter.specs.Played.{IsPlayed};
 ghost use Rattle.acme_core.specs.Asks.{answer_at};
 ghost use Rattle.acme_core.specs.Run.{enabled, output_at, settled, Refuses, IsHang, IsWhy};
 ghost use Rattle.am_desk.specs.Knowing.{nothing_taken};
+ghost use Rattle.am_desk.specs.Ranged.{ranged-prop};
 
 use acme_core::{Ask, Bytes, Core, Event, Items, NoMemory, Refused};
 use am_counter::{Taken, Told};
@@ -23,7 +24,7 @@ pub struct Settled {
     core: Core,
     ghost few: { length core.journal < 2 ^ 64 },
     ghost idle: { core.planned ≡ None },
-    ghost in_range: { AllByRecursion IsInRange core.journal },
+    ghost in_range: { AllByRecursion IsInRange core.journal } by { ranged-prop core.journal },
 }
 
 // What came of a take where there is nothing to take.

@@ -45,11 +45,13 @@ fn serve_sides<
     ensures wrote { DidWrite C.unsent conn (C.known other.old) (C.known other.new)
         (record { first = K.held writer.old; now = K.held writer.new; faults = K.faults writer.old; faults_now = K.faults writer.new }) result.1 }
 {
-    join_mut(
+    // Where no thread can be made the side that writes comes last: it would wait for the other.
+    let (wrote, read) = join_mut(
         rt,
-        &mut || read_side(rt, alloc, desk, seat, bells, conn, reader),
         &mut || write_side(rt, alloc, desk, other, bells, conn, writer),
-    )
+        &mut || read_side(rt, alloc, desk, seat, bells, conn, reader),
+    );
+    (read, wrote)
 }
 
 // A connection that was dialled, until it has ended.

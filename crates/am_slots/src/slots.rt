@@ -82,13 +82,14 @@ fn serve_beside<
     ensures ends { EndsScript C.enabled C.answer clients (C.known seat.old) (asked_by_script script.now) result (C.known seat.new) }
     ensures each { ServesEach F.Fn serve.now workers.old workers.new }
 {
-    let (_, end) = join_mut(
+    // Where no thread can be made the script comes last: it may wait for connections.
+    let (end, _) = join_mut(
         rt,
+        &mut || do_script(rt, alloc, desk, bells, script, clients, seat),
         &mut ||
             requires { AcceptsEach F.Fn serve.now workers.now }
             ensures { ServesEach F.Fn serve.entry.now workers.entry.now workers.exit.now }
         { serve_each(rt, workers, serve) },
-        &mut || do_script(rt, alloc, desk, bells, script, clients, seat),
     );
     end
 }
