@@ -2,3 +2,4 @@ pub mod Known
 pub mod Laws
 pub mod Played
 pub mod Telling
+pub mod Sent

@@ -15,12 +15,12 @@ body-prop : (body : TBody) → IsProp (BodyInRange_t body)
 body-prop (t.Version msize version) = le_prop
 body-prop (t.Auth afid uname aname) = le_prop
 body-prop (t.Flush oldtag) = le_prop
-body-prop (t.Attach fid afid uname aname) = ×_prop le_prop le_prop
-body-prop (t.Walk fid newfid names) = ×_prop le_prop le_prop
-body-prop (t.Open fid mode) = ×_prop le_prop le_prop
-body-prop (t.Create fid name perm mode) = ×_prop le_prop (×_prop le_prop le_prop)
-body-prop (t.Read fid offset count) = ×_prop le_prop (×_prop le_prop le_prop)
-body-prop (t.Write fid offset bytes) = ×_prop le_prop le_prop
+body-prop (t.Attach fid afid uname aname) = Prim.hlevel props
+body-prop (t.Walk fid newfid names) = Prim.hlevel props
+body-prop (t.Open fid mode) = Prim.hlevel props
+body-prop (t.Create fid name perm mode) = Prim.hlevel props
+body-prop (t.Read fid offset count) = Prim.hlevel props
+body-prop (t.Write fid offset bytes) = Prim.hlevel props
 body-prop (t.Clunk fid) = le_prop
 body-prop (t.Remove fid) = le_prop
 body-prop (t.Stat fid) = le_prop
@@ -34,12 +34,12 @@ bytes-prop bytes = Prim.hlevel props
 
 event-prop : (e : Event) → IsProp (IsInRange e)
 event-prop (event.Dial c) = le_prop
-event-prop (event.Msg c m) = ×_prop le_prop (×_prop (message-prop m) (bytes-prop (spelling_t m)))
+event-prop (event.Msg c m) = Prim.hlevel (props, message-prop, bytes-prop)
 event-prop (event.Hang c why) = le_prop
 event-prop (event.Took c) = le_prop
 event-prop event.New = Unit-prop
 event-prop (event.Key w side text) = le_prop
-event-prop (event.Sel w range) = ×_prop le_prop (×_prop le_prop le_prop)
+event-prop (event.Sel w range) = Prim.hlevel props
 
 pub ranged-prop : (journal : List Event) → IsProp (AllByRecursion IsInRange journal)
 ranged-prop [] = Unit-prop

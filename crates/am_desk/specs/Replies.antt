@@ -1,23 +1,8 @@
--- The replies that a journal makes.
-use Rattle.std.specs.Prelude.{ℕ, ◌==◌, List, [], ◌∷◌, ◌++◌, map, if◌then◌else◌}
+-- Whom the last entry of a journal replied to.
+use Rattle.std.specs.Prelude.{ℕ, List, map}
 use Rattle.am_journal.specs.declared.event.Event.{Event}
 use Rattle.acme_core.specs.declared.unsent.Reply.{Reply}
-use Rattle.acme_core.specs.Run.{step, run}
-use Rattle.acme_core.specs.States.{State, start}
-
--- the bytes of those to a connection, one after another
-abbrev pub bytes_to : ℕ → List Reply → List ℕ
-bytes_to conn [] = []
-bytes_to conn (reply ∷ replies) = (if reply.conn == conn then reply.bytes else []) ++ bytes_to conn replies
-
--- the replies to a connection that the editor makes from a state on, entry by entry
-abbrev pub replies_from : State → List Event → ℕ → List ℕ
-replies_from s [] conn = []
-replies_from s (e ∷ events) conn = bytes_to conn (step s e).replies ++ replies_from (step s e) events conn
-
--- all replies to a connection
-abbrev pub replies : List Event → ℕ → List ℕ
-replies journal conn = replies_from start journal conn
+use Rattle.acme_core.specs.Run.{run}
 
 -- the connections that the last entry replied to, in the order of its replies
 abbrev pub told_by : List Event → List ℕ

@@ -54,6 +54,7 @@ impl Settled {
     ghost use Rattle.am_desk.specs.Replies.{told_by};
 
     /// The empty editor.
+    #[tactic(auto, using(crate::proofs::Ranges::ranges))]
     pub fn new(alloc: Global) -> Result<Settled, NoMemory>
         ensures { IfOk result (λ settled. journal_of settled ≡ []) }
     {
@@ -62,6 +63,7 @@ impl Settled {
     }
 
     // One step of the core.
+    #[tactic(auto, using(crate::proofs::Ranges::ranges))]
     fn step_alone(&mut self, event: Event) -> Result<u64, Refused>
         requires lawful { IsLawful event }
         requires in_range { IsInRange event }

@@ -129,8 +129,8 @@ module _ {G L S K : Type 0} where
   Well : Output → List Event → ServeEnd → Type 0
   Well o journal e = ((e ≡ end.Done) × IsWhole o (whole_text journal)) ⊎ (e ≡ end.NoMemory)
 
-  done_at : (slots : List (Slot G L S K)) → list_any has_failed slots ≡ false → (untold : Bool) → end_at slots script.Done false ≡ end_done (list_any wants_untold slots) false
-  done_at slots none untold = ap (λ (b : Bool). cond b end.HostFault (end_done (list_any wants_untold slots) false)) none
+  done_at : (slots : List (Slot G L S K)) → list_any has_failed slots ≡ false → end_at slots script.Done false ≡ end_done (list_any wants_untold slots) false
+  done_at slots none = ap (λ (b : Bool). cond b end.HostFault (end_done (list_any wants_untold slots) false)) none
 
   whole_or_out : (o : Output) (journal : List Event) (untold : Bool) (e : ServeEnd) → e ≡ end_done untold false → IsWhole o (whole_text journal) → Well o journal e
   unfolding Well
@@ -145,7 +145,7 @@ module _ {G L S K : Type 0} where
   wrote_well o journal slots script.NoMemory e calm none unrefused (inr (inl w)) = absurd (calm w.1.risen)
   wrote_well o journal slots script.NoMemory e calm none unrefused (inr (inr w)) = inr w.0
   wrote_well o journal slots script.Done e calm none unrefused (inl w) =
-      whole_or_out o journal (list_any wants_untold slots) e (w.0 ∙ done_at slots none false) (subst (λ (l : List ℕ). IsWhole o l) (text_whole journal slots none) w.1)
+      whole_or_out o journal (list_any wants_untold slots) e (w.0 ∙ done_at slots none) (subst (λ (l : List ℕ). IsWhole o l) (text_whole journal slots none) w.1)
   wrote_well o journal slots script.Done e calm none unrefused (inr (inl w)) = absurd (calm w.1.risen)
   wrote_well o journal slots script.Done e calm none unrefused (inr (inr w)) = inr w.0
 

@@ -13,7 +13,7 @@ use Rattle.am_serve.specs.declared.scripting.ScriptEnd.TheVariants as script
 use Rattle.am_serve.specs.declared.writing.WriteEnd.{WriteEnd}
 use Rattle.am_serve.specs.declared.writing.WriteEnd.TheVariants as write
 use Rattle.acme_core.specs.Run.{enabled, output_at}
-use Rattle.am_desk.specs.Replies.{replies}
+use Rattle.core_laws.specs.Replies.{replies}
 use Rattle.core_laws.specs.Laws.{EndedGetAllReplies}
 use Rattle.am_slots.specs.Connection.{endings_of}
 use Rattle.am_slots.specs.Serving.{EachIs, EachTells}

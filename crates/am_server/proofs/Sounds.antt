@@ -16,6 +16,7 @@ use Rattle.ninep_cut.specs.declared.cut.Cut.TheVariants.{More, Broken}
 use Rattle.ninep_cut.specs.Cuts.{Stream, cut_of, cut_stream}
 use Rattle.ninep_cut.specs.Laws.{JoinsPieces, CutsNoMore}
 use Rattle.ninep_cut.proofs.Fronts.{at_few}
+use Rattle.am_journal.specs.declared.ending.Bad.{Bad}
 use Rattle.am_journal.specs.declared.ending.Bad.TheVariants as bad
 use Rattle.am_journal.specs.declared.ending.Ending.{Ending}
 use Rattle.am_journal.specs.declared.ending.Ending.TheVariants as ending
@@ -78,6 +79,16 @@ front_fits xs ys fits =
     (le-leb (length xs) message_limit (omega (arith, few, length-append xs ys)))
     (le-leb (length (concat xs)) byte_limit (omega (arith, small, ap length (concat-append xs ys), length-append (concat xs) (concat ys))))
 
+-- ---- what bytes spell
+
+no_fault : (r : Result TMsg WireFault) (msg : TMsg) (f : WireFault) → r ≡ Ok msg → r ≡ Err f → ⊥
+no_fault (Ok x) msg f a b = cc
+no_fault (Err x) msg f a b = cc
+
+one_message : (r : Result TMsg WireFault) (a b : TMsg) → r ≡ Ok a → r ≡ Ok b → a ≡ b
+one_message (Ok x) a b p q = cc
+one_message (Err x) a b p q = absurd cc
+
 -- ---- a piece of a stream of whole messages
 
 module _ (joins : JoinsPieces) (breaks : CutsNoMore) (journal : List Event) (conn : ℕ) (piece more : List ℕ) (whole : (cut_stream (piece ++ more)).rest ≡ [])
@@ -94,8 +105,7 @@ module _ (joins : JoinsPieces) (breaks : CutsNoMore) (journal : List Event) (con
   not_faulty given f n =
       let next = next_of_all given n.0 n.1.0 in
       let read = may given next.0 n.0 next.1 in
-      let same : Ok {E = WireFault} read.0 ≡ Err f = sym read.1 ∙ n.2 in
-      cc
+      no_fault (t_of n.0) read.0 f read.1 n.2
 
   not_size : (given : List (List ℕ)) → SizeFaulty given (cut_stream piece) → ⊥
   not_size given n =
@@ -114,9 +124,7 @@ module _ (joins : JoinsPieces) (breaks : CutsNoMore) (journal : List Event) (con
     in_turn given reason exact n =
         let next = next_of_all given n.0 n.2.0 in
         let read = may given next.0 n.0 next.1 in
-        let both : Ok {E = WireFault} read.0 ≡ Ok n.1 = sym read.1 ∙ n.3 in
-        let same : read.0 ≡ n.1 = cc in
-        (n.1, subst (λ (x : TMsg). IsInTurn before conn x) same (read.2 before front exact goes_on), n.4)
+        (n.1, subst (λ (x : TMsg). IsInTurn before conn x) (one_message (t_of n.0) read.0 n.1 read.1 n.3) (read.2 before front exact goes_on), n.4)
 
     not_spent : (given : List (List ℕ)) (m : List ℕ) → IsNext given (cut_stream piece).messages m → fits_budget (given ++ m ∷ []) ≡ false → ⊥
     not_spent given m n out =
@@ -126,7 +134,7 @@ module _ (joins : JoinsPieces) (breaks : CutsNoMore) (journal : List Event) (con
         let same : true ≡ false = sym inside ∙ out in
         cc
 
-    not_broken : (given : List (List ℕ)) (b : _) → messages_of before conn ≡ given → IsBroken enabled conn before given (cut_stream piece) b → ⊥
+    not_broken : (given : List (List ℕ)) (b : Bad) → messages_of before conn ≡ given → IsBroken enabled conn before given (cut_stream piece) b → ⊥
     not_broken given (bad.Wire f) exact (inl n) = not_faulty given f n
     not_broken given (bad.Wire f) exact (inr n) = not_size given n.1
     not_broken given bad.Size exact n = let t = in_turn given why.Size exact n in t.1.0 t.2

@@ -4,7 +4,7 @@ use Rattle.am_base.specs.Outside.{AreTold}
 use Rattle.am_journal.specs.declared.ending.Ending.{Ending}
 use Rattle.am_journal.specs.declared.ending.Ending.TheVariants as ending
 use Rattle.am_journal.specs.declared.event.Event.{Event}
-use Rattle.am_desk.specs.Replies.{replies}
+use Rattle.core_laws.specs.Replies.{replies}
 use Rattle.am_slots.specs.Slots.{Outside}
 use Rattle.am_server.specs.declared.served.Served.{Served}
 use Rattle.am_server.specs.declared.served.ServedEnd.TheVariants as served

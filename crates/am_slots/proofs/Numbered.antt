@@ -6,7 +6,7 @@ use Rattle.turn_lock.specs.Journal.{total, once, times, Stands, AllStand}
 use Rattle.turn_lock.specs.Kinds.{plain, AllFail, NoneHas, KeepsOrder}
 use Rattle.turn_lock.proofs.Interleaved.{keeps_order}
 use Rattle.am_journal.specs.declared.event.Event.{Event}
-use Rattle.am_slots.specs.Connection.{sent, sent_by, sent_from}
+use Rattle.am_counter.specs.Sent.{sent, sent_by, sent_from}
 
 module _ {E : Type 0} where
   -- entries, the first of which has this number

@@ -16,7 +16,8 @@ use Rattle.am_serve.specs.Reading.{GivesOf, spellings, spelled_on, messages_of}
 use Rattle.am_serve.specs.Script.{Answers}
 use Rattle.am_serve.specs.Writing.{taken_bytes, Gets}
 use Rattle.am_serve.specs.declared.writing.WriteEnd.{WriteEnd}
-use Rattle.am_slots.specs.Connection.{is_of, ended_by, endings_of, sent_by, sent}
+use Rattle.am_counter.specs.Sent.{sent_by, sent}
+use Rattle.am_slots.specs.Connection.{is_of, ended_by, endings_of}
 use Rattle.am_slots.specs.Sides.{Reads, Writes}
 use Rattle.am_slots.specs.Slots.{IsCause, IsServed}
 use Rattle.am_slots.proofs.Gathered.{none-append, none_narrower, gives, gives_none, gathered}

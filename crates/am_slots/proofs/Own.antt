@@ -19,7 +19,8 @@ use Rattle.am_serve.specs.Reading.{AreMessages, spelling_of, spellings, spelled_
 use Rattle.am_serve.specs.Writing.{AreTakings, bytes_of, taken_bytes}
 use Rattle.am_serve.specs.declared.writing.WriteEnd.{WriteEnd}
 use Rattle.am_serve.specs.declared.writing.WriteEnd.TheVariants as end
-use Rattle.am_slots.specs.Connection.{ended_by, sent_by}
+use Rattle.am_counter.specs.Sent.{sent_by}
+use Rattle.am_slots.specs.Connection.{ended_by}
 use Rattle.am_slots.specs.Sides.{IsHangUp, HangsAfterReading, HangsAfterWriting, Reads, Writes}
 use Rattle.am_slots.specs.Slots.{IsCause}
 use Rattle.am_slots.proofs.Gathered.{fails-append, filter_fails, gathered_at, only_one}

@@ -33,24 +33,6 @@ ended_by conn (event.Sel w range) = []
 abbrev pub endings_of : List Event → ℕ → List Ending
 endings_of journal conn = flat_map (ended_by conn) journal
 
-abbrev pub sent_by : (List Event → ℕ → List ℕ) → ℕ → List Event → Event → List ℕ
-sent_by unsent conn before (event.Dial c) = []
-sent_by unsent conn before (event.Msg c msg) = []
-sent_by unsent conn before (event.Hang c why) = []
-sent_by unsent conn before (event.Took c) = if c == conn then unsent before c else []
-sent_by unsent conn before event.New = []
-sent_by unsent conn before (event.Key w side text) = []
-sent_by unsent conn before (event.Sel w range) = []
-
--- the bytes that events take of a connection's replies, each after those before it
-unfoldable pub sent_from : (List Event → ℕ → List ℕ) → List Event → List Event → ℕ → List ℕ
-sent_from unsent before [] conn = []
-sent_from unsent before (e ∷ events) conn = sent_by unsent conn before e ++ sent_from unsent (before ++ e ∷ []) events conn
-
--- all bytes that were sent to the connection: the replies that each taking found unsent
-abbrev pub sent : (List Event → ℕ → List ℕ) → List Event → ℕ → List ℕ
-sent unsent journal conn = sent_from unsent [] journal conn
-
 -- at a turn behind the connection's hang-up no reply to it was unsent
 abbrev pub IsDrained : (List Event → ℕ → List ℕ) → List Event → ℕ → Type 0
 IsDrained unsent journal conn = (before : List Event) × IsPrefix before journal × (has_hang before conn ≡ true) × (unsent before conn ≡ [])

@@ -13,7 +13,8 @@ use Rattle.am_serve.specs.Reading.{messages_of, GivesOf}
 use Rattle.am_serve.specs.Writing.{Gets}
 use Rattle.am_serve.specs.declared.writing.WriteEnd.{WriteEnd}
 use Rattle.am_serve.specs.declared.writing.WriteEnd.TheVariants as end
-use Rattle.am_slots.specs.Connection.{IsSilent, IsDrained, endings_of, sent}
+use Rattle.am_counter.specs.Sent.{sent}
+use Rattle.am_slots.specs.Connection.{IsSilent, IsDrained, endings_of}
 use Rattle.am_slots.specs.Sides.{WasRefused, Serves}
 use Rattle.am_slots.specs.declared.slot.Slot.{Slot}
 use Rattle.am_slots.specs.declared.slot.Slot.TheVariants as slot

@@ -8,7 +8,7 @@ use Rattle.event_book.specs.BookState.{BookState}
 use Rattle.am_journal.specs.declared.event.Event.{Event}
 use Rattle.am_journal.specs.declared.event.Event.TheVariants as event
 use Rattle.am_counter.specs.Played.{ArePlayed, IsPlayed, has_hang, is_hang_of}
-use Rattle.am_slots.specs.Connection.{sent, sent_from}
+use Rattle.am_counter.specs.Sent.{sent, sent_from}
 use Rattle.core_events.specs.declared.response.Response.{Response}
 use Rattle.acme_core.specs.declared.connection.Connection.{Connection}
 use Rattle.acme_core.specs.declared.connection.Connection.TheVariants.{Undialed, Live, Ended}
@@ -22,7 +22,7 @@ use Rattle.acme_core.specs.Unsent.{replies_of}
 use Rattle.acme_core.proofs.Connected.{tells_connections}
 use Rattle.acme_core.proofs.Goes.{run-push}
 use Rattle.core_laws.specs.Laws.{NothingAfterTheHangUp, EndedGetAllReplies}
-use Rattle.am_desk.specs.Replies.{bytes_to}
+use Rattle.core_laws.specs.Replies.{bytes_to}
 use Rattle.core_laws.proofs.Books.{IsBook, book_weaker}
 use Rattle.core_laws.proofs.Fids.{IsHeld, fids_at}
 use Rattle.core_laws.proofs.Playing.{played_more, played_parts}

@@ -1,6 +1,6 @@
 -- Replies, entry by entry, each after the entries before it.
 use Rattle.std.proofs.Common.{◌≡◌, ℕ, List, [], ◌∷◌, ◌++◌, refl, sym, ap, ◌∙◌, append_assoc, append-nil}
-use Rattle.am_desk.specs.Replies.{bytes_to, replies_from, replies}
+use Rattle.core_laws.specs.Replies.{bytes_to, replies_from, replies}
 use Rattle.am_journal.specs.declared.event.Event.{Event}
 use Rattle.acme_core.specs.Run.{run}
 use Rattle.acme_core.specs.States.{State}

@@ -5,7 +5,7 @@ use Rattle.std.proofs.lemmas.Bool.{eqb-true, eqb-false}
 use Rattle.std.proofs.lemmas.List.{get_or-set_same, get_or-set_other, length-set, length-replicate}
 use Rattle.am_journal.specs.declared.event.Event.{Event}
 use Rattle.am_journal.specs.declared.event.Event.TheVariants as event
-use Rattle.am_slots.specs.Connection.{sent_by, sent_from}
+use Rattle.am_counter.specs.Sent.{sent_by, sent_from}
 use Rattle.acme_core.specs.declared.unsent.Reply.{Reply}
 use Rattle.acme_core.specs.Run.{step, run, output_at}
 use Rattle.acme_core.specs.Stages.{said}
@@ -13,7 +13,7 @@ use Rattle.acme_core.specs.States.{State, present, start}
 use Rattle.acme_core.specs.Doings.{doing_of}
 use Rattle.acme_core.specs.Unsent.{Unsent, nothing_unsent, unsent_at, with_reply, put_reply, put_replies, replies_of, taken}
 use Rattle.acme_core.proofs.Goes.{run-push}
-use Rattle.am_desk.specs.Replies.{bytes_to}
+use Rattle.core_laws.specs.Replies.{bytes_to}
 use Rattle.core_laws.proofs.Replying.{replied_by, replied_from, all_replied}
 use Rattle.core_laws.specs.Laws.{RepliesAreSentOrUnsent}
 

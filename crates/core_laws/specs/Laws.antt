@@ -5,10 +5,10 @@ use Rattle.fid_table.specs.Tables.{is_waiting}
 use Rattle.wait_queue.specs.Reads.{is_read}
 use Rattle.am_journal.specs.declared.event.Event.{Event}
 use Rattle.am_counter.specs.Played.{IsPrefix, IsPlayed, has_hang}
-use Rattle.am_slots.specs.Connection.{sent}
+use Rattle.am_counter.specs.Sent.{sent}
 use Rattle.acme_core.specs.Run.{run, enabled, output_at}
 use Rattle.acme_core.specs.Unsent.{replies_of}
-use Rattle.am_desk.specs.Replies.{replies}
+use Rattle.core_laws.specs.Replies.{replies}
 use Rattle.core_laws.specs.Saying.{said_after, said_from, is_told, is_message, flush_of, flushed}
 
 -- What was replied to a connection is what was sent to it, and then what is unsent.
