@@ -11,6 +11,7 @@
 //! | `link` HOW | both halves are asked for twice | for each time `done` or `failed` |
 //! | `gate` HOW | two connections are taken | the same |
 //! | `host` FAILS PATH SLOTS | a host with a gate for slot 1 of `/tmp/acme` is asked for those of these slots of a path | the same |
+//! | `dial` FAILS PATH TIMES | a host whose gates of `/tmp/acme` give, fail and give is so often dialled at a path | the same |
 //!
 //! A link or a gate whose HOW is `gives` hands out, and one whose HOW is `fails` never does. SLOTS are numbers with commas
 //! between them. The answers of several calls have a blank between them.
@@ -213,6 +214,21 @@ fn gate_line(alloc: Global, how: &str) -> Result<Bytes, Fault> {
     Ok(line)
 }
 
+fn dial_line(alloc: Global, fields: &str) -> Result<Bytes, Fault> {
+    let (fails, fields) = cut(fields)?;
+    let (path, times) = cut(fields)?;
+    let mut gates = Items::new(alloc);
+    for how in ["gives", "fails", "gives"] {
+        gates.push(gate_of(alloc, how)?)?;
+    }
+    let mut host = MemHost::new(gates, numbers_of(alloc, fails)?);
+    let mut line = Bytes::new(alloc);
+    for _ in 0..size_of(times)? {
+        put(&mut line, word_of(host.dial(path)))?;
+    }
+    Ok(line)
+}
+
 fn host_line(alloc: Global, fields: &str) -> Result<Bytes, Fault> {
     let (fails, fields) = cut(fields)?;
     let (path, slots) = cut(fields)?;
@@ -237,6 +253,7 @@ pub fn answer(alloc: Global, line: &str) -> Result<Bytes, Fault> {
         "link" => link_line(alloc, fields),
         "gate" => gate_line(alloc, fields),
         "host" => host_line(alloc, fields),
+        "dial" => dial_line(alloc, fields),
         _ => Err(Fault::NoCase),
     }
 }
