@@ -18,6 +18,7 @@
 
 ghost use Rattle.std.specs.Prelude.{◌≡◌, IfOk};
 
+use crate::client::client_line;
 use crate::fault::Fault;
 use am_base::{
     Failed, Gate, Host, Link, MemGate, MemHost, MemLink, MemSink, MemSource, NeverFails, ReadStop,
@@ -40,7 +41,7 @@ const PATH: &str = "/tmp/acme";
 
 const SLOT: u32 = 1;
 
-fn cut(fields: &str) -> Result<(&str, &str), Fault> {
+pub(crate) fn cut(fields: &str) -> Result<(&str, &str), Fault> {
     match fields.split_once('\t') {
         Some(parts) => Ok(parts),
         None => Err(Fault::NoCase),
@@ -54,7 +55,7 @@ fn number_of(field: &str) -> Result<u64, Fault> {
     }
 }
 
-fn size_of(field: &str) -> Result<usize, Fault> {
+pub(crate) fn size_of(field: &str) -> Result<usize, Fault> {
     match field.parse() {
         Ok(size) => Ok(size),
         Err(_) => Err(Fault::NoCase),
@@ -68,7 +69,7 @@ fn slot_of(field: &str) -> Result<u32, Fault> {
     }
 }
 
-fn numbers_of(alloc: Global, field: &str) -> Result<Numbers, Fault> {
+pub(crate) fn numbers_of(alloc: Global, field: &str) -> Result<Numbers, Fault> {
     let mut numbers = Items::new(alloc);
     if field == "-" {
         return Ok(numbers);
@@ -87,18 +88,31 @@ fn is_failing(field: &str) -> Result<bool, Fault> {
     }
 }
 
-fn source_of(alloc: Global, piece: &str, fails: Numbers, text: &str) -> Result<MemSource, Fault>
+fn text_of(alloc: Global, text: &str) -> Result<Bytes, Fault> {
+    Ok(Bytes::copied(alloc, text.as_bytes())?)
+}
+
+pub(crate) fn source_of(
+    alloc: Global,
+    piece: &str,
+    fails: Numbers,
+    bytes: Bytes,
+) -> Result<MemSource, Fault>
     ensures { IfOk result (λ source. source.calls.fail_at ≡ fails) }
 {
     let piece = size_of(piece)?;
     if piece == 0 {
         return Err(Fault::NoCase);
     }
-    let text = Bytes::copied(alloc, text.as_bytes())?;
-    Ok(MemSource::new(text, piece, fails))
+    Ok(MemSource::new(bytes, piece, fails))
 }
 
-fn sink_of(alloc: Global, piece: &str, fails: Numbers, room: &str) -> Result<MemSink, Fault> {
+pub(crate) fn sink_of(
+    alloc: Global,
+    piece: &str,
+    fails: Numbers,
+    room: &str,
+) -> Result<MemSink, Fault> {
     let piece = size_of(piece)?;
     if piece == 0 {
         return Err(Fault::NoCase);
@@ -107,7 +121,7 @@ fn sink_of(alloc: Global, piece: &str, fails: Numbers, room: &str) -> Result<Mem
 }
 
 // Puts what a call gave behind the answers before it.
-fn put(line: &mut Bytes, word: &[u8]) -> Result<(), Fault> {
+pub(crate) fn put(line: &mut Bytes, word: &[u8]) -> Result<(), Fault> {
     if !line.is_empty() {
         line.push(BLANK)?;
     }
@@ -135,14 +149,19 @@ fn whole_line(alloc: Global, fields: &str) -> Result<Bytes, Fault> {
     let (piece, fields) = cut(fields)?;
     let (limit, fields) = cut(fields)?;
     let (fails, text) = cut(fields)?;
-    let mut source = source_of(alloc, piece, numbers_of(alloc, fails)?, text)?;
+    let mut source = source_of(
+        alloc,
+        piece,
+        numbers_of(alloc, fails)?,
+        text_of(alloc, text)?,
+    )?;
     read_all(alloc, &mut source, limit)
 }
 
 fn sure_line(alloc: Global, fields: &str) -> Result<Bytes, Fault> {
     let (piece, fields) = cut(fields)?;
     let (limit, text) = cut(fields)?;
-    let source = source_of(alloc, piece, Numbers::new(alloc), text)?;
+    let source = source_of(alloc, piece, Numbers::new(alloc), text_of(alloc, text)?)?;
     read_all(alloc, &mut NeverFails::new(source), limit)
 }
 
@@ -158,7 +177,12 @@ fn reads_line(alloc: Global, fields: &str) -> Result<Bytes, Fault> {
     let (piece, fields) = cut(fields)?;
     let (fails, fields) = cut(fields)?;
     let (times, text) = cut(fields)?;
-    let mut source = source_of(alloc, piece, numbers_of(alloc, fails)?, text)?;
+    let mut source = source_of(
+        alloc,
+        piece,
+        numbers_of(alloc, fails)?,
+        text_of(alloc, text)?,
+    )?;
     let mut line = Bytes::new(alloc);
     for _ in 0..size_of(times)? {
         put_read(&mut line, &mut source)?;
@@ -186,7 +210,7 @@ fn writes_line(alloc: Global, fields: &str) -> Result<Bytes, Fault> {
 }
 
 fn link_of(alloc: Global, how: &str) -> Result<MemLink, Fault> {
-    let source = source_of(alloc, "1", Numbers::new(alloc), "")?;
+    let source = source_of(alloc, "1", Numbers::new(alloc), Bytes::new(alloc))?;
     let sink = sink_of(alloc, "1", Numbers::new(alloc), "1")?;
     Ok(MemLink::new(source, sink, is_failing(how)?))
 }
@@ -254,6 +278,7 @@ pub fn answer(alloc: Global, line: &str) -> Result<Bytes, Fault> {
         "gate" => gate_line(alloc, fields),
         "host" => host_line(alloc, fields),
         "dial" => dial_line(alloc, fields),
+        "client" => client_line(alloc, fields),
         _ => Err(Fault::NoCase),
     }
 }
