@@ -110,32 +110,34 @@ module _ {G L S K : Type 0} (m : Outside G L S K) (journal : List Event) where
 
 -- ---- what is written
 
+-- all is done and written, or memory ran out
+Well : Output → List Event → ServeEnd → Type 0
+Well o journal e = ((e ≡ end.Done) × IsWhole o (whole_text journal)) ⊎ (e ≡ end.NoMemory)
+
+whole_or_out : (o : Output) (journal : List Event) (untold : Bool) (e : ServeEnd) → e ≡ end_done untold false → IsWhole o (whole_text journal) → Well o journal e
+unfolding Well
+whole_or_out o journal true e is whole = inr is
+whole_or_out o journal false e is whole = inl (is, whole)
+
 module _ {G L S K : Type 0} where
   no_hosts : (n : ℕ) (slots : List (Slot G L S K)) → list_any has_failed slots ≡ false → host_text n slots ≡ []
   no_hosts n [] none = refl
-  no_hosts n (s ∷ slots) none = by_case (has_failed s) none
+  no_hosts n (s ∷ slots) none = by_case (has_failed s) none (no_hosts (n + 1) slots)
     where
-      by_case : (b : Bool) → (b || list_any has_failed slots) ≡ false → (cond b (host_line n) []) ++ host_text (n + 1) slots ≡ []
-      by_case true e = absurd cc
-      by_case false e = no_hosts (n + 1) slots e
+      by_case : (b : Bool) → (b || list_any has_failed slots) ≡ false → (list_any has_failed slots ≡ false → host_text (n + 1) slots ≡ []) → (cond b (host_line n) []) ++ host_text (n + 1) slots ≡ []
+      by_case true e others = absurd cc
+      by_case false e others = others e
 
   text_whole : (journal : List Event) (slots : List (Slot G L S K)) → list_any has_failed slots ≡ false → served_text journal slots script.Done ≡ whole_text journal
   text_whole journal slots none =
       ap (λ (l : List ℕ). journal_text journal ++ report_text (view_of journal) ++ l ++ []) (no_hosts 0 slots none)
-      ∙ ap (λ (l : List ℕ). journal_text journal ++ l) (append-nil (report_text (view_of journal)))
+      ∙ append-nil (journal_text journal ++ report_text (view_of journal) ++ [])
+      ∙ append-nil (journal_text journal ++ report_text (view_of journal))
 
   -- ---- how serving ends
 
-  Well : Output → List Event → ServeEnd → Type 0
-  Well o journal e = ((e ≡ end.Done) × IsWhole o (whole_text journal)) ⊎ (e ≡ end.NoMemory)
-
   done_at : (slots : List (Slot G L S K)) → list_any has_failed slots ≡ false → end_at slots script.Done false ≡ end_done (list_any wants_untold slots) false
   done_at slots none = ap (λ (b : Bool). cond b end.HostFault (end_done (list_any wants_untold slots) false)) none
-
-  whole_or_out : (o : Output) (journal : List Event) (untold : Bool) (e : ServeEnd) → e ≡ end_done untold false → IsWhole o (whole_text journal) → Well o journal e
-  unfolding Well
-  whole_or_out o journal true e is whole = inr is
-  whole_or_out o journal false e is whole = inl (is, whole)
 
   wrote_well : (o : Output) (journal : List Event) (slots : List (Slot G L S K)) (done : ScriptEnd) (e : ServeEnd) → ¬ HasRisen o.faults o.faults_now
       → list_any has_failed slots ≡ false → ((line : ℕ) (fault : LineFault) → done ≡ script.Refused line fault → ⊥) → Writes slots done o (served_text journal slots done) e → Well o journal e

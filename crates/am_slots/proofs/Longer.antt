@@ -72,5 +72,5 @@ module _ (enabled : Rule) (unsent : List Event → ℕ → List ℕ) (conn : ℕ
   has_later o xs ys (slot.Bound gate) lists p h = h
   has_later o xs ys (slot.Unlinked gate) lists p h = h
   has_later o xs ys (slot.Unhalved gate link) lists p h = h
-  has_later o xs ys (slot.Undialled x refused) lists p h = (h.0, h.1, grown h.1 xs ys h.2 p, h.3)
+  has_later o xs ys (slot.Undialled x refused) lists p h = (h.0, (h.1.0, grown h.1.0 xs ys h.1.1 p, h.1.2))
   has_later o xs ys (slot.Served x read wrote) lists p h = serves_later xs ys (o.begins x.link) (o.left x.reader) read wrote (o.held x.writer) lists p h
