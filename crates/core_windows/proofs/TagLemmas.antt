@@ -13,7 +13,8 @@ pub shorter : {A : Type 0} (n : ℕ) (xs : List A) → n < length xs → take n 
 shorter n xs h = kept_front n (length xs - 1) xs (omega arith)
 
 pub short : {A : Type 0} (n : ℕ) (xs : List A) → length xs ≤ n → xs ≡ take n xs
-short n [] h = refl
+short zero [] h = refl
+short (suc n) [] h = refl
 short zero (x ∷ xs) h = absurd (omega arith)
 short (suc n) (x ∷ xs) h = ap (λ ys. x ∷ ys) (short n xs (omega arith))
 
