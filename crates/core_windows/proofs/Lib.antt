@@ -6,3 +6,4 @@ pub mod Named
 pub mod PlaceLemmas
 pub mod NumberLemmas
 pub mod TagLemmas
+pub mod Steps
