@@ -16,7 +16,7 @@ use crate::parts::Parts;
 use crate::planning::prepare;
 use crate::prepared::Prepared;
 use crate::unsent::reply_at;
-use crate::view::{addr_of, view_of};
+use crate::view::view_of;
 use am_counter::Ask;
 use am_journal::{Event, ItemViews, Journal, Refused, View};
 use am_text::{NoMemory, Range, Roomy};
@@ -150,7 +150,7 @@ impl Core {
         ensures exact { result ≡ addr_at self.now.journal window }
         ensures inside { IfSome result (IsInside (body_at self.now.journal window)) }
     {
-        addr_of(&self.parts.windows, window)
+        self.parts.windows.kept_addr(window)
     }
 
     /// Answers a question to the journal. It takes no memory.
@@ -163,8 +163,9 @@ impl Core {
     }
 
     /// What the report tells of the editor.
-    #[tactic(auto, unfolding(crate::specs::Views::view_of))]
+    #[tactic(auto, using(crate::proofs::Goes::asking), unfolding(crate::specs::Views::view_of))]
     pub fn view(&self) -> Result<View, NoMemory>
+        requires settled { self.now.planned ≡ None }
         ensures { IfOk result (λ view. view ≡ view_of self.now.journal) }
     {
         view_of(self.alloc, self.journal.len() as u64, &self.parts)

@@ -11,6 +11,7 @@ use Rattle.core_windows.specs.declared.change.Setting.{Setting}
 use Rattle.core_windows.specs.Places.{at_place, live_at}
 use Rattle.core_windows.specs.Possible.{text_in, CanSet, CanEdit, CanChangeAll}
 use Rattle.core_windows.specs.Windows.{Window, window_at, edited, numbers}
+use Rattle.core_windows.specs.Stories.{WindowStory, shown_if_live, shown_windows, story_at, IsLawfulIfLive, AreLawful}
 
 -- ---- the window of a number
 
@@ -93,3 +94,30 @@ listed_lives ws (suc k) h =
     let l : IsSome (live_at ws k) = listed 1 k ws (ap (is_in (numbers 1 ws)) (omega arith) ∙ h) in
     let e : eqb (suc k) 0 ≡ false = grind (arith, nat_tests) in
     subst (λ (b : Bool). IsSome (cond b None (live_at ws (suc k - 1)))) (sym e) (subst (λ (i : ℕ). IsSome (live_at ws i)) (omega arith) l)
+
+-- ---- windows by all that was done to them
+
+live_shown : (k : ℕ) (ss : List (Option WindowStory)) → live_at (shown_windows ss) k ≡ shown_if_live (live_at ss k)
+live_shown k [] = refl
+live_shown zero (None ∷ ss) = refl
+live_shown zero (Some s ∷ ss) = refl
+live_shown (suc k) (s ∷ ss) = live_shown k ss
+
+shown_or : (b : Bool) (o : Option WindowStory) → cond b None (shown_if_live o) ≡ shown_if_live (cond b None o)
+shown_or true o = refl
+shown_or false o = refl
+
+pub window_of_story : (ss : List (Option WindowStory)) (w : ℕ) → window_at (shown_windows ss) w ≡ shown_if_live (story_at ss w)
+window_of_story ss w = ap (λ (o : Option Window). cond (eqb w 0) None o) (live_shown (w - 1) ss) ∙ shown_or (eqb w 0) (live_at ss (w - 1))
+
+live_lawful : (k : ℕ) (ss : List (Option WindowStory)) → AreLawful ss → IsLawfulIfLive (live_at ss k)
+live_lawful k [] h = tt
+live_lawful zero (s ∷ ss) h = h.0
+live_lawful (suc k) (s ∷ ss) h = live_lawful k ss h.1
+
+lawful_or : (b : Bool) (o : Option WindowStory) → IsLawfulIfLive o → IsLawfulIfLive (cond b None o)
+lawful_or true o h = tt
+lawful_or false o h = h
+
+pub lawful_at : (ss : List (Option WindowStory)) (w : ℕ) → AreLawful ss → IsLawfulIfLive (story_at ss w)
+lawful_at ss w h = lawful_or (eqb w 0) (live_at ss (w - 1)) (live_lawful (w - 1) ss h)
