@@ -1,6 +1,7 @@
 -- Changes and their items, one change further.
-use Rattle.std.proofs.Common.{◌≡◌, ℕ, zero, suc, ◌<◌, List, [], ◌∷◌, ◌++◌, length, get_or, map, take, Option, Result, Ok, Err, refl, sym, ap, subst, ◌∙◌, append_assoc, arith}
-use Rattle.std.specs.Prelude.{OnErr}
+use Rattle.std.proofs.Common.{◌≡◌, ℕ, zero, suc, ◌<◌, List, [], ◌∷◌, ◌++◌, length, get_or, map, take, Option, refl, sym, ap, subst, ◌∙◌, append_assoc, arith}
+use Rattle.std.specs.Vec.Iter.{into_iter_items, into_iter_len, into_iter_steps}
+use Rattle.std.proofs.lemmas.Iterator.{YieldsList}
 use Rattle.std.proofs.lemmas.List.{append-nil, map-append, map-id}
 use Rattle.std.proofs.lemmas.Iterator.Adapters.{YieldsList-from_vec}
 use Rattle.win_events.specs.declared.item.Origin.{Origin}
@@ -12,6 +13,10 @@ use Rattle.core_events.specs.declared.putting.WindowItem.{WindowItem}
 use Rattle.core_events.specs.Putting.{made, all_made}
 
 -- ---- the change whose turn it is
+
+-- the items of a vector come one after another
+pub items_come : {A Z : Type 0} → {s : _} (xs ys : List A) (n : ℕ) → into_iter_items s ≡ ys → into_iter_len s ≡ n → n ≡ length ys → ys ≡ xs → YieldsList (into_iter_steps {X = A} {Z = Z}) (λ y. y) s xs
+items_come xs ys n a b c d = YieldsList-from_vec xs (a ∙ d) (b ∙ c ∙ ap length d)
 
 at_turn : (at n : ℕ) (ws : List (Option Window)) (cs : List Change) (c : Change) → CanChangeAll at ws cs → n < length cs → c ≡ get_or cs n c → CanChange (all_changed at ws (take n cs)) c
 at_turn at n ws [] c h l e = absurd (omega arith)
