@@ -141,8 +141,8 @@ module _ (tables : Tables) (conn : ℕ) (moded : (number : ℕ) (f : Fid) → fi
   version_sane : (msize : ℕ) (version : List ℕ) → IsSane tables conn (version_deed msize version)
   version_sane msize version =
       one_of (nat_lt msize 256) (refused_with (effect.Begins None) refusal.MsizeTooSmall) (agreed (min msize 65560) version) (tt, tt)
-      (one_of (is_version version) (does (effect.Begins (Some (min msize 65560))) change.Nothing (r.Version (min msize 65560) (codes "9P2000")))
-      (does (effect.Begins None) change.Nothing (r.Version (min msize 65560) (codes "unknown"))) (tt, tt) (tt, tt))
+      (one_of (is_version version) (does (effect.Begins (Some (min msize 65560))) [] (r.Version (min msize 65560) (codes "9P2000")))
+      (does (effect.Begins None) [] (r.Version (min msize 65560) (codes "unknown"))) (tt, tt) (tt, tt))
 
   attaches : (fid afid : ℕ) (aname : List ℕ) (o : Option Refusal) → attach_refusal tables conn fid afid aname ≡ o → Sane (or_attaches o fid)
   attaches fid afid aname None e = (put_new fid _ (λ h. refl) (unused fid (second_false _ (is_used tables conn fid) _ _ _ e)), tt)
@@ -151,7 +151,7 @@ module _ (tables : Tables) (conn : ℕ) (moded : (number : ℕ) (f : Fid) → fi
   arrives_sane : (newfid : ℕ) (world : World) (qids : List Qid) (e : WalkEnd) → ((f : Fid) → fid_of tables conn newfid ≡ Some f → f.opening ≡ None) → Sane (arrives_at newfid world qids e)
   arrives_sane newfid world qids (end.At node) none = (put_new newfid _ (λ h. refl) none, tt)
   arrives_sane newfid world qids (end.Makes file) none = (put_new newfid _ (λ h. refl) none, tt)
-  arrives_sane newfid world qids (end.Stops x) none = or_done (length qids == 0) x (does effect.Nothing change.Nothing (r.Walk qids)) (tt, tt)
+  arrives_sane newfid world qids (end.Stops x) none = or_done (length qids == 0) x (does effect.Nothing [] (r.Walk qids)) (tt, tt)
 
   or_walks_sane : (o : Option Refusal) (x : Result Deed Refusal) → (o ≡ None → Sane x) → Sane (or_walks o x)
   or_walks_sane None x h = h refl

@@ -7,3 +7,4 @@ pub mod PlaceLemmas
 pub mod NumberLemmas
 pub mod TagLemmas
 pub mod Steps
+pub mod GroupNumbers

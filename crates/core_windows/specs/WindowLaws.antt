@@ -1,5 +1,6 @@
 -- Laws of windows.
-use Rattle.std.specs.Prelude.{◌≡◌, ℕ, List, [], Option}
+use Rattle.std.specs.Prelude.{◌≡◌, ◌≤◌, ℕ, List, [], ◌∷◌, Option, Some, None}
+use Rattle.win_text.specs.Numbers.{IsNumbered}
 use Rattle.core_windows.specs.declared.change.Change.{Change}
 use Rattle.core_windows.specs.Windows.{all_changed}
 use Rattle.core_windows.specs.Possible.{CanChangeAll}
@@ -15,3 +16,20 @@ pub record ChangesAreLawful : Type 0 where
   pub begins : AreLawful []
   pub stays : (at : ℕ) (stories : List (Option WindowStory)) (changes : List Change) → AreLawful stories → CanChangeAll at (shown_windows stories) changes
       → AreLawful (all_changed_stories at stories changes)
+
+-- ---- the numbers of groups
+
+-- along the groups of a window's body the numbers never fall, and none is above this one
+abbrev pub IsNumberedIfLive : ℕ → Option WindowStory → Type 0
+IsNumberedIfLive last None = Unit {0}
+IsNumberedIfLive last (Some s) = IsNumbered last s.body.history
+
+abbrev pub AreNumbered : ℕ → List (Option WindowStory) → Type 0
+AreNumbered last [] = Unit {0}
+AreNumbered last (s ∷ ss) = IsNumberedIfLive last s × AreNumbered last ss
+
+-- So it is at the start, and after the changes of this step or a later one.
+pub record NumbersStay : Type 0 where
+  pub begins : AreNumbered 0 []
+  pub stays : (last at : ℕ) (stories : List (Option WindowStory)) (changes : List Change) → last ≤ at → AreNumbered last stories
+      → AreNumbered at (all_changed_stories at stories changes)

@@ -17,7 +17,7 @@ pub use acme_tree::World;
 pub use am_text::{Bytes, Items, NoMemory, Range, Rune, Runes};
 pub use change::{Change, Changes, Setting};
 pub use edit_log::{Edit, Edits};
-pub use laws::{changes_are_lawful, changes_show};
+pub use laws::{changes_are_lawful, changes_show, group_numbers_never_fall};
 pub use pane::Pane;
 pub use win_text::Body;
 pub use windows::Windows;

@@ -19,7 +19,7 @@ use Rattle.win_text.proofs.Edits.{images_append, text_append, range_append, rang
 
 -- ---- what is shown
 
-moved_append : (r : Range) (es fs : List Edit) → moved r (es ++ fs) ≡ moved (moved r es) fs
+pub moved_append : (r : Range) (es fs : List Edit) → moved r (es ++ fs) ≡ moved (moved r es) fs
 moved_append r es fs = rw (images_append r.q0 es fs, images_append r.q1 es fs) refl
 
 range_later : (es fs : List Edit) (k : KeptRange) → k.at ≤ length es → range_now (es ++ fs) k ≡ moved (range_now es k) fs

@@ -157,7 +157,7 @@ last_grown false past edits number some =
     let none : length edits - length edits ≡ 0 = omega arith in
     rw (last_pushed past (record { number = number; edits = edits }), none) refl
 
-some_grown : (on : Bool) (past : List DoneGroup) (edits : List Done) (number : ℕ) → (on ≡ true → 0 < length past) → 0 < length (grown on past edits number)
+pub some_grown : (on : Bool) (past : List DoneGroup) (edits : List Done) (number : ℕ) → (on ≡ true → 0 < length past) → 0 < length (grown on past edits number)
 some_grown true past edits number some = omega (arith, length-at_last (with_more edits) past, some refl)
 some_grown false past edits number some = omega (arith, length-append past (record { number = number; edits = edits } ∷ []))
 

@@ -207,7 +207,8 @@ impl Body {
         requires plan { IsPlanFor self.old.state plan }
         requires room { IsReady self.old plan }
         requires group { ready ≡ group_for self.old.state plan }
-        ensures { self.new.state ≡ applied self.old.state plan }
+        ensures state { self.new.state ≡ applied self.old.state plan }
+        ensures settled { self.new.forgotten ≡ [] }
     {
         self.do_plan(plan, ready);
         self.settle();
