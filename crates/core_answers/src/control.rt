@@ -113,6 +113,12 @@ fn modified_after(modified: bool, setting: &Setting) -> bool
     }
 }
 
+fn ended(changes: Changes, refusal: Option<Refusal>) -> Controls
+    ensures { result ≡ record { changes = changes; refusal = refusal } }
+{
+    Controls { changes, refusal }
+}
+
 // What the messages of these lines do.
 #[tactic(auto, unfolding(crate::specs::Controls::controls), using(crate::proofs::Controlled::controlled))]
 fn each_line(
@@ -140,23 +146,12 @@ fn each_line(
             }
             Told::Deletes => {
                 changes.push(Change::Deletes { window })?;
-                return Ok(Controls {
-                    changes,
-                    refusal: None,
-                });
+                return Ok(ended(changes, None));
             }
-            Told::Refused(refusal) => {
-                return Ok(Controls {
-                    changes,
-                    refusal: Some(refusal),
-                });
-            }
+            Told::Refused(refusal) => return Ok(ended(changes, Some(refusal))),
         }
     }
-    Ok(Controls {
-        changes,
-        refusal: None,
-    })
+    Ok(ended(changes, None))
 }
 
 /// What the messages of a write to `ctl` do to the window of that number, of this name, modified or not.
