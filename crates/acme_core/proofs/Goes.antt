@@ -12,7 +12,7 @@ use Rattle.am_counter.specs.Played.{ArePlayed, IsPlayed}
 use Rattle.core_answers.specs.Done.{CanBeMade}
 use Rattle.core_windows.specs.Windows.{Window}
 use Rattle.core_windows.specs.Stories.{AreLawful}
-use Rattle.core_windows.specs.WindowLaws.{ChangesShow, ChangesAreLawful}
+use Rattle.core_windows.specs.WindowLaws.{ChangesShow, ChangesAreLawful, AreNumbered, NumbersStay}
 use Rattle.core_events.specs.Sound.{IsSound}
 use Rattle.acme_core.specs.declared.prepared.Prepared.{Prepared}
 use Rattle.acme_core.specs.declared.parts.Parts.{Parts}
@@ -139,6 +139,21 @@ counts s (e ∷ journal) = omega (arith, counts (step s e) journal)
 pub entries_counted : (journal : List Event) → (run journal).entries ≡ length journal
 unfolding run
 entries_counted journal = omega (arith, counts start journal)
+
+-- ---- the numbers of groups
+
+numbered_on : NumbersStay → (s : State) (e : Event) → AreNumbered s.entries s.windows → AreNumbered (step s e).entries (step s e).windows
+unfolding step
+numbered_on law s e h = law.stays s.entries (s.entries + 1) s.windows (doing_of (present s) e).changes (omega arith) h
+
+numbered_from : NumbersStay → (s : State) (journal : List Event) → AreNumbered s.entries s.windows → AreNumbered (fold step s journal).entries (fold step s journal).windows
+numbered_from law s [] h = h
+numbered_from law s (e ∷ journal) h = numbered_from law (step s e) journal (numbered_on law s e h)
+
+pub groups_numbered : NumbersStay → (journal : List Event) → AreNumbered (length journal) (run journal).windows
+unfolding run
+groups_numbered law journal =
+    subst (λ (n : ℕ). AreNumbered n (fold step start journal).windows) (entries_counted journal) (numbered_from law start journal law.begins)
 
 -- ---- where no plan waits
 

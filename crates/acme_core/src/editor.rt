@@ -5,6 +5,7 @@ ghost use Rattle.am_journal.specs.Lawful.{IsLawful};
 ghost use Rattle.am_counter.specs.Played.{IsPlayed};
 ghost use Rattle.acme_core.specs.Run.{enabled, run, output_at, Refuses, IsHang, IsWhy, settled, ready};
 ghost use Rattle.core_windows.specs.Stories.{AreLawful};
+ghost use Rattle.core_windows.specs.WindowLaws.{AreNumbered};
 ghost use Rattle.win_text.specs.Bodies.{IsInside};
 ghost use Rattle.acme_core.specs.Addresses.{addr_at, body_at};
 ghost use Rattle.event_book.specs.Laws.{WindowOrder, WhatAFidGets};
@@ -20,7 +21,7 @@ use crate::view::view_of;
 use am_counter::Ask;
 use am_journal::{Event, ItemViews, Journal, Refused, View};
 use am_text::{NoMemory, Range, Roomy};
-use core_windows::{changes_are_lawful, changes_show};
+use core_windows::{changes_are_lawful, changes_show, group_numbers_never_fall};
 use std::alloc::Global;
 use std::marker::Model;
 
@@ -192,6 +193,14 @@ impl Core {
         ensures { AreLawful (run self.now.journal).windows }
     {
         let _entries = self.journal.len();
+    }
+
+    /// In each journal of a core, along the groups of edits of each live window that are past and then those that were undone,
+    /// the numbers never fall, and none is above the number of entries.
+    pub fn groups_are_numbered(&self)
+        ensures { AreNumbered (length self.now.journal) (run self.now.journal).windows }
+    {
+        group_numbers_never_fall();
     }
 
     /// In each journal of a core the items of a window that nobody took are a suffix of its items; along the others the entry at which

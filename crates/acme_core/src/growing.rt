@@ -29,8 +29,8 @@ use am_journal::Event;
 use am_text::{Items, NoMemory};
 use core_answers::{Answer, Effect, EventChange};
 use core_events::{
-    Book, Response, Responses, WindowItems, clunked, deleted_by, deletions, make_changes, open_events,
-    put_all, read_events, serve_all,
+    Book, Response, Responses, WindowItems, clunked, deleted_by, deletions, make_changes,
+    open_events, put_all, read_events, serve_all,
 };
 use fid_table::Sessions;
 use ninep_types::{RBody, RMsg};

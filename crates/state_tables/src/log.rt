@@ -2,7 +2,7 @@
 //!
 //! | call | numbers | texts | answer |
 //! |---|---|---|---|
-//! | `push` | the number of the step, and how many edits it pushes | | `ok` |
+//! | `push` | the number of the step that pushes an edit | | `ok` |
 //! | `mark`, `nomark` | | | `ok` |
 //! | `undo` | | | the EDITS that Undo makes, or `none` |
 //! | `last` | | | the number of the last group, or `none` |
@@ -10,35 +10,30 @@
 ghost use Rattle.std.specs.Prelude.{◌≡◌, length, IfOk};
 
 use crate::answers::says;
-use crate::call::{Call, two_of};
+use crate::call::{Call, one_of};
 use crate::edits::edits_line;
 use crate::fault::Fault;
 use am_text::{Bytes, Items, NoMemory, Runes};
 use edit_log::{Done, DoneList, UndoLog};
 use std::alloc::Global;
 
-// So many edits.
-fn group_of(alloc: Global, edits: u32) -> Result<DoneList, NoMemory>
-    ensures { IfOk result (λ group. length group ≡ edits) }
+// One edit.
+fn edit(alloc: Global) -> Result<DoneList, NoMemory>
+    ensures { IfOk result (λ group. length group ≡ 1) }
 {
     let mut group = Items::new(alloc);
-    for _ in 0..edits {
-        group.push(Done {
-            q0: 0,
-            cut: Items::new(alloc),
-            put: Runes::copied(alloc, &[97])?,
-        })?;
-    }
+    group.push(Done {
+        q0: 0,
+        cut: Items::new(alloc),
+        put: Runes::copied(alloc, &[97])?,
+    })?;
     Ok(group)
 }
 
 fn push(alloc: Global, log: &mut UndoLog, numbers: &[u32]) -> Result<Bytes, Fault> {
-    let (number, edits) = two_of(numbers)?;
-    if edits == 0 {
-        return Err(Fault::NoCase);
-    }
-    let group = group_of(alloc, edits)?;
-    log.reserve(edits as usize)?;
+    let number = one_of(numbers)?;
+    let group = edit(alloc)?;
+    log.reserve(group.len())?;
     log.push(group, u64::from(number));
     says(alloc, "ok")
 }
