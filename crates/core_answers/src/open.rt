@@ -310,11 +310,7 @@ pub(crate) fn clunk(
     if sessions.fid(conn, number).is_none() {
         return Err(Fault::Refused(Refusal::UnknownFid));
     }
-    Ok(Deed::plain(
-        Effect::Frees { number },
-        Items::new(alloc),
-        RBody::Clunk,
-    ))
+    Ok(Deed::plain(Effect::Frees { number }, Items::new(alloc), RBody::Clunk))
 }
 
 /// What a Tremove does.

@@ -17,7 +17,8 @@ use crate::content::{Content, content_of};
 use crate::control::{Controls, controls_of};
 use crate::effect::{Deed, Effect};
 use crate::erring::{
-    append_changes, errors_changes, errors_of, errors_refusal, fits_body, fits_tag, lives, root_errors,
+    append_changes, errors_changes, errors_of, errors_refusal, fits_body, fits_tag, lives,
+    root_errors,
 };
 use crate::fids::{at_most_three, holding};
 use crate::read::why_not_written;

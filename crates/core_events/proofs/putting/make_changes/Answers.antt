@@ -28,11 +28,11 @@ loop-change-preserved c =
       next = tt;
       ends = tt;
       told = c.in_ok-tell.ensures
-        ∙ ap (λ (l : List WindowItem). l ++ made book c.loop-change.windows.present c.args.origin c.in-Some.change) c.loop-change.invariant.told
-        ∙ ap (λ (x : List (Option Window)). before ++ made book x c.args.origin c.in-Some.change) c.loop-change.invariant.changed
-        ∙ sym (made_more c.args.at book ws c.args.origin done c.in-Some.change);
+          ∙ ap (λ (l : List WindowItem). l ++ made book c.loop-change.windows.present c.args.origin c.in-Some.change) c.loop-change.invariant.told
+          ∙ ap (λ (x : List (Option Window)). before ++ made book x c.args.origin c.in-Some.change) c.loop-change.invariant.changed
+          ∙ sym (made_more c.args.at book ws c.args.origin done c.in-Some.change);
       changed = ap (λ (t : Twice (List (Option Window))). t.present) c.in_ok-change.ensures.ok
-        ∙ ap (λ (x : List (Option Window)). changed c.args.at x c.in-Some.change) c.loop-change.invariant.changed
-        ∙ sym (changed_more c.args.at ws done c.in-Some.change);
+          ∙ ap (λ (x : List (Option Window)). changed c.args.at x c.in-Some.change) c.loop-change.invariant.changed
+          ∙ sym (changed_more c.args.at ws done c.in-Some.change);
       kept = ap (λ (t : Twice (List (Option Window))). t.kept) c.in_ok-change.ensures.ok ∙ c.loop-change.invariant.kept;
     }
