@@ -31,8 +31,10 @@ def text(value):
 class Client:
     def __init__(self, path, seconds=300):
         self.socket, self.last, end = socket.socket(socket.AF_UNIX), 0, time.monotonic() + seconds
-        while self.socket.connect_ex(path) and time.monotonic() < end:
-            time.sleep(0.05)  # the server isn't there yet
+        while fault := self.socket.connect_ex(path):  # the server isn't there yet
+            if time.monotonic() > end:
+                raise OSError(fault, "no server", path)
+            time.sleep(0.05)
         self.ask(VERSION, number(4, 8192) + text("9P2000"), NO_TAG)
         self.ask(ATTACH, number(4, 0) + number(4, NO_FID) + text("glenda") + text(""))
 
