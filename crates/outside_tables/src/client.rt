@@ -22,7 +22,7 @@ use crate::fault::Fault;
 use crate::outside::{cut, numbers_of, put, sink_of, size_of, source_of};
 use am_base::{MemSink, MemSource};
 use am_text::{Bytes, Items, decimal};
-use ninep_client::{CallFault, Client, RBody, TBody};
+use ninep_client::{CallFault, Client, RBody, TBody, version_message};
 use std::alloc::Global;
 
 // A client over objects in memory.
@@ -78,14 +78,11 @@ fn answer_word(answer: &Result<RBody, CallFault>) -> &'static [u8] {
 }
 
 fn version_word(alloc: Global, client: &mut MemClient) -> Result<&'static [u8], Fault> {
-    let version = Items::copied(alloc, b"9P2000")?;
+    let version = version_message(alloc, MSIZE)?;
     if !client.is_idle() {
         return Ok(b"-");
     }
-    Ok(answer_word(&client.call(TBody::Version {
-        msize: MSIZE,
-        version,
-    })))
+    Ok(answer_word(&client.call(version)))
 }
 
 fn clunk_word(client: &mut MemClient) -> &'static [u8] {

@@ -17,8 +17,9 @@
 use crate::answers::says;
 use crate::call::{Call, read_call};
 use crate::fault::Fault;
-use crate::{body, book, ports, queue};
+use crate::{body, book, log, ports, queue};
 use am_text::{Bytes, NoMemory};
+use edit_log::UndoLog;
 use event_book::Book;
 use plumb_ports::Ports;
 use std::alloc::Global;
@@ -29,6 +30,7 @@ use win_text::Body;
 #[derive(Drop)]
 pub struct Tables {
     body: Body,
+    log: UndoLog,
     queue: WaitQueue,
     book: Book,
     ports: Ports,
@@ -40,6 +42,7 @@ impl Tables {
         let ports = Ports::new(alloc)?;
         Ok(Tables {
             body: Body::new(alloc),
+            log: UndoLog::new(alloc),
             queue: WaitQueue::new(alloc),
             book: Book::new(alloc),
             ports,
@@ -55,6 +58,7 @@ fn called(
 ) -> Result<Bytes, Fault> {
     match table {
         "body" => body::answer(alloc, &mut tables.body, call),
+        "log" => log::answer(alloc, &mut tables.log, call),
         "queue" => queue::answer(alloc, &mut tables.queue, call),
         "book" => book::answer(alloc, &mut tables.book, call),
         "ports" => ports::answer(alloc, &mut tables.ports, call),
