@@ -14,6 +14,7 @@ mod fault;
 mod items;
 mod ports;
 mod queue;
+mod stores;
 mod tables;
 
 use fault::Fault;

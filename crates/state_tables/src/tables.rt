@@ -17,7 +17,8 @@
 use crate::answers::says;
 use crate::call::{Call, read_call};
 use crate::fault::Fault;
-use crate::{body, book, ports, queue};
+use crate::stores::Stores;
+use crate::{body, book, ports, queue, stores};
 use am_text::{Bytes, NoMemory};
 use event_book::Book;
 use plumb_ports::Ports;
@@ -32,6 +33,7 @@ pub struct Tables {
     queue: WaitQueue,
     book: Book,
     ports: Ports,
+    stores: Stores,
 }
 
 impl Tables {
@@ -43,6 +45,7 @@ impl Tables {
             queue: WaitQueue::new(alloc),
             book: Book::new(alloc),
             ports,
+            stores: Stores::new(alloc),
         })
     }
 }
@@ -58,6 +61,7 @@ fn called(
         "queue" => queue::answer(alloc, &mut tables.queue, call),
         "book" => book::answer(alloc, &mut tables.book, call),
         "ports" => ports::answer(alloc, &mut tables.ports, call),
+        "stores" => stores::answer(alloc, &mut tables.stores, call),
         _ => Err(Fault::NoCase),
     }
 }
