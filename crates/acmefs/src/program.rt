@@ -1,6 +1,7 @@
 //! All that the program does.
 
-ghost use Rattle.std.specs.Prelude.{◌≡◌, ◌≤◌, ℕ, List, [], Some, None, true, IfSome};
+ghost use Rattle.std.specs.Prelude.{◌≡◌, ◌⊎◌, ◌≤◌, ℕ, List, [], Some, None, true, IfSome};
+ghost use Rattle.std.specs.List.{AllByRecursion};
 ghost use Rattle.am_base.specs.Outside.{HasRisen};
 ghost use Rattle.am_base.specs.Written.{seen};
 ghost use Rattle.core_answers.specs.Laws.{EachIsAnswered};
@@ -10,6 +11,7 @@ ghost use Rattle.acmefs.specs.Ends.{Says, IsIdle, RanTold, IsComplete, Drilled, 
 ghost use Rattle.acmefs.specs.Own.{PutsOwn, RoundTrips};
 ghost use Rattle.am_words.specs.Words.{are_replay, asks_drill, asks_serve, AskServe, AreKnown};
 ghost use Rattle.am_server.specs.Ends.{SaysServe, given};
+ghost use Rattle.am_server.specs.Replied.{GotAll};
 ghost use Rattle.am_slots.specs.Slots.{outside};
 
 use crate::drill::drill_main;
@@ -124,6 +126,9 @@ pub fn serve_main<I: Source, O: Sink, H: Host, R: Threads + Wait + Sync>(
         (given (I.left input.old) (I.faults input.old) (I.faults input.new) (H.faults host.old) (H.faults host.new))
         (seen (O.held output.old) (O.held output.new) (O.faults output.old) (O.faults output.new))
         result.journal result.served end }
+    ensures replied { (result.status ≡ 0) ⊎ (result.status ≡ 4) → AllByRecursion
+        (GotAll (outside H.G.name H.G.faults H.G.L.begins H.G.L.faults H.G.L.R.left H.G.L.R.faults H.G.L.W.held H.G.L.W.faults) result.journal)
+        result.served }
 {
     outcome_of(serve(rt, alloc, path, clients, input, output, host))
 }
@@ -192,6 +197,11 @@ pub fn acmefs<I: Source, O: Sink, H: Host, R: Threads + Wait + Sync>(
         (given (I.left input.old) (I.faults input.old) (I.faults input.new) (H.faults host.old) (H.faults host.new))
         (seen (O.held output.old) (O.held output.new) (O.faults output.old) (O.faults output.new))
         result.journal result.served end }
+    // With status 0 or 4 each sink that has not failed holds all replies that were ever made to its connection, unless that ended for
+    // want of memory.
+    ensures replied { (result.status ≡ 0) ⊎ (result.status ≡ 4) → AllByRecursion
+        (GotAll (outside H.G.name H.G.faults H.G.L.begins H.G.L.faults H.G.L.R.left H.G.L.R.faults H.G.L.W.held H.G.L.W.faults) result.journal)
+        result.served }
     // The journal's lines and then its report are a transcript, where they aren't too long, that gives the same journal
     // and the same report.
     ensures round_trip { asks_serve words.now ≡ None → RoundTrips result.journal }

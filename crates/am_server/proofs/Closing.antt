@@ -1,5 +1,5 @@
 -- From what came of the slots to what serving says.
-use Rattle.std.proofs.Common.{◌≡◌, ◌⊎◌, inl, inr, ℕ, ◌≤◌, Bool, true, false, List, [], ◌∷◌, ◌++◌, ◌∙◌, length, refl, sym, ap, subst}
+use Rattle.std.proofs.Common.{◌≡◌, ◌⊎◌, inl, inr, ℕ, ◌≤◌, Bool, true, false, List, [], ◌∷◌, ◌++◌, ◌∙◌, length, refl, sym, ap, subst, arith}
 use Rattle.std.specs.Prelude.{◌<◌, IfSome, Result, Ok, Err, is_err, OnOk, OnErr}
 use Rattle.std.specs.List.{AllByRecursion}
 use Rattle.turn_lock.specs.Journal.{AllStand}
@@ -20,6 +20,9 @@ use Rattle.am_slots.proofs.Ran.{ran}
 use Rattle.am_slots.specs.Serving.{EachTells, ServesAll, IsRun}
 use Rattle.am_slots.specs.Slots.{Outside, unbound, HasRisenBy}
 use Rattle.am_slots.specs.declared.slot.Slot.{Slot}
+use Rattle.core_laws.specs.Laws.{EndedGetAllReplies}
+use Rattle.am_server.proofs.Replying.{got_all, wrote_well}
+use Rattle.am_server.specs.Replied.{GotAll}
 use Rattle.am_server.specs.Ends.{Given, Writes, IsTooLong, ServesLines, SaysServe, end_at}
 use Rattle.am_server.specs.Served.{served_from}
 use Rattle.am_server.specs.Texts.{served_text}
@@ -65,24 +68,30 @@ module _ {G L S K : Type 0} where
       by_cases (inr c) = inr (inl (at ∙ ap (end_at slots script) c.0, c.1))
 
   -- the slots of one seat, which has all entries at the end
-  pub served_lines : (m : Outside G L S K) (path : List ℕ) (clients : ℕ) (lines : List ℕ) (before now : ℕ) (o : Output) (slots : List (Slot G L S K)) (script : ScriptEnd) (w : Known)
+  pub served_lines : (law : EndedGetAllReplies) (m : Outside G L S K) (path : List ℕ) (clients : ℕ) (lines : List ℕ) (before now : ℕ) (o : Output) (slots : List (Slot G L S K)) (script : ScriptEnd) (w : Known)
       (core journal : List Event) (served : List (Served G L S K)) (e : ServeEnd)
       → length slots ≡ clients → clients ≤ 64 → IsPlayed enabled w.seen → AllStand w.seen (lists_of w) → EachOnce w → KeepsOrder w.seen (lists_of w)
       → ServesAll m enabled output_at answer_at clients lines slots script w → EachTells m path 0 slots → HasRisenBy (unbound slots) before now
       → core ≡ w.seen → journal ≡ core → served ≡ served_from core 0 slots → Writes slots script o (served_text core slots script) e
       → ServesLines m path clients lines before now o journal served e
-  served_lines m path clients lines before now o slots script w core journal served e count few played own once order serves tells risen same is told writes =
+  served_lines law m path clients lines before now o slots script w core journal served e count few played own once order serves tells risen same is told writes =
+      let now_played : IsPlayed enabled journal = subst (IsPlayed enabled) (sym (is ∙ same)) played in
+      let run : IsRun m enabled output_at answer_at clients lines journal slots script =
+      subst (λ (l : List Event). IsRun m enabled output_at answer_at clients lines l slots script) (sym (is ∙ same))
+      (ran m enabled output_at answer_at tells_connections clients lines slots script w played own once order count few serves) in
+      let now_told : served ≡ served_from journal 0 slots = told ∙ ap (λ (l : List Event). served_from l 0 slots) (sym is) in
       inl record {
         slots = slots;
         done = script;
         count = count;
-        played = subst (IsPlayed enabled) (sym (is ∙ same)) played;
-        run = subst (λ (l : List Event). IsRun m enabled output_at answer_at clients lines l slots script) (sym (is ∙ same))
-            (ran m enabled output_at answer_at tells_connections clients lines slots script w played own once order count few serves);
+        played = now_played;
+        run = run;
         tells = tells;
         risen = risen;
-        told = told ∙ ap (λ (l : List Event). served_from l 0 slots) (sym is);
+        told = now_told;
         writes = subst (λ (l : List Event). Writes slots script o (served_text l slots script) e) (sym is) writes;
+        replied = λ well. subst (λ (l : List (Served G L S K)). AllByRecursion (GotAll m journal) l) (sym now_told)
+            (got_all m journal law now_played path 0 slots (omega (arith, count, few)) run.each tells (wrote_well slots script o (served_text core slots script) e writes well));
       }
 
   pub says_lines : (m : Outside G L S K) (path : List ℕ) (clients : ℕ) (i : Given) (o : Output) (journal : List Event) (served : List (Served G L S K)) (e : ServeEnd) (lines : List ℕ)

@@ -1,9 +1,11 @@
 -- How serving ends.
-use Rattle.std.specs.Prelude.{◌≡◌, ◌⊎◌, ℕ, ◌<◌, ◌≤◌, Bool, true, false, List, [], ◌++◌, length, Option, IfSome, if◌then◌else◌, codes}
-use Rattle.std.specs.List.{list_any}
+use Rattle.std.specs.Prelude.{◌≡◌, ◌⊎◌, ℕ, ◌<◌, ◌≤◌, Bool, true, false, List, [], ◌++◌, length, Option, Some, None, IfSome, if◌then◌else◌, codes}
+use Rattle.std.specs.List.{list_any, AllByRecursion}
 use Rattle.am_base.specs.Outside.{AreTold, HasRisen}
 use Rattle.am_base.specs.Stops.{input_limit}
 use Rattle.am_base.specs.Written.{Output, IsWhole, IsCut, IsPut}
+use Rattle.am_journal.specs.declared.ending.Ending.{Ending}
+use Rattle.am_journal.specs.declared.ending.Ending.TheVariants as ending
 use Rattle.am_journal.specs.declared.event.Event.{Event}
 use Rattle.am_journal.specs.Texts.{refused_text}
 use Rattle.am_counter.specs.Played.{IsPlayed}
@@ -11,35 +13,51 @@ use Rattle.acme_core.specs.Asks.{answer_at}
 use Rattle.acme_core.specs.Run.{enabled, output_at}
 use Rattle.am_serve.specs.declared.scripting.ScriptEnd.{ScriptEnd}
 use Rattle.am_serve.specs.declared.scripting.ScriptEnd.TheVariants as script
+use Rattle.am_serve.specs.declared.writing.WriteEnd.TheVariants as write
 use Rattle.am_slots.specs.Serving.{EachTells, IsRun}
 use Rattle.am_slots.specs.Slots.{Outside, unbound, HasRisenBy}
 use Rattle.am_slots.specs.declared.slot.Slot.{Slot}
 use Rattle.am_slots.specs.declared.slot.Slot.TheVariants as slot
+use Rattle.am_server.specs.Replied.{GotAll}
 use Rattle.am_server.specs.Served.{served_from}
 use Rattle.am_server.specs.Texts.{has_failed, served_text}
 use Rattle.am_server.specs.declared.served.Served.{Served}
 use Rattle.am_server.specs.declared.writing.ServeEnd.{ServeEnd}
 use Rattle.am_server.specs.declared.writing.ServeEnd.TheVariants as end
 
--- how serving ends after a script that was done, by whether memory ran out for a slot and whether the output has failed
+-- how serving ends after a script that was done, by whether memory ran out and no hang-up tells it, and whether the output has failed
 abbrev pub end_done : Bool → Bool → ServeEnd
-end_done undialled failed = if undialled then end.NoMemory else (if failed then end.WriteFault else end.Done)
+end_done untold failed = if untold then end.NoMemory else (if failed then end.WriteFault else end.Done)
+
+-- the side that reads ended the connection, with another cause than want of memory
+abbrev pub ended_otherwise : Option Ending → Bool
+ended_otherwise None = false
+ended_otherwise (Some ending.End) = true
+ended_otherwise (Some ending.Torn) = true
+ended_otherwise (Some ending.ReadFault) = true
+ended_otherwise (Some (ending.Broken what)) = true
+ended_otherwise (Some ending.Spent) = true
+ended_otherwise (Some ending.Gone) = true
+ended_otherwise (Some ending.NoMemory) = false
 
 module _ {G L S K : Type 0} where
-  -- memory ran out before the slot's connection was dialled
-  abbrev pub is_undialled : Slot G L S K → Bool
-  is_undialled slot.Unbound = false
-  is_undialled (slot.Bound gate) = true
-  is_undialled (slot.Unlinked gate) = false
-  is_undialled (slot.Unhalved gate link) = false
-  is_undialled (slot.Undialled x) = true
-  is_undialled (slot.Served x read wrote) = false
+  -- Memory ran out for the slot, and no hang-up tells it: before its connection was dialled, or for its last replies, behind a hang-up
+  -- with another cause.
+  abbrev pub wants_untold : Slot G L S K → Bool
+  wants_untold slot.Unbound = false
+  wants_untold (slot.Bound gate) = true
+  wants_untold (slot.Unlinked gate) = false
+  wants_untold (slot.Unhalved gate link) = false
+  wants_untold (slot.Undialled x) = true
+  wants_untold (slot.Served x read write.Ended) = false
+  wants_untold (slot.Served x read write.Gone) = false
+  wants_untold (slot.Served x read write.NoMemory) = ended_otherwise read
 
   -- How serving ends: a refused line goes before a slot that has failed, that before want of memory, and that before a failed output.
   abbrev pub end_at : List (Slot G L S K) → ScriptEnd → Bool → ServeEnd
   end_at slots (script.Refused line why) failed = end.Script
   end_at slots script.NoMemory failed = if list_any has_failed slots then end.HostFault else end.NoMemory
-  end_at slots script.Done failed = if list_any has_failed slots then end.HostFault else end_done (list_any is_undialled slots) failed
+  end_at slots script.Done failed = if list_any has_failed slots then end.HostFault else end_done (list_any wants_untold slots) failed
 
   -- The slots were served, and what came of it was written: whole, but where the output has failed. Without memory for the text nothing
   -- was written.
@@ -61,7 +79,17 @@ pub record IsTooLong {G L S K : Type 0} (o : Output) (journal : List Event) (ser
   pub none : served ≡ []
   pub put : ((e ≡ end.Script) × IsPut o (refused_text 0 (codes "input"))) ⊎ ((e ≡ end.NoMemory) × (o.held_now ≡ o.held))
 
--- A script was served: its slots, the script's end, and one journal that has just their entries.
+-- all was done, and there was memory for all that no hang-up tells of
+abbrev pub AllDone : ServeEnd → Type 0
+AllDone end.Done = Unit {0}
+AllDone end.Script = ⊥
+AllDone end.ReadFault = ⊥
+AllDone end.HostFault = ⊥
+AllDone end.NoMemory = ⊥
+AllDone end.WriteFault = Unit {0}
+
+-- A script was served: its slots, the script's end, and one journal that has just their entries. Where all was done, each sink that has
+-- not failed got all replies.
 pub record Serves {G L S K : Type 0} (m : Outside G L S K) (path : List ℕ) (clients : ℕ) (lines : List ℕ) (before now : ℕ) (o : Output) (journal : List Event) (served : List (Served G L S K)) (e : ServeEnd) : Type 0 where
   pub slots : List (Slot G L S K)
   pub done : ScriptEnd
@@ -72,6 +100,7 @@ pub record Serves {G L S K : Type 0} (m : Outside G L S K) (path : List ℕ) (cl
   pub risen : HasRisenBy (unbound slots) before now
   pub told : served ≡ served_from journal 0 slots
   pub writes : Writes slots done o (served_text journal slots done) e
+  pub replied : AllDone e → AllByRecursion (GotAll m journal) served
 
 -- what came of a script of lawful length: it was served, or there was no memory to begin
 abbrev pub ServesLines : {G L S K : Type 0} → Outside G L S K → List ℕ → ℕ → List ℕ → ℕ → ℕ → Output → List Event → List (Served G L S K) → ServeEnd → Type 0

@@ -1,3 +1,4 @@
+pub mod Replied
 pub mod Ends
 pub mod Served
 pub mod Texts

@@ -11,6 +11,7 @@ use am_desk::Desk;
 use am_journal::refused_line;
 use am_slots::serve_slots;
 use am_text::NoMemory;
+use core_laws::ended_connections_get_nothing_more;
 use std::alloc::Global;
 use std::sync::Wait;
 use std::thread::Threads;
@@ -45,6 +46,8 @@ fn serve_lines<O: Sink, H: Host, R: Threads + Wait + Sync>(
     let Ok((desk, mut seat)) = Desk::new(alloc, 2 * u64::from(clients) + 1) else {
         return idle(alloc, ServeEnd::NoMemory);
     };
+    // An ended connection is replied nothing more.
+    ended_connections_get_nothing_more();
     match serve_slots(rt, alloc, &desk, &mut seat, host, path, clients, script) {
         Ok((slots, end)) => finish(alloc, desk.close(seat), slots, end, served, output),
         Err(NoMemory) => idle(alloc, ServeEnd::NoMemory),

@@ -5,7 +5,7 @@ ghost use Rattle.std.specs.List.{AllByRecursion, list_any};
 ghost use Rattle.am_base.specs.Written.{seen};
 ghost use Rattle.am_journal.specs.Lawful.{IsLawful};
 ghost use Rattle.acme_core.specs.Run.{settled};
-ghost use Rattle.am_server.specs.Ends.{is_undialled, end_done, end_at, Writes};
+ghost use Rattle.am_server.specs.Ends.{ended_otherwise, wants_untold, end_done, end_at, Writes};
 ghost use Rattle.am_server.specs.Served.{served_from};
 ghost use Rattle.am_server.specs.Texts.{has_failed, served_text};
 
@@ -13,7 +13,8 @@ use crate::served::{Served, served_all};
 use crate::texts::{has_failed, whole_text};
 use acme_core::{Core, Journal};
 use am_base::{Sink, write_all};
-use am_serve::ScriptEnd;
+use am_journal::Ending;
+use am_serve::{ScriptEnd, WriteEnd};
 use am_slots::{Slot, Slots};
 use am_text::{Items, NoMemory};
 use std::alloc::Global;
@@ -29,7 +30,7 @@ pub enum ServeEnd {
     ReadFault,
     /// A slot could not be bound, or gave no connection.
     HostFault,
-    /// Memory ran out.
+    /// Memory ran out, and no hang-up tells it.
     NoMemory,
     /// The output could not be written.
     WriteFault,
@@ -43,11 +44,23 @@ pub struct Serving<G, L, S, K> {
     pub served: Items<Served<G, L, S, K>>,
 }
 
-fn is_undialled<G, L, S, K>(slot: &Slot<G, L, S, K>) -> bool
-    ensures { result ≡ is_undialled slot.now }
+// Whether the side that reads ended the connection, with another cause than want of memory.
+fn ended_otherwise(read: Option<Ending>) -> bool
+    ensures { result ≡ ended_otherwise read }
+{
+    match read {
+        None | Some(Ending::NoMemory) => false,
+        Some(_) => true,
+    }
+}
+
+// Whether memory ran out for a slot, and no hang-up tells it.
+fn wants_untold<G, L, S, K>(slot: &Slot<G, L, S, K>) -> bool
+    ensures { result ≡ wants_untold slot.now }
 {
     match slot {
         Slot::Bound(_) | Slot::Undialled(_) => true,
+        Slot::Served(_, read, WriteEnd::NoMemory) => ended_otherwise(*read),
         Slot::Unbound | Slot::Unlinked(_) | Slot::Unhalved(_, _) | Slot::Served(_, _, _) => false,
     }
 }
@@ -63,21 +76,21 @@ fn any_failed<G, L, S, K>(slots: &[Slot<G, L, S, K>]) -> bool
     false
 }
 
-fn any_undialled<G, L, S, K>(slots: &[Slot<G, L, S, K>]) -> bool
-    ensures { result ≡ list_any is_undialled slots.now }
+fn any_wants_untold<G, L, S, K>(slots: &[Slot<G, L, S, K>]) -> bool
+    ensures { result ≡ list_any wants_untold slots.now }
 {
     for slot in slots {
-        if is_undialled(slot) {
+        if wants_untold(slot) {
             return true;
         }
     }
     false
 }
 
-fn end_done(undialled: bool, failed: bool) -> ServeEnd
-    ensures { result ≡ end_done undialled failed }
+fn end_done(untold: bool, failed: bool) -> ServeEnd
+    ensures { result ≡ end_done untold failed }
 {
-    if undialled {
+    if untold {
         ServeEnd::NoMemory
     } else if failed {
         ServeEnd::WriteFault
@@ -101,7 +114,7 @@ fn end_at<G, L, S, K>(slots: &[Slot<G, L, S, K>], end: ScriptEnd, failed: bool) 
             if host {
                 ServeEnd::HostFault
             } else {
-                end_done(any_undialled(slots), failed)
+                end_done(any_wants_untold(slots), failed)
             }
         }
     }

@@ -122,6 +122,7 @@ module _ (enabled : Rule) (unsent : List Event → ℕ → List ℕ) (conn : ℕ
         stand = stands_lower w.seen (length v.seen) 0 (gained v w) (omega arith) d.gains.stand;
         begins_empty = empty;
         gets = d.gets;
+        drained = λ e. (w.seen, ([], append-nil w.seen), d.ended, d.nothing_unsent e);
       }
 
   -- the lists of a seat that dialled and read, and took in one that wrote

@@ -8,7 +8,7 @@ use Rattle.am_serve.specs.Gained.{Rule}
 use Rattle.am_serve.specs.Reading.{spellings}
 use Rattle.am_serve.specs.Writing.{taken_bytes, Gets}
 use Rattle.am_serve.specs.declared.writing.WriteEnd.{WriteEnd}
-use Rattle.am_serve.proofs.Gaining.{stands_longer}
+use Rattle.am_serve.proofs.Gaining.{stands_longer, grown}
 use Rattle.am_serve.proofs.HangUps.{has_hang_kept}
 use Rattle.am_serve.proofs.Streams.{gives_later}
 use Rattle.am_serve.proofs.Written.{taken_longer}
@@ -51,6 +51,7 @@ writes_later unsent conn xs ys wrote held entries p w = record {
   stand = stands_later xs ys 0 entries p w.stand;
   begins_empty = w.begins_empty;
   gets = let P : List ℕ → Type 0 = λ l. Gets wrote w.first l held in subst P (taken_later unsent xs ys entries p w.stand) w.gets;
+  drained = λ e. let d = w.drained e in (d.0, grown d.0 xs ys d.1 p, d.2, d.3);
 }
 
 module _ (enabled : Rule) (unsent : List Event → ℕ → List ℕ) (conn : ℕ) where

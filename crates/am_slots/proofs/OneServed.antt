@@ -140,4 +140,5 @@ module _ (journal : List Event) (lists : List (List (ℕ × Event))) (order : Ke
           empty = w.first;
           begins_empty = w.begins_empty;
           gets = subst S (sym (sent_are read r stand each_once)) w.gets;
+          drained = w.drained;
         }

@@ -1,9 +1,10 @@
 -- What a journal says of one connection.
-use Rattle.std.specs.Prelude.{◌≡◌, ℕ, ◌==◌, Bool, false, List, [], ◌∷◌, ◌++◌, filter, if◌then◌else◌}
+use Rattle.std.specs.Prelude.{◌≡◌, ℕ, ◌==◌, Bool, true, false, List, [], ◌∷◌, ◌++◌, filter, if◌then◌else◌}
 use Rattle.std.specs.List.{flat_map}
 use Rattle.am_journal.specs.declared.ending.Ending.{Ending}
 use Rattle.am_journal.specs.declared.event.Event.{Event}
 use Rattle.am_journal.specs.declared.event.Event.TheVariants as event
+use Rattle.am_counter.specs.Played.{IsPrefix, has_hang}
 
 -- an event of the connection
 abbrev pub is_of : ℕ → Event → Bool
@@ -49,3 +50,7 @@ sent_from unsent before (e ∷ events) conn = sent_by unsent conn before e ++ se
 -- all bytes that were sent to the connection: the replies that each taking found unsent
 abbrev pub sent : (List Event → ℕ → List ℕ) → List Event → ℕ → List ℕ
 sent unsent journal conn = sent_from unsent [] journal conn
+
+-- at a turn behind the connection's hang-up no reply to it was unsent
+abbrev pub IsDrained : (List Event → ℕ → List ℕ) → List Event → ℕ → Type 0
+IsDrained unsent journal conn = (before : List Event) × IsPrefix before journal × (has_hang before conn ≡ true) × (unsent before conn ≡ [])

@@ -12,6 +12,7 @@ use Rattle.am_serve.specs.Reading.{AreMessages, GivesOf, spellings}
 use Rattle.am_serve.specs.Writing.{AreTakings, taken_bytes, Gets}
 use Rattle.am_serve.specs.declared.writing.WriteEnd.{WriteEnd}
 use Rattle.am_serve.specs.declared.writing.WriteEnd.TheVariants as end
+use Rattle.am_slots.specs.Connection.{IsDrained}
 
 -- the hang-up of a connection with this cause, as an entry
 abbrev pub IsHangUp : ℕ → Ending → List (ℕ × Event) → Type 0
@@ -38,7 +39,8 @@ pub record Reads (enabled : Rule) (conn : ℕ) (seen : List Event) (first now : 
   pub hangs : HangsAfterReading conn read hang
   pub gives : GivesOf enabled conn seen (spellings messages) first now read
 
--- What a seat that writes has added: the takings of replies, which its sink got, and a hang-up.
+-- What a seat that writes has added: the takings of replies, which its sink got, and a hang-up. Where it answers that the connection has
+-- ended, nothing was unsent then.
 pub record Writes (unsent : List Event → ℕ → List ℕ) (conn : ℕ) (seen : List Event) (wrote : WriteEnd) (held : Option (List ℕ)) (entries : List (ℕ × Event)) : Type 0 where
   pub takings : List (ℕ × Event)
   pub hang : List (ℕ × Event)
@@ -49,6 +51,7 @@ pub record Writes (unsent : List Event → ℕ → List ℕ) (conn : ℕ) (seen 
   pub stand : Stands seen 0 entries
   pub begins_empty : AreTold first []
   pub gets : Gets wrote first (taken_bytes unsent seen entries) held
+  pub drained : wrote ≡ end.Ended → IsDrained unsent seen conn
 
 -- A connection's seats, the first of which took in the second: what they have added, as far as a journal was seen that has the hang-up.
 pub record Serves (enabled : Rule) (unsent : List Event → ℕ → List ℕ) (conn : ℕ) (seen : List Event) (first now : Option (List ℕ)) (read : Option Ending) (wrote : WriteEnd) (held : Option (List ℕ)) (lists : List (List (ℕ × Event))) : Type 0 where

@@ -12,7 +12,7 @@ use Rattle.am_serve.specs.Reading.{messages_of, GivesOf}
 use Rattle.am_serve.specs.Writing.{Gets}
 use Rattle.am_serve.specs.declared.writing.WriteEnd.{WriteEnd}
 use Rattle.am_serve.specs.declared.writing.WriteEnd.TheVariants as end
-use Rattle.am_slots.specs.Connection.{IsSilent, endings_of, sent}
+use Rattle.am_slots.specs.Connection.{IsSilent, IsDrained, endings_of, sent}
 use Rattle.am_slots.specs.Sides.{Serves}
 use Rattle.am_slots.specs.declared.slot.Slot.{Slot}
 use Rattle.am_slots.specs.declared.slot.Slot.TheVariants as slot
@@ -40,7 +40,7 @@ outside name gate_faults begins link_faults left reader_faults held writer_fault
     record { name = name; gate_faults = gate_faults; begins = begins; link_faults = link_faults; left = left; reader_faults = reader_faults; held = held; writer_faults = writer_faults }
 
 -- A connection that was served: it was dialled once and has ended once, its messages are those of its source, and its sink got what was
--- sent to it.
+-- sent to it. Where writing ended with it, nothing was left unsent.
 pub record IsServed (enabled : Rule) (unsent : List Event → ℕ → List ℕ) (journal : List Event) (conn : ℕ) (first now : Option (List ℕ)) (read : Option Ending) (wrote : WriteEnd) (held : Option (List ℕ)) : Type 0 where
   pub dialled : filter (is_dial_of conn) journal ≡ Dial conn ∷ []
   pub cause : Ending
@@ -50,6 +50,7 @@ pub record IsServed (enabled : Rule) (unsent : List Event → ℕ → List ℕ) 
   pub empty : Option (List ℕ)
   pub begins_empty : AreTold empty []
   pub gets : Gets wrote empty (sent unsent journal conn) held
+  pub drained : wrote ≡ end.Ended → IsDrained unsent journal conn
 
 -- ---- slots by themselves
 

@@ -44,6 +44,7 @@ pub record DidWrite (unsent : List Event → ℕ → List ℕ) (conn : ℕ) (v w
   pub entries : AreWritten conn wrote v w
   pub gets : Gets wrote s.first (taken_bytes unsent w.seen (gained v w)) s.now
   pub ended : has_hang w.seen conn ≡ true
+  pub nothing_unsent : wrote ≡ end.Ended → unsent w.seen conn ≡ []
   pub gone : wrote ≡ end.Gone → HasRisen s.faults s.faults_now
 
 -- a seat has dialled a connection, and has no other entry

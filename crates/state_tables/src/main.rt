@@ -12,6 +12,7 @@ mod call;
 mod edits;
 mod fault;
 mod items;
+mod log;
 mod ports;
 mod queue;
 mod stores;

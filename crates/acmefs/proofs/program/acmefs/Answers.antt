@@ -8,7 +8,7 @@ use Rattle.acmefs.proofs.Idle as idle
 use Rattle.acmefs.proofs.OwnText.{says_own}
 use Rattle.acmefs.proofs.Promised as promised
 use Rattle.acmefs.proofs.RoundTrip.{says_trips}
-use Rattle.acmefs.proofs.ServeEnds.{never_usage, at_path, serve_read_fault, serve_write_fault}
+use Rattle.acmefs.proofs.ServeEnds.{never_usage, at_path, serve_read_fault, serve_write_fault, none_replied}
 use Rattle.acmefs.proofs.Words.{asked_at, none_at, replay_alone, replay_no_drill, drill_no_serving, asked_once, rounds_once}
 use Rattle.acmefs.proofs.program.acmefs.Goals as goal
 
@@ -59,6 +59,11 @@ returns-in-Ok-Some-Replay-clause-serves g c = λ path clients a. absurd (let e =
 pub returns-in-Ok-Some-Replay-clause-round_trip : goal.returns-in-Ok-Some-Replay-clause-round_trip
 returns-in-Ok-Some-Replay-clause-round_trip g c = let s = c.replayed.ensures.says in λ n. says_trips s.0 _ _ _ _ _ s.2
 
+pub returns-in-Ok-Some-Replay-clause-replied : goal.returns-in-Ok-Some-Replay-clause-replied
+returns-in-Ok-Some-Replay-clause-replied g c = λ h. none_replied {G = g.row.H-G.Denot} {L = g.row.H-G-L.Denot} {S = g.row.H-G-L-R.Denot} {K = g.row.H-G-L-W.Denot}
+    (outside g.H.G.Gate.name g.H.G.Gate.faults g.H.G.L.Link.begins g.H.G.L.Link.faults g.H.G.L.R.Source.left g.H.G.L.R.Source.faults g.H.G.L.W.Sink.held g.H.G.L.W.Sink.faults)
+    _ _ c.replayed.ensures.none_served
+
 -- ---- a drill
 
 pub returns-in-Ok-Some-Drill-clause-usage : goal.returns-in-Ok-Some-Drill-clause-usage
@@ -96,6 +101,11 @@ returns-in-Ok-Some-Drill-clause-drilled g c = λ n a. drill_complete c.in-Ok-Som
 
 pub returns-in-Ok-Some-Drill-clause-serves : goal.returns-in-Ok-Some-Drill-clause-serves
 returns-in-Ok-Some-Drill-clause-serves g c = λ path clients a. absurd (let e = sym (drill_no_serving c.args.words.now c.in-Ok-Some-Drill.rounds (asked_at c.args.words.now _ c.in-Ok-Some-Drill.field-0 c.in-Ok-Some-Drill.field-0-0 (asked.Drill c.in-Ok-Some-Drill.rounds) c.in-Ok-Some-Drill.field-0-is c.in-Ok-Some-Drill.field-0-0-is c.as_slice.ensures c.in-Ok-Some-Drill.ensures.asked)) ∙ a.0 in cc)
+
+pub returns-in-Ok-Some-Drill-clause-replied : goal.returns-in-Ok-Some-Drill-clause-replied
+returns-in-Ok-Some-Drill-clause-replied g c = λ h. none_replied {G = g.row.H-G.Denot} {L = g.row.H-G-L.Denot} {S = g.row.H-G-L-R.Denot} {K = g.row.H-G-L-W.Denot}
+    (outside g.H.G.Gate.name g.H.G.Gate.faults g.H.G.L.Link.begins g.H.G.L.Link.faults g.H.G.L.R.Source.left g.H.G.L.R.Source.faults g.H.G.L.W.Sink.held g.H.G.L.W.Sink.faults)
+    _ _ c.drilled.ensures.none_served
 
 -- ---- serving
 
@@ -206,6 +216,11 @@ returns-in-Ok-None-clause-serves g c = λ path clients a. absurd ((none_at c.arg
 pub returns-in-Ok-None-clause-round_trip : goal.returns-in-Ok-None-clause-round_trip
 returns-in-Ok-None-clause-round_trip g c = λ n. idle.trips _ c.idle.ensures.journal
 
+pub returns-in-Ok-None-clause-replied : goal.returns-in-Ok-None-clause-replied
+returns-in-Ok-None-clause-replied g c = λ h. none_replied {G = g.row.H-G.Denot} {L = g.row.H-G-L.Denot} {S = g.row.H-G-L-R.Denot} {K = g.row.H-G-L-W.Denot}
+    (outside g.H.G.Gate.name g.H.G.Gate.faults g.H.G.L.Link.begins g.H.G.L.Link.faults g.H.G.L.R.Source.left g.H.G.L.R.Source.faults g.H.G.L.W.Sink.held g.H.G.L.W.Sink.faults)
+    _ _ c.idle.ensures.none_served
+
 -- ---- want of memory
 
 pub returns-in-Err-clause-other_words : goal.returns-in-Err-clause-other_words
@@ -230,3 +245,8 @@ returns-in-Err-clause-serves g c = λ path clients a. idle.serves {G = g.row.H-G
 
 pub returns-in-Err-clause-round_trip : goal.returns-in-Err-clause-round_trip
 returns-in-Err-clause-round_trip g c = λ n. idle.trips _ c.idle-in-Err.ensures.journal
+
+pub returns-in-Err-clause-replied : goal.returns-in-Err-clause-replied
+returns-in-Err-clause-replied g c = λ h. none_replied {G = g.row.H-G.Denot} {L = g.row.H-G-L.Denot} {S = g.row.H-G-L-R.Denot} {K = g.row.H-G-L-W.Denot}
+    (outside g.H.G.Gate.name g.H.G.Gate.faults g.H.G.L.Link.begins g.H.G.L.Link.faults g.H.G.L.R.Source.left g.H.G.L.R.Source.faults g.H.G.L.W.Sink.held g.H.G.L.W.Sink.faults)
+    _ _ c.idle-in-Err.ensures.none_served

@@ -10,7 +10,7 @@ finish-requires-clause-lawful g c = lawful_played (known_of c.serve_slots.new.se
 
 pub returns-in-Ok-serve_slots : goal.returns-in-Ok-serve_slots
 returns-in-Ok-serve_slots g c =
-    served_lines {G = g.row.H-G.Denot} {L = g.row.H-G-L.Denot} {S = g.row.H-G-L-R.Denot} {K = g.row.H-G-L-W.Denot}
+    served_lines {G = g.row.H-G.Denot} {L = g.row.H-G-L.Denot} {S = g.row.H-G-L-R.Denot} {K = g.row.H-G-L-W.Denot} c.ended_connections_get_nothing_more.ensures.all
     (outside g.H.G.Gate.name g.H.G.Gate.faults g.H.G.L.Link.begins g.H.G.L.Link.faults g.H.G.L.R.Source.left g.H.G.L.R.Source.faults g.H.G.L.W.Sink.held g.H.G.L.W.Sink.faults)
     c.args.path.now c.args.clients c.args.script.now _ _ _ c.in-Ok-serve_slots.slots c.in-Ok-serve_slots.end (known_of c.serve_slots.new.seat)
     c.close.result.journal c.finish.result.journal c.finish.result.served c.finish.result.end
