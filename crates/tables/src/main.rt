@@ -6,7 +6,7 @@
 // |---|---|
 // | `addr`, `address` | addresses.rt |
 // | `piece` | pieces.rt |
-// | `edit` | commands.rt |
+// | `edit`, `command` | commands.rt |
 // | `re` | expressions.rt |
 // | `names` | names.rt |
 // | `rules`, `bytes`, `sets` | rules.rt |
@@ -26,6 +26,7 @@ mod pieces;
 mod plans;
 mod rules;
 
+use commands::Reader;
 use fault::Fault;
 use fields::{cut, cut_twice, number_of};
 use name_tree::Tree;
@@ -47,7 +48,8 @@ fn found(alloc: Global, state: &mut State, word: &str, case: &str) -> Result<Vec
         "addr" => addresses::valued(alloc, case),
         "address" => addresses::ended(alloc, case),
         "piece" => pieces::first(alloc, case),
-        "edit" => commands::done(alloc, case),
+        "edit" => commands::done(alloc, case, Reader::ParseEdit),
+        "command" => commands::done(alloc, case, Reader::ReadEdit),
         "re" => Ok(expressions::answer(alloc, case)?.into_vec()),
         "names" => names::answer(alloc, &mut state.tree, case),
         "rules" => rules::routed(alloc, &state.known, case, Coding::Utf8),
