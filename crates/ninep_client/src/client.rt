@@ -100,7 +100,8 @@ impl<R: Source, W: Sink> Client<R, W> {
 
     /// Whether no tag is asked.
     pub fn is_idle(&self) -> bool
-        ensures { result ≡ (length self.now.talk.asked == 0) }
+        ensures exact { result ≡ (length self.now.talk.asked == 0) }
+        ensures none { result ≡ true → self.now.talk.asked ≡ [] }
     {
         self.asked.is_empty()
     }

@@ -11,6 +11,7 @@ mod hearing;
 mod kinds;
 mod laws;
 mod unread;
+mod version;
 
 pub use am_text::{Bytes, Items, NoMemory};
 pub use asked::Asked;
@@ -18,3 +19,4 @@ pub use client::Client;
 pub use fault::CallFault;
 pub use laws::replies_are_given_once;
 pub use ninep_types::{Qid, Qids, RBody, RMsg, TBody, TMsg, WireFault};
+pub use version::version_message;
