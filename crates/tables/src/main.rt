@@ -8,6 +8,7 @@
 // | `piece` | pieces.rt |
 // | `edit`, `command` | commands.rt |
 // | `re` | expressions.rt |
+// | `machines` | machines.rt |
 // | `names` | names.rt |
 // | `rules`, `bytes`, `sets` | rules.rt |
 // | `times` COUNT FRONT BEHIND LINE | the line, with each `@` of it as so many FRONT and then so many BEHIND |
@@ -21,6 +22,7 @@ mod commands;
 mod expressions;
 mod fault;
 mod fields;
+mod machines;
 mod names;
 mod pieces;
 mod plans;
@@ -51,6 +53,7 @@ fn found(alloc: Global, state: &mut State, word: &str, case: &str) -> Result<Vec
         "edit" => commands::done(alloc, case, Reader::ParseEdit),
         "command" => commands::done(alloc, case, Reader::ReadEdit),
         "re" => Ok(expressions::answer(alloc, case)?.into_vec()),
+        "machines" => machines::answer(alloc, case),
         "names" => names::answer(alloc, &mut state.tree, case),
         "rules" => rules::routed(alloc, &state.known, case, Coding::Utf8),
         "bytes" => rules::routed(alloc, &state.known, case, Coding::Bytes),
