@@ -63,8 +63,8 @@ fn report_text(alloc: Global, core: &Core) -> Result<Bytes, NoMemory>
     report(alloc, &view)
 }
 
-// What is written at a stop; a stop for want of memory has none.
-fn end_text(alloc: Global, core: &Core, stop: Stop) -> Result<Bytes, NoMemory>
+/// What is written at a stop; a stop for want of memory has none.
+pub(crate) fn end_text(alloc: Global, core: &Core, stop: Stop) -> Result<Bytes, NoMemory>
     ensures { IfOk result (λ text. EndText stop core.now.journal text) }
 {
     match stop {
@@ -74,7 +74,8 @@ fn end_text(alloc: Global, core: &Core, stop: Stop) -> Result<Bytes, NoMemory>
     }
 }
 
-fn end_at(stop: Stop, failed: bool) -> End
+/// How a replay ends that stopped so.
+pub(crate) fn end_at(stop: Stop, failed: bool) -> End
     ensures { result ≡ end_at stop failed }
 {
     match stop {
