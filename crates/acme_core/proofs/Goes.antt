@@ -9,10 +9,10 @@ use Rattle.am_journal.specs.declared.event.Event.{Event}
 use Rattle.am_journal.specs.declared.event.Why.{Why}
 use Rattle.am_journal.specs.Lawful.{IsLawful}
 use Rattle.am_counter.specs.Played.{ArePlayed, IsPlayed}
-use Rattle.core_windows.specs.Possible.{IsPossible}
+use Rattle.core_answers.specs.Done.{CanBeMade}
 use Rattle.core_windows.specs.Windows.{Window}
 use Rattle.core_windows.specs.Stories.{AreLawful}
-use Rattle.core_windows.specs.WindowLaws.{ChangesShow, ChangesAreLawful}
+use Rattle.core_windows.specs.WindowLaws.{ChangesShow, ChangesAreLawful, AreNumbered, NumbersStay}
 use Rattle.core_events.specs.Sound.{IsSound}
 use Rattle.acme_core.specs.declared.prepared.Prepared.{Prepared}
 use Rattle.acme_core.specs.declared.parts.Parts.{Parts}
@@ -23,7 +23,7 @@ use Rattle.acme_core.specs.Kept.{IsKept, IsReady, IsPrepared, AreSound, planned_
 use Rattle.acme_core.specs.Parts.{present_of, AreSteady}
 use Rattle.acme_core.specs.Run.{step, run, present_after, enabled}
 use Rattle.acme_core.specs.Stages.{after}
-use Rattle.acme_core.specs.States.{Present, State, present, start}
+use Rattle.acme_core.specs.States.{Present, State, present, start, next_entry}
 use Rattle.acme_core.proofs.Few.{length-connections}
 use Rattle.acme_core.proofs.Joins.{joins_on}
 
@@ -45,16 +45,16 @@ unfolding ArePlayed
 none_played allows = tt
 
 -- what a step makes of the editor as it stands is what it makes of the story
-stands_on : ChangesShow → (s : State) (e : Event) → AreLawful s.windows → IsPossible (present s).windows (doing_of (present s) e).change
+stands_on : ChangesShow → (s : State) (e : Event) → AreLawful s.windows → CanBeMade (present s).windows (doing_of (present s) e).changes
     → present (step s e) ≡ after (present s) e (doing_of (present s) e)
 unfolding step
 stands_on show s e lawful possible =
     ap (λ (ws : List (Option Window)). record (after (present s) e (doing_of (present s) e)) { windows = ws })
-    (show s.windows (doing_of (present s) e).change lawful possible)
+    (show (next_entry (present s)) s.windows (doing_of (present s) e).changes lawful (possible (next_entry (present s))))
 
-lawful_on : ChangesAreLawful → (s : State) (e : Event) → AreLawful s.windows → IsPossible (present s).windows (doing_of (present s) e).change → AreLawful (step s e).windows
+lawful_on : ChangesAreLawful → (s : State) (e : Event) → AreLawful s.windows → CanBeMade (present s).windows (doing_of (present s) e).changes → AreLawful (step s e).windows
 unfolding step
-lawful_on laws s e lawful possible = laws.stays s.windows (doing_of (present s) e).change lawful possible
+lawful_on laws s e lawful possible = laws.stays (next_entry (present s)) s.windows (doing_of (present s) e).changes lawful (possible (next_entry (present s)))
 
 -- the tables stay sound
 sound_on : (old new : Parts) (spare : ℕ) (p : Prepared) → AreSound old → IsPrepared (present_of old) spare old p
@@ -139,6 +139,21 @@ counts s (e ∷ journal) = omega (arith, counts (step s e) journal)
 pub entries_counted : (journal : List Event) → (run journal).entries ≡ length journal
 unfolding run
 entries_counted journal = omega (arith, counts start journal)
+
+-- ---- the numbers of groups
+
+numbered_on : NumbersStay → (s : State) (e : Event) → AreNumbered s.entries s.windows → AreNumbered (step s e).entries (step s e).windows
+unfolding step
+numbered_on law s e h = law.stays s.entries (s.entries + 1) s.windows (doing_of (present s) e).changes (omega arith) h
+
+numbered_from : NumbersStay → (s : State) (journal : List Event) → AreNumbered s.entries s.windows → AreNumbered (fold step s journal).entries (fold step s journal).windows
+numbered_from law s [] h = h
+numbered_from law s (e ∷ journal) h = numbered_from law (step s e) journal (numbered_on law s e h)
+
+pub groups_numbered : NumbersStay → (journal : List Event) → AreNumbered (length journal) (run journal).windows
+unfolding run
+groups_numbered law journal =
+    subst (λ (n : ℕ). AreNumbered n (fold step start journal).windows) (entries_counted journal) (numbered_from law start journal law.begins)
 
 -- ---- where no plan waits
 

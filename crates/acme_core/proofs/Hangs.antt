@@ -28,7 +28,7 @@ hang_ready p (event.Hang conn why) at replies h joined steady sound numbered non
   sessions = steady.sessions;
   book = steady.book;
   sound = subst (λ (n : ℕ). IsSound n p.book.present) (sym numbered) (subst (λ (b : _). IsSound (p.entries + 1) b) (sym steady.book) sound);
-  windows = refl;
+  windows = steady.windows;
   outputs = steady.outputs;
 }
 hang_ready p (event.Dial conn) at replies h joined steady sound numbered none = absurd cc

@@ -8,3 +8,4 @@ pub mod Places
 pub mod Viewed
 pub mod Typed
 pub mod Connected
+pub mod Moved

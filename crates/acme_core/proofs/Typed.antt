@@ -1,8 +1,7 @@
 -- Changes that keys and selections make can be made.
 use Rattle.std.proofs.Common.{◌≡◌, ℕ, zero, suc, ◌+◌, ◌-◌, ◌≤◌, Bool, true, false, cond, eqb, List, [], ◌∷◌, ◌++◌, length, take, drop, Option, Some, None, refl, sym, subst, arith}
-use Rattle.std.specs.Prelude.{◌&&◌, nat_le}
+use Rattle.std.specs.Prelude.{◌&&◌, nat_le, IsSome}
 use Rattle.std.proofs.lemmas.List.{length-append}
-use Rattle.std.proofs.lemmas.List.Elements.{All-from_recursion}
 use Rattle.std.proofs.lemmas.Bool.Decides.{nat_tests}
 use Rattle.am_text.specs.declared.range.Range.{Range}
 use Rattle.am_journal.specs.declared.event.Why.{Why}
@@ -13,10 +12,13 @@ use Rattle.win_text.specs.Bodies.{IsInside, IsSound, AreInRange}
 use Rattle.win_text.specs.BodyStories.{IsChangeOf}
 use Rattle.core_windows.specs.declared.change.Change.TheVariants as change
 use Rattle.core_windows.specs.declared.change.Setting.TheVariants as setting
-use Rattle.core_windows.specs.Possible.{CanSet, CanSetAll, CanEdit, IsPossible}
+use Rattle.core_windows.specs.declared.change.Change.{Change}
+use Rattle.core_windows.specs.Possible.{CanSetIn, CanEdit, text_in}
+use Rattle.core_windows.proofs.Steps.{edits_then_set}
+use Rattle.core_answers.specs.Done.{CanBeMade}
 use Rattle.core_windows.specs.Windows.{Window, window_at}
 use Rattle.core_addresses.specs.Data.{replacing}
-use Rattle.acme_core.specs.Typing.{fits_body, sel_refusal}
+use Rattle.acme_core.specs.Typing.{fits_body, sel_refusal, edits_with_dot, sel_changes}
 
 -- a range that lies in the text, and a text for its place; null_in says that both are empty
 in_range : (text : List ℕ) (r : Range) (put : List ℕ) → IsInside text r → (b : Bool) → ((eqb r.q0 r.q1) && (eqb (length put) 0)) ≡ b
@@ -48,17 +50,22 @@ replaces text r put inside = record {
   dot = record { order = omega arith; bounds = end_inside text r put inside ((eqb r.q0 r.q1) && (eqb (length put) 0)) refl };
 }
 
-pub key_possible : (windows : List (Option Window)) (w : ℕ) (window : Window) (put : List ℕ) (edits : List Edit) (end : ℕ)
-    → window_at windows w ≡ Some window → IsSound window.body → edits ≡ replacing window.body.dot put → end ≡ window.body.dot.q0 + length put
-    → IsPossible windows (change.Edits w edits (Some (record { q0 = end; q1 = end })) None)
-key_possible windows w window put edits end there sound e n =
+pub key_possible : (windows : List (Option Window)) (w : ℕ) (window : Window) (put : List ℕ) (edits : List Edit) (end : ℕ) (cs : List Change)
+    → cs ≡ edits_with_dot w edits (record { q0 = end; q1 = end }) → window_at windows w ≡ Some window → IsSound window.body → edits ≡ replacing window.body.dot put → end ≡ window.body.dot.q0 + length put
+    → CanBeMade windows cs
+key_possible windows w window put edits end cs is there sound e n = subst (CanBeMade windows) (sym is) (λ at.
     let dot : Range = record { q0 = end; q1 = end } in
     let made : IsChangeOf window.body.text (record { edits = edits; dot = Some dot }) =
     subst (λ (es : List Edit). IsChangeOf window.body.text (record { edits = es; dot = Some dot })) (sym e)
     (subst (λ (k : ℕ). IsChangeOf window.body.text (record { edits = replacing window.body.dot put; dot = Some (record { q0 = k; q1 = k }) })) (sym n)
     (replaces window.body.text window.body.dot put sound.dot))
     in
-    subst (λ (o : Option Window). CanEdit o (record { edits = edits; dot = Some dot }) None) (sym there) (record { change = made; addr_is = tt })
+    edits_then_set at w edits (setting.Dot dot) windows
+    (subst (λ (o : Option Window). CanEdit o edits) (sym there) (record { lives = refl; range = made.edits }))
+    (subst (λ (o : Option Window). IsInside (text_after (text_in o) edits) dot) (sym there) made.dot))
+
+pub add_possible : (windows : List (Option Window)) (w : ℕ) (window : Window) (text : List ℕ) (cs : List Change) → cs ≡ change.Adds w text ∷ [] → window_at windows w ≡ Some window → CanBeMade windows cs
+add_possible windows w window text cs is there = subst (CanBeMade windows) (sym is) (λ at. (subst (λ (o : Option Window). IsSome o) (sym there) refl, tt))
 
 -- dot's start and the text together have no more runes than a body may have
 pub key_fits : (window : Window) (put : List ℕ) → IsSound window.body → fits_body window put ≡ None → window.body.dot.q0 + length put ≤ 16777216
@@ -76,7 +83,7 @@ key_fits window put sound e =
 
 -- ---- selections
 
-inside_if_fits : (o : Option Window) (r : Range) → r.q0 ≤ r.q1 → sel_refusal o r ≡ None → CanSetAll o (setting.Dot r ∷ [])
+inside_if_fits : (o : Option Window) (r : Range) → r.q0 ≤ r.q1 → sel_refusal o r ≡ None → CanSetIn o (setting.Dot r)
 inside_if_fits None r h e = absurd cc
 inside_if_fits (Some window) r h e =
     let fits : (b : Bool) → cond {A = Option Why} b None (Some why.Range) ≡ None → b ≡ true =
@@ -85,11 +92,9 @@ inside_if_fits (Some window) r h e =
       | false ↦ λ h. absurd cc
     ] in
     let within : nat_le r.q1 (length window.body.text) ≡ true = fits _ e in
-    let inside : IsInside window.body.text r = record { order = h; bounds = grind (arith, nat_tests) } in
-    All-from_recursion (CanSet window) (setting.Dot r ∷ []) (inside, tt)
+    record { lives = refl; inside = record { order = h; bounds = grind (arith, nat_tests) } }
 
-pub sel_possible : (windows : List (Option Window)) (w : ℕ) (r : Range) → r.q0 ≤ r.q1 → sel_refusal (window_at windows w) r ≡ None
-    → IsPossible windows (change.Controls w (setting.Dot r ∷ []) false)
-sel_possible windows w r h e = inside_if_fits (window_at windows w) r h e
+pub sel_possible : (windows : List (Option Window)) (w : ℕ) (r : Range) (cs : List Change) → cs ≡ sel_changes w r → r.q0 ≤ r.q1 → sel_refusal (window_at windows w) r ≡ None → CanBeMade windows cs
+sel_possible windows w r cs is h e = subst (CanBeMade windows) (sym is) (λ at. (inside_if_fits (window_at windows w) r h e, tt))
 
-pub ruleset typing = (key_possible, key_fits, sel_possible)
+pub ruleset typing = (key_possible, key_fits, add_possible, sel_possible)

@@ -4,7 +4,6 @@ use Rattle.am_text.specs.declared.range.Range.{Range}
 use Rattle.am_journal.specs.declared.event.Event.{Event}
 use Rattle.win_text.specs.BodyStories.{story_text, range_now}
 use Rattle.core_windows.specs.Stories.{WindowStory, story_at}
-use Rattle.core_windows.specs.Windows.{Window}
 use Rattle.acme_core.specs.Run.{run}
 
 -- as it was last set, moved by the edits that were made since
@@ -22,8 +21,3 @@ body_of (Some s) = story_text s.body
 
 abbrev pub body_at : List Event → ℕ → List ℕ
 body_at journal w = body_of (story_at (run journal).windows w)
-
--- the same of a window as it stands
-abbrev pub shown_addr : Option Window → Option Range
-shown_addr None = None
-shown_addr (Some window) = Some window.body.addr

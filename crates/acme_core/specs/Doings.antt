@@ -1,5 +1,5 @@
 -- What an event does, as the editor stands.
-use Rattle.std.specs.Prelude.{ℕ, ◌&&◌, not, Bool, true, false, [], length, Option, Some, None}
+use Rattle.std.specs.Prelude.{ℕ, ◌&&◌, not, Bool, true, false, List, [], ◌∷◌, length, Option, Some, None}
 use Rattle.std.specs.List.{list_any}
 use Rattle.ninep_types.specs.declared.message.TMsg.{TMsg}
 use Rattle.ninep_types.specs.declared.message.TBody.{TBody}
@@ -26,7 +26,7 @@ use Rattle.acme_core.specs.Connections.{connection_at}
 use Rattle.acme_core.specs.Enabled.{dial_refusal, live_refusal, msg_refusal, took_refusal, new_refusal}
 use Rattle.acme_core.specs.Origins.{message_origin}
 use Rattle.acme_core.specs.States.{Present, unsent_count}
-use Rattle.acme_core.specs.Typing.{key_refusal, key_change, sel_refusal, sel_change}
+use Rattle.acme_core.specs.Typing.{key_refusal, key_changes, sel_refusal, sel_changes}
 
 -- ---- what may come
 
@@ -52,11 +52,11 @@ enabled_at s (event.Sel w range) = sel_refusal (window_at s.windows w) range
 -- ---- what it does
 
 -- what is done to windows alone
-abbrev pub changing : Change → Origin → Doing
-changing c origin = record { effect = effect.Nothing; events = events.Nothing; change = c; origin = origin; answer = None }
+abbrev pub changing : List Change → Origin → Doing
+changing changes origin = record { effect = effect.Nothing; events = events.Nothing; changes = changes; origin = origin; answer = None }
 
 abbrev pub nothing : Doing
-nothing = changing change.Nothing F
+nothing = changing [] F
 
 -- what a message is answered has a spelling
 abbrev pub IsAnswerable : Option Answer → Type 0
@@ -68,13 +68,13 @@ abbrev pub deed_at : Present → ℕ → TMsg → Deed
 deed_at s conn msg = deed s.tables s.windows (length s.book.owners) conn msg.body
 
 abbrev pub message_doing : Deed → Origin → Doing
-message_doing d origin = record { effect = d.effect; events = d.events; change = d.change; origin = origin; answer = Some d.answer }
+message_doing d origin = record { effect = d.effect; events = d.events; changes = d.changes; origin = origin; answer = Some d.answer }
 
 abbrev pub doing_of : Present → Event → Doing
 doing_of s (event.Dial conn) = nothing
 doing_of s (event.Msg conn msg) = message_doing (deed_at s conn msg) (message_origin s.tables conn msg.body)
 doing_of s (event.Hang conn why) = nothing
 doing_of s (event.Took conn) = nothing
-doing_of s event.New = changing (change.Makes [] []) F
-doing_of s (event.Key w side text) = changing (key_change w (window_at s.windows w) side text) K
-doing_of s (event.Sel w range) = changing (sel_change w range) M
+doing_of s event.New = changing (change.Makes [] ∷ []) F
+doing_of s (event.Key w side text) = changing (key_changes w (window_at s.windows w) side text) K
+doing_of s (event.Sel w range) = changing (sel_changes w range) M

@@ -4,7 +4,7 @@ use Rattle.am_text.specs.Room.{Room}
 use Rattle.am_journal.specs.declared.event.Event.{Event}
 use Rattle.am_journal.specs.Lawful.{IsLawful}
 use Rattle.am_counter.specs.Played.{IsPlayed}
-use Rattle.core_windows.specs.Possible.{IsPossible}
+use Rattle.core_answers.specs.Done.{CanBeMade}
 use Rattle.core_windows.specs.Stories.{AreLawful}
 use Rattle.core_events.specs.Sound.{IsSound}
 use Rattle.acme_core.specs.declared.parts.Parts.{Parts}
@@ -29,7 +29,7 @@ pub record HasEntries (entries spare lives : ℕ) : Type 0 where
 pub record IsPrepared (s : Present) (spare : ℕ) (parts : Parts) (prepared : Prepared) : Type 0 where
   pub lawful : IsLawful prepared.event
   pub allowed : enabled_at s prepared.event ≡ None
-  pub possible : IsPossible s.windows (doing_of s prepared.event).change
+  pub possible : CanBeMade s.windows (doing_of s prepared.event).changes
   pub ready : HasReady parts prepared (doing_of s prepared.event)
   pub entries : HasEntries s.entries spare (live_count (connections_after parts.connections.items prepared.event) + 1)
 

@@ -1,15 +1,13 @@
 -- The state that the editor's tables stand for, and what is ready in them.
-use Rattle.std.specs.Prelude.{◌≡◌, Bool, true, false, Option, Some}
+use Rattle.std.specs.Prelude.{◌≡◌}
 use Rattle.am_text.specs.Twice.{IsSteady}
-use Rattle.core_windows.specs.declared.change.Change.{Change}
-use Rattle.core_windows.specs.declared.change.Change.TheVariants as change
+use Rattle.core_windows.specs.Windows.{all_changed}
 use Rattle.core_events.specs.Sound.{IsSound}
 use Rattle.core_events.specs.Waits.{deleted_by}
 use Rattle.acme_core.specs.declared.doing.Doing.{Doing}
 use Rattle.acme_core.specs.declared.parts.Parts.{Parts}
 use Rattle.acme_core.specs.declared.prepared.Prepared.{Prepared}
 use Rattle.acme_core.specs.Connections.{IsOfJoined}
-use Rattle.acme_core.specs.Run.{is_hang}
 use Rattle.acme_core.specs.Stages.{grown_tables, grown_book, said}
 use Rattle.acme_core.specs.States.{Present, next_entry}
 use Rattle.acme_core.specs.Unsent.{replies_of, put_replies}
@@ -20,7 +18,7 @@ present_of p = record {
   entries = p.entries;
   connections = p.connections.items;
   tables = p.sessions.kept;
-  windows = p.windows.windows;
+  windows = p.windows.kept;
   book = p.book.kept;
   unsent = p.outputs.kept;
   replies = p.replies.items;
@@ -29,25 +27,21 @@ present_of p = record {
 -- nothing is ready
 pub record AreSteady (p : Parts) : Type 0 where
   pub sessions : IsSteady p.sessions
+  pub windows : IsSteady p.windows
   pub book : IsSteady p.book
   pub outputs : IsSteady p.outputs
-
--- a hang-up changes no window, and every other event has its change made ready
-abbrev pub HasChange : Bool → Option Change → Change → Type 0
-HasChange true prepared c = c ≡ change.Nothing
-HasChange false prepared c = prepared ≡ Some c
 
 -- All that a step makes is ready, and what it ends is known, where its event does this.
 pub record HasReady (p : Parts) (prepared : Prepared) (d : Doing) : Type 0 where
   pub at : prepared.at ≡ next_entry (present_of p)
   pub effect : prepared.effect ≡ d.effect
   pub events : prepared.events ≡ d.events
-  pub deletes : prepared.deletes ≡ deleted_by d.change
+  pub deletes : prepared.deletes ≡ deleted_by d.changes
   pub answers : prepared.said ≡ said (present_of p) prepared.event d
   pub replies : prepared.replies.items ≡ replies_of (said (present_of p) prepared.event d)
   pub joined : IsOfJoined p.sessions.present prepared.event
   pub sessions : p.sessions.present ≡ grown_tables (present_of p) prepared.event d
   pub book : p.book.present ≡ grown_book (present_of p) prepared.event d
   pub sound : IsSound prepared.at p.book.present
-  pub windows : HasChange (is_hang prepared.event) p.windows.prepared d.change
+  pub windows : p.windows.present ≡ all_changed (next_entry (present_of p)) p.windows.kept d.changes
   pub outputs : p.outputs.present ≡ put_replies p.outputs.kept (replies_of (said (present_of p) prepared.event d))

@@ -4,18 +4,18 @@ use Rattle.std.specs.Prelude.{ℕ, ◌==◌, ◌&&◌, not, Bool, true, false, L
 use Rattle.ninep_types.specs.declared.message.RBody.{RBody}
 use Rattle.fid_table.specs.Tables.{Tables, after_hangup}
 use Rattle.wait_queue.specs.declared.types.Asker.{Asker}
-use Rattle.win_events.specs.declared.item.Item.{Item}
 use Rattle.am_journal.specs.declared.event.Event.{Event}
 use Rattle.am_journal.specs.declared.event.Event.TheVariants as event
 use Rattle.event_book.specs.BookState.{BookState}
-use Rattle.core_windows.specs.Windows.{changed}
-use Rattle.core_windows.specs.Stories.{changed_stories}
+use Rattle.core_windows.specs.Windows.{all_changed}
+use Rattle.core_windows.specs.Stories.{all_changed_stories}
 use Rattle.core_answers.specs.declared.effect.Answer.{Answer}
 use Rattle.core_answers.specs.declared.effect.Answer.TheVariants.{Says, Reads}
 use Rattle.core_events.specs.declared.response.Response.{Response}
 use Rattle.core_events.specs.Asking.{opened, read_said, book_read, tables_read}
 use Rattle.core_events.specs.Closing.{freed, cancelled, closed_with, without_fids}
-use Rattle.core_events.specs.Putting.{changes_window, made, put_all}
+use Rattle.core_events.specs.Putting.{all_made, put_all}
+use Rattle.core_events.specs.declared.putting.WindowItem.{WindowItem}
 use Rattle.core_events.specs.Serving.{served_all, book_served_all}
 use Rattle.core_events.specs.Waits.{clunked, deleted_by, deletions, ended, without_cancelled}
 use Rattle.acme_core.specs.declared.doing.Doing.{Doing}
@@ -102,11 +102,11 @@ grown_tables s e d = event_tables (with_fid s e d) s.book e d.answer
 abbrev pub read_book : Present → Event → Doing → BookState
 read_book s e d = event_book (with_fid s e d) s.book e d.answer (next_entry s)
 
-abbrev pub items_made : Present → Doing → List Item
-items_made s d = made s.book s.windows d.origin d.change
+abbrev pub items_made : Present → Doing → List WindowItem
+items_made s d = all_made (next_entry s) s.book s.windows d.origin d.changes
 
 abbrev pub put_book : Present → Event → Doing → BookState
-put_book s e d = put_all (opened (read_book s e d) d.events) (changes_window d.change) (items_made s d)
+put_book s e d = put_all (opened (read_book s e d) d.events) (items_made s d)
 
 abbrev pub is_none : Option ℕ → Bool
 is_none None = true
@@ -114,7 +114,7 @@ is_none (Some w) = false
 
 -- Reads are served where items come, unless the window is deleted at once: a read waits only while nothing is there for it.
 abbrev pub serves : Present → Doing → Bool
-serves s d = is_none (deleted_by d.change) && not (length (items_made s d) == 0)
+serves s d = is_none (deleted_by d.changes) && not (length (items_made s d) == 0)
 
 abbrev pub served : Bool → ℕ → BookState → List Response
 served serves at book = if serves then served_all at book else []
@@ -131,14 +131,14 @@ abbrev pub said : Present → Event → Doing → List Response
 said s e d =
     clunked s.tables (conn_of e) d.effect
     ++ event_said (with_fid s e d) s.book e d.answer
-    ++ deletions s.tables (deleted_by d.change)
+    ++ deletions s.tables (deleted_by d.changes)
     ++ served (serves s d) (next_entry s) (put_book s e d)
 
 -- ---- what a step ends
 
 abbrev pub closed_book : ℕ → Tables → Event → Doing → BookState → BookState
 closed_book at tables (event.Dial conn) d book = book
-closed_book at tables (event.Msg conn msg) d book = closed_with at (cancelled (freed at book tables conn d.effect) conn d.events) (deleted_by d.change)
+closed_book at tables (event.Msg conn msg) d book = closed_with at (cancelled (freed at book tables conn d.effect) conn d.events) (deleted_by d.changes)
 closed_book at tables (event.Hang conn why) d book = without_fids at book tables conn
 closed_book at tables (event.Took conn) d book = book
 closed_book at tables event.New d book = book
@@ -170,7 +170,7 @@ after s e d = record {
   entries = next_entry s;
   connections = connections_after s.connections e;
   tables = tables_after s e d;
-  windows = changed s.windows d.change;
+  windows = all_changed (next_entry s) s.windows d.changes;
   book = book_after s e d;
   unsent = taken (put_replies s.unsent (replies_of (said s e d))) e;
   replies = replies_of (said s e d);
@@ -182,7 +182,7 @@ after_story s p e d = record {
   entries = next_entry p;
   connections = connections_after s.connections e;
   tables = tables_after p e d;
-  windows = changed_stories s.windows d.change;
+  windows = all_changed_stories (next_entry p) s.windows d.changes;
   book = book_after p e d;
   unsent = taken (put_replies s.unsent (replies_of (said p e d))) e;
   replies = replies_of (said p e d);

@@ -1,6 +1,7 @@
 -- Keys and selections.
 use Rattle.std.specs.Prelude.{ℕ, ◌+◌, ◌-◌, nat_le, List, [], ◌∷◌, length, Option, Some, None, if◌then◌else◌, false}
 use Rattle.am_text.specs.declared.range.Range.{Range}
+use Rattle.edit_log.specs.declared.types.Edit.{Edit}
 use Rattle.am_journal.specs.declared.event.Side.{Side}
 use Rattle.am_journal.specs.declared.event.Side.TheVariants.{Tag, Body}
 use Rattle.am_journal.specs.declared.event.Why.{Why}
@@ -29,13 +30,17 @@ key_refusal None side text = Some why.Window
 key_refusal (Some window) side text = fits_side window side text
 
 -- In the body the text takes dot's place, and dot is then null behind it; in the tag it is put at the end.
-abbrev pub typed : ℕ → Window → Side → List ℕ → Change
-typed w window Body text = change.Edits w (replacing window.body.dot text) (Some (record { q0 = window.body.dot.q0 + length text; q1 = window.body.dot.q0 + length text })) None
-typed w window Tag text = change.Adds w text
+abbrev pub edits_with_dot : ℕ → List Edit → Range → List Change
+edits_with_dot w edits range = change.Edits w edits ∷ change.Sets w (setting.Dot range) ∷ []
 
-abbrev pub key_change : ℕ → Option Window → Side → List ℕ → Change
-key_change w None side text = change.Nothing
-key_change w (Some window) side text = typed w window side text
+abbrev pub typed : ℕ → Window → Side → List ℕ → List Change
+typed w window Body text =
+    edits_with_dot w (replacing window.body.dot text) (record { q0 = window.body.dot.q0 + length text; q1 = window.body.dot.q0 + length text })
+typed w window Tag text = change.Adds w text ∷ []
+
+abbrev pub key_changes : ℕ → Option Window → Side → List ℕ → List Change
+key_changes w None side text = []
+key_changes w (Some window) side text = typed w window side text
 
 -- ---- selections
 
@@ -45,5 +50,5 @@ sel_refusal None r = Some why.Window
 sel_refusal (Some window) r = if nat_le r.q1 (length window.body.text) then None else Some why.Range
 
 -- dot becomes the range
-abbrev pub sel_change : ℕ → Range → Change
-sel_change w r = change.Controls w (setting.Dot r ∷ []) false
+abbrev pub sel_changes : ℕ → Range → List Change
+sel_changes w r = change.Sets w (setting.Dot r) ∷ []

@@ -24,7 +24,7 @@ pub(crate) fn change_book(
     at: u64,
 )
     requires { IsSound at book.old.present }
-    ensures new { (d : Doing) → d.effect ≡ effect.now → d.events ≡ events → deleted_by d.change ≡ deletes → book.new ≡ both (closed_book at sessions.now.present event.now d book.old.present) }
+    ensures new { (d : Doing) → d.effect ≡ effect.now → d.events ≡ events → deleted_by d.changes ≡ deletes → book.new ≡ both (closed_book at sessions.now.present event.now d book.old.present) }
     ensures sound { IsSound at book.new.present }
     ensures steady { IsSteady book.new }
 {

@@ -1,9 +1,9 @@
 //! What an event does, as the editor stands.
 
-ghost use Rattle.std.specs.Prelude.{◌≡◌, [], None, IfOk};
+ghost use Rattle.std.specs.Prelude.{◌≡◌, [], ◌∷◌, None, IfOk};
 ghost use Rattle.ninep_types.specs.Spelling.{Fits_t};
 ghost use Rattle.am_journal.specs.Lawful.{IsLawful};
-ghost use Rattle.core_windows.specs.Possible.{IsPossible};
+ghost use Rattle.core_answers.specs.Done.{CanBeMade};
 ghost use Rattle.core_windows.specs.declared.change.Change.TheVariants as change;
 ghost use Rattle.win_events.specs.declared.item.Origin.TheVariants.{F};
 ghost use Rattle.acme_core.specs.Doings.{changing, nothing, message_doing, deed_at, doing_of, enabled_at, IsAnswerable};
@@ -12,11 +12,11 @@ ghost use Rattle.acme_core.specs.Parts.{present_of, AreSteady};
 
 use crate::origin::message_origin;
 use crate::parts::Parts;
-use crate::typing::{key_change, sel_change};
+use crate::typing::{key_changes, sel_changes};
 use am_journal::Event;
 use am_text::{Items, NoMemory};
 use core_answers::{Answer, Deed, Effect, EventChange, deed_of};
-use core_windows::Change;
+use core_windows::{Change, Changes};
 use ninep_types::TMsg;
 use std::alloc::Global;
 use win_events::Origin;
@@ -27,51 +27,52 @@ use win_events::Origin;
 pub struct Doing {
     pub effect: Effect,
     pub events: EventChange,
-    pub change: Change,
+    pub changes: Changes,
     pub origin: Origin,
     pub answer: Option<Answer>,
 }
 
 // What is done to windows alone.
-fn changing(change: Change, origin: Origin) -> Doing
-    ensures { result ≡ changing change origin }
+fn changing(changes: Changes, origin: Origin) -> Doing
+    ensures { result ≡ changing changes origin }
 {
     Doing {
         effect: Effect::Nothing,
         events: EventChange::Nothing,
-        change,
+        changes,
         origin,
         answer: None,
     }
 }
 
-fn nothing() -> Doing
+fn nothing(alloc: Global) -> Doing
     ensures { result ≡ nothing }
 {
-    changing(Change::Nothing, Origin::F)
+    changing(Items::new(alloc), Origin::F)
 }
 
-fn new_window(alloc: Global) -> Change
-    ensures { result ≡ change.Makes [] [] }
+fn new_window(alloc: Global) -> Result<Changes, NoMemory>
+    ensures { IfOk result (λ changes. changes ≡ change.Makes [] ∷ []) }
 {
-    Change::Makes {
+    let mut changes = Items::new(alloc);
+    changes.push(Change::Makes {
         name: Items::new(alloc),
-        text: Items::new(alloc),
-    }
+    })?;
+    Ok(changes)
 }
 
 fn message_doing(alloc: Global, parts: &Parts, conn: u32, msg: &TMsg) -> Result<Doing, NoMemory>
     requires fits { Fits_t msg.now }
     requires steady { AreSteady parts.now }
     ensures exact { IfOk result (λ d. d ≡ message_doing (deed_at (present_of parts.now) conn msg.now) (message_origin (present_of parts.now).tables conn msg.now.body)) }
-    ensures possible { IfOk result (λ d. IsPossible (present_of parts.now).windows d.change) }
+    ensures possible { IfOk result (λ d. CanBeMade (present_of parts.now).windows d.changes) }
     ensures answerable { IfOk result (λ d. IsAnswerable d.answer) }
 {
     let openings = parts.book.openings();
     let Deed {
         effect,
         events,
-        change,
+        changes,
         answer,
     } = deed_of(
         alloc,
@@ -84,7 +85,7 @@ fn message_doing(alloc: Global, parts: &Parts, conn: u32, msg: &TMsg) -> Result<
     Ok(Doing {
         effect,
         events,
-        change,
+        changes,
         origin: message_origin(&parts.sessions, conn, &msg.body),
         answer: Some(answer),
     })
@@ -96,23 +97,23 @@ pub(crate) fn doing_of(alloc: Global, parts: &Parts, event: &Event) -> Result<Do
     requires steady { AreSteady parts.now }
     requires allowed { enabled_at (present_of parts.now) event.now ≡ None }
     ensures exact { IfOk result (λ d. d ≡ doing_of (present_of parts.now) event.now) }
-    ensures possible { IfOk result (λ d. IsPossible (present_of parts.now).windows d.change) }
+    ensures possible { IfOk result (λ d. CanBeMade (present_of parts.now).windows d.changes) }
     ensures answerable { IfOk result (λ d. IsAnswerable d.answer) }
 {
     let windows = &parts.windows;
     match event {
         Event::Msg { conn, msg } => message_doing(alloc, parts, *conn, msg),
-        Event::Dial { .. } => Ok(nothing()),
-        Event::Hang { .. } => Ok(nothing()),
-        Event::Took { .. } => Ok(nothing()),
-        Event::New => Ok(changing(new_window(alloc), Origin::F)),
+        Event::Dial { .. } => Ok(nothing(alloc)),
+        Event::Hang { .. } => Ok(nothing(alloc)),
+        Event::Took { .. } => Ok(nothing(alloc)),
+        Event::New => Ok(changing(new_window(alloc)?, Origin::F)),
         Event::Key { window, side, text } => {
-            let change = key_change(alloc, windows, *window, *side, text.as_slice())?;
-            Ok(changing(change, Origin::K))
+            let changes = key_changes(alloc, windows, *window, *side, text.as_slice())?;
+            Ok(changing(changes, Origin::K))
         }
         Event::Sel { window, range } => {
-            let change = sel_change(alloc, windows, *window, *range)?;
-            Ok(changing(change, Origin::M))
+            let changes = sel_changes(alloc, windows, *window, *range)?;
+            Ok(changing(changes, Origin::M))
         }
     }
 }

@@ -5,6 +5,7 @@ ghost use Rattle.am_journal.specs.Lawful.{IsLawful};
 ghost use Rattle.am_counter.specs.Played.{IsPlayed};
 ghost use Rattle.acme_core.specs.Run.{enabled, run, output_at, Refuses, IsHang, IsWhy, settled, ready};
 ghost use Rattle.core_windows.specs.Stories.{AreLawful};
+ghost use Rattle.core_windows.specs.WindowLaws.{AreNumbered};
 ghost use Rattle.win_text.specs.Bodies.{IsInside};
 ghost use Rattle.acme_core.specs.Addresses.{addr_at, body_at};
 ghost use Rattle.event_book.specs.Laws.{WindowOrder, WhatAFidGets};
@@ -16,11 +17,11 @@ use crate::parts::Parts;
 use crate::planning::prepare;
 use crate::prepared::Prepared;
 use crate::unsent::reply_at;
-use crate::view::{addr_of, view_of};
+use crate::view::view_of;
 use am_counter::Ask;
 use am_journal::{Event, ItemViews, Journal, Refused, View};
 use am_text::{NoMemory, Range, Roomy};
-use core_windows::{changes_are_lawful, changes_show};
+use core_windows::{changes_are_lawful, changes_show, group_numbers_never_fall};
 use std::alloc::Global;
 use std::marker::Model;
 
@@ -150,7 +151,7 @@ impl Core {
         ensures exact { result ≡ addr_at self.now.journal window }
         ensures inside { IfSome result (IsInside (body_at self.now.journal window)) }
     {
-        addr_of(&self.parts.windows, window)
+        self.parts.windows.kept_addr(window)
     }
 
     /// Answers a question to the journal. It takes no memory.
@@ -163,8 +164,9 @@ impl Core {
     }
 
     /// What the report tells of the editor.
-    #[tactic(auto, unfolding(crate::specs::Views::view_of))]
+    #[tactic(auto, using(crate::proofs::Goes::asking), unfolding(crate::specs::Views::view_of))]
     pub fn view(&self) -> Result<View, NoMemory>
+        requires settled { self.now.planned ≡ None }
         ensures { IfOk result (λ view. view ≡ view_of self.now.journal) }
     {
         view_of(self.alloc, self.journal.len() as u64, &self.parts)
@@ -191,6 +193,14 @@ impl Core {
         ensures { AreLawful (run self.now.journal).windows }
     {
         let _entries = self.journal.len();
+    }
+
+    /// In each journal of a core, along the groups of edits of each live window that are past and then those that were undone,
+    /// the numbers never fall, and none is above the number of entries.
+    pub fn groups_are_numbered(&self)
+        ensures { AreNumbered (length self.now.journal) (run self.now.journal).windows }
+    {
+        group_numbers_never_fall();
     }
 
     /// In each journal of a core the items of a window that nobody took are a suffix of its items; along the others the entry at which

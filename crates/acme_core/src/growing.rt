@@ -5,7 +5,7 @@ ghost use Rattle.core_answers.specs.Done.{IsSent};
 ghost use Rattle.am_text.specs.Twice.{IsSteady};
 ghost use Rattle.am_journal.specs.Lawful.{IsLawful};
 ghost use Rattle.fid_table.specs.Tables.{HasJoined};
-ghost use Rattle.core_windows.specs.Possible.{IsPossible};
+ghost use Rattle.core_answers.specs.Done.{CanBeMade};
 ghost use Rattle.core_events.specs.Responses.{AreSaid};
 ghost use Rattle.core_events.specs.Asking.{opened};
 ghost use Rattle.core_events.specs.Putting.{put_all};
@@ -29,10 +29,9 @@ use am_journal::Event;
 use am_text::{Items, NoMemory};
 use core_answers::{Answer, Effect, EventChange};
 use core_events::{
-    Book, Response, Responses, changes_window, clunked, deleted_by, deletions, made, open_events,
-    put_all, read_events, serve_all,
+    Book, Response, Responses, WindowItems, clunked, deleted_by, deletions, make_changes,
+    open_events, put_all, read_events, serve_all,
 };
-use core_items::NewItems;
 use fid_table::Sessions;
 use ninep_types::{RBody, RMsg};
 use ninep_wire::write_r;
@@ -178,7 +177,7 @@ fn answer_event(
 }
 
 // Whether reads are served: where items come, unless their window is deleted at once.
-fn serves(deletes: Option<u32>, items: &NewItems) -> bool
+fn serves(deletes: Option<u32>, items: &WindowItems) -> bool
     ensures { result ≡ (is_none deletes && not (length items.now == 0)) }
 {
     deletes.is_none() && !items.is_empty()
@@ -270,19 +269,18 @@ fn grow_files(
 fn grow_items(
     alloc: Global,
     book: &mut Book,
-    window: Option<u32>,
-    items: NewItems,
+    items: WindowItems,
     serves: bool,
     at: u64,
 ) -> Result<Responses, NoMemory>
     requires { IsSound at book.old.present }
-    ensures exact { IfOk result (λ said. said ≡ served serves at (put_all book.old.present window items)) }
+    ensures exact { IfOk result (λ said. said ≡ served serves at (put_all book.old.present items)) }
     ensures said { IfOk result AreSaid }
-    ensures book { OnOk result (book.new.present ≡ book_served serves at (put_all book.old.present window items)) }
+    ensures book { OnOk result (book.new.present ≡ book_served serves at (put_all book.old.present items)) }
     ensures kept { book.new.kept ≡ book.old.kept }
     ensures sound { OnOk result (IsSound at book.new.present) }
 {
-    put_all(book, window, items)?;
+    put_all(book, items)?;
     serve(alloc, book, serves, at)
 }
 
@@ -300,7 +298,7 @@ fn in_order(ended: EndedSaid, answered: Responses, served: Responses) -> Result<
 
 impl Parts {
     /// Makes all that an event does ready. What the tables mean stays.
-    #[tactic(auto, using(crate::proofs::Joins::joining))]
+    #[tactic(auto, using(crate::proofs::Joins::joining, crate::proofs::Moved::moving))]
     pub(crate) fn grow(
         &mut self,
         alloc: Global,
@@ -309,7 +307,7 @@ impl Parts {
         at: u64,
     ) -> Result<Prepared, NoMemory>
         requires stays { is_hang event ≡ false }
-        requires possible { IsPossible self.old.windows.windows doing.change }
+        requires possible { CanBeMade self.old.windows.kept doing.changes }
         requires answerable { IsAnswerable doing.answer }
         requires joined { IsJoinedFor self.old.sessions.kept event }
         requires steady { AreSteady self.old }
@@ -322,16 +320,14 @@ impl Parts {
         let Doing {
             effect,
             events,
-            change,
+            changes,
             origin,
             answer,
         } = doing;
-        let window = changes_window(&change);
-        let deletes = deleted_by(&change);
-        let items = made(alloc, &self.book, &self.windows, origin, &change)?;
+        let deletes = deleted_by(changes.as_slice());
+        let items = make_changes(alloc, &self.book, &mut self.windows, origin, changes, at)?;
         let serves = serves(deletes, &items);
         let ended = ended_said(alloc, &self.sessions, conn_of(&event), &effect, deletes)?;
-        self.windows.prepare(change)?;
         let asks = Asks { answer, events };
         let answered = grow_files(
             alloc,
@@ -342,7 +338,7 @@ impl Parts {
             &effect,
             at,
         )?;
-        let served = grow_items(alloc, &mut self.book, window, items, serves, at)?;
+        let served = grow_items(alloc, &mut self.book, items, serves, at)?;
         let said = in_order(ended, answered, served)?;
         let replies = spelled(alloc, said.as_slice())?;
         self.outputs.put_all(&replies)?;

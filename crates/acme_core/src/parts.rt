@@ -1,16 +1,14 @@
 //! The tables of the editor: what is kept of the state that its journal leads to.
 
-ghost use Rattle.std.specs.Prelude.{◌≡◌, [], false, None, IfOk, IsSome};
+ghost use Rattle.std.specs.Prelude.{◌≡◌, [], false, None, IfOk};
 ghost use Rattle.std.specs.List.{list_any};
 ghost use Rattle.am_text.specs.Twice.{both};
 ghost use Rattle.am_journal.specs.Lawful.{IsLawful};
 ghost use Rattle.fid_table.specs.Tables.{is_waiting};
 ghost use Rattle.core_events.specs.Sound.{IsSound};
-ghost use Rattle.core_windows.specs.Windows.{changed};
-ghost use Rattle.core_windows.specs.declared.change.Change.{Change};
 ghost use Rattle.acme_core.specs.declared.doing.Doing.{Doing};
 ghost use Rattle.acme_core.specs.Doings.{enabled_at, is_version, is_tag_used};
-ghost use Rattle.acme_core.specs.Parts.{present_of, AreSteady, HasChange, HasReady};
+ghost use Rattle.acme_core.specs.Parts.{present_of, AreSteady, HasReady};
 ghost use Rattle.acme_core.specs.Run.{is_hang};
 ghost use Rattle.acme_core.specs.Stages.{after};
 ghost use Rattle.acme_core.specs.States.{start, present};
@@ -79,16 +77,6 @@ fn is_tag_used(sessions: &Sessions, conn: u32, msg: &TMsg) -> bool
     !is_version(&msg.body) && sessions.waits(conn, msg.tag)
 }
 
-// Makes the change of an event that is ready. A hang-up has none.
-fn commit_windows(windows: &mut Windows, event: &Event)
-    requires { is_hang event.now ≡ false → IsSome windows.old.prepared }
-    ensures { (change : Change) → HasChange (is_hang event.now) windows.old.prepared change → windows.new.windows ≡ changed windows.old.windows change }
-{
-    if !is_hang(event) {
-        windows.commit();
-    }
-}
-
 impl Parts {
     /// The tables of the empty editor.
     pub(crate) fn new(alloc: Global) -> Result<Parts, NoMemory>
@@ -108,7 +96,7 @@ impl Parts {
 
     /// Takes back what was made ready for an event that wasn't done. It takes no memory.
     pub(crate) fn back(&mut self)
-        ensures new { self.new ≡ record self.old { sessions = both self.old.sessions.kept; windows = record self.old.windows { prepared = None }; book = both self.old.book.kept; outputs = both self.old.outputs.kept } }
+        ensures new { self.new ≡ record self.old { sessions = both self.old.sessions.kept; windows = both self.old.windows.kept; book = both self.old.book.kept; outputs = both self.old.outputs.kept } }
     {
         self.sessions.back();
         self.windows.back();
@@ -172,7 +160,7 @@ impl Parts {
             at,
         );
         change_sessions(&mut self.sessions, &event, &effect, events, said.as_slice());
-        commit_windows(&mut self.windows, &event);
+        self.windows.keep();
         self.outputs.keep();
         self.outputs.take(alloc, &event);
         self.replies = replies;

@@ -1,19 +1,15 @@
 //! What the report tells of the editor.
 
-ghost use Rattle.std.specs.Prelude.{◌≡◌, ◌++◌, ◌<◌, ◌≤◌, ◌+◌, ◌^◌, IfOk, IfSome, length};
+ghost use Rattle.std.specs.Prelude.{◌≡◌, ◌++◌, ◌<◌, ◌≤◌, ◌+◌, ◌^◌, IfOk, length};
 ghost use Rattle.core_windows.specs.Panes.{windows_of, window_of};
-ghost use Rattle.core_windows.specs.Windows.{window_at};
-ghost use Rattle.core_answers.specs.Texts.{text_at};
-ghost use Rattle.win_text.specs.Bodies.{IsInside};
-ghost use Rattle.acme_core.specs.Addresses.{shown_addr};
-ghost use Rattle.acme_core.specs.Parts.{present_of};
+ghost use Rattle.acme_core.specs.Parts.{present_of, AreSteady};
 ghost use Rattle.acme_core.specs.Views.{conn_views, window_views, window_view, view_at};
 
 use crate::connection::Connection;
 use crate::parts::Parts;
 use am_journal::{ConnView, ConnViews, View, WindowView, WindowViews};
-use am_text::{Items, NoMemory, Range};
-use core_windows::{Pane, Windows};
+use am_text::{Items, NoMemory};
+use core_windows::Pane;
 use std::alloc::Global;
 
 #[tactic(auto, using(crate::proofs::Viewed::viewing), unfolding(crate::specs::Views::conn_views))]
@@ -37,16 +33,6 @@ fn conn_views(alloc: Global, connections: &[Connection]) -> Result<ConnViews, No
         conn += 1;
     }
     Ok(views)
-}
-
-/// The address of a window, if it lives.
-pub(crate) fn addr_of(windows: &Windows, window: u32) -> Option<Range>
-    ensures exact { result ≡ shown_addr (window_at windows.now.windows window) }
-    ensures inside { IfSome result (IsInside (text_at windows.now.windows window)) }
-{
-    let pane = windows.get(window)?;
-    pane.body.is_sound();
-    Some(pane.body.addr())
 }
 
 fn window_view(alloc: Global, id: u32, pane: &Pane) -> Result<WindowView, NoMemory>
@@ -81,7 +67,8 @@ fn window_views(alloc: Global, panes: &[Option<Pane>], next: u32) -> Result<Wind
 
 /// The view of the tables after so many entries.
 pub(crate) fn view_of(alloc: Global, entries: u64, parts: &Parts) -> Result<View, NoMemory>
-    requires { length parts.now.connections.items ≡ 64 }
+    requires conns { length parts.now.connections.items ≡ 64 }
+    requires steady { AreSteady parts.now }
     ensures { IfOk result (λ view. view ≡ view_at entries (present_of parts.now)) }
 {
     Ok(View {

@@ -3,6 +3,7 @@
 ghost use Rattle.std.specs.Prelude.{◌≡◌, [], None, codes, IfOk};
 ghost use Rattle.am_text.specs.Lines.{lines_of};
 ghost use Rattle.am_base.specs.Written.{seen};
+ghost use Rattle.acme_core.specs.Run.{settled};
 ghost use Rattle.acmefs.specs.Scripts.{play, end_of, refused_at};
 ghost use Rattle.acmefs.specs.Ends.{Ran, Says, code_of};
 ghost use Rattle.acmefs.specs.Playing.{EndText, end_at};
@@ -57,6 +58,7 @@ pub(crate) fn no_events(alloc: Global, end: End) -> Ended
 
 #[tactic(auto, unfolding(crate::specs::Scripts::end_of))]
 fn report_text(alloc: Global, core: &Core) -> Result<Bytes, NoMemory>
+    requires { core.now ≡ settled core.now.journal }
     ensures { IfOk result (λ text. text ≡ end_of core.now.journal None) }
 {
     let view = core.view()?;
@@ -65,6 +67,7 @@ fn report_text(alloc: Global, core: &Core) -> Result<Bytes, NoMemory>
 
 /// What is written at a stop; a stop for want of memory has none.
 pub(crate) fn end_text(alloc: Global, core: &Core, stop: Stop) -> Result<Bytes, NoMemory>
+    requires { core.now ≡ settled core.now.journal }
     ensures { IfOk result (λ text. EndText stop core.now.journal text) }
 {
     match stop {

@@ -1,5 +1,5 @@
 -- The objects in memory, as their callers see them.
-use Rattle.std.specs.Prelude.{ℕ, ◌+◌, ◌-◌, ◌^◌, ◌&&◌, ◌||◌, min, Bool, true, false, List, [], ◌++◌, length, take, drop, remove, slice_get, Option, Some, None, nat_lt, nat_le, ◌==◌, if◌then◌else◌, bytes_eq, position, option_map, option_and_then}
+use Rattle.std.specs.Prelude.{ℕ, ◌+◌, ◌-◌, ◌^◌, ◌&&◌, ◌||◌, min, Bool, true, false, List, [], ◌++◌, length, take, drop, remove, slice_get, Option, Some, None, is_none, nat_lt, nat_le, ◌==◌, if◌then◌else◌, bytes_eq, position, option_map, option_and_then}
 use Rattle.std.specs.List.{list_any}
 
 -- The calls that were made, and the numbers, from 1, of those that fail.
@@ -105,7 +105,7 @@ after_accept g (Some l) = record g { link = None }
 abbrev pub begun_gate : GateState → GateState
 begun_gate g = record g { faults = 0 }
 
--- A host: the gates that it still hands out, the calls of bind.
+-- A host: the gates that it still hands out or dials, the calls of bind and dial.
 pub record HostState : Type 0 where
   pub gates : List GateState
   pub calls : CallLog
@@ -125,3 +125,23 @@ gate_of h path slot = option_map begun_gate (option_and_then (slice_get h.gates)
 abbrev pub after_bind : HostState → Option ℕ → HostState
 after_bind h None = record h { calls = after_call h.calls true }
 after_bind h (Some at) = record h { gates = remove h.gates at; calls = after_call h.calls false }
+
+-- whether a gate is of this path, whatever its slot
+abbrev pub is_gate_at : List ℕ → GateState → Bool
+is_gate_at path g = bytes_eq g.path path
+
+-- the place of the gate that the next call of dial takes, the first of the path, or None where that fails
+abbrev pub dialled_place : HostState → List ℕ → Option ℕ
+dialled_place h path = if fails_next h.calls then None else position (is_gate_at path) h.gates
+
+-- the link that this gate hands out, or None where it hands out none
+abbrev pub dialled : HostState → List ℕ → Option LinkState
+dialled h path = option_and_then link_of (option_and_then (slice_get h.gates) (dialled_place h path))
+
+-- the gate is taken, whether it hands out a link or not; a call without one failed
+abbrev pub gates_without : List GateState → Option ℕ → List GateState
+gates_without gates None = gates
+gates_without gates (Some at) = remove gates at
+
+abbrev pub after_dial : HostState → List ℕ → HostState
+after_dial h path = record h { gates = gates_without h.gates (dialled_place h path); calls = after_call h.calls (is_none (dialled h path)) }

@@ -49,7 +49,7 @@ pub trait Gate: Drop + Send {
         ensures cause { HasCause (faults self.old) (faults self.new) result };
 }
 
-/// What gates are made by.
+/// What gates are made by, and what the gates of others are dialled by.
 pub trait Host {
     type G: Gate;
 
@@ -60,5 +60,10 @@ pub trait Host {
     fn bind(&mut self, path: &str, slot: u32) -> Result<Self::G, Failed>
         ensures named { IfOk result (λ gate. IsNamed (Self.G.name gate) path.now slot) }
         ensures fresh { IfOk result (λ gate. Self.G.faults gate ≡ 0) }
+        ensures cause { HasCause (faults self.old) (faults self.new) result };
+
+    /// Connects to the gate of a path, which is taken as it stands.
+    fn dial(&mut self, path: &str) -> Result<<Self::G as Gate>::L, Failed>
+        ensures fresh { IfOk result (λ link. Self.G.L.faults link ≡ 0) }
         ensures cause { HasCause (faults self.old) (faults self.new) result };
 }

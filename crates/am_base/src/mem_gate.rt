@@ -2,7 +2,7 @@
 
 ghost use Rattle.std.specs.Prelude.{◌≡◌, Some, None, IfOk, OnErr};
 ghost use Rattle.am_base.specs.Outside.{HasCause};
-ghost use Rattle.am_base.specs.Memory.{link_of, after_accept, begun_gate, is_gate_of, name_of};
+ghost use Rattle.am_base.specs.Memory.{link_of, after_accept, begun_gate, is_gate_of, is_gate_at, name_of};
 
 use crate::calls::raised;
 use crate::link::Gate;
@@ -49,6 +49,13 @@ impl MemGate {
         ensures { result ≡ is_gate_of path.now slot self.now }
     {
         self.path.as_slice() == path && self.slot == slot
+    }
+
+    /// Whether the gate is of this path.
+    pub(crate) fn is_at(&self, path: &[u8]) -> bool
+        ensures { result ≡ is_gate_at path.now self.now }
+    {
+        self.path.as_slice() == path
     }
 
     /// The gate as it is handed out: its count of faults begins.

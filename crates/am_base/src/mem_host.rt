@@ -2,11 +2,12 @@
 
 ghost use Rattle.std.specs.Prelude.{◌≡◌, Some, None, IfOk, OnErr, ◌<◌, length, position, remove, slice_get};
 ghost use Rattle.am_base.specs.Outside.{HasCause};
-ghost use Rattle.am_base.specs.Memory.{no_calls, place_of, after_bind, is_gate_of, gate_of};
+ghost use Rattle.am_base.specs.Memory.{no_calls, place_of, after_bind, is_gate_of, gate_of, is_gate_at, dialled_place, dialled, after_dial};
 
 use crate::calls::Calls;
-use crate::link::Host;
+use crate::link::{Gate, Host};
 use crate::mem_gate::MemGate;
+use crate::mem_link::MemLink;
 use crate::source::Failed;
 use am_text::{Items, Numbers};
 use std::marker::Model;
@@ -14,7 +15,7 @@ use std::marker::Model;
 /// Gates in memory.
 pub type MemGates = Items<MemGate>;
 
-/// Gates in memory, each handed out once, with some calls that fail.
+/// Gates in memory, each handed out or dialled once, with some calls that fail.
 #[derive(Drop)]
 pub struct MemHost {
     gates: Vec<MemGate>,
@@ -30,8 +31,9 @@ impl Model for MemHost {
 }
 
 impl MemHost {
-    /// Hands out each of these gates once. The calls of `bind` fail whose numbers, from 1, stand
-    /// in `fail_at`, and those for which no gate is there, and no others. It takes no memory.
+    /// Hands out or dials each of these gates once. The calls of `bind` and `dial` fail whose numbers,
+    /// from 1, stand in `fail_at`, and those for which no gate is there, or one that hands out no link,
+    /// and no others. It takes no memory.
     pub fn new(gates: MemGates, fail_at: Numbers) -> MemHost
         ensures { result ≡ record { gates = gates; calls = no_calls fail_at } }
     {
@@ -55,6 +57,22 @@ impl MemHost {
         ensures { result ≡ position (is_gate_of path.now slot) self.now.gates }
     {
         self.gates.iter().position(|gate| gate.is_of(path, slot))
+    }
+
+    /// Where the gate stands that the next call of `dial` takes, or `None` where that fails.
+    fn dialled_place(&self, path: &[u8]) -> Option<usize>
+        ensures { result ≡ dialled_place self.now path.now }
+    {
+        if self.calls.fails_next() {
+            return None;
+        }
+        self.place_by_path(path)
+    }
+
+    fn place_by_path(&self, path: &[u8]) -> Option<usize>
+        ensures { result ≡ position (is_gate_at path.now) self.now.gates }
+    {
+        self.gates.iter().position(|gate| gate.is_at(path))
     }
 
     /// Takes out the gate at a place.
@@ -87,5 +105,29 @@ impl Host for MemHost {
         };
         self.calls.count(false);
         Ok(self.take(at).begun())
+    }
+
+    fn dial(&mut self, path: &str) -> Result<MemLink, Failed>
+        ensures fresh { IfOk result (λ link. link.faults ≡ 0) }
+        ensures cause { HasCause self.old.calls.faults self.new.calls.faults result }
+        // What is handed out, and which calls fail.
+        ensures gives { IfOk result (λ link. dialled self.old path.now ≡ Some link) }
+        ensures fails { OnErr result (dialled self.old path.now ≡ None) }
+        ensures state { self.new ≡ after_dial self.old path.now }
+    {
+        let Some(at) = self.dialled_place(path.as_bytes()) else {
+            self.calls.count(true);
+            return Err(Failed);
+        };
+        match self.take(at).accept() {
+            Ok(link) => {
+                self.calls.count(false);
+                Ok(link)
+            }
+            Err(Failed) => {
+                self.calls.count(true);
+                Err(Failed)
+            }
+        }
     }
 }

@@ -120,8 +120,8 @@ impl Gate for UnixGate {
     }
 }
 
-/// Makes sockets in the file system. Where a file of that name is there already, of a server that
-/// has ended too, `bind` fails, and so it does where the name is longer than the system takes.
+/// Makes sockets in the file system, and connects to those of others. Where a file of that name is there already, of a server that
+/// has ended too, `bind` fails. `bind` and `dial` fail where the name is longer than the system takes.
 #[derive(Drop)]
 pub struct UnixHost<'a, R> {
     rt: &'a R,
@@ -161,6 +161,26 @@ impl<'a, R: Files + Net> Host for UnixHost<'a, R> {
         match listen(self.rt, path, slot) {
             Some(listener) => Ok(UnixGate {
                 listener,
+                faults: 0,
+            }),
+            None => {
+                self.faults = raised(self.faults);
+                Err(Failed)
+            }
+        }
+    }
+
+    fn dial(&mut self, path: &str) -> Result<UnixLink, Failed>
+        ensures fresh { IfOk result (λ link. link.faults ≡ 0) }
+        ensures cause { HasCause self.old self.new result }
+        // A link that still has its halves. A call that fails is counted, and no other.
+        ensures whole { IfOk result (λ link. link.is_halved ≡ false) }
+        ensures ok { OnOk result (self.new ≡ self.old) }
+        ensures failed { OnErr result (self.new ≡ one_more self.old) }
+    {
+        match UnixStream::connect(self.rt, path).ok() {
+            Some(stream) => Ok(UnixLink {
+                stream: Some(stream),
                 faults: 0,
             }),
             None => {

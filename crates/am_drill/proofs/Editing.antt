@@ -1,5 +1,5 @@
 -- What a letter that is written or typed makes of the editor.
-use Rattle.std.proofs.Common.{◌≡◌, ℕ, ◌+◌, ◌<◌, Bool, true, false, List, [], ◌∷◌, ◌++◌, length, refl, ap, ◌∙◌, arith, Option, Some, None, Ok, Err}
+use Rattle.std.proofs.Common.{◌≡◌, ℕ, ◌+◌, ◌<◌, Bool, true, false, List, [], ◌∷◌, ◌++◌, length, map, refl, ap, ◌∙◌, arith, Option, Some, None, Ok, Err}
 use Rattle.std.specs.Prelude.{nat_lt, ◌==◌, not, replicate, if◌then◌else◌}
 use Rattle.std.specs.Option.{option_to_list}
 use Rattle.std.proofs.lemmas.Bool.Decides.{nat_tests}
@@ -15,7 +15,8 @@ use Rattle.win_events.specs.declared.item.Sort.TheVariants.{BodyIns, BodyDel}
 use Rattle.win_text.specs.BodyStories.{story_text, range_now}
 use Rattle.core_windows.specs.declared.change.Change.TheVariants as change
 use Rattle.core_windows.specs.Windows.{Window}
-use Rattle.core_windows.specs.Stories.{WindowStory, shown_windows, edited_story}
+use Rattle.core_windows.specs.declared.change.Setting.TheVariants as setting
+use Rattle.core_windows.specs.Stories.{WindowStory, shown_windows, edited_story, set_story}
 use Rattle.core_items.specs.NewItems.{plain_item, put_item, items_of_edits}
 use Rattle.core_answers.specs.declared.refusal.Refusal.TheVariants as refusal
 use Rattle.core_answers.specs.Erring.{appends, fits_in}
@@ -23,7 +24,8 @@ use Rattle.core_answers.specs.Fids.{holding}
 use Rattle.core_answers.specs.Refusals.{deed_or_refusal}
 use Rattle.core_answers.specs.Writing.{append_deed, written}
 use Rattle.core_events.specs.declared.response.Response.{Response}
-use Rattle.core_events.specs.Putting.{put_all}
+use Rattle.core_events.specs.declared.putting.WindowItem.{WindowItem}
+use Rattle.core_events.specs.Putting.{item_in, put_all}
 use Rattle.core_events.specs.Serving.{served_most, book_served_most}
 use Rattle.core_events.specs.Waits.{ended}
 use Rattle.event_book.specs.Lives.{fresh}
@@ -33,6 +35,7 @@ use Rattle.acme_core.specs.Doings.{doing_of, message_doing, changing}
 use Rattle.acme_core.specs.Run.{step}
 use Rattle.acme_core.specs.Stages.{after_story, response, served, book_served}
 use Rattle.acme_core.specs.States.{State, present}
+use Rattle.acme_core.specs.Typing.{edits_with_dot}
 use Rattle.acme_core.specs.Unsent.{nothing_unsent, replies_of, put_replies}
 use Rattle.am_drill.specs.Drill.{write, key}
 use Rattle.am_drill.proofs.Letters.{letter_decoded}
@@ -42,10 +45,10 @@ use Rattle.am_drill.proofs.Steps.{answered}
 
 -- ---- an event that edits the body, as far as it goes without knowing its items
 
-abbrev pub finished : Facts → WindowStory → List Response → List Item → State
+abbrev pub finished : Facts → WindowStory → List Response → List WindowItem → State
 finished f story first items =
     let at = f.entries + 1 in
-    let put = put_all (book_with [] f) (Some 1) items in
+    let put = put_all (book_with [] f) items in
     let said = first ++ served (not (length items == 0)) at put in
     record (standing [] [] f) {
       entries = at;
@@ -55,6 +58,10 @@ finished f story first items =
       unsent = put_replies (f.unsent ∷ replicate 63 nothing_unsent) (replies_of said);
       replies = replies_of said;
     }
+
+-- the items of an edit of window 1
+abbrev pub told : Origin → Edit → List WindowItem
+told origin e = map (item_in 1) (items_of_edits origin (e ∷ [])) ++ []
 
 -- what the body is, and where dot is in it
 abbrev pub text_of : Facts → List ℕ
@@ -77,10 +84,10 @@ abbrev pub end_edit : Facts → ℕ → Edit
 end_edit f l = record { q0 = length (text_of f); q1 = length (text_of f); text = l ∷ [] }
 
 abbrev pub story_written : Facts → ℕ → WindowStory
-story_written f l = edited_story f.story (record { edits = end_edit f l ∷ []; dot = None })
+story_written f l = edited_story (end_edit f l ∷ []) (f.entries + 1) f.story
 
 abbrev pub written_doing : Facts → ℕ → Doing
-written_doing f l = message_doing (written (change.Edits 1 (end_edit f l ∷ []) None None) 1 body_fid 1) E
+written_doing f l = message_doing (written (change.Edits 1 (end_edit f l ∷ []) ∷ []) 1 body_fid 1) E
 
 write_doing : (f : Facts) (l : ℕ) → l < 128 → length (text_of f) < 16777216 → doing_of (present (standing [] [] f)) (write l) ≡ written_doing f l
 write_doing f l ascii room =
@@ -90,19 +97,19 @@ write_doing f l ascii room =
     ∙ ap (λ (b : Bool). message_doing (deed_or_refusal (if b then Ok (written (appends windows 1 (l ∷ [])) 1 (holding body_fid (part_of [])) 1) else Err refusal.TextTooLong)) E) fits
 
 written_so : (f : Facts) (l : ℕ) → after_story (standing [] [] f) (present (standing [] [] f)) (write l) (written_doing f l)
-    ≡ finished f (story_written f l) (response 0 4 (r.Write 1) ∷ []) (items_of_edits E (end_edit f l ∷ []))
+    ≡ finished f (story_written f l) (response 0 4 (r.Write 1) ∷ []) (told E (end_edit f l))
 written_so f l = refl
 
 abbrev pub letter_item : Origin → ℕ → ℕ → Item
 letter_item origin at l = plain_item origin BodyIns (record { q0 = at; q1 = at + 1 }) (l ∷ [])
 
 -- an edit that cuts nothing makes one item
-one_item : (origin : Origin) (q0 q1 l : ℕ) → nat_lt q0 q1 ≡ false → items_of_edits origin (record { q0 = q0; q1 = q1; text = l ∷ [] } ∷ []) ≡ letter_item origin q0 l ∷ []
+one_item : (origin : Origin) (q0 q1 l : ℕ) → nat_lt q0 q1 ≡ false → told origin (record { q0 = q0; q1 = q1; text = l ∷ [] }) ≡ item_in 1 (letter_item origin q0 l) ∷ []
 one_item origin q0 q1 l none =
-    ap (λ (b : Bool). (option_to_list (if b then Some (plain_item origin BodyDel (record { q0 = q0; q1 = q1 }) []) else None) ++ option_to_list (put_item origin BodyIns q0 (l ∷ []))) ++ []) none
+    ap (λ (b : Bool). map (item_in 1) ((option_to_list (if b then Some (plain_item origin BodyDel (record { q0 = q0; q1 = q1 }) []) else None) ++ option_to_list (put_item origin BodyIns q0 (l ∷ []))) ++ []) ++ []) none
 
 -- and the event file then has it
-finished_with : (f : Facts) (story : WindowStory) (first : List Response) (item : Item) → finished f story first (item ∷ [])
+finished_with : (f : Facts) (story : WindowStory) (first : List Response) (item : Item) → finished f story first (item_in 1 item ∷ [])
     ≡ record (standing [] [] (with_item (gone_on f) story item)) {
       tables = ended (tables_with []) (first ++ []);
       unsent = put_replies (f.unsent ∷ replicate 63 nothing_unsent) (replies_of (first ++ []));
@@ -124,7 +131,7 @@ write_step f l ascii room =
     let cut : nat_lt (length (text_of f)) (length (text_of f)) ≡ false = grind (arith, nat_tests) in
     ap (λ (d : Doing). after_story (standing [] [] f) (present (standing [] [] f)) (write l) d) (write_doing f l ascii room)
     ∙ written_so f l
-    ∙ ap (λ (items : List Item). finished f (story_written f l) (response 0 4 (r.Write 1) ∷ []) items) (one_item E (length (text_of f)) (length (text_of f)) l cut)
+    ∙ ap (λ (items : List WindowItem). finished f (story_written f l) (response 0 4 (r.Write 1) ∷ []) items) (one_item E (length (text_of f)) (length (text_of f)) l cut)
     ∙ finished_with f (story_written f l) (response 0 4 (r.Write 1) ∷ []) (letter_item E (length (text_of f)) l)
 
 -- ---- a letter that is typed
@@ -136,17 +143,17 @@ abbrev pub dot_after : Facts → Range
 dot_after f = record { q0 = (dot_of f).q0 + 1; q1 = (dot_of f).q0 + 1 }
 
 abbrev pub story_typed : Facts → ℕ → WindowStory
-story_typed f l = edited_story f.story (record { edits = dot_edit f l ∷ []; dot = Some (dot_after f) })
+story_typed f l = set_story (setting.Dot (dot_after f)) (edited_story (dot_edit f l ∷ []) (f.entries + 1) f.story)
 
 abbrev pub typed_doing : Facts → ℕ → Doing
-typed_doing f l = changing (change.Edits 1 (dot_edit f l ∷ []) (Some (dot_after f)) None) K
+typed_doing f l = changing (edits_with_dot 1 (dot_edit f l ∷ []) (dot_after f)) K
 
 key_doing : (f : Facts) (l : ℕ) → doing_of (present (standing [] [] f)) (key l) ≡ typed_doing f l
 key_doing f l =
-    ap (λ (b : Bool). changing (change.Edits 1 (if b then [] else dot_edit f l ∷ []) (Some (dot_after f)) None) K) (and_false ((dot_of f).q0 == (dot_of f).q1))
+    ap (λ (b : Bool). changing (edits_with_dot 1 (if b then [] else dot_edit f l ∷ []) (dot_after f)) K) (and_false ((dot_of f).q0 == (dot_of f).q1))
 
 typed_so : (f : Facts) (l : ℕ) → after_story (standing [] [] f) (present (standing [] [] f)) (key l) (typed_doing f l)
-    ≡ finished f (story_typed f l) [] (items_of_edits K (dot_edit f l ∷ []))
+    ≡ finished f (story_typed f l) [] (told K (dot_edit f l))
 typed_so f l = refl
 
 pub key_step : (f : Facts) (l : ℕ) → (dot_of f).q0 ≡ (dot_of f).q1
@@ -156,5 +163,5 @@ key_step f l null =
     let cut : nat_lt (dot_of f).q0 (dot_of f).q1 ≡ false = grind (arith, nat_tests) in
     ap (λ (d : Doing). after_story (standing [] [] f) (present (standing [] [] f)) (key l) d) (key_doing f l)
     ∙ typed_so f l
-    ∙ ap (λ (items : List Item). finished f (story_typed f l) [] items) (one_item K (dot_of f).q0 (dot_of f).q1 l cut)
+    ∙ ap (λ (items : List WindowItem). finished f (story_typed f l) [] items) (one_item K (dot_of f).q0 (dot_of f).q1 l cut)
     ∙ finished_with f (story_typed f l) [] (letter_item K (dot_of f).q0 l)

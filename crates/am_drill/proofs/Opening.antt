@@ -21,7 +21,7 @@ use Rattle.acme_tree.specs.Trees.{qid_of, entries}
 use Rattle.acme_tree.specs.Walks.{walk_one, entry_named, file_named, to_entry}
 use Rattle.fid_table.specs.declared.types.Fid.{Fid}
 use Rattle.event_book.specs.BookState.{BookState, empty_book}
-use Rattle.core_windows.specs.Stories.{WindowStory, made_story, shown_windows}
+use Rattle.core_windows.specs.Stories.{WindowStory, named_story, shown_windows}
 use Rattle.core_windows.specs.Windows.{world_of}
 use Rattle.core_answers.specs.Fids.{fresh}
 use Rattle.core_answers.specs.declared.walk.Trail.{Trail}
@@ -106,7 +106,7 @@ unfolding step
 attach_step b = refl
 
 abbrev pub new_story : WindowStory
-new_story = made_story [] []
+new_story = named_story []
 
 abbrev pub walked_fids : List (ℕ × Fid)
 walked_fids = (0, fresh Root) ∷ (1, fresh (File 1 file.Body)) ∷ []

@@ -1,6 +1,6 @@
 //! A drill from its first event to its summary.
 
-ghost use Rattle.std.specs.Prelude.{◌≡◌, ◌≤◌, ◌<◌, ◌+◌, [], IfOk, OnOk, OnErr};
+ghost use Rattle.std.specs.Prelude.{◌≡◌, ◌≤◌, ◌<◌, ◌+◌, [], None, IfOk, OnOk, OnErr};
 ghost use Rattle.am_base.specs.Written.{seen};
 ghost use Rattle.am_drill.specs.Brief.{IsCounted, IsFront};
 ghost use Rattle.am_drill.specs.Drill.{events, seed_of};
@@ -37,9 +37,11 @@ pub struct Drilled {
 // Does the events that come before the rounds.
 fn play_opening(alloc: Global, runner: &mut Runner) -> Result<(), NoMemory>
     requires empty { runner.old.core.journal ≡ [] }
+    requires idle { runner.old.core.planned ≡ None }
     requires counted { IsCounted runner.old.count runner.old.core.journal }
     ensures ok { OnOk result (runner.new.core.journal ≡ events 0) }
     ensures err { OnErr result (IsFront runner.new.core.journal (events 0)) }
+    ensures idle { runner.new.core.planned ≡ None }
     ensures counted { IsCounted runner.new.count runner.new.core.journal }
 {
     let first = opening(alloc)?;
@@ -51,9 +53,11 @@ fn play_round(alloc: Global, done: u64, seed: u64, runner: &mut Runner) -> Resul
     requires few { done < 100000 }
     requires seed { seed ≡ seed_of (done + 1) }
     requires before { runner.old.core.journal ≡ events done }
+    requires idle { runner.old.core.planned ≡ None }
     requires counted { IsCounted runner.old.count runner.old.core.journal }
     ensures ok { OnOk result (runner.new.core.journal ≡ events (done + 1)) }
     ensures err { OnErr result (IsFront runner.new.core.journal (events (done + 1))) }
+    ensures idle { runner.new.core.planned ≡ None }
     ensures counted { IsCounted runner.new.count runner.new.core.journal }
 {
     let next = round(alloc, done + 1, seed)?;
@@ -65,9 +69,11 @@ fn play_round(alloc: Global, done: u64, seed: u64, runner: &mut Runner) -> Resul
 fn play_rounds(alloc: Global, rounds: u64, runner: &mut Runner) -> Result<(), NoMemory>
     requires rounds { rounds ≤ 100000 }
     requires empty { runner.old.core.journal ≡ [] }
+    requires idle { runner.old.core.planned ≡ None }
     requires counted { IsCounted runner.old.count runner.old.core.journal }
     ensures ok { OnOk result (runner.new.core.journal ≡ events rounds) }
     ensures err { OnErr result (IsFront runner.new.core.journal (events rounds)) }
+    ensures idle { runner.new.core.planned ≡ None }
     ensures counted { IsCounted runner.new.count runner.new.core.journal }
 {
     play_opening(alloc, runner)?;
@@ -84,6 +90,7 @@ fn play_rounds(alloc: Global, rounds: u64, runner: &mut Runner) -> Result<(), No
 fn run(alloc: Global, rounds: u64, runner: &mut Runner) -> Result<Bytes, NoMemory>
     requires rounds { rounds ≤ 100000 }
     requires empty { runner.old.core.journal ≡ [] }
+    requires idle { runner.old.core.planned ≡ None }
     requires counted { IsCounted runner.old.count runner.old.core.journal }
     ensures text { IfOk result (λ text. text ≡ summary (events rounds)) }
     ensures ok { OnOk result (runner.new.core.journal ≡ events rounds) }
@@ -115,6 +122,7 @@ fn run_and_write<O: Sink>(
 ) -> DrillEnd
     requires rounds { rounds ≤ 100000 }
     requires empty { runner.old.core.journal ≡ [] }
+    requires idle { runner.old.core.planned ≡ None }
     requires counted { IsCounted runner.old.count runner.old.core.journal }
     ensures { DrillSays result rounds
         (seen (O.held output.old) (O.held output.new) (O.faults output.old) (O.faults output.new))

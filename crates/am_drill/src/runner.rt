@@ -1,6 +1,6 @@
 //! The editor of a drill.
 
-ghost use Rattle.std.specs.Prelude.{◌≡◌, ◌++◌, ◌∷◌, [], IfOk, OnOk, OnErr};
+ghost use Rattle.std.specs.Prelude.{◌≡◌, ◌++◌, ◌∷◌, [], None, IfOk, OnOk, OnErr};
 ghost use Rattle.am_drill.specs.Brief.{IsNext, AreNext, IsCounted, Stopped};
 
 use crate::counting::{Count, last_count};
@@ -20,6 +20,7 @@ impl Runner {
     /// The empty editor.
     pub(crate) fn new(alloc: Global) -> Result<Runner, NoMemory>
         ensures journal { IfOk result (λ runner. runner.core.journal ≡ []) }
+        ensures idle { IfOk result (λ runner. runner.core.planned ≡ None) }
         ensures counted { IfOk result (λ runner. IsCounted runner.count runner.core.journal) }
     {
         Ok(Runner {
@@ -33,9 +34,11 @@ impl Runner {
 
     fn step(&mut self, event: Event) -> Result<(), NoMemory>
         requires next { IsNext self.old.core.journal event }
+        requires idle { self.old.core.planned ≡ None }
         requires counted { IsCounted self.old.count self.old.core.journal }
         ensures ok { OnOk result (self.new.core.journal ≡ self.old.core.journal ++ event ∷ []) }
         ensures err { OnErr result (self.new.core.journal ≡ self.old.core.journal) }
+        ensures idle { self.new.core.planned ≡ None }
         ensures counted { IsCounted self.new.count self.new.core.journal }
     {
         match self.core.step(event) {
@@ -53,9 +56,11 @@ impl Runner {
     /// Does events, one after another. Where memory runs out, a front of them was done.
     pub(crate) fn play(&mut self, events: Journal) -> Result<(), NoMemory>
         requires next { AreNext self.old.core.journal events }
+        requires idle { self.old.core.planned ≡ None }
         requires counted { IsCounted self.old.count self.old.core.journal }
         ensures ok { OnOk result (self.new.core.journal ≡ self.old.core.journal ++ events) }
         ensures err { OnErr result (Stopped self.old.core.journal events self.new.core.journal) }
+        ensures idle { self.new.core.planned ≡ None }
         ensures counted { IsCounted self.new.count self.new.core.journal }
     {
         for event in events.into_vec() {

@@ -1,5 +1,5 @@
 -- Each message is answered.
-use Rattle.std.proofs.Common.{inl, inr, ℕ, Bool, true, false, cond, List, ◌++◌, length, Option, Some, None, Result, Ok, Err, refl, min}
+use Rattle.std.proofs.Common.{[], ◌∷◌, inl, inr, ℕ, Bool, true, false, cond, List, ◌++◌, length, Option, Some, None, Result, Ok, Err, refl, min}
 use Rattle.std.specs.Prelude.{codes, nat_lt, ◌==◌}
 use Rattle.am_text.specs.Part.{part_bytes, part_of}
 use Rattle.am_text.specs.Pieces.{Decoded, decode_part}
@@ -36,7 +36,7 @@ use Rattle.core_answers.specs.Attaching.{is_version, agreed, version_deed, attac
 use Rattle.core_answers.specs.Walking.{trail, walk_refusal, arrives_at, or_walks, walk_from}
 use Rattle.core_answers.specs.Opening.{open_refusal, or_opens, open_fid, denied, clunk_fid, remove_fid}
 use Rattle.core_answers.specs.Reading.{place_at, read_dir, read_opening, read_content, use_refusal, or_reads, most, read_fid, stat_fid}
-use Rattle.core_answers.specs.Writing.{written, append_deed, add_deed, or_errors, errors_deed, control_answer, write_content, write_fid}
+use Rattle.core_answers.specs.Writing.{written, if_lives, append_deed, add_deed, or_errors, errors_deed, control_answer, write_content, write_fid}
 use Rattle.am_text.specs.Lines.{lines_of}
 use Rattle.core_answers.specs.Controls.{controls}
 use Rattle.core_answers.specs.Erring.{fits_in, fits_tag, appends, errors_of, root_errors, errors_refusal}
@@ -73,7 +73,7 @@ or_done body false x d h = h
 -- ---- message by message
 
 known_answers : (asked msize : ℕ) (version : List ℕ) (known : Bool)
-    → IsAnswered (t.Version asked version) (cond {A = Deed} known (does (effect.Begins (Some msize)) change.Nothing (r.Version msize (codes "9P2000"))) (does (effect.Begins None) change.Nothing (r.Version msize (codes "unknown")))).answer
+    → IsAnswered (t.Version asked version) (cond {A = Deed} known (does (effect.Begins (Some msize)) [] (r.Version msize (codes "9P2000"))) (does (effect.Begins None) [] (r.Version msize (codes "unknown")))).answer
 known_answers asked msize version true = inl refl
 known_answers asked msize version false = inl refl
 
@@ -88,7 +88,7 @@ attach_answers fid afid uname aname (Some x) = tt
 arrives_answers : (fid newfid : ℕ) (names : List (List ℕ)) (world : World) (qids : List Qid) (e : WalkEnd) → Answers (t.Walk fid newfid names) (arrives_at newfid world qids e)
 arrives_answers fid newfid names world qids (end.At node) = inl refl
 arrives_answers fid newfid names world qids (end.Makes file) = inl refl
-arrives_answers fid newfid names world qids (end.Stops x) = or_done (t.Walk fid newfid names) (length qids == 0) x (does effect.Nothing change.Nothing (r.Walk qids)) (inl refl)
+arrives_answers fid newfid names world qids (end.Stops x) = or_done (t.Walk fid newfid names) (length qids == 0) x (does effect.Nothing [] (r.Walk qids)) (inl refl)
 
 or_walks_answers : (body : TBody) (o : Option Refusal) (x : Result Deed Refusal) → Answers body x → Answers body (or_walks o x)
 or_walks_answers body None x h = h
@@ -152,15 +152,21 @@ read_answers world windows fid offset asked count None = tt
 read_answers world windows fid offset asked count (Some f) =
     or_reads_answers (t.Read fid offset asked) (use_refusal world f is_for_reading) _ (read_content_answers world windows fid offset asked count f (content_of f.node))
 
+if_lives_answers : (body : TBody) (o : Option Window) (x : Result Deed Refusal) → Answers body x → Answers body (if_lives o x)
+if_lives_answers body None x h = tt
+if_lives_answers body (Some w) x h = h
+
 append_answers : (windows : List (Option Window)) (fid offset : ℕ) (bytes : List ℕ) (f : Fid) (w : ℕ) (decoded : Decoded) → Answers (t.Write fid offset bytes) (append_deed windows fid f w (length bytes) decoded)
 append_answers windows fid offset bytes f w decoded =
-    done_or (t.Write fid offset bytes) (fits_in (text_at windows w) decoded.text)
-    (written (appends windows w decoded.text) fid (holding f (part_of decoded.rest)) (length bytes)) refusal.TextTooLong (inl refl)
+    if_lives_answers (t.Write fid offset bytes) (window_at windows w) _
+    (done_or (t.Write fid offset bytes) (fits_in (text_at windows w) decoded.text)
+    (written (appends windows w decoded.text) fid (holding f (part_of decoded.rest)) (length bytes)) refusal.TextTooLong (inl refl))
 
 add_answers : (windows : List (Option Window)) (fid offset : ℕ) (bytes : List ℕ) (f : Fid) (w : ℕ) (decoded : Decoded) → Answers (t.Write fid offset bytes) (add_deed windows fid f w (length bytes) decoded)
 add_answers windows fid offset bytes f w decoded =
-    done_or (t.Write fid offset bytes) (fits_tag (right_of (window_at windows w)) decoded.text)
-    (written (change.Adds w decoded.text) fid (holding f (part_of decoded.rest)) (length bytes)) refusal.TextTooLong (inl refl)
+    if_lives_answers (t.Write fid offset bytes) (window_at windows w) _
+    (done_or (t.Write fid offset bytes) (fits_tag (right_of (window_at windows w)) decoded.text)
+    (written (change.Adds w decoded.text ∷ []) fid (holding f (part_of decoded.rest)) (length bytes)) refusal.TextTooLong (inl refl))
 
 or_errors_answers : (body : TBody) (o : Option Refusal) (d : Deed) → IsAnswered body d.answer → Answers body (or_errors o d)
 or_errors_answers body None d h = h
@@ -195,7 +201,7 @@ write_content_answers windows fid offset bytes f content.Directory = tt
 write_content_answers windows fid offset bytes f (content.BodyText w) = append_answers windows fid offset bytes f w (decode_part (part_bytes f.part ++ bytes))
 write_content_answers windows fid offset bytes f (content.TagText w) = add_answers windows fid offset bytes f w (decode_part (part_bytes f.part ++ bytes))
 write_content_answers windows fid offset bytes f (content.CtlText w) =
-    control_answers fid offset bytes (controls (lines_of bytes) (name_of (window_at windows w)) (modified_of (window_at windows w))).refusal
+    if_lives_answers (t.Write fid offset bytes) (window_at windows w) _ (control_answers fid offset bytes (controls w (lines_of bytes) (name_of (window_at windows w)) (modified_of (window_at windows w))).refusal)
 write_content_answers windows fid offset bytes f (content.AddrText w) = addr_answers fid offset w bytes (window_at windows w)
 write_content_answers windows fid offset bytes f (content.DataOf w) = taking_answers fid offset w bytes (window_at windows w)
 write_content_answers windows fid offset bytes f (content.XdataOf w) = taking_answers fid offset w bytes (window_at windows w)
@@ -223,7 +229,7 @@ remove_answers fid (Some f) = inr (refusal.PermissionDenied, refl)
 stat_answers : (world : World) (fid : ℕ) (o : Option Fid) → Answers (t.Stat fid) (stat_fid world o)
 stat_answers world fid None = tt
 stat_answers world fid (Some f) =
-    done_or (t.Stat fid) (is_live world f.node) (does effect.Nothing change.Nothing (r.Stat (record_of (stat_of world f.node)))) refusal.WindowDeleted (inl refl)
+    done_or (t.Stat fid) (is_live world f.node) (does effect.Nothing [] (r.Stat (record_of (stat_of world f.node)))) refusal.WindowDeleted (inl refl)
 
 served_answers : (tables : Tables) (world : World) (windows : List (Option Window)) (openings conn : ℕ) (body : TBody) → Answers body (served tables world windows openings conn body)
 served_answers tables world windows openings conn (t.Version msize version) = version_answers msize version

@@ -1,5 +1,5 @@
 -- Answers have spellings.
-use Rattle.std.proofs.Common.{◌≡◌, ℕ, ◌+◌, ◌<◌, ◌≤◌, true, List, Option, codes, length, refl, ap, sym, ◌∙◌, subst, arith}
+use Rattle.std.proofs.Common.{[], ◌≡◌, ℕ, ◌+◌, ◌<◌, ◌≤◌, true, List, Option, codes, length, refl, ap, sym, ◌∙◌, subst, arith}
 use Rattle.std.specs.Str.{is_utf8, chars}
 use Rattle.std.specs.Char.{encode_utf8}
 use Rattle.ninep_types.specs.declared.message.RBody.TheVariants as r
@@ -8,11 +8,9 @@ use Rattle.ninep_types.specs.Spelling.{IsString}
 use Rattle.core_answers.specs.declared.refusal.Refusal.{Refusal}
 use Rattle.core_answers.specs.declared.refusal.Refusal.TheVariants as refusal
 use Rattle.core_answers.specs.Refusals.{refusal_text}
-use Rattle.core_answers.specs.Done.{IsSent, IsDone}
+use Rattle.core_answers.specs.Done.{IsSent, CanBeMade, IsDone}
 use Rattle.core_windows.specs.Windows.{Window}
 use Rattle.core_windows.specs.declared.change.Change.{Change}
-use Rattle.core_windows.specs.declared.change.Change.TheVariants as change
-use Rattle.core_windows.specs.Possible.{IsPossible}
 use Rattle.ninep_types.specs.declared.message.RBody.{RBody}
 use Rattle.core_answers.specs.declared.effect.Deed.{Deed}
 use Rattle.ninep_frame.specs.declared.stat.Stat.{Stat}
@@ -98,9 +96,13 @@ pub error_sent : (x : Refusal) (text : List ℕ) → text ≡ refusal_text x →
 error_sent x text e = subst (λ (t : List ℕ). IsSent (r.Error t)) (sym e) (error_is x)
 
 -- a deed that is answered at once
-pub plain_done : (windows : List (Option Window)) (f : Effect) (c : Change) (body : RBody) (d : Deed) → d ≡ does f c body → IsSent body → IsPossible windows c
+pub plain_done : (windows : List (Option Window)) (f : Effect) (cs : List Change) (body : RBody) (d : Deed) → d ≡ does f cs body → IsSent body → CanBeMade windows cs
     → IsDone windows d
-plain_done windows f c body d e sent possible = subst (λ (x : Deed). IsDone windows x) (sym e) (record { sent = sent; possible = possible })
+plain_done windows f cs body d e sent possible = subst (λ (x : Deed). IsDone windows x) (sym e) (record { sent = sent; possible = possible })
+
+-- no change can always be made
+pub nothing_made : (windows : List (Option Window)) (cs : List Change) → cs ≡ [] → CanBeMade windows cs
+nothing_made windows cs e = subst (CanBeMade windows) (sym e) (λ at. tt)
 
 -- ---- versions
 
@@ -118,23 +120,23 @@ known_sent msize = record { body = known; size = omega arith }
 unknown_sent : (msize : ℕ) → IsSent (r.Version msize (codes "unknown"))
 unknown_sent msize = record { body = unknown; size = omega arith }
 
-pub known_done : (windows : List (Option Window)) (f : Effect) (msize : ℕ) (text : List ℕ) (d : Deed) → text ≡ codes "9P2000"
-    → d ≡ does f change.Nothing (r.Version msize text) → IsDone windows d
-known_done windows f msize text d e is =
-    plain_done windows f change.Nothing (r.Version msize text) d is (subst (λ (t : List ℕ). IsSent (r.Version msize t)) (sym e) (known_sent msize)) tt
+pub known_done : (windows : List (Option Window)) (f : Effect) (msize : ℕ) (text : List ℕ) (cs : List Change) (d : Deed) → text ≡ codes "9P2000" → cs ≡ []
+    → d ≡ does f cs (r.Version msize text) → IsDone windows d
+known_done windows f msize text cs d e none is =
+    plain_done windows f cs (r.Version msize text) d is (subst (λ (t : List ℕ). IsSent (r.Version msize t)) (sym e) (known_sent msize)) (nothing_made windows cs none)
 
-pub unknown_done : (windows : List (Option Window)) (f : Effect) (msize : ℕ) (text : List ℕ) (d : Deed) → text ≡ codes "unknown"
-    → d ≡ does f change.Nothing (r.Version msize text) → IsDone windows d
-unknown_done windows f msize text d e is =
-    plain_done windows f change.Nothing (r.Version msize text) d is (subst (λ (t : List ℕ). IsSent (r.Version msize t)) (sym e) (unknown_sent msize)) tt
+pub unknown_done : (windows : List (Option Window)) (f : Effect) (msize : ℕ) (text : List ℕ) (cs : List Change) (d : Deed) → text ≡ codes "unknown" → cs ≡ []
+    → d ≡ does f cs (r.Version msize text) → IsDone windows d
+unknown_done windows f msize text cs d e none is =
+    plain_done windows f cs (r.Version msize text) d is (subst (λ (t : List ℕ). IsSent (r.Version msize t)) (sym e) (unknown_sent msize)) (nothing_made windows cs none)
 
 -- ---- stats
 
-pub stat_done : (windows : List (Option Window)) (s : Stat) (bytes : List ℕ) (d : Deed) → bytes ≡ record_of s → HasName s
-    → d ≡ does effect.Nothing change.Nothing (r.Stat bytes) → IsDone windows d
-stat_done windows s bytes d e name is =
+pub stat_done : (windows : List (Option Window)) (s : Stat) (bytes : List ℕ) (cs : List Change) (d : Deed) → bytes ≡ record_of s → HasName s → cs ≡ []
+    → d ≡ does effect.Nothing cs (r.Stat bytes) → IsDone windows d
+stat_done windows s bytes cs d e name none is =
     let size : length bytes ≡ 61 + length s.name = ap (λ (l : List ℕ). length l) e ∙ record_len s in
-    plain_done windows effect.Nothing change.Nothing (r.Stat bytes) d is (record { body = omega (arith, size, name.len); size = omega (arith, size, name.len) }) tt
+    plain_done windows effect.Nothing cs (r.Stat bytes) d is (record { body = omega (arith, size, name.len); size = omega (arith, size, name.len) }) (nothing_made windows cs none)
 
 -- what a directory read gives fits
 pub part_fits : (room : ℕ) (stats : List Stat) (bytes : List ℕ) → bytes ≡ records (fitting room stats) → length bytes ≤ room

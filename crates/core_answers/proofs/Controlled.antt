@@ -1,75 +1,85 @@
 -- Control messages, one line further.
 use Rattle.std.proofs.Common.{◌≡◌, ℕ, Bool, true, false, cond, List, [], ◌∷◌, ◌++◌, Option, Some, None, Result, Ok, Err, refl, sym, ap, subst, ◌∙◌, append_assoc}
-use Rattle.std.specs.Prelude.{◌&&◌}
+use Rattle.std.specs.Prelude.{◌&&◌, IsSome}
 use Rattle.std.proofs.lemmas.List.{append-nil}
 use Rattle.win_ctl.specs.declared.message.CtlMsg.{CtlMsg}
 use Rattle.win_ctl.specs.declared.message.CtlMsg.TheVariants as msg
 use Rattle.win_ctl.specs.declared.message.CtlFault.{CtlFault}
 use Rattle.win_ctl.specs.declared.message.CtlFault.TheVariants as fault
 use Rattle.win_ctl.specs.Messages.{ctl_of}
+use Rattle.core_windows.specs.declared.change.Change.{Change}
+use Rattle.core_windows.specs.declared.change.Change.TheVariants as change
 use Rattle.core_windows.specs.declared.change.Setting.{Setting}
+use Rattle.core_windows.specs.Possible.{CanSet, CanChangeAll, text_in}
+use Rattle.core_windows.specs.Windows.{Window, window_at, set, changed}
+use Rattle.core_windows.proofs.Steps.{lives_then}
 use Rattle.core_answers.specs.declared.control.Told.{Told}
 use Rattle.core_answers.specs.declared.control.Told.TheVariants as told
 use Rattle.core_answers.specs.declared.control.Controls.{Controls}
 use Rattle.core_answers.specs.declared.refusal.Refusal.TheVariants as refusal
 use Rattle.core_answers.specs.Controls.{is_guarded, msg_told, line_told, told_first, then_sets, name_after, modified_after, controls}
-use Rattle.core_answers.specs.Plain.{IsPlain, ArePlain}
+use Rattle.core_answers.specs.Done.{CanBeMade}
 
--- what the lines before set, in front of what these do
-abbrev pub behind : List Setting → Controls → Controls
-behind before c = record c { settings = before ++ c.settings }
+-- what the lines before do, in front of what these do
+abbrev pub behind : List Change → Controls → Controls
+behind before c = record c { changes = before ++ c.changes }
 
-pub set_more : (before : List Setting) (s : Setting) (c : Controls) → behind (before ++ s ∷ []) c ≡ behind before (then_sets s c)
-set_more before s c = ap (λ (l : List Setting). record c { settings = l }) (append_assoc before (s ∷ []) c.settings)
+pub set_more : (before : List Change) (w : ℕ) (s : Setting) (c : Controls) → behind (before ++ change.Sets w s ∷ []) c ≡ behind before (then_sets w s c)
+set_more before w s c = ap (λ (l : List Change). record c { changes = l }) (append_assoc before (change.Sets w s ∷ []) c.changes)
 
--- ---- none of them sets dot to a range of its own
+-- ---- each of them can be done while the window lives: none sets dot or the address to a range of its own
 
-abbrev IsPlainTold : Told → Type 0
-IsPlainTold told.Nothing = Unit {0}
-IsPlainTold (told.Sets s) = IsPlain s
-IsPlainTold told.Deletes = Unit {0}
-IsPlainTold (told.Refused r) = Unit {0}
+abbrev IsFine : List ℕ → Told → Type 0
+IsFine text told.Nothing = Unit {0}
+IsFine text (told.Sets s) = CanSet text s
+IsFine text told.Deletes = Unit {0}
+IsFine text (told.Refused r) = Unit {0}
 
-plain_either : (b : Bool) (x y : Told) → IsPlainTold x → IsPlainTold y → IsPlainTold (cond b x y)
-plain_either true x y h k = h
-plain_either false x y h k = k
+fine_either : (text : List ℕ) (b : Bool) (x y : Told) → IsFine text x → IsFine text y → IsFine text (cond b x y)
+fine_either text true x y h k = h
+fine_either text false x y h k = k
 
-plain_msg : (name : List ℕ) (modified : Bool) (m : CtlMsg) → IsPlainTold (msg_told name modified m)
-plain_msg name modified msg.AddrDot = tt
-plain_msg name modified msg.Clean = tt
-plain_msg name modified msg.Dirty = tt
-plain_msg name modified msg.ClearTag = tt
-plain_msg name modified msg.Del = plain_either (modified && is_guarded name) (told.Refused refusal.WindowModified) told.Deletes tt tt
-plain_msg name modified msg.Delete = tt
-plain_msg name modified msg.DotAddr = tt
-plain_msg name modified msg.Idle = tt
-plain_msg name modified msg.Get = tt
-plain_msg name modified msg.LimitAddr = tt
-plain_msg name modified msg.Mark = tt
-plain_msg name modified msg.NoMark = tt
-plain_msg name modified (msg.Name n) = tt
-plain_msg name modified msg.Put = tt
+fine_msg : (text name : List ℕ) (modified : Bool) (m : CtlMsg) → IsFine text (msg_told name modified m)
+fine_msg text name modified msg.AddrDot = tt
+fine_msg text name modified msg.Clean = tt
+fine_msg text name modified msg.Dirty = tt
+fine_msg text name modified msg.ClearTag = tt
+fine_msg text name modified msg.Del = fine_either text (modified && is_guarded name) (told.Refused refusal.WindowModified) told.Deletes tt tt
+fine_msg text name modified msg.Delete = tt
+fine_msg text name modified msg.DotAddr = tt
+fine_msg text name modified msg.Idle = tt
+fine_msg text name modified msg.Get = tt
+fine_msg text name modified msg.LimitAddr = tt
+fine_msg text name modified msg.Mark = tt
+fine_msg text name modified msg.NoMark = tt
+fine_msg text name modified (msg.Name n) = tt
+fine_msg text name modified msg.Put = tt
 
-plain_line : (name : List ℕ) (modified : Bool) (r : Result CtlMsg CtlFault) → IsPlainTold (line_told name modified r)
-plain_line name modified (Ok m) = plain_msg name modified m
-plain_line name modified (Err fault.Unknown) = tt
-plain_line name modified (Err fault.BadName) = tt
-plain_line name modified (Err fault.NoMemory) = tt
+fine_line : (text name : List ℕ) (modified : Bool) (r : Result CtlMsg CtlFault) → IsFine text (line_told name modified r)
+fine_line text name modified (Ok m) = fine_msg text name modified m
+fine_line text name modified (Err fault.Unknown) = tt
+fine_line text name modified (Err fault.BadName) = tt
+fine_line text name modified (Err fault.NoMemory) = tt
 
-plain_first : (name : List ℕ) (modified : Bool) (t : Told) (rest : List ℕ → Bool → Controls) → IsPlainTold t
-    → ((n : List ℕ) (m : Bool) → ArePlain (rest n m).settings) → ArePlain (told_first name modified t rest).settings
-plain_first name modified told.Nothing rest h k = k name modified
-plain_first name modified (told.Sets s) rest h k = (h, k (name_after name s) (modified_after modified s))
-plain_first name modified told.Deletes rest h k = tt
-plain_first name modified (told.Refused r) rest h k = tt
+first_can : (at w : ℕ) (name : List ℕ) (modified : Bool) (t : Told) (rest : List ℕ → Bool → Controls) → ((text : List ℕ) → IsFine text t)
+    → ((ws : List (Option Window)) (n : List ℕ) (m : Bool) → IsSome (window_at ws w) → CanChangeAll at ws (rest n m).changes)
+    → (ws : List (Option Window)) → IsSome (window_at ws w) → CanChangeAll at ws (told_first w name modified t rest).changes
+first_can at w name modified told.Nothing rest fine k ws h = k ws name modified h
+first_can at w name modified (told.Sets s) rest fine k ws h =
+    (record { lives = h; inside = fine (text_in (window_at ws w)) }, k (changed at ws (change.Sets w s)) (name_after name s) (modified_after modified s) (lives_then (set s) w ws h))
+first_can at w name modified told.Deletes rest fine k ws h = (h, tt)
+first_can at w name modified (told.Refused r) rest fine k ws h = tt
 
-pub controls_are_plain : (lines : List (List ℕ)) (name : List ℕ) (modified : Bool) → ArePlain (controls lines name modified).settings
+controls_can : (at w : ℕ) (lines : List (List ℕ)) (ws : List (Option Window)) (name : List ℕ) (modified : Bool) → IsSome (window_at ws w)
+    → CanChangeAll at ws (controls w lines name modified).changes
 unfolding controls
-controls_are_plain [] name modified = tt
-controls_are_plain (line ∷ lines) name modified =
-    plain_first name modified (line_told name modified (ctl_of line)) (λ n m. controls lines n m) (plain_line name modified (ctl_of line)) (controls_are_plain lines)
+controls_can at w [] ws name modified h = tt
+controls_can at w (line ∷ lines) ws name modified h =
+    first_can at w name modified (line_told name modified (ctl_of line)) (λ n m. controls w lines n m) (λ text. fine_line text name modified (ctl_of line))
+    (λ ws' n m h'. controls_can at w lines ws' n m h') ws h
 
-pub plain_of : (c : Controls) (lines : List (List ℕ)) (name : List ℕ) (modified : Bool) → c ≡ controls lines name modified → ArePlain c.settings
-plain_of c lines name modified e = subst (λ (x : Controls). ArePlain x.settings) (sym e) (controls_are_plain lines name modified)
+pub can_of : (c : Controls) (w : ℕ) (lines : List (List ℕ)) (name : List ℕ) (modified : Bool) → c ≡ controls w lines name modified
+    → (ws : List (Option Window)) → IsSome (window_at ws w) → CanBeMade ws c.changes
+can_of c w lines name modified e ws h at = subst (λ (x : Controls). CanChangeAll at ws x.changes) (sym e) (controls_can at w lines ws name modified h)
 
 pub ruleset controlled = (set_more, append-nil)

@@ -12,6 +12,7 @@ use Rattle.core_windows.specs.declared.change.Change.{Change}
 use Rattle.core_windows.specs.declared.change.Change.TheVariants as change
 use Rattle.core_windows.specs.declared.change.Setting.TheVariants as setting
 use Rattle.core_windows.specs.Windows.{Window}
+use Rattle.edit_log.specs.declared.types.Edit.{Edit}
 use Rattle.core_answers.specs.declared.effect.Effect.TheVariants as effect
 use Rattle.core_answers.specs.declared.effect.Deed.{Deed}
 use Rattle.core_answers.specs.declared.refusal.Fault.{Fault}
@@ -21,8 +22,12 @@ use Rattle.core_answers.specs.declared.refusal.Refusal.TheVariants as refusal
 use Rattle.core_answers.specs.Plainly.{does}
 
 -- the address becomes a range
-abbrev pub sets_addr : ℕ → Range → Change
-sets_addr w range = change.Controls w (setting.Addr range ∷ []) false
+abbrev pub sets_addr : ℕ → Range → List Change
+sets_addr w range = change.Sets w (setting.Addr range) ∷ []
+
+-- edits are made, and the address becomes a range
+abbrev pub edits_with_addr : ℕ → List Edit → Range → List Change
+edits_with_addr w edits range = change.Edits w edits ∷ change.Sets w (setting.Addr range) ∷ []
 
 -- ---- reads
 
@@ -35,7 +40,7 @@ abbrev pub gives : ℕ → Given → Deed
 gives w given = does effect.Nothing (sets_addr w given.addr) (r.Read given.bytes)
 
 abbrev pub gives_nothing : Deed
-gives_nothing = does effect.Nothing change.Nothing (r.Read [])
+gives_nothing = does effect.Nothing [] (r.Read [])
 
 abbrev pub data_deed : ℕ → ℕ → Option Window → Deed
 data_deed w count None = gives_nothing
@@ -71,7 +76,7 @@ addr_deed w bytes None = Err refusal.WindowDeleted
 addr_deed w bytes (Some window) = addr_or_refusal w (length bytes) (addressed window.body bytes)
 
 abbrev pub data_or_refusal : ℕ → ℕ → Result Taken RangeFault → Result Deed Refusal
-data_or_refusal w count (Ok taken) = Ok (does effect.Nothing (change.Edits w taken.edits None (Some taken.addr)) (r.Write count))
+data_or_refusal w count (Ok taken) = Ok (does effect.Nothing (edits_with_addr w taken.edits taken.addr) (r.Write count))
 data_or_refusal w count (Err f) = Err (range_refusal f)
 
 -- `data` and `xdata` are written alike

@@ -1,12 +1,11 @@
 -- Tversion and Tattach.
-use Rattle.std.specs.Prelude.{ℕ, Bool, ◌==◌, ◌||◌, not, nat_eq, nat_lt, min, List, length, codes, Option, Some, None, Result, Ok, Err, if◌then◌else◌}
+use Rattle.std.specs.Prelude.{[], ℕ, Bool, ◌==◌, ◌||◌, not, nat_eq, nat_lt, min, List, length, codes, Option, Some, None, Result, Ok, Err, if◌then◌else◌}
 use Rattle.std.specs.Str.{bytes_eq}
 use Rattle.std.specs.List.{starts_with}
 use Rattle.ninep_types.specs.declared.message.RBody.TheVariants as r
 use Rattle.acme_tree.specs.declared.node.Node.TheVariants.{Root}
 use Rattle.acme_tree.specs.Trees.{qid_of}
 use Rattle.fid_table.specs.Tables.{Tables}
-use Rattle.core_windows.specs.declared.change.Change.TheVariants as change
 use Rattle.core_answers.specs.declared.effect.Effect.TheVariants as effect
 use Rattle.core_answers.specs.declared.effect.Deed.{Deed}
 use Rattle.core_answers.specs.Plainly.{does}
@@ -25,8 +24,8 @@ is_version version = bytes_eq version (codes "9P2000") || starts_with nat_eq ver
 -- session.
 abbrev pub agreed : ℕ → List ℕ → Deed
 agreed msize version = if is_version version
-    then does (effect.Begins (Some msize)) change.Nothing (r.Version msize (codes "9P2000"))
-    else does (effect.Begins None) change.Nothing (r.Version msize (codes "unknown"))
+    then does (effect.Begins (Some msize)) [] (r.Version msize (codes "9P2000"))
+    else does (effect.Begins None) [] (r.Version msize (codes "unknown"))
 
 abbrev pub version_deed : ℕ → List ℕ → Deed
 version_deed msize version = if nat_lt msize 256
@@ -51,7 +50,7 @@ attach_refusal tables conn fid afid aname =
     (if is_full tables conn then Some refusal.TooManyFids else tree_refusal aname)))
 
 abbrev pub or_attaches : Option Refusal → ℕ → Result Deed Refusal
-or_attaches None fid = Ok (does (effect.Puts fid (fresh Root)) change.Nothing (r.Attach (qid_of Root)))
+or_attaches None fid = Ok (does (effect.Puts fid (fresh Root)) [] (r.Attach (qid_of Root)))
 or_attaches (Some refusal) fid = Err refusal
 
 abbrev pub attach_deed : Tables → ℕ → ℕ → ℕ → List ℕ → Result Deed Refusal

@@ -6,6 +6,7 @@ use Rattle.win_ctl.specs.declared.message.CtlMsg.TheVariants as msg
 use Rattle.win_ctl.specs.declared.message.CtlFault.{CtlFault}
 use Rattle.win_ctl.specs.declared.message.CtlFault.TheVariants as fault
 use Rattle.win_ctl.specs.Messages.{ctl_of}
+use Rattle.core_windows.specs.declared.change.Change.TheVariants as change
 use Rattle.core_windows.specs.declared.change.Setting.{Setting}
 use Rattle.core_windows.specs.declared.change.Setting.TheVariants as setting
 use Rattle.core_answers.specs.declared.refusal.Refusal.TheVariants as refusal
@@ -54,21 +55,21 @@ modified_after modified setting.Clean = false
 modified_after modified setting.Dirty = true
 modified_after modified s = modified
 
-abbrev pub then_sets : Setting → Controls → Controls
-then_sets s controls = record controls { settings = s ∷ controls.settings }
+abbrev pub then_sets : ℕ → Setting → Controls → Controls
+then_sets w s controls = record controls { changes = change.Sets w s ∷ controls.changes }
 
 abbrev pub no_controls : Controls
-no_controls = record { settings = []; deletes = false; refusal = None }
+no_controls = record { changes = []; refusal = None }
 
 -- a message, and what comes behind it of the name and the mark that it leaves: nothing after a deletion or a refusal
-abbrev pub told_first : List ℕ → Bool → Told → (List ℕ → Bool → Controls) → Controls
-told_first name modified told.Nothing rest = rest name modified
-told_first name modified (told.Sets s) rest = then_sets s (rest (name_after name s) (modified_after modified s))
-told_first name modified told.Deletes rest = record { settings = []; deletes = true; refusal = None }
-told_first name modified (told.Refused r) rest = record { settings = []; deletes = false; refusal = Some r }
+abbrev pub told_first : ℕ → List ℕ → Bool → Told → (List ℕ → Bool → Controls) → Controls
+told_first w name modified told.Nothing rest = rest name modified
+told_first w name modified (told.Sets s) rest = then_sets w s (rest (name_after name s) (modified_after modified s))
+told_first w name modified told.Deletes rest = record { changes = change.Deletes w ∷ []; refusal = None }
+told_first w name modified (told.Refused r) rest = record { changes = []; refusal = Some r }
 
--- What the messages of these lines do to a window of this name, modified or not: they are done in order up to the first that is
+-- What the messages of these lines do to the window of that number, of this name, modified or not: they are done in order up to the first that is
 -- refused, and those before it stay done. After a message that deletes the window the rest isn't looked at.
-unfoldable pub controls : List (List ℕ) → List ℕ → Bool → Controls
-controls [] name modified = no_controls
-controls (line ∷ lines) name modified = told_first name modified (line_told name modified (ctl_of line)) (λ n m. controls lines n m)
+unfoldable pub controls : ℕ → List (List ℕ) → List ℕ → Bool → Controls
+controls w [] name modified = no_controls
+controls w (line ∷ lines) name modified = told_first w name modified (line_told name modified (ctl_of line)) (λ n m. controls w lines n m)

@@ -1,5 +1,5 @@
 -- What each message does, and its answer.
-use Rattle.std.specs.Prelude.{ℕ, Bool, true, false, not, ◌&&◌, List, Option, Result, Ok, Err, if◌then◌else◌}
+use Rattle.std.specs.Prelude.{[], ℕ, Bool, true, false, not, ◌&&◌, List, Option, Result, Ok, Err, if◌then◌else◌}
 use Rattle.ninep_types.specs.declared.message.TBody.{TBody}
 use Rattle.ninep_types.specs.declared.message.TBody.TheVariants as t
 use Rattle.ninep_types.specs.declared.message.RBody.TheVariants as r
@@ -13,7 +13,6 @@ use Rattle.core_answers.specs.declared.refusal.Refusal.{Refusal}
 use Rattle.core_answers.specs.declared.refusal.Refusal.TheVariants as refusal
 use Rattle.core_answers.specs.Refusals.{refused, deed_or_refusal}
 use Rattle.core_answers.specs.Fids.{is_there}
-use Rattle.core_windows.specs.declared.change.Change.TheVariants as change
 use Rattle.core_windows.specs.Windows.{Window, world_of}
 use Rattle.core_answers.specs.Attaching.{version_deed, attach_deed}
 use Rattle.core_answers.specs.Walking.{walk_deed}
@@ -23,7 +22,7 @@ use Rattle.core_answers.specs.Writing.{write_deed}
 
 -- Tflush is never refused: the read of that tag waits no more, if it did
 abbrev pub flush_deed : ℕ → Deed
-flush_deed oldtag = record { effect = effect.Nothing; events = events.Cancels oldtag; change = change.Nothing; answer = Says r.Flush }
+flush_deed oldtag = record { effect = effect.Nothing; events = events.Cancels oldtag; changes = []; answer = Says r.Flush }
 
 -- what a message does in a session, where so many openings of event files were made
 abbrev pub served : Tables → World → List (Option Window) → ℕ → ℕ → TBody → Result Deed Refusal

@@ -1,11 +1,14 @@
 -- What holds of each deed: what it is answered has a spelling, and its change of the windows can be made.
-use Rattle.std.specs.Prelude.{◌≡◌, ◌<◌, ◌+◌, ◌^◌, false, List, Option}
+use Rattle.std.specs.Prelude.{◌≡◌, ◌<◌, ◌+◌, ◌^◌, ℕ, false, List, Option, IsSome}
 use Rattle.ninep_types.specs.declared.message.RBody.{RBody}
 use Rattle.ninep_types.specs.Spelling.{BodyFits_r, size_r}
 use Rattle.acme_tree.specs.declared.node.World.{World}
 use Rattle.acme_tree.specs.Trees.{is_full}
-use Rattle.core_windows.specs.Possible.{IsPossible}
-use Rattle.core_windows.specs.Windows.{Window}
+use Rattle.core_windows.specs.declared.change.Change.{Change}
+use Rattle.core_windows.specs.Possible.{CanChangeAll}
+use Rattle.core_windows.specs.Windows.{Window, window_at}
+use Rattle.core_answers.specs.declared.content.Content.{Content}
+use Rattle.core_answers.specs.declared.content.Content.TheVariants as content
 use Rattle.core_answers.specs.declared.effect.Answer.{Answer}
 use Rattle.core_answers.specs.declared.effect.Answer.TheVariants.{Says, Reads}
 use Rattle.core_answers.specs.declared.effect.Deed.{Deed}
@@ -22,12 +25,32 @@ abbrev pub HasSpelling : Answer → Type 0
 HasSpelling (Says body) = IsSent body
 HasSpelling (Reads fid opening count) = count + 11 < 2 ^ 32
 
+-- these changes can be made one after the other, by whichever step
+abbrev pub CanBeMade : List (Option Window) → List Change → Type 0
+CanBeMade windows changes = (at : ℕ) → CanChangeAll at windows changes
+
 pub record IsDone (windows : List (Option Window)) (deed : Deed) : Type 0 where
   pub sent : HasSpelling deed.answer
-  pub possible : IsPossible windows deed.change
+  pub possible : CanBeMade windows deed.changes
 
 -- a walk that makes a window ends only where one more may live
 abbrev pub MayEnd : World → WalkEnd → Type 0
 MayEnd world (end.At node) = Unit {0}
 MayEnd world (end.Makes file) = is_full world ≡ false
 MayEnd world (end.Stops refusal) = Unit {0}
+
+-- the window of what a node holds lives, where it is one of a window
+abbrev pub LivesIn : List (Option Window) → Content → Type 0
+LivesIn windows content.Directory = Unit {0}
+LivesIn windows (content.BodyText w) = IsSome (window_at windows w)
+LivesIn windows (content.TagText w) = IsSome (window_at windows w)
+LivesIn windows (content.CtlText w) = IsSome (window_at windows w)
+LivesIn windows (content.AddrText w) = IsSome (window_at windows w)
+LivesIn windows (content.DataOf w) = IsSome (window_at windows w)
+LivesIn windows (content.XdataOf w) = IsSome (window_at windows w)
+LivesIn windows content.IndexText = Unit {0}
+LivesIn windows (content.ErrorsOf w) = IsSome (window_at windows w)
+LivesIn windows content.ConsErrors = Unit {0}
+LivesIn windows content.Empty = Unit {0}
+LivesIn windows (content.EventsOf w) = IsSome (window_at windows w)
+LivesIn windows content.Unserved = Unit {0}

@@ -21,8 +21,8 @@ fits_tag right more = nat_le (length right + length more) 65536
 abbrev pub edits_at_end : List ℕ → List ℕ → List Edit
 edits_at_end text more = if length more == 0 then [] else record { q0 = length text; q1 = length text; text = more } ∷ []
 
-abbrev pub appends : List (Option Window) → ℕ → List ℕ → Change
-appends windows w more = change.Edits w (edits_at_end (text_at windows w) more) None None
+abbrev pub appends : List (Option Window) → ℕ → List ℕ → List Change
+appends windows w more = change.Edits w (edits_at_end (text_at windows w) more) ∷ []
 
 -- ---- errors windows
 
@@ -38,10 +38,10 @@ errors_of window = errors_name (directory (name_of window))
 abbrev pub root_errors : List ℕ
 root_errors = errors_name (codes "/")
 
--- the text is put at the end of the window; where there is none of that name, one is made with the text
-abbrev pub errors_change : List (Option Window) → List ℕ → Option ℕ → List ℕ → Change
-errors_change windows name None text = change.Makes name text
-errors_change windows name (Some w) text = appends windows w text
+-- the text is put at the end of the window; where there is none of that name, one is made first
+abbrev pub errors_changes : List (Option Window) → List ℕ → Option ℕ → List ℕ → List Change
+errors_changes windows name None text = change.Makes name ∷ change.Edits (world_of windows).next (edits_at_end [] text) ∷ []
+errors_changes windows name (Some w) text = appends windows w text
 
 abbrev pub long_refusal : List ℕ → List ℕ → Option Refusal
 long_refusal text more = if fits_in text more then None else Some refusal.TextTooLong

@@ -4,7 +4,6 @@ pub mod Texts
 pub mod Plainly
 pub mod Refusals
 pub mod Controls
-pub mod Plain
 pub mod Erring
 pub mod Done
 pub mod Attaching

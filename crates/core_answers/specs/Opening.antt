@@ -1,5 +1,5 @@
 -- Topen, and the messages that ask for what isn't given.
-use Rattle.std.specs.Prelude.{ℕ, zero, suc, ◌+◌, Bool, false, ◌==◌, ◌&&◌, ◌||◌, not, nat_lt, [], ◌∷◌, Option, Some, None, Result, Ok, Err, if◌then◌else◌}
+use Rattle.std.specs.Prelude.{ℕ, zero, suc, ◌+◌, Bool, false, ◌==◌, ◌&&◌, ◌||◌, not, nat_lt, List, [], ◌∷◌, Option, Some, None, Result, Ok, Err, if◌then◌else◌}
 use Rattle.std.specs.List.{list_any}
 use Rattle.ninep_types.specs.declared.message.RBody.TheVariants as r
 use Rattle.acme_tree.specs.declared.access.May.{May}
@@ -87,31 +87,31 @@ open_below tables w file zero = false
 open_below tables w file (suc n) = open_below tables w file n || list_any (has_open w file) (fids_of tables n)
 
 -- a setting is made where no fid has the file open
-abbrev pub sets_first : Tables → ℕ → WinFile → Setting → Change
-sets_first tables w file s = if open_below tables w file 64 then change.Nothing else change.Controls w (s ∷ []) false
+abbrev pub sets_first : Tables → ℕ → WinFile → Setting → List Change
+sets_first tables w file s = if open_below tables w file 64 then [] else change.Sets w s ∷ []
 
 -- opening `ctl` where no fid has it open clears the limit
-abbrev pub clears_limit : Tables → ℕ → Change
+abbrev pub clears_limit : Tables → ℕ → List Change
 clears_limit tables w = sets_first tables w Ctl setting.NoLimit
 
 -- opening `addr` where no fid has it open sets the address to the text's front
-abbrev pub resets_addr : Tables → ℕ → Change
+abbrev pub resets_addr : Tables → ℕ → List Change
 resets_addr tables w = sets_first tables w Addr (setting.Addr null_range)
 
-abbrev pub opening_change : Tables → Content → Change
-opening_change tables content.Directory = change.Nothing
-opening_change tables (content.BodyText w) = change.Nothing
-opening_change tables (content.TagText w) = change.Nothing
-opening_change tables (content.AddrText w) = resets_addr tables w
-opening_change tables (content.DataOf w) = change.Nothing
-opening_change tables (content.XdataOf w) = change.Nothing
-opening_change tables (content.CtlText w) = clears_limit tables w
-opening_change tables content.IndexText = change.Nothing
-opening_change tables (content.ErrorsOf w) = change.Nothing
-opening_change tables content.ConsErrors = change.Nothing
-opening_change tables content.Empty = change.Nothing
-opening_change tables (content.EventsOf w) = change.Nothing
-opening_change tables content.Unserved = change.Nothing
+abbrev pub opening_changes : Tables → Content → List Change
+opening_changes tables content.Directory = []
+opening_changes tables (content.BodyText w) = []
+opening_changes tables (content.TagText w) = []
+opening_changes tables (content.AddrText w) = resets_addr tables w
+opening_changes tables (content.DataOf w) = []
+opening_changes tables (content.XdataOf w) = []
+opening_changes tables (content.CtlText w) = clears_limit tables w
+opening_changes tables content.IndexText = []
+opening_changes tables (content.ErrorsOf w) = []
+opening_changes tables content.ConsErrors = []
+opening_changes tables content.Empty = []
+opening_changes tables (content.EventsOf w) = []
+opening_changes tables content.Unserved = []
 
 -- opening an event file adds an opening of it
 abbrev pub opening_events : Content → EventChange
@@ -150,7 +150,7 @@ abbrev pub or_opens : Tables → Option Refusal → ℕ → ℕ → Fid → ℕ 
 or_opens tables None openings number fid mode = Ok (record {
   effect = effect.Puts number (opened fid mode (opening_of openings (content_of fid.node)));
   events = opening_events (content_of fid.node);
-  change = opening_change tables (content_of fid.node);
+  changes = opening_changes tables (content_of fid.node);
   answer = Says (r.Open (qid_of fid.node) 0);
 })
 or_opens tables (Some refusal) openings number fid mode = Err refusal
@@ -172,7 +172,7 @@ denied (Some fid) = Err refusal.PermissionDenied
 
 abbrev pub clunk_fid : ℕ → Option Fid → Result Deed Refusal
 clunk_fid number None = Err refusal.UnknownFid
-clunk_fid number (Some fid) = Ok (does (effect.Frees number) change.Nothing r.Clunk)
+clunk_fid number (Some fid) = Ok (does (effect.Frees number) [] r.Clunk)
 
 abbrev pub remove_fid : ℕ → Option Fid → Result Deed Refusal
 remove_fid number None = Err refusal.UnknownFid

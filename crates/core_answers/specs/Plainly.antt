@@ -1,4 +1,5 @@
 -- What a message does that has nothing to do with event files, and is answered at once.
+use Rattle.std.specs.Prelude.{List}
 use Rattle.ninep_types.specs.declared.message.RBody.{RBody}
 use Rattle.core_windows.specs.declared.change.Change.{Change}
 use Rattle.core_answers.specs.declared.effect.Effect.{Effect}
@@ -6,5 +7,5 @@ use Rattle.core_answers.specs.declared.effect.EventChange.TheVariants as events
 use Rattle.core_answers.specs.declared.effect.Answer.TheVariants.{Says}
 use Rattle.core_answers.specs.declared.effect.Deed.{Deed}
 
-abbrev pub does : Effect → Change → RBody → Deed
-does f c body = record { effect = f; events = events.Nothing; change = c; answer = Says body }
+abbrev pub does : Effect → List Change → RBody → Deed
+does f changes body = record { effect = f; events = events.Nothing; changes = changes; answer = Says body }

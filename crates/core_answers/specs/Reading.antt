@@ -10,7 +10,6 @@ use Rattle.acme_tree.specs.declared.node.Node.TheVariants.{Cons, ConsCtl, Index,
 use Rattle.acme_tree.specs.declared.node.World.{World}
 use Rattle.fid_table.specs.declared.types.Fid.{Fid}
 use Rattle.fid_table.specs.Tables.{Tables, fid_of, msize_of}
-use Rattle.core_windows.specs.declared.change.Change.TheVariants as change
 use Rattle.core_answers.specs.declared.effect.Effect.TheVariants as effect
 use Rattle.core_answers.specs.declared.effect.EventChange.TheVariants as events
 use Rattle.core_answers.specs.declared.effect.Answer.TheVariants.{Reads}
@@ -28,7 +27,7 @@ use Rattle.core_answers.specs.Texts.{part_at, read_of, text_at, tag_if_live, ctl
 
 -- what is answered where nothing changes
 abbrev pub shown : List ℕ → Deed
-shown bytes = does effect.Nothing change.Nothing (r.Read bytes)
+shown bytes = does effect.Nothing [] (r.Read bytes)
 
 -- ---- directories
 
@@ -53,7 +52,7 @@ first_record (s ∷ stats) = Some (record_of s)
 
 abbrev pub goes_on : ℕ → Fid → ℕ → ℕ → List Stat → Deed
 goes_on number fid offset skip part =
-    does (effect.Puts number (placed fid (offset + length (records part)) (skip + length part))) change.Nothing (r.Read (records part))
+    does (effect.Puts number (placed fid (offset + length (records part)) (skip + length part))) [] (r.Read (records part))
 
 abbrev pub read_dir : World → ℕ → Fid → ℕ → ℕ → Option ℕ → Result Deed Refusal
 read_dir world number fid offset count None = Err refusal.BadDirectoryOffset
@@ -65,7 +64,7 @@ read_dir world number fid offset count (Some skip) = Ok (goes_on number fid offs
 abbrev pub read_opening : ℕ → ℕ → Option ℕ → Result Deed Refusal
 read_opening number count None = Err refusal.FidIsNotOpen
 read_opening number count (Some opening) =
-    Ok (record { effect = effect.Nothing; events = events.Nothing; change = change.Nothing; answer = Reads number opening count })
+    Ok (record { effect = effect.Nothing; events = events.Nothing; changes = []; answer = Reads number opening count })
 
 -- ---- Tread
 
@@ -115,4 +114,4 @@ read_deed tables world windows conn number offset count =
 abbrev pub stat_fid : World → Option Fid → Result Deed Refusal
 stat_fid world None = Err refusal.UnknownFid
 stat_fid world (Some fid) =
-    if is_live world fid.node then Ok (does effect.Nothing change.Nothing (r.Stat (record_of (stat_of world fid.node)))) else Err refusal.WindowDeleted
+    if is_live world fid.node then Ok (does effect.Nothing [] (r.Stat (record_of (stat_of world fid.node)))) else Err refusal.WindowDeleted

@@ -1,7 +1,6 @@
 -- Named refusals: their texts, and what a message that may be refused does.
-use Rattle.std.specs.Prelude.{◌≡◌, ℕ, List, codes, Result, Ok, Err}
+use Rattle.std.specs.Prelude.{[], ◌≡◌, ℕ, List, codes, Result, Ok, Err}
 use Rattle.ninep_types.specs.declared.message.RBody.TheVariants as r
-use Rattle.core_windows.specs.declared.change.Change.TheVariants as change
 use Rattle.core_answers.specs.declared.effect.Effect.{Effect}
 use Rattle.core_answers.specs.declared.effect.Effect.TheVariants as effect
 use Rattle.core_answers.specs.declared.effect.Deed.{Deed}
@@ -45,7 +44,7 @@ refusal_text refusal.NotServedYet = codes "not served yet"
 
 -- the deed of a refusal: its text is answered, and nothing changes but what is said here
 abbrev pub refused_with : Effect → Refusal → Deed
-refused_with f refusal = does f change.Nothing (r.Error (refusal_text refusal))
+refused_with f refusal = does f [] (r.Error (refusal_text refusal))
 
 abbrev pub refused : Refusal → Deed
 refused refusal = refused_with effect.Nothing refusal

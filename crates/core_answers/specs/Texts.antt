@@ -8,6 +8,7 @@ use Rattle.win_ctl.specs.declared.tags.Shown.{Shown}
 use Rattle.win_ctl.specs.Tags.{tag_text}
 use Rattle.win_ctl.specs.Columns.{ctl_text, index_line}
 use Rattle.core_windows.specs.Windows.{Window, window_at}
+use Rattle.core_windows.specs.Possible.{text_in}
 
 -- the bytes that a read gives: from the offset, at most count
 abbrev pub part_at : List ℕ → ℕ → ℕ → List ℕ
@@ -54,8 +55,7 @@ index_from w (Some window ∷ ws) = line_of w window ++ index_from (w + 1) ws
 -- ---- by the number of a window; none is shown where it doesn't live
 
 abbrev pub text_of : Option Window → List ℕ
-text_of None = []
-text_of (Some window) = window.body.text
+text_of window = text_in window
 
 abbrev pub right_of : Option Window → List ℕ
 right_of None = []

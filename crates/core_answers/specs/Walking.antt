@@ -61,10 +61,10 @@ walk_refusal tables conn number newfid fid =
 -- Where all names are found, the number names the last node. Where the first isn't, the walk is refused; where a later one
 -- isn't, the qids before it are answered, and the number is as it was.
 abbrev pub arrives_at : ℕ → World → List Qid → WalkEnd → Result Deed Refusal
-arrives_at newfid world qids (end.At node) = Ok (does (effect.Puts newfid (fresh node)) change.Nothing (r.Walk qids))
-arrives_at newfid world qids (end.Makes file) = Ok (does (effect.Puts newfid (fresh (File world.next file))) (change.Makes [] []) (r.Walk qids))
+arrives_at newfid world qids (end.At node) = Ok (does (effect.Puts newfid (fresh node)) [] (r.Walk qids))
+arrives_at newfid world qids (end.Makes file) = Ok (does (effect.Puts newfid (fresh (File world.next file))) (change.Makes [] ∷ []) (r.Walk qids))
 arrives_at newfid world qids (end.Stops refusal) =
-    if length qids == 0 then Err refusal else Ok (does effect.Nothing change.Nothing (r.Walk qids))
+    if length qids == 0 then Err refusal else Ok (does effect.Nothing [] (r.Walk qids))
 
 abbrev pub arrives : ℕ → World → Trail → Result Deed Refusal
 arrives newfid world trail = arrives_at newfid world trail.qids trail.end

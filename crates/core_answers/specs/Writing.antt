@@ -1,5 +1,5 @@
 -- Twrite.
-use Rattle.std.specs.Prelude.{ℕ, List, ◌++◌, length, Option, Some, None, Result, Ok, Err, if◌then◌else◌}
+use Rattle.std.specs.Prelude.{is_some, ℕ, List, [], ◌∷◌, ◌++◌, length, Option, Some, None, Result, Ok, Err, if◌then◌else◌}
 use Rattle.am_text.specs.Lines.{lines_of}
 use Rattle.am_text.specs.Part.{part_bytes, part_of}
 use Rattle.am_text.specs.Pieces.{Decoded, decode_part}
@@ -22,28 +22,32 @@ use Rattle.core_answers.specs.declared.control.Controls.{Controls}
 use Rattle.core_answers.specs.Addressing.{addr_deed, taking_deed}
 use Rattle.core_answers.specs.Contents.{content_of}
 use Rattle.core_answers.specs.Controls.{controls}
-use Rattle.core_answers.specs.Erring.{fits_in, fits_tag, appends, errors_of, root_errors, errors_change, errors_refusal}
+use Rattle.core_answers.specs.Erring.{fits_in, fits_tag, appends, errors_of, root_errors, errors_changes, errors_refusal}
 use Rattle.core_answers.specs.Fids.{is_for_writing, holding}
 use Rattle.core_answers.specs.Reading.{use_refusal, or_reads}
 use Rattle.core_answers.specs.Refusals.{refusal_text}
 use Rattle.core_answers.specs.Texts.{text_at, right_of, name_of, modified_of}
 
 -- the whole count is answered
-abbrev pub written : Change → ℕ → Fid → ℕ → Deed
-written c number fid count = does (effect.Puts number fid) c (r.Write count)
+abbrev pub written : List Change → ℕ → Fid → ℕ → Deed
+written changes number fid count = does (effect.Puts number fid) changes (r.Write count)
+
+-- what is done where the window lives
+abbrev pub if_lives : Option Window → Result Deed Refusal → Result Deed Refusal
+if_lives window done = if is_some window then done else Err refusal.WindowDeleted
 
 -- ---- texts: whole runes are put at the end, and the bytes of an unfinished one are held for the fid
 
 abbrev pub append_deed : List (Option Window) → ℕ → Fid → ℕ → ℕ → Decoded → Result Deed Refusal
-append_deed windows number fid w count decoded = if fits_in (text_at windows w) decoded.text
+append_deed windows number fid w count decoded = if_lives (window_at windows w) (if fits_in (text_at windows w) decoded.text
     then Ok (written (appends windows w decoded.text) number (holding fid (part_of decoded.rest)) count)
-    else Err refusal.TextTooLong
+    else Err refusal.TextTooLong)
 
 -- the right part of the tag alone can be written
 abbrev pub add_deed : List (Option Window) → ℕ → Fid → ℕ → ℕ → Decoded → Result Deed Refusal
-add_deed windows number fid w count decoded = if fits_tag (right_of (window_at windows w)) decoded.text
-    then Ok (written (change.Adds w decoded.text) number (holding fid (part_of decoded.rest)) count)
-    else Err refusal.TextTooLong
+add_deed windows number fid w count decoded = if_lives (window_at windows w) (if fits_tag (right_of (window_at windows w)) decoded.text
+    then Ok (written (change.Adds w decoded.text ∷ []) number (holding fid (part_of decoded.rest)) count)
+    else Err refusal.TextTooLong)
 
 abbrev pub or_errors : Option Refusal → Deed → Result Deed Refusal
 or_errors None deed = Ok deed
@@ -53,7 +57,7 @@ or_errors (Some refusal) deed = Err refusal
 abbrev pub errors_deed : List (Option Window) → ℕ → Fid → List ℕ → ℕ → Decoded → Result Deed Refusal
 errors_deed windows number fid name count decoded =
     or_errors (errors_refusal windows (named windows name) decoded.text)
-    (written (errors_change windows name (named windows name) decoded.text) number (holding fid (part_of decoded.rest)) count)
+    (written (errors_changes windows name (named windows name) decoded.text) number (holding fid (part_of decoded.rest)) count)
 
 -- ---- control messages
 
@@ -62,11 +66,11 @@ control_answer None count = r.Write count
 control_answer (Some refusal) count = r.Error (refusal_text refusal)
 
 -- what was done before a refusal stays done
-abbrev pub control_deed : ℕ → ℕ → Controls → Deed
-control_deed w count controls = does effect.Nothing (change.Controls w controls.settings controls.deletes) (control_answer controls.refusal count)
+abbrev pub control_deed : ℕ → Controls → Deed
+control_deed count controls = does effect.Nothing controls.changes (control_answer controls.refusal count)
 
-abbrev pub ctl_deed : ℕ → List ℕ → Option Window → Deed
-ctl_deed w bytes window = control_deed w (length bytes) (controls (lines_of bytes) (name_of window) (modified_of window))
+abbrev pub ctl_deed : ℕ → List ℕ → Option Window → Result Deed Refusal
+ctl_deed w bytes window = if_lives window (Ok (control_deed (length bytes) (controls w (lines_of bytes) (name_of window) (modified_of window))))
 
 -- ---- all files
 
@@ -75,7 +79,7 @@ abbrev pub write_content : List (Option Window) → ℕ → Fid → List ℕ →
 write_content windows number fid bytes content.Directory = Err refusal.PermissionDenied
 write_content windows number fid bytes (content.BodyText w) = append_deed windows number fid w (length bytes) (decode_part (part_bytes fid.part ++ bytes))
 write_content windows number fid bytes (content.TagText w) = add_deed windows number fid w (length bytes) (decode_part (part_bytes fid.part ++ bytes))
-write_content windows number fid bytes (content.CtlText w) = Ok (ctl_deed w bytes (window_at windows w))
+write_content windows number fid bytes (content.CtlText w) = ctl_deed w bytes (window_at windows w)
 write_content windows number fid bytes (content.AddrText w) = addr_deed w bytes (window_at windows w)
 write_content windows number fid bytes (content.DataOf w) = taking_deed w bytes (window_at windows w)
 write_content windows number fid bytes (content.XdataOf w) = taking_deed w bytes (window_at windows w)
@@ -84,7 +88,7 @@ write_content windows number fid bytes (content.ErrorsOf w) =
     errors_deed windows number fid (errors_of (window_at windows w)) (length bytes) (decode_part (part_bytes fid.part ++ bytes))
 write_content windows number fid bytes content.ConsErrors =
     errors_deed windows number fid root_errors (length bytes) (decode_part (part_bytes fid.part ++ bytes))
-write_content windows number fid bytes content.Empty = Ok (does effect.Nothing change.Nothing (r.Write (length bytes)))
+write_content windows number fid bytes content.Empty = Ok (does effect.Nothing [] (r.Write (length bytes)))
 write_content windows number fid bytes (content.EventsOf w) = Err refusal.NotServedYet
 write_content windows number fid bytes content.Unserved = Err refusal.NotServedYet
 

@@ -1,9 +1,10 @@
 //! What is read and written by a window's address: the files `addr`, `data` and `xdata`, after acme(4).
 
 ghost use Rattle.std.specs.Prelude.{◌≡◌, ◌+◌, ◌<◌, ◌^◌, IfOk, IfErr, Ok, None, Some, length};
-ghost use Rattle.core_windows.specs.Possible.{IsPossible};
+ghost use Rattle.core_windows.specs.Panes.{window_of};
 ghost use Rattle.core_windows.specs.Windows.{window_at};
-ghost use Rattle.core_answers.specs.Addressing.{sets_addr, addr_text, gives, data_deed, xdata_deed, fault_of, addr_deed, taking_deed};
+ghost use Rattle.win_text.specs.Bodies.{IsInside};
+ghost use Rattle.core_answers.specs.Addressing.{sets_addr, edits_with_addr, addr_text, gives, data_deed, xdata_deed, fault_of, addr_deed, taking_deed};
 ghost use Rattle.core_answers.specs.Done.{IsDone};
 ghost use Rattle.core_answers.specs.Refusals.{Gives};
 
@@ -14,25 +15,41 @@ use am_text::{Bytes, Items, NoMemory, Range};
 use core_addresses::{
     Given, RangeFault, Taken, addressed, data_given, data_taken, range_text, xdata_given,
 };
-use core_windows::{Change, Setting, Windows};
+use core_windows::{Change, Changes, Edits, Pane, Setting, Windows};
 use ninep_types::RBody;
 use std::alloc::Global;
 
-fn sets_addr(alloc: Global, window: u32, range: Range) -> Result<Change, NoMemory>
-    ensures { IfOk result (λ change. change ≡ sets_addr window range) }
+fn sets_addr(alloc: Global, window: u32, range: Range) -> Result<Changes, NoMemory>
+    ensures { IfOk result (λ changes. changes ≡ sets_addr window range) }
 {
-    let mut settings = Items::new(alloc);
-    settings.push(Setting::Addr(range))?;
-    Ok(Change::Controls {
+    let mut changes = Items::new(alloc);
+    changes.push(Change::Sets {
         window,
-        settings,
-        deletes: false,
-    })
+        setting: Setting::Addr(range),
+    })?;
+    Ok(changes)
+}
+
+fn edits_with_addr(
+    alloc: Global,
+    window: u32,
+    edits: Edits,
+    range: Range,
+) -> Result<Changes, NoMemory>
+    ensures { IfOk result (λ changes. changes ≡ edits_with_addr window edits range) }
+{
+    let mut changes = Items::new(alloc);
+    changes.push(Change::Edits { window, edits })?;
+    changes.push(Change::Sets {
+        window,
+        setting: Setting::Addr(range),
+    })?;
+    Ok(changes)
 }
 
 /// What a read of `addr` shows; nothing where the window doesn't live.
 pub(crate) fn addr_text(alloc: Global, windows: &Windows, window: u32) -> Result<Bytes, NoMemory>
-    ensures { IfOk result (λ text. text ≡ addr_text (window_at windows.now.windows window)) }
+    ensures { IfOk result (λ text. text ≡ addr_text (window_at windows.now.present window)) }
 {
     match windows.get(window) {
         Some(pane) => range_text(alloc, pane.body.addr()),
@@ -41,16 +58,23 @@ pub(crate) fn addr_text(alloc: Global, windows: &Windows, window: u32) -> Result
 }
 
 // What is given is answered, and the address is set.
-#[tactic(auto, using(crate::proofs::Answers::sent))]
-fn give(alloc: Global, windows: &Windows, window: u32, given: Given) -> Result<Deed, NoMemory>
+#[tactic(auto, using(crate::proofs::Possibly::addressing))]
+fn give(
+    alloc: Global,
+    windows: &Windows,
+    window: u32,
+    pane: &Pane,
+    given: Given,
+) -> Result<Deed, NoMemory>
     requires size { length given.bytes + 11 < 2 ^ 32 }
-    requires possible { IsPossible windows.now.windows (sets_addr window given.addr) }
+    requires there { window_at windows.now.present window ≡ Some (window_of pane.now) }
+    requires inside { IsInside pane.now.body.state.text given.addr }
     ensures exact { IfOk result (λ d. d ≡ gives window given) }
-    ensures done { IfOk result (IsDone windows.now.windows) }
+    ensures done { IfOk result (IsDone windows.now.present) }
 {
     let Given { bytes, addr } = given;
-    let change = sets_addr(alloc, window, addr)?;
-    Ok(Deed::plain(Effect::Nothing, change, RBody::Read { bytes }))
+    let changes = sets_addr(alloc, window, addr)?;
+    Ok(Deed::plain(Effect::Nothing, changes, RBody::Read { bytes }))
 }
 
 /// What a read of `data` does.
@@ -62,15 +86,15 @@ pub(crate) fn read_data(
     count: u32,
 ) -> Result<Deed, NoMemory>
     requires { count + 11 < 2 ^ 32 }
-    ensures exact { IfOk result (λ d. d ≡ data_deed window count (window_at windows.now.windows window)) }
-    ensures done { IfOk result (IsDone windows.now.windows) }
+    ensures exact { IfOk result (λ d. d ≡ data_deed window count (window_at windows.now.present window)) }
+    ensures done { IfOk result (IsDone windows.now.present) }
 {
     match windows.get(window) {
         Some(pane) => {
             let given = data_given(alloc, &pane.body, count as usize)?;
-            give(alloc, windows, window, given)
+            give(alloc, windows, window, pane, given)
         }
-        None => Ok(show(windows, Items::new(alloc))),
+        None => Ok(show(alloc, windows, Items::new(alloc))),
     }
 }
 
@@ -83,15 +107,15 @@ pub(crate) fn read_xdata(
     count: u32,
 ) -> Result<Deed, NoMemory>
     requires { count + 11 < 2 ^ 32 }
-    ensures exact { IfOk result (λ d. d ≡ xdata_deed window count (window_at windows.now.windows window)) }
-    ensures done { IfOk result (IsDone windows.now.windows) }
+    ensures exact { IfOk result (λ d. d ≡ xdata_deed window count (window_at windows.now.present window)) }
+    ensures done { IfOk result (IsDone windows.now.present) }
 {
     match windows.get(window) {
         Some(pane) => {
             let given = xdata_given(alloc, &pane.body, count as usize)?;
-            give(alloc, windows, window, given)
+            give(alloc, windows, window, pane, given)
         }
-        None => Ok(show(windows, Items::new(alloc))),
+        None => Ok(show(alloc, windows, Items::new(alloc))),
     }
 }
 
@@ -118,9 +142,9 @@ pub(crate) fn write_addr(
     bytes: &[u8],
 ) -> Result<Deed, Fault>
     requires { length bytes.now < 2 ^ 32 }
-    ensures exact { IfOk result (λ d. addr_deed window bytes.now (window_at windows.now.windows window) ≡ Ok d) }
-    ensures refused { IfErr result (λ e. Gives e (addr_deed window bytes.now (window_at windows.now.windows window))) }
-    ensures done { IfOk result (IsDone windows.now.windows) }
+    ensures exact { IfOk result (λ d. addr_deed window bytes.now (window_at windows.now.present window) ≡ Ok d) }
+    ensures refused { IfErr result (λ e. Gives e (addr_deed window bytes.now (window_at windows.now.present window))) }
+    ensures done { IfOk result (IsDone windows.now.present) }
 {
     let Some(pane) = windows.get(window) else {
         return Err(Fault::Refused(Refusal::WindowDeleted));
@@ -147,9 +171,9 @@ pub(crate) fn write_data(
     bytes: &[u8],
 ) -> Result<Deed, Fault>
     requires { length bytes.now < 2 ^ 32 }
-    ensures exact { IfOk result (λ d. taking_deed window bytes.now (window_at windows.now.windows window) ≡ Ok d) }
-    ensures refused { IfErr result (λ e. Gives e (taking_deed window bytes.now (window_at windows.now.windows window))) }
-    ensures done { IfOk result (IsDone windows.now.windows) }
+    ensures exact { IfOk result (λ d. taking_deed window bytes.now (window_at windows.now.present window) ≡ Ok d) }
+    ensures refused { IfErr result (λ e. Gives e (taking_deed window bytes.now (window_at windows.now.present window))) }
+    ensures done { IfOk result (IsDone windows.now.present) }
 {
     let Some(pane) = windows.get(window) else {
         return Err(Fault::Refused(Refusal::WindowDeleted));
@@ -160,12 +184,7 @@ pub(crate) fn write_data(
     };
     Ok(Deed::plain(
         Effect::Nothing,
-        Change::Edits {
-            window,
-            edits,
-            dot: None,
-            addr: Some(addr),
-        },
+        edits_with_addr(alloc, window, edits, addr)?,
         RBody::Write {
             count: bytes.len() as u32,
         },

@@ -16,20 +16,20 @@ use crate::refusal::{Fault, Refusal, refuse};
 use crate::walk::walk;
 use crate::write::write;
 use acme_tree::World;
-use am_text::NoMemory;
-use core_windows::{Change, Windows};
+use am_text::{Items, NoMemory};
+use core_windows::Windows;
 use fid_table::Sessions;
 use ninep_types::{RBody, TBody};
 use std::alloc::Global;
 
-fn flush(windows: &Windows, oldtag: u16) -> Deed
+fn flush(alloc: Global, windows: &Windows, oldtag: u16) -> Deed
     ensures exact { result ≡ flush_deed oldtag }
-    ensures done { IsDone windows.now.windows result }
+    ensures done { IsDone windows.now.present result }
 {
     Deed {
         effect: Effect::Nothing,
         events: EventChange::Cancels { tag: oldtag },
-        change: Change::Nothing,
+        changes: Items::new(alloc),
         answer: Answer::Says(RBody::Flush),
     }
 }
@@ -44,11 +44,11 @@ fn served(
     body: &TBody,
 ) -> Result<Deed, Fault>
     requires fits { BodyFits_t body.now }
-    requires world { world.now ≡ world_of windows.now.windows }
+    requires world { world.now ≡ world_of windows.now.present }
     requires named { All IsName world.now.ports }
-    ensures exact { IfOk result (λ d. served sessions.now.present world.now windows.now.windows openings conn body.now ≡ Ok d) }
-    ensures refused { IfErr result (λ e. Gives e (served sessions.now.present world.now windows.now.windows openings conn body.now)) }
-    ensures done { IfOk result (IsDone windows.now.windows) }
+    ensures exact { IfOk result (λ d. served sessions.now.present world.now windows.now.present openings conn body.now ≡ Ok d) }
+    ensures refused { IfErr result (λ e. Gives e (served sessions.now.present world.now windows.now.present openings conn body.now)) }
+    ensures done { IfOk result (IsDone windows.now.present) }
 {
     match body {
         TBody::Version {
@@ -56,7 +56,7 @@ fn served(
             version: name,
         } => Ok(version(alloc, windows, *msize, name.as_slice())?),
         TBody::Auth { .. } => Err(Fault::Refused(Refusal::AuthenticationNotRequired)),
-        TBody::Flush { oldtag } => Ok(flush(windows, *oldtag)),
+        TBody::Flush { oldtag } => Ok(flush(alloc, windows, *oldtag)),
         TBody::Attach {
             fid,
             afid,
@@ -101,7 +101,7 @@ fn served(
                 bytes.as_slice(),
             )
         }
-        TBody::Clunk { fid } => clunk(sessions, windows, conn, *fid),
+        TBody::Clunk { fid } => clunk(alloc, sessions, windows, conn, *fid),
         TBody::Remove { fid } => remove(alloc, sessions, windows, conn, *fid),
         TBody::Stat { fid } => stat(alloc, sessions, windows, world, conn, *fid),
         TBody::Wstat { fid, .. } => Err(Fault::Refused(deny(sessions, conn, *fid))),
@@ -145,9 +145,9 @@ pub fn deed_of(
     body: &TBody,
 ) -> Result<Deed, NoMemory>
     requires { BodyFits_t body.now }
-    ensures exact { IfOk result (λ d. d ≡ deed sessions.now.present windows.now.windows openings conn body.now) }
+    ensures exact { IfOk result (λ d. d ≡ deed sessions.now.present windows.now.present openings conn body.now) }
     // Its answer has a spelling, and its change of the windows can be made.
-    ensures done { IfOk result (IsDone windows.now.windows) }
+    ensures done { IfOk result (IsDone windows.now.present) }
 {
     if comes_first(sessions, conn, body) {
         return refuse(alloc, windows, Effect::Nothing, Refusal::VersionFirst);

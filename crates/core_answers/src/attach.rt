@@ -10,7 +10,7 @@ use crate::fids::{NOFID, fresh, is_full, is_used};
 use crate::refusal::{Fault, Refusal, refuse};
 use acme_tree::{Node, qid_of};
 use am_text::{Items, NoMemory};
-use core_windows::{Change, Windows};
+use core_windows::Windows;
 use fid_table::Sessions;
 use ninep_types::RBody;
 use std::alloc::Global;
@@ -30,12 +30,12 @@ fn is_version(version: &[u8]) -> bool
 #[tactic(auto, using(crate::proofs::Answers::sent))]
 fn agree(alloc: Global, windows: &Windows, msize: u32, version: &[u8]) -> Result<Deed, NoMemory>
     ensures exact { IfOk result (λ d. d ≡ agreed msize version.now) }
-    ensures done { IfOk result (IsDone windows.now.windows) }
+    ensures done { IfOk result (IsDone windows.now.present) }
 {
     if !is_version(version) {
         return Ok(Deed::plain(
             Effect::Begins { msize: None },
-            Change::Nothing,
+            Items::new(alloc),
             RBody::Version {
                 msize,
                 version: Items::copied(alloc, b"unknown")?,
@@ -44,7 +44,7 @@ fn agree(alloc: Global, windows: &Windows, msize: u32, version: &[u8]) -> Result
     }
     Ok(Deed::plain(
         Effect::Begins { msize: Some(msize) },
-        Change::Nothing,
+        Items::new(alloc),
         RBody::Version {
             msize,
             version: Items::copied(alloc, b"9P2000")?,
@@ -60,7 +60,7 @@ pub(crate) fn version(
     version: &[u8],
 ) -> Result<Deed, NoMemory>
     ensures exact { IfOk result (λ d. d ≡ version_deed msize version.now) }
-    ensures done { IfOk result (IsDone windows.now.windows) }
+    ensures done { IfOk result (IsDone windows.now.present) }
 {
     if msize < MIN_MSIZE {
         return refuse(
@@ -125,7 +125,7 @@ pub(crate) fn attach(
 ) -> Result<Deed, Fault>
     ensures exact { IfOk result (λ d. attach_deed sessions.now.present conn fid afid aname.now ≡ Ok d) }
     ensures refused { IfErr result (λ e. Gives e (attach_deed sessions.now.present conn fid afid aname.now)) }
-    ensures done { IfOk result (IsDone windows.now.windows) }
+    ensures done { IfOk result (IsDone windows.now.present) }
 {
     if let Some(refusal) = attach_refusal(sessions, conn, fid, afid, aname) {
         return Err(Fault::Refused(refusal));
@@ -135,7 +135,7 @@ pub(crate) fn attach(
             number: fid,
             fid: fresh(alloc, Node::Root),
         },
-        Change::Nothing,
+        Items::new(alloc),
         RBody::Attach {
             qid: qid_of(Node::Root),
         },

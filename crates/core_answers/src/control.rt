@@ -1,15 +1,16 @@
 //! Control messages, after acme(4).
 
-ghost use Rattle.std.specs.Prelude.{◌≡◌, IfOk, length};
+ghost use Rattle.std.specs.Prelude.{◌≡◌, List, Option, IsSome, IfOk, length};
 ghost use Rattle.am_text.specs.Lines.{lines_of};
 ghost use Rattle.win_ctl.specs.Messages.{ctl_of};
 ghost use Rattle.core_answers.specs.Controls.{is_guarded, del_told, msg_told, line_told, name_after, modified_after, controls};
-ghost use Rattle.core_answers.specs.Plain.{ArePlain};
+ghost use Rattle.core_answers.specs.Done.{CanBeMade};
+ghost use Rattle.core_windows.specs.Windows.{Window, window_at};
 ghost use Rattle.core_answers.specs.Texts.{is_dir_name};
 
 use crate::refusal::Refusal;
 use am_text::{Items, NoMemory, Rune, Runes, split_line};
-use core_windows::{Setting, Settings};
+use core_windows::{Change, Changes, Setting};
 use std::alloc::Global;
 use win_ctl::{CtlFault, CtlMsg, parse_ctl};
 
@@ -29,12 +30,10 @@ pub enum Told {
     Refused(Refusal),
 }
 
-/// What a write to `ctl` does: the parts of the window that it sets, in order, whether it then deletes the window, and
-/// why its last message is refused, if it is.
+/// What a write to `ctl` does: the changes of the window, in order, and why its last message is refused, if it is.
 #[derive(Drop)]
 pub struct Controls {
-    pub settings: Settings,
-    pub deletes: bool,
+    pub changes: Changes,
     pub refusal: Option<Refusal>,
 }
 
@@ -114,27 +113,24 @@ fn modified_after(modified: bool, setting: &Setting) -> bool
     }
 }
 
-fn ended(settings: Settings, deletes: bool, refusal: Option<Refusal>) -> Controls
-    ensures { result ≡ record { settings = settings; deletes = deletes; refusal = refusal } }
+fn ended(changes: Changes, refusal: Option<Refusal>) -> Controls
+    ensures { result ≡ record { changes = changes; refusal = refusal } }
 {
-    Controls {
-        settings,
-        deletes,
-        refusal,
-    }
+    Controls { changes, refusal }
 }
 
 // What the messages of these lines do.
 #[tactic(auto, unfolding(crate::specs::Controls::controls), using(crate::proofs::Controlled::controlled))]
 fn each_line(
     alloc: Global,
+    window: u32,
     bytes: &[u8],
     name: &[Rune],
     modified: bool,
 ) -> Result<Controls, NoMemory>
-    ensures { IfOk result (λ c. c ≡ controls (lines_of bytes.now) name.now modified) }
+    ensures { IfOk result (λ c. c ≡ controls window (lines_of bytes.now) name.now modified) }
 {
-    let mut settings = Items::new(alloc);
+    let mut changes = Items::new(alloc);
     let mut name = Runes::copied(alloc, name)?;
     let mut modified = modified;
     let mut rest = bytes;
@@ -146,27 +142,30 @@ fn each_line(
             Told::Sets(setting) => {
                 name = name_after(alloc, name, &setting)?;
                 modified = modified_after(modified, &setting);
-                settings.push(setting)?;
+                changes.push(Change::Sets { window, setting })?;
             }
-            Told::Deletes => return Ok(ended(settings, true, None)),
-            Told::Refused(refusal) => return Ok(ended(settings, false, Some(refusal))),
+            Told::Deletes => {
+                changes.push(Change::Deletes { window })?;
+                return Ok(ended(changes, None));
+            }
+            Told::Refused(refusal) => return Ok(ended(changes, Some(refusal))),
         }
     }
-    Ok(ended(settings, false, None))
+    Ok(ended(changes, None))
 }
 
-/// What the messages of a write to `ctl` do to a window of this name, modified or not.
-#[tactic(auto, using(crate::proofs::Controlled::plain_of))]
+/// What the messages of a write to `ctl` do to the window of that number, of this name, modified or not.
+#[tactic(auto, using(crate::proofs::Controlled::can_of))]
 pub(crate) fn controls_of(
     alloc: Global,
+    window: u32,
     bytes: &[u8],
     name: &[Rune],
     modified: bool,
 ) -> Result<Controls, NoMemory>
-    ensures exact { IfOk result (λ c. c ≡ controls (lines_of bytes.now) name.now modified) }
-    // None of them sets dot to a range of its own.
-    ensures plain { IfOk result (λ c. ArePlain c.settings) }
+    ensures exact { IfOk result (λ c. c ≡ controls window (lines_of bytes.now) name.now modified) }
+    ensures possible { IfOk result (λ c. (windows : List (Option Window)) → IsSome (window_at windows window) → CanBeMade windows c.changes) }
 {
-    let controls = each_line(alloc, bytes, name, modified)?;
+    let controls = each_line(alloc, window, bytes, name, modified)?;
     Ok(controls)
 }

@@ -3,7 +3,7 @@
 ghost use Rattle.std.specs.Prelude.{◌≡◌};
 ghost use Rattle.core_answers.specs.Plainly.{does};
 
-use core_windows::Change;
+use core_windows::Changes;
 use fid_table::Fid;
 use ninep_types::RBody;
 
@@ -46,19 +46,19 @@ pub enum Answer {
 pub struct Deed {
     pub effect: Effect,
     pub events: EventChange,
-    pub change: Change,
+    pub changes: Changes,
     pub answer: Answer,
 }
 
 impl Deed {
     /// What a message does that has nothing to do with event files, and is answered at once.
-    pub(crate) fn plain(effect: Effect, change: Change, body: RBody) -> Deed
-        ensures { result ≡ does effect change body }
+    pub(crate) fn plain(effect: Effect, changes: Changes, body: RBody) -> Deed
+        ensures { result ≡ does effect changes body }
     {
         Deed {
             effect,
             events: EventChange::Nothing,
-            change,
+            changes,
             answer: Answer::Says(body),
         }
     }

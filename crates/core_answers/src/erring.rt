@@ -1,16 +1,17 @@
 //! Texts for windows: what is put at the end of a body, and what is written to `errors` and `cons`, after acme(4).
 
-ghost use Rattle.std.specs.Prelude.{◌≡◌, ◌+◌, ◌++◌, ◌<◌, ◌≤◌, ◌^◌, ◌==◌, nat_le, [], ◌∷◌, if◌then◌else◌, IfOk, length, None};
-ghost use Rattle.core_windows.specs.Possible.{IsPossible};
-ghost use Rattle.core_windows.specs.Windows.{window_at, named};
-ghost use Rattle.core_answers.specs.Erring.{fits_in, fits_tag, edits_at_end, appends, errors_name, errors_of, root_errors, errors_change, long_refusal, errors_refusal};
+ghost use Rattle.std.specs.Prelude.{◌≡◌, ◌+◌, ◌++◌, ◌<◌, ◌≤◌, ◌^◌, ◌==◌, nat_le, [], ◌∷◌, if◌then◌else◌, false, is_some, IsSome, IfSome, IfOk, length, None};
+ghost use Rattle.acme_tree.specs.Trees.{is_full};
+ghost use Rattle.core_answers.specs.Done.{CanBeMade};
+ghost use Rattle.core_windows.specs.Windows.{window_at, world_of};
+ghost use Rattle.core_answers.specs.Erring.{fits_in, fits_tag, edits_at_end, appends, errors_name, errors_of, root_errors, errors_changes, long_refusal, errors_refusal};
 ghost use Rattle.core_answers.specs.Texts.{text_at, right_of, name_of, text_of};
 
 use crate::control::ERRORS;
 use crate::refusal::Refusal;
 use acme_tree::is_full;
 use am_text::{Items, Letters, NoMemory, Rune, Runes};
-use core_windows::{Change, Edit, Edits, Windows};
+use core_windows::{Change, Changes, Edit, Edits, Windows};
 use std::alloc::Global;
 use win_ctl::directory;
 
@@ -20,9 +21,16 @@ const RUNES: usize = 16777216;
 /// The most runes that the right part of a tag may have.
 const TAG_RUNES: usize = 65536;
 
+/// Whether the window of that number lives.
+pub(crate) fn lives(windows: &Windows, window: u32) -> bool
+    ensures { result ≡ is_some (window_at windows.now.present window) }
+{
+    windows.get(window).is_some()
+}
+
 /// How many runes the body of a window has; none where it doesn't live.
 pub(crate) fn body_len(windows: &Windows, window: u32) -> usize
-    ensures { result ≡ length (text_at windows.now.windows window) }
+    ensures { result ≡ length (text_at windows.now.present window) }
 {
     match windows.get(window) {
         Some(pane) => pane.body.len(),
@@ -31,7 +39,7 @@ pub(crate) fn body_len(windows: &Windows, window: u32) -> usize
 }
 
 fn right_len(windows: &Windows, window: u32) -> usize
-    ensures { result ≡ length (right_of (window_at windows.now.windows window)) }
+    ensures { result ≡ length (right_of (window_at windows.now.present window)) }
 {
     match windows.get(window) {
         Some(pane) => pane.right.len(),
@@ -48,14 +56,14 @@ fn fits(len: usize, more: usize, most: usize) -> bool
 
 /// Whether the body of a window has room for a text.
 pub(crate) fn fits_body(windows: &Windows, window: u32, text: &[Rune]) -> bool
-    ensures { result ≡ fits_in (text_at windows.now.windows window) text.now }
+    ensures { result ≡ fits_in (text_at windows.now.present window) text.now }
 {
     fits(body_len(windows, window), text.len(), RUNES)
 }
 
 /// Whether the right part of a window's tag has room for a text.
 pub(crate) fn fits_tag(windows: &Windows, window: u32, text: &[Rune]) -> bool
-    ensures { result ≡ fits_tag (right_of (window_at windows.now.windows window)) text.now }
+    ensures { result ≡ fits_tag (right_of (window_at windows.now.present window)) text.now }
 {
     fits(right_len(windows, window), text.len(), TAG_RUNES)
 }
@@ -74,28 +82,29 @@ fn edits_at(alloc: Global, place: usize, text: Runes) -> Result<Edits, NoMemory>
     Ok(edits)
 }
 
-/// The change that puts a text at the end of a window's body.
+/// The change that puts a text at the end of the body of a window that lives.
 #[tactic(auto, using(crate::proofs::Possibly::possibly))]
-pub(crate) fn append_change(
+pub(crate) fn append_changes(
     alloc: Global,
     windows: &Windows,
     window: u32,
     text: Runes,
-) -> Result<Change, NoMemory>
-    ensures exact { IfOk result (λ change. change ≡ appends windows.now.windows window text) }
-    ensures possible { IfOk result (IsPossible windows.now.windows) }
+) -> Result<Changes, NoMemory>
+    requires { IsSome (window_at windows.now.present window) }
+    ensures exact { IfOk result (λ changes. changes ≡ appends windows.now.present window text) }
+    ensures possible { IfOk result (CanBeMade windows.now.present) }
 {
-    Ok(Change::Edits {
+    let mut changes = Items::new(alloc);
+    changes.push(Change::Edits {
         window,
         edits: edits_at(alloc, body_len(windows, window), text)?,
-        dot: None,
-        addr: None,
-    })
+    })?;
+    Ok(changes)
 }
 
 /// The name of the errors window of a window's directory.
 pub(crate) fn errors_of(alloc: Global, windows: &Windows, window: u32) -> Result<Runes, NoMemory>
-    ensures { IfOk result (λ name. name ≡ errors_of (window_at windows.now.windows window)) }
+    ensures { IfOk result (λ name. name ≡ errors_of (window_at windows.now.present window)) }
 {
     let mut name = match windows.get(window) {
         Some(pane) => directory(alloc, pane.name.as_slice())?,
@@ -120,7 +129,7 @@ pub(crate) fn errors_refusal(
     window: Option<u32>,
     text: &[Rune],
 ) -> Option<Refusal>
-    ensures { result ≡ errors_refusal windows.now.windows window text.now }
+    ensures { result ≡ errors_refusal windows.now.present window text.now }
 {
     match window {
         None if is_full(windows.world()) => Some(Refusal::TooManyWindows),
@@ -131,21 +140,55 @@ pub(crate) fn errors_refusal(
     }
 }
 
-/// The change that puts a text into the errors window of that name, which is made where there is none.
+fn new_changes(
+    alloc: Global,
+    windows: &Windows,
+    name: Runes,
+    text: Runes,
+) -> Result<Changes, NoMemory>
+    ensures { IfOk result (λ changes. changes ≡ errors_changes windows.now.present name None text) }
+{
+    let mut changes = Items::new(alloc);
+    changes.push(Change::Makes { name })?;
+    changes.push(Change::Edits {
+        window: windows.world().next,
+        edits: edits_at(alloc, 0, text)?,
+    })?;
+    Ok(changes)
+}
+
+// The changes that make a window of this name, and put a text into it.
 #[tactic(auto, using(crate::proofs::Possibly::possibly))]
-pub(crate) fn errors_change(
+fn make_changes(
+    alloc: Global,
+    windows: &Windows,
+    name: Runes,
+    text: Runes,
+) -> Result<Changes, NoMemory>
+    requires { is_full (world_of windows.now.present) ≡ false }
+    ensures exact { IfOk result (λ changes. changes ≡ errors_changes windows.now.present name None text) }
+    ensures possible { IfOk result (CanBeMade windows.now.present) }
+{
+    let changes = new_changes(alloc, windows, name, text)?;
+    Ok(changes)
+}
+
+/// The changes that put a text into the errors window of that name, which is made where there is none.
+#[tactic(auto, using(crate::proofs::Possibly::possibly))]
+pub(crate) fn errors_changes(
     alloc: Global,
     windows: &Windows,
     name: Runes,
     window: Option<u32>,
     text: Runes,
-) -> Result<Change, NoMemory>
-    requires { errors_refusal windows.now.windows window text ≡ None }
-    ensures exact { IfOk result (λ change. change ≡ errors_change windows.now.windows name window text) }
-    ensures possible { IfOk result (IsPossible windows.now.windows) }
+) -> Result<Changes, NoMemory>
+    requires allowed { errors_refusal windows.now.present window text ≡ None }
+    requires lives { IfSome window (λ w. IsSome (window_at windows.now.present w)) }
+    ensures exact { IfOk result (λ changes. changes ≡ errors_changes windows.now.present name window text) }
+    ensures possible { IfOk result (CanBeMade windows.now.present) }
 {
     match window {
-        Some(window) => append_change(alloc, windows, window, text),
-        None => Ok(Change::Makes { name, text }),
+        Some(window) => append_changes(alloc, windows, window, text),
+        None => make_changes(alloc, windows, name, text),
     }
 }

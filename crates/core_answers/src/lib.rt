@@ -20,7 +20,7 @@ mod write;
 
 pub use am_text::{Bytes, Items, NoMemory, Rune, Runes};
 pub use answer::deed_of;
-pub use core_windows::{Change, Windows};
+pub use core_windows::{Change, Changes, Windows};
 pub use effect::{Answer, Deed, Effect, EventChange};
 pub use fids::copy;
 pub use laws::messages_are_answered;

@@ -5,10 +5,10 @@ ghost use Rattle.std.specs.List.{list_any};
 ghost use Rattle.std.specs.Option.{option_map};
 ghost use Rattle.std.specs.Prelude.{slice_get};
 ghost use Rattle.fid_table.specs.Tables.{fid_of, fids_of};
-ghost use Rattle.core_windows.specs.Possible.{IsPossible};
+ghost use Rattle.core_windows.specs.Windows.{world_of};
 ghost use Rattle.core_answers.specs.Refusals.{Gives};
 ghost use Rattle.core_answers.specs.Done.{IsDone};
-ghost use Rattle.core_answers.specs.Opening.{mode_refusal, opening_refusal, content_refusal, opening_events, opening_of, first_refusal, open_refusal, is_file_of, has_open, or_false, open_below, sets_first, clears_limit, resets_addr, opening_change, open_deed, denied, clunk_fid, remove_fid};
+ghost use Rattle.core_answers.specs.Opening.{mode_refusal, opening_refusal, content_refusal, opening_events, opening_of, first_refusal, open_refusal, is_file_of, has_open, or_false, open_below, sets_first, clears_limit, resets_addr, opening_changes, open_deed, denied, clunk_fid, remove_fid};
 
 use crate::content::{Content, content_of};
 use crate::effect::{Answer, Deed, Effect, EventChange};
@@ -16,7 +16,7 @@ use crate::fids::{is_open, opened};
 use crate::refusal::{Fault, Refusal, refuse};
 use acme_tree::{May, Node, WinFile, World, is_live, may_open, qid_of};
 use am_text::{Items, NoMemory, Range};
-use core_windows::{Change, Setting, Windows};
+use core_windows::{Change, Changes, Setting, Windows};
 use fid_table::{Fid, Sessions};
 use ninep_types::RBody;
 use std::alloc::Global;
@@ -156,58 +156,51 @@ fn sets_first(
     window: u32,
     file: WinFile,
     setting: Setting,
-) -> Result<Change, NoMemory>
-    ensures { IfOk result (λ change. change ≡ sets_first sessions.now.present window file setting) }
+) -> Result<Changes, NoMemory>
+    ensures { IfOk result (λ changes. changes ≡ sets_first sessions.now.present window file setting) }
 {
     if someone_has_open(sessions, window, file) {
-        return Ok(Change::Nothing);
+        return Ok(Items::new(alloc));
     }
-    let mut settings = Items::new(alloc);
-    settings.push(setting)?;
-    Ok(Change::Controls {
-        window,
-        settings,
-        deletes: false,
-    })
+    let mut changes = Items::new(alloc);
+    changes.push(Change::Sets { window, setting })?;
+    Ok(changes)
 }
 
-fn clears_limit(alloc: Global, sessions: &Sessions, window: u32) -> Result<Change, NoMemory>
-    ensures { IfOk result (λ change. change ≡ clears_limit sessions.now.present window) }
+fn clears_limit(alloc: Global, sessions: &Sessions, window: u32) -> Result<Changes, NoMemory>
+    ensures { IfOk result (λ changes. changes ≡ clears_limit sessions.now.present window) }
 {
     sets_first(alloc, sessions, window, WinFile::Ctl, Setting::NoLimit)
 }
 
-fn resets_addr(alloc: Global, sessions: &Sessions, window: u32) -> Result<Change, NoMemory>
-    ensures { IfOk result (λ change. change ≡ resets_addr sessions.now.present window) }
+fn resets_addr(alloc: Global, sessions: &Sessions, window: u32) -> Result<Changes, NoMemory>
+    ensures { IfOk result (λ changes. changes ≡ resets_addr sessions.now.present window) }
 {
     let front = Setting::Addr(Range { q0: 0, q1: 0 });
     sets_first(alloc, sessions, window, WinFile::Addr, front)
 }
 
-#[tactic(auto, using(crate::proofs::Possibly::possibly))]
-fn opening_change(
+fn opening_changes(
     alloc: Global,
     sessions: &Sessions,
-    windows: &Windows,
     content: Content,
-) -> Result<Change, NoMemory>
-    ensures exact { IfOk result (λ change. change ≡ opening_change sessions.now.present content) }
-    ensures possible { IfOk result (IsPossible windows.now.windows) }
+) -> Result<Changes, NoMemory>
+    ensures { IfOk result (λ changes. changes ≡ opening_changes sessions.now.present content) }
 {
     match content {
         Content::CtlText(window) => clears_limit(alloc, sessions, window),
         Content::AddrText(window) => resets_addr(alloc, sessions, window),
-        Content::Directory => Ok(Change::Nothing),
-        Content::BodyText(_) => Ok(Change::Nothing),
-        Content::TagText(_) => Ok(Change::Nothing),
-        Content::DataOf(_) => Ok(Change::Nothing),
-        Content::XdataOf(_) => Ok(Change::Nothing),
-        Content::IndexText => Ok(Change::Nothing),
-        Content::ErrorsOf(_) => Ok(Change::Nothing),
-        Content::ConsErrors => Ok(Change::Nothing),
-        Content::Empty => Ok(Change::Nothing),
-        Content::EventsOf(_) => Ok(Change::Nothing),
-        Content::Unserved => Ok(Change::Nothing),
+        Content::Directory => Ok(Items::new(alloc)),
+        Content::BodyText(_) => Ok(Items::new(alloc)),
+        Content::TagText(_) => Ok(Items::new(alloc)),
+        Content::DataOf(_) => Ok(Items::new(alloc)),
+        Content::XdataOf(_) => Ok(Items::new(alloc)),
+        Content::IndexText => Ok(Items::new(alloc)),
+        Content::ErrorsOf(_) => Ok(Items::new(alloc)),
+        Content::ConsErrors => Ok(Items::new(alloc)),
+        Content::Empty => Ok(Items::new(alloc)),
+        Content::EventsOf(_) => Ok(Items::new(alloc)),
+        Content::Unserved => Ok(Items::new(alloc)),
     }
 }
 
@@ -254,6 +247,7 @@ fn opening_of(openings: usize, content: Content) -> Option<u32>
 }
 
 /// What a Topen does.
+#[tactic(auto, using(crate::proofs::Possibly::opening))]
 pub(crate) fn open(
     alloc: Global,
     sessions: &Sessions,
@@ -264,9 +258,10 @@ pub(crate) fn open(
     number: u32,
     mode: u8,
 ) -> Result<Deed, Fault>
+    requires { world.now ≡ world_of windows.now.present }
     ensures exact { IfOk result (λ d. open_deed sessions.now.present world.now openings conn number mode ≡ Ok d) }
     ensures refused { IfErr result (λ e. Gives e (open_deed sessions.now.present world.now openings conn number mode)) }
-    ensures done { IfOk result (IsDone windows.now.windows) }
+    ensures done { IfOk result (IsDone windows.now.present) }
 {
     let Some(fid) = sessions.fid(conn, number) else {
         return Err(Fault::Refused(Refusal::UnknownFid));
@@ -281,7 +276,7 @@ pub(crate) fn open(
             fid: opened(alloc, fid, mode, opening_of(openings, content))?,
         },
         events: opening_events(content),
-        change: opening_change(alloc, sessions, windows, content)?,
+        changes: opening_changes(alloc, sessions, content)?,
         answer: Answer::Says(RBody::Open {
             qid: qid_of(fid.node),
             iounit: 0,
@@ -302,6 +297,7 @@ pub(crate) fn deny(sessions: &Sessions, conn: u32, number: u32) -> Refusal
 
 /// What a Tclunk does.
 pub(crate) fn clunk(
+    alloc: Global,
     sessions: &Sessions,
     windows: &Windows,
     conn: u32,
@@ -309,12 +305,12 @@ pub(crate) fn clunk(
 ) -> Result<Deed, Fault>
     ensures exact { IfOk result (λ d. clunk_fid number (fid_of sessions.now.present conn number) ≡ Ok d) }
     ensures refused { IfErr result (λ e. Gives e (clunk_fid number (fid_of sessions.now.present conn number))) }
-    ensures done { IfOk result (IsDone windows.now.windows) }
+    ensures done { IfOk result (IsDone windows.now.present) }
 {
     if sessions.fid(conn, number).is_none() {
         return Err(Fault::Refused(Refusal::UnknownFid));
     }
-    Ok(Deed::plain(Effect::Frees { number }, Change::Nothing, RBody::Clunk))
+    Ok(Deed::plain(Effect::Frees { number }, Items::new(alloc), RBody::Clunk))
 }
 
 /// What a Tremove does.
@@ -327,7 +323,7 @@ pub(crate) fn remove(
 ) -> Result<Deed, Fault>
     ensures exact { IfOk result (λ d. remove_fid number (fid_of sessions.now.present conn number) ≡ Ok d) }
     ensures refused { IfErr result (λ e. Gives e (remove_fid number (fid_of sessions.now.present conn number))) }
-    ensures done { IfOk result (IsDone windows.now.windows) }
+    ensures done { IfOk result (IsDone windows.now.present) }
 {
     if sessions.fid(conn, number).is_none() {
         return Err(Fault::Refused(Refusal::UnknownFid));

@@ -19,7 +19,7 @@ use crate::refusal::{Fault, Refusal};
 use crate::texts::{body_part, ctl_if_live, index_text, part_at, tag_if_live};
 use acme_tree::{World, is_live, stat_of};
 use am_text::{Bytes, Items, utf8_slice};
-use core_windows::{Change, Windows};
+use core_windows::Windows;
 use fid_table::{Fid, Sessions};
 use ninep_frame::stat_write;
 use ninep_types::RBody;
@@ -27,12 +27,12 @@ use std::alloc::Global;
 
 /// The deed that answers bytes, and changes nothing.
 #[tactic(auto, using(crate::proofs::Answers::sent))]
-pub(crate) fn show(windows: &Windows, bytes: Bytes) -> Deed
+pub(crate) fn show(alloc: Global, windows: &Windows, bytes: Bytes) -> Deed
     requires { length bytes + 11 < 2 ^ 32 }
     ensures exact { result ≡ shown bytes }
-    ensures done { IsDone windows.now.windows result }
+    ensures done { IsDone windows.now.present result }
 {
-    Deed::plain(Effect::Nothing, Change::Nothing, RBody::Read { bytes })
+    Deed::plain(Effect::Nothing, Items::new(alloc), RBody::Read { bytes })
 }
 
 fn place_at(fid: &Fid, offset: u64) -> Option<usize>
@@ -61,7 +61,7 @@ fn read_dir(
     requires small { count + 11 < 2 ^ 32 }
     ensures exact { IfOk result (λ d. read_dir world.now number fid.now offset count (place_at fid.now offset) ≡ Ok d) }
     ensures refused { IfErr result (λ e. Gives e (read_dir world.now number fid.now offset count (place_at fid.now offset))) }
-    ensures done { IfOk result (IsDone windows.now.windows) }
+    ensures done { IfOk result (IsDone windows.now.present) }
 {
     let Some(skip) = place_at(fid, offset) else {
         return Err(Fault::Refused(Refusal::BadDirectoryOffset));
@@ -70,24 +70,30 @@ fn read_dir(
     let fid = placed(alloc, fid, offset, bytes.len(), skip, given)?;
     Ok(Deed::plain(
         Effect::Puts { number, fid },
-        Change::Nothing,
+        Items::new(alloc),
         RBody::Read { bytes },
     ))
 }
 
 // A read of an event file, which gets what is there for its opening, or waits.
-fn read_opening(windows: &Windows, number: u32, fid: &Fid, count: u32) -> Result<Deed, Fault>
+fn read_opening(
+    alloc: Global,
+    windows: &Windows,
+    number: u32,
+    fid: &Fid,
+    count: u32,
+) -> Result<Deed, Fault>
     requires { count + 11 < 2 ^ 32 }
     ensures exact { IfOk result (λ d. read_opening number count fid.now.opening ≡ Ok d) }
     ensures refused { IfErr result (λ e. Gives e (read_opening number count fid.now.opening)) }
-    ensures done { IfOk result (IsDone windows.now.windows) }
+    ensures done { IfOk result (IsDone windows.now.present) }
 {
     match fid.opening {
         None => Err(Fault::Refused(Refusal::FidIsNotOpen)),
         Some(opening) => Ok(Deed {
             effect: Effect::Nothing,
             events: EventChange::Nothing,
-            change: Change::Nothing,
+            changes: Items::new(alloc),
             answer: Answer::Reads {
                 fid: number,
                 opening,
@@ -109,42 +115,42 @@ fn read_content(
     requires named { All IsName world.now.ports }
     requires live { is_live world.now fid.now.node ≡ true }
     requires small { count + 11 < 2 ^ 32 }
-    ensures exact { IfOk result (λ d. read_content world.now windows.now.windows number fid.now offset count (content_of fid.now.node) ≡ Ok d) }
-    ensures refused { IfErr result (λ e. Gives e (read_content world.now windows.now.windows number fid.now offset count (content_of fid.now.node))) }
-    ensures done { IfOk result (IsDone windows.now.windows) }
+    ensures exact { IfOk result (λ d. read_content world.now windows.now.present number fid.now offset count (content_of fid.now.node) ≡ Ok d) }
+    ensures refused { IfErr result (λ e. Gives e (read_content world.now windows.now.present number fid.now offset count (content_of fid.now.node))) }
+    ensures done { IfOk result (IsDone windows.now.present) }
 {
     match content_of(fid.node) {
         Content::Directory => read_dir(alloc, windows, world, number, fid, offset, count),
         Content::BodyText(window) => {
             let bytes = body_part(alloc, windows, window, offset, count as usize)?;
-            Ok(show(windows, bytes))
+            Ok(show(alloc, windows, bytes))
         }
         Content::TagText(window) => {
             let text = tag_if_live(alloc, windows, window)?;
             let bytes = utf8_slice(alloc, text.as_slice(), offset, count as usize)?;
-            Ok(show(windows, bytes))
+            Ok(show(alloc, windows, bytes))
         }
         Content::CtlText(window) => {
             let text = ctl_if_live(alloc, windows, window)?;
             let bytes = part_at(alloc, text.as_slice(), offset, count as usize)?;
-            Ok(show(windows, bytes))
+            Ok(show(alloc, windows, bytes))
         }
         Content::AddrText(window) => {
             let text = addr_text(alloc, windows, window)?;
             let bytes = part_at(alloc, text.as_slice(), offset, count as usize)?;
-            Ok(show(windows, bytes))
+            Ok(show(alloc, windows, bytes))
         }
         Content::DataOf(window) => Ok(read_data(alloc, windows, window, count)?),
         Content::XdataOf(window) => Ok(read_xdata(alloc, windows, window, count)?),
         Content::IndexText => {
             let text = index_text(alloc, windows)?;
             let bytes = part_at(alloc, text.as_slice(), offset, count as usize)?;
-            Ok(show(windows, bytes))
+            Ok(show(alloc, windows, bytes))
         }
         Content::ErrorsOf(_) => Err(Fault::Refused(Refusal::PermissionDenied)),
-        Content::ConsErrors => Ok(show(windows, Items::new(alloc))),
-        Content::Empty => Ok(show(windows, Items::new(alloc))),
-        Content::EventsOf(_) => read_opening(windows, number, fid, count),
+        Content::ConsErrors => Ok(show(alloc, windows, Items::new(alloc))),
+        Content::Empty => Ok(show(alloc, windows, Items::new(alloc))),
+        Content::EventsOf(_) => read_opening(alloc, windows, number, fid, count),
         Content::Unserved => Err(Fault::Refused(Refusal::NotServedYet)),
     }
 }
@@ -199,9 +205,9 @@ pub(crate) fn read(
     count: u32,
 ) -> Result<Deed, Fault>
     requires { All IsName world.now.ports }
-    ensures exact { IfOk result (λ d. read_deed sessions.now.present world.now windows.now.windows conn number offset count ≡ Ok d) }
-    ensures refused { IfErr result (λ e. Gives e (read_deed sessions.now.present world.now windows.now.windows conn number offset count)) }
-    ensures done { IfOk result (IsDone windows.now.windows) }
+    ensures exact { IfOk result (λ d. read_deed sessions.now.present world.now windows.now.present conn number offset count ≡ Ok d) }
+    ensures refused { IfErr result (λ e. Gives e (read_deed sessions.now.present world.now windows.now.present conn number offset count)) }
+    ensures done { IfOk result (IsDone windows.now.present) }
 {
     let Some(fid) = sessions.fid(conn, number) else {
         return Err(Fault::Refused(Refusal::UnknownFid));
@@ -226,7 +232,7 @@ pub(crate) fn stat(
     requires { All IsName world.now.ports }
     ensures exact { IfOk result (λ d. stat_fid world.now (fid_of sessions.now.present conn number) ≡ Ok d) }
     ensures refused { IfErr result (λ e. Gives e (stat_fid world.now (fid_of sessions.now.present conn number))) }
-    ensures done { IfOk result (IsDone windows.now.windows) }
+    ensures done { IfOk result (IsDone windows.now.present) }
 {
     let Some(fid) = sessions.fid(conn, number) else {
         return Err(Fault::Refused(Refusal::UnknownFid));
@@ -237,7 +243,7 @@ pub(crate) fn stat(
     let stat = stat_of(alloc, world, fid.node)?;
     Ok(Deed::plain(
         Effect::Nothing,
-        Change::Nothing,
+        Items::new(alloc),
         RBody::Stat {
             stat: stat_write(alloc, &stat)?,
         },

@@ -7,7 +7,7 @@ ghost use Rattle.core_answers.specs.declared.refusal.Fault.TheVariants.{NoMemory
 
 use crate::effect::{Deed, Effect};
 use am_text::{Items, NoMemory};
-use core_windows::{Change, Windows};
+use core_windows::Windows;
 use ninep_types::RBody;
 use std::alloc::Global;
 
@@ -150,7 +150,7 @@ pub(crate) fn refuse(
     refusal: Refusal,
 ) -> Result<Deed, NoMemory>
     ensures exact { IfOk result (λ d. d ≡ refused_with effect refusal) }
-    ensures done { IfOk result (IsDone windows.now.windows) }
+    ensures done { IfOk result (IsDone windows.now.present) }
 {
-    Ok(Deed::plain(effect, Change::Nothing, error(alloc, refusal)?))
+    Ok(Deed::plain(effect, Items::new(alloc), error(alloc, refusal)?))
 }

@@ -103,7 +103,7 @@ fn index_of(alloc: Global, panes: &[Option<Pane>], next: u32) -> Result<Bytes, N
 
 /// What `index` shows: a line for each live window.
 pub(crate) fn index_text(alloc: Global, windows: &Windows) -> Result<Bytes, NoMemory>
-    ensures { IfOk result (λ bytes. bytes ≡ index_from 1 windows.now.windows) }
+    ensures { IfOk result (λ bytes. bytes ≡ index_from 1 windows.now.present) }
 {
     index_of(alloc, windows.panes(), windows.world().next)
 }
@@ -128,7 +128,7 @@ pub(crate) fn body_part(
     offset: u64,
     count: usize,
 ) -> Result<Bytes, NoMemory>
-    ensures { IfOk result (λ part. part ≡ read_of (text_at windows.now.windows window) offset count) }
+    ensures { IfOk result (λ part. part ≡ read_of (text_at windows.now.present window) offset count) }
 {
     match windows.get(window) {
         Some(pane) => part_of_body(alloc, &pane.body, offset, count),
@@ -138,7 +138,7 @@ pub(crate) fn body_part(
 
 /// The text of a window's tag, empty where it doesn't live.
 pub(crate) fn tag_if_live(alloc: Global, windows: &Windows, window: u32) -> Result<Runes, NoMemory>
-    ensures { IfOk result (λ text. text ≡ tag_if_live (window_at windows.now.windows window)) }
+    ensures { IfOk result (λ text. text ≡ tag_if_live (window_at windows.now.present window)) }
 {
     match windows.get(window) {
         Some(pane) => whole_tag(alloc, pane),
@@ -148,7 +148,7 @@ pub(crate) fn tag_if_live(alloc: Global, windows: &Windows, window: u32) -> Resu
 
 /// What the `ctl` of a window shows, nothing where it doesn't live.
 pub(crate) fn ctl_if_live(alloc: Global, windows: &Windows, window: u32) -> Result<Bytes, NoMemory>
-    ensures { IfOk result (λ bytes. bytes ≡ ctl_if_live window (window_at windows.now.windows window)) }
+    ensures { IfOk result (λ bytes. bytes ≡ ctl_if_live window (window_at windows.now.present window)) }
 {
     match windows.get(window) {
         Some(pane) => ctl_of(alloc, window, pane),

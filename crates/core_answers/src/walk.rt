@@ -1,6 +1,6 @@
 //! Walks, after walk(5).
 
-ghost use Rattle.std.specs.Prelude.{◌≡◌, ◌≤◌, [], length, IfOk, IfErr, Ok, Err};
+ghost use Rattle.std.specs.Prelude.{◌≡◌, ◌≤◌, [], length, IfOk, IfErr, Ok, Err, ◌∷◌};
 ghost use Rattle.core_answers.specs.Refusals.{Gives};
 ghost use Rattle.core_windows.specs.Windows.{world_of};
 ghost use Rattle.core_windows.specs.declared.change.Change.TheVariants as Change;
@@ -12,7 +12,7 @@ use crate::fids::{NOFID, fresh, is_full, is_open, is_used};
 use crate::refusal::{Fault, Refusal};
 use acme_tree::{Node, Step, WinFile, World, qid_of, walk_one};
 use am_text::{Bytes, Items, NoMemory};
-use core_windows::{Change, Windows};
+use core_windows::{Change, Changes, Windows};
 use fid_table::{Fid, Sessions};
 use ninep_types::{Qids, RBody};
 use std::alloc::Global;
@@ -104,13 +104,14 @@ fn walk_refusal(
     }
 }
 
-fn new_window(alloc: Global) -> Change
-    ensures { result ≡ Change.Makes [] [] }
+fn new_window(alloc: Global) -> Result<Changes, NoMemory>
+    ensures { IfOk result (λ changes. changes ≡ Change.Makes [] ∷ []) }
 {
-    Change::Makes {
+    let mut changes = Items::new(alloc);
+    changes.push(Change::Makes {
         name: Items::new(alloc),
-        text: Items::new(alloc),
-    }
+    })?;
+    Ok(changes)
 }
 
 fn arrive(
@@ -120,12 +121,12 @@ fn arrive(
     newfid: u32,
     trail: Trail,
 ) -> Result<Deed, Fault>
-    requires world { world.now ≡ world_of windows.now.windows }
+    requires world { world.now ≡ world_of windows.now.present }
     requires few { length trail.qids ≤ 16 }
     requires may { MayEnd world.now trail.end }
     ensures exact { IfOk result (λ d. arrives newfid world.now trail ≡ Ok d) }
     ensures refused { IfErr result (λ e. Gives e (arrives newfid world.now trail)) }
-    ensures done { IfOk result (IsDone windows.now.windows) }
+    ensures done { IfOk result (IsDone windows.now.present) }
 {
     let Trail { qids, end } = trail;
     match end {
@@ -134,7 +135,7 @@ fn arrive(
                 number: newfid,
                 fid: fresh(alloc, node),
             },
-            Change::Nothing,
+            Items::new(alloc),
             RBody::Walk { qids },
         )),
         WalkEnd::Makes(file) => Ok(Deed::plain(
@@ -142,13 +143,13 @@ fn arrive(
                 number: newfid,
                 fid: fresh(alloc, Node::File(world.next, file)),
             },
-            new_window(alloc),
+            new_window(alloc)?,
             RBody::Walk { qids },
         )),
         WalkEnd::Stops(refusal) if qids.is_empty() => Err(Fault::Refused(refusal)),
         WalkEnd::Stops(_) => Ok(Deed::plain(
             Effect::Nothing,
-            Change::Nothing,
+            Items::new(alloc),
             RBody::Walk { qids },
         )),
     }
@@ -165,11 +166,11 @@ pub(crate) fn walk(
     newfid: u32,
     names: &[Bytes],
 ) -> Result<Deed, Fault>
-    requires world { world.now ≡ world_of windows.now.windows }
+    requires world { world.now ≡ world_of windows.now.present }
     requires few { length names.now ≤ 16 }
     ensures exact { IfOk result (λ d. walk_deed sessions.now.present world.now conn number newfid names.now ≡ Ok d) }
     ensures refused { IfErr result (λ e. Gives e (walk_deed sessions.now.present world.now conn number newfid names.now)) }
-    ensures done { IfOk result (IsDone windows.now.windows) }
+    ensures done { IfOk result (IsDone windows.now.present) }
 {
     let Some(fid) = sessions.fid(conn, number) else {
         return Err(Fault::Refused(Refusal::UnknownFid));

@@ -1,3 +1,4 @@
 pub mod Sounds
 pub mod Looked
 pub mod Turns
+pub mod Makings

@@ -3,7 +3,7 @@ use Rattle.std.proofs.Common.{◌≡◌, ℕ, ◌+◌, ◌<◌, ◌^◌, ◌&&�
 use Rattle.std.specs.List.{list_all, filter}
 use Rattle.std.proofs.lemmas.Bool.Decides.{nat_tests}
 use Rattle.am_text.specs.Twice.{Twice, both, IsSteady}
-use Rattle.win_events.specs.declared.item.Item.{Item}
+use Rattle.core_events.specs.declared.putting.WindowItem.{WindowItem}
 use Rattle.wait_queue.specs.Reads.{is_on, is_read, without_first}
 use Rattle.wait_queue.specs.declared.types.Asker.{Asker}
 use Rattle.event_book.specs.BookState.{BookState, is_open_window, after_put, is_ready, next_of, after_next, after_serve, after_leave, is_on_window}
@@ -78,16 +78,16 @@ sound_closed at s None sound = sound
 sound_closed at s (Some w) sound =
     record { latest = omega arith; small = all-filter is_small (λ r. not (is_on_window s.owners w r)) s.reads sound.small }
 
-sound_put : (at w : ℕ) (s : BookState) (item : Item) → IsSound at s → IsSound at (put_one w s item)
-sound_put at w s item sound =
-    elim (is_open_window s w) as (λ b. IsSound at (cond b (after_put s w item) s)) [
+sound_put : (at : ℕ) (s : BookState) (i : WindowItem) → IsSound at s → IsSound at (put_one s i)
+sound_put at s i sound =
+    elim (is_open_window s i.window) as (λ b. IsSound at (cond b (after_put s i.window i.item) s)) [
       | true ↦ record { latest = sound.latest; small = sound.small }
       | false ↦ sound
     ]
 
-pub sound_all : (at w : ℕ) (s : BookState) (items : List Item) → IsSound at s → IsSound at (fold (put_one w) s items)
-sound_all at w s [] sound = sound
-sound_all at w s (item ∷ items) sound = sound_all at w (put_one w s item) items (sound_put at w s item sound)
+pub sound_all : (at : ℕ) (s : BookState) (items : List WindowItem) → IsSound at s → IsSound at (fold put_one s items)
+sound_all at s [] sound = sound
+sound_all at s (i ∷ items) sound = sound_all at (put_one s i) items (sound_put at s i sound)
 
 -- both states of a steady book are its present one
 pub steady_both : (t : Twice BookState) → IsSteady t → t ≡ both t.present

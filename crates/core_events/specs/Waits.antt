@@ -52,12 +52,23 @@ abbrev pub is_of_window : Tables → ℕ → Waiting → Bool
 is_of_window tables w r = reads_event_of w (fid_of tables r.conn r.fid)
 
 -- the window that a change deletes
-abbrev pub deleted_by : Change → Option ℕ
-deleted_by change.Nothing = None
-deleted_by (change.Makes name text) = None
-deleted_by (change.Edits w edits dot addr) = None
-deleted_by (change.Adds w text) = None
-deleted_by (change.Controls w settings deletes) = if deletes then Some w else None
+abbrev pub deletes : Change → Option ℕ
+deletes (change.Makes name) = None
+deletes (change.Deletes w) = Some w
+deletes (change.Edits w edits) = None
+deletes (change.Adds w text) = None
+deletes (change.Sets w setting) = None
+deletes (change.Undoes w) = None
+deletes (change.Redoes w) = None
+
+abbrev pub or_later : Option ℕ → Option ℕ → Option ℕ
+or_later None later = later
+or_later (Some w) later = Some w
+
+-- the window that the changes of a step delete
+abbrev pub deleted_by : List Change → Option ℕ
+deleted_by [] = None
+deleted_by (c ∷ cs) = or_later (deletes c) (deleted_by cs)
 
 -- Deleting a window answers each read that waits on its event file, the oldest first.
 abbrev pub deletions : Tables → Option ℕ → List Response

@@ -13,7 +13,7 @@ pub use asking::{open_events, read_events};
 pub use closing::{cancel_read, close_events, free_fids, free_openings};
 pub use core_items::items_of;
 pub use event_book::Book;
-pub use putting::{changes_window, made, put_all};
+pub use putting::{WindowItem, WindowItems, make_changes, put_all};
 pub use response::{Response, Responses};
 pub use serving::serve_all;
 pub use waits::{clunked, deleted_by, deletions, end_reads, forget_cancelled};

@@ -1,76 +1,117 @@
-//! The items that a step makes.
+//! The items that the changes of a step make.
 
-ghost use Rattle.std.specs.Prelude.{◌≡◌, ℕ, IfOk, OnOk};
-ghost use Rattle.core_events.specs.Putting.{changes_window, is_open_at, made, put_one, put_all};
+ghost use Rattle.std.specs.Prelude.{◌≡◌, ◌++◌, ℕ, map, IfOk, OnOk};
+ghost use Rattle.core_windows.specs.Possible.{CanChangeAll};
+ghost use Rattle.core_windows.specs.Windows.{all_changed};
+ghost use Rattle.core_events.specs.Putting.{changes_window, item_in, made, all_made, put_one, put_all};
 ghost use Rattle.core_events.specs.Sound.{IsSound};
 
 use am_text::{Items, NoMemory};
 use core_items::{NewItems, items_of};
-use core_windows::{Change, Windows};
+use core_windows::{Change, Changes, Windows};
 use event_book::Book;
 use std::alloc::Global;
 use win_events::{Item, Origin};
 
-/// The window that a change is of, where it lived before.
-pub fn changes_window(change: &Change) -> Option<u32>
+/// An item of a window.
+#[derive(Drop)]
+pub struct WindowItem {
+    pub window: u32,
+    pub item: Item,
+}
+
+/// Items of windows, in the order in which they are made.
+pub type WindowItems = Items<WindowItem>;
+
+fn changes_window(change: &Change) -> Option<u32>
     ensures { result ≡ changes_window change.now }
 {
     match change {
+        Change::Makes { .. } => None,
+        Change::Deletes { .. } => None,
         Change::Edits { window, .. } => Some(*window),
         Change::Adds { window, .. } => Some(*window),
-        Change::Controls { window, .. } => Some(*window),
-        Change::Nothing => None,
-        Change::Makes { .. } => None,
+        Change::Sets { window, .. } => Some(*window),
+        Change::Undoes { window } => Some(*window),
+        Change::Redoes { window } => Some(*window),
     }
 }
 
-fn is_open_at(book: &Book, window: Option<u32>) -> bool
-    ensures { result ≡ is_open_at book.now.present window }
+// Puts items of a window at the end.
+#[tactic(auto, using(crate::proofs::Makings::making))]
+fn put_made(made: &mut WindowItems, window: u32, items: NewItems) -> Result<(), NoMemory>
+    ensures { OnOk result (made.new ≡ made.old ++ map (item_in window) items) }
 {
-    match window {
-        Some(window) => book.is_open(window),
-        None => false,
+    for item in items.into_vec() {
+        made.push(WindowItem { window, item })?;
     }
+    Ok(())
 }
 
-/// The items that a change makes: none unless the event file of its window is open.
-pub fn made(
+// Puts the items that a change makes at the end: none unless the event file of its window is open.
+#[tactic(auto, using(crate::proofs::Makings::making))]
+fn tell(
     alloc: Global,
     book: &Book,
     windows: &Windows,
     origin: Origin,
     change: &Change,
-) -> Result<NewItems, NoMemory>
-    ensures { IfOk result (λ items. items ≡ made book.now.present windows.now.windows origin change.now) }
+    told: &mut WindowItems,
+) -> Result<(), NoMemory>
+    ensures { OnOk result (told.new ≡ told.old ++ made book.now.present windows.now.present origin change.now) }
 {
-    if is_open_at(book, changes_window(change)) {
-        items_of(alloc, windows, origin, change)
-    } else {
-        Ok(Items::new(alloc))
+    let Some(window) = changes_window(change) else {
+        return Ok(());
+    };
+    if !book.is_open(window) {
+        return Ok(());
     }
+    let items = items_of(alloc, windows, origin, change)?;
+    put_made(told, window, items)
 }
 
-fn put_one(book: &mut Book, window: u32, item: Item) -> Result<(), NoMemory>
-    ensures kept { book.new.kept ≡ book.old.kept }
-    ensures ok { OnOk result (book.new.present ≡ put_one window book.old.present item) }
+/// Makes the changes of the step of this number, from first to last, in the present state of the windows alone. The answer are the
+/// items that they make, of this origin.
+pub fn make_changes(
+    alloc: Global,
+    book: &Book,
+    windows: &mut Windows,
+    origin: Origin,
+    changes: Changes,
+    at: u64,
+) -> Result<WindowItems, NoMemory>
+    requires { CanChangeAll at windows.old.present changes }
+    ensures items { IfOk result (λ items. items ≡ all_made at book.now.present windows.old.present origin changes) }
+    ensures windows { OnOk result (windows.new.present ≡ all_changed at windows.old.present changes) }
+    ensures kept { windows.new.kept ≡ windows.old.kept }
 {
+    let mut told = Items::new(alloc);
+    for change in changes.into_vec() {
+        tell(alloc, book, windows, origin, &change, &mut told)?;
+        windows.change(change, at)?;
+    }
+    Ok(told)
+}
+
+fn put_one(book: &mut Book, item: WindowItem) -> Result<(), NoMemory>
+    ensures kept { book.new.kept ≡ book.old.kept }
+    ensures ok { OnOk result (book.new.present ≡ put_one book.old.present item) }
+{
+    let WindowItem { window, item } = item;
     if book.is_open(window) {
         book.put(window, item)?;
     }
     Ok(())
 }
 
-/// Puts items at the end of a window's, one after another, while its event file is open.
-pub fn put_all(book: &mut Book, window: Option<u32>, items: NewItems) -> Result<(), NoMemory>
+/// Puts each item at the end of its window's, one after another, while the event file is open.
+pub fn put_all(book: &mut Book, items: WindowItems) -> Result<(), NoMemory>
     ensures kept { book.new.kept ≡ book.old.kept }
-    ensures ok { OnOk result (book.new.present ≡ put_all book.old.present window items) }
+    ensures ok { OnOk result (book.new.present ≡ put_all book.old.present items) }
     ensures sound { (at : ℕ) → IsSound at book.old.present → OnOk result (IsSound at book.new.present) }
 {
-    let Some(window) = window else {
-        return Ok(());
-    };
     for item in items.into_vec() {
-        put_one(book, window, item)?;
+        put_one(book, item)?;
     }
     Ok(())
 }

@@ -4,7 +4,7 @@ ghost use Rattle.std.specs.Prelude.{◌≡◌, [], ◌∷◌, ◌++◌, slice_ge
 ghost use Rattle.am_text.specs.Twice.{both, IsSteady};
 ghost use Rattle.core_answers.specs.declared.refusal.Refusal.TheVariants.{FidClunked as fid_clunked, WindowDeleted as window_deleted};
 ghost use Rattle.core_events.specs.Responses.{AreSaid, error, errors};
-ghost use Rattle.core_events.specs.Waits.{is_of_fid, is_of_window, answer_where, clunked, is_event_of, reads_event_of, deleted_by, deletions, ended, without_cancelled};
+ghost use Rattle.core_events.specs.Waits.{is_of_fid, is_of_window, answer_where, clunked, is_event_of, reads_event_of, deletes, deleted_by, deletions, ended, without_cancelled};
 
 use crate::response::{Response, Responses};
 use acme_tree::{Node, WinFile};
@@ -110,21 +110,32 @@ fn reads_event_of(window: u32, fid: Option<&Fid>) -> bool
     }
 }
 
-/// The window that a change deletes.
-pub fn deleted_by(change: &Change) -> Option<u32>
-    ensures { result ≡ deleted_by change.now }
+fn deletes(change: &Change) -> Option<u32>
+    ensures { result ≡ deletes change.now }
 {
     match change {
-        Change::Controls {
-            window,
-            deletes,
-            ..
-        } => if *deletes { Some(*window) } else { None },
-        Change::Nothing => None,
         Change::Makes { .. } => None,
+        Change::Deletes { window } => Some(*window),
         Change::Edits { .. } => None,
         Change::Adds { .. } => None,
+        Change::Sets { .. } => None,
+        Change::Undoes { .. } => None,
+        Change::Redoes { .. } => None,
     }
+}
+
+/// The window that the changes of a step delete.
+pub fn deleted_by(changes: &[Change]) -> Option<u32>
+    ensures { result ≡ deleted_by changes.now }
+{
+    let mut rest = changes;
+    while let [change, after @ ..] = rest {
+        if let Some(window) = deletes(change) {
+            return Some(window);
+        }
+        rest = after;
+    }
+    None
 }
 
 // Answers the k-th waiting read, where it is one of this window's event file.

@@ -1,16 +1,14 @@
 -- The sizes of tags are the lengths of their texts.
-use Rattle.std.proofs.Common.{◌≡◌, ℕ, ◌+◌, Bool, true, false, cond, List, [], ◌∷◌, ◌++◌, length, Option, Some, None, refl, ap, ◌∙◌, length-append, arith}
+use Rattle.std.proofs.Common.{◌≡◌, ℕ, ◌+◌, Bool, true, false, cond, List, [], ◌∷◌, ◌++◌, length, Option, Some, None, refl, sym, ap, ◌∙◌, length-append, arith}
 use Rattle.std.specs.Prelude.{◌==◌, codes}
-use Rattle.std.specs.Option.{option_to_list}
 use Rattle.win_events.specs.declared.item.Item.{Item}
 use Rattle.win_events.specs.declared.item.Origin.{Origin}
 use Rattle.win_events.specs.declared.item.Sort.TheVariants.{TagDel}
 use Rattle.win_ctl.specs.Tags.{tag_text, word_if}
-use Rattle.core_windows.specs.declared.change.Setting.{Setting}
-use Rattle.core_windows.specs.declared.change.Setting.TheVariants as setting
-use Rattle.core_windows.specs.Windows.{Window, set}
-use Rattle.core_items.specs.NewItems.{plain_item, tag_with, left_len, tag_len, shown_of, cleared_item, setting_item, items_of_settings}
-use Rattle.core_items.specs.Sizes.{word_size, shows_put, left_size, whole_size, size_of, size_after, sized_clear, sized_item, sized_items}
+use Rattle.core_windows.specs.Windows.{Window}
+use Rattle.core_items.specs.NewItems.{plain_item, tag_with, left_len, tag_len, shown_of, cleared_item}
+use Rattle.core_items.specs.Sizes.{word_size, shows_put, left_size, whole_size, size_of, sized_clear}
+use Rattle.core_items.specs.declared.size.TagSize.{TagSize}
 
 -- eight texts, one after the other
 all_lengths : (a b c d e f g h : List ℕ) → length (a ++ b ++ c ++ d ++ e ++ f ++ g ++ h)
@@ -48,36 +46,6 @@ sized_cleared : (origin : Origin) (w : Window) → cleared_item origin w ≡ siz
 sized_cleared origin w =
     ap (λ a. clear_of origin w a (tag_len w)) (sized_left w) ∙ ap (λ b. clear_of origin w (left_size (size_of w)) b) (sized_whole w)
 
-sized_setting : (origin : Origin) (w : Window) (s : Setting) → setting_item origin w s ≡ sized_item origin (size_of w) s
-sized_setting origin w setting.AddrToDot = refl
-sized_setting origin w setting.DotToAddr = refl
-sized_setting origin w setting.LimitToAddr = refl
-sized_setting origin w setting.NoLimit = refl
-sized_setting origin w (setting.Dot range) = refl
-sized_setting origin w (setting.Addr range) = refl
-sized_setting origin w setting.Clean = refl
-sized_setting origin w setting.Dirty = refl
-sized_setting origin w setting.ClearTag = sized_cleared origin w
-sized_setting origin w (setting.Mark automatic) = refl
-sized_setting origin w (setting.Name name) = refl
-
--- a setting, and then its size
-sized_after : (w : Window) (s : Setting) → size_of (set w s) ≡ size_after (size_of w) s
-sized_after w setting.AddrToDot = refl
-sized_after w setting.DotToAddr = refl
-sized_after w setting.LimitToAddr = refl
-sized_after w setting.NoLimit = refl
-sized_after w (setting.Dot range) = refl
-sized_after w (setting.Addr range) = refl
-sized_after w setting.Clean = refl
-sized_after w setting.Dirty = refl
-sized_after w setting.ClearTag = refl
-sized_after w (setting.Mark automatic) = refl
-sized_after w (setting.Name name) = refl
-
-pub settings_are_sized : (origin : Origin) (w : Window) (ss : List Setting) → items_of_settings origin w ss ≡ sized_items origin (size_of w) ss
-settings_are_sized origin w [] = refl
-settings_are_sized origin w (s ∷ ss) =
-    ap (λ (o : Option Item). option_to_list o ++ items_of_settings origin (set w s) ss) (sized_setting origin w s)
-    ∙ ap (λ (l : List Item). option_to_list (sized_item origin (size_of w) s) ++ l)
-    (settings_are_sized origin (set w s) ss ∙ ap (λ z. sized_items origin z ss) (sized_after w s))
+-- the removal, told by the size alone
+pub cleared_is : (origin : Origin) (w : Window) (size : TagSize) (item : Option Item) → size ≡ size_of w → item ≡ sized_clear origin size → item ≡ cleared_item origin w
+cleared_is origin w size item e h = h ∙ ap (sized_clear origin) e ∙ sym (sized_cleared origin w)

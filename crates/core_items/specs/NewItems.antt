@@ -14,7 +14,8 @@ use Rattle.core_windows.specs.declared.change.Change.{Change}
 use Rattle.core_windows.specs.declared.change.Change.TheVariants as change
 use Rattle.core_windows.specs.declared.change.Setting.{Setting}
 use Rattle.core_windows.specs.declared.change.Setting.TheVariants as setting
-use Rattle.core_windows.specs.Windows.{Window, window_at, set}
+use Rattle.core_windows.specs.Windows.{Window, window_at}
+use Rattle.win_text.specs.Bodies.{edits_to_undo, edits_to_redo}
 
 -- an item without a flag, an expansion or an argument
 abbrev pub plain_item : Origin → Sort → Range → List ℕ → Item
@@ -86,21 +87,35 @@ setting_item origin window setting.ClearTag = cleared_item origin window
 setting_item origin window (setting.Mark automatic) = None
 setting_item origin window (setting.Name name) = None
 
--- each setting speaks of the window that the ones before it left
-abbrev pub items_of_settings : Origin → Window → List Setting → List Item
-items_of_settings origin window [] = []
-items_of_settings origin window (s ∷ ss) = option_to_list (setting_item origin window s) ++ items_of_settings origin (set window s) ss
+-- a part of the window is set
+abbrev pub items_of_set : Origin → Option Window → Setting → List Item
+items_of_set origin None setting = []
+items_of_set origin (Some window) setting = option_to_list (setting_item origin window setting)
 
-abbrev pub items_of_controls : Origin → Option Window → List Setting → List Item
-items_of_controls origin None settings = []
-items_of_controls origin (Some window) settings = items_of_settings origin window settings
+-- ---- Undo and Redo
+
+abbrev pub edits_if_any : Option (List Edit) → List Edit
+edits_if_any None = []
+edits_if_any (Some edits) = edits
+
+-- the edits that Undo and Redo of the window make
+abbrev pub edits_of_undo : Option Window → List Edit
+edits_of_undo None = []
+edits_of_undo (Some window) = edits_if_any (edits_to_undo window.body.history)
+
+abbrev pub edits_of_redo : Option Window → List Edit
+edits_of_redo None = []
+edits_of_redo (Some window) = edits_if_any (edits_to_redo window.body.history)
 
 -- ---- all windows
 
--- The items of this origin that a change of the windows makes, in order. A new window makes none: nobody has its event file open.
+-- The items of this origin that a change of the windows makes, in order, told by its window as it stands before. A new window and a
+-- deleted one make none.
 abbrev pub items_of : List (Option Window) → Origin → Change → List Item
-items_of windows origin change.Nothing = []
-items_of windows origin (change.Makes name text) = []
-items_of windows origin (change.Edits w edits dot addr) = items_of_edits origin edits
+items_of windows origin (change.Makes name) = []
+items_of windows origin (change.Deletes w) = []
+items_of windows origin (change.Edits w edits) = items_of_edits origin edits
 items_of windows origin (change.Adds w text) = items_of_add origin (window_at windows w) text
-items_of windows origin (change.Controls w settings deletes) = items_of_controls origin (window_at windows w) settings
+items_of windows origin (change.Sets w setting) = items_of_set origin (window_at windows w) setting
+items_of windows origin (change.Undoes w) = items_of_edits origin (edits_of_undo (window_at windows w))
+items_of windows origin (change.Redoes w) = items_of_edits origin (edits_of_redo (window_at windows w))

@@ -4,10 +4,10 @@ ghost use Rattle.std.specs.Prelude.{◌≡◌, ◌≤◌, nat_eq, codes, length,
 ghost use Rattle.std.specs.List.{ends_with};
 ghost use Rattle.core_windows.specs.Panes.{window_of};
 ghost use Rattle.core_items.specs.NewItems.{shown_of};
-ghost use Rattle.core_items.specs.Sizes.{word_size, shows_put, words_size, left_size, whole_size, size_of, size_after};
+ghost use Rattle.core_items.specs.Sizes.{word_size, shows_put, words_size, left_size, whole_size, size_of};
 
 use am_text::{NoMemory, Rune};
-use core_windows::{Pane, Setting};
+use core_windows::Pane;
 use win_ctl::Shown;
 
 /// What the length of a window's tag depends on: how many runes its name and its right part have, and what it shows.
@@ -85,43 +85,5 @@ impl TagSize {
         ensures { IfOk result (λ runes. runes ≡ whole_size self) }
     {
         self.left()?.checked_add(self.right).ok_or(NoMemory)
-    }
-
-    /// That of the window once this is set.
-    pub(crate) fn after(self, setting: &Setting) -> TagSize
-        ensures { result ≡ size_after self setting.now }
-    {
-        match setting {
-            Setting::Clean => self.with_modified(false),
-            Setting::Dirty => self.with_modified(true),
-            Setting::ClearTag => TagSize { right: 0, ..self },
-            Setting::Name(name) => self.with_name(name.as_slice()),
-            _ => self,
-        }
-    }
-
-    fn with_modified(self, modified: bool) -> TagSize
-        ensures { result ≡ record self { shown = record self.shown { modified = modified } } }
-    {
-        TagSize {
-            shown: Shown {
-                modified,
-                ..self.shown
-            },
-            ..self
-        }
-    }
-
-    fn with_name(self, name: &[Rune]) -> TagSize
-        ensures { result ≡ record self { name = length name.now; shown = record self.shown { dir = ends_with nat_eq name.now (codes "/") } } }
-    {
-        TagSize {
-            name: name.len(),
-            shown: Shown {
-                dir: is_dir(name),
-                ..self.shown
-            },
-            ..self
-        }
     }
 }

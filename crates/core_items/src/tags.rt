@@ -4,8 +4,8 @@ ghost use Rattle.std.specs.Prelude.{◌≡◌, IfOk};
 ghost use Rattle.std.specs.Option.{option_to_list};
 ghost use Rattle.core_windows.specs.Panes.{window_of};
 ghost use Rattle.core_windows.specs.Windows.{window_at};
-ghost use Rattle.core_items.specs.NewItems.{tag_len, items_of_add, items_of_settings, items_of_controls};
-ghost use Rattle.core_items.specs.Sizes.{sized_clear, sized_item, sized_items, size_of};
+ghost use Rattle.core_items.specs.NewItems.{tag_len, items_of_add, setting_item, items_of_set};
+ghost use Rattle.core_items.specs.Sizes.{sized_clear};
 
 use crate::plain::{NewItems, plain_item, put_if_any, put_item};
 use crate::size::TagSize;
@@ -29,7 +29,7 @@ pub(crate) fn items_of_add(
     window: u32,
     text: &[Rune],
 ) -> Result<NewItems, NoMemory>
-    ensures { IfOk result (λ items. items ≡ items_of_add origin (window_at windows.now.windows window) text.now) }
+    ensures { IfOk result (λ items. items ≡ items_of_add origin (window_at windows.now.present window) text.now) }
 {
     let mut items = Items::new(alloc);
     if let Some(pane) = windows.get(window) {
@@ -56,50 +56,30 @@ fn cleared_item(alloc: Global, origin: Origin, size: TagSize) -> Result<Option<I
 fn setting_item(
     alloc: Global,
     origin: Origin,
-    size: TagSize,
+    pane: &Pane,
     setting: &Setting,
 ) -> Result<Option<Item>, NoMemory>
-    ensures { IfOk result (λ item. item ≡ sized_item origin size setting.now) }
+    ensures { IfOk result (λ item. item ≡ setting_item origin (window_of pane.now) setting.now) }
 {
     match setting {
-        Setting::ClearTag => cleared_item(alloc, origin, size),
+        Setting::ClearTag => cleared_item(alloc, origin, TagSize::of(pane)),
         _ => Ok(None),
     }
 }
 
-// The items of settings of a window, from first to last.
-#[tactic(auto, using(crate::proofs::Joined::joined))]
-fn items_of_settings(
-    alloc: Global,
-    pane: &Pane,
-    origin: Origin,
-    settings: &[Setting],
-) -> Result<NewItems, NoMemory>
-    ensures { IfOk result (λ items. items ≡ items_of_settings origin (window_of pane.now) settings.now) }
-{
-    let mut items = Items::new(alloc);
-    let mut size = TagSize::of(pane);
-    let mut rest = settings;
-    while let [setting, after @ ..] = rest {
-        put_if_any(&mut items, setting_item(alloc, origin, size, setting)?)?;
-        size = size.after(setting);
-        rest = after;
-    }
-    Ok(items)
-}
-
-/// The items of settings of a window, none where it doesn't live.
-pub(crate) fn items_of_controls(
+/// The items of a setting of a window, none where it doesn't live.
+pub(crate) fn items_of_set(
     alloc: Global,
     windows: &Windows,
     origin: Origin,
     window: u32,
-    settings: &[Setting],
+    setting: &Setting,
 ) -> Result<NewItems, NoMemory>
-    ensures { IfOk result (λ items. items ≡ items_of_controls origin (window_at windows.now.windows window) settings.now) }
+    ensures { IfOk result (λ items. items ≡ items_of_set origin (window_at windows.now.present window) setting.now) }
 {
-    match windows.get(window) {
-        Some(pane) => items_of_settings(alloc, pane, origin, settings),
-        None => Ok(Items::new(alloc)),
+    let mut items = Items::new(alloc);
+    if let Some(pane) = windows.get(window) {
+        put_if_any(&mut items, setting_item(alloc, origin, pane, setting)?)?;
     }
+    Ok(items)
 }

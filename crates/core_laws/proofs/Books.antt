@@ -5,7 +5,7 @@ use Rattle.std.specs.Map.{lookup}
 use Rattle.std.proofs.lemmas.Bool.{eqb-false, not-true, and_parts, both_ways}
 use Rattle.std.proofs.lemmas.List.Elements.{All-nil, All-cons, All-head, All-tail, All-push, All-filter, All-weaker, filter_passes}
 use Rattle.fid_table.specs.declared.types.Fid.{Fid}
-use Rattle.win_events.specs.declared.item.Item.{Item}
+use Rattle.core_events.specs.declared.putting.WindowItem.{WindowItem}
 use Rattle.wait_queue.specs.Reads.{is_on, is_read, without_first}
 use Rattle.wait_queue.specs.declared.types.Asker.{Asker}
 use Rattle.wait_queue.specs.declared.types.Piece.{Piece}
@@ -54,20 +54,16 @@ module _ (P : Asker → Type 0) (at : ℕ) where
       ]
   book_opened s (events.Cancels tag) b = b
 
-  book_put : (s : BookState) (w : ℕ) (item : Item) → IsBook P at s → IsBook P at (put_one w s item)
-  book_put s w item b =
-      elim (is_open_window s w) as (λ t. is_open_window s w ≡ t → IsBook P at (cond t (after_put s w item) s)) [
-        | true ↦ λ e. record { lawful = lawful-put_in s w item e b.lawful; latest = b.latest; reads = b.reads }
+  book_put : (s : BookState) (i : WindowItem) → IsBook P at s → IsBook P at (put_one s i)
+  book_put s i b =
+      elim (is_open_window s i.window) as (λ t. is_open_window s i.window ≡ t → IsBook P at (cond t (after_put s i.window i.item) s)) [
+        | true ↦ λ e. record { lawful = lawful-put_in s i.window i.item e b.lawful; latest = b.latest; reads = b.reads }
         | false ↦ λ e. b
       ] refl
 
-  book_put_each : (s : BookState) (w : ℕ) (items : List Item) → IsBook P at s → IsBook P at (fold (put_one w) s items)
-  book_put_each s w [] b = b
-  book_put_each s w (item ∷ items) b = book_put_each (put_one w s item) w items (book_put s w item b)
-
-  pub book_put_all : (s : BookState) (o : Option ℕ) (items : List Item) → IsBook P at s → IsBook P at (put_all s o items)
-  book_put_all s None items b = b
-  book_put_all s (Some w) items b = book_put_each s w items b
+  pub book_put_all : (s : BookState) (items : List WindowItem) → IsBook P at s → IsBook P at (put_all s items)
+  book_put_all s [] b = b
+  book_put_all s (i ∷ items) b = book_put_all (put_one s i) items (book_put s i b)
 
   pub book_ask : (s : BookState) (r : Asker) → is_living s r.opening ≡ true → P r → IsBook P at s → IsBook P at (after_ask s r at)
   book_ask s r living own b =

@@ -1,5 +1,5 @@
 -- What messages do to fids with openings: these are open, and keep their openings until they are freed; a read is one of such a fid.
-use Rattle.std.proofs.Common.{◌≡◌, ℕ, Bool, true, false, cond, eqb, List, ◌++◌, length, Option, Some, None, Result, Ok, Err, min, codes, nat_lt, ◌==◌, refl, sym, ap, subst, ◌∙◌}
+use Rattle.std.proofs.Common.{◌≡◌, ℕ, Bool, true, false, cond, eqb, List, [], ◌++◌, length, Option, Some, None, Result, Ok, Err, min, codes, nat_lt, ◌==◌, refl, sym, ap, subst, ◌∙◌}
 use Rattle.std.proofs.lemmas.Bool.{eqb-true}
 use Rattle.am_text.specs.Part.{part_bytes}
 use Rattle.am_text.specs.Pieces.{Decoded, decode_part}
@@ -41,7 +41,7 @@ use Rattle.core_answers.specs.Reading.{place_at, read_dir, read_opening, read_co
 use Rattle.core_answers.specs.Refusals.{refused_with, deed_or_refusal}
 use Rattle.core_answers.specs.Texts.{text_at, right_of}
 use Rattle.core_answers.specs.Walking.{trail, new_refusal, walk_refusal, arrives_at, or_walks, walk_from}
-use Rattle.core_answers.specs.Writing.{append_deed, add_deed, or_errors, errors_deed, write_content, write_fid}
+use Rattle.core_answers.specs.Writing.{if_lives, append_deed, add_deed, or_errors, errors_deed, write_content, write_fid}
 
 -- a fid that isn't open has no opening
 abbrev pub IsModed : Fid → Type 0
@@ -141,8 +141,8 @@ module _ (tables : Tables) (conn : ℕ) (moded : (number : ℕ) (f : Fid) → fi
   version_sane : (msize : ℕ) (version : List ℕ) → IsSane tables conn (version_deed msize version)
   version_sane msize version =
       one_of (nat_lt msize 256) (refused_with (effect.Begins None) refusal.MsizeTooSmall) (agreed (min msize 65560) version) (tt, tt)
-      (one_of (is_version version) (does (effect.Begins (Some (min msize 65560))) change.Nothing (r.Version (min msize 65560) (codes "9P2000")))
-      (does (effect.Begins None) change.Nothing (r.Version (min msize 65560) (codes "unknown"))) (tt, tt) (tt, tt))
+      (one_of (is_version version) (does (effect.Begins (Some (min msize 65560))) [] (r.Version (min msize 65560) (codes "9P2000")))
+      (does (effect.Begins None) [] (r.Version (min msize 65560) (codes "unknown"))) (tt, tt) (tt, tt))
 
   attaches : (fid afid : ℕ) (aname : List ℕ) (o : Option Refusal) → attach_refusal tables conn fid afid aname ≡ o → Sane (or_attaches o fid)
   attaches fid afid aname None e = (put_new fid _ (λ h. refl) (unused fid (second_false _ (is_used tables conn fid) _ _ _ e)), tt)
@@ -151,7 +151,7 @@ module _ (tables : Tables) (conn : ℕ) (moded : (number : ℕ) (f : Fid) → fi
   arrives_sane : (newfid : ℕ) (world : World) (qids : List Qid) (e : WalkEnd) → ((f : Fid) → fid_of tables conn newfid ≡ Some f → f.opening ≡ None) → Sane (arrives_at newfid world qids e)
   arrives_sane newfid world qids (end.At node) none = (put_new newfid _ (λ h. refl) none, tt)
   arrives_sane newfid world qids (end.Makes file) none = (put_new newfid _ (λ h. refl) none, tt)
-  arrives_sane newfid world qids (end.Stops x) none = or_done (length qids == 0) x (does effect.Nothing change.Nothing (r.Walk qids)) (tt, tt)
+  arrives_sane newfid world qids (end.Stops x) none = or_done (length qids == 0) x (does effect.Nothing [] (r.Walk qids)) (tt, tt)
 
   or_walks_sane : (o : Option Refusal) (x : Result Deed Refusal) → (o ≡ None → Sane x) → Sane (or_walks o x)
   or_walks_sane None x h = h refl
@@ -228,11 +228,17 @@ module _ (tables : Tables) (conn : ℕ) (moded : (number : ℕ) (f : Fid) → fi
   read_sane world windows number offset count (Some f) is =
       or_reads_sane (use_refusal world f is_for_reading) _ (read_content_sane world windows number offset count f (content_of f.node) is)
 
+  if_lives_sane : (o : Option Window) (x : Result Deed Refusal) → Sane x → Sane (if_lives o x)
+  if_lives_sane None x h = tt
+  if_lives_sane (Some w) x h = h
+
   append_sane : (windows : List (Option Window)) (number w count : ℕ) (f : Fid) (decoded : Decoded) → fid_of tables conn number ≡ Some f → Sane (append_deed windows number f w count decoded)
-  append_sane windows number w count f decoded is = done_or (fits_in (text_at windows w) decoded.text) _ refusal.TextTooLong (put_again number f _ is refl refl, tt)
+  append_sane windows number w count f decoded is =
+      if_lives_sane (window_at windows w) _ (done_or (fits_in (text_at windows w) decoded.text) _ refusal.TextTooLong (put_again number f _ is refl refl, tt))
 
   add_sane : (windows : List (Option Window)) (number w count : ℕ) (f : Fid) (decoded : Decoded) → fid_of tables conn number ≡ Some f → Sane (add_deed windows number f w count decoded)
-  add_sane windows number w count f decoded is = done_or (fits_tag (right_of (window_at windows w)) decoded.text) _ refusal.TextTooLong (put_again number f _ is refl refl, tt)
+  add_sane windows number w count f decoded is =
+      if_lives_sane (window_at windows w) _ (done_or (fits_tag (right_of (window_at windows w)) decoded.text) _ refusal.TextTooLong (put_again number f _ is refl refl, tt))
 
   or_errors_sane : (o : Option Refusal) (d : Deed) → IsSane tables conn d → Sane (or_errors o d)
   or_errors_sane None d h = h
@@ -263,7 +269,7 @@ module _ (tables : Tables) (conn : ℕ) (moded : (number : ℕ) (f : Fid) → fi
   write_content_sane windows number f bytes content.Directory is = tt
   write_content_sane windows number f bytes (content.BodyText w) is = append_sane windows number w (length bytes) f (decode_part (part_bytes f.part ++ bytes)) is
   write_content_sane windows number f bytes (content.TagText w) is = add_sane windows number w (length bytes) f (decode_part (part_bytes f.part ++ bytes)) is
-  write_content_sane windows number f bytes (content.CtlText w) is = (tt, tt)
+  write_content_sane windows number f bytes (content.CtlText w) is = if_lives_sane (window_at windows w) _ (tt, tt)
   write_content_sane windows number f bytes (content.AddrText w) is = addr_sane w bytes (window_at windows w)
   write_content_sane windows number f bytes (content.DataOf w) is = taking_sane w bytes (window_at windows w)
   write_content_sane windows number f bytes (content.XdataOf w) is = taking_sane w bytes (window_at windows w)

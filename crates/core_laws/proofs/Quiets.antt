@@ -15,7 +15,6 @@ use Rattle.core_answers.specs.declared.effect.Effect.TheVariants as effect
 use Rattle.core_events.specs.declared.response.Response.{Response}
 use Rattle.core_events.specs.Asking.{read_said}
 use Rattle.core_events.specs.Closing.{freed, cancelled, opening_in}
-use Rattle.core_events.specs.Putting.{changes_window}
 use Rattle.core_events.specs.Waits.{deleted_by, ended}
 use Rattle.acme_core.specs.declared.doing.Doing.{Doing}
 use Rattle.acme_core.specs.Connections.{grown_with, ended_with}
@@ -88,7 +87,7 @@ module _ (L : ℕ → ℕ → Type 0) where
       let p : Present = present s in
       let d : Doing = doing_of p e in
       let items : IsBook (Reading L) (s.entries + 1) (grown_book p e d) =
-      items_book (Reading L) (s.entries + 1) (read_book p e d) d.events (changes_window d.change) (items_made p d) (serves p d) book
+      items_book (Reading L) (s.entries + 1) (read_book p e d) d.events (items_made p d) (serves p d) book
       in
       (done_waiting (IsWaiting L) s.tables xs quiet.0, items.reads)
 
@@ -105,12 +104,12 @@ module _ (L : ℕ → ℕ → Type 0) where
       let xs : List Response = said p e d in
       let left : Tables = ended_with t conn done.effect in
       let items : IsBook (Reading L) at (grown_book p e d) =
-      items_book (Reading L) at (read_book p e d) d.events (changes_window d.change) (items_made p d) (serves p d) (quiet_read s e own well quiet)
+      items_book (Reading L) at (read_book p e d) d.events (items_made p d) (serves p d) (quiet_read s e own well quiet)
       in
       let ends : IsBook (Reading L) at (cancelled (freed at (grown_book p e d) t conn done.effect) conn done.events) =
       book_cancelled (Reading L) at (freed at (grown_book p e d) t conn done.effect) conn done.events (freed_book at t (grown_book p e d) conn done.effect items)
       in
-      let closed : IsBook (Reading L) at _ = book_closed (Reading L) at (cancelled (freed at (grown_book p e d) t conn done.effect) conn done.events) (deleted_by done.change) ends in (
+      let closed : IsBook (Reading L) at _ = book_closed (Reading L) at (cancelled (freed at (grown_book p e d) t conn done.effect) conn done.events) (deleted_by done.changes) ends in (
         cancelled_waiting (IsWaiting L) (ended left xs) conn done.events
             (done_waiting (IsWaiting L) left xs
             (freed_waiting t conn done.effect (answered_waiting put s.book conn msg.tag done.answer own (grown_waiting s.tables conn done.effect quiet.0)))),

@@ -146,8 +146,8 @@ says_or false d e g h = h
 version_says : (msize : ℕ) (version : List ℕ) → is_reads (version_deed msize version).answer ≡ false
 version_says msize version =
     says_or (nat_lt msize 256) (refused_with (effect.Begins None) refusal.MsizeTooSmall) (agreed (min msize 65560) version) refl
-    (says_or (is_version version) (does (effect.Begins (Some (min msize 65560))) change.Nothing (r.Version (min msize 65560) (codes "9P2000")))
-    (does (effect.Begins None) change.Nothing (r.Version (min msize 65560) (codes "unknown"))) refl refl)
+    (says_or (is_version version) (does (effect.Begins (Some (min msize 65560))) [] (r.Version (min msize 65560) (codes "9P2000")))
+    (does (effect.Begins None) [] (r.Version (min msize 65560) (codes "unknown"))) refl refl)
 
 -- what a message does, by whether a session is missing
 abbrev deed_or : Tables → List (Option Window) → ℕ → ℕ → TBody → Bool → Deed

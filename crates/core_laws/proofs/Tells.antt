@@ -19,7 +19,6 @@ use Rattle.core_answers.specs.declared.refusal.Refusal.{Refusal}
 use Rattle.core_answers.specs.declared.refusal.Refusal.TheVariants as refusal
 use Rattle.core_events.specs.declared.response.Response.{Response}
 use Rattle.core_events.specs.Asking.{read_said}
-use Rattle.core_events.specs.Putting.{changes_window}
 use Rattle.core_events.specs.Responses.{error, errors}
 use Rattle.core_events.specs.Serving.{then_served, served_most}
 use Rattle.core_events.specs.Waits.{is_of_fid, is_of_window, clunked, deleted_by, deletions}
@@ -78,15 +77,15 @@ module _ (L : ℕ → ℕ → Type 0) where
 
   -- what is said beside the message's own answer
   tell_with : (s : Present) (e : Event) (d : Doing) (own : List Response) → IsBook Reading (next_entry s) (read_book s e d) → All IsWaiting s.tables.waiting → All Tells own
-      → All Tells (clunked s.tables (conn_of e) d.effect ++ own ++ deletions s.tables (deleted_by d.change) ++ served (serves s d) (next_entry s) (put_book s e d))
+      → All Tells (clunked s.tables (conn_of e) d.effect ++ own ++ deletions s.tables (deleted_by d.changes) ++ served (serves s d) (next_entry s) (put_book s e d))
   tell_with s e d own read waiting h =
       let at : ℕ = next_entry s in
-      let put : IsBook Reading at (put_book s e d) = book_put_all Reading at _ (changes_window d.change) (items_made s d) (book_opened Reading at (read_book s e d) d.events read) in
+      let put : IsBook Reading at (put_book s e d) = book_put_all Reading at _ (items_made s d) (book_opened Reading at (read_book s e d) d.events read) in
       let one : List Response = clunked s.tables (conn_of e) d.effect in
-      let two : List Response = deletions s.tables (deleted_by d.change) in
+      let two : List Response = deletions s.tables (deleted_by d.changes) in
       let three : List Response = served (serves s d) at (put_book s e d) in
       All-append Tells (one ++ own ++ two) three
-      (All-append Tells (one ++ own) two (All-append Tells one own (tell_clunked s.tables (conn_of e) d.effect waiting) h) (tell_deletions s.tables (deleted_by d.change) waiting))
+      (All-append Tells (one ++ own) two (All-append Tells one own (tell_clunked s.tables (conn_of e) d.effect waiting) h) (tell_deletions s.tables (deleted_by d.changes) waiting))
       (tell_served at (serves s d) (put_book s e d) put)
 
   -- what is true of the message of an event

@@ -9,7 +9,7 @@ use Rattle.ninep_types.specs.declared.message.RBody.{RBody}
 use Rattle.fid_table.specs.declared.types.Fid.{Fid}
 use Rattle.fid_table.specs.declared.session.Waiting.{Waiting}
 use Rattle.fid_table.specs.Tables.{Tables, nothing, fid_of, fids_of, is_waiting, is_waiting_on, after_join, after_done, after_hangup, after_put, after_take, after_version}
-use Rattle.win_events.specs.declared.item.Item.{Item}
+use Rattle.core_events.specs.declared.putting.WindowItem.{WindowItem}
 use Rattle.wait_queue.specs.declared.types.Asker.{Asker}
 use Rattle.wait_queue.specs.declared.types.Asked.{Asked}
 use Rattle.wait_queue.specs.declared.types.Asked.TheVariants.{Now, Waits}
@@ -30,7 +30,7 @@ use Rattle.core_answers.specs.declared.effect.EventChange.TheVariants as events
 use Rattle.core_events.specs.declared.response.Response.{Response}
 use Rattle.core_events.specs.Asking.{is_full, opened, read_said, book_asked, book_read, waits_unless}
 use Rattle.core_events.specs.Closing.{freed, cancelled, closed_with, opening_in, without_fids, without_opening}
-use Rattle.core_events.specs.Putting.{changes_window, put_all}
+use Rattle.core_events.specs.Putting.{put_all}
 use Rattle.core_events.specs.Waits.{deleted_by, ended, without_cancelled}
 use Rattle.acme_core.specs.declared.connection.Connection.{Connection}
 use Rattle.acme_core.specs.declared.connection.Connection.TheVariants.{Undialed, Live, Ended}
@@ -182,14 +182,14 @@ served_book P at true b book = book_serve_all P at b book
 served_book P at false b book = book
 
 -- items come, and reads are served
-pub items_book : (P : Asker → Type 0) (at : ℕ) (b : BookState) (e : EventChange) (w : Option ℕ) (items : List Item) (serves : Bool) → IsBook P at b
-    → IsBook P at (book_served serves at (put_all (opened b e) w items))
-items_book P at b e w items serves book =
-    served_book P at serves (put_all (opened b e) w items) (book_put_all P at (opened b e) w items (book_opened P at b e book))
+pub items_book : (P : Asker → Type 0) (at : ℕ) (b : BookState) (e : EventChange) (items : List WindowItem) (serves : Bool) → IsBook P at b
+    → IsBook P at (book_served serves at (put_all (opened b e) items))
+items_book P at b e items serves book =
+    served_book P at serves (put_all (opened b e) items) (book_put_all P at (opened b e) items (book_opened P at b e book))
 
-well_items : (cs : List Connection) (t : Tables) (at : ℕ) (b : BookState) (e : EventChange) (w : Option ℕ) (items : List Item) (serves : Bool) → AreWell cs t at b
-    → AreWell cs t at (book_served serves at (put_all (opened b e) w items))
-well_items cs t at b e w items serves well = record { fids = well.fids; waiting = well.waiting; book = items_book (IsHeld t) at b e w items serves well.book }
+well_items : (cs : List Connection) (t : Tables) (at : ℕ) (b : BookState) (e : EventChange) (items : List WindowItem) (serves : Bool) → AreWell cs t at b
+    → AreWell cs t at (book_served serves at (put_all (opened b e) items))
+well_items cs t at b e items serves well = record { fids = well.fids; waiting = well.waiting; book = items_book (IsHeld t) at b e items serves well.book }
 
 -- ---- what ends
 
@@ -308,18 +308,18 @@ well_msg s conn msg allowed well =
     let cs : List Connection = s.connections in
     let left : Tables = ended_with t conn d.effect in
     let freed_book : BookState = freed at b t conn d.effect in
-    well_closed cs (without_cancelled (ended left xs) conn d.events) at (cancelled freed_book conn d.events) (deleted_by d.change)
+    well_closed cs (without_cancelled (ended left xs) conn d.events) at (cancelled freed_book conn d.events) (deleted_by d.changes)
     (well_cancelled cs (ended left xs) at freed_book conn d.events
     (well_ended cs left at freed_book xs
     (well_freed cs t at b conn d.effect
-    (well_items cs t at (read_book p e d) d.events (changes_window d.change) (items_made p d) (serves p d) (well_read s conn msg allowed well)))))
+    (well_items cs t at (read_book p e d) d.events (items_made p d) (serves p d) (well_read s conn msg allowed well)))))
 
 -- an event that only changes windows
 well_change : (s : State) (d : Doing) (xs : List Response) → IsWell s
-    → AreWell s.connections (ended s.tables xs) (s.entries + 1) (book_served (serves (present s) d) (s.entries + 1) (put_all s.book (changes_window d.change) (items_made (present s) d)))
+    → AreWell s.connections (ended s.tables xs) (s.entries + 1) (book_served (serves (present s) d) (s.entries + 1) (put_all s.book (items_made (present s) d)))
 well_change s d xs well =
     well_ended s.connections s.tables (s.entries + 1) _ xs
-    (well_items s.connections s.tables (s.entries + 1) s.book events.Nothing (changes_window d.change) (items_made (present s) d) (serves (present s) d) (later s well))
+    (well_items s.connections s.tables (s.entries + 1) s.book events.Nothing (items_made (present s) d) (serves (present s) d) (later s well))
 
 pub well_step : (s : State) (e : Event) → enabled_at (present s) e ≡ None → IsWell s → IsWell (step s e)
 unfolding step

@@ -1,6 +1,10 @@
-pub mod FirstText
+pub mod Conditions
+pub mod Rooms
+pub mod KeptLemmas
+pub mod StoryLemmas
 pub mod Named
 pub mod PlaceLemmas
-pub mod Settings
-pub mod ShownLemmas
-pub mod Worlds
+pub mod NumberLemmas
+pub mod TagLemmas
+pub mod Steps
+pub mod GroupNumbers

@@ -1,6 +1,9 @@
+pub mod Places
 pub mod Windows
 pub mod Possible
+pub mod Panes
+pub mod Shapes
+pub mod Trail
+pub mod Numbering
 pub mod Stories
 pub mod WindowLaws
-pub mod Panes
-pub mod Ready

@@ -1,12 +1,14 @@
 -- Windows as they stand, and what is done to them.
-use Rattle.std.specs.Prelude.{ℕ, ◌+◌, ◌-◌, ◌==◌, ◌||◌, not, Bool, true, false, List, [], ◌∷◌, ◌++◌, length, codes, slice_get, slice_set, Option, Some, None, if◌then◌else◌}
-use Rattle.std.specs.List.{fold}
+use Rattle.std.specs.Prelude.{ℕ, ◌+◌, ◌-◌, ◌==◌, ◌||◌, not, Bool, true, false, List, [], ◌∷◌, ◌++◌, length, codes, Option, Some, None, if◌then◌else◌}
+use Rattle.std.specs.Option.{option_map}
 use Rattle.std.specs.Str.{bytes_eq}
 use Rattle.acme_tree.specs.declared.node.World.{World}
 use Rattle.am_text.specs.declared.range.Range.{Range}
 use Rattle.edit_log.specs.declared.types.Edit.{Edit}
-use Rattle.win_text.specs.Bodies.{BodyState, empty_body, applied, with_dot, with_addr, with_limit, marked_body}
-use Rattle.win_text.specs.BodyStories.{BodyChange, plan_of}
+use Rattle.win_text.specs.declared.types.TextPlan.{TextPlan}
+use Rattle.win_text.specs.Bodies.{BodyState, empty_body, applied, undo_plan_of, redo_plan_of, with_dot, with_addr, with_limit, marked_body}
+use Rattle.win_text.specs.BodyStories.{plan_of}
+use Rattle.core_windows.specs.Places.{at_place, at_number, gone}
 use Rattle.core_windows.specs.declared.change.Change.{Change}
 use Rattle.core_windows.specs.declared.change.Change.TheVariants as change
 use Rattle.core_windows.specs.declared.change.Setting.{Setting}
@@ -21,13 +23,9 @@ pub record Window : Type 0 where
 
 -- All windows that were ever made stand in a list, by number from 1. One that was deleted is None there.
 
-abbrev pub when_made : Option (Option Window) → Option Window
-when_made None = None
-when_made (Some window) = window
-
 -- the window of that number, if it lives
 abbrev pub window_at : List (Option Window) → ℕ → Option Window
-window_at windows w = if w == 0 then None else when_made (slice_get windows (w - 1))
+window_at windows w = at_number windows w
 
 -- ---- one window
 
@@ -35,62 +33,67 @@ window_at windows w = if w == 0 then None else when_made (slice_get windows (w -
 abbrev pub named_window : List ℕ → Window
 named_window name = record { name = name; right = codes " Look "; body = empty_body; modified = false }
 
--- a window after edits of its body
-abbrev pub edited : Window → BodyChange → Window
-edited window c = record window {
-  body = applied window.body (plan_of window.body c);
-  modified = window.modified || not (length c.edits == 0);
+-- a window after a plan of its body: edits modify it
+abbrev pub planned : TextPlan → Window → Window
+planned plan window = record window {
+  body = applied window.body plan;
+  modified = window.modified || not (length plan.edits == 0);
 }
 
--- a window whose addr is set, where that is said
-abbrev pub with_addr_if : Window → Option Range → Window
-with_addr_if window None = window
-with_addr_if window (Some range) = record window { body = with_addr window.body range }
+-- a window after a plan of its body, if there is one
+abbrev pub planned_if_any : Option TextPlan → Window → Window
+planned_if_any None window = window
+planned_if_any (Some plan) window = planned plan window
 
--- the edit that puts a text into an empty body; an empty text is none
-abbrev pub first_edits : List ℕ → List Edit
-first_edits text = if length text == 0 then [] else record { q0 = 0; q1 = 0; text = text } ∷ []
+-- the plan of edits by the step of this number: dot moves with them
+abbrev pub edit_plan : List Edit → ℕ → Window → TextPlan
+edit_plan edits at window = plan_of window.body (record { edits = edits; dot = None }) at
 
-abbrev pub first_change : List ℕ → BodyChange
-first_change text = record { edits = first_edits text; dot = None }
+-- a window after edits of its body by the step of this number
+abbrev pub edited : List Edit → ℕ → Window → Window
+edited edits at window = planned (edit_plan edits at window) window
 
--- a window that is made with a name, and whose body then gets a text
-abbrev pub made : List ℕ → List ℕ → Window
-made name text = edited (named_window name) (first_change text)
+-- after Undo and after Redo of its body, where there is a group
+abbrev pub undone_window : Window → Window
+undone_window window = planned_if_any (undo_plan_of window.body) window
+
+abbrev pub redone_window : Window → Window
+redone_window window = planned_if_any (redo_plan_of window.body) window
+
+-- with a text at the end of the right part of its tag
+abbrev pub added : List ℕ → Window → Window
+added text window = record window { right = window.right ++ text }
 
 -- a window with one setting changed
-abbrev pub set : Window → Setting → Window
-set window setting.AddrToDot = record window { body = with_addr window.body window.body.dot }
-set window setting.DotToAddr = record window { body = with_dot window.body window.body.addr }
-set window setting.LimitToAddr = record window { body = with_limit window.body (Some window.body.addr) }
-set window setting.NoLimit = record window { body = with_limit window.body None }
-set window (setting.Dot range) = record window { body = with_dot window.body range }
-set window (setting.Addr range) = record window { body = with_addr window.body range }
-set window setting.Clean = record window { modified = false }
-set window setting.Dirty = record window { modified = true }
-set window setting.ClearTag = record window { right = [] }
-set window (setting.Mark automatic) = record window { body = marked_body window.body automatic }
-set window (setting.Name name) = record window { name = name }
-
-abbrev pub set_all : Window → List Setting → Window
-set_all window settings = fold set window settings
+abbrev pub set : Setting → Window → Window
+set setting.AddrToDot window = record window { body = with_addr window.body window.body.dot }
+set setting.DotToAddr window = record window { body = with_dot window.body window.body.addr }
+set setting.LimitToAddr window = record window { body = with_limit window.body (Some window.body.addr) }
+set setting.NoLimit window = record window { body = with_limit window.body None }
+set (setting.Dot range) window = record window { body = with_dot window.body range }
+set (setting.Addr range) window = record window { body = with_addr window.body range }
+set setting.Clean window = record window { modified = false }
+set setting.Dirty window = record window { modified = true }
+set setting.ClearTag window = record window { right = [] }
+set (setting.Mark automatic) window = record window { body = marked_body window.body automatic }
+set (setting.Name name) window = record window { name = name }
 
 -- ---- all windows
 
--- the windows with something else in the place of that one, if it lives
-abbrev pub with_window : List (Option Window) → ℕ → Option Window → (Window → Option Window) → List (Option Window)
-with_window windows w None becomes = windows
-with_window windows w (Some window) becomes = slice_set windows (w - 1) (becomes window)
+-- after a change by the step of this number; window w stands at the place w - 1
+abbrev pub changed : ℕ → List (Option Window) → Change → List (Option Window)
+changed at ws (change.Makes name) = ws ++ Some (named_window name) ∷ []
+changed at ws (change.Deletes w) = at_place gone (w - 1) ws
+changed at ws (change.Edits w edits) = at_place (option_map (edited edits at)) (w - 1) ws
+changed at ws (change.Adds w text) = at_place (option_map (added text)) (w - 1) ws
+changed at ws (change.Sets w setting) = at_place (option_map (set setting)) (w - 1) ws
+changed at ws (change.Undoes w) = at_place (option_map undone_window) (w - 1) ws
+changed at ws (change.Redoes w) = at_place (option_map redone_window) (w - 1) ws
 
-abbrev pub changed : List (Option Window) → Change → List (Option Window)
-changed windows change.Nothing = windows
-changed windows (change.Makes name text) = windows ++ Some (made name text) ∷ []
-changed windows (change.Edits w edits dot addr) =
-    with_window windows w (window_at windows w) (λ window. Some (with_addr_if (edited window (record { edits = edits; dot = dot })) addr))
-changed windows (change.Adds w text) =
-    with_window windows w (window_at windows w) (λ window. Some (record window { right = window.right ++ text }))
-changed windows (change.Controls w settings deletes) =
-    with_window windows w (window_at windows w) (λ window. if deletes then None else Some (set_all window settings))
+-- after these changes by the step of this number, from first to last
+abbrev pub all_changed : ℕ → List (Option Window) → List Change → List (Option Window)
+all_changed at ws [] = ws
+all_changed at ws (c ∷ cs) = all_changed at (changed at ws c) cs
 
 -- the least number of a live window of that name, where the first window has this number
 abbrev pub named_from : ℕ → List (Option Window) → List ℕ → Option ℕ
@@ -100,6 +103,10 @@ named_from w (Some window ∷ ws) name = if bytes_eq window.name name then Some 
 
 abbrev pub named : List (Option Window) → List ℕ → Option ℕ
 named windows name = named_from 1 windows name
+
+-- the address of a window
+abbrev pub window_addr : Window → Range
+window_addr window = window.body.addr
 
 -- ---- what the trees are made of
 

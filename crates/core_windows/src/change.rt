@@ -1,4 +1,4 @@
-//! What a step does to the windows.
+//! What is done to the windows.
 
 use am_text::{Items, Range, Runes};
 use edit_log::Edits;
@@ -30,36 +30,24 @@ pub enum Setting {
     Name(Runes),
 }
 
-/// Settings, done from first to last.
-pub type Settings = Items<Setting>;
-
-/// What a step does to the windows.
+/// One thing that is done to the windows, each known by its number.
 #[derive(Drop)]
 pub enum Change {
-    /// Nothing.
-    Nothing,
-    /// A window of this name is made, and its body gets a text.
-    Makes {
-        name: Runes,
-        text: Runes,
-    },
-    /// The body of a window is edited, from the first edit to the last. Dot and the address are then set, or they move with the
-    /// edits.
-    Edits {
-        window: u32,
-        edits: Edits,
-        dot: Option<Range>,
-        addr: Option<Range>,
-    },
+    /// A window of this name is made, with an empty body.
+    Makes { name: Runes },
+    /// A window is deleted.
+    Deletes { window: u32 },
+    /// The body of a window is edited, from the first edit to the last. Dot and the address move with the edits.
+    Edits { window: u32, edits: Edits },
     /// A text is put at the end of the right part of a window's tag.
-    Adds {
-        window: u32,
-        text: Runes,
-    },
-    /// Parts of a window are set, and it is then deleted where that is said.
-    Controls {
-        window: u32,
-        settings: Settings,
-        deletes: bool,
-    },
+    Adds { window: u32, text: Runes },
+    /// A part of a window is set.
+    Sets { window: u32, setting: Setting },
+    /// The last group of edits of a window is taken back, if there is one.
+    Undoes { window: u32 },
+    /// The first undone group of a window is made again, if there is one.
+    Redoes { window: u32 },
 }
+
+/// Changes, done from first to last.
+pub type Changes = Items<Change>;

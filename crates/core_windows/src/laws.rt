@@ -1,25 +1,26 @@
 //! Laws of windows. Each function has a law as its contract, and does nothing.
 
-ghost use Rattle.core_windows.specs.WindowLaws.{ChangesShow, ChangesAreLawful};
+ghost use Rattle.core_windows.specs.WindowLaws.{ChangesShow, ChangesAreLawful, NumbersStay};
 
-use win_text::{begins_lawful, calls_are_shown, ranges_are_inside, stays_lawful};
+use win_text::{begins_lawful, numbers_never_fall};
 
-/// What a change makes of the windows as they stand is what it makes of them by all edits that were ever made.
+/// What the changes of a step make of the windows as they stand is what they make of them by all edits that were ever made.
 pub fn changes_show()
     ensures { ChangesShow }
 {
     begins_lawful();
-    stays_lawful();
-    calls_are_shown();
-    ranges_are_inside();
 }
 
-/// Windows by all edits are lawful at the start and after each change.
+/// Windows by all edits are lawful at the start and after the changes of each step.
 pub fn changes_are_lawful()
     ensures { ChangesAreLawful }
 {
     begins_lawful();
-    stays_lawful();
-    calls_are_shown();
-    ranges_are_inside();
+}
+
+/// Along the undo groups of each window the numbers never fall, and none is above that of the last step.
+pub fn group_numbers_never_fall()
+    ensures { NumbersStay }
+{
+    numbers_never_fall();
 }

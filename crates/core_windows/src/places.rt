@@ -1,82 +1,155 @@
-//! Windows by number and by name.
+//! The windows by place.
 
-ghost use Rattle.std.specs.Prelude.{◌≡◌, ◌+◌, ◌<◌, true, false, Option, Some, None, MatchOption, IfSome, IsSome, length, slice_get, slice_index_or, position};
+ghost use Rattle.std.specs.Prelude.{◌≡◌, ◌<◌, ◌++◌, ◌∷◌, vec_len, vec_capacity, [], length, IfOk, OnErr, Option, Some, None};
 ghost use Rattle.std.specs.Option.{option_map};
-ghost use Rattle.core_windows.specs.Windows.{window_at, world_of, named};
-ghost use Rattle.core_windows.specs.Panes.{window_of, windows_of, has_name, pane_if_made, pane_at, IsPlaceOf};
-ghost use Rattle.core_windows.specs.declared.pane.Pane.{Pane};
+ghost use Rattle.core_windows.specs.Places.{at_place, live_at, gone};
+ghost use Rattle.core_windows.specs.Windows.{Window, added, set, planned};
+ghost use Rattle.core_windows.specs.Shapes.{shape_of_pane, seen_of, shapes_of, seen_in, AreRoomier, IsReadyPane, Lives, Always, IsPlannable, IsSettable};
+ghost use Rattle.core_windows.specs.Trail.{undone, CanUndo, all_undone, CanGoBack};
 
+use crate::change::Setting;
 use crate::pane::Pane;
-use acme_tree::World;
-use am_text::Rune;
+use crate::slots::{add, make, reserve, set, settle_slot, take_back};
+use crate::undo::Undo;
+use am_text::{NoMemory, Rune};
+use std::alloc::Global;
+use std::mem;
+use win_text::{Ready, TextPlan};
 
-fn is_live(panes: &[Option<Pane>], place: usize) -> bool
-    ensures live { result ≡ true → (place < length panes.now) × ((d : Option Pane) → IsSome (slice_index_or panes.now place d)) }
-    ensures none { result ≡ false → pane_if_made (slice_get panes.now place) ≡ None }
+/// Makes ready to do a plan in the window at this place.
+pub(crate) fn reserve_at(
+    panes: &mut Vec<Option<Pane>>,
+    at: usize,
+    plan: &TextPlan,
+) -> Result<Ready, NoMemory>
+    requires within { at < length panes.old.items }
+    requires can { Lives (IsPlannable plan.now) (live_at (seen_in (shapes_of panes.old.items)) at) }
+    ensures roomier { AreRoomier (shapes_of panes.old.items) (shapes_of panes.new.items) }
+    ensures ready { IfOk result (λ ready. Lives (IsReadyPane plan.now ready) (live_at panes.new.items at)) }
 {
-    match panes.get(place) {
-        Some(pane) => pane.is_some(),
-        None => false,
+    reserve(&mut panes[at], plan)
+}
+
+/// Does a plan that is ready in the window at this place. It takes no memory.
+pub(crate) fn make_at(
+    panes: &mut Vec<Option<Pane>>,
+    at: usize,
+    plan: TextPlan,
+    ready: Ready,
+) -> Undo
+    requires within { at < length panes.old.items }
+    requires ready { Lives (IsReadyPane plan ready) (live_at panes.old.items at) }
+    ensures windows { seen_in (shapes_of panes.new.items) ≡ at_place (option_map (planned plan)) at (seen_in (shapes_of panes.old.items)) }
+    ensures back { undone result (shapes_of panes.new.items) ≡ shapes_of panes.old.items }
+    ensures can { CanUndo result (shapes_of panes.new.items) }
+{
+    Undo::Restore(at, make(&mut panes[at], plan, ready))
+}
+
+/// Puts a text at the end of the tag of the window at this place. A refusal changes nothing.
+pub(crate) fn add_at(
+    panes: &mut Vec<Option<Pane>>,
+    at: usize,
+    text: &[Rune],
+) -> Result<Undo, NoMemory>
+    requires within { at < length panes.old.items }
+    requires lives { Lives Always (live_at (seen_in (shapes_of panes.old.items)) at) }
+    ensures err { OnErr result (shapes_of panes.new.items ≡ shapes_of panes.old.items) }
+    ensures windows { IfOk result (λ undo. seen_in (shapes_of panes.new.items) ≡ at_place (option_map (added text.now)) at (seen_in (shapes_of panes.old.items))) }
+    ensures back { IfOk result (λ undo. undone undo (shapes_of panes.new.items) ≡ shapes_of panes.old.items) }
+    ensures can { IfOk result (λ undo. CanUndo undo (shapes_of panes.new.items)) }
+{
+    let slot = &mut panes[at];
+    match add(slot, text) {
+        Ok(back) => Ok(Undo::Restore(at, back)),
+        Err(error) => Err(error),
     }
 }
 
-/// The place of the window of that number, if it lives.
-pub(crate) fn place_of(panes: &[Option<Pane>], window: u32) -> Option<usize>
-    ensures { MatchOption result (pane_at panes.now window ≡ None) (IsPlaceOf panes.now window) }
+/// Sets a part of the window at this place. It takes no memory.
+pub(crate) fn set_at(
+    alloc: Global,
+    panes: &mut Vec<Option<Pane>>,
+    at: usize,
+    setting: Setting,
+) -> Undo
+    requires within { at < length panes.old.items }
+    requires can { Lives (IsSettable setting) (live_at (seen_in (shapes_of panes.old.items)) at) }
+    ensures windows { seen_in (shapes_of panes.new.items) ≡ at_place (option_map (set setting)) at (seen_in (shapes_of panes.old.items)) }
+    ensures back { undone result (shapes_of panes.new.items) ≡ shapes_of panes.old.items }
+    ensures can { CanUndo result (shapes_of panes.new.items) }
 {
-    let place = (window as usize).checked_sub(1)?;
-    if is_live(panes, place) {
-        Some(place)
-    } else {
-        None
+    Undo::Restore(at, set(alloc, &mut panes[at], setting))
+}
+
+/// Takes the window at this place away. It takes no memory.
+pub(crate) fn delete_at(panes: &mut Vec<Option<Pane>>, at: usize) -> Undo
+    requires within { at < length panes.old.items }
+    requires lives { Lives Always (live_at (seen_in (shapes_of panes.old.items)) at) }
+    ensures windows { seen_in (shapes_of panes.new.items) ≡ at_place gone at (seen_in (shapes_of panes.old.items)) }
+    ensures back { undone result (shapes_of panes.new.items) ≡ shapes_of panes.old.items }
+    ensures can { CanUndo result (shapes_of panes.new.items) }
+{
+    let slot = &mut panes[at];
+    match mem::replace(slot, None) {
+        Some(pane) => Undo::Revive(at, pane),
+        None => unreachable!(),
     }
 }
 
-/// The window of that number, if it lives.
-pub(crate) fn pane_at(panes: &[Option<Pane>], window: u32) -> Option<&Pane>
-    ensures { MatchOption result
-        (window_at (windows_of panes.now) window ≡ None)
-        (λ pane. window_at (windows_of panes.now) window ≡ Some (window_of pane.now)) }
+/// Puts a window behind the others, into the room that is there.
+pub(crate) fn put(panes: &mut Vec<Option<Pane>>, pane: Pane) -> Undo
+    requires { vec_len panes.old < vec_capacity panes.old }
+    ensures windows { seen_in (shapes_of panes.new.items) ≡ seen_in (shapes_of panes.old.items) ++ Some (seen_of (shape_of_pane pane)) ∷ [] }
+    ensures back { undone result (shapes_of panes.new.items) ≡ shapes_of panes.old.items }
+    ensures can { CanUndo result (shapes_of panes.new.items) }
 {
-    let place = place_of(panes, window)?;
-    panes[place].as_ref()
+    panes.push_reserved(Some(pane));
+    Undo::Unmake
 }
 
-fn has_name(pane: &Option<Pane>, name: &[Rune]) -> bool
-    ensures { result ≡ has_name name.now pane.now }
+// Takes a change back. It takes no memory.
+fn undo(panes: &mut Vec<Option<Pane>>, step: Undo)
+    requires { CanUndo step (shapes_of panes.old.items) }
+    ensures { shapes_of panes.new.items ≡ undone step (shapes_of panes.old.items) }
 {
-    match pane {
-        Some(pane) => pane.name.as_slice() == name,
-        None => false,
+    match step {
+        Undo::Unmake => {
+            panes.pop();
+        }
+        Undo::Revive(at, pane) => panes[at] = Some(pane),
+        Undo::Restore(at, back) => take_back(&mut panes[at], back),
     }
 }
 
-// The place of the first window that has this name.
-fn named_place(panes: &[Option<Pane>], name: &[Rune]) -> Option<usize>
-    ensures exact { result ≡ position (has_name name.now) panes.now }
-    ensures lives { IfSome result (λ place. (place < length panes.now) × ((d : Option Pane) → IsSome (slice_index_or panes.now place d))) }
+/// Takes all changes back, the newest first. It takes no memory.
+pub(crate) fn undo_all(panes: &mut Vec<Option<Pane>>, trail: &mut Vec<Undo>)
+    requires { CanGoBack trail.old.items (shapes_of panes.old.items) }
+    ensures shapes { shapes_of panes.new.items ≡ all_undone trail.old.items (shapes_of panes.old.items) }
+    ensures trail { trail.new.items ≡ [] }
 {
-    panes.iter().position(|pane| has_name(pane, name))
-}
-
-// The number of the window at a place.
-fn number_at(world: &World, panes: &[Option<Pane>], place: Option<usize>) -> Option<u32>
-    requires few { world.now ≡ world_of (windows_of panes.now) }
-    requires place { IfSome place (λ at. at < length panes.now) }
-    ensures { result ≡ option_map (λ at. at + 1) place }
-{
-    let _next = world.next;
-    match place {
-        Some(at) => Some(at as u32 + 1),
-        None => None,
+    while let Some(step) = trail.pop() {
+        undo(panes, step);
     }
 }
 
-/// The number of the first live window that has this name.
-pub(crate) fn number_of(world: &World, panes: &[Option<Pane>], name: &[Rune]) -> Option<u32>
-    requires { world.now ≡ world_of (windows_of panes.now) }
-    ensures number { result ≡ named (windows_of panes.now) name.now }
-    ensures lives { IfSome result (λ window. IsSome (window_at (windows_of panes.now) window)) }
+// What was done can't be taken back any more. It takes no memory.
+fn settle(panes: &mut Vec<Option<Pane>>, step: &Undo)
+    ensures { seen_in (shapes_of panes.new.items) ≡ seen_in (shapes_of panes.old.items) }
 {
-    number_at(world, panes, named_place(panes, name))
+    if let Undo::Restore(at, _) = step {
+        if *at < panes.len() {
+            settle_slot(&mut panes[*at]);
+        }
+    }
+}
+
+/// What was done can't be taken back any more. It takes no memory.
+pub(crate) fn settle_all(panes: &mut Vec<Option<Pane>>, trail: &mut Vec<Undo>)
+    ensures windows { seen_in (shapes_of panes.new.items) ≡ seen_in (shapes_of panes.old.items) }
+    ensures trail { trail.new.items ≡ [] }
+{
+    while let Some(step) = trail.pop() {
+        settle(panes, &step);
+    }
 }

@@ -1,118 +1,132 @@
-//! All windows, and the change that is made ready.
+//! All windows by number, in two states.
 
-ghost use Rattle.std.specs.Prelude.{◌≡◌, [], Some, None, MatchOption, IsSome, IfSome, IfOk, OnOk, OnErr};
-ghost use Rattle.core_windows.specs.Windows.{window_at, world_of, named, changed};
-ghost use Rattle.core_windows.specs.Possible.{IsPossible};
+ghost use Rattle.std.specs.Prelude.{◌≡◌, [], Some, None, MatchOption, IsSome, IfSome, IfOk, OnOk, OnErr, length};
+ghost use Rattle.std.specs.Option.{option_map};
+ghost use Rattle.am_text.specs.Twice.{both};
+ghost use Rattle.core_windows.specs.Windows.{window_at, window_addr, world_of, named, changed};
+ghost use Rattle.core_windows.specs.Possible.{CanChange};
 ghost use Rattle.core_windows.specs.Panes.{window_of, windows_of};
 
 use crate::change::Change;
-use crate::committing::make_change;
+use crate::finding::{number_of, pane_at};
+use crate::numbers::{Numbers, new_world, numbers_after, renumber, take_numbers_back};
 use crate::pane::Pane;
-use crate::places::{number_of, pane_at};
-use crate::prepared::Prepared;
-use crate::preparing::{new_world, ready_for};
+use crate::states::States;
 use acme_tree::World;
-use am_text::{NoMemory, Rune};
+use am_text::{NoMemory, Range, Rune};
 use std::alloc::Global;
 use std::marker::Model;
 
-/// All windows that were ever made, by number from 1, of which some live, and the change that is
-/// ready to be made.
+/// All windows that were ever made, by number from 1, of which some live, in two states: changes are made in the
+/// present one, which `keep` makes the kept one, and from which `back` leads to the kept one again.
 #[derive(Drop)]
 pub struct Windows {
     alloc: Global,
-    panes: Vec<Option<Pane>>,
+    states: States,
     world: World,
-    prepared: Option<Prepared>,
+    // The numbers of the kept state, where a window was made or deleted since.
+    earlier: Option<Numbers>,
 }
 
 impl Model for Windows {
-    ghost use Rattle.core_windows.specs.Panes.{Desk, windows_of};
+    ghost use Rattle.std.specs.Prelude.{List, Option};
+    ghost use Rattle.am_text.specs.Twice.{Twice};
+    ghost use Rattle.core_windows.specs.Windows.{Window};
 
-    ghost Value = { Desk };
+    ghost Value = { Twice (List (Option Window)) };
 
-    ghost use Rattle.core_windows.specs.Ready.{planned, IsKept};
+    ghost use Rattle.core_windows.specs.Numbering.{IsNumbered};
 
-    ghost view = { λ w. record { windows = windows_of w.panes.items; prepared = planned w.prepared } };
+    ghost view = { λ w. w.states };
 
-    ghost invariant = { λ w. IsKept w.panes w.world w.prepared };
+    ghost invariant = { λ w. IsNumbered w.states w.world w.earlier };
 }
 
 impl Windows {
     /// No window was ever made.
     pub fn new(alloc: Global) -> Result<Windows, NoMemory>
-        ensures { IfOk result (λ windows. windows ≡ record { windows = []; prepared = None }) }
+        ensures { IfOk result (λ windows. windows ≡ both []) }
     {
         Ok(Windows {
             alloc,
-            panes: Vec::new(alloc),
+            states: States::new(alloc),
             world: new_world(alloc)?,
-            prepared: None,
+            earlier: None,
         })
     }
 
     /// What the trees are made of: the numbers of the live windows, the names of the ports, and the
     /// number that the next window gets. No number is given twice.
     pub fn world(&self) -> &World
-        ensures { result.now ≡ world_of self.now.windows }
+        ensures { result.now ≡ world_of self.now.present }
     {
         &self.world
     }
 
     /// The windows by number from 1, with nothing in the place of a deleted one.
     pub fn panes(&self) -> &[Option<Pane>]
-        ensures { windows_of result.now ≡ self.now.windows }
+        ensures { windows_of result.now ≡ self.now.present }
     {
-        self.panes.as_slice()
+        self.states.panes()
+    }
+
+    /// How many windows were ever made.
+    pub fn count(&self) -> usize
+        ensures { result ≡ length self.now.present }
+    {
+        self.states.panes().len()
     }
 
     /// The window of that number, if it lives.
     pub fn get(&self, window: u32) -> Option<&Pane>
         ensures { MatchOption result
-            (window_at self.now.windows window ≡ None)
-            (λ pane. window_at self.now.windows window ≡ Some (window_of pane.now)) }
+            (window_at self.now.present window ≡ None)
+            (λ pane. window_at self.now.present window ≡ Some (window_of pane.now)) }
     {
-        pane_at(&self.panes, window)
+        pane_at(self.states.panes(), window)
     }
 
     /// The live window of least number that has this name.
     pub fn named(&self, name: &[Rune]) -> Option<u32>
-        ensures number { result ≡ named self.now.windows name.now }
-        ensures lives { IfSome result (λ window. IsSome (window_at self.now.windows window)) }
+        ensures number { result ≡ named self.now.present name.now }
+        ensures lives { IfSome result (λ window. IsSome (window_at self.now.present window)) }
     {
-        number_of(&self.world, &self.panes, name)
+        number_of(&self.world, self.states.panes(), name)
     }
 
-    /// Makes everything ready that a change needs. The windows stay, whatever the answer, and an
-    /// earlier change that wasn't made is dropped.
-    pub fn prepare(&mut self, change: Change) -> Result<(), NoMemory>
-        requires { IsPossible self.old.windows change }
-        ensures windows { self.new.windows ≡ self.old.windows }
-        ensures ok { OnOk result (self.new.prepared ≡ Some change) }
-        ensures err { OnErr result (self.new.prepared ≡ None) }
+    /// The address that the window of that number had at the last `keep`, if it lived then.
+    pub fn kept_addr(&self, window: u32) -> Option<Range>
+        ensures { result ≡ option_map window_addr (window_at self.now.kept window) }
     {
-        self.back();
-        let prepared = ready_for(self.alloc, &mut self.panes, &self.world, change)?;
-        self.prepared = Some(prepared);
+        let place = (window as usize).checked_sub(1)?;
+        self.states.kept_addr(place)
+    }
+
+    /// Makes a change of the step of this number, in the present state alone. A refusal changes nothing.
+    pub fn change(&mut self, change: Change, at: u64) -> Result<(), NoMemory>
+        requires { CanChange self.old.present change }
+        ensures ok { OnOk result (self.new ≡ record self.old { present = changed at self.old.present change }) }
+        ensures err { OnErr result (self.new ≡ self.old) }
+    {
+        let numbers = numbers_after(self.alloc, &self.world, &change)?;
+        self.states.change(change, at)?;
+        renumber(&mut self.world, &mut self.earlier, numbers);
         Ok(())
     }
 
-    /// Makes the change that is ready. One of a window that doesn't live changes nothing. It takes
-    /// no memory.
-    pub fn commit(&mut self)
-        requires { IsSome self.old.prepared }
-        ensures { IfSome self.old.prepared (λ change. self.new ≡ record { windows = changed self.old.windows change; prepared = None }) }
+    /// The present state becomes the kept one. It takes no memory.
+    pub fn keep(&mut self)
+        ensures { self.new ≡ both self.old.present }
     {
-        let Some(prepared) = self.prepared.take() else {
-            unreachable!()
-        };
-        make_change(self.alloc, &mut self.panes, &mut self.world, prepared);
+        self.states.keep();
+        self.earlier = None;
     }
 
-    /// Drops the change that is ready. It takes no memory.
+    /// The kept state becomes the present one again. It takes no memory.
     pub fn back(&mut self)
-        ensures { self.new ≡ record self.old { prepared = None } }
+        ensures { self.new ≡ both self.old.kept }
     {
-        self.prepared = None;
+        self.states.back();
+        take_numbers_back(&mut self.world, &mut self.earlier);
     }
 }

@@ -1,11 +1,21 @@
 -- Groups in vectors.
-use Rattle.std.specs.Prelude.{ℕ, ◌+◌, ◌-◌, ◌≤◌, List, length, slice_index_or, vec_len, vec_capacity}
-use Rattle.std.specs.Global.{Vec}
-use Rattle.edit_log.specs.declared.types.Done.{Done}
+use Rattle.std.specs.Prelude.{ℕ, ◌+◌, ◌-◌, ◌≤◌, ◌==◌, Bool, not, List, take, drop, slice_index_or, Option, Some, None, vec_len, vec_capacity}
+use Rattle.edit_log.specs.declared.types.Marking.{Marking}
+use Rattle.edit_log.specs.declared.log.Group.{Group}
+use Rattle.edit_log.specs.Groups.{DoneGroup, Log, goes_on}
 
-abbrev pub edits_of : Vec Done → List Done
-edits_of v = v.items
+abbrev pub group_of : Group → DoneGroup
+group_of g = record { number = g.number; edits = g.edits.items }
 
--- the last group has room for n more edits
-abbrev pub LastSpare : ℕ → List (Vec Done) → Type 0
-LastSpare n gs = (d : Vec Done) → (let v = slice_index_or gs (length gs - 1) d in vec_len v + n ≤ vec_capacity v)
+-- the group at this place has room for n more edits
+abbrev pub SpareAt : ℕ → ℕ → List Group → Type 0
+SpareAt k n gs = (d : Group) → (let v = (slice_index_or gs k d).edits in vec_len v + n ≤ vec_capacity v)
+
+-- edits of the step that room is ready for, or where that is any, of some step, go to the last group, of so many
+abbrev pub may_go_on : Marking → ℕ → Option ℕ → Bool
+may_go_on m groups None = not (groups == 0)
+may_go_on m groups (Some number) = goes_on m groups number
+
+-- the first of these groups are past, those up to `end` are undone, and the others are forgotten
+abbrev pub log_of : List DoneGroup → ℕ → ℕ → Marking → ℕ → Option ℕ → Log
+log_of gs done end marking room ready = record { past = take done gs; future = take (end - done) (drop done gs); forgotten = drop end gs; marking = marking; room = room; ready = ready }

@@ -6,7 +6,7 @@ use Rattle.std.proofs.lemmas.List.{length-append, length-take-le, length-replica
 use Rattle.ninep_cut.specs.declared.cut.Cut.{Cut}
 use Rattle.ninep_cut.specs.declared.cut.Cut.TheVariants.{Whole, More, Broken}
 use Rattle.ninep_cut.specs.Cuts.{size_of, is_lawful, IsMessage, cut_of, first_of, behind_first}
-use Rattle.ninep_cut.specs.Laws.{WholeWhere, MoreWhere, BrokenWhere, StaysBroken}
+use Rattle.ninep_cut.specs.Laws.{WholeWhere, MoreWhere, BrokenWhere, StaysBroken, FrontIs}
 
 -- ---- the size
 
@@ -129,6 +129,9 @@ message_first message rest m = take_at message rest (size_of (message ++ rest)) 
 pub message_behind : (message rest : List ℕ) → IsMessage message → behind_first (message ++ rest) ≡ rest
 message_behind message rest m = drop_at message rest (size_of (message ++ rest)) (sym (message_size message rest m))
 
+pub front_is : FrontIs
+front_is message rest m = (message_whole message rest m, message_first message rest m, message_behind message rest m)
+
 -- ---- where each answer comes
 
 pub whole_where : WholeWhere
@@ -183,4 +186,4 @@ first_four bytes e = let w = whole_at bytes e in omega arith
 pub first_within : (bytes : List ℕ) → cut_of bytes ≡ Whole → size_of bytes ≤ length bytes
 first_within bytes e = (whole_at bytes e).within
 
-pub ruleset fronts = (first_four, first_within)
+pub ruleset fronts = (first_four, first_within, first_is_message, first_and_behind)

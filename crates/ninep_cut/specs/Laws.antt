@@ -2,7 +2,7 @@
 use Rattle.std.specs.Prelude.{◌≡◌, ◌≢◌, ◌≤◌, ◌<◌, ◌⊎◌, ◌↔◌, ℕ, List, ◌++◌, length, All}
 use Rattle.std.specs.List.{concat}
 use Rattle.ninep_cut.specs.declared.cut.Cut.TheVariants.{Whole, More, Broken}
-use Rattle.ninep_cut.specs.Cuts.{size_of, IsMessage, cut_of, then_cut, cut_stream}
+use Rattle.ninep_cut.specs.Cuts.{size_of, IsMessage, cut_of, first_of, behind_first, then_cut, cut_stream}
 use Rattle.ninep_cut.specs.Calls.{Call, after_calls, fed}
 
 -- ---- where each answer comes
@@ -22,6 +22,10 @@ BrokenWhere = (bytes : List ℕ) (size : ℕ) → (cut_of bytes ≡ Broken size)
 -- what is broken stays so, whatever is fed
 abbrev pub StaysBroken : Type 0
 StaysBroken = (bytes more : List ℕ) (size : ℕ) → cut_of bytes ≡ Broken size → cut_of (bytes ++ more) ≡ Broken size
+
+-- A whole message is the one at the front, whatever stands behind it.
+abbrev pub FrontIs : Type 0
+FrontIs = (message rest : List ℕ) → IsMessage message → (cut_of (message ++ rest) ≡ Whole) × (first_of (message ++ rest) ≡ message) × (behind_first (message ++ rest) ≡ rest)
 
 -- ---- the cut is the longest
 

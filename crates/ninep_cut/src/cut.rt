@@ -1,7 +1,7 @@
 //! What stands at the front of a stream.
 
-ghost use Rattle.std.specs.Prelude.{◌≡◌, ◌<◌, ◌≤◌, length};
-ghost use Rattle.ninep_cut.specs.Cuts.{size_of, is_lawful, cut_of, first_of};
+ghost use Rattle.std.specs.Prelude.{◌≡◌, ◌<◌, ◌≤◌, ◌++◌, length};
+ghost use Rattle.ninep_cut.specs.Cuts.{size_of, is_lawful, cut_of, first_of, behind_first, IsMessage};
 
 /// What `Cutter::next` found at the front of the bytes.
 #[derive(Clone, Copy, Debug, PartialEq, Eq)]
@@ -30,9 +30,9 @@ fn is_lawful(size: u32) -> bool
     (7..=65_560).contains(&size)
 }
 
-// What stands at the front of the bytes.
+/// What stands at the front of the bytes. It takes no memory.
 #[tactic(auto, unfolding(crate::specs::Cuts::cut_of))]
-pub(crate) fn cut_of(bytes: &[u8]) -> Cut
+pub fn cut_of(bytes: &[u8]) -> Cut
     ensures { result ≡ cut_of bytes.now }
 {
     if bytes.len() < 4 {
@@ -48,13 +48,15 @@ pub(crate) fn cut_of(bytes: &[u8]) -> Cut
     Cut::Whole
 }
 
-// The message that stands whole at the front.
+/// The message that stands whole at the front. It takes no memory.
 #[tactic(auto, using(crate::proofs::Fronts::fronts))]
-pub(crate) fn first_of(bytes: &[u8]) -> &[u8]
+pub fn first_of(bytes: &[u8]) -> &[u8]
     requires { cut_of bytes.now ≡ Cut.Whole }
     ensures message { result.now ≡ first_of bytes.now }
     ensures len { length result.now ≡ size_of bytes.now }
     ensures within { length result.now ≤ length bytes.now }
+    ensures whole { IsMessage result.now }
+    ensures front { bytes.now ≡ result.now ++ behind_first bytes.now }
 {
     let (message, _) = bytes.split_at(size_of(bytes) as usize);
     message

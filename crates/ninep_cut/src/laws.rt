@@ -1,6 +1,6 @@
 //! Laws of the cut. Each function has laws as its contract, and does nothing.
 
-ghost use Rattle.ninep_cut.specs.Laws.{WholeWhere, MoreWhere, BrokenWhere, StaysBroken, JoinsBytes, AreMessages, LeavesNone, BeginsWith, IsLongest, JoinsPieces, CutsNoMore, GivesTheCut, GivesAll};
+ghost use Rattle.ninep_cut.specs.Laws.{WholeWhere, MoreWhere, BrokenWhere, StaysBroken, FrontIs, JoinsBytes, AreMessages, LeavesNone, BeginsWith, IsLongest, JoinsPieces, CutsNoMore, GivesTheCut, GivesAll};
 
 /// Where each answer comes.
 pub fn answers_are_exact()
@@ -8,6 +8,7 @@ pub fn answers_are_exact()
     ensures more { MoreWhere }
     ensures broken { BrokenWhere }
     ensures stays { StaysBroken }
+    ensures front { FrontIs }
 {}
 
 /// The cut of a stream is the longest list of whole messages from the front, and the rest.

@@ -9,6 +9,6 @@ mod cutter;
 mod laws;
 
 pub use am_text::{Bytes, Items, NoMemory};
-pub use cut::Cut;
+pub use cut::{Cut, cut_of, first_of};
 pub use cutter::Cutter;
 pub use laws::{answers_are_exact, cuts_are_longest, pieces_are_joined};

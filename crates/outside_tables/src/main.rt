@@ -1,10 +1,11 @@
-// A table of cases for the objects in memory: each line of standard input is a case, and its answer is written in a
+// A table of cases for the objects in memory, and for a client over them: each line of standard input is a case, and its answer is written in a
 // line. A line that is no case is answered `?`.
 //
 // It is a test program. Its stored input and output are compared when it is run; no contract says what it
 // writes.
 #![tactic(auto)]
 
+mod client;
 mod fault;
 mod outside;
 

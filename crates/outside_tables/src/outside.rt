@@ -11,12 +11,14 @@
 //! | `link` HOW | both halves are asked for twice | for each time `done` or `failed` |
 //! | `gate` HOW | two connections are taken | the same |
 //! | `host` FAILS PATH SLOTS | a host with a gate for slot 1 of `/tmp/acme` is asked for those of these slots of a path | the same |
+//! | `dial` FAILS PATH TIMES | a host whose gates of `/tmp/acme` give, fail and give is so often dialled at a path | the same |
 //!
 //! A link or a gate whose HOW is `gives` hands out, and one whose HOW is `fails` never does. SLOTS are numbers with commas
 //! between them. The answers of several calls have a blank between them.
 
 ghost use Rattle.std.specs.Prelude.{◌≡◌, IfOk};
 
+use crate::client::client_line;
 use crate::fault::Fault;
 use am_base::{
     Failed, Gate, Host, Link, MemGate, MemHost, MemLink, MemSink, MemSource, NeverFails, ReadStop,
@@ -39,7 +41,7 @@ const PATH: &str = "/tmp/acme";
 
 const SLOT: u32 = 1;
 
-fn cut(fields: &str) -> Result<(&str, &str), Fault> {
+pub(crate) fn cut(fields: &str) -> Result<(&str, &str), Fault> {
     match fields.split_once('\t') {
         Some(parts) => Ok(parts),
         None => Err(Fault::NoCase),
@@ -53,7 +55,7 @@ fn number_of(field: &str) -> Result<u64, Fault> {
     }
 }
 
-fn size_of(field: &str) -> Result<usize, Fault> {
+pub(crate) fn size_of(field: &str) -> Result<usize, Fault> {
     match field.parse() {
         Ok(size) => Ok(size),
         Err(_) => Err(Fault::NoCase),
@@ -67,7 +69,7 @@ fn slot_of(field: &str) -> Result<u32, Fault> {
     }
 }
 
-fn numbers_of(alloc: Global, field: &str) -> Result<Numbers, Fault> {
+pub(crate) fn numbers_of(alloc: Global, field: &str) -> Result<Numbers, Fault> {
     let mut numbers = Items::new(alloc);
     if field == "-" {
         return Ok(numbers);
@@ -86,18 +88,31 @@ fn is_failing(field: &str) -> Result<bool, Fault> {
     }
 }
 
-fn source_of(alloc: Global, piece: &str, fails: Numbers, text: &str) -> Result<MemSource, Fault>
+fn text_of(alloc: Global, text: &str) -> Result<Bytes, Fault> {
+    Ok(Bytes::copied(alloc, text.as_bytes())?)
+}
+
+pub(crate) fn source_of(
+    alloc: Global,
+    piece: &str,
+    fails: Numbers,
+    bytes: Bytes,
+) -> Result<MemSource, Fault>
     ensures { IfOk result (λ source. source.calls.fail_at ≡ fails) }
 {
     let piece = size_of(piece)?;
     if piece == 0 {
         return Err(Fault::NoCase);
     }
-    let text = Bytes::copied(alloc, text.as_bytes())?;
-    Ok(MemSource::new(text, piece, fails))
+    Ok(MemSource::new(bytes, piece, fails))
 }
 
-fn sink_of(alloc: Global, piece: &str, fails: Numbers, room: &str) -> Result<MemSink, Fault> {
+pub(crate) fn sink_of(
+    alloc: Global,
+    piece: &str,
+    fails: Numbers,
+    room: &str,
+) -> Result<MemSink, Fault> {
     let piece = size_of(piece)?;
     if piece == 0 {
         return Err(Fault::NoCase);
@@ -106,7 +121,7 @@ fn sink_of(alloc: Global, piece: &str, fails: Numbers, room: &str) -> Result<Mem
 }
 
 // Puts what a call gave behind the answers before it.
-fn put(line: &mut Bytes, word: &[u8]) -> Result<(), Fault> {
+pub(crate) fn put(line: &mut Bytes, word: &[u8]) -> Result<(), Fault> {
     if !line.is_empty() {
         line.push(BLANK)?;
     }
@@ -134,14 +149,19 @@ fn whole_line(alloc: Global, fields: &str) -> Result<Bytes, Fault> {
     let (piece, fields) = cut(fields)?;
     let (limit, fields) = cut(fields)?;
     let (fails, text) = cut(fields)?;
-    let mut source = source_of(alloc, piece, numbers_of(alloc, fails)?, text)?;
+    let mut source = source_of(
+        alloc,
+        piece,
+        numbers_of(alloc, fails)?,
+        text_of(alloc, text)?,
+    )?;
     read_all(alloc, &mut source, limit)
 }
 
 fn sure_line(alloc: Global, fields: &str) -> Result<Bytes, Fault> {
     let (piece, fields) = cut(fields)?;
     let (limit, text) = cut(fields)?;
-    let source = source_of(alloc, piece, Numbers::new(alloc), text)?;
+    let source = source_of(alloc, piece, Numbers::new(alloc), text_of(alloc, text)?)?;
     read_all(alloc, &mut NeverFails::new(source), limit)
 }
 
@@ -157,7 +177,12 @@ fn reads_line(alloc: Global, fields: &str) -> Result<Bytes, Fault> {
     let (piece, fields) = cut(fields)?;
     let (fails, fields) = cut(fields)?;
     let (times, text) = cut(fields)?;
-    let mut source = source_of(alloc, piece, numbers_of(alloc, fails)?, text)?;
+    let mut source = source_of(
+        alloc,
+        piece,
+        numbers_of(alloc, fails)?,
+        text_of(alloc, text)?,
+    )?;
     let mut line = Bytes::new(alloc);
     for _ in 0..size_of(times)? {
         put_read(&mut line, &mut source)?;
@@ -185,7 +210,7 @@ fn writes_line(alloc: Global, fields: &str) -> Result<Bytes, Fault> {
 }
 
 fn link_of(alloc: Global, how: &str) -> Result<MemLink, Fault> {
-    let source = source_of(alloc, "1", Numbers::new(alloc), "")?;
+    let source = source_of(alloc, "1", Numbers::new(alloc), Bytes::new(alloc))?;
     let sink = sink_of(alloc, "1", Numbers::new(alloc), "1")?;
     Ok(MemLink::new(source, sink, is_failing(how)?))
 }
@@ -209,6 +234,21 @@ fn gate_line(alloc: Global, how: &str) -> Result<Bytes, Fault> {
     let mut line = Bytes::new(alloc);
     for _ in 0..TIMES {
         put(&mut line, word_of(gate.accept()))?;
+    }
+    Ok(line)
+}
+
+fn dial_line(alloc: Global, fields: &str) -> Result<Bytes, Fault> {
+    let (fails, fields) = cut(fields)?;
+    let (path, times) = cut(fields)?;
+    let mut gates = Items::new(alloc);
+    for how in ["gives", "fails", "gives"] {
+        gates.push(gate_of(alloc, how)?)?;
+    }
+    let mut host = MemHost::new(gates, numbers_of(alloc, fails)?);
+    let mut line = Bytes::new(alloc);
+    for _ in 0..size_of(times)? {
+        put(&mut line, word_of(host.dial(path)))?;
     }
     Ok(line)
 }
@@ -237,6 +277,8 @@ pub fn answer(alloc: Global, line: &str) -> Result<Bytes, Fault> {
         "link" => link_line(alloc, fields),
         "gate" => gate_line(alloc, fields),
         "host" => host_line(alloc, fields),
+        "dial" => dial_line(alloc, fields),
+        "client" => client_line(alloc, fields),
         _ => Err(Fault::NoCase),
     }
 }

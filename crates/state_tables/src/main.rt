@@ -12,8 +12,10 @@ mod call;
 mod edits;
 mod fault;
 mod items;
+mod log;
 mod ports;
 mod queue;
+mod stores;
 mod tables;
 
 use fault::Fault;

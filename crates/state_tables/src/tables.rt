@@ -17,8 +17,10 @@
 use crate::answers::says;
 use crate::call::{Call, read_call};
 use crate::fault::Fault;
-use crate::{body, book, ports, queue};
+use crate::stores::Stores;
+use crate::{body, book, log, ports, queue, stores};
 use am_text::{Bytes, NoMemory};
+use edit_log::UndoLog;
 use event_book::Book;
 use plumb_ports::Ports;
 use std::alloc::Global;
@@ -29,9 +31,11 @@ use win_text::Body;
 #[derive(Drop)]
 pub struct Tables {
     body: Body,
+    log: UndoLog,
     queue: WaitQueue,
     book: Book,
     ports: Ports,
+    stores: Stores,
 }
 
 impl Tables {
@@ -40,9 +44,11 @@ impl Tables {
         let ports = Ports::new(alloc)?;
         Ok(Tables {
             body: Body::new(alloc),
+            log: UndoLog::new(alloc),
             queue: WaitQueue::new(alloc),
             book: Book::new(alloc),
             ports,
+            stores: Stores::new(alloc),
         })
     }
 }
@@ -55,9 +61,11 @@ fn called(
 ) -> Result<Bytes, Fault> {
     match table {
         "body" => body::answer(alloc, &mut tables.body, call),
+        "log" => log::answer(alloc, &mut tables.log, call),
         "queue" => queue::answer(alloc, &mut tables.queue, call),
         "book" => book::answer(alloc, &mut tables.book, call),
         "ports" => ports::answer(alloc, &mut tables.ports, call),
+        "stores" => stores::answer(alloc, &mut tables.stores, call),
         _ => Err(Fault::NoCase),
     }
 }

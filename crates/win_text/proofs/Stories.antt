@@ -7,7 +7,7 @@ use Rattle.am_text.specs.declared.range.Range.{Range}
 use Rattle.edit_log.specs.declared.types.Edit.{Edit}
 use Rattle.edit_log.specs.declared.types.Done.{Done}
 use Rattle.edit_log.specs.Edited.{text_after}
-use Rattle.edit_log.specs.Groups.{undoing, redoing, last_of, first_of}
+use Rattle.edit_log.specs.Groups.{DoneGroup, undoing, redoing, undoing_group, redoing_group, last_of, first_of}
 use Rattle.win_text.specs.Bodies.{IsInside, IsLimitInside, AreInRange, done_group, moved, moved_limit, BodyState, IsSound, IsPlanFor, applied, History, undone_history, redone_history, history_after, edits_to_undo, edits_to_redo, IsHistoryOf, put_range, plan_with, applied_if_any}
 use Rattle.win_text.specs.BodyStories.{KeptRange, BodyStory, BodyChange, IsChangeOf, story_text, shown, range_now, limit_now, set_at, limit_at, kept_or_set, moved_or_set, story_changed, story_moved, plan_of}
 use Rattle.win_text.specs.Laws.{IsKept, IsLimitKept, IsLawful, CallsKeepLawful, EachIsShown}
@@ -19,7 +19,7 @@ use Rattle.win_text.proofs.Edits.{images_append, text_append, range_append, rang
 
 -- ---- what is shown
 
-moved_append : (r : Range) (es fs : List Edit) → moved r (es ++ fs) ≡ moved (moved r es) fs
+pub moved_append : (r : Range) (es fs : List Edit) → moved r (es ++ fs) ≡ moved (moved r es) fs
 moved_append r es fs = rw (images_append r.q0 es fs, images_append r.q1 es fs) refl
 
 range_later : (es fs : List Edit) (k : KeptRange) → k.at ≤ length es → range_now (es ++ fs) k ≡ moved (range_now es k) fs
@@ -40,18 +40,18 @@ dot_later : (es fs : List Edit) (k : KeptRange) (dot : Option Range) → k.at �
 dot_later es fs k None h = range_later es fs k h
 dot_later es fs k (Some r) h = range_set (es ++ fs) r
 
-changed_shown : (s : BodyStory) (c : BodyChange) → IsLawful s → shown (story_changed s c) ≡ applied (shown s) (plan_of (shown s) c)
-changed_shown s c h =
+changed_shown : (s : BodyStory) (c : BodyChange) (number : ℕ) → IsLawful s → shown (story_changed s c number) ≡ applied (shown s) (plan_of (shown s) c number)
+changed_shown s c number h =
     rw (text_append [] s.edits c.edits, dot_later s.edits c.edits s.dot c.dot h.dot.at, range_later s.edits c.edits s.addr h.addr.at, limit_later s.edits c.edits s.limit h.limit) refl
 
-moved_shown : (s : BodyStory) (kind : PlanKind) (o : Option (List Edit)) (history : History) → IsLawful s → ((group : List Done) → history ≡ history_after kind s.history group) → shown (story_moved s o history) ≡ applied_if_any (shown s) (option_map (plan_with kind) o)
+moved_shown : (s : BodyStory) (kind : PlanKind) (o : Option (List Edit)) (history : History) → IsLawful s → ((group : List Done) → history ≡ history_after kind s.history group 0) → shown (story_moved s o history) ≡ applied_if_any (shown s) (option_map (plan_with kind) o)
 moved_shown s kind None history h e = refl
 moved_shown s kind (Some es) history h e =
     rw (text_append [] s.edits es, range_set (s.edits ++ es) (put_range es), range_later s.edits es s.addr h.addr.at, limit_later s.edits es s.limit h.limit, e (done_group (story_text s) es)) refl
 
 pub each_shown : (s : BodyStory) → IsLawful s → EachIsShown s
 each_shown s h = record {
-  changed = λ c. changed_shown s c h;
+  changed = λ c number. changed_shown s c number h;
   dot = λ r. rw (range_set s.edits r) refl;
   addr = λ r. rw (range_set s.edits r) refl;
   limit = λ r. rw (limit_set s.edits r) refl;
@@ -119,21 +119,21 @@ moved_lawful s es history h r k = record {
   groups = k.groups;
 }
 
-undone_lawful : (s : BodyStory) (o : Option (List Done)) → last_of s.history.past ≡ o → IsLawful s → IsLawful (story_moved s (option_map undoing o) (undone_history s.history))
+undone_lawful : (s : BodyStory) (o : Option DoneGroup) → last_of s.history.past ≡ o → IsLawful s → IsLawful (story_moved s (option_map undoing_group o) (undone_history s.history))
 undone_lawful s None e h = h
 undone_lawful s (Some g) e h =
     let k = lawful_history s h in
-    moved_lawful s (undoing g) (undone_history s.history) h (undo_range (story_text s) s.history.past s.history.future g k e) (undo_history (story_text s) s.history.past s.history.future g k e)
+    moved_lawful s (undoing g.edits) (undone_history s.history) h (undo_range (story_text s) s.history.past s.history.future g k e) (undo_history (story_text s) s.history.past s.history.future g k e)
 
-redone_lawful : (s : BodyStory) (o : Option (List Done)) → first_of s.history.future ≡ o → IsLawful s → IsLawful (story_moved s (option_map redoing o) (redone_history s.history))
+redone_lawful : (s : BodyStory) (o : Option DoneGroup) → first_of s.history.future ≡ o → IsLawful s → IsLawful (story_moved s (option_map redoing_group o) (redone_history s.history))
 redone_lawful s None e h = h
 redone_lawful s (Some g) e h =
     let k = lawful_history s h in
-    moved_lawful s (redoing g) (redone_history s.history) h (redo_range (story_text s) s.history.past s.history.future g k e) (redo_history (story_text s) s.history.past s.history.future g k e)
+    moved_lawful s (redoing g.edits) (redone_history s.history) h (redo_range (story_text s) s.history.past s.history.future g k e) (redo_history (story_text s) s.history.past s.history.future g k e)
 
-changed_lawful : (s : BodyStory) (c : BodyChange) → IsLawful s → IsChangeOf (story_text s) c → IsLawful (story_changed s c)
-changed_lawful s c h i =
-    let k = changed_history (story_text s) s.history c.edits (lawful_history s h) i.edits in
+changed_lawful : (s : BodyStory) (c : BodyChange) (number : ℕ) → IsLawful s → IsChangeOf (story_text s) c → IsLawful (story_changed s c number)
+changed_lawful s c number h i =
+    let k = changed_history (story_text s) s.history c.edits number (lawful_history s h) i.edits in
     record {
       edits = range_append [] s.edits c.edits h.edits i.edits;
       dot = dot_kept s.edits c.edits s.dot c.dot h.dot i.dot;
@@ -145,7 +145,7 @@ changed_lawful s c h i =
 
 pub calls_keep_lawful : (s : BodyStory) → IsLawful s → CallsKeepLawful s
 calls_keep_lawful s h = record {
-  changed = λ c i. changed_lawful s c h i;
+  changed = λ c number i. changed_lawful s c number h i;
   dot = λ r i. record { edits = h.edits; dot = kept_set s.edits r i; addr = h.addr; limit = h.limit; history = h.history; groups = h.groups };
   addr = λ r i. record { edits = h.edits; dot = h.dot; addr = kept_set s.edits r i; limit = h.limit; history = h.history; groups = h.groups };
   limit = λ r i. record { edits = h.edits; dot = h.dot; addr = h.addr; limit = limit_kept_set s.edits r i; history = h.history; groups = h.groups };
@@ -160,8 +160,8 @@ pub planned_dot : (t : List ℕ) (es : List Edit) (dot : Range) (set : Option Ra
 planned_dot t es dot None h i k = moved_inside t es dot h i
 planned_dot t es dot (Some r) h i k = k
 
-pub plan_sound : (s : BodyState) (c : BodyChange) → IsSound s → IsChangeOf s.text c → IsPlanFor s (plan_of s c)
-plan_sound s c h i = record {
+pub plan_sound : (s : BodyState) (c : BodyChange) (number : ℕ) → IsSound s → IsChangeOf s.text c → IsPlanFor s (plan_of s c number)
+plan_sound s c number h i = record {
   edits = i.edits;
   dot = planned_dot s.text c.edits s.dot c.dot i.edits h.dot i.dot;
   kind = tt;

@@ -1,67 +1,69 @@
 -- The body of a window, as it is kept: its text and ranges as they are now.
-use Rattle.std.specs.Prelude.{◌≡◌, ℕ, ◌+◌, ◌<◌, ◌≤◌, ◌^◌, Bool, true, false, not, List, [], ◌∷◌, ◌++◌, length, drop, slice_range, Option, Some, None}
+use Rattle.std.specs.Prelude.{◌≡◌, ℕ, ◌+◌, ◌<◌, ◌≤◌, ◌^◌, Bool, List, [], ◌∷◌, ◌++◌, length, drop, slice_range, Option, Some, None}
 use Rattle.std.specs.Option.{option_map}
 use Rattle.am_text.specs.declared.range.Range.{Range}
 use Rattle.edit_log.specs.declared.types.Edit.{Edit}
 use Rattle.edit_log.specs.declared.types.Done.{Done}
 use Rattle.edit_log.specs.Edited.{after, text_after, images}
-use Rattle.edit_log.specs.Groups.{Log, joined, undoing, redoing, last_of, first_of, before_last, with_last_of, with_first_of}
+use Rattle.edit_log.specs.declared.types.Marking.{Marking}
+use Rattle.edit_log.specs.Groups.{DoneGroup, Log, IsReadyFor, no_marking, goes_on, grown, marking_after, marked_marking, ended, redoing, undoing_group, redoing_group, last_of, first_of, before_last, with_last_of, with_first_of}
 use Rattle.win_text.specs.declared.types.TextPlan.{TextPlan}
 use Rattle.win_text.specs.declared.types.PlanKind.{PlanKind}
 use Rattle.win_text.specs.declared.types.PlanKind.TheVariants.{Change, Undo, Redo}
 
 -- ---- the groups that Undo takes back
 
--- an undo log without its room
+-- an undo log without its room, and without what is forgotten
 pub record History : Type 0 where
-  pub past : List (List Done)
-  pub future : List (List Done)
-  -- whether each change is a group of its own
-  pub automatic : Bool
-  -- whether the last group of past takes the next change
-  pub joins : Bool
+  pub past : List DoneGroup
+  pub future : List DoneGroup
+  -- what the next change does with the groups
+  pub marking : Marking
 
 abbrev pub history_of : Log → History
-history_of l = record { past = l.past; future = l.future; automatic = l.automatic; joins = l.joins }
+history_of l = record { past = l.past; future = l.future; marking = l.marking }
 
 abbrev pub no_history : History
-no_history = record { past = []; future = []; automatic = true; joins = false }
+no_history = record { past = []; future = []; marking = no_marking }
 
--- after the edits of one change were done: where there are none, nothing changed
-abbrev pub after_group : History → List Done → History
-after_group h [] = h
-after_group h (d ∷ ds) = record {
-  past = joined h.joins h.past (d ∷ ds);
+-- whether edits of the step of this number go to the last group of past
+abbrev pub goes_to_last : History → ℕ → Bool
+goes_to_last h number = goes_on h.marking (length h.past) number
+
+-- after edits of the step of this number were done: where there are none, nothing changed
+abbrev pub after_group : History → List Done → ℕ → History
+after_group h [] number = h
+after_group h (d ∷ ds) number = record {
+  past = grown (goes_to_last h number) h.past (d ∷ ds) number;
   future = [];
-  automatic = h.automatic;
-  joins = not h.automatic;
+  marking = marking_after (goes_to_last h number) h.marking number;
 }
 
 -- after `mark` (automatic) or `nomark`: the next change begins a group
 abbrev pub marked_history : History → Bool → History
-marked_history h automatic = record h { automatic = automatic; joins = false }
+marked_history h automatic = record h { marking = marked_marking h.marking automatic }
 
 -- after Undo: the last group of past is the first of future, and the next change begins a group
 abbrev pub undone_history : History → History
-undone_history h = record h { past = before_last h.past; future = with_last_of h.past h.future; joins = false }
+undone_history h = record { past = before_last h.past; future = with_last_of h.past h.future; marking = ended h.marking }
 
 -- after Redo: the first group of future is the last of past, and the next change begins a group
 abbrev pub redone_history : History → History
-redone_history h = record h { past = with_first_of h.future h.past; future = drop 1 h.future; joins = false }
+redone_history h = record { past = with_first_of h.future h.past; future = drop 1 h.future; marking = ended h.marking }
 
--- after a plan of this kind, whose edits cut and put this
-abbrev pub history_after : PlanKind → History → List Done → History
-history_after Change h group = after_group h group
-history_after Undo h group = undone_history h
-history_after Redo h group = redone_history h
+-- after a plan of this kind of the step of this number, whose edits cut and put this
+abbrev pub history_after : PlanKind → History → List Done → ℕ → History
+history_after Change h group number = after_group h group number
+history_after Undo h group number = undone_history h
+history_after Redo h group number = redone_history h
 
 -- the edits that Undo makes: those that take back the last group of past
 abbrev pub edits_to_undo : History → Option (List Edit)
-edits_to_undo h = option_map undoing (last_of h.past)
+edits_to_undo h = option_map undoing_group (last_of h.past)
 
 -- the edits that Redo makes: those of the first group of future
 abbrev pub edits_to_redo : History → Option (List Edit)
-edits_to_redo h = option_map redoing (first_of h.future)
+edits_to_redo h = option_map redoing_group (first_of h.future)
 
 -- ---- ranges
 
@@ -124,17 +126,17 @@ pub record IsDoneTo (text : List ℕ) (group : List Done) : Type 0 where
   pub same : done_group text (redoing group) ≡ group
 
 -- Each group is what was done to the text that those before it leave of this text.
-abbrev pub AreDoneTo : List ℕ → List (List Done) → Type 0
+abbrev pub AreDoneTo : List ℕ → List DoneGroup → Type 0
 AreDoneTo text [] = Unit {0}
-AreDoneTo text (g ∷ gs) = IsDoneTo text g × AreDoneTo (text_after text (redoing g)) gs
+AreDoneTo text (g ∷ gs) = IsDoneTo text g.edits × AreDoneTo (text_after text (redoing g.edits)) gs
 
 -- the text after these groups of edits, done from the first group to the last
-abbrev pub text_of_groups : List ℕ → List (List Done) → List ℕ
+abbrev pub text_of_groups : List ℕ → List DoneGroup → List ℕ
 text_of_groups text [] = text
-text_of_groups text (g ∷ gs) = text_of_groups (text_after text (redoing g)) gs
+text_of_groups text (g ∷ gs) = text_of_groups (text_after text (redoing g.edits)) gs
 
 -- The groups that are past lead from the empty text to this text, and those that were undone go on from it.
-pub record IsHistoryOf (text : List ℕ) (past future : List (List Done)) : Type 0 where
+pub record IsHistoryOf (text : List ℕ) (past future : List DoneGroup) : Type 0 where
   pub groups : AreDoneTo [] (past ++ future)
   pub leads : text_of_groups [] past ≡ text
 
@@ -186,7 +188,7 @@ put_range es = put_by (last_of es)
 
 -- these edits, after which dot is the range that the last of them has put
 abbrev pub plan_with : PlanKind → List Edit → TextPlan
-plan_with kind es = record { edits = es; dot = put_range es; kind = kind }
+plan_with kind es = record { edits = es; dot = put_range es; kind = kind; number = 0 }
 
 -- the plan of Undo, if there is a group to take back
 abbrev pub undo_plan_of : BodyState → Option TextPlan
@@ -215,7 +217,7 @@ applied s plan = record {
   dot = plan.dot;
   addr = moved s.addr plan.edits;
   limit = moved_limit s.limit plan.edits;
-  history = history_after plan.kind s.history (done_group s.text plan.edits);
+  history = history_after plan.kind s.history (done_group s.text plan.edits) plan.number;
 }
 
 -- after this plan, if there is one
@@ -232,15 +234,25 @@ group_for s plan = noted plan.kind (done_group s.text plan.edits)
 -- a body, and how many runes and edits can be put in without taking memory
 pub record BodyRoom : Type 0 where
   pub state : BodyState
+  -- the undone groups that changes have forgotten since the last `settle`
+  pub forgotten : List DoneGroup
   pub runes : ℕ
+  -- there is room for so many edits of a change of the step of the number `ready`, or of any step
   pub edits : ℕ
+  pub ready : Option ℕ
+
+-- There is room for so many edits of a change of the step of this number.
+abbrev pub IsLogReady : PlanKind → ℕ → Option ℕ → ℕ → ℕ → Type 0
+IsLogReady Change room ready edits number = (edits ≤ room) × IsReadyFor ready number
+IsLogReady Undo room ready edits number = Unit {0}
+IsLogReady Redo room ready edits number = Unit {0}
 
 -- there is room for the plan
 pub record IsReady (b : BodyRoom) (plan : TextPlan) : Type 0 where
   pub runes : put_length plan.edits ≤ b.runes
-  pub edits : length plan.edits ≤ b.edits
+  pub edits : IsLogReady plan.kind b.edits b.ready (length plan.edits) plan.number
   pub fits : length b.state.text + put_length plan.edits < 2 ^ 64
 
 -- It stays so while the text is the same and the room doesn't fall.
 abbrev pub StaysReady : Type 0
-StaysReady = (b c : BodyRoom) (plan : TextPlan) → IsReady b plan → c.state.text ≡ b.state.text → b.runes ≤ c.runes → b.edits ≤ c.edits → IsReady c plan
+StaysReady = (b c : BodyRoom) (plan : TextPlan) → IsReady b plan → c.state.text ≡ b.state.text → b.runes ≤ c.runes → b.edits ≤ c.edits → c.ready ≡ b.ready → IsReady c plan

@@ -56,7 +56,7 @@ shown s = record {
 
 -- ---- what happens to it
 
--- the edits of one change, and what dot is set to after them; None: it moves with them
+-- the edits of one change, and what dot is set to after them; None: dot moves with them
 pub record BodyChange : Type 0 where
   pub edits : List Edit
   pub dot : Option Range
@@ -65,13 +65,14 @@ abbrev pub kept_or_set : KeptRange → ℕ → Option Range → KeptRange
 kept_or_set k at None = k
 kept_or_set k at (Some r) = set_at at r
 
-abbrev pub story_changed : BodyStory → BodyChange → BodyStory
-story_changed s c = record {
+-- after a change by the step of this number
+abbrev pub story_changed : BodyStory → BodyChange → ℕ → BodyStory
+story_changed s c number = record {
   edits = s.edits ++ c.edits;
   dot = kept_or_set s.dot (length (s.edits ++ c.edits)) c.dot;
   addr = s.addr;
   limit = s.limit;
-  history = after_group s.history (done_group (story_text s) c.edits);
+  history = after_group s.history (done_group (story_text s) c.edits) number;
 }
 
 abbrev pub story_with_dot : BodyStory → Range → BodyStory
@@ -111,8 +112,8 @@ abbrev pub moved_or_set : Range → List Edit → Option Range → Range
 moved_or_set r es None = moved r es
 moved_or_set r es (Some set) = set
 
-abbrev pub plan_of : BodyState → BodyChange → TextPlan
-plan_of s c = record { edits = c.edits; dot = moved_or_set s.dot c.edits c.dot; kind = Change }
+abbrev pub plan_of : BodyState → BodyChange → ℕ → TextPlan
+plan_of s c number = record { edits = c.edits; dot = moved_or_set s.dot c.edits c.dot; kind = Change; number = number }
 
 -- The edits are those of the text, and dot is set in the text that they leave.
 pub record IsChangeOf (text : List ℕ) (c : BodyChange) : Type 0 where

@@ -1,14 +1,17 @@
 //! The body of a window.
 
-ghost use Rattle.std.specs.Prelude.{◌≡◌, ◌<◌, ◌≤◌, ◌+◌, ◌^◌, ◌==◌, not, length, slice_range, IfOk, IfSome, OnOk};
+ghost use Rattle.std.specs.Prelude.{◌≡◌, ◌<◌, ◌≤◌, ◌+◌, ◌^◌, ◌==◌, not, [], length, slice_range, IfOk, IfSome, OnOk};
 ghost use Rattle.edit_log.specs.Edited.{text_after};
-ghost use Rattle.win_text.specs.Bodies.{empty_body, IsInside, IsLimitInside, IsSound, AreInRange, moved, moved_limit, group_for, put_length, with_dot, with_addr, with_limit, marked_body, undo_plan_of, redo_plan_of, IsPlanFor, IsReady, applied};
+ghost use Rattle.win_text.specs.Bodies.{empty_body, IsInside, IsLimitInside, IsSound, AreInRange, moved, moved_limit, group_for, put_length, with_dot, with_addr, with_limit, marked_body, undo_plan_of, redo_plan_of, IsPlanFor, IsReady, applied, history_of};
+ghost use Rattle.win_text.specs.Traces.{total, shape_of, made, settled_shape, trace_of, unmade, CanUnmake, noted_trace, marks_of};
+ghost use Rattle.edit_log.specs.Groups.{last_of, first_of, number_in};
+ghost use Rattle.std.specs.Option.{option_map};
 ghost use Rattle.win_text.specs.BodyStories.{IsChangeOf, moved_or_set, plan_of};
 
-use crate::groups::{group_for, make_edits, note_plan, runes_put};
+use crate::groups::{group_for, kind_of, make_edits, note_plan, reserve_log, runes_put, take_back};
 use crate::plans::plan_of_any;
 use crate::ranges::range_after;
-use crate::types::{PlanKind, Ready, TextPlan};
+use crate::types::{Marks, PlanKind, Ready, TextPlan, Trace, TraceKind};
 use am_text::{Letters, NoMemory, Range, Rune, Runes};
 use edit_log::{Edit, Edits, UndoLog};
 use rune_gap::RuneText;
@@ -33,7 +36,7 @@ impl Model for Body {
 
     ghost Value = { BodyRoom };
 
-    ghost view = { λ b. record { state = state_of b.text.items b.dot b.addr b.limit b.log; runes = b.text.spare; edits = b.log.room } };
+    ghost view = { λ b. record { state = state_of b.text.items b.dot b.addr b.limit b.log; forgotten = b.log.forgotten; runes = b.text.spare; edits = b.log.room; ready = b.log.ready } };
 
     ghost invariant = { λ b. IsSound (state_of b.text.items b.dot b.addr b.limit b.log) };
 }
@@ -146,10 +149,10 @@ impl Body {
         self.log.mark(automatic);
     }
 
-    /// The plan of a change: these edits, and dot after them, or where dot moves with them.
-    pub fn plan(&self, edits: Edits, dot: Option<Range>) -> Result<TextPlan, NoMemory>
+    /// The plan of a change by the step of this number: these edits, and dot after them, or where dot moves with them.
+    pub fn plan(&self, edits: Edits, dot: Option<Range>, number: u64) -> Result<TextPlan, NoMemory>
         requires { IsChangeOf self.now.state.text (record { edits = edits; dot = dot }) }
-        ensures plan { IfOk result (λ plan. plan ≡ plan_of self.now.state (record { edits = edits; dot = dot })) }
+        ensures plan { IfOk result (λ plan. plan ≡ plan_of self.now.state (record { edits = edits; dot = dot }) number) }
         ensures sound { IfOk result (λ plan. IsPlanFor self.now.state plan) }
     {
         let dot = self.dot_after(edits.as_slice(), dot)?;
@@ -157,6 +160,7 @@ impl Body {
             edits,
             dot,
             kind: PlanKind::Change,
+            number,
         })
     }
 
@@ -183,15 +187,15 @@ impl Body {
     pub fn reserve(&mut self, plan: &TextPlan) -> Result<Ready, NoMemory>
         requires { IsPlanFor self.old.state plan.now }
         ensures state { self.new.state ≡ self.old.state }
+        ensures forgotten { self.new.forgotten ≡ self.old.forgotten }
         ensures runes { self.old.runes ≤ self.new.runes }
-        ensures edits { self.old.edits ≤ self.new.edits }
         ensures room { OnOk result (IsReady self.new plan.now) }
         ensures group { IfOk result (λ ready. ready ≡ group_for self.old.state plan.now) }
     {
         let edits = plan.edits.as_slice();
         let added = runes_put(edits)?;
         self.text.reserve(added)?;
-        self.log.reserve(edits.len())?;
+        reserve_log(&mut self.log, plan.kind, edits.len(), plan.number)?;
         Ok(Ready::of(group_for(self.alloc, &self.text, plan, added)?))
     }
 
@@ -203,13 +207,110 @@ impl Body {
         requires plan { IsPlanFor self.old.state plan }
         requires room { IsReady self.old plan }
         requires group { ready ≡ group_for self.old.state plan }
-        ensures { self.new.state ≡ applied self.old.state plan }
+        ensures state { self.new.state ≡ applied self.old.state plan }
+        ensures settled { self.new.forgotten ≡ [] }
+    {
+        self.do_plan(plan, ready);
+        self.settle();
+    }
+
+    /// Does a plan that was made ready, as `apply`, but so that `unmake` can take it back. It takes no memory.
+    pub fn make(&mut self, plan: TextPlan, ready: Ready) -> Trace
+        requires plan { IsPlanFor self.old.state plan }
+        requires room { IsReady self.old plan }
+        requires group { ready ≡ group_for self.old.state plan }
+        ensures state { self.new.state ≡ applied self.old.state plan }
+        ensures total { total self.new ≡ total self.old }
+        ensures back { unmade result (shape_of self.new) ≡ shape_of self.old }
+        ensures can { CanUnmake (total self.new) result (shape_of self.new) }
+    {
+        let trace = self.trace_of(&plan);
+        self.do_plan(plan, ready);
+        trace
+    }
+
+    /// Takes back what `make` did: text, ranges, groups and marking are those of then. It takes no memory.
+    pub fn unmake(&mut self, trace: Trace)
+        requires { CanUnmake (total self.old) trace (shape_of self.old) }
+        ensures shape { shape_of self.new ≡ unmade trace (shape_of self.old) }
+        ensures total { total self.new ≡ total self.old }
+    {
+        take_back(&mut self.text, &mut self.log, trace.kind);
+        self.log.restore(trace.marks.marking);
+        self.dot = trace.marks.dot;
+        self.addr = trace.marks.addr;
+        self.limit = trace.marks.limit;
+    }
+
+    /// What has to be known to take back settings that are made from here on. It takes no memory.
+    pub fn note(&self) -> Trace
+        ensures trace { result ≡ noted_trace self.now.state }
+        ensures sound { IsSound self.now.state }
+    {
+        self.is_sound();
+        Trace {
+            kind: TraceKind::Nothing,
+            marks: self.marks(),
+        }
+    }
+
+    // The ranges and the marking.
+    fn marks(&self) -> Marks
+        ensures { result ≡ marks_of self.now.state }
+    {
+        Marks {
+            dot: self.dot,
+            addr: self.addr,
+            limit: self.limit,
+            marking: self.log.marking(),
+        }
+    }
+
+    /// What was made can't be taken back any more. It takes no memory.
+    pub fn settle(&mut self)
+        ensures { self.new ≡ record self.old { forgotten = [] } }
+    {
+        self.log.settle();
+    }
+
+    /// The number of the last group that is past, if there is one. It takes no memory.
+    pub fn last_group(&self) -> Option<u64>
+        ensures { result ≡ option_map number_in (last_of self.now.state.history.past) }
+    {
+        self.log.last()
+    }
+
+    /// The number of the first group that was undone, if there is one. It takes no memory.
+    pub fn next_group(&self) -> Option<u64>
+        ensures { result ≡ option_map number_in (first_of self.now.state.history.future) }
+    {
+        self.log.next()
+    }
+
+    // What has to be known to take back this plan.
+    fn trace_of(&self, plan: &TextPlan) -> Trace
+        ensures trace { result ≡ trace_of self.now.state plan.now }
+        ensures sound { IsSound self.now.state }
+    {
+        Trace {
+            kind: kind_of(&self.log, plan.kind, plan.edits.len(), plan.number),
+            marks: self.marks(),
+        }
+    }
+
+    // Does a plan that was made ready.
+    fn do_plan(&mut self, plan: TextPlan, ready: Ready)
+        requires plan { IsPlanFor self.old.state plan }
+        requires room { IsReady self.old plan }
+        requires group { ready ≡ group_for self.old.state plan }
+        ensures shape { shape_of self.new ≡ made (shape_of self.old) plan }
+        ensures total { total self.new ≡ total self.old }
     {
         let edits = plan.edits.as_slice();
         let addr = self.addr_after(edits);
         let limit = self.limit_after(edits);
         make_edits(&mut self.text, edits);
-        note_plan(&mut self.log, plan.kind, ready.into_group());
+        note_plan(&mut self.log, plan.kind, ready.into_group(), plan.number);
         self.dot = plan.dot;
         self.addr = addr;
         self.limit = limit;

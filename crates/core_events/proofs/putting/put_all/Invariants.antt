@@ -7,4 +7,4 @@ invariant-loop-item l =
     (goal.iterator-loop-item).can_next l.item-iterator ×
     (goal.iterator-loop-item).is_finite l.item-iterator ×
     (l.book.kept ≡ l.fn.book.kept) ×
-    (l.book.present ≡ fold (put_one l.window) l.fn.book.present l.yielded)
+    (l.book.present ≡ fold put_one l.fn.book.present l.yielded)

@@ -1,0 +1,16 @@
+use Rattle.std.proofs.Common.{◌≤◌, ◌≡◌, true}
+use Rattle.std.specs.Prelude.{is_some}
+use Rattle.ninep_client.specs.Asking.{reply_place}
+use Rattle.ninep_client.specs.Hearing.{Hears, waiting}
+use Rattle.ninep_client.proofs.hearing.bring.Given as goal
+
+abbrev pub invariant-messages : goal.invariant-messages
+invariant-messages g l = record {
+  later : g.R.Source.faults l.fn.source ≤ g.R.Source.faults l.source;
+  hears : Hears l.tag l.fn.asked.items l.fn.unread (g.R.Source.left l.fn.source) (g.R.Source.left l.source) l.asked.items l.unread;
+  kept : is_some (reply_place l.tag l.fn.asked.items) ≡ true → l.asked.items ≡ l.fn.asked.items;
+  unread : is_some (reply_place l.tag l.fn.asked.items) ≡ true → g.R.Source.left l.source ≡ g.R.Source.left l.fn.source;
+}
+
+abbrev pub decreases-messages : goal.decreases-messages
+decreases-messages g l = waiting l.asked.items
