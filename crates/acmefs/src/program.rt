@@ -184,9 +184,10 @@ pub fn serve_main<I: Source, O: Sink, H: Host, R: Threads + Wait + Sync>(
 }
 
 /// Does all that the program does: what the words after its name ask for. The word `replay` alone asks for a replay of the transcript that
-/// the input gives. The word `trace` alone asks for the same in words, and `pack` alone for packing a text in words into a transcript. The words `drill N` ask for a drill of N rounds, 1 to 100,000, which reads nothing. The words `serve PATH --clients N` ask for serving one connection for each of N slots, at the gates that the host makes
-/// for the path, with the script that the input gives beside them; the option may stand before the path, and may be one word,
-/// `--clients=N`. Every other list of words is refused.
+/// the input gives, `trace` alone for the same in words, and `pack` alone for packing a text in words into a transcript. The words
+/// `drill N` ask for a drill of N rounds, 1 to 100,000, which reads nothing. The words `serve PATH --clients N` ask for serving one
+/// connection for each of N slots, at the gates that the host makes for the path, with the script that the input gives beside them; the
+/// option may stand before the path, and may be one word, `--clients=N`. Every other list of words is refused.
 ///
 /// The status is 0 where all was done and written, 1 for other words, 2 where a line or the whole input is refused, 3 where the input
 /// failed, 4 where the output failed, 5 where a gate could not be bound or gave no connection, 6 where memory ran out.
@@ -198,7 +199,7 @@ pub fn acmefs<I: Source, O: Sink, H: Host, R: Threads + Wait + Sync>(
     output: &mut O,
     host: &mut H,
 ) -> Outcome<H>
-    // Status 1 comes exactly where the words ask for neither a replay nor a drill nor serving; then nothing is read, written or done.
+    // Status 1 comes exactly where the words ask for nothing that is known; then nothing is read, written or done.
     ensures usage { result.status ≡ 1 → ¬ AreKnown words.now }
     ensures other_words { ¬ AreKnown words.now → result.status ≡ 1 }
     ensures unread { result.status ≡ 1 → I.left input.new ≡ I.left input.old }
