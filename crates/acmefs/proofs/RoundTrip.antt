@@ -68,7 +68,7 @@ play-goes (l ∷ ls) before k =
       | false ↦ line-goes before k l (event_of l) (λ next. play next (k + 1) ls) refl (λ e. play-goes ls (before ++ e ∷ []) (k + 1))
     ]
 
-script-done : (bytes : List ℕ) → AreDone [] (script_of bytes).events
+pub script-done : (bytes : List ℕ) → AreDone [] (script_of bytes).events
 unfolding script_of
 script-done bytes =
     elim (ltb input_limit (length bytes)) as (λ (b : Bool). AreDone [] (cond b (refused_at [] 0 (codes "input")) (play [] 1 (lines_of bytes))).events) [
@@ -84,7 +84,7 @@ ran-done ends.ReadFault script o journal d h = absurd h
 ran-done ends.WriteFault script o journal d h = subst (AreDone []) (sym h.0) d
 ran-done ends.NoMemory script o journal d h = front-done journal h.events.0 [] (subst (AreDone []) (sym h.events.1) d)
 
-none-done : (journal : List Event) → journal ≡ [] → AreDone [] journal
+pub none-done : (journal : List Event) → journal ≡ [] → AreDone [] journal
 none-done journal e = subst (AreDone []) (sym e) tt
 
 says-done : (end : End) (told : Option (List ℕ)) (before now : ℕ) (o : Output) (journal : List Event) → Says end told before now o journal → AreDone [] journal
