@@ -1,6 +1,7 @@
 pub mod Fronts
 pub mod Promised
 pub mod Ran
+pub mod Traced
 pub mod Replied
 pub mod Wrote
 pub mod OwnText
@@ -9,3 +10,7 @@ pub mod Drills
 pub mod Idle
 pub mod Words
 pub mod ServeEnds
+pub mod OneWord
+pub mod PackBack
+pub mod TraceEnds
+pub mod PackEnds

@@ -26,12 +26,12 @@ whole_front : (o : Output) (text : List ℕ) → IsWhole o text → PutsFront o.
 whole_front o text w = (length text, omega arith, w ∙ ap (told_then o.held) (sym (take-length text)))
 
 -- a front of a front
-front_more : (held held_now : Option (List ℕ)) (text whole : List ℕ) → IsFront text whole → PutsFront held text held_now → PutsFront held whole held_now
+pub front_more : (held held_now : Option (List ℕ)) (text whole : List ℕ) → IsFront text whole → PutsFront held text held_now → PutsFront held whole held_now
 front_more held held_now text whole f p =
     let short : p.0 ≤ length whole = omega (arith, p.1, length-append text f.0, ap length f.1) in
     (p.0, short, p.2 ∙ ap (told_then held) (sym (take-within text f.0 p.0 p.1) ∙ ap (take p.0) f.1))
 
-put_front : (o : Output) (text : List ℕ) → IsWhole o text ⊎ IsCut o text → PutsFront o.held text o.held_now
+pub put_front : (o : Output) (text : List ℕ) → IsWhole o text ⊎ IsCut o text → PutsFront o.held text o.held_now
 put_front o text (inl w) = whole_front o text w
 put_front o text (inr c) = c.front
 

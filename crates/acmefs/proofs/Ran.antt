@@ -23,7 +23,7 @@ use Rattle.acmefs.proofs.Replied.{replied-push}
 use Rattle.acmefs.proofs.Fronts.{front_whole, front_caught_up, play_front}
 
 -- a text was put, whole or cut
-whole_or_cut : (failed : Bool) (o : Output) (text : List ℕ) → Wrote failed o text → IsWhole o text ⊎ IsCut o text
+pub whole_or_cut : (failed : Bool) (o : Output) (text : List ℕ) → Wrote failed o text → IsWhole o text ⊎ IsCut o text
 whole_or_cut false o text w = inl w.holds
 whole_or_cut true o text w = inr w.holds
 
@@ -77,7 +77,7 @@ pub short_script : (bytes : List ℕ) → length bytes ≤ input_limit → play 
 unfolding script_of
 short_script bytes h = rw (le-ltb input_limit (length bytes) h) refl
 
-long_script : (bytes : List ℕ) → input_limit < length bytes → refused_at [] 0 (codes "input") ≡ script_of bytes
+pub long_script : (bytes : List ℕ) → input_limit < length bytes → refused_at [] 0 (codes "input") ≡ script_of bytes
 unfolding script_of
 long_script bytes h = rw (lt-ltb input_limit (length bytes) h) refl
 
@@ -101,7 +101,7 @@ longer zero = (0 ∷ [], omega arith)
 longer (suc n) = let r = longer n in (0 ∷ r.0, omega (arith, r.1))
 
 -- some bytes above the limit, those that are told
-long_bytes : (told : Option (List ℕ)) → IfSome told (λ bytes. input_limit < length bytes) → (bytes : List ℕ) × (input_limit < length bytes) × AreTold told bytes
+pub long_bytes : (told : Option (List ℕ)) → IfSome told (λ bytes. input_limit < length bytes) → (bytes : List ℕ) × (input_limit < length bytes) × AreTold told bytes
 long_bytes None h = let r = longer input_limit in (r.0, r.1, tt)
 long_bytes (Some bytes) h = (bytes, h, refl)
 
@@ -111,7 +111,7 @@ says_long end told before now o journal h r =
     let b = long_bytes told h in
     replays end (refused_at [] 0 (codes "input")) b.0 told before now o journal (long_script b.0 b.1) b.2 r
 
-some_bytes : (told : Option (List ℕ)) → (bytes : List ℕ) × AreTold told bytes
+pub some_bytes : (told : Option (List ℕ)) → (bytes : List ℕ) × AreTold told bytes
 some_bytes None = ([], tt)
 some_bytes (Some bytes) = (bytes, refl)
 

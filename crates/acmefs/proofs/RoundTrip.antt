@@ -80,7 +80,7 @@ play-goes (l ∷ ls) before k =
       | false ↦ line-goes before k l (event_of l) (λ next. play next (k + 1) ls) refl (λ e. play-goes ls (before ++ e ∷ []) (k + 1))
     ]
 
-script-done : (bytes : List ℕ) → AreDone [] (script_of bytes).events
+pub script-done : (bytes : List ℕ) → AreDone [] (script_of bytes).events
 unfolding script_of
 script-done bytes =
     elim (ltb input_limit (length bytes)) as (λ (b : Bool). AreDone [] (cond b (refused_at [] 0 (codes "input")) (play [] 1 (lines_of bytes))).events) [

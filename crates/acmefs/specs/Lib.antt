@@ -3,3 +3,5 @@ pub mod Written
 pub mod Playing
 pub mod Ends
 pub mod Own
+pub mod Traces
+pub mod Packs

@@ -5,6 +5,7 @@ mod drill;
 mod program;
 mod replay;
 mod script;
+mod trace;
 
 use am_base::{InputSource, OutputSink, UnixHost};
 use am_text::{Items, NoMemory, Words};

@@ -1,6 +1,6 @@
 //! All that the program does.
 
-ghost use Rattle.std.specs.Prelude.{◌≡◌, ◌⊎◌, ◌≤◌, ℕ, List, [], Some, None, true, IfSome};
+ghost use Rattle.std.specs.Prelude.{◌≡◌, ◌⊎◌, ◌≤◌, ℕ, List, [], Some, None, true, false, IfSome};
 ghost use Rattle.std.specs.List.{AllByRecursion};
 ghost use Rattle.am_base.specs.Outside.{HasRisen};
 ghost use Rattle.am_base.specs.Written.{seen};
@@ -11,7 +11,11 @@ ghost use Rattle.acmefs.specs.declared.replay.End.TheVariants as ends;
 ghost use Rattle.acmefs.specs.Scripts.{script_of};
 ghost use Rattle.acmefs.specs.Ends.{Says, IsIdle, RanTold, IsComplete, Drilled, IsDrilled, IsServeComplete, code_of, serve_code};
 ghost use Rattle.acmefs.specs.Own.{PutsOwn, RoundTrips};
-ghost use Rattle.am_words.specs.Words.{are_replay, asks_drill, asks_serve, AskServe, AreKnown};
+ghost use Rattle.acmefs.specs.Packs.{PackEnds, pack_code};
+ghost use Rattle.acmefs.specs.Traces.{TraceEnds, TraceSays};
+ghost use Rattle.am_pack.specs.Ends.{PackSays};
+ghost use Rattle.am_journal.specs.Journal.{AreSpelled};
+ghost use Rattle.am_words.specs.Words.{are_pack, are_replay, are_trace, asks_drill, asks_serve, AskServe, AreKnown};
 ghost use Rattle.am_server.specs.Ends.{SaysServe, given};
 ghost use Rattle.am_server.specs.Replied.{GotAll};
 ghost use Rattle.am_server.specs.Sound.{EndsWell};
@@ -19,9 +23,11 @@ ghost use Rattle.am_slots.specs.Slots.{outside};
 
 use crate::drill::drill_main;
 use crate::replay::{End, ReplayEnd, code, replay};
+use crate::trace::trace;
 use acme_core::messages_are_answered;
 use am_base::{Host, Sink, Source};
 use am_journal::Journal;
+use am_pack::{PackEnd, pack};
 use am_server::{HostServing, ServeEnd, ServedList, Serving, serve};
 use am_text::{Items, NoMemory, Words};
 use am_words::{Asked, read_words};
@@ -50,6 +56,52 @@ fn replayed<I: Source, O: Sink, H: Host>(alloc: Global, input: &mut I, output: &
     let ended = replay(alloc, input, output);
     Outcome {
         status: code(ended.end),
+        journal: ended.journal,
+        served: Items::new(alloc),
+    }
+}
+
+// What a trace comes to.
+fn traced<I: Source, O: Sink, H: Host>(alloc: Global, input: &mut I, output: &mut O) -> Outcome<H>
+    ensures says { (end : _) × (result.status ≡ code_of end)
+        × TraceSays end (I.left input.old) (I.faults input.old) (I.faults input.new)
+        (seen (O.held output.old) (O.held output.new) (O.faults output.old) (O.faults output.new)) result.journal }
+    ensures played { IsPlayed enabled result.journal }
+    ensures round_trip { RoundTrips result.journal }
+    ensures none_served { result.served ≡ [] }
+{
+    let ended = trace(alloc, input, output);
+    Outcome {
+        status: code(ended.end),
+        journal: ended.journal,
+        served: Items::new(alloc),
+    }
+}
+
+// The status of an end of packing.
+fn pack_code(end: PackEnd) -> u8
+    ensures { result ≡ pack_code end }
+{
+    match end {
+        PackEnd::Done => 0,
+        PackEnd::Script => 2,
+        PackEnd::ReadFault => 3,
+        PackEnd::WriteFault => 4,
+        PackEnd::NoMemory => 6,
+    }
+}
+
+// What packing comes to.
+fn packed<I: Source, O: Sink, H: Host>(alloc: Global, input: &mut I, output: &mut O) -> Outcome<H>
+    ensures says { (end : _) × (result.status ≡ pack_code end)
+        × PackSays end (I.left input.old) (I.faults input.old) (I.faults input.new)
+        (seen (O.held output.old) (O.held output.new) (O.faults output.old) (O.faults output.new)) result.journal }
+    ensures spelled { AreSpelled result.journal }
+    ensures none_served { result.served ≡ [] }
+{
+    let ended = pack(alloc, input, output);
+    Outcome {
+        status: pack_code(ended.end),
         journal: ended.journal,
         served: Items::new(alloc),
     }
@@ -152,9 +204,10 @@ pub fn serve_main<I: Source, O: Sink, H: Host, R: Threads + Wait + Sync>(
 }
 
 /// Does all that the program does: what the words after its name ask for. The word `replay` alone asks for a replay of the transcript that
-/// the input gives. The words `drill N` ask for a drill of N rounds, 1 to 100,000, which reads nothing. The words `serve PATH --clients N` ask for serving one connection for each of N slots, at the gates that the host makes
-/// for the path, with the script that the input gives beside them; the option may stand before the path, and may be one word,
-/// `--clients=N`. Every other list of words is refused.
+/// the input gives, `trace` alone for the same in words, and `pack` alone for packing a text in words into a transcript. The words
+/// `drill N` ask for a drill of N rounds, 1 to 100,000, which reads nothing. The words `serve PATH --clients N` ask for serving one
+/// connection for each of N slots, at the gates that the host makes for the path, with the script that the input gives beside them; the
+/// option may stand before the path, and may be one word, `--clients=N`. Every other list of words is refused.
 ///
 /// The status is 0 where all was done and written, 1 for other words, 2 where a line or the whole input is refused, 3 where the input
 /// failed, 4 where the output failed, 5 where a gate could not be bound or gave no connection, 6 where memory ran out.
@@ -166,7 +219,7 @@ pub fn acmefs<I: Source, O: Sink, H: Host, R: Threads + Wait + Sync>(
     output: &mut O,
     host: &mut H,
 ) -> Outcome<H>
-    // Status 1 comes exactly where the words ask for neither a replay nor a drill nor serving; then nothing is read, written or done.
+    // Status 1 comes exactly where the words ask for nothing that is known; then nothing is read, written or done.
     ensures usage { result.status ≡ 1 → ¬ AreKnown words.now }
     ensures other_words { ¬ AreKnown words.now → result.status ≡ 1 }
     ensures unread { result.status ≡ 1 → I.left input.new ≡ I.left input.old }
@@ -201,6 +254,12 @@ pub fn acmefs<I: Source, O: Sink, H: Host, R: Threads + Wait + Sync>(
     // status all of it, or a front.
     ensures own_text { are_replay words.now ≡ true → (end : _) × (result.status ≡ code_of end) × PutsOwn end
         (seen (O.held output.old) (O.held output.new) (O.faults output.old) (O.faults output.new)) result.journal }
+    // A trace: a replay whose text is in words.
+    ensures traces { are_trace words.now ≡ true → TraceEnds result.status (I.left input.old) (I.faults input.old) (I.faults input.new)
+        (seen (O.held output.old) (O.held output.new) (O.faults output.old) (O.faults output.new)) result.journal }
+    // Packing: the events that a text in words spells, and their lines.
+    ensures packs { are_pack words.now ≡ true → PackEnds result.status (I.left input.old) (I.faults input.old) (I.faults input.new)
+        (seen (O.held output.old) (O.held output.new) (O.faults output.old) (O.faults output.new)) result.journal }
     // A drill: its events, and the summary of their run. The input isn't read.
     ensures drills { (rounds : ℕ) → asks_drill words.now ≡ Some rounds → Drilled result.status rounds
         (seen (O.held output.old) (O.held output.new) (O.faults output.old) (O.faults output.new)) result.journal }
@@ -233,11 +292,11 @@ pub fn acmefs<I: Source, O: Sink, H: Host, R: Threads + Wait + Sync>(
         result.journal result.served) }
     // Only words that ask for serving touch the host.
     ensures untouched { asks_serve words.now ≡ None → host.new ≡ host.old }
-    // Each event of the journal is lawful, and was enabled at its place.
-    ensures played { IsPlayed enabled result.journal }
+    // Each event of the journal is lawful, and was enabled at its place. The events of packing needn't be enabled.
+    ensures played { are_pack words.now ≡ false → IsPlayed enabled result.journal }
     // The journal's lines and then its report ask for the journal's events again, and are a transcript, where they aren't too long, that
     // gives the same report.
-    ensures round_trip { RoundTrips result.journal }
+    ensures round_trip { are_pack words.now ≡ false → RoundTrips result.journal }
     // Each message of the journal is answered by its own R message, unless one of the named refusals applies, whose
     // text is answered then.
     ensures answered { EachIsAnswered }
@@ -245,6 +304,8 @@ pub fn acmefs<I: Source, O: Sink, H: Host, R: Threads + Wait + Sync>(
     messages_are_answered();
     match read_words(alloc, words.as_slice()) {
         Ok(Some(Asked::Replay)) => replayed(alloc, input, output),
+        Ok(Some(Asked::Trace)) => traced(alloc, input, output),
+        Ok(Some(Asked::Pack)) => packed(alloc, input, output),
         Ok(Some(Asked::Drill { rounds })) => drilled(alloc, rounds, output),
         Ok(Some(Asked::Serve { path, clients })) => {
             serve_main(rt, alloc, &path, clients, input, output, host)

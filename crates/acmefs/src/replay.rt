@@ -65,8 +65,8 @@ fn report_text(alloc: Global, core: &Core) -> Result<Bytes, NoMemory>
     report(alloc, &view)
 }
 
-// What is written at a stop; a stop for want of memory has none.
-fn end_text(alloc: Global, core: &Core, stop: Stop) -> Result<Bytes, NoMemory>
+/// What is written at a stop; a stop for want of memory has none.
+pub(crate) fn end_text(alloc: Global, core: &Core, stop: Stop) -> Result<Bytes, NoMemory>
     requires { core.now ≡ settled core.now.journal }
     ensures { IfOk result (λ text. EndText stop core.now.journal text) }
 {
@@ -77,7 +77,8 @@ fn end_text(alloc: Global, core: &Core, stop: Stop) -> Result<Bytes, NoMemory>
     }
 }
 
-fn end_at(stop: Stop, failed: bool) -> End
+/// How a replay ends that stopped so.
+pub(crate) fn end_at(stop: Stop, failed: bool) -> End
     ensures { result ≡ end_at stop failed }
 {
     match stop {

@@ -73,7 +73,8 @@ fn is_report(line: &[u8]) -> bool
     line == b"report".as_slice()
 }
 
-fn do_line(alloc: Global, core: &mut Core, k: u64, line: &[u8]) -> Did
+/// Does one line of a transcript.
+pub(crate) fn do_line(alloc: Global, core: &mut Core, k: u64, line: &[u8]) -> Did
     requires { core.old ≡ settled core.old.journal }
     ensures settled { core.new ≡ settled core.new.journal }
     ensures did { DidLine result core.old.journal k line.now core.new.journal }

@@ -12,6 +12,20 @@ are_replay [] = false
 are_replay (word ∷ []) = bytes_eq word (codes "replay")
 are_replay (word ∷ other ∷ words) = false
 
+-- one word, which is this
+abbrev pub are_alone : List ℕ → List (List ℕ) → Bool
+are_alone name [] = false
+are_alone name (word ∷ []) = bytes_eq word name
+are_alone name (word ∷ other ∷ words) = false
+
+-- the words that ask for a trace
+abbrev pub are_trace : List (List ℕ) → Bool
+are_trace words = are_alone (codes "trace") words
+
+-- the words that ask for packing
+abbrev pub are_pack : List (List ℕ) → Bool
+are_pack words = are_alone (codes "pack") words
+
 -- a number from 1 to a limit
 abbrev pub up_to : ℕ → Option ℕ → Option ℕ
 up_to most None = None
@@ -85,16 +99,24 @@ AskServe words path clients = (asks_serve words ≡ Some (path, clients)) × IsU
 -- the words ask for just this
 abbrev pub AsksFor : List (List ℕ) → Asked → Type 0
 AsksFor words asked.Replay = are_replay words ≡ true
+AsksFor words asked.Trace = are_trace words ≡ true
+AsksFor words asked.Pack = are_pack words ≡ true
 AsksFor words (asked.Drill rounds) = asks_drill words ≡ Some rounds
 AsksFor words (asked.Serve path clients) = AskServe words (string_bytes path) clients
 
 -- the number is within its limits
 abbrev pub IsWithin : Asked → Type 0
 IsWithin asked.Replay = Unit {0}
+IsWithin asked.Trace = Unit {0}
+IsWithin asked.Pack = Unit {0}
 IsWithin (asked.Drill rounds) = (1 ≤ rounds) × (rounds ≤ 100000)
 IsWithin (asked.Serve path clients) = (1 ≤ clients) × (clients ≤ 64)
 
+-- the words ask for what one word asks for: a replay, a trace or packing
+abbrev pub AskInOne : List (List ℕ) → Type 0
+AskInOne words = (are_replay words ≡ true) ⊎ ((are_trace words ≡ true) ⊎ (are_pack words ≡ true))
+
 -- the words ask for something
 abbrev pub AreKnown : List (List ℕ) → Type 0
-AreKnown words = (are_replay words ≡ true) ⊎ (((rounds : ℕ) × (asks_drill words ≡ Some rounds))
+AreKnown words = AskInOne words ⊎ (((rounds : ℕ) × (asks_drill words ≡ Some rounds))
     ⊎ ((path : List ℕ) × (clients : ℕ) × AskServe words path clients))

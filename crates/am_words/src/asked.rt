@@ -5,6 +5,10 @@
 pub enum Asked {
     /// A replay.
     Replay,
+    /// A trace: a replay in words.
+    Trace,
+    /// Packing a text in words into a transcript.
+    Pack,
     /// A drill of so many rounds.
     Drill { rounds: u64 },
     /// Serving so many clients at a path.

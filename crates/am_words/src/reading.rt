@@ -7,7 +7,7 @@ ghost use Rattle.am_words.specs.Words.{AreKnown, AsksFor, IsText, IsWithin, asks
 
 use crate::asked::{Asked, Serving};
 use crate::commands::{parse_drill, parse_serve};
-use crate::table::{asks_in_three, asks_in_two, is_replay, rounds_of};
+use crate::table::{asks_in_three, asks_in_two, is_pack, is_replay, is_trace, rounds_of};
 use am_text::{Bytes, NoMemory};
 use std::alloc::Global;
 use std::str;
@@ -114,7 +114,7 @@ fn read_serve(alloc: Global, words: &[Bytes]) -> Result<Option<Serving>, NoMemor
     }
 }
 
-/// What the words after the program's name ask for: a replay by `replay`, a drill by `drill N`, and serving by
+/// What the words after the program's name ask for: a replay by `replay`, a trace by `trace`, packing by `pack`, a drill by `drill N`, and serving by
 /// `serve PATH --clients N`, where the option may stand before the path, and may be one word, `--clients=N`. A number of rounds is 1 to
 /// 100,000, one of clients 1 to 64, in digits without a leading zero. A path is a text that isn't empty and doesn't begin with `-`. Other
 /// words ask for nothing.
@@ -130,6 +130,12 @@ pub fn read_words(alloc: Global, words: &[Bytes]) -> Result<Option<Asked>, NoMem
 {
     if is_replay(words) {
         return Ok(Some(Asked::Replay));
+    }
+    if is_trace(words) {
+        return Ok(Some(Asked::Trace));
+    }
+    if is_pack(words) {
+        return Ok(Some(Asked::Pack));
     }
     if let Some(rounds) = read_drill(alloc, words)? {
         return Ok(Some(Asked::Drill { rounds }));

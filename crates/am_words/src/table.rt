@@ -1,7 +1,7 @@
 //! The table of the words, as a test that takes no memory.
 
 ghost use Rattle.std.specs.Prelude.{◌≡◌, is_some, option_copied};
-ghost use Rattle.am_words.specs.Words.{after_front, are_replay, clients_of, in_three, in_two, is_path, path_and_clients, rounds_of};
+ghost use Rattle.am_words.specs.Words.{after_front, are_alone, are_pack, are_replay, are_trace, clients_of, in_three, in_two, is_path, path_and_clients, rounds_of};
 
 use am_text::{Bytes, read_decimal};
 
@@ -13,6 +13,29 @@ pub(crate) fn is_replay(words: &[Bytes]) -> bool
         [word] => word.as_slice() == b"replay".as_slice(),
         _ => false,
     }
+}
+
+fn are_alone(name: &[u8], words: &[Bytes]) -> bool
+    ensures { result ≡ are_alone name.now words.now }
+{
+    match words {
+        [word] => word.as_slice() == name,
+        _ => false,
+    }
+}
+
+/// Whether the words ask for a trace.
+pub(crate) fn is_trace(words: &[Bytes]) -> bool
+    ensures { result ≡ are_trace words.now }
+{
+    are_alone(b"trace", words)
+}
+
+/// Whether the words ask for packing.
+pub(crate) fn is_pack(words: &[Bytes]) -> bool
+    ensures { result ≡ are_pack words.now }
+{
+    are_alone(b"pack", words)
 }
 
 /// The number of rounds, where the word is one.

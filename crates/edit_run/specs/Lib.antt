@@ -8,3 +8,4 @@ pub mod Lines
 pub mod Meaning
 pub mod Plan
 pub mod Laws
+pub mod Kept

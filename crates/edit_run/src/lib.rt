@@ -4,6 +4,7 @@
 mod acts;
 mod effects;
 mod fault;
+mod kept;
 mod laws;
 mod line_cursor;
 mod matching;

@@ -1,52 +1,123 @@
 //! The ranges that commands are done for.
 
-ghost use Rattle.std.specs.Prelude.{◌≡◌, ◌∷◌, ◌++◌, [], IfOk, OnOk, if◌then◌else◌};
+ghost use Rattle.std.specs.Prelude.{◌≡◌, ◌∷◌, ◌++◌, [], None, IfOk, OnOk, if◌then◌else◌};
 ghost use Rattle.re_syntax.specs.Tree.{tree};
+ghost use Rattle.re_spans.specs.Search.{first_span};
 ghost use Rattle.re_spans.specs.Successive.{AreInOrder};
 ghost use Rattle.sam_address.specs.Value.{IsInside};
 ghost use Rattle.edit_parts.specs.Tree.{ForEach, ForBetween, Where, WhereNot};
 ghost use Rattle.edit_parts.specs.Kinds.{loop_of};
 ghost use Rattle.edit_run.specs.Ranges.{matches_in, between, chosen, AreMatches, AreInside};
 ghost use Rattle.edit_run.specs.Meaning.{has_match, ranges_of};
+ghost use Rattle.edit_run.specs.Kept.{IsFor};
 
+use crate::kept::{Kept, SHORT};
 use am_text::{Items, Letters, NoMemory, Range, Spans};
 use edit_parts::Loop;
+use re_machine::Machine;
 use re_spans::{Re, first_match, successive_matches};
 use std::alloc::Global;
+
+// The successive matches in a range that is short, or for which no machine was made.
+fn once<T: Letters>(alloc: Global, re: &Re, text: &T, range: Range) -> Result<Spans, NoMemory>
+    requires { IsInside (T.letters text.now) range }
+    ensures value { IfOk result (λ spans. spans ≡ matches_in (tree re.now) (T.letters text.now) range) }
+    ensures ordered { IfOk result (AreInOrder range.q0 range.q1) }
+{
+    if range.q1 - range.q0 < SHORT {
+        return successive_matches(alloc, re, text, range.q0, range.q1);
+    }
+    let machine = Machine::build(alloc, re)?;
+    machine.successive(alloc, text, range.q0, range.q1)
+}
+
+// The successive matches in a range.
+fn all_matches<T: Letters>(
+    alloc: Global,
+    re: &Re,
+    kept: &Kept,
+    text: &T,
+    range: Range,
+) -> Result<Spans, NoMemory>
+    requires kept { IsFor (tree re.now) kept.now }
+    requires inside { IsInside (T.letters text.now) range }
+    ensures value { IfOk result (λ spans. spans ≡ matches_in (tree re.now) (T.letters text.now) range) }
+    ensures ordered { IfOk result (AreInOrder range.q0 range.q1) }
+{
+    match kept {
+        Some(machine) => machine.successive(alloc, text, range.q0, range.q1),
+        None => once(alloc, re, text, range),
+    }
+}
 
 /// The successive matches in a range, each from the end of the one before, without the null one there.
 #[tactic(auto, using(crate::proofs::Following::are_matches))]
 pub fn matches_in<T: Letters>(
     alloc: Global,
     re: &Re,
+    kept: &Kept,
     text: &T,
     range: Range,
 ) -> Result<Spans, NoMemory>
-    requires { IsInside (T.letters text.now) range }
+    requires kept { IsFor (tree re.now) kept.now }
+    requires inside { IsInside (T.letters text.now) range }
     ensures value { IfOk result (λ spans. spans ≡ matches_in (tree re.now) (T.letters text.now) range) }
     ensures matches { IfOk result (AreMatches (tree re.now) (T.letters text.now)) }
     ensures ordered { IfOk result (AreInOrder range.q0 range.q1) }
 {
-    successive_matches(alloc, re, text, range.q0, range.q1)
+    let all = all_matches(alloc, re, kept, text, range)?;
+    Ok(all)
+}
+
+// The first match in a range.
+fn first_in<T: Letters>(
+    alloc: Global,
+    re: &Re,
+    kept: &Kept,
+    text: &T,
+    range: Range,
+) -> Result<Option<Range>, NoMemory>
+    requires kept { IsFor (tree re.now) kept.now }
+    requires inside { IsInside (T.letters text.now) range }
+    ensures { IfOk result (λ found. found ≡ first_span (tree re.now) (T.letters text.now) range.q0 range.q1 None) }
+{
+    match kept {
+        Some(machine) => machine.forward(alloc, text, range.q0, range.q1, None),
+        None => first_match(alloc, re, text, range.q0, range.q1, None),
+    }
 }
 
 // Whether a range has a match.
-fn has_match<T: Letters>(alloc: Global, re: &Re, text: &T, range: Range) -> Result<bool, NoMemory>
-    requires { IsInside (T.letters text.now) range }
+fn has_match<T: Letters>(
+    alloc: Global,
+    re: &Re,
+    kept: &Kept,
+    text: &T,
+    range: Range,
+) -> Result<bool, NoMemory>
+    requires kept { IsFor (tree re.now) kept.now }
+    requires inside { IsInside (T.letters text.now) range }
     ensures { IfOk result (λ yes. yes ≡ has_match (tree re.now) (T.letters text.now) range) }
 {
-    let found = first_match(alloc, re, text, range.q0, range.q1, None)?;
+    let found = first_in(alloc, re, kept, text, range)?;
     Ok(found.is_some())
 }
 
 // The matches of `x`.
 #[tactic(auto, using(crate::proofs::Inside::ordered_inside))]
-fn each_match<T: Letters>(alloc: Global, re: &Re, text: &T, range: Range) -> Result<Spans, NoMemory>
-    requires { IsInside (T.letters text.now) range }
+fn each_match<T: Letters>(
+    alloc: Global,
+    re: &Re,
+    kept: &Kept,
+    text: &T,
+    range: Range,
+) -> Result<Spans, NoMemory>
+    requires kept { IsFor (tree re.now) kept.now }
+    requires inside { IsInside (T.letters text.now) range }
     ensures value { IfOk result (λ spans. spans ≡ ranges_of ForEach (tree re.now) (T.letters text.now) range) }
     ensures inside { IfOk result (AreInside (T.letters text.now)) }
 {
-    matches_in(alloc, re, text, range)
+    matches_in(alloc, re, kept, text, range)
 }
 
 fn put_range(ranges: &mut Spans, q0: usize, q1: usize) -> Result<(), NoMemory>
@@ -77,14 +148,16 @@ fn between(alloc: Global, range: Range, spans: &[Range]) -> Result<Spans, NoMemo
 fn each_between<T: Letters>(
     alloc: Global,
     re: &Re,
+    kept: &Kept,
     text: &T,
     range: Range,
 ) -> Result<Spans, NoMemory>
-    requires { IsInside (T.letters text.now) range }
+    requires kept { IsFor (tree re.now) kept.now }
+    requires inside { IsInside (T.letters text.now) range }
     ensures value { IfOk result (λ spans. spans ≡ ranges_of ForBetween (tree re.now) (T.letters text.now) range) }
     ensures inside { IfOk result (AreInside (T.letters text.now)) }
 {
-    let spans = matches_in(alloc, re, text, range)?;
+    let spans = matches_in(alloc, re, kept, text, range)?;
     between(alloc, range, spans.as_slice())
 }
 
@@ -103,14 +176,16 @@ fn wanted_or_none(alloc: Global, range: Range, is_wanted: bool) -> Result<Spans,
 fn where_matching<T: Letters>(
     alloc: Global,
     re: &Re,
+    kept: &Kept,
     text: &T,
     range: Range,
 ) -> Result<Spans, NoMemory>
-    requires { IsInside (T.letters text.now) range }
+    requires kept { IsFor (tree re.now) kept.now }
+    requires inside { IsInside (T.letters text.now) range }
     ensures value { IfOk result (λ spans. spans ≡ ranges_of Where (tree re.now) (T.letters text.now) range) }
     ensures inside { IfOk result (AreInside (T.letters text.now)) }
 {
-    let has = has_match(alloc, re, text, range)?;
+    let has = has_match(alloc, re, kept, text, range)?;
     wanted_or_none(alloc, range, has)
 }
 
@@ -118,14 +193,16 @@ fn where_matching<T: Letters>(
 fn where_not_matching<T: Letters>(
     alloc: Global,
     re: &Re,
+    kept: &Kept,
     text: &T,
     range: Range,
 ) -> Result<Spans, NoMemory>
-    requires { IsInside (T.letters text.now) range }
+    requires kept { IsFor (tree re.now) kept.now }
+    requires inside { IsInside (T.letters text.now) range }
     ensures value { IfOk result (λ spans. spans ≡ ranges_of WhereNot (tree re.now) (T.letters text.now) range) }
     ensures inside { IfOk result (AreInside (T.letters text.now)) }
 {
-    let has = has_match(alloc, re, text, range)?;
+    let has = has_match(alloc, re, kept, text, range)?;
     wanted_or_none(alloc, range, !has)
 }
 
@@ -134,18 +211,20 @@ pub fn ranges_of<T: Letters>(
     alloc: Global,
     kind: Loop,
     re: &Re,
+    kept: &Kept,
     text: &T,
     range: Range,
 ) -> Result<Spans, NoMemory>
-    requires { IsInside (T.letters text.now) range }
+    requires kept { IsFor (tree re.now) kept.now }
+    requires inside { IsInside (T.letters text.now) range }
     ensures value { IfOk result (λ spans. spans ≡ ranges_of (loop_of kind) (tree re.now) (T.letters text.now) range) }
     ensures inside { IfOk result (AreInside (T.letters text.now)) }
 {
     match kind {
-        Loop::ForEach => each_match(alloc, re, text, range),
-        Loop::ForBetween => each_between(alloc, re, text, range),
-        Loop::Where => where_matching(alloc, re, text, range),
-        Loop::WhereNot => where_not_matching(alloc, re, text, range),
+        Loop::ForEach => each_match(alloc, re, kept, text, range),
+        Loop::ForBetween => each_between(alloc, re, kept, text, range),
+        Loop::Where => where_matching(alloc, re, kept, text, range),
+        Loop::WhereNot => where_not_matching(alloc, re, kept, text, range),
     }
 }
 

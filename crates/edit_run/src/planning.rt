@@ -73,7 +73,16 @@ pub fn changes<T: Letters>(
 {
     let mut effects = Effects::none(alloc, site.dot);
     let mut cursor = LineCursor::start();
-    run(alloc, cmd, text, site, site.dot, &mut cursor, &mut effects)?;
+    run(
+        alloc,
+        cmd,
+        &None,
+        text,
+        site,
+        site.dot,
+        &mut cursor,
+        &mut effects,
+    )?;
     let Effects {
         changes,
         prints,

@@ -7,6 +7,7 @@ ghost use Rattle.edit_parts.specs.Tree.{action, command};
 ghost use Rattle.edit_parts.specs.Kinds.{loop_of};
 ghost use Rattle.sam_address.specs.Value.{IsInside};
 ghost use Rattle.edit_run.specs.Faults.{IsFault};
+ghost use Rattle.edit_run.specs.Kept.{IsFor, IsKept};
 ghost use Rattle.edit_run.specs.Ranges.{AreInside};
 ghost use Rattle.edit_run.specs.Lines.{IsCursorOf};
 ghost use Rattle.edit_run.specs.Meaning.{acted, meaning, for_each, list_done, ranges_of};
@@ -18,6 +19,7 @@ use crate::acts::{
 };
 use crate::effects::Effects;
 use crate::fault::EditFault;
+use crate::kept::{Kept, kept_for};
 use crate::line_cursor::LineCursor;
 use crate::matching::{chosen, matches_in, ranges_of};
 use crate::types::Site;
@@ -32,12 +34,14 @@ use std::alloc::Global;
 fn run_each<T: Letters>(
     alloc: Global,
     cmd: &Cmd,
+    kept: &Kept,
     text: &T,
     site: &Site,
     ranges: &[Range],
     cursor: &mut LineCursor,
     effects: &mut Effects,
 ) -> Result<(), EditFault>
+    requires kept { IsKept (action cmd.now.act) kept.now }
     requires ranges { AreInside (T.letters text.now) ranges.now }
     requires cursor { IsCursorOf (T.letters text.now) cursor.old }
     requires within { IsWithin (T.letters text.now) effects.old }
@@ -48,7 +52,7 @@ fn run_each<T: Letters>(
 {
     let mut rest = ranges;
     while let [range, after @ ..] = rest {
-        run(alloc, cmd, text, site, *range, cursor, effects)?;
+        run(alloc, cmd, kept, text, site, *range, cursor, effects)?;
         rest = after;
     }
     Ok(())
@@ -75,7 +79,7 @@ fn run_all<T: Letters>(
     ensures within { OnOk result (IsWithin (T.letters text.now) effects.new) }
 {
     for cmd in commands {
-        run(alloc, cmd, text, site, dot, cursor, effects)?;
+        run(alloc, cmd, &None, text, site, dot, cursor, effects)?;
     }
     Ok(())
 }
@@ -87,11 +91,13 @@ fn repeat<T: Letters>(
     cmd: &Cmd,
     kind: Loop,
     re: &Re,
+    kept: &Kept,
     text: &T,
     site: &Site,
     cursor: &mut LineCursor,
     effects: &mut Effects,
 ) -> Result<(), EditFault>
+    requires kept { IsFor (tree re.now) kept.now }
     requires cursor { IsCursorOf (T.letters text.now) cursor.old }
     requires within { IsWithin (T.letters text.now) effects.old }
     ensures value { OnOk result (for_each (meaning (command cmd.now) (T.letters text.now) site.now) (ranges_of (loop_of kind) (tree re.now) (T.letters text.now) effects.old.last) effects.old ≡ Ok effects.new) }
@@ -99,8 +105,18 @@ fn repeat<T: Letters>(
     ensures cursor { OnOk result (IsCursorOf (T.letters text.now) cursor.new) }
     ensures within { OnOk result (IsWithin (T.letters text.now) effects.new) }
 {
-    let ranges = ranges_of(alloc, kind, re, text, effects.last)?;
-    run_each(alloc, cmd, text, site, ranges.as_slice(), cursor, effects)
+    let ranges = ranges_of(alloc, kind, re, kept, text, effects.last)?;
+    let kept = kept_for(alloc, &cmd.act, ranges.as_slice())?;
+    run_each(
+        alloc,
+        cmd,
+        &kept,
+        text,
+        site,
+        ranges.as_slice(),
+        cursor,
+        effects,
+    )
 }
 
 // Does what a command does with the range that began last, its own.
@@ -109,12 +125,14 @@ fn repeat<T: Letters>(
 fn act<T: Letters>(
     alloc: Global,
     act: &Act,
+    kept: &Kept,
     text: &T,
     site: &Site,
     dot: Range,
     cursor: &mut LineCursor,
     effects: &mut Effects,
 ) -> Result<(), EditFault>
+    requires kept { IsKept (action act.now) kept.now }
     requires dot { IsInside (T.letters text.now) dot }
     requires cursor { IsCursorOf (T.letters text.now) cursor.old }
     requires within { IsWithin (T.letters text.now) effects.old }
@@ -131,7 +149,7 @@ fn act<T: Letters>(
         Act::Insert(put) => put_text(alloc, range.q0, range.q0, put, effects),
         Act::Delete => delete(alloc, range, effects),
         Act::Subst { nth, re, with, all } => {
-            let spans = matches_in(alloc, re, text, range)?;
+            let spans = matches_in(alloc, re, kept, text, range)?;
             let spans = chosen(spans.as_slice(), *nth, *all);
             replace_all(alloc, re, with.as_slice(), text, spans, effects)
         }
@@ -140,10 +158,12 @@ fn act<T: Letters>(
         Act::Print => print(alloc, text, range, effects),
         Act::LineNo => print_lines(alloc, site, text, range, cursor, effects),
         Act::CharNo => print_places(alloc, site, range, effects),
-        Act::Each(re, cmd) => repeat(alloc, cmd, ForEach, re, text, site, cursor, effects),
-        Act::Between(re, cmd) => repeat(alloc, cmd, ForBetween, re, text, site, cursor, effects),
-        Act::If(re, cmd) => repeat(alloc, cmd, Where, re, text, site, cursor, effects),
-        Act::Unless(re, cmd) => repeat(alloc, cmd, WhereNot, re, text, site, cursor, effects),
+        Act::Each(re, cmd) => repeat(alloc, cmd, ForEach, re, kept, text, site, cursor, effects),
+        Act::Between(re, cmd) => repeat(
+            alloc, cmd, ForBetween, re, kept, text, site, cursor, effects,
+        ),
+        Act::If(re, cmd) => repeat(alloc, cmd, Where, re, kept, text, site, cursor, effects),
+        Act::Unless(re, cmd) => repeat(alloc, cmd, WhereNot, re, kept, text, site, cursor, effects),
         Act::Block(all) => run_all(alloc, all.as_slice(), text, site, range, cursor, effects),
         Act::Pipe(command) => ask_with(alloc, JobKind::Pipe, command, site, text, range, effects),
         Act::From(command) => ask_without(alloc, command, site, effects),
@@ -151,17 +171,19 @@ fn act<T: Letters>(
     }
 }
 
-/// Does a command, where dot is this range.
+/// Does a command, where dot is this range. The machine is that of its own expression, or none.
 #[cycle(command)]
 pub fn run<T: Letters>(
     alloc: Global,
     cmd: &Cmd,
+    kept: &Kept,
     text: &T,
     site: &Site,
     dot: Range,
     cursor: &mut LineCursor,
     effects: &mut Effects,
 ) -> Result<(), EditFault>
+    requires kept { IsKept (action cmd.now.act) kept.now }
     requires dot { IsInside (T.letters text.now) dot }
     requires cursor { IsCursorOf (T.letters text.now) cursor.old }
     requires within { IsWithin (T.letters text.now) effects.old }
@@ -172,5 +194,5 @@ pub fn run<T: Letters>(
 {
     let range = range_of(alloc, &cmd.addr, text, dot)?;
     effects.begin(range);
-    act(alloc, &cmd.act, text, site, dot, cursor, effects)
+    act(alloc, &cmd.act, kept, text, site, dot, cursor, effects)
 }

@@ -25,8 +25,8 @@ use am_text::{Bytes, Items, decimal};
 use ninep_client::{CallFault, Client, RBody, TBody, version_message};
 use std::alloc::Global;
 
-// A client over objects in memory.
-type MemClient = Client<MemSource, MemSink>;
+/// A client over objects in memory.
+pub(crate) type MemClient = Client<MemSource, MemSink>;
 
 // The fid that is given back.
 const FID: u32 = 1;
@@ -53,7 +53,7 @@ fn reply_word(reply: &RBody) -> &'static [u8] {
     }
 }
 
-fn fault_word(fault: &CallFault) -> &'static [u8] {
+pub(crate) fn fault_word(fault: &CallFault) -> &'static [u8] {
     match fault {
         CallFault::Remote(_) => b"remote",
         CallFault::Large => b"large",
@@ -133,7 +133,7 @@ fn put_call(
     }
 }
 
-fn bytes_of(alloc: Global, field: &str) -> Result<Bytes, Fault> {
+pub(crate) fn bytes_of(alloc: Global, field: &str) -> Result<Bytes, Fault> {
     match hex::decode(alloc, field.as_bytes()) {
         Ok(bytes) => Ok(Items::from_vec(bytes)),
         Err(hex::FromHexError::OutOfMemory) => Err(Fault::NoMemory),

@@ -1,4 +1,4 @@
-// A table of cases for the objects in memory, and for a client over them: each line of standard input is a case, and its answer is written in a
+// A table of cases for the objects in memory, and for a client and the lines of `do` over them: each line of standard input is a case, and its answer is written in a
 // line. A line that is no case is answered `?`.
 //
 // It is a test program. Its stored input and output are compared when it is run; no contract says what it
@@ -8,6 +8,7 @@
 mod client;
 mod fault;
 mod outside;
+mod talk;
 
 use fault::Fault;
 use outside::answer;

@@ -20,6 +20,7 @@ ghost use Rattle.std.specs.Prelude.{◌≡◌, IfOk};
 
 use crate::client::client_line;
 use crate::fault::Fault;
+use crate::talk::do_line;
 use am_base::{
     Failed, Gate, Host, Link, MemGate, MemHost, MemLink, MemSink, MemSource, NeverFails, ReadStop,
     Source, read_to_end, write_all,
@@ -279,6 +280,7 @@ pub fn answer(alloc: Global, line: &str) -> Result<Bytes, Fault> {
         "host" => host_line(alloc, fields),
         "dial" => dial_line(alloc, fields),
         "client" => client_line(alloc, fields),
+        "do" => do_line(alloc, fields),
         _ => Err(Fault::NoCase),
     }
 }

@@ -16,6 +16,7 @@ mod way;
 pub use choice::{first_match, last_match, matches_span};
 pub use filling::groups;
 pub use laws::{searches_choose_a_match, successive_matches_follow};
+pub use leaf::{Here, here_at, takes};
 pub use over::match_over;
 pub use re_syntax::{Groups, Re};
 pub use successive::successive_matches;

@@ -8,7 +8,8 @@ ghost use Rattle.sam_address.specs.Value.{match_or_fault, IsFault, IsInside};
 
 use crate::fault::AddrFault;
 use am_text::{Letters, Range};
-use re_spans::{Re, first_match, last_match};
+use re_machine::Machine;
+use re_spans::Re;
 use std::alloc::Global;
 
 // The place, or the nearest one inside the limit.
@@ -39,11 +40,12 @@ pub fn forward<T: Letters>(
     ensures fault { IfErr result (λ e. IsFault e (match_or_fault (forward (tree re.now) (T.letters text.now) limit place))) }
     ensures inside { IfOk result (IsBetween limit.q0 limit.q1) }
 {
+    let machine = Machine::build(alloc, re)?;
     let from = brought(limit, place);
-    if let Some(found) = first_match(alloc, re, text, from, limit.q1, Some(from))? {
+    if let Some(found) = machine.forward(alloc, text, from, limit.q1, Some(from))? {
         return Ok(found);
     }
-    match first_match(alloc, re, text, limit.q0, limit.q1, None)? {
+    match machine.forward(alloc, text, limit.q0, limit.q1, None)? {
         Some(found) => Ok(found),
         None => Err(AddrFault::NoMatch),
     }
@@ -62,11 +64,12 @@ pub fn backward<T: Letters>(
     ensures fault { IfErr result (λ e. IsFault e (match_or_fault (backward (tree re.now) (T.letters text.now) limit place))) }
     ensures inside { IfOk result (IsBetween limit.q0 limit.q1) }
 {
+    let machine = Machine::build(alloc, re)?;
     let to = brought(limit, place);
-    if let Some(found) = last_match(alloc, re, text, limit.q0, to, Some(to))? {
+    if let Some(found) = machine.backward(alloc, text, limit.q0, to, Some(to))? {
         return Ok(found);
     }
-    match last_match(alloc, re, text, limit.q0, limit.q1, None)? {
+    match machine.backward(alloc, text, limit.q0, limit.q1, None)? {
         Some(found) => Ok(found),
         None => Err(AddrFault::NoMatch),
     }

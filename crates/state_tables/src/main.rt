@@ -15,6 +15,7 @@ mod items;
 mod log;
 mod ports;
 mod queue;
+mod stores;
 mod tables;
 
 use fault::Fault;

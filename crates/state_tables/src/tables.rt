@@ -17,7 +17,8 @@
 use crate::answers::says;
 use crate::call::{Call, read_call};
 use crate::fault::Fault;
-use crate::{body, book, log, ports, queue};
+use crate::stores::Stores;
+use crate::{body, book, log, ports, queue, stores};
 use am_text::{Bytes, NoMemory};
 use edit_log::UndoLog;
 use event_book::Book;
@@ -34,6 +35,7 @@ pub struct Tables {
     queue: WaitQueue,
     book: Book,
     ports: Ports,
+    stores: Stores,
 }
 
 impl Tables {
@@ -46,6 +48,7 @@ impl Tables {
             queue: WaitQueue::new(alloc),
             book: Book::new(alloc),
             ports,
+            stores: Stores::new(alloc),
         })
     }
 }
@@ -62,6 +65,7 @@ fn called(
         "queue" => queue::answer(alloc, &mut tables.queue, call),
         "book" => book::answer(alloc, &mut tables.book, call),
         "ports" => ports::answer(alloc, &mut tables.ports, call),
+        "stores" => stores::answer(alloc, &mut tables.stores, call),
         _ => Err(Fault::NoCase),
     }
 }

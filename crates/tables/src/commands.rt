@@ -1,7 +1,7 @@
 //! Commands of Edit: what they do to a text.
 //!
 //! A line is `edit`, the number and the name of a window, its text, dot and a command. Dot is two places with a comma between
-//! them.
+//! them. A line with `command` in place of `edit` is read by `read_edit`.
 //!
 //! | answer | is |
 //! |---|---|
@@ -9,14 +9,16 @@
 //! | kind, window, directory, command, input | behind that, for each request |
 //! | `range`, `no match`, `order`, `sequence`, `overlap` | why it can't be done |
 //! | `bad PLACE`, `nodes`, `deep` | why it is no command |
+//! | `none` | that it is none, of `command` |
 
 ghost use Rattle.std.specs.Prelude.{◌≡◌, IfOk};
 
 use crate::fault::Fault;
 use crate::fields::{cut_twice, number_of, range_in, text_of};
 use crate::plans::plan_line;
-use am_text::{Range, Runes};
+use am_text::{Range, Rune, Runes};
 use edit_run::{EditFault, Site, changes};
+use edit_trees::read_edit;
 use sam_syntax::{Cmd, parse_edit};
 use std::alloc::Global;
 
@@ -33,9 +35,26 @@ impl From<EditFault> for Fault {
     }
 }
 
-fn command_of(alloc: Global, field: &str) -> Result<Cmd, Fault> {
+/// Which call reads a command.
+#[derive(Clone, Copy)]
+pub enum Reader {
+    ParseEdit,
+    ReadEdit,
+}
+
+fn read(alloc: Global, text: &[Rune]) -> Result<Cmd, Fault> {
+    match read_edit(alloc, text)? {
+        Some(command) => Ok(command),
+        None => Err(Fault::Says("none")),
+    }
+}
+
+fn command_of(alloc: Global, field: &str, reader: Reader) -> Result<Cmd, Fault> {
     let text = text_of(alloc, field)?;
-    Ok(parse_edit(alloc, text.as_slice())?)
+    match reader {
+        Reader::ParseEdit => Ok(parse_edit(alloc, text.as_slice())?),
+        Reader::ReadEdit => read(alloc, text.as_slice()),
+    }
 }
 
 fn site_of(alloc: Global, window: &str, name: &str, dot: Range) -> Result<Site, Fault>
@@ -61,10 +80,10 @@ fn done_in(
 }
 
 /// What a command does.
-pub fn done(alloc: Global, case: &str) -> Result<Vec<u8>, Fault> {
+pub fn done(alloc: Global, case: &str, reader: Reader) -> Result<Vec<u8>, Fault> {
     let (window, name, fields) = cut_twice(case)?;
     let (text, dot, command) = cut_twice(fields)?;
     let text = text_of(alloc, text)?;
-    let command = command_of(alloc, command)?;
+    let command = command_of(alloc, command, reader)?;
     done_in(alloc, (window, name), &text, dot, &command)
 }

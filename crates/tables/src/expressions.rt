@@ -19,6 +19,7 @@ ghost use Rattle.std.specs.Prelude.{◌≤◌, length, IfOk};
 use crate::fault::Fault;
 use crate::fields::{cut, number_of, text_of};
 use am_text::{Bytes, Items, Range, Rune, Runes};
+use re_machine::Machine;
 use re_spans::{Re, first_match, groups, last_match, match_over, matches_span, successive_matches};
 use re_syntax::{ReFault, parse_re};
 use std::alloc::Global;
@@ -123,12 +124,32 @@ fn put_span(alloc: Global, line: &mut Bytes, span: Option<Range>) -> Result<(), 
     Ok(())
 }
 
+// The matches that a machine finds.
+fn by_machine(
+    alloc: Global,
+    re: &Re,
+    text: &Runes,
+    bounds: Range,
+    no_null: Option<usize>,
+) -> Result<(Option<Range>, Option<Range>), Fault>
+    requires order { bounds.q0 ≤ bounds.q1 }
+    requires within { bounds.q1 ≤ length text.now }
+{
+    let machine = Machine::build(alloc, re)?;
+    let first = machine.forward(alloc, text, bounds.q0, bounds.q1, no_null)?;
+    let last = machine.backward(alloc, text, bounds.q0, bounds.q1, no_null)?;
+    Ok((first, last))
+}
+
 fn spans_line(alloc: Global, re: &Re, text: &Runes, fields: &str) -> Result<Bytes, Fault> {
     let (bounds, no_null) = cut(fields)?;
     let bounds = bounds_of(bounds, text)?;
     let no_null = no_null_of(no_null)?;
     let first = first_match(alloc, re, text, bounds.q0, bounds.q1, no_null)?;
     let last = last_match(alloc, re, text, bounds.q0, bounds.q1, no_null)?;
+    if (first, last) != by_machine(alloc, re, text, bounds, no_null)? {
+        return says(alloc, "the machine differs");
+    }
     let mut line = says(alloc, "first")?;
     put_span(alloc, &mut line, first)?;
     line.append(b" last")?;

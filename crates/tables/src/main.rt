@@ -6,8 +6,9 @@
 // |---|---|
 // | `addr`, `address` | addresses.rt |
 // | `piece` | pieces.rt |
-// | `edit` | commands.rt |
+// | `edit`, `command` | commands.rt |
 // | `re` | expressions.rt |
+// | `machines` | machines.rt |
 // | `names` | names.rt |
 // | `rules`, `bytes`, `sets` | rules.rt |
 // | `times` COUNT FRONT BEHIND LINE | the line, with each `@` of it as so many FRONT and then so many BEHIND |
@@ -21,11 +22,13 @@ mod commands;
 mod expressions;
 mod fault;
 mod fields;
+mod machines;
 mod names;
 mod pieces;
 mod plans;
 mod rules;
 
+use commands::Reader;
 use fault::Fault;
 use fields::{cut, cut_twice, number_of};
 use name_tree::Tree;
@@ -47,8 +50,10 @@ fn found(alloc: Global, state: &mut State, word: &str, case: &str) -> Result<Vec
         "addr" => addresses::valued(alloc, case),
         "address" => addresses::ended(alloc, case),
         "piece" => pieces::first(alloc, case),
-        "edit" => commands::done(alloc, case),
+        "edit" => commands::done(alloc, case, Reader::ParseEdit),
+        "command" => commands::done(alloc, case, Reader::ReadEdit),
         "re" => Ok(expressions::answer(alloc, case)?.into_vec()),
+        "machines" => machines::answer(alloc, case),
         "names" => names::answer(alloc, &mut state.tree, case),
         "rules" => rules::routed(alloc, &state.known, case, Coding::Utf8),
         "bytes" => rules::routed(alloc, &state.known, case, Coding::Bytes),

@@ -1,6 +1,6 @@
 // Tables of cases for bytes and lines: each line of standard input is a case, and its answer is written in a line. A
 // line that is no case is answered `?`. The heads of the modules have the cases: `texts` those of am_text, `messages` of
-// ninep_wire, `records` of ninep_frame, `streams` of ninep_cut, `journal` of am_journal, `events` of win_events and
+// ninep_wire, `records` of ninep_frame, `streams` of ninep_cut, `journal` of am_journal, `words` of ninep_trace, `events` of win_events and
 // `plumbing` of plumb_msg.
 //
 // A line is a word, a tab and fields, with a tab between two. BYTES are a colon and a text in which a newline is written
@@ -19,6 +19,7 @@ mod plumbing;
 mod records;
 mod streams;
 mod texts;
+mod words;
 
 use am_text::Bytes;
 use fault::Fault;
@@ -37,6 +38,9 @@ fn with_bytes(alloc: Global, word: &str, bytes: &[u8]) -> Result<Bytes, Fault> {
         "r" => messages::from_server(alloc, bytes),
         "stat" => records::record(alloc, bytes),
         "line" => journal::event(alloc, bytes),
+        "words" => words::meaning(alloc, bytes),
+        "words-t" => words::to_server(alloc, bytes),
+        "words-r" => words::from_server(alloc, bytes),
         "back" => events::written_back(alloc, bytes),
         "plumb" => plumbing::message(alloc, bytes),
         "attr" => plumbing::attribute(alloc, bytes),

@@ -14,7 +14,7 @@ use am_text::Bytes;
 use ninep_wire::{RBody, TBody, TMsg, WireError, read_r, read_t, t_size, write_r, write_t};
 use std::alloc::Global;
 
-fn fault_line(alloc: Global, error: WireError) -> Result<Bytes, Fault> {
+pub fn fault_line(alloc: Global, error: WireError) -> Result<Bytes, Fault> {
     match error {
         WireError::Fault(fault) => Ok(line(format!(in alloc; "{fault:?}")?)),
         WireError::NoMemory => Err(Fault::NoMemory),

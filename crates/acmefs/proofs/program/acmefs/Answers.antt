@@ -6,7 +6,10 @@ use Rattle.am_words.specs.Words.{AreKnown}
 use Rattle.acmefs.proofs.Drills.{drill_usage, drill_write_fault, drill_complete}
 use Rattle.acmefs.proofs.Idle as idle
 use Rattle.acmefs.proofs.OwnText.{says_own}
+use Rattle.acmefs.proofs.OneWord.{trace_no_replay, trace_no_pack, trace_no_drill, trace_no_serving, pack_no_replay, pack_no_drill, pack_no_serving}
+use Rattle.acmefs.proofs.PackEnds as packs
 use Rattle.acmefs.proofs.Promised as promised
+use Rattle.acmefs.proofs.TraceEnds as traces
 use Rattle.acmefs.proofs.ServeEnds.{never_usage, at_path, serve_read_fault, serve_write_fault, none_replied, none_ended, none_complete, complete_at}
 use Rattle.acmefs.proofs.Words.{asked_at, none_at, replay_alone, replay_no_drill, drill_no_serving, asked_once, rounds_once}
 use Rattle.acmefs.proofs.program.acmefs.Goals as goal
@@ -203,25 +206,25 @@ pub returns-in-Ok-None-clause-usage : goal.returns-in-Ok-None-clause-usage
 returns-in-Ok-None-clause-usage g c = λ h. (none_at c.args.words.now _ c.in-Ok-None.field-0 c.in-Ok-None.field-0-is c.as_slice.ensures c.in-Ok-None.ensures.other)
 
 pub returns-in-Ok-None-clause-done : goal.returns-in-Ok-None-clause-done
-returns-in-Ok-None-clause-done g c = λ r. absurd ((none_at c.args.words.now _ c.in-Ok-None.field-0 c.in-Ok-None.field-0-is c.as_slice.ensures c.in-Ok-None.ensures.other) (inl r))
+returns-in-Ok-None-clause-done g c = λ r. absurd ((none_at c.args.words.now _ c.in-Ok-None.field-0 c.in-Ok-None.field-0-is c.as_slice.ensures c.in-Ok-None.ensures.other) (inl (inl r)))
 
 pub returns-in-Ok-None-clause-script : goal.returns-in-Ok-None-clause-script
-returns-in-Ok-None-clause-script g c = λ r. absurd ((none_at c.args.words.now _ c.in-Ok-None.field-0 c.in-Ok-None.field-0-is c.as_slice.ensures c.in-Ok-None.ensures.other) (inl r))
+returns-in-Ok-None-clause-script g c = λ r. absurd ((none_at c.args.words.now _ c.in-Ok-None.field-0 c.in-Ok-None.field-0-is c.as_slice.ensures c.in-Ok-None.ensures.other) (inl (inl r)))
 
 pub returns-in-Ok-None-clause-write_fault : goal.returns-in-Ok-None-clause-write_fault
-returns-in-Ok-None-clause-write_fault g c = λ r. absurd ((none_at c.args.words.now _ c.in-Ok-None.field-0 c.in-Ok-None.field-0-is c.as_slice.ensures c.in-Ok-None.ensures.other) (inl r))
+returns-in-Ok-None-clause-write_fault g c = λ r. absurd ((none_at c.args.words.now _ c.in-Ok-None.field-0 c.in-Ok-None.field-0-is c.as_slice.ensures c.in-Ok-None.ensures.other) (inl (inl r)))
 
 pub returns-in-Ok-None-clause-no_memory : goal.returns-in-Ok-None-clause-no_memory
-returns-in-Ok-None-clause-no_memory g c = λ r. absurd ((none_at c.args.words.now _ c.in-Ok-None.field-0 c.in-Ok-None.field-0-is c.as_slice.ensures c.in-Ok-None.ensures.other) (inl r))
+returns-in-Ok-None-clause-no_memory g c = λ r. absurd ((none_at c.args.words.now _ c.in-Ok-None.field-0 c.in-Ok-None.field-0-is c.as_slice.ensures c.in-Ok-None.ensures.other) (inl (inl r)))
 
 pub returns-in-Ok-None-clause-complete : goal.returns-in-Ok-None-clause-complete
-returns-in-Ok-None-clause-complete g c = λ r. absurd ((none_at c.args.words.now _ c.in-Ok-None.field-0 c.in-Ok-None.field-0-is c.as_slice.ensures c.in-Ok-None.ensures.other) (inl r))
+returns-in-Ok-None-clause-complete g c = λ r. absurd ((none_at c.args.words.now _ c.in-Ok-None.field-0 c.in-Ok-None.field-0-is c.as_slice.ensures c.in-Ok-None.ensures.other) (inl (inl r)))
 
 pub returns-in-Ok-None-clause-headline : goal.returns-in-Ok-None-clause-headline
-returns-in-Ok-None-clause-headline g c = λ r. absurd ((none_at c.args.words.now _ c.in-Ok-None.field-0 c.in-Ok-None.field-0-is c.as_slice.ensures c.in-Ok-None.ensures.other) (inl r))
+returns-in-Ok-None-clause-headline g c = λ r. absurd ((none_at c.args.words.now _ c.in-Ok-None.field-0 c.in-Ok-None.field-0-is c.as_slice.ensures c.in-Ok-None.ensures.other) (inl (inl r)))
 
 pub returns-in-Ok-None-clause-own_text : goal.returns-in-Ok-None-clause-own_text
-returns-in-Ok-None-clause-own_text g c = λ r. absurd ((none_at c.args.words.now _ c.in-Ok-None.field-0 c.in-Ok-None.field-0-is c.as_slice.ensures c.in-Ok-None.ensures.other) (inl r))
+returns-in-Ok-None-clause-own_text g c = λ r. absurd ((none_at c.args.words.now _ c.in-Ok-None.field-0 c.in-Ok-None.field-0-is c.as_slice.ensures c.in-Ok-None.ensures.other) (inl (inl r)))
 
 pub returns-in-Ok-None-clause-drills : goal.returns-in-Ok-None-clause-drills
 returns-in-Ok-None-clause-drills g c = λ n a. absurd ((none_at c.args.words.now _ c.in-Ok-None.field-0 c.in-Ok-None.field-0-is c.as_slice.ensures c.in-Ok-None.ensures.other) (inr (inl (n, a))))
@@ -281,3 +284,184 @@ pub returns-in-Err-clause-serve_complete : goal.returns-in-Err-clause-serve_comp
 returns-in-Err-clause-serve_complete g c = λ path clients a. none_complete {G = g.row.H-G.Denot} {L = g.row.H-G-L.Denot} {S = g.row.H-G-L-R.Denot} {K = g.row.H-G-L-W.Denot}
     (outside g.H.G.Gate.name g.H.G.Gate.faults g.H.G.L.Link.begins g.H.G.L.Link.faults g.H.G.L.R.Source.left g.H.G.L.R.Source.faults g.H.G.L.W.Sink.held g.H.G.L.W.Sink.faults)
     clients _ _ _ _ _ _ c.idle-in-Err.ensures.status
+
+-- ---- a trace
+
+pub returns-in-Ok-Some-Trace-clause-usage : goal.returns-in-Ok-Some-Trace-clause-usage
+returns-in-Ok-Some-Trace-clause-usage g c = let s = c.traced.ensures.says in λ h. absurd (traces.usage s.0 _ _ _ _ _ _ s.1 s.2 h)
+
+pub returns-in-Ok-Some-Trace-clause-unread : goal.returns-in-Ok-Some-Trace-clause-unread
+returns-in-Ok-Some-Trace-clause-unread g c = let s = c.traced.ensures.says in λ h. absurd (traces.usage s.0 _ _ _ _ _ _ s.1 s.2 h)
+
+pub returns-in-Ok-Some-Trace-clause-idle_words : goal.returns-in-Ok-Some-Trace-clause-idle_words
+returns-in-Ok-Some-Trace-clause-idle_words g c = let s = c.traced.ensures.says in λ h. absurd (traces.usage s.0 _ _ _ _ _ _ s.1 s.2 h)
+
+pub returns-in-Ok-Some-Trace-clause-read_fault : goal.returns-in-Ok-Some-Trace-clause-read_fault
+returns-in-Ok-Some-Trace-clause-read_fault g c = let s = c.traced.ensures.says in λ h. (traces.read_fault s.0 _ _ _ _ _ _ s.1 s.2 h).1
+
+pub returns-in-Ok-Some-Trace-clause-idle_fault : goal.returns-in-Ok-Some-Trace-clause-idle_fault
+returns-in-Ok-Some-Trace-clause-idle_fault g c = let s = c.traced.ensures.says in λ h. (traces.read_fault s.0 _ _ _ _ _ _ s.1 s.2 h).0
+
+pub returns-in-Ok-Some-Trace-clause-write_cause : goal.returns-in-Ok-Some-Trace-clause-write_cause
+returns-in-Ok-Some-Trace-clause-write_cause g c = let s = c.traced.ensures.says in traces.write_cause s.0 _ _ _ _ _ _ s.1 s.2
+
+pub returns-in-Ok-Some-Trace-clause-done : goal.returns-in-Ok-Some-Trace-clause-done
+returns-in-Ok-Some-Trace-clause-done g c = λ r. absurd (trace_no_replay c.args.words.now (asked_at c.args.words.now _ c.in-Ok-Some-Trace.field-0 c.in-Ok-Some-Trace.field-0-0 asked.Trace c.in-Ok-Some-Trace.field-0-is c.in-Ok-Some-Trace.field-0-0-is c.as_slice.ensures c.in-Ok-Some-Trace.ensures.asked) r)
+
+pub returns-in-Ok-Some-Trace-clause-script : goal.returns-in-Ok-Some-Trace-clause-script
+returns-in-Ok-Some-Trace-clause-script g c = λ r. absurd (trace_no_replay c.args.words.now (asked_at c.args.words.now _ c.in-Ok-Some-Trace.field-0 c.in-Ok-Some-Trace.field-0-0 asked.Trace c.in-Ok-Some-Trace.field-0-is c.in-Ok-Some-Trace.field-0-0-is c.as_slice.ensures c.in-Ok-Some-Trace.ensures.asked) r)
+
+pub returns-in-Ok-Some-Trace-clause-write_fault : goal.returns-in-Ok-Some-Trace-clause-write_fault
+returns-in-Ok-Some-Trace-clause-write_fault g c = λ r. absurd (trace_no_replay c.args.words.now (asked_at c.args.words.now _ c.in-Ok-Some-Trace.field-0 c.in-Ok-Some-Trace.field-0-0 asked.Trace c.in-Ok-Some-Trace.field-0-is c.in-Ok-Some-Trace.field-0-0-is c.as_slice.ensures c.in-Ok-Some-Trace.ensures.asked) r)
+
+pub returns-in-Ok-Some-Trace-clause-no_memory : goal.returns-in-Ok-Some-Trace-clause-no_memory
+returns-in-Ok-Some-Trace-clause-no_memory g c = λ r. absurd (trace_no_replay c.args.words.now (asked_at c.args.words.now _ c.in-Ok-Some-Trace.field-0 c.in-Ok-Some-Trace.field-0-0 asked.Trace c.in-Ok-Some-Trace.field-0-is c.in-Ok-Some-Trace.field-0-0-is c.as_slice.ensures c.in-Ok-Some-Trace.ensures.asked) r)
+
+pub returns-in-Ok-Some-Trace-clause-complete : goal.returns-in-Ok-Some-Trace-clause-complete
+returns-in-Ok-Some-Trace-clause-complete g c = λ r. absurd (trace_no_replay c.args.words.now (asked_at c.args.words.now _ c.in-Ok-Some-Trace.field-0 c.in-Ok-Some-Trace.field-0-0 asked.Trace c.in-Ok-Some-Trace.field-0-is c.in-Ok-Some-Trace.field-0-0-is c.as_slice.ensures c.in-Ok-Some-Trace.ensures.asked) r)
+
+pub returns-in-Ok-Some-Trace-clause-headline : goal.returns-in-Ok-Some-Trace-clause-headline
+returns-in-Ok-Some-Trace-clause-headline g c = λ r. absurd (trace_no_replay c.args.words.now (asked_at c.args.words.now _ c.in-Ok-Some-Trace.field-0 c.in-Ok-Some-Trace.field-0-0 asked.Trace c.in-Ok-Some-Trace.field-0-is c.in-Ok-Some-Trace.field-0-0-is c.as_slice.ensures c.in-Ok-Some-Trace.ensures.asked) r)
+
+pub returns-in-Ok-Some-Trace-clause-own_text : goal.returns-in-Ok-Some-Trace-clause-own_text
+returns-in-Ok-Some-Trace-clause-own_text g c = λ r. absurd (trace_no_replay c.args.words.now (asked_at c.args.words.now _ c.in-Ok-Some-Trace.field-0 c.in-Ok-Some-Trace.field-0-0 asked.Trace c.in-Ok-Some-Trace.field-0-is c.in-Ok-Some-Trace.field-0-0-is c.as_slice.ensures c.in-Ok-Some-Trace.ensures.asked) r)
+
+pub returns-in-Ok-Some-Trace-clause-traces : goal.returns-in-Ok-Some-Trace-clause-traces
+returns-in-Ok-Some-Trace-clause-traces g c = let s = c.traced.ensures.says in λ t. traces.ends s.0 _ _ _ _ _ _ s.1 s.2
+
+pub returns-in-Ok-Some-Trace-clause-packs : goal.returns-in-Ok-Some-Trace-clause-packs
+returns-in-Ok-Some-Trace-clause-packs g c = λ p. absurd (trace_no_pack c.args.words.now (asked_at c.args.words.now _ c.in-Ok-Some-Trace.field-0 c.in-Ok-Some-Trace.field-0-0 asked.Trace c.in-Ok-Some-Trace.field-0-is c.in-Ok-Some-Trace.field-0-0-is c.as_slice.ensures c.in-Ok-Some-Trace.ensures.asked) p)
+
+pub returns-in-Ok-Some-Trace-clause-drills : goal.returns-in-Ok-Some-Trace-clause-drills
+returns-in-Ok-Some-Trace-clause-drills g c = λ n a. absurd (let e = sym (trace_no_drill c.args.words.now (asked_at c.args.words.now _ c.in-Ok-Some-Trace.field-0 c.in-Ok-Some-Trace.field-0-0 asked.Trace c.in-Ok-Some-Trace.field-0-is c.in-Ok-Some-Trace.field-0-0-is c.as_slice.ensures c.in-Ok-Some-Trace.ensures.asked)) ∙ a in cc)
+
+pub returns-in-Ok-Some-Trace-clause-drilled : goal.returns-in-Ok-Some-Trace-clause-drilled
+returns-in-Ok-Some-Trace-clause-drilled g c = λ n a. absurd (let e = sym (trace_no_drill c.args.words.now (asked_at c.args.words.now _ c.in-Ok-Some-Trace.field-0 c.in-Ok-Some-Trace.field-0-0 asked.Trace c.in-Ok-Some-Trace.field-0-is c.in-Ok-Some-Trace.field-0-0-is c.as_slice.ensures c.in-Ok-Some-Trace.ensures.asked)) ∙ a in cc)
+
+pub returns-in-Ok-Some-Trace-clause-drill_reads_none : goal.returns-in-Ok-Some-Trace-clause-drill_reads_none
+returns-in-Ok-Some-Trace-clause-drill_reads_none g c = λ n a. absurd (let e = sym (trace_no_drill c.args.words.now (asked_at c.args.words.now _ c.in-Ok-Some-Trace.field-0 c.in-Ok-Some-Trace.field-0-0 asked.Trace c.in-Ok-Some-Trace.field-0-is c.in-Ok-Some-Trace.field-0-0-is c.as_slice.ensures c.in-Ok-Some-Trace.ensures.asked)) ∙ a in cc)
+
+pub returns-in-Ok-Some-Trace-clause-serves : goal.returns-in-Ok-Some-Trace-clause-serves
+returns-in-Ok-Some-Trace-clause-serves g c = λ path clients a. absurd (let e = sym (trace_no_serving c.args.words.now (asked_at c.args.words.now _ c.in-Ok-Some-Trace.field-0 c.in-Ok-Some-Trace.field-0-0 asked.Trace c.in-Ok-Some-Trace.field-0-is c.in-Ok-Some-Trace.field-0-0-is c.as_slice.ensures c.in-Ok-Some-Trace.ensures.asked)) ∙ a.0 in cc)
+
+pub returns-in-Ok-Some-Trace-clause-replied : goal.returns-in-Ok-Some-Trace-clause-replied
+returns-in-Ok-Some-Trace-clause-replied g c = λ h. none_replied {G = g.row.H-G.Denot} {L = g.row.H-G-L.Denot} {S = g.row.H-G-L-R.Denot} {K = g.row.H-G-L-W.Denot}
+    (outside g.H.G.Gate.name g.H.G.Gate.faults g.H.G.L.Link.begins g.H.G.L.Link.faults g.H.G.L.R.Source.left g.H.G.L.R.Source.faults g.H.G.L.W.Sink.held g.H.G.L.W.Sink.faults)
+    _ _ c.traced.ensures.none_served
+
+-- ---- packing
+
+pub returns-in-Ok-Some-Pack-clause-usage : goal.returns-in-Ok-Some-Pack-clause-usage
+returns-in-Ok-Some-Pack-clause-usage g c = let s = c.packed.ensures.says in λ h. absurd (packs.usage s.0 _ s.1 h)
+
+pub returns-in-Ok-Some-Pack-clause-unread : goal.returns-in-Ok-Some-Pack-clause-unread
+returns-in-Ok-Some-Pack-clause-unread g c = let s = c.packed.ensures.says in λ h. absurd (packs.usage s.0 _ s.1 h)
+
+pub returns-in-Ok-Some-Pack-clause-idle_words : goal.returns-in-Ok-Some-Pack-clause-idle_words
+returns-in-Ok-Some-Pack-clause-idle_words g c = let s = c.packed.ensures.says in λ h. absurd (packs.usage s.0 _ s.1 h)
+
+pub returns-in-Ok-Some-Pack-clause-read_fault : goal.returns-in-Ok-Some-Pack-clause-read_fault
+returns-in-Ok-Some-Pack-clause-read_fault g c = let s = c.packed.ensures.says in λ h. (packs.read_fault s.0 _ _ _ _ _ _ s.1 s.2 h).1
+
+pub returns-in-Ok-Some-Pack-clause-idle_fault : goal.returns-in-Ok-Some-Pack-clause-idle_fault
+returns-in-Ok-Some-Pack-clause-idle_fault g c = let s = c.packed.ensures.says in λ h. (packs.read_fault s.0 _ _ _ _ _ _ s.1 s.2 h).0
+
+pub returns-in-Ok-Some-Pack-clause-write_cause : goal.returns-in-Ok-Some-Pack-clause-write_cause
+returns-in-Ok-Some-Pack-clause-write_cause g c = let s = c.packed.ensures.says in packs.write_cause s.0 _ _ _ _ _ _ s.1 s.2
+
+pub returns-in-Ok-Some-Pack-clause-done : goal.returns-in-Ok-Some-Pack-clause-done
+returns-in-Ok-Some-Pack-clause-done g c = λ r. absurd (pack_no_replay c.args.words.now (asked_at c.args.words.now _ c.in-Ok-Some-Pack.field-0 c.in-Ok-Some-Pack.field-0-0 asked.Pack c.in-Ok-Some-Pack.field-0-is c.in-Ok-Some-Pack.field-0-0-is c.as_slice.ensures c.in-Ok-Some-Pack.ensures.asked) r)
+
+pub returns-in-Ok-Some-Pack-clause-script : goal.returns-in-Ok-Some-Pack-clause-script
+returns-in-Ok-Some-Pack-clause-script g c = λ r. absurd (pack_no_replay c.args.words.now (asked_at c.args.words.now _ c.in-Ok-Some-Pack.field-0 c.in-Ok-Some-Pack.field-0-0 asked.Pack c.in-Ok-Some-Pack.field-0-is c.in-Ok-Some-Pack.field-0-0-is c.as_slice.ensures c.in-Ok-Some-Pack.ensures.asked) r)
+
+pub returns-in-Ok-Some-Pack-clause-write_fault : goal.returns-in-Ok-Some-Pack-clause-write_fault
+returns-in-Ok-Some-Pack-clause-write_fault g c = λ r. absurd (pack_no_replay c.args.words.now (asked_at c.args.words.now _ c.in-Ok-Some-Pack.field-0 c.in-Ok-Some-Pack.field-0-0 asked.Pack c.in-Ok-Some-Pack.field-0-is c.in-Ok-Some-Pack.field-0-0-is c.as_slice.ensures c.in-Ok-Some-Pack.ensures.asked) r)
+
+pub returns-in-Ok-Some-Pack-clause-no_memory : goal.returns-in-Ok-Some-Pack-clause-no_memory
+returns-in-Ok-Some-Pack-clause-no_memory g c = λ r. absurd (pack_no_replay c.args.words.now (asked_at c.args.words.now _ c.in-Ok-Some-Pack.field-0 c.in-Ok-Some-Pack.field-0-0 asked.Pack c.in-Ok-Some-Pack.field-0-is c.in-Ok-Some-Pack.field-0-0-is c.as_slice.ensures c.in-Ok-Some-Pack.ensures.asked) r)
+
+pub returns-in-Ok-Some-Pack-clause-complete : goal.returns-in-Ok-Some-Pack-clause-complete
+returns-in-Ok-Some-Pack-clause-complete g c = λ r. absurd (pack_no_replay c.args.words.now (asked_at c.args.words.now _ c.in-Ok-Some-Pack.field-0 c.in-Ok-Some-Pack.field-0-0 asked.Pack c.in-Ok-Some-Pack.field-0-is c.in-Ok-Some-Pack.field-0-0-is c.as_slice.ensures c.in-Ok-Some-Pack.ensures.asked) r)
+
+pub returns-in-Ok-Some-Pack-clause-headline : goal.returns-in-Ok-Some-Pack-clause-headline
+returns-in-Ok-Some-Pack-clause-headline g c = λ r. absurd (pack_no_replay c.args.words.now (asked_at c.args.words.now _ c.in-Ok-Some-Pack.field-0 c.in-Ok-Some-Pack.field-0-0 asked.Pack c.in-Ok-Some-Pack.field-0-is c.in-Ok-Some-Pack.field-0-0-is c.as_slice.ensures c.in-Ok-Some-Pack.ensures.asked) r)
+
+pub returns-in-Ok-Some-Pack-clause-own_text : goal.returns-in-Ok-Some-Pack-clause-own_text
+returns-in-Ok-Some-Pack-clause-own_text g c = λ r. absurd (pack_no_replay c.args.words.now (asked_at c.args.words.now _ c.in-Ok-Some-Pack.field-0 c.in-Ok-Some-Pack.field-0-0 asked.Pack c.in-Ok-Some-Pack.field-0-is c.in-Ok-Some-Pack.field-0-0-is c.as_slice.ensures c.in-Ok-Some-Pack.ensures.asked) r)
+
+pub returns-in-Ok-Some-Pack-clause-traces : goal.returns-in-Ok-Some-Pack-clause-traces
+returns-in-Ok-Some-Pack-clause-traces g c = λ t. absurd (trace_no_pack c.args.words.now t (asked_at c.args.words.now _ c.in-Ok-Some-Pack.field-0 c.in-Ok-Some-Pack.field-0-0 asked.Pack c.in-Ok-Some-Pack.field-0-is c.in-Ok-Some-Pack.field-0-0-is c.as_slice.ensures c.in-Ok-Some-Pack.ensures.asked))
+
+pub returns-in-Ok-Some-Pack-clause-packs : goal.returns-in-Ok-Some-Pack-clause-packs
+returns-in-Ok-Some-Pack-clause-packs g c = let s = c.packed.ensures.says in λ p. packs.ends s.0 _ _ _ _ _ _ s.1 s.2 c.packed.ensures.spelled
+
+pub returns-in-Ok-Some-Pack-clause-drills : goal.returns-in-Ok-Some-Pack-clause-drills
+returns-in-Ok-Some-Pack-clause-drills g c = λ n a. absurd (let e = sym (pack_no_drill c.args.words.now (asked_at c.args.words.now _ c.in-Ok-Some-Pack.field-0 c.in-Ok-Some-Pack.field-0-0 asked.Pack c.in-Ok-Some-Pack.field-0-is c.in-Ok-Some-Pack.field-0-0-is c.as_slice.ensures c.in-Ok-Some-Pack.ensures.asked)) ∙ a in cc)
+
+pub returns-in-Ok-Some-Pack-clause-drilled : goal.returns-in-Ok-Some-Pack-clause-drilled
+returns-in-Ok-Some-Pack-clause-drilled g c = λ n a. absurd (let e = sym (pack_no_drill c.args.words.now (asked_at c.args.words.now _ c.in-Ok-Some-Pack.field-0 c.in-Ok-Some-Pack.field-0-0 asked.Pack c.in-Ok-Some-Pack.field-0-is c.in-Ok-Some-Pack.field-0-0-is c.as_slice.ensures c.in-Ok-Some-Pack.ensures.asked)) ∙ a in cc)
+
+pub returns-in-Ok-Some-Pack-clause-drill_reads_none : goal.returns-in-Ok-Some-Pack-clause-drill_reads_none
+returns-in-Ok-Some-Pack-clause-drill_reads_none g c = λ n a. absurd (let e = sym (pack_no_drill c.args.words.now (asked_at c.args.words.now _ c.in-Ok-Some-Pack.field-0 c.in-Ok-Some-Pack.field-0-0 asked.Pack c.in-Ok-Some-Pack.field-0-is c.in-Ok-Some-Pack.field-0-0-is c.as_slice.ensures c.in-Ok-Some-Pack.ensures.asked)) ∙ a in cc)
+
+pub returns-in-Ok-Some-Pack-clause-serves : goal.returns-in-Ok-Some-Pack-clause-serves
+returns-in-Ok-Some-Pack-clause-serves g c = λ path clients a. absurd (let e = sym (pack_no_serving c.args.words.now (asked_at c.args.words.now _ c.in-Ok-Some-Pack.field-0 c.in-Ok-Some-Pack.field-0-0 asked.Pack c.in-Ok-Some-Pack.field-0-is c.in-Ok-Some-Pack.field-0-0-is c.as_slice.ensures c.in-Ok-Some-Pack.ensures.asked)) ∙ a.0 in cc)
+
+pub returns-in-Ok-Some-Pack-clause-replied : goal.returns-in-Ok-Some-Pack-clause-replied
+returns-in-Ok-Some-Pack-clause-replied g c = λ h. none_replied {G = g.row.H-G.Denot} {L = g.row.H-G-L.Denot} {S = g.row.H-G-L-R.Denot} {K = g.row.H-G-L-W.Denot}
+    (outside g.H.G.Gate.name g.H.G.Gate.faults g.H.G.L.Link.begins g.H.G.L.Link.faults g.H.G.L.R.Source.left g.H.G.L.R.Source.faults g.H.G.L.W.Sink.held g.H.G.L.W.Sink.faults)
+    _ _ c.packed.ensures.none_served
+
+-- ---- words that ask for neither
+
+pub returns-in-Ok-Some-Replay-clause-traces : goal.returns-in-Ok-Some-Replay-clause-traces
+returns-in-Ok-Some-Replay-clause-traces g c = λ t. absurd (trace_no_replay c.args.words.now t (asked_at c.args.words.now _ c.in-Ok-Some-Replay.field-0 c.in-Ok-Some-Replay.field-0-0 asked.Replay c.in-Ok-Some-Replay.field-0-is c.in-Ok-Some-Replay.field-0-0-is c.as_slice.ensures c.in-Ok-Some-Replay.ensures.asked))
+
+pub returns-in-Ok-Some-Replay-clause-packs : goal.returns-in-Ok-Some-Replay-clause-packs
+returns-in-Ok-Some-Replay-clause-packs g c = λ p. absurd (pack_no_replay c.args.words.now p (asked_at c.args.words.now _ c.in-Ok-Some-Replay.field-0 c.in-Ok-Some-Replay.field-0-0 asked.Replay c.in-Ok-Some-Replay.field-0-is c.in-Ok-Some-Replay.field-0-0-is c.as_slice.ensures c.in-Ok-Some-Replay.ensures.asked))
+
+pub returns-in-Ok-Some-Drill-clause-traces : goal.returns-in-Ok-Some-Drill-clause-traces
+returns-in-Ok-Some-Drill-clause-traces g c = λ t. absurd (let e = sym (trace_no_drill c.args.words.now t) ∙ (asked_at c.args.words.now _ c.in-Ok-Some-Drill.field-0 c.in-Ok-Some-Drill.field-0-0 (asked.Drill c.in-Ok-Some-Drill.rounds) c.in-Ok-Some-Drill.field-0-is c.in-Ok-Some-Drill.field-0-0-is c.as_slice.ensures c.in-Ok-Some-Drill.ensures.asked) in cc)
+
+pub returns-in-Ok-Some-Drill-clause-packs : goal.returns-in-Ok-Some-Drill-clause-packs
+returns-in-Ok-Some-Drill-clause-packs g c = λ p. absurd (let e = sym (pack_no_drill c.args.words.now p) ∙ (asked_at c.args.words.now _ c.in-Ok-Some-Drill.field-0 c.in-Ok-Some-Drill.field-0-0 (asked.Drill c.in-Ok-Some-Drill.rounds) c.in-Ok-Some-Drill.field-0-is c.in-Ok-Some-Drill.field-0-0-is c.as_slice.ensures c.in-Ok-Some-Drill.ensures.asked) in cc)
+
+pub returns-in-Ok-Some-Serve-clause-traces : goal.returns-in-Ok-Some-Serve-clause-traces
+returns-in-Ok-Some-Serve-clause-traces g c = λ t. absurd (let e = sym (trace_no_serving c.args.words.now t) ∙ (asked_at c.args.words.now _ c.in-Ok-Some-Serve.field-0 c.in-Ok-Some-Serve.field-0-0 (asked.Serve c.in-Ok-Some-Serve.path c.in-Ok-Some-Serve.clients) c.in-Ok-Some-Serve.field-0-is c.in-Ok-Some-Serve.field-0-0-is c.as_slice.ensures c.in-Ok-Some-Serve.ensures.asked).0 in cc)
+
+pub returns-in-Ok-Some-Serve-clause-packs : goal.returns-in-Ok-Some-Serve-clause-packs
+returns-in-Ok-Some-Serve-clause-packs g c = λ p. absurd (let e = sym (pack_no_serving c.args.words.now p) ∙ (asked_at c.args.words.now _ c.in-Ok-Some-Serve.field-0 c.in-Ok-Some-Serve.field-0-0 (asked.Serve c.in-Ok-Some-Serve.path c.in-Ok-Some-Serve.clients) c.in-Ok-Some-Serve.field-0-is c.in-Ok-Some-Serve.field-0-0-is c.as_slice.ensures c.in-Ok-Some-Serve.ensures.asked).0 in cc)
+
+pub returns-in-Ok-None-clause-packs : goal.returns-in-Ok-None-clause-packs
+returns-in-Ok-None-clause-packs g c = λ p. absurd ((none_at c.args.words.now _ c.in-Ok-None.field-0 c.in-Ok-None.field-0-is c.as_slice.ensures c.in-Ok-None.ensures.other) (inl (inr (inr p))))
+
+pub returns-in-Err-clause-traces : goal.returns-in-Err-clause-traces
+returns-in-Err-clause-traces g c = λ t. traces.idle _ _ _ _ _ _ _ c.idle-in-Err.ensures.status c.idle-in-Err.ensures.journal
+
+pub returns-in-Err-clause-packs : goal.returns-in-Err-clause-packs
+returns-in-Err-clause-packs g c = λ p. packs.idle _ _ _ _ _ _ _ c.idle-in-Err.ensures.status c.idle-in-Err.ensures.journal
+
+-- ---- what words for a trace and for packing come to beside
+
+pub returns-in-Ok-Some-Trace-clause-sound : goal.returns-in-Ok-Some-Trace-clause-sound
+returns-in-Ok-Some-Trace-clause-sound g c = none_ended {G = g.row.H-G.Denot} {L = g.row.H-G-L.Denot} {S = g.row.H-G-L-R.Denot} {K = g.row.H-G-L-W.Denot}
+    (outside g.H.G.Gate.name g.H.G.Gate.faults g.H.G.L.Link.begins g.H.G.L.Link.faults g.H.G.L.R.Source.left g.H.G.L.R.Source.faults g.H.G.L.W.Sink.held g.H.G.L.W.Sink.faults)
+    _ _ c.traced.ensures.none_served
+
+pub returns-in-Ok-Some-Trace-clause-serve_complete : goal.returns-in-Ok-Some-Trace-clause-serve_complete
+returns-in-Ok-Some-Trace-clause-serve_complete g c = λ path clients a. absurd (let e = sym (trace_no_serving c.args.words.now (asked_at c.args.words.now _ c.in-Ok-Some-Trace.field-0 c.in-Ok-Some-Trace.field-0-0 asked.Trace c.in-Ok-Some-Trace.field-0-is c.in-Ok-Some-Trace.field-0-0-is c.as_slice.ensures c.in-Ok-Some-Trace.ensures.asked)) ∙ a.0 in cc)
+
+pub returns-in-Ok-Some-Pack-clause-sound : goal.returns-in-Ok-Some-Pack-clause-sound
+returns-in-Ok-Some-Pack-clause-sound g c = none_ended {G = g.row.H-G.Denot} {L = g.row.H-G-L.Denot} {S = g.row.H-G-L-R.Denot} {K = g.row.H-G-L-W.Denot}
+    (outside g.H.G.Gate.name g.H.G.Gate.faults g.H.G.L.Link.begins g.H.G.L.Link.faults g.H.G.L.R.Source.left g.H.G.L.R.Source.faults g.H.G.L.W.Sink.held g.H.G.L.W.Sink.faults)
+    _ _ c.packed.ensures.none_served
+
+pub returns-in-Ok-Some-Pack-clause-serve_complete : goal.returns-in-Ok-Some-Pack-clause-serve_complete
+returns-in-Ok-Some-Pack-clause-serve_complete g c = λ path clients a. absurd (let e = sym (pack_no_serving c.args.words.now (asked_at c.args.words.now _ c.in-Ok-Some-Pack.field-0 c.in-Ok-Some-Pack.field-0-0 asked.Pack c.in-Ok-Some-Pack.field-0-is c.in-Ok-Some-Pack.field-0-0-is c.as_slice.ensures c.in-Ok-Some-Pack.ensures.asked)) ∙ a.0 in cc)
+
+pub returns-in-Ok-Some-Pack-clause-played : goal.returns-in-Ok-Some-Pack-clause-played
+returns-in-Ok-Some-Pack-clause-played g c = λ p. absurd (let a = sym p ∙ (asked_at c.args.words.now _ c.in-Ok-Some-Pack.field-0 c.in-Ok-Some-Pack.field-0-0 asked.Pack c.in-Ok-Some-Pack.field-0-is c.in-Ok-Some-Pack.field-0-0-is c.as_slice.ensures c.in-Ok-Some-Pack.ensures.asked) in cc)
+
+pub returns-in-Ok-Some-Pack-clause-round_trip : goal.returns-in-Ok-Some-Pack-clause-round_trip
+returns-in-Ok-Some-Pack-clause-round_trip g c = λ p. absurd (let a = sym p ∙ (asked_at c.args.words.now _ c.in-Ok-Some-Pack.field-0 c.in-Ok-Some-Pack.field-0-0 asked.Pack c.in-Ok-Some-Pack.field-0-is c.in-Ok-Some-Pack.field-0-0-is c.as_slice.ensures c.in-Ok-Some-Pack.ensures.asked) in cc)

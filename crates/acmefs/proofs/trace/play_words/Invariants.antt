@@ -1,0 +1,25 @@
+use Rattle.std.proofs.Common.{◌≡◌, ◌≤◌, ◌+◌, [], length}
+use Rattle.am_text.specs.Lines.{lines_of}
+use Rattle.acme_core.specs.Run.{settled}
+use Rattle.acme_core.specs.States.{start}
+use Rattle.acmefs.specs.Scripts.{play}
+use Rattle.acmefs.specs.Traces.{traced, AllHaveWords}
+use Rattle.acmefs.specs.Written.{Wrote}
+use Rattle.acmefs.proofs.trace.play_words.Given as goal
+
+abbrev pub invariant-loop-rest : goal.invariant-loop-rest
+invariant-loop-rest g l = record {
+  count : l.k + length l.rest ≤ length l.input + 1;
+  settled : l.core ≡ settled l.core.journal;
+  script : play l.core.journal l.k (lines_of l.rest) ≡ play [] 1 (lines_of l.input);
+  wrote : Wrote l.failed (record {
+    held = g.O.Sink.held l.fn.output;
+    held_now = g.O.Sink.held l.output;
+    faults = g.O.Sink.faults l.fn.output;
+    faults_now = g.O.Sink.faults l.output;
+  }) (traced l.core.journal);
+  worded : AllHaveWords start l.core.journal;
+}
+
+abbrev pub decreases-loop-rest : goal.decreases-loop-rest
+decreases-loop-rest g l = length l.rest

@@ -1,0 +1,4 @@
+pub mod Talks
+pub mod Sorting
+pub mod Went
+pub mod Written

@@ -1,0 +1,13 @@
+pub mod Joins
+pub mod Lists
+pub mod Loops
+pub mod FieldLaws
+pub mod ListLaws
+pub mod ByteLists
+pub mod Readers
+pub mod TBodies
+pub mod RBodies
+pub mod TLaws
+pub mod RLaws
+pub mod LineLaws
+pub mod OneLine

@@ -1,0 +1,119 @@
+//! The cases of a talk of `do`. A line is the word `do` and its fields, with one tab between them:
+//!
+//! `do` READS WRITES OUTPUT TREE LINES BYTES
+//!
+//! The client's source gives the bytes that BYTES spells in hexadecimal digits. READS and WRITES are the numbers of the calls of its source
+//! and its sink that fail, and OUTPUT of those of the output. TREE is `acme` or `plumb`. LINES are the lines, with `;` in the place of a newline.
+//!
+//! The answer is how the talk ended, with `cut` behind it where the output has failed, then what the output holds, with `;` in the place of a
+//! newline, and what the sink holds, in hexadecimal digits. Lines that are refused are answered `line` and the number of the first.
+
+ghost use Rattle.std.specs.Prelude.{IfOk, ◌≡◌};
+ghost use Rattle.ninep_types.specs.Spelling.{IsString};
+ghost use Rattle.ninep_client.specs.Asking.{begun};
+ghost use Rattle.do_lines.specs.Lawful.{AreLawful};
+
+use crate::client::{MemClient, bytes_of, fault_word};
+use crate::fault::Fault;
+use crate::outside::{cut, numbers_of, put, sink_of, source_of};
+use am_base::MemSink;
+use am_do::{Done, Stop, do_lines};
+use am_text::{Bytes, decimal};
+use do_lines::{DoLines, LinesFault, read_do_lines};
+use ninep_client::Client;
+use std::alloc::Global;
+
+// What one read or write moves at most.
+const PIECE: &str = "8192";
+
+// What a sink takes at most.
+const ROOM: &str = "4096";
+
+// Stands for a newline in a line of the table.
+const MARK: u8 = b';';
+
+const NEWLINE: u8 = b'\n';
+
+fn put_exchanged(line: &mut Bytes, bytes: &[u8], old: u8, new: u8) -> Result<(), Fault> {
+    for byte in bytes {
+        line.push(if *byte == old { new } else { *byte })?;
+    }
+    Ok(())
+}
+
+#[tactic(auto, using(crate::proofs::Trees::acme_is, crate::proofs::Trees::plumb_is))]
+fn tree_of(field: &str) -> Result<&'static [u8], Fault>
+    ensures { IfOk result (λ tree. IsString tree.now) }
+{
+    match field {
+        "acme" => Ok(b"acme"),
+        "plumb" => Ok(b"plumb"),
+        _ => Err(Fault::NoCase),
+    }
+}
+
+fn end_word(stop: &Option<Stop>) -> &'static [u8] {
+    match stop {
+        None => b"done",
+        Some(Stop::Refused) => b"refused",
+        Some(Stop::Fault(fault)) => fault_word(fault),
+    }
+}
+
+fn talk(
+    alloc: Global,
+    client: MemClient,
+    output: MemSink,
+    tree: &[u8],
+    lines: DoLines,
+) -> Result<Bytes, Fault>
+    requires begun { client.talk ≡ begun }
+    requires tree { IsString tree.now }
+    requires lawful { AreLawful lines }
+{
+    let mut client = client;
+    let mut output = output;
+    let Done { stop, failed } = do_lines(alloc, &mut client, tree, lines, &mut output);
+    let mut line = Bytes::new(alloc);
+    put(&mut line, end_word(&stop))?;
+    if failed {
+        put(&mut line, b"cut")?;
+    }
+    put(&mut line, b"")?;
+    put_exchanged(&mut line, output.held(), NEWLINE, MARK)?;
+    let (_, sink) = client.parts();
+    put(&mut line, hex::encode(alloc, sink.held())?.as_bytes())?;
+    Ok(line)
+}
+
+fn refused(alloc: Global, number: u64) -> Result<Bytes, Fault> {
+    let mut line = Bytes::new(alloc);
+    put(&mut line, b"line")?;
+    put(&mut line, decimal(alloc, number)?.as_slice())?;
+    Ok(line)
+}
+
+/// The answer to the fields behind the word `do`.
+pub(crate) fn do_line(alloc: Global, fields: &str) -> Result<Bytes, Fault> {
+    let (reads, fields) = cut(fields)?;
+    let (writes, fields) = cut(fields)?;
+    let (fails, fields) = cut(fields)?;
+    let (tree, fields) = cut(fields)?;
+    let (lines, digits) = cut(fields)?;
+    let source = source_of(
+        alloc,
+        PIECE,
+        numbers_of(alloc, reads)?,
+        bytes_of(alloc, digits)?,
+    )?;
+    let sink = sink_of(alloc, PIECE, numbers_of(alloc, writes)?, ROOM)?;
+    let output = sink_of(alloc, PIECE, numbers_of(alloc, fails)?, ROOM)?;
+    let mut input = Bytes::new(alloc);
+    put_exchanged(&mut input, lines.as_bytes(), MARK, NEWLINE)?;
+    let tree = tree_of(tree)?;
+    match read_do_lines(alloc, input.as_slice()) {
+        Ok(lines) => talk(alloc, Client::new(alloc, source, sink), output, tree, lines),
+        Err(LinesFault::Line(k)) => refused(alloc, k),
+        Err(LinesFault::NoMemory) => Err(Fault::NoMemory),
+    }
+}

@@ -1,0 +1,11 @@
+pub mod Dropping
+pub mod Joining
+pub mod Adding
+pub mod Filled
+pub mod Taking
+pub mod Anchors
+pub mod Words64
+pub mod Threading
+pub mod Building
+pub mod Stepping
+pub mod SeveralWords

@@ -1,0 +1,10 @@
+pub mod Sets
+pub mod Filling
+pub mod Leaves
+pub mod Contexts
+pub mod Whole
+pub mod Ways
+pub mod Threads
+pub mod Found
+pub mod Machines
+pub mod Wides

@@ -1,0 +1,9 @@
+-- What a search reads.
+use Rattle.std.specs.Prelude.{ℕ, List}
+use Rattle.re_sets.specs.Readings.{Reading, forward, backward}
+use Rattle.re_machine.specs.declared.way.Way.{Way}
+use Rattle.re_machine.specs.declared.way.Way.TheVariants.{On, Back}
+
+abbrev pub reading : Way → List ℕ → Reading
+reading On t = forward t
+reading Back t = backward t

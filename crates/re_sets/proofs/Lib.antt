@@ -1,0 +1,15 @@
+pub mod Going
+pub mod Paths
+pub mod Mirrored
+pub mod Letters
+pub mod LawLemmas
+pub mod Numbering
+pub mod Steps
+pub mod Wording
+pub mod Rowing
+pub mod Searching
+pub mod Telling
+pub mod Found
+pub mod FoundBack
+pub mod Filling
+pub mod Value

@@ -1,0 +1,47 @@
+-- What a search by tables finds.
+use Rattle.std.specs.Prelude.{◌≡◌, ℕ, ◌+◌, ◌-◌, ◌≤◌, List, [], Option, Some, None, length, IfSome, IfNone, nat_le, if◌then◌else◌}
+use Rattle.am_text.specs.declared.range.Range.{Range}
+use Rattle.re_syntax.specs.Tree.{Tree}
+use Rattle.re_syntax.specs.Match.{IsFirst, IsLast, HasNoSpan}
+use Rattle.re_spans.specs.Search.{first_span}
+use Rattle.re_sets.specs.Readings.{Reading, Spans, forward, backward, mirrored}
+use Rattle.re_sets.specs.Numbers.{Leads}
+use Rattle.re_sets.specs.Words.{on}
+use Rattle.re_sets.specs.Laws.{LeftOut}
+use Rattle.re_sets.specs.Rows.{Row, Knows, Finds, search}
+use Rattle.re_sets.specs.Tables.{Table, IsTable, text_of}
+
+abbrev pub SearchFinds : Type 0
+SearchFinds = (r : Tree) (t : Table) (text : List ℕ) (no_null : Option ℕ) (low n : ℕ) → IsTable r t → IfSome (search (text_of t (forward text) no_null) n low [] None) (IsFirst r text low (low + n) no_null) × IfNone (search (text_of t (forward text) no_null) n low [] None) (HasNoSpan r text low (low + n) no_null)
+
+-- a place counted from the end of a text
+abbrev pub from_end : ℕ → Option ℕ → Option ℕ
+from_end count None = None
+from_end count (Some p) = if nat_le p count then Some (count - p) else None
+
+abbrev pub turned : ℕ → Range → Range
+turned count b = record { q0 = count - b.q1; q1 = count - b.q0 }
+
+abbrev pub turned_if : ℕ → Option Range → Option Range
+turned_if count None = None
+turned_if count (Some b) = Some (turned count b)
+
+-- the search backward from `to`, by the tables of the mirrored tree
+abbrev pub back : Table → List ℕ → Option ℕ → ℕ → ℕ → Option Range
+back t text no_null to n =
+    turned_if (length text) (search (text_of t (backward text) (from_end (length text) no_null)) n (length text - to) [] None)
+
+abbrev pub BackFinds : Type 0
+BackFinds = (r : Tree) (t : Table) (text : List ℕ) (no_null : Option ℕ) (start to : ℕ) → start ≤ to → to ≤ length text → IsTable (mirrored r) t → IfSome (back t text no_null to (to - start)) (IsLast r text start to no_null) × IfNone (back t text no_null to (to - start)) (HasNoSpan r text start to no_null)
+
+-- it is the value by which callers speak of the search
+abbrev pub SearchIsValue : Type 0
+SearchIsValue = (r : Tree) (t : Table) (text : List ℕ) (no_null : Option ℕ) (low n : ℕ) → IsTable r t → search (text_of t (forward text) no_null) n low [] None ≡ first_span r text low (low + n) no_null
+
+-- what a search knows at a place: its rows, and the best match that it has found
+abbrev pub Known : Tree → Reading → Option ℕ → ℕ → ℕ → List Row → Option Range → Type 0
+Known r w no_null low k rows best = Knows (Spans r w) (LeftOut no_null) (λ x k j. Leads r w (on x) k j) low k k rows best
+
+-- it is the match that a search finds between two places, or there is none
+abbrev pub FindsIn : Tree → Reading → Option ℕ → ℕ → ℕ → Option Range → Type 0
+FindsIn r w no_null low high found = Finds (Spans r w) (LeftOut no_null) (λ x k j. Leads r w (on x) k j) low high found
