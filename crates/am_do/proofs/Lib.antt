@@ -5,3 +5,4 @@ pub mod Asked
 pub mod Lines
 pub mod Parts
 pub mod Begun
+pub mod Ran

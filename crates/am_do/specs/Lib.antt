@@ -2,3 +2,4 @@ pub mod Talks
 pub mod Sorting
 pub mod Went
 pub mod Written
+pub mod Ends

@@ -8,7 +8,9 @@ mod asking;
 mod beginning;
 mod doing;
 mod opening;
+mod running;
 mod stop;
 
 pub use doing::{Done, do_lines};
+pub use running::{DoEnd, Doing, HostDoing, do_path};
 pub use stop::Stop;

@@ -1,0 +1,58 @@
+-- Deeds, one list after another.
+use Rattle.std.proofs.Common.{◌≡◌, List, [], ◌∷◌, ◌++◌, Option, refl, sym, ap, subst, ◌∙◌}
+use Rattle.core_windows.specs.Windows.{Window, all_changed}
+use Rattle.core_windows.specs.Possible.{CanChangeAll}
+use Rattle.core_windows.specs.Stories.{shown_windows}
+use Rattle.core_windows.specs.WindowLaws.{ChangesShow, ChangesAreLawful}
+use Rattle.core_scene.specs.declared.deed.Deed.{Deed}
+use Rattle.core_scene.specs.declared.deed.Deed.TheVariants as deed
+use Rattle.core_scene.specs.declared.deed.Entry.{Entry}
+use Rattle.core_scene.specs.Scenes.{SceneState, done, done_all, CanDoAll, Did}
+use Rattle.core_scene.specs.SceneLaws.{DeedsJoin, DeedsShow, changes_in}
+
+pub done_all-append : (e : Entry) (s : SceneState) (xs ys : List Deed) → done_all e s (xs ++ ys) ≡ done_all e (done_all e s xs) ys
+done_all-append e s [] ys = refl
+done_all-append e s (d ∷ xs) ys = done_all-append e (done e s d) xs ys
+
+pub can_all-append : (e : Entry) (s : SceneState) (xs ys : List Deed) → CanDoAll e s xs → CanDoAll e (done_all e s xs) ys → CanDoAll e s (xs ++ ys)
+can_all-append e s [] ys h k = k
+can_all-append e s (d ∷ xs) ys h k = (h.0, can_all-append e (done e s d) xs ys h.1 k)
+
+pub did_then : {e : Entry} {a b c : SceneState} {xs ys : List Deed} → Did e a b xs → Did e b c ys → Did e a c (xs ++ ys)
+did_then {e} {a} {b} {c} {xs} {ys} f g = record {
+  made = g.made ∙ ap (λ (s : SceneState). done_all e s ys) f.made ∙ sym (done_all-append e a xs ys);
+  can = can_all-append e a xs ys f.can (subst (λ (s : SceneState). CanDoAll e s ys) f.made g.can);
+}
+
+-- the same, where what is done next is told by the state that the first deeds make
+pub did_next : {e : Entry} {a b c : SceneState} {xs : List Deed} (g : SceneState → List Deed) → Did e a b xs → Did e b c (g b) → Did e a c (xs ++ g (done_all e a xs))
+did_next {e} {a} {b} {c} {xs} g f h = did_then f (subst (λ (s : SceneState). Did e b c (g s)) f.made h)
+
+-- after the first of several deeds the others can be done
+pub can_rest : {e : Entry} {a b : SceneState} {d : Deed} (ds : List Deed) → Did e a b (d ∷ []) → CanDoAll e a (d ∷ ds) → CanDoAll e b ds
+can_rest {e} {a} {b} {d} ds f h = subst (λ (s : SceneState). CanDoAll e s ds) (sym f.made) h.1
+
+pub ruleset joins = (did_then)
+
+pub joined : DeedsJoin
+joined e a b c first second f g = did_then f g
+
+-- ---- the windows by all edits
+
+windows_done : (e : Entry) (s : SceneState) (ds : List Deed) → all_changed e.at s.windows (changes_in ds) ≡ (done_all e s ds).windows
+windows_done e s [] = refl
+windows_done e s (deed.Windows c ∷ ds) = windows_done e (done e s (deed.Windows c)) ds
+windows_done e s (deed.Item w item ∷ ds) = windows_done e (done e s (deed.Item w item)) ds
+
+can_change_all : (e : Entry) (s : SceneState) (ds : List Deed) → CanDoAll e s ds → CanChangeAll e.at s.windows (changes_in ds)
+can_change_all e s [] h = tt
+can_change_all e s (deed.Windows c ∷ ds) h = (h.0, can_change_all e (done e s (deed.Windows c)) ds h.1)
+can_change_all e s (deed.Item w item ∷ ds) h = can_change_all e (done e s (deed.Item w item)) ds h.1
+
+pub deeds_shown : ChangesShow → ChangesAreLawful → DeedsShow
+deeds_shown shows lawful e stories s ds same are can =
+    let can' : CanChangeAll e.at (shown_windows stories) (changes_in ds) = subst (λ (ws : List (Option Window)). CanChangeAll e.at ws (changes_in ds)) (sym same) (can_change_all e s ds can) in
+    record {
+      shown = shows e.at stories (changes_in ds) are can' ∙ ap (λ (ws : List (Option Window)). all_changed e.at ws (changes_in ds)) same ∙ windows_done e s ds;
+      lawful = lawful.stays e.at stories (changes_in ds) are can';
+    }

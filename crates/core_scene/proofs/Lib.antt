@@ -1,0 +1,2 @@
+pub mod Dids
+pub mod Joined

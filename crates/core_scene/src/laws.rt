@@ -1,0 +1,18 @@
+//! Laws of deeds. Each function has a law as its contract, and does nothing.
+
+ghost use Rattle.core_scene.specs.SceneLaws.{DeedsJoin, DeedsShow};
+
+use core_windows::{changes_are_lawful, changes_show};
+
+/// Deeds that are done after others are done as one list with them.
+pub fn deeds_join()
+    ensures { DeedsJoin }
+{}
+
+/// What deeds make of the windows as they stand is what their changes make of them by all edits that were ever made.
+pub fn deeds_show()
+    ensures { DeedsShow }
+{
+    changes_show();
+    changes_are_lawful();
+}
