@@ -2,7 +2,6 @@
 use crate::size::{Size, end_line, size_of};
 use crate::texts::{repeated, runes, tree};
 use am_text::{Items, NoMemory, Range, Runes};
-use re_machine::Machine;
 use re_spans::{Re, first_match, groups, matches_span, successive_matches};
 use std::alloc::{AllocError, Global};
 use std::io;
@@ -16,10 +15,6 @@ enum Call {
     Successive,
     // The groups of the whole text.
     Groups,
-    // The first match, by a machine that is made for it.
-    Machine,
-    // All matches, by one.
-    MachineEach,
 }
 
 // What it finds: a range, or how many.
@@ -41,7 +36,7 @@ type Search = (
     usize,
 );
 
-const SEARCHES: [Search; 26] = [
+const SEARCHES: [Search; 14] = [
     (Call::First, "", "(a|b)*c", "", 0, "ab", 2_000),
     (Call::First, "", "(a|b)*c", "", 0, "ab", 4_000),
     (Call::First, "", "[a-z]+\\.c", "", 0, "main", 100_000),
@@ -56,18 +51,6 @@ const SEARCHES: [Search; 26] = [
     (Call::Successive, "", "[a-z]+ ", "", 0, "main ", 40_000),
     (Call::Groups, "", "(.)*", "", 0, "main", 20_000),
     (Call::Groups, "", "(.)*", "", 0, "main", 40_000),
-    (Call::First, "", "zzzz", "", 0, "main ", 1_000_000),
-    (Call::Machine, "", "zzzz", "", 0, "main ", 1_000_000),
-    (Call::Machine, "", "(a|b)*c", "", 0, "ab", 4_000),
-    (Call::Machine, "", "[a-z]+\\.c", "", 0, "main", 100_000),
-    (Call::Machine, "", "main", "", 0, "main", 1_000),
-    (Call::Machine, "", "main", "", 0, "main", 1_000_000),
-    (Call::Machine, "", "a*b", "", 0, "a", 2_000),
-    (Call::Machine, "", "a*b", "", 0, "a", 4_000),
-    (Call::Machine, "a", "a", "", 511, "a", 100_000),
-    (Call::Machine, "a", "a", "", 1_023, "a", 100_000),
-    (Call::MachineEach, "", ".", "", 0, "main", 40_000),
-    (Call::MachineEach, "", "[a-z]+ ", "", 0, "main ", 40_000),
 ];
 
 // Without a number, this part of the texts.
@@ -117,16 +100,6 @@ fn answer(alloc: Global, call: Call, re: &Re, text: &Runes) -> Result<Found, NoM
             Ok(Found::Count(all.len()))
         }
         Call::Groups => Ok(Found::Span(first_group(alloc, re, text)?)),
-        Call::Machine => {
-            let machine = Machine::build(alloc, re)?;
-            let found = machine.forward(alloc, text, 0, text.len(), None)?;
-            Ok(Found::Span(found))
-        }
-        Call::MachineEach => {
-            let machine = Machine::build(alloc, re)?;
-            let all = machine.successive(alloc, text, 0, text.len())?;
-            Ok(Found::Count(all.len()))
-        }
     }
 }
 
