@@ -1,4 +1,5 @@
 pub mod Blanks
 pub mod Commands
 pub mod Names
+pub mod Paths
 pub mod Expansion

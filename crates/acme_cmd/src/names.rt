@@ -7,9 +7,9 @@ ghost use Rattle.acme_cmd.specs.Names.{is_slash, begins_in_slash, ends_in_slash,
 use am_text::{NoMemory, Rune, Runes};
 use std::alloc::Global;
 
-const SLASH: Rune = 0x2F;
+pub(crate) const SLASH: Rune = 0x2F;
 
-const DOT: Rune = 0x2E;
+pub(crate) const DOT: Rune = 0x2E;
 
 fn begins_in_slash(text: &[Rune]) -> bool
     ensures { result ≡ begins_in_slash text.now }
@@ -52,7 +52,7 @@ fn joined(alloc: Global, dir: &[Rune], name: &[Rune]) -> Result<Runes, NoMemory>
     Ok(text)
 }
 
-fn is_here(part: &[Rune]) -> bool
+pub(crate) fn is_here(part: &[Rune]) -> bool
     ensures { result ≡ is_here part.now }
 {
     match part {
@@ -61,7 +61,7 @@ fn is_here(part: &[Rune]) -> bool
     }
 }
 
-fn is_up(part: &[Rune]) -> bool
+pub(crate) fn is_up(part: &[Rune]) -> bool
     ensures { result ≡ is_up part.now }
 {
     match part {
@@ -103,7 +103,7 @@ fn first_slash(text: &[Rune]) -> usize
 
 // The first part and what follows its `/`, if there is one.
 #[tactic(auto, using(crate::proofs::Cuts::cuts))]
-fn cut_part(text: &[Rune]) -> Option<(&[Rune], &[Rune])>
+pub(crate) fn cut_part(text: &[Rune]) -> Option<(&[Rune], &[Rune])>
     ensures cut { IfSome result (λ cut. slice_split is_slash text.now ≡ cut.0.now ∷ slice_split is_slash cut.1.now) }
     ensures shorter { IfSome result (λ cut. length cut.1.now < length text.now) }
     ensures one { IfNone result (slice_split is_slash text.now ≡ text.now ∷ []) }

@@ -23,6 +23,7 @@ use Rattle.acme_core.specs.Asks.{answer_at, is_ended}
 use Rattle.acme_core.specs.Connections.{connection_at, connections_after}
 use Rattle.acme_core.specs.Doings.{enabled_at, is_tag_used}
 use Rattle.acme_core.specs.Enabled.{dial_refusal, live_refusal, first_why, msg_refusal, size_refusal, most_bytes, tag_refusal, replies_refusal}
+use Rattle.acme_core.specs.Kinds.{kind_of}
 use Rattle.acme_core.specs.Run.{step, run, enabled, present_after}
 use Rattle.acme_core.proofs.Few.{length-connections}
 use Rattle.acme_core.proofs.Goes.{run-push}
@@ -86,7 +87,7 @@ one_hang cs c x reason d h inside allowed told =
     ] refl
 
 told_on : (s : Present) (e : Event) (x : ℕ) (d h : Bool) → length s.connections ≡ 64 → IsLawful e → enabled_at s e ≡ None → IsTold (connection_at s.connections x) d h
-    → IsTold (connection_at (connections_after s.connections e) x) (d || (is_dial_of x e || false)) (h || (is_hang_of x e || false))
+    → IsTold (connection_at (connections_after s.connections (kind_of e)) x) (d || (is_dial_of x e || false)) (h || (is_hang_of x e || false))
 told_on s (event.Dial c) x d h n lawful allowed told = one_dial s.connections c x d h (omega (arith, n, lawful)) allowed told
 told_on s (event.Hang c reason) x d h n lawful allowed told = one_hang s.connections c x reason d h (omega (arith, n, lawful)) allowed told
 told_on s (event.Msg c msg) x d h n lawful allowed told = idle (connection_at s.connections x) d h told
@@ -114,16 +115,16 @@ none_told = record {
   told = λ conn. subst (λ (v : Connection). IsTold v false false) (sym (undialed_at 64 conn)) (refl, refl);
 }
 
-step-connections : (s : State) (e : Event) → (step s e).connections ≡ connections_after s.connections e
+step-connections : (s : State) (e : Event) → (step s e).connections ≡ connections_after s.connections (kind_of e)
 unfolding step
 step-connections s e = refl
 
-pushed : (journal : List Event) (e : Event) → (run (journal ++ e ∷ [])).connections ≡ connections_after (run journal).connections e
+pushed : (journal : List Event) (e : Event) → (run (journal ++ e ∷ [])).connections ≡ connections_after (run journal).connections (kind_of e)
 pushed journal e = ap (λ (s : State). s.connections) (run-push journal e) ∙ step-connections (run journal) e
 
 told_more : (journal : List Event) (e : Event) → IsLawful e → enabled journal e ≡ None → AreTold journal → AreTold (journal ++ e ∷ [])
 told_more journal e lawful allowed was = record {
-  conns = ap (λ (cs : List Connection). length cs) (pushed journal e) ∙ length-connections (run journal).connections e ∙ was.conns;
+  conns = ap (λ (cs : List Connection). length cs) (pushed journal e) ∙ length-connections (run journal).connections (kind_of e) ∙ was.conns;
   told = λ conn.
       same (connection_at (run (journal ++ e ∷ [])).connections conn) _ _ _ _
       (list_any-append (is_dial_of conn) journal (e ∷ [])) (list_any-append (is_hang_of conn) journal (e ∷ []))

@@ -3,24 +3,22 @@ use Rattle.std.proofs.Common.{◌≡◌, ℕ, ◌+◌, ◌<◌, ◌≤◌, Bool,
 use Rattle.std.specs.Prelude.{slice_set}
 use Rattle.std.proofs.lemmas.List.{length-set}
 use Rattle.std.proofs.lemmas.List.Sums.{sum_by-set}
-use Rattle.am_journal.specs.declared.event.Event.{Event}
-use Rattle.am_journal.specs.declared.event.Event.TheVariants as event
-use Rattle.am_journal.specs.Lawful.{IsLawful}
+use Rattle.acme_core.specs.declared.kind.Kind.{Kind}
+use Rattle.acme_core.specs.declared.kind.Kind.TheVariants as kind
 use Rattle.acme_core.specs.declared.connection.Connection.{Connection}
 use Rattle.acme_core.specs.declared.connection.Connection.TheVariants.{Undialed, Live, Ended}
 use Rattle.acme_core.specs.Connections.{connection_at, connections_after, live_count, is_live}
 use Rattle.acme_core.specs.Enabled.{live_refusal}
+use Rattle.acme_core.proofs.Kinded.{IsNumbered}
 
 -- ---- connections
 
-pub length-connections : (cs : List Connection) (e : Event) → length (connections_after cs e) ≡ length cs
-length-connections cs (event.Dial conn) = length-set cs conn Live
-length-connections cs (event.Msg conn msg) = refl
-length-connections cs (event.Hang conn why) = length-set cs conn (Ended why)
-length-connections cs (event.Took conn) = refl
-length-connections cs event.New = refl
-length-connections cs (event.Key w side text) = refl
-length-connections cs (event.Sel w range) = refl
+pub length-connections : (cs : List Connection) (k : Kind) → length (connections_after cs k) ≡ length cs
+length-connections cs (kind.Dials conn) = length-set cs conn Live
+length-connections cs (kind.Asks conn tag) = refl
+length-connections cs (kind.Ends conn why) = length-set cs conn (Ended why)
+length-connections cs (kind.Takes conn) = refl
+length-connections cs kind.Acts = refl
 
 -- 1 where it lives
 weight : Connection → ℕ
@@ -45,14 +43,12 @@ unfolding weight
 weight_most v = weight_below (is_live v)
 
 -- one more lives at most
-pub lives_more : (cs : List Connection) (e : Event) → length cs ≡ 64 → IsLawful e → live_count (connections_after cs e) ≤ live_count cs + 1
-lives_more cs (event.Dial conn) n h = omega (arith, count_set cs conn Live (omega (arith, n, h)), weight_most Live)
-lives_more cs (event.Msg conn msg) n h = omega arith
-lives_more cs (event.Hang conn why) n h = omega (arith, count_set cs conn (Ended why) (omega (arith, n, h)), weight_most (Ended why))
-lives_more cs (event.Took conn) n h = omega arith
-lives_more cs event.New n h = omega arith
-lives_more cs (event.Key w side text) n h = omega arith
-lives_more cs (event.Sel w range) n h = omega arith
+pub lives_more : (cs : List Connection) (k : Kind) → length cs ≡ 64 → IsNumbered k → live_count (connections_after cs k) ≤ live_count cs + 1
+lives_more cs (kind.Dials conn) n h = omega (arith, count_set cs conn Live (omega (arith, n, h)), weight_most Live)
+lives_more cs (kind.Asks conn tag) n h = omega arith
+lives_more cs (kind.Ends conn why) n h = omega (arith, count_set cs conn (Ended why) (omega (arith, n, h)), weight_most (Ended why))
+lives_more cs (kind.Takes conn) n h = omega arith
+lives_more cs kind.Acts n h = omega arith
 
 ended_weight : (why : _) → weight (Ended why) ≡ 0
 unfolding weight

@@ -9,16 +9,17 @@ use Rattle.am_journal.specs.declared.event.Event.{Event}
 use Rattle.am_journal.specs.declared.event.Why.{Why}
 use Rattle.am_journal.specs.Lawful.{IsLawful}
 use Rattle.am_counter.specs.Played.{ArePlayed, IsPlayed}
-use Rattle.core_answers.specs.Done.{CanBeMade}
 use Rattle.core_windows.specs.Windows.{Window}
 use Rattle.core_windows.specs.Stories.{AreLawful}
-use Rattle.core_windows.specs.WindowLaws.{ChangesShow, ChangesAreLawful, AreNumbered, NumbersStay}
-use Rattle.core_events.specs.Sound.{IsSound}
+use Rattle.core_windows.specs.WindowLaws.{ChangesAreLawful, AreNumbered, NumbersStay}
+use Rattle.core_scene.specs.SceneLaws.{changes_in, AreShown, DeedsShow}
+use Rattle.core_events.specs.Sound.{IsSound, IsIdle}
 use Rattle.acme_core.specs.declared.prepared.Prepared.{Prepared}
 use Rattle.acme_core.specs.declared.parts.Parts.{Parts}
 use Rattle.acme_core.specs.declared.connection.Connection.TheVariants.{Undialed}
 use Rattle.acme_core.specs.Connections.{connection_at, connections_after, live_count, was_dialed, AreJoined}
-use Rattle.acme_core.specs.Doings.{doing_of}
+use Rattle.acme_core.specs.Doings.{doing_of, entry_of, CanBeDone}
+use Rattle.acme_core.specs.Kinds.{kind_of}
 use Rattle.acme_core.specs.Kept.{IsKept, IsReady, IsPrepared, AreSound, planned_of}
 use Rattle.acme_core.specs.Parts.{present_of, AreSteady}
 use Rattle.acme_core.specs.Run.{step, run, present_after, enabled}
@@ -26,6 +27,8 @@ use Rattle.acme_core.specs.Stages.{after}
 use Rattle.acme_core.specs.States.{Present, State, present, start, next_entry}
 use Rattle.acme_core.proofs.Few.{length-connections}
 use Rattle.acme_core.proofs.Joins.{joins_on}
+use Rattle.acme_core.proofs.Kinded.{numbered, found}
+use Rattle.acme_core.proofs.Idling.{idle_after}
 
 pub run-push : (journal : List Event) (e : Event) → run (journal ++ e ∷ []) ≡ step (run journal) e
 unfolding run
@@ -44,34 +47,43 @@ none_played : (allows : List Event → Event → Option Why) → IsPlayed allows
 unfolding ArePlayed
 none_played allows = tt
 
+-- what the deeds of a step make of the windows is what their changes make of the story
+shows : DeedsShow → (s : State) (e : Event) → AreLawful s.windows → CanBeDone (present s) (doing_of (present s) e)
+    → AreShown (entry_of (present s) (doing_of (present s) e)) s.windows (present s).scene (doing_of (present s) e).deeds
+shows show s e lawful possible = show (entry_of (present s) (doing_of (present s) e)) s.windows (present s).scene (doing_of (present s) e).deeds refl lawful possible
+
 -- what a step makes of the editor as it stands is what it makes of the story
-stands_on : ChangesShow → (s : State) (e : Event) → AreLawful s.windows → CanBeMade (present s).windows (doing_of (present s) e).changes
+stands_on : DeedsShow → (s : State) (e : Event) → AreLawful s.windows → CanBeDone (present s) (doing_of (present s) e)
     → present (step s e) ≡ after (present s) e (doing_of (present s) e)
 unfolding step
 stands_on show s e lawful possible =
-    ap (λ (ws : List (Option Window)). record (after (present s) e (doing_of (present s) e)) { windows = ws })
-    (show (next_entry (present s)) s.windows (doing_of (present s) e).changes lawful (possible (next_entry (present s))))
+    ap (λ (ws : List (Option Window)). record (after (present s) e (doing_of (present s) e)) { scene = record (after (present s) e (doing_of (present s) e)).scene { windows = ws } })
+    (shows show s e lawful possible).shown
 
-lawful_on : ChangesAreLawful → (s : State) (e : Event) → AreLawful s.windows → CanBeMade (present s).windows (doing_of (present s) e).changes → AreLawful (step s e).windows
+lawful_on : DeedsShow → (s : State) (e : Event) → AreLawful s.windows → CanBeDone (present s) (doing_of (present s) e) → AreLawful (step s e).windows
 unfolding step
-lawful_on laws s e lawful possible = laws.stays (next_entry (present s)) s.windows (doing_of (present s) e).changes lawful (possible (next_entry (present s)))
+lawful_on show s e lawful possible = (shows show s e lawful possible).lawful
 
 -- the tables stay sound
 sound_on : (old new : Parts) (spare : ℕ) (p : Prepared) → AreSound old → IsPrepared (present_of old) spare old p
-    → present_of new ≡ after (present_of old) p.event (doing_of (present_of old) p.event) → IsSound new.entries new.book.kept
+    → present_of new ≡ after (present_of old) p.event (doing_of (present_of old) p.event) → IsSound new.entries new.scene.book.kept → IsIdle new.scene.book.kept
     → AreSound new
-sound_on old new spare p was ready changed book = record {
-  conns = ap (λ (x : Present). length x.connections) changed ∙ length-connections old.connections.items p.event ∙ was.conns;
-  joined = subst (λ (x : Present). AreJoined x.connections x.tables) (sym changed) (joins_on (present_of old) p.event (doing_of (present_of old) p.event) was.conns ready.lawful ready.allowed was.joined);
-  book = book;
-}
+sound_on old new spare p was ready changed book idle =
+    let s : Present = present_of old in
+    record {
+      conns = ap (λ (x : Present). length x.connections) changed ∙ length-connections old.connections.items (kind_of p.event) ∙ was.conns;
+      joined = subst (λ (x : Present). AreJoined x.connections x.tables) (sym changed)
+          (joins_on s (kind_of p.event) (doing_of s p.event) was.conns (numbered p.event ready.lawful) (found s p.event ready.allowed) was.joined);
+      book = book;
+      idle = idle;
+    }
 
 -- what is kept goes on with a step
-pub kept_on : ChangesShow → ChangesAreLawful → (entries next : Room Event) (old new : Parts) (p : Prepared) (e : Event) (left : Option Prepared)
+pub kept_on : DeedsShow → (entries next : Room Event) (old new : Parts) (p : Prepared) (e : Event) (left : Option Prepared)
     → IsKept entries old (Some p) → e ≡ p.event → next.items ≡ entries.items ++ e ∷ [] → next.spare ≡ entries.spare - 1
-    → present_of new ≡ after (present_of old) p.event (doing_of (present_after entries.items) p.event) → IsSound new.entries new.book.kept → AreSteady new → left ≡ None
+    → present_of new ≡ after (present_of old) p.event (doing_of (present_after entries.items) p.event) → IsSound new.entries new.scene.book.kept → AreSteady new → left ≡ None
     → IsKept next new left
-kept_on show laws entries next old new p e left was is grown spare changed book steady none =
+kept_on show entries next old new p e left was is grown spare changed book steady none =
     let s : State = run entries.items in
     let ready : IsPrepared (present s) entries.spare old p = was.ready in
     let pushed : next.items ≡ entries.items ++ p.event ∷ [] = grown ∙ ap (λ (x : Event). entries.items ++ x ∷ []) is in
@@ -84,17 +96,17 @@ kept_on show laws entries next old new p e left was is grown spare changed book 
     let same : present_of new ≡ after (present_of old) p.event (doing_of (present_of old) p.event) =
     changed ∙ ap (λ (x : Present). after (present_of old) p.event (doing_of x p.event)) (sym was.state)
     in
-    let lives : new.connections.items ≡ connections_after old.connections.items p.event = ap (λ (x : Present). x.connections) changed in
-    let count : live_count new.connections.items ≡ live_count (connections_after old.connections.items p.event) = ap live_count lives in
+    let lives : new.connections.items ≡ connections_after old.connections.items (kind_of p.event) = ap (λ (x : Present). x.connections) changed in
+    let count : live_count new.connections.items ≡ live_count (connections_after old.connections.items (kind_of p.event)) = ap live_count lives in
     let numbered : new.entries ≡ old.entries + 1 = ap (λ (x : Present). x.entries) changed in
     let had : (present s).entries ≡ old.entries = sym (ap (λ (x : Present). x.entries) was.state) in
     let longer : length next.items ≡ length entries.items + 1 = ap (λ (l : List Event). length l) pushed ∙ length-append entries.items (p.event ∷ []) in
     record {
       played = subst (λ (l : List Event). IsPlayed enabled l) (sym pushed) (played_more enabled [] entries.items p.event was.played ready.lawful ready.allowed);
       state = stepped ∙ ap present ran;
-      lawful = subst (λ (x : State). AreLawful x.windows) ran (lawful_on laws s p.event was.lawful ready.possible);
+      lawful = subst (λ (x : State). AreLawful x.windows) ran (lawful_on show s p.event was.lawful ready.possible);
       counted = omega (arith, numbered, was.counted, longer);
-      sound = sound_on old new entries.spare p was.sound readied same book;
+      sound = sound_on old new entries.spare p was.sound readied same book (subst (λ (x : Present). IsIdle x.scene.book) (sym (stepped ∙ ap present ran)) (idle_after next.items));
       hangs = record { room = omega (arith, count, spare, ready.entries.room); numbers = omega (arith, count, numbered, had, ready.entries.numbers) };
       ready = subst (λ (x : Option Prepared). IsReady (present_after next.items) next.spare new x) (sym none) steady;
     }
@@ -123,7 +135,8 @@ kept_start laws entries parts empty state steady =
       sound = record {
         conns = ap (λ (x : Present). length x.connections) state;
         joined = subst (λ (x : Present). AreJoined x.connections x.tables) (sym state) (undialed_at 64);
-        book = subst (λ (x : Present). IsSound x.entries x.book) (sym state) (record { latest = omega arith; small = refl });
+        book = subst (λ (x : Present). IsSound x.entries x.scene.book) (sym state) (record { latest = omega arith; small = refl });
+        idle = subst (λ (x : Present). IsIdle x.scene.book) (sym state) refl;
       };
       hangs = record { room = omega (arith, none); numbers = omega (arith, none, first) };
       ready = steady;
@@ -144,7 +157,7 @@ entries_counted journal = omega (arith, counts start journal)
 
 numbered_on : NumbersStay → (s : State) (e : Event) → AreNumbered s.entries s.windows → AreNumbered (step s e).entries (step s e).windows
 unfolding step
-numbered_on law s e h = law.stays s.entries (s.entries + 1) s.windows (doing_of (present s) e).changes (omega arith) h
+numbered_on law s e h = law.stays s.entries (s.entries + 1) s.windows (changes_in (doing_of (present s) e).deeds) (omega arith) h
 
 numbered_from : NumbersStay → (s : State) (journal : List Event) → AreNumbered s.entries s.windows → AreNumbered (fold step s journal).entries (fold step s journal).windows
 numbered_from law s [] h = h

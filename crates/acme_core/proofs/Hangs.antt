@@ -1,39 +1,59 @@
 -- What is ready for a hang-up.
-use Rattle.std.proofs.Common.{◌≡◌, ℕ, ◌+◌, true, [], None, refl, sym, subst}
+use Rattle.std.proofs.Common.{◌≡◌, ℕ, ◌+◌, true, List, [], None, Option, refl, sym, ap, subst, ◌∙◌}
 use Rattle.std.specs.Global.{Vec}
 use Rattle.am_journal.specs.declared.event.Event.{Event}
 use Rattle.am_journal.specs.declared.event.Event.TheVariants as event
 use Rattle.fid_table.specs.Tables.{Tables}
-use Rattle.core_answers.specs.declared.effect.Effect.TheVariants as effect
-use Rattle.core_answers.specs.declared.effect.EventChange.TheVariants as events
-use Rattle.core_events.specs.Sound.{IsSound}
+use Rattle.event_book.specs.BookState.{BookState, served_of}
+use Rattle.core_scene.specs.Scenes.{SceneState, scene_of, kept_of}
+use Rattle.core_scene.proofs.Settled.{settled_is}
+use Rattle.core_fids.specs.declared.effect.Effect.TheVariants as effect
+use Rattle.core_fids.specs.declared.effect.EventChange.TheVariants as events
+use Rattle.core_events.specs.declared.response.Response.{Response}
+use Rattle.core_events.specs.Sound.{IsSound, IsIdle}
+use Rattle.core_events.proofs.Turns.{all_none, book_all_none}
+use Rattle.acme_core.proofs.Idling.{none_served}
 use Rattle.acme_core.specs.declared.parts.Parts.{Parts}
-use Rattle.acme_core.specs.declared.unsent.Reply.{Reply}
+use Rattle.core_outputs.specs.declared.reply.Reply.{Reply}
 use Rattle.acme_core.specs.Connections.{IsOfJoined, IsJoinedFor}
 use Rattle.acme_core.specs.Doings.{doing_of}
+use Rattle.acme_core.specs.Kinds.{kind_of}
 use Rattle.acme_core.specs.Parts.{present_of, AreSteady, HasReady}
 use Rattle.acme_core.specs.Run.{is_hang}
+use Rattle.acme_core.specs.States.{next_entry}
+use Rattle.acme_core.specs.Replies.{replies_of}
+use Rattle.core_outputs.specs.Unsent.{put_replies}
 
-pub hang_ready : (p : Parts) (e : Event) (at : ℕ) (replies : Vec Reply) → is_hang e ≡ true → IsJoinedFor p.sessions.kept e → AreSteady p
-    → IsSound (p.entries + 1) p.book.kept → at ≡ p.entries + 1 → replies.items ≡ []
-    → HasReady p (record { event = e; at = at; effect = effect.Nothing; events = events.Nothing; deletes = None; said = []; replies = replies }) (doing_of (present_of p) e)
-hang_ready p (event.Hang conn why) at replies h joined steady sound numbered none = record {
-  at = numbered;
-  effect = refl;
-  events = refl;
-  deletes = refl;
-  answers = refl;
-  replies = none;
-  joined = subst (λ (t : Tables). IsOfJoined t (event.Hang conn why)) (sym steady.sessions) joined;
-  sessions = steady.sessions;
-  book = steady.book;
-  sound = subst (λ (n : ℕ). IsSound n p.book.present) (sym numbered) (subst (λ (b : _). IsSound (p.entries + 1) b) (sym steady.book) sound);
-  windows = steady.windows;
-  outputs = steady.outputs;
-}
-hang_ready p (event.Dial conn) at replies h joined steady sound numbered none = absurd cc
-hang_ready p (event.Msg conn msg) at replies h joined steady sound numbered none = absurd cc
-hang_ready p (event.Took conn) at replies h joined steady sound numbered none = absurd cc
-hang_ready p event.New at replies h joined steady sound numbered none = absurd cc
-hang_ready p (event.Key w side text) at replies h joined steady sound numbered none = absurd cc
-hang_ready p (event.Sel w range) at replies h joined steady sound numbered none = absurd cc
+pub hang_ready : (p : Parts) (e : Event) (at : ℕ) (replies : Vec Reply) → is_hang e ≡ true → IsJoinedFor p.sessions.kept (kind_of e) → AreSteady p
+    → IsSound (p.entries + 1) p.scene.book.kept → IsIdle p.scene.book.kept → at ≡ p.entries + 1 → replies.items ≡ []
+    → HasReady p (record { event = e; at = at; effect = effect.Nothing; events = events.Nothing; deleted = []; said = []; replies = replies }) (doing_of (present_of p) e)
+hang_ready p (event.Hang conn why) at replies h joined steady sound idle numbered none =
+    let b : BookState = p.scene.book.kept in
+    let silent : served_of b ≡ None = none_served b idle in
+    let said = all_none (p.entries + 1) b silent in
+    record {
+      at = numbered;
+      effect = refl;
+      events = refl;
+      deleted = refl;
+      answers = sym said;
+      replies = none ∙ ap replies_of (sym said);
+      joined = subst (λ (t : Tables). IsOfJoined t (kind_of (event.Hang conn why))) (sym steady.sessions) joined;
+      sessions = steady.sessions;
+      scene = settled_is p.scene steady.scene ∙ ap (λ (x : BookState). record (kept_of p.scene) { book = x }) (sym (book_all_none (p.entries + 1) b silent));
+      sound = subst (λ (n : ℕ). IsSound n p.scene.book.present) (sym numbered) (subst (λ (x : BookState). IsSound (p.entries + 1) x) (sym steady.scene.book) sound);
+      outputs = steady.outputs ∙ ap (λ (xs : List Response). put_replies p.outputs.kept (replies_of xs)) (sym said);
+    }
+hang_ready p (event.Dial conn) at replies h joined steady sound idle numbered none = absurd cc
+hang_ready p (event.Msg conn msg) at replies h joined steady sound idle numbered none = absurd cc
+hang_ready p (event.Took conn) at replies h joined steady sound idle numbered none = absurd cc
+hang_ready p event.New at replies h joined steady sound idle numbered none = absurd cc
+hang_ready p (event.Key w side text) at replies h joined steady sound idle numbered none = absurd cc
+hang_ready p (event.Sel w range) at replies h joined steady sound idle numbered none = absurd cc
+
+-- the same, where what is deleted and said is known to be nothing
+pub hanging : (p : Parts) (e : Event) (at : ℕ) (replies : Vec Reply) (deleted : List ℕ) (heard : List Response) → deleted ≡ [] → heard ≡ [] → is_hang e ≡ true
+    → IsJoinedFor p.sessions.kept (kind_of e) → AreSteady p → IsSound (p.entries + 1) p.scene.book.kept → IsIdle p.scene.book.kept → at ≡ p.entries + 1 → replies.items ≡ []
+    → HasReady p (record { event = e; at = at; effect = effect.Nothing; events = events.Nothing; deleted = deleted; said = heard; replies = replies }) (doing_of (present_of p) e)
+hanging p e at replies deleted heard none silent h joined steady sound idle numbered empty =
+    rw (none, silent) (hang_ready p e at replies h joined steady sound idle numbered empty)

@@ -9,27 +9,28 @@ use Rattle.std.proofs.lemmas.Bool.{eqb-true, eqb-false}
 use Rattle.std.proofs.lemmas.List.{get_or-set_same, get_or-set_other}
 use Rattle.std.proofs.lemmas.List.Folds.{list_any-append}
 use Rattle.am_journal.specs.declared.event.Event.{Event}
-use Rattle.am_journal.specs.declared.event.Event.TheVariants as event
-use Rattle.am_journal.specs.declared.event.Why.{Why}
-use Rattle.am_journal.specs.Lawful.{IsLawful}
+use Rattle.acme_core.specs.declared.kind.Kind.{Kind}
+use Rattle.acme_core.specs.declared.kind.Kind.TheVariants as kind
+use Rattle.acme_core.specs.Kinds.{kind_of}
+use Rattle.acme_core.proofs.Kinded.{IsNumbered, IsFound, found}
 use Rattle.fid_table.specs.declared.session.Session.{Session}
-use Rattle.fid_table.specs.Tables.{Tables, is_session, has_joined, on_session, put_in, taken_from, begun, after_join, after_done}
+use Rattle.fid_table.specs.Tables.{Tables, is_session, has_joined, on_session, put_in, taken_from, begun, after_join, after_done, after_hangup}
 use Rattle.acme_core.specs.declared.connection.Connection.{Connection}
 use Rattle.acme_core.specs.declared.connection.Connection.TheVariants.{Undialed, Live, Ended}
-use Rattle.core_answers.specs.declared.effect.Effect.{Effect}
-use Rattle.core_answers.specs.declared.effect.Effect.TheVariants as effect
+use Rattle.core_fids.specs.declared.effect.Effect.{Effect}
+use Rattle.core_fids.specs.declared.effect.Effect.TheVariants as effect
 use Rattle.acme_core.specs.Connections.{connection_at, connections_after, was_dialed, AreJoined, IsJoinedFor, IsOfJoined, grown, grown_with, ended_with}
-use Rattle.acme_core.specs.Enabled.{dial_refusal, live_refusal, first_why}
+use Rattle.acme_core.specs.Enabled.{dial_refusal, live_refusal}
 use Rattle.acme_core.specs.States.{Present}
 use Rattle.acme_core.specs.Doings.{enabled_at}
-use Rattle.acme_core.specs.Stages.{asker_of, answer_tables, event_tables, said, tables_after}
+use Rattle.acme_core.specs.Stages.{asker_of, answer_tables, message_tables, said, tables_after}
 use Rattle.acme_core.specs.declared.doing.Doing.{Doing}
 use Rattle.ninep_types.specs.declared.message.RBody.{RBody}
 use Rattle.event_book.specs.BookState.{BookState}
-use Rattle.core_answers.specs.declared.effect.Answer.{Answer}
-use Rattle.core_answers.specs.declared.effect.Answer.TheVariants.{Says, Reads}
-use Rattle.core_answers.specs.declared.effect.EventChange.{EventChange}
-use Rattle.core_answers.specs.declared.effect.EventChange.TheVariants as events
+use Rattle.core_fids.specs.declared.effect.Answer.{Answer}
+use Rattle.core_fids.specs.declared.effect.Answer.TheVariants.{Says, Reads}
+use Rattle.core_fids.specs.declared.effect.EventChange.{EventChange}
+use Rattle.core_fids.specs.declared.effect.EventChange.TheVariants as events
 use Rattle.core_events.specs.declared.response.Response.{Response}
 use Rattle.core_events.specs.Asking.{read_said, waits_unless}
 use Rattle.core_events.specs.Waits.{ended, without_cancelled}
@@ -104,10 +105,6 @@ undialed Undialed e = refl
 undialed Live e = absurd cc
 undialed (Ended why) e = absurd cc
 
-first_is : (a b : Option Why) → first_why a b ≡ None → a ≡ None
-first_is None b e = refl
-first_is (Some w) b e = absurd cc
-
 -- ---- one event
 
 dial_joins : (cs : List Connection) (t : Tables) (conn : ℕ) → conn < length cs → AreJoined cs t → AreJoined (slice_set cs conn Live) (after_join t conn)
@@ -128,61 +125,53 @@ hang_joins cs t conn v h new old all x =
       | false ↦ λ e. all x ∙ sym (ap was_dialed (elsewhere cs conn x v (λ (s : x ≡ conn). eqb-false conn x e (sym s))))
     ] refl
 
-pub joins_on : (s : Present) (e : Event) (d : Doing) → length s.connections ≡ 64 → IsLawful e → enabled_at s e ≡ None → AreJoined s.connections s.tables
-    → AreJoined (connections_after s.connections e) (tables_after s e d)
-joins_on s (event.Dial conn) d n h e all = λ x.
-    ended_keeps (after_join s.tables conn) x (said s (event.Dial conn) d) ∙ dial_joins s.connections s.tables conn (omega (arith, n, h)) all x
-joins_on s (event.Msg conn msg) d n h e all = λ x.
+pub joins_on : (s : Present) (k : Kind) (d : Doing) → length s.connections ≡ 64 → IsNumbered k → IsFound s.connections k → AreJoined s.connections s.tables
+    → AreJoined (connections_after s.connections k) (tables_after s k d)
+joins_on s (kind.Dials conn) d n h e all = λ x.
+    ended_keeps (after_join s.tables conn) x (said s (kind.Dials conn) d) ∙ dial_joins s.connections s.tables conn (omega (arith, n, h)) all x
+joins_on s (kind.Asks conn tag) d n h e all = λ x.
     let put : Tables = grown_with s.tables conn d.effect in
-    let read : Tables = answer_tables put s.book conn msg.tag d.answer in
+    let read : Tables = answer_tables put s.scene.book conn tag d.answer in
     let left : Tables = ended_with read conn d.effect in
-    let responses : List Response = said s (event.Msg conn msg) d in
+    let responses : List Response = said s (kind.Asks conn tag) d in
     cancelled_keeps (ended left responses) conn x d.events ∙ ended_keeps left x responses ∙ ended_with_keeps read conn x d.effect
-    ∙ answer_keeps put s.book conn msg.tag x d.answer ∙ grown_keeps s.tables conn x d.effect ∙ all x
-joins_on s (event.Hang conn why) d n h e all = λ x.
-    any_kept (begun None) (λ s. refl) conn x s.tables.sessions
+    ∙ answer_keeps put s.scene.book conn tag x d.answer ∙ grown_keeps s.tables conn x d.effect ∙ all x
+joins_on s (kind.Ends conn why) d n h e all = λ x.
+    ended_keeps (after_hangup s.tables conn) x (said s (kind.Ends conn why) d) ∙ any_kept (begun None) (λ s. refl) conn x s.tables.sessions
     ∙ hang_joins s.connections s.tables conn (Ended why) (omega (arith, n, h)) refl (dialed_live (connection_at s.connections conn) e) all x
-joins_on s (event.Took conn) d n h e all = λ x. ended_keeps s.tables x (said s (event.Took conn) d) ∙ all x
-joins_on s event.New d n h e all = λ x. ended_keeps s.tables x (said s event.New d) ∙ all x
-joins_on s (event.Key w side text) d n h e all = λ x. ended_keeps s.tables x (said s (event.Key w side text) d) ∙ all x
-joins_on s (event.Sel w range) d n h e all = λ x. ended_keeps s.tables x (said s (event.Sel w range) d) ∙ all x
+joins_on s (kind.Takes conn) d n h e all = λ x. ended_keeps s.tables x (said s (kind.Takes conn) d) ∙ all x
+joins_on s kind.Acts d n h e all = λ x. ended_keeps s.tables x (said s kind.Acts d) ∙ all x
 
 -- ---- what an enabled event finds
 
-pub joined_for : (s : Present) (e : Event) → enabled_at s e ≡ None → AreJoined s.connections s.tables → IsJoinedFor s.tables e
-joined_for s (event.Dial conn) e all = all conn ∙ undialed (connection_at s.connections conn) e
-joined_for s (event.Msg conn msg) e all = all conn ∙ dialed_live (connection_at s.connections conn) (first_is (live_refusal (connection_at s.connections conn)) _ e)
-joined_for s (event.Hang conn why) e all = all conn ∙ dialed_live (connection_at s.connections conn) e
-joined_for s (event.Took conn) e all = tt
-joined_for s event.New e all = tt
-joined_for s (event.Key w side text) e all = tt
-joined_for s (event.Sel w range) e all = tt
+pub joined_for : (cs : List Connection) (t : Tables) (k : Kind) → IsFound cs k → AreJoined cs t → IsJoinedFor t k
+joined_for cs t (kind.Dials conn) e all = all conn ∙ undialed (connection_at cs conn) e
+joined_for cs t (kind.Asks conn tag) e all = all conn ∙ dialed_live (connection_at cs conn) e
+joined_for cs t (kind.Ends conn why) e all = all conn ∙ dialed_live (connection_at cs conn) e
+joined_for cs t (kind.Takes conn) e all = tt
+joined_for cs t kind.Acts e all = tt
 
 -- ---- growing, and then the rest
 
 -- the connection of a message joined, also once its fid is put and its read waits
-pub grown_joined : (t : Tables) (e : Event) (f : Effect) → IsJoinedFor t e → IsOfJoined (grown t e f) e
-grown_joined t (event.Dial conn) f h = tt
-grown_joined t (event.Msg conn msg) f h = grown_keeps t conn conn f ∙ h
-grown_joined t (event.Hang conn why) f h = h
-grown_joined t (event.Took conn) f h = tt
-grown_joined t event.New f h = tt
-grown_joined t (event.Key w side text) f h = tt
-grown_joined t (event.Sel w range) f h = tt
+pub grown_joined : (t : Tables) (k : Kind) (f : Effect) → IsJoinedFor t k → IsOfJoined (grown t k f) k
+grown_joined t (kind.Dials conn) f h = tt
+grown_joined t (kind.Asks conn tag) f h = grown_keeps t conn conn f ∙ h
+grown_joined t (kind.Ends conn why) f h = h
+grown_joined t (kind.Takes conn) f h = tt
+grown_joined t kind.Acts f h = tt
 
-pub read_joined : (t : Tables) (b : BookState) (e : Event) (a : Option Answer) → IsOfJoined t e → IsOfJoined (event_tables t b e a) e
-read_joined t b (event.Dial conn) a h = tt
-read_joined t b (event.Msg conn msg) a h = answer_keeps t b conn msg.tag conn a ∙ h
-read_joined t b (event.Hang conn why) a h = h
-read_joined t b (event.Took conn) a h = tt
-read_joined t b event.New a h = tt
-read_joined t b (event.Key w side text) a h = tt
-read_joined t b (event.Sel w range) a h = tt
+pub read_joined : (t : Tables) (b : BookState) (k : Kind) (a : Option Answer) → IsOfJoined t k → IsOfJoined (message_tables t b k a) k
+read_joined t b (kind.Dials conn) a h = tt
+read_joined t b (kind.Asks conn tag) a h = answer_keeps t b conn tag conn a ∙ h
+read_joined t b (kind.Ends conn why) a h = h
+read_joined t b (kind.Takes conn) a h = tt
+read_joined t b kind.Acts a h = tt
 
 pub ruleset joining = (grown_joined, read_joined)
 
 -- what the tables have, where nothing is ready
-pub tables_joined : (p : Parts) (e : Event) → enabled_at (present_of p) e ≡ None → AreSound p → IsJoinedFor p.sessions.kept e
-tables_joined p e allowed sound = joined_for (present_of p) e allowed sound.joined
+pub tables_joined : (p : Parts) (e : Event) → enabled_at (present_of p) e ≡ None → AreSound p → IsJoinedFor p.sessions.kept (kind_of e)
+tables_joined p e allowed sound = joined_for (present_of p).connections (present_of p).tables (kind_of e) (found (present_of p) e allowed) sound.joined
 
 pub ruleset joined = (tables_joined)

@@ -9,3 +9,6 @@ pub mod Viewed
 pub mod Typed
 pub mod Connected
 pub mod Moved
+pub mod Kinded
+pub mod Idling
+pub mod Applied

@@ -8,13 +8,13 @@ use Rattle.acme_core.specs.Parts.{present_of}
 use Rattle.acme_core.specs.Run.{run, present_after}
 use Rattle.acme_core.specs.States.{Present}
 
-lawful : (p : Parts) (journal : List Event) → present_of p ≡ present_after journal → IsLawful p.book.kept → IsLawful (run journal).book
-lawful p journal e h = subst (λ (x : Present). IsLawful x.book) e h
+lawful : (p : Parts) (journal : List Event) → present_of p ≡ present_after journal → IsLawful p.scene.book.kept → IsLawful (run journal).scene.book
+lawful p journal e h = subst (λ (x : Present). IsLawful x.scene.book) e h
 
-pub ordered : (p : Parts) (journal : List Event) → present_of p ≡ present_after journal → IsLawful p.book.kept → WindowOrder (run journal).book
-ordered p journal e h = in_order (run journal).book (lawful p journal e h)
+pub ordered : (p : Parts) (journal : List Event) → present_of p ≡ present_after journal → IsLawful p.scene.book.kept → WindowOrder (run journal).scene.book
+ordered p journal e h = in_order (run journal).scene.book (lawful p journal e h)
 
-pub given : (p : Parts) (journal : List Event) → present_of p ≡ present_after journal → IsLawful p.book.kept → WhatAFidGets (run journal).book
-given p journal e h = gets (run journal).book (lawful p journal e h)
+pub given : (p : Parts) (journal : List Event) → present_of p ≡ present_after journal → IsLawful p.scene.book.kept → WhatAFidGets (run journal).scene.book
+given p journal e h = gets (run journal).scene.book (lawful p journal e h)
 
 pub ruleset book_laws = (ordered, given)

@@ -15,7 +15,7 @@ use Rattle.core_windows.specs.declared.change.Setting.TheVariants as setting
 use Rattle.core_windows.specs.declared.change.Change.{Change}
 use Rattle.core_windows.specs.Possible.{CanSetIn, CanEdit, text_in}
 use Rattle.core_windows.proofs.Steps.{edits_then_set}
-use Rattle.core_answers.specs.Done.{CanBeMade}
+use Rattle.core_fids.specs.Done.{CanBeMade}
 use Rattle.core_windows.specs.Windows.{Window, window_at}
 use Rattle.core_addresses.specs.Data.{replacing}
 use Rattle.acme_core.specs.Typing.{fits_body, sel_refusal, edits_with_dot, sel_changes}

@@ -24,9 +24,9 @@ addr_shown : (o : Option WindowStory) → option_map window_addr (shown_if_live 
 addr_shown None = refl
 addr_shown (Some s) = refl
 
-pub addr_kept : (p : Parts) (journal : List Event) (w : ℕ) (r : Option Range) → present_of p ≡ present_after journal → r ≡ option_map window_addr (window_at p.windows.kept w) → r ≡ addr_at journal w
+pub addr_kept : (p : Parts) (journal : List Event) (w : ℕ) (r : Option Range) → present_of p ≡ present_after journal → r ≡ option_map window_addr (window_at p.scene.windows.kept w) → r ≡ addr_at journal w
 addr_kept p journal w r e h =
-    h ∙ ap (λ (s : Present). option_map window_addr (window_at s.windows w)) e ∙ ap (option_map window_addr) (window_of_story (run journal).windows w) ∙ addr_shown (story_at (run journal).windows w)
+    h ∙ ap (λ (s : Present). option_map window_addr (window_at s.scene.windows w)) e ∙ ap (option_map window_addr) (window_of_story (run journal).windows w) ∙ addr_shown (story_at (run journal).windows w)
 
 lawful_inside : (o : Option WindowStory) → IsLawfulIfLive o → IfSome (addr_of o) (IsInside (body_of o))
 lawful_inside None h = tt

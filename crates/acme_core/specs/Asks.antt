@@ -21,7 +21,7 @@ has_room count = nat_lt count 256
 
 -- the answer as the editor stands
 abbrev pub answer_in : Present → Ask → Bool
-answer_in s (ask.EventOpen window) = is_open_window s.book window
+answer_in s (ask.EventOpen window) = is_open_window s.scene.book window
 answer_in s (ask.Room conn) = has_room (unsent_count s conn)
 answer_in s (ask.Ended conn) = is_ended (connection_at s.connections conn)
 

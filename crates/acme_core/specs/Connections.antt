@@ -2,10 +2,10 @@
 use Rattle.std.specs.Prelude.{◌≡◌, ℕ, Bool, true, false, List, count_by, slice_index_or, slice_set}
 use Rattle.acme_core.specs.declared.connection.Connection.{Connection}
 use Rattle.acme_core.specs.declared.connection.Connection.TheVariants.{Undialed, Live, Ended}
-use Rattle.core_answers.specs.declared.effect.Effect.{Effect}
-use Rattle.core_answers.specs.declared.effect.Effect.TheVariants as effect
-use Rattle.am_journal.specs.declared.event.Event.{Event}
-use Rattle.am_journal.specs.declared.event.Event.TheVariants as event
+use Rattle.acme_core.specs.declared.kind.Kind.{Kind}
+use Rattle.acme_core.specs.declared.kind.Kind.TheVariants as kind
+use Rattle.core_fids.specs.declared.effect.Effect.{Effect}
+use Rattle.core_fids.specs.declared.effect.Effect.TheVariants as effect
 use Rattle.fid_table.specs.Tables.{Tables, has_joined, HasJoined, after_join, after_put, after_take, after_version}
 
 abbrev pub connection_at : List Connection → ℕ → Connection
@@ -19,15 +19,13 @@ is_live (Ended why) = false
 abbrev pub live_count : List Connection → ℕ
 live_count connections = count_by is_live connections
 
--- the connections after an event
-abbrev pub connections_after : List Connection → Event → List Connection
-connections_after connections (event.Dial conn) = slice_set connections conn Live
-connections_after connections (event.Msg conn msg) = connections
-connections_after connections (event.Hang conn why) = slice_set connections conn (Ended why)
-connections_after connections (event.Took conn) = connections
-connections_after connections event.New = connections
-connections_after connections (event.Key w side text) = connections
-connections_after connections (event.Sel w range) = connections
+-- the connections after an event of this kind
+abbrev pub connections_after : List Connection → Kind → List Connection
+connections_after connections (kind.Dials conn) = slice_set connections conn Live
+connections_after connections (kind.Asks conn tag) = connections
+connections_after connections (kind.Ends conn why) = slice_set connections conn (Ended why)
+connections_after connections (kind.Takes conn) = connections
+connections_after connections kind.Acts = connections
 
 -- ---- their sessions
 
@@ -40,25 +38,21 @@ was_dialed (Ended why) = true
 abbrev pub AreJoined : List Connection → Tables → Type 0
 AreJoined connections tables = (conn : ℕ) → has_joined tables conn ≡ was_dialed (connection_at connections conn)
 
--- what a session or a message of an event needs: a connection that joined, or a new one
-abbrev pub IsJoinedFor : Tables → Event → Type 0
-IsJoinedFor tables (event.Dial conn) = has_joined tables conn ≡ false
-IsJoinedFor tables (event.Msg conn msg) = HasJoined tables conn
-IsJoinedFor tables (event.Hang conn why) = HasJoined tables conn
-IsJoinedFor tables (event.Took conn) = Unit {0}
-IsJoinedFor tables event.New = Unit {0}
-IsJoinedFor tables (event.Key w side text) = Unit {0}
-IsJoinedFor tables (event.Sel w range) = Unit {0}
+-- what the sessions have for an event of this kind: its connection joined, or is a new one
+abbrev pub IsJoinedFor : Tables → Kind → Type 0
+IsJoinedFor tables (kind.Dials conn) = has_joined tables conn ≡ false
+IsJoinedFor tables (kind.Asks conn tag) = HasJoined tables conn
+IsJoinedFor tables (kind.Ends conn why) = HasJoined tables conn
+IsJoinedFor tables (kind.Takes conn) = Unit {0}
+IsJoinedFor tables kind.Acts = Unit {0}
 
 -- the connection of a message or a hang-up joined
-abbrev pub IsOfJoined : Tables → Event → Type 0
-IsOfJoined tables (event.Dial conn) = Unit {0}
-IsOfJoined tables (event.Msg conn msg) = HasJoined tables conn
-IsOfJoined tables (event.Hang conn why) = HasJoined tables conn
-IsOfJoined tables (event.Took conn) = Unit {0}
-IsOfJoined tables event.New = Unit {0}
-IsOfJoined tables (event.Key w side text) = Unit {0}
-IsOfJoined tables (event.Sel w range) = Unit {0}
+abbrev pub IsOfJoined : Tables → Kind → Type 0
+IsOfJoined tables (kind.Dials conn) = Unit {0}
+IsOfJoined tables (kind.Asks conn tag) = HasJoined tables conn
+IsOfJoined tables (kind.Ends conn why) = HasJoined tables conn
+IsOfJoined tables (kind.Takes conn) = Unit {0}
+IsOfJoined tables kind.Acts = Unit {0}
 
 -- ---- what an event does to them: first what wants memory, and then what doesn't
 
@@ -74,11 +68,9 @@ ended_with tables conn (effect.Begins msize) = after_version tables conn msize
 ended_with tables conn (effect.Puts number fid) = tables
 ended_with tables conn (effect.Frees number) = after_take tables conn number
 
-abbrev pub grown : Tables → Event → Effect → Tables
-grown tables (event.Dial conn) effect = after_join tables conn
-grown tables (event.Msg conn msg) effect = grown_with tables conn effect
-grown tables (event.Hang conn why) effect = tables
-grown tables (event.Took conn) effect = tables
-grown tables event.New effect = tables
-grown tables (event.Key w side text) effect = tables
-grown tables (event.Sel w range) effect = tables
+abbrev pub grown : Tables → Kind → Effect → Tables
+grown tables (kind.Dials conn) effect = after_join tables conn
+grown tables (kind.Asks conn tag) effect = grown_with tables conn effect
+grown tables (kind.Ends conn why) effect = tables
+grown tables (kind.Takes conn) effect = tables
+grown tables kind.Acts effect = tables

@@ -4,13 +4,13 @@ use Rattle.am_text.specs.Room.{Room}
 use Rattle.am_journal.specs.declared.event.Event.{Event}
 use Rattle.am_journal.specs.Lawful.{IsLawful}
 use Rattle.am_counter.specs.Played.{IsPlayed}
-use Rattle.core_answers.specs.Done.{CanBeMade}
 use Rattle.core_windows.specs.Stories.{AreLawful}
-use Rattle.core_events.specs.Sound.{IsSound}
+use Rattle.core_events.specs.Sound.{IsSound, IsIdle}
 use Rattle.acme_core.specs.declared.parts.Parts.{Parts}
 use Rattle.acme_core.specs.declared.prepared.Prepared.{Prepared}
 use Rattle.acme_core.specs.Connections.{connections_after, live_count, AreJoined}
-use Rattle.acme_core.specs.Doings.{enabled_at, doing_of}
+use Rattle.acme_core.specs.Doings.{enabled_at, doing_of, CanBeDone}
+use Rattle.acme_core.specs.Kinds.{kind_of}
 use Rattle.acme_core.specs.Parts.{present_of, AreSteady, HasReady}
 use Rattle.acme_core.specs.Run.{run, present_after, enabled}
 use Rattle.acme_core.specs.States.{Present}
@@ -29,9 +29,9 @@ pub record HasEntries (entries spare lives : ℕ) : Type 0 where
 pub record IsPrepared (s : Present) (spare : ℕ) (parts : Parts) (prepared : Prepared) : Type 0 where
   pub lawful : IsLawful prepared.event
   pub allowed : enabled_at s prepared.event ≡ None
-  pub possible : CanBeMade s.windows (doing_of s prepared.event).changes
+  pub possible : CanBeDone s (doing_of s prepared.event)
   pub ready : HasReady parts prepared (doing_of s prepared.event)
-  pub entries : HasEntries s.entries spare (live_count (connections_after parts.connections.items prepared.event) + 1)
+  pub entries : HasEntries s.entries spare (live_count (connections_after parts.connections.items (kind_of prepared.event)) + 1)
 
 -- Where no plan waits, nothing is ready in the tables either.
 abbrev pub IsReady : Present → ℕ → Parts → Option Prepared → Type 0
@@ -42,7 +42,8 @@ IsReady s spare parts (Some prepared) = IsPrepared s spare parts prepared
 pub record AreSound (parts : Parts) : Type 0 where
   pub conns : length parts.connections.items ≡ 64
   pub joined : AreJoined parts.connections.items parts.sessions.kept
-  pub book : IsSound parts.entries parts.book.kept
+  pub book : IsSound parts.entries parts.scene.book.kept
+  pub idle : IsIdle parts.scene.book.kept
 
 -- The journal's events were enabled, the tables are as it leads to, its windows are lawful, and there is an entry for the hang-up of
 -- each connection that lives.

@@ -1,5 +1,6 @@
+pub mod Kinds
 pub mod Connections
-pub mod Unsent
+pub mod Replies
 pub mod Enabled
 pub mod Typing
 pub mod Origins

@@ -9,7 +9,7 @@ use Rattle.am_journal.specs.declared.event.Refused.TheVariants.{NotEnabled, NoMe
 use Rattle.acme_core.specs.States.{Present, State, present, start}
 use Rattle.acme_core.specs.Doings.{enabled_at, doing_of}
 use Rattle.acme_core.specs.Stages.{after_story}
-use Rattle.acme_core.specs.Unsent.{unsent_at}
+use Rattle.core_outputs.specs.Unsent.{unsent_at}
 
 -- one event: what it does is told by the editor as it stands
 unfoldable pub step : State → Event → State

@@ -1,32 +1,30 @@
 -- The editor as it stands, and by all that was ever done.
 use Rattle.std.specs.Prelude.{ℕ, ◌+◌, List, [], replicate, Option}
 use Rattle.fid_table.specs.Tables.{Tables, nothing}
-use Rattle.event_book.specs.BookState.{BookState, empty_book}
-use Rattle.core_windows.specs.Windows.{Window}
+use Rattle.core_scene.specs.Scenes.{SceneState, no_scene}
 use Rattle.core_windows.specs.Stories.{WindowStory, shown_windows}
 use Rattle.acme_core.specs.declared.connection.Connection.{Connection}
 use Rattle.acme_core.specs.declared.connection.Connection.TheVariants.{Undialed}
-use Rattle.acme_core.specs.declared.unsent.Reply.{Reply}
-use Rattle.acme_core.specs.Unsent.{Unsent, nothing_unsent, unsent_at}
+use Rattle.core_outputs.specs.declared.reply.Reply.{Reply}
+use Rattle.core_outputs.specs.Unsent.{Unsent, nothing_unsent, unsent_at}
 
--- the editor as it stands: how many entries were done, its 64 connections, their sessions, fids and waiting reads, the windows, the
--- items and openings of event files, the unsent replies of each connection, and the replies that the last entry made
+-- the editor as it stands: how many entries were done, its 64 connections, their sessions, fids and waiting reads, the scene that steps
+-- play on, the unsent replies of each connection, and the replies that the last entry made
 pub record Present : Type 0 where
   pub entries : ℕ
   pub connections : List Connection
   pub tables : Tables
-  pub windows : List (Option Window)
-  pub book : BookState
+  pub scene : SceneState
   pub unsent : List Unsent
   pub replies : List Reply
 
--- the editor with its windows by all edits that were ever made
+-- the editor with its windows by all edits that were ever made; the rest of the scene, whose windows are left out, is as it stands
 pub record State : Type 0 where
   pub entries : ℕ
   pub connections : List Connection
   pub tables : Tables
   pub windows : List (Option WindowStory)
-  pub book : BookState
+  pub scene : SceneState
   pub unsent : List Unsent
   pub replies : List Reply
 
@@ -36,8 +34,7 @@ present s = record {
   entries = s.entries;
   connections = s.connections;
   tables = s.tables;
-  windows = shown_windows s.windows;
-  book = s.book;
+  scene = record s.scene { windows = shown_windows s.windows };
   unsent = s.unsent;
   replies = s.replies;
 }
@@ -49,7 +46,7 @@ start = record {
   connections = replicate 64 Undialed;
   tables = nothing;
   windows = [];
-  book = empty_book;
+  scene = no_scene;
   unsent = replicate 64 nothing_unsent;
   replies = [];
 }

@@ -32,7 +32,7 @@ pub(crate) fn answer(parts: &Parts, ask: Ask) -> bool
     ensures { result ≡ answer_in (present_of parts.now) ask }
 {
     match ask {
-        Ask::EventOpen(window) => parts.book.is_open(window),
+        Ask::EventOpen(window) => parts.scene.book.is_open(window),
         Ask::Room(conn) => has_room(parts.outputs.count(conn)),
         Ask::Ended(conn) => is_ended(connection_at(&parts.connections, conn)),
     }

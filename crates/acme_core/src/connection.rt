@@ -7,10 +7,11 @@ ghost use Rattle.acme_core.specs.Connections.{connection_at, connections_after, 
 ghost use Rattle.acme_core.specs.Stages.{ended_tables};
 ghost use Rattle.acme_core.specs.declared.doing.Doing.{Doing};
 
-use am_journal::{Ending, Event};
+use crate::kind::Kind;
+use am_journal::Ending;
 use am_text::NoMemory;
-use core_answers::{Effect, EventChange, copy};
 use core_events::{Response, end_reads, forget_cancelled};
+use core_fids::{Effect, EventChange, copy};
 use fid_table::Sessions;
 use std::alloc::Global;
 
@@ -62,40 +63,36 @@ fn set_connection(connections: &mut [Connection], conn: u32, connection: Connect
     }
 }
 
-/// Does an event to the connections. It takes no memory.
-pub(crate) fn change_connections(connections: &mut [Connection], event: &Event)
-    ensures { connections.new ≡ connections_after connections.old event.now }
+/// Does an event of this kind to the connections. It takes no memory.
+pub(crate) fn change_connections(connections: &mut [Connection], kind: Kind)
+    ensures { connections.new ≡ connections_after connections.old kind }
 {
-    match event {
-        Event::Dial { conn } => set_connection(connections, *conn, Connection::Live),
-        Event::Hang { conn, why } => set_connection(connections, *conn, Connection::Ended(*why)),
-        Event::Msg { .. } => {}
-        Event::Took { .. } => {}
-        Event::New => {}
-        Event::Key { .. } => {}
-        Event::Sel { .. } => {}
+    match kind {
+        Kind::Dials { conn } => set_connection(connections, conn, Connection::Live),
+        Kind::Ends { conn, why } => set_connection(connections, conn, Connection::Ended(why)),
+        Kind::Asks { .. } => {}
+        Kind::Takes { .. } => {}
+        Kind::Acts => {}
     }
 }
 
-/// Lets the sessions grow as an event wants it. What they were is kept.
+/// Lets the sessions grow as an event of this kind wants it. What they were is kept.
 pub(crate) fn grow_sessions(
     alloc: Global,
     sessions: &mut Sessions,
-    event: &Event,
+    kind: Kind,
     effect: &Effect,
 ) -> Result<(), NoMemory>
-    requires joined { IsJoinedFor sessions.old.present event.now }
+    requires joined { IsJoinedFor sessions.old.present kind }
     ensures kept { sessions.new.kept ≡ sessions.old.kept }
-    ensures ok { OnOk result (sessions.new.present ≡ grown sessions.old.present event.now effect.now) }
+    ensures ok { OnOk result (sessions.new.present ≡ grown sessions.old.present kind effect.now) }
 {
-    match event {
-        Event::Dial { conn } => sessions.join(*conn),
-        Event::Msg { conn, .. } => put_fid(alloc, sessions, *conn, effect),
-        Event::Hang { .. } => Ok(()),
-        Event::Took { .. } => Ok(()),
-        Event::New => Ok(()),
-        Event::Key { .. } => Ok(()),
-        Event::Sel { .. } => Ok(()),
+    match kind {
+        Kind::Dials { conn } => sessions.join(conn),
+        Kind::Asks { conn, .. } => put_fid(alloc, sessions, conn, effect),
+        Kind::Ends { .. } => Ok(()),
+        Kind::Takes { .. } => Ok(()),
+        Kind::Acts => Ok(()),
     }
 }
 
@@ -132,30 +129,32 @@ fn end_fids(sessions: &mut Sessions, conn: u32, effect: &Effect)
     }
 }
 
-/// Ends the fids that an event frees, and the reads that were answered, in sessions that have grown as it wants it. It takes no memory.
+/// Ends the fids that an event of this kind frees, and the reads that were answered, in sessions that have grown as it wants it. It takes
+/// no memory.
 pub(crate) fn change_sessions(
     sessions: &mut Sessions,
-    event: &Event,
+    kind: Kind,
     effect: &Effect,
     events: EventChange,
     said: &[Response],
 )
-    requires { IsOfJoined sessions.old.present event.now }
-    ensures new { (d : Doing) → d.effect ≡ effect.now → d.events ≡ events → sessions.new ≡ both (ended_tables sessions.old.present event.now d said.now) }
+    requires { IsOfJoined sessions.old.present kind }
+    ensures new { (d : Doing) → d.effect ≡ effect.now → d.events ≡ events → sessions.new ≡ both (ended_tables sessions.old.present kind d said.now) }
     ensures steady { IsSteady sessions.new }
 {
     sessions.keep();
-    match event {
-        Event::Msg { conn, .. } => {
-            end_fids(sessions, *conn, effect);
+    match kind {
+        Kind::Asks { conn, .. } => {
+            end_fids(sessions, conn, effect);
             end_reads(sessions, said);
-            forget_cancelled(sessions, *conn, events);
+            forget_cancelled(sessions, conn, events);
         }
-        Event::Hang { conn, .. } => sessions.hangup(*conn),
-        Event::Dial { .. } => end_reads(sessions, said),
-        Event::Took { .. } => end_reads(sessions, said),
-        Event::New => end_reads(sessions, said),
-        Event::Key { .. } => end_reads(sessions, said),
-        Event::Sel { .. } => end_reads(sessions, said),
+        Kind::Ends { conn, .. } => {
+            sessions.hangup(conn);
+            end_reads(sessions, said);
+        }
+        Kind::Dials { .. } => end_reads(sessions, said),
+        Kind::Takes { .. } => end_reads(sessions, said),
+        Kind::Acts => end_reads(sessions, said),
     }
 }

@@ -9,6 +9,7 @@ ghost use Rattle.core_windows.specs.WindowLaws.{AreNumbered};
 ghost use Rattle.win_text.specs.Bodies.{IsInside};
 ghost use Rattle.acme_core.specs.Addresses.{addr_at, body_at};
 ghost use Rattle.event_book.specs.Laws.{WindowOrder, WhatAFidGets};
+ghost use Rattle.core_events.specs.Sound.{IsIdle};
 ghost use Rattle.acme_core.specs.Asks.{answer_at};
 ghost use Rattle.acme_core.specs.Views.{ledger, view_of};
 
@@ -16,12 +17,13 @@ use crate::asking::answer;
 use crate::parts::Parts;
 use crate::planning::prepare;
 use crate::prepared::Prepared;
-use crate::unsent::reply_at;
 use crate::view::view_of;
 use am_counter::Ask;
 use am_journal::{Event, ItemViews, Journal, Refused, View};
 use am_text::{NoMemory, Range, Roomy};
-use core_windows::{changes_are_lawful, changes_show, group_numbers_never_fall};
+use core_outputs::reply_at;
+use core_scene::deeds_show;
+use core_windows::{changes_are_lawful, group_numbers_never_fall};
 use std::alloc::Global;
 use std::marker::Model;
 
@@ -106,8 +108,7 @@ impl Core {
         let Some(prepared) = self.prepared.take() else {
             unreachable!()
         };
-        changes_show();
-        changes_are_lawful();
+        deeds_show();
         let event = self.parts.apply(self.alloc, prepared);
         self.journal.put(event);
         self.journal.len() as u64
@@ -151,7 +152,7 @@ impl Core {
         ensures exact { result ≡ addr_at self.now.journal window }
         ensures inside { IfSome result (IsInside (body_at self.now.journal window)) }
     {
-        self.parts.windows.kept_addr(window)
+        self.parts.scene.windows.kept_addr(window)
     }
 
     /// Answers a question to the journal. It takes no memory.
@@ -176,7 +177,7 @@ impl Core {
     pub fn ledger(&self) -> Result<ItemViews, NoMemory>
         ensures { IfOk result (λ views. views ≡ ledger self.now.journal) }
     {
-        self.parts.book.kept_ledger()
+        self.parts.scene.book.kept_ledger()
     }
 
     /// In each journal of a core each event is lawful, and was enabled after those before it.
@@ -207,18 +208,26 @@ impl Core {
     /// each was taken or dropped never falls, and an item pends only while its event file is open.
     #[tactic(auto, using(crate::proofs::Ordered::book_laws))]
     pub fn window_order(&self)
-        ensures { WindowOrder (run self.now.journal).book }
+        ensures { WindowOrder (run self.now.journal).scene.book }
     {
-        self.parts.book.is_lawful();
+        self.parts.scene.book.is_lawful();
     }
 
     /// In each journal of a core what an open opening was given, with what it has left, is the joined spelling of the items that it
     /// took.
     #[tactic(auto, using(crate::proofs::Ordered::book_laws))]
     pub fn what_a_fid_gets(&self)
-        ensures { WhatAFidGets (run self.now.journal).book }
+        ensures { WhatAFidGets (run self.now.journal).scene.book }
     {
-        self.parts.book.is_lawful();
+        self.parts.scene.book.is_lawful();
+    }
+
+    /// In each journal of a core no read of an event file waits that could be answered: what each waits for hasn't come yet.
+    #[tactic(auto, using(crate::proofs::Idling::idling))]
+    pub fn no_waiting_read_can_be_answered(&self)
+        ensures { IsIdle (run self.now.journal).scene.book }
+    {
+        let _entries = self.journal.len();
     }
 
     /// The number of an entry is its place in the journal, from 1.

@@ -8,13 +8,13 @@ mod doing;
 mod editor;
 mod enabled;
 mod growing;
+mod kind;
 mod laws;
 mod origin;
 mod parts;
 mod planning;
 mod prepared;
 mod typing;
-mod unsent;
 mod view;
 
 pub use am_counter::Ask;
@@ -24,7 +24,7 @@ pub use am_journal::{
 };
 pub use am_text::{Bytes, Items, NoMemory, Range, Rune, Runes};
 pub use core_answers::messages_are_answered;
+pub use core_outputs::Reply;
 pub use editor::{Core, Plan};
 pub use laws::journals_tell_connections;
 pub use ninep_types::{RBody, RMsg, TBody, TMsg};
-pub use unsent::Reply;

@@ -2,28 +2,29 @@
 
 ghost use Rattle.std.specs.Prelude.{◌≡◌, [], false, None, IfOk};
 ghost use Rattle.std.specs.List.{list_any};
-ghost use Rattle.am_text.specs.Twice.{both};
+ghost use Rattle.am_text.specs.Twice.{both, IsSteady};
 ghost use Rattle.am_journal.specs.Lawful.{IsLawful};
 ghost use Rattle.fid_table.specs.Tables.{is_waiting};
+ghost use Rattle.core_scene.specs.Scenes.{kept_of, scene_in};
 ghost use Rattle.core_events.specs.Sound.{IsSound};
 ghost use Rattle.acme_core.specs.declared.doing.Doing.{Doing};
 ghost use Rattle.acme_core.specs.Doings.{enabled_at, is_version, is_tag_used};
 ghost use Rattle.acme_core.specs.Parts.{present_of, AreSteady, HasReady};
 ghost use Rattle.acme_core.specs.Run.{is_hang};
-ghost use Rattle.acme_core.specs.Stages.{after};
+ghost use Rattle.acme_core.specs.Stages.{after, left_unsent};
 ghost use Rattle.acme_core.specs.States.{start, present};
 
 use crate::closing::change_book;
 use crate::connection::{Connection, change_connections, change_sessions, connection_at};
 use crate::enabled::{dial_refusal, live_refusal, msg_refusal, new_refusal, took_refusal};
+use crate::kind::{Kind, kind_of};
 use crate::prepared::Prepared;
 use crate::typing::{key_refusal, sel_refusal};
-use crate::unsent::{Outputs, Reply};
 use acme_tree::is_full;
 use am_journal::{Event, Why};
 use am_text::NoMemory;
-use core_events::Book;
-use core_windows::Windows;
+use core_outputs::{Outputs, Reply};
+use core_scene::Scene;
 use fid_table::Sessions;
 use ninep_types::{TBody, TMsg};
 use ninep_wire::t_size;
@@ -39,8 +40,7 @@ pub struct Parts {
     pub entries: u64,
     pub connections: Vec<Connection>,
     pub sessions: Sessions,
-    pub windows: Windows,
-    pub book: Book,
+    pub scene: Scene,
     pub outputs: Outputs,
     /// The replies that the last entry made.
     pub replies: Vec<Reply>,
@@ -77,6 +77,20 @@ fn is_tag_used(sessions: &Sessions, conn: u32, msg: &TMsg) -> bool
     !is_version(&msg.body) && sessions.waits(conn, msg.tag)
 }
 
+// Takes the replies of a connection, where an event of this kind does.
+fn take_replies(alloc: Global, outputs: &mut Outputs, kind: Kind)
+    requires { IsSteady outputs.old }
+    ensures { outputs.new ≡ both (left_unsent outputs.old.present kind) }
+{
+    match kind {
+        Kind::Takes { conn } => outputs.take(alloc, conn),
+        Kind::Dials { .. } => {}
+        Kind::Asks { .. } => {}
+        Kind::Ends { .. } => {}
+        Kind::Acts => {}
+    }
+}
+
 impl Parts {
     /// The tables of the empty editor.
     pub(crate) fn new(alloc: Global) -> Result<Parts, NoMemory>
@@ -87,20 +101,18 @@ impl Parts {
             entries: 0,
             connections: vec![in alloc; Connection::Undialed; CONNS]?,
             sessions: Sessions::new(alloc)?,
-            windows: Windows::new(alloc)?,
-            book: Book::new(alloc),
+            scene: Scene::new(alloc)?,
             outputs: Outputs::new(alloc)?,
             replies: Vec::new(alloc),
         })
     }
 
     /// Takes back what was made ready for an event that wasn't done. It takes no memory.
-    pub(crate) fn back(&mut self)
-        ensures new { self.new ≡ record self.old { sessions = both self.old.sessions.kept; windows = both self.old.windows.kept; book = both self.old.book.kept; outputs = both self.old.outputs.kept } }
+    pub(crate) fn back(&mut self, alloc: Global)
+        ensures new { self.new ≡ record self.old { sessions = both self.old.sessions.kept; scene = scene_in (kept_of self.old.scene); outputs = both self.old.outputs.kept } }
     {
         self.sessions.back();
-        self.windows.back();
-        self.book.back();
+        self.scene.back(alloc);
         self.outputs.back();
     }
 
@@ -124,11 +136,11 @@ impl Parts {
                 connection_at(&self.connections, *conn),
                 self.outputs.count(*conn),
             ),
-            Event::New => new_refusal(is_full(self.windows.world())),
+            Event::New => new_refusal(is_full(self.scene.windows.world())),
             Event::Key { window, side, text } => {
-                key_refusal(&self.windows, *window, *side, text.as_slice())
+                key_refusal(&self.scene.windows, *window, *side, text.as_slice())
             }
-            Event::Sel { window, range } => sel_refusal(&self.windows, *window, *range),
+            Event::Sel { window, range } => sel_refusal(&self.scene.windows, *window, *range),
         }
     }
 
@@ -137,7 +149,7 @@ impl Parts {
         requires { (d : Doing) × HasReady self.old prepared d }
         ensures event { result ≡ prepared.event }
         ensures state { (d : Doing) → HasReady self.old prepared d → present_of self.new ≡ after (present_of self.old) prepared.event d }
-        ensures sound { IsSound self.new.entries self.new.book.kept }
+        ensures sound { IsSound self.new.entries self.new.scene.book.kept }
         ensures steady { AreSteady self.new }
     {
         let Prepared {
@@ -145,24 +157,25 @@ impl Parts {
             at,
             effect,
             events,
-            deletes,
+            deleted,
             said,
             replies,
         } = prepared;
-        change_connections(self.connections.as_mut_slice(), &event);
+        let kind = kind_of(&event);
+        change_connections(self.connections.as_mut_slice(), kind);
+        self.scene.keep(alloc);
         change_book(
-            &mut self.book,
+            &mut self.scene.book,
             &self.sessions,
-            &event,
+            kind,
             &effect,
             events,
-            deletes,
+            deleted.as_slice(),
             at,
         );
-        change_sessions(&mut self.sessions, &event, &effect, events, said.as_slice());
-        self.windows.keep();
+        change_sessions(&mut self.sessions, kind, &effect, events, said.as_slice());
         self.outputs.keep();
-        self.outputs.take(alloc, &event);
+        take_replies(alloc, &mut self.outputs, kind);
         self.replies = replies;
         self.entries = at;
         event

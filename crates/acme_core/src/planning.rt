@@ -3,7 +3,8 @@
 ghost use Rattle.std.specs.Prelude.{◌≡◌, ◌+◌, ◌<◌, ◌≤◌, ◌^◌, [], true, false, None, length, IfOk, IfErr, OnErr};
 ghost use Rattle.am_journal.specs.Lawful.{IsLawful};
 ghost use Rattle.acme_core.specs.Connections.{live_count, IsJoinedFor};
-ghost use Rattle.core_events.specs.Sound.{IsSound};
+ghost use Rattle.core_events.specs.Sound.{IsSound, IsIdle};
+ghost use Rattle.acme_core.specs.Kinds.{kind_of};
 ghost use Rattle.acme_core.specs.Doings.{enabled_at, doing_of};
 ghost use Rattle.acme_core.specs.Kept.{AreSound, IsPrepared, HasEntries};
 ghost use Rattle.acme_core.specs.Parts.{present_of, AreSteady, HasReady};
@@ -15,7 +16,7 @@ use crate::parts::{Parts, is_hang};
 use crate::prepared::Prepared;
 use am_journal::{Event, Refused};
 use am_text::{Items, NoMemory, Roomy};
-use core_answers::{Effect, EventChange};
+use core_fids::{Effect, EventChange};
 use std::alloc::Global;
 
 // Makes an enabled event ready.
@@ -45,12 +46,12 @@ fn ready(
 }
 
 // A hang-up, whose entry was reserved. It takes no memory.
-#[tactic(auto, using(crate::proofs::Hangs::hang_ready, crate::proofs::Joins::joined))]
 fn hanging(alloc: Global, parts: &Parts, event: Event) -> Prepared
     requires hang { is_hang event ≡ true }
-    requires joined { IsJoinedFor parts.now.sessions.kept event }
+    requires joined { IsJoinedFor parts.now.sessions.kept (kind_of event) }
     requires steady { AreSteady parts.now }
-    requires sound { IsSound parts.now.entries parts.now.book.kept }
+    requires sound { IsSound parts.now.entries parts.now.scene.book.kept }
+    requires idle { IsIdle parts.now.scene.book.kept }
     requires numbers { parts.now.entries + 1 < 2 ^ 64 }
     ensures event { result.event ≡ event }
     ensures ready { HasReady parts.now result (doing_of (present_of parts.now) event) }
@@ -60,7 +61,7 @@ fn hanging(alloc: Global, parts: &Parts, event: Event) -> Prepared
         at: parts.entries + 1,
         effect: Effect::Nothing,
         events: EventChange::Nothing,
-        deletes: None,
+        deleted: Items::new(alloc),
         said: Items::new(alloc),
         replies: Vec::new(alloc),
     }
@@ -87,7 +88,7 @@ pub(crate) fn prepare(
     ensures hang { IsHang event → IfErr result IsWhy }
     ensures steady { OnErr result (AreSteady parts.new) }
 {
-    parts.back();
+    parts.back(alloc);
     if let Some(why) = parts.why_not(&event) {
         return Err(Refused::NotEnabled(why));
     }
@@ -97,7 +98,7 @@ pub(crate) fn prepare(
     match ready(alloc, journal, parts, event) {
         Ok(prepared) => Ok(prepared),
         Err(NoMemory) => {
-            parts.back();
+            parts.back(alloc);
             Err(Refused::NoMemory)
         }
     }

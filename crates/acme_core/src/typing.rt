@@ -2,7 +2,7 @@
 
 ghost use Rattle.std.specs.Prelude.{◌≡◌, ◌+◌, ◌-◌, ◌≤◌, ◌<◌, ◌==◌, ◌&&◌, ◌∷◌, [], nat_le, if◌then◌else◌, IfOk, None, length};
 ghost use Rattle.core_windows.specs.Panes.{window_of};
-ghost use Rattle.core_answers.specs.Done.{CanBeMade};
+ghost use Rattle.core_fids.specs.Done.{CanBeMade};
 ghost use Rattle.core_windows.specs.declared.change.Change.TheVariants as change;
 ghost use Rattle.core_windows.specs.Windows.{window_at};
 ghost use Rattle.core_answers.specs.Erring.{fits_tag};

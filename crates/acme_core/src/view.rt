@@ -74,8 +74,12 @@ pub(crate) fn view_of(alloc: Global, entries: u64, parts: &Parts) -> Result<View
     Ok(View {
         entries,
         conns: conn_views(alloc, &parts.connections)?,
-        windows: window_views(alloc, parts.windows.panes(), parts.windows.world().next)?,
-        items: parts.book.kept_ledger()?,
+        windows: window_views(
+            alloc,
+            parts.scene.windows.panes(),
+            parts.scene.windows.world().next,
+        )?,
+        items: parts.scene.book.kept_ledger()?,
         jobs: Items::new(alloc),
     })
 }

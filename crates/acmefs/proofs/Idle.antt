@@ -1,6 +1,7 @@
 -- What holds where nothing is done.
 use Rattle.std.proofs.Common.{◌≡◌, inl, inr, ℕ, List, [], ◌++◌, Option, Some, None, ◌∙◌, refl, sym, ap, subst, arith}
 use Rattle.std.proofs.lemmas.List.{append-nil}
+use Rattle.std.specs.Prelude.{IfSome}
 use Rattle.am_base.specs.Outside.{AreTold, told_then}
 use Rattle.am_base.specs.Written.{Output}
 use Rattle.am_journal.specs.declared.event.Event.{Event}
@@ -17,7 +18,7 @@ use Rattle.acmefs.specs.declared.replay.End.{End}
 use Rattle.acmefs.specs.declared.replay.End.TheVariants as end
 use Rattle.acmefs.specs.Scripts as scripts
 use Rattle.acmefs.specs.Scripts.{script_of, replied_from, text_of}
-use Rattle.acmefs.specs.Ends.{RanOut, RanTold, Says, Drilled, code_of, serve_code}
+use Rattle.acmefs.specs.Ends.{IsComplete, RanOut, RanTold, Says, Drilled, code_of, serve_code}
 use Rattle.acmefs.specs.Own.{PutsOwn, RoundTrips}
 use Rattle.acmefs.proofs.RoundTrip as round
 
@@ -43,6 +44,11 @@ ran_out script o journal silent none = subst (RanOut script o) (sym none) (recor
 pub no_memory : (told : Option (List ℕ)) (o : Output) (journal : List Event) → o.held_now ≡ o.held → journal ≡ [] → RanTold end.NoMemory told o journal
 no_memory None o journal silent none = tt
 no_memory (Some bytes) o journal silent none = ran_out (script_of bytes) o journal silent none
+
+pub complete : (status : ℕ) (told : Option (List ℕ)) (before now : ℕ) (o : Output) (journal : List Event) → status ≡ 6
+    → IfSome told (λ bytes. IsComplete status (script_of bytes) before now o journal)
+complete status None before now o journal is = tt
+complete status (Some bytes) before now o journal is = λ none in_ok out_ok. inr is
 
 bytes_in : Option (List ℕ) → List ℕ
 bytes_in None = []

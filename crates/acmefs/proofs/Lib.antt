@@ -14,3 +14,4 @@ pub mod OneWord
 pub mod PackBack
 pub mod TraceEnds
 pub mod PackEnds
+pub mod Does

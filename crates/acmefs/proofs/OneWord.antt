@@ -1,7 +1,7 @@
 -- One word asks for one thing.
 use Rattle.std.proofs.Common.{◌≡◌, ℕ, true, false, List, [], ◌∷◌, codes, None, Some, refl, sym, ap, ◌∙◌}
 use Rattle.std.proofs.lemmas.Slice.Eq.{bytes_eq-Decides}
-use Rattle.am_words.specs.Words.{are_alone, are_pack, are_replay, are_trace, asks_drill, asks_serve}
+use Rattle.am_words.specs.Words.{are_alone, are_pack, are_replay, are_trace, asks_do, asks_drill, asks_serve}
 
 alone_is : (name : List ℕ) (words : List (List ℕ)) → are_alone name words ≡ true → words ≡ name ∷ []
 alone_is name [] h = absurd cc
@@ -28,6 +28,9 @@ trace_no_drill words t = ap asks_drill (trace_is words t)
 pub trace_no_serving : (words : List (List ℕ)) → are_trace words ≡ true → asks_serve words ≡ None
 trace_no_serving words t = ap asks_serve (trace_is words t)
 
+pub trace_no_do : (words : List (List ℕ)) → are_trace words ≡ true → asks_do words ≡ None
+trace_no_do words t = ap asks_do (trace_is words t)
+
 -- ---- packing
 
 pub pack_no_replay : (words : List (List ℕ)) → are_pack words ≡ true → are_replay words ≡ true → ⊥
@@ -38,3 +41,6 @@ pack_no_drill words p = ap asks_drill (pack_is words p)
 
 pub pack_no_serving : (words : List (List ℕ)) → are_pack words ≡ true → asks_serve words ≡ None
 pack_no_serving words p = ap asks_serve (pack_is words p)
+
+pub pack_no_do : (words : List (List ℕ)) → are_pack words ≡ true → asks_do words ≡ None
+pack_no_do words p = ap asks_do (pack_is words p)

@@ -20,7 +20,7 @@ use Rattle.ninep_trace.proofs.OneLine.{words_in_lines, words_no_report}
 use Rattle.am_pack.specs.declared.packing.Packing.{Packing}
 use Rattle.am_pack.specs.Packing.{all_of, pack, pack_line, pack_limit, packing_of}
 use Rattle.am_pack.proofs.Packings.{short_text}
-use Rattle.acme_core.specs.declared.unsent.Reply.{Reply}
+use Rattle.core_outputs.specs.declared.reply.Reply.{Reply}
 use Rattle.acme_core.specs.Run.{step}
 use Rattle.acme_core.specs.States.{State, start}
 use Rattle.acme_core.specs.Views.{view_of}

@@ -13,7 +13,7 @@ use Rattle.am_counter.specs.Played.{ArePlayed}
 use Rattle.am_journal.specs.declared.event.Event.{Event}
 use Rattle.am_journal.specs.Lawful.{IsLawful}
 use Rattle.am_journal.specs.Texts.{refused_text}
-use Rattle.acme_core.specs.declared.unsent.Reply.{Reply}
+use Rattle.core_outputs.specs.declared.reply.Reply.{Reply}
 use Rattle.acme_core.specs.Run.{step, run, enabled}
 use Rattle.acme_core.specs.States.{State, start}
 use Rattle.acmefs.specs.declared.replay.End.{End}

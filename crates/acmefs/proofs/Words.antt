@@ -1,8 +1,11 @@
 -- Words ask for one thing.
-use Rattle.std.proofs.Common.{◌≡◌, ℕ, true, List, [], ◌∷◌, Option, Some, None, ◌∙◌, refl, sym, ap, subst}
+use Rattle.std.proofs.Common.{◌≡◌, ℕ, Bool, true, false, cond, List, [], ◌∷◌, Option, Some, None, ◌∙◌, refl, sym, ap, subst, codes}
+use Rattle.std.proofs.lemmas.Slice.Eq.{bytes_eq-Decides}
+use Rattle.std.specs.Str.{bytes_eq}
 use Rattle.std.specs.Prelude.{IfSome, IfNone}
 use Rattle.am_words.specs.declared.asked.Asked.{Asked}
-use Rattle.am_words.specs.Words.{are_replay, asks_drill, asks_serve, AsksFor, AreKnown}
+use Rattle.am_words.specs.declared.asked.Tree.{Tree}
+use Rattle.am_words.specs.Words.{are_replay, asks_do, asks_drill, asks_serve, in_two, AsksFor, AreKnown}
 
 -- what was read is asked for
 pub asked_at : (words list : List (List ℕ)) (read : Option Asked) (x y : Asked) → read ≡ Some x → x ≡ y → list ≡ words → IfSome read (AsksFor list) → AsksFor words y
@@ -52,3 +55,35 @@ rounds_once words a b h k = let e : Some a ≡ Some b = sym h ∙ k in ap (round
     rounds_in : ℕ → Option ℕ → ℕ
     rounds_in other None = other
     rounds_in other (Some x) = x
+
+-- ---- doing lines
+
+pub replay_no_do : (words : List (List ℕ)) → are_replay words ≡ true → asks_do words ≡ None
+replay_no_do [] h = refl
+replay_no_do (word ∷ []) h = refl
+replay_no_do (word ∷ other ∷ words) h = absurd (cc)
+
+pub drill_no_do : (words : List (List ℕ)) (rounds : ℕ) → asks_drill words ≡ Some rounds → asks_do words ≡ None
+drill_no_do [] rounds h = refl
+drill_no_do (command ∷ []) rounds h = refl
+drill_no_do (command ∷ number ∷ []) rounds h = refl
+drill_no_do (command ∷ number ∷ other ∷ words) rounds h = absurd (cc)
+
+pub serve_no_do : (words : List (List ℕ)) (x : List ℕ × ℕ) → asks_serve words ≡ Some x → asks_do words ≡ None
+serve_no_do [] x h = refl
+serve_no_do (command ∷ []) x h = refl
+serve_no_do (command ∷ a ∷ []) x h = refl
+serve_no_do (command ∷ a ∷ b ∷ []) x h = by_word (bytes_eq command (codes "serve")) refl h
+  where
+    by_word : (t : Bool) → bytes_eq command (codes "serve") ≡ t → cond t (in_two a b) None ≡ Some x → asks_do (command ∷ a ∷ b ∷ []) ≡ None
+    by_word false e h = absurd cc
+    by_word true e h = ap (λ (word : List ℕ). asks_do (word ∷ a ∷ b ∷ [])) ((bytes_eq-Decides command (codes "serve")).0 e)
+serve_no_do (command ∷ a ∷ b ∷ c ∷ words) x h = refl
+
+-- one tree is asked for
+pub tree_once : (words : List (List ℕ)) (p q : List ℕ) (a b : Tree) → asks_do words ≡ Some (p, a) → asks_do words ≡ Some (q, b) → a ≡ b
+tree_once words p q a b h k = let e : Some (p, a) ≡ Some (q, b) = sym h ∙ k in ap (tree_in a) e
+  where
+    tree_in : Tree → Option (List ℕ × Tree) → Tree
+    tree_in other None = other
+    tree_in other (Some x) = x.1

@@ -5,3 +5,5 @@ pub mod Ends
 pub mod Own
 pub mod Traces
 pub mod Packs
+pub mod Does
+pub mod Top

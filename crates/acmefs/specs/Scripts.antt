@@ -9,7 +9,7 @@ use Rattle.am_journal.specs.Journal.{is_report}
 use Rattle.am_journal.specs.Line.{event_of}
 use Rattle.am_journal.specs.Report.{report_text}
 use Rattle.am_journal.specs.Texts.{reply_text, refused_text, word_of}
-use Rattle.acme_core.specs.declared.unsent.Reply.{Reply}
+use Rattle.core_outputs.specs.declared.reply.Reply.{Reply}
 use Rattle.acme_core.specs.Run.{step, enabled}
 use Rattle.acme_core.specs.States.{State, start}
 use Rattle.acme_core.specs.Views.{view_of}

@@ -10,7 +10,7 @@ use Rattle.am_base.specs.Written.{Output, IsWhole, IsCut, IsPut}
 use Rattle.am_journal.specs.declared.event.Event.{Event}
 use Rattle.am_journal.specs.Journal.{journal_text}
 use Rattle.ninep_trace.specs.Words.{event_words, words_r, IsReply, IsReplyInRange}
-use Rattle.acme_core.specs.declared.unsent.Reply.{Reply}
+use Rattle.core_outputs.specs.declared.reply.Reply.{Reply}
 use Rattle.acme_core.specs.Run.{step}
 use Rattle.acme_core.specs.States.{State, start}
 use Rattle.am_pack.specs.Packing.{all_of, pack_limit, packed_text, packing_of}

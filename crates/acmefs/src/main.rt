@@ -1,10 +1,14 @@
 //! acmefs: the files of Acme over 9P2000.
 #![tactic(auto)]
 
+mod asked;
+mod doing;
 mod drill;
+mod outcome;
 mod program;
 mod replay;
 mod script;
+mod serving;
 mod trace;
 
 use am_base::{InputSource, OutputSink, UnixHost};

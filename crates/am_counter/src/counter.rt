@@ -65,7 +65,7 @@ pub trait Counter {
         ensures hang { IsHang event → IfErr result IsWhy };
 
     /// Takes the unsent replies of a connection in one turn, all of them, into `into`. Where there is none, or memory runs
-    /// out, nothing changes but what the seat has seen.
+    /// out, nothing changes but what the seat has seen. A connection that was never dialled has none yet, whatever its number.
     fn take<R: Wait>(
         &self,
         rt: &R,
@@ -74,7 +74,6 @@ pub trait Counter {
         into: &mut Bytes,
     ) -> Result<Taken, NoMemory>
         requires fits { fits self.now seat.old }
-        requires conn { conn < 64 }
         ensures fits { fits self.now seat.new }
         ensures played { IsPlayed enabled (known seat.new).seen }
         ensures bytes { result ≡ Ok taken.Bytes → TakesBytes enabled unsent (known seat.old) conn into.new (known seat.new) }

@@ -2,7 +2,7 @@
 use Rattle.std.proofs.Common.{◌≡◌, ℕ, zero, suc, ◌+◌, ◌<◌, Bool, true, List, [], ◌∷◌, ◌∙◌, length, map, drop, Some, None, refl, sym, ap, arith}
 use Rattle.std.specs.Prelude.{slice_get, slice_set}
 use Rattle.am_counter.specs.Telling.{with_told}
-use Rattle.acme_core.specs.declared.unsent.Reply.{Reply}
+use Rattle.core_outputs.specs.declared.reply.Reply.{Reply}
 
 pub reply_below : (replies : List Reply) (k : ℕ) (reply : Reply) → slice_get replies k ≡ Some reply → k < length replies
 reply_below [] k reply e = absurd cc

@@ -1,7 +1,7 @@
 -- Whom the last entry of a journal replied to.
 use Rattle.std.specs.Prelude.{ℕ, List, map}
 use Rattle.am_journal.specs.declared.event.Event.{Event}
-use Rattle.acme_core.specs.declared.unsent.Reply.{Reply}
+use Rattle.core_outputs.specs.declared.reply.Reply.{Reply}
 use Rattle.acme_core.specs.Run.{run}
 
 -- the connections that the last entry replied to, in the order of its replies

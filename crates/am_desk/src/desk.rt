@@ -88,7 +88,7 @@ impl Desk {
     }
 
     /// Takes the unsent replies of a connection in one turn, all of them, into `into`. Where there is none, or memory runs
-    /// out, nothing changes but what the seat has seen.
+    /// out, nothing changes but what the seat has seen. A connection that was never dialled has none yet, whatever its number.
     pub fn take<R: Wait>(
         &self,
         rt: &R,
@@ -97,7 +97,6 @@ impl Desk {
         into: &mut Bytes,
     ) -> Result<Taken, NoMemory>
         requires lock { seat_lock seat.old ≡ desk_id self.now }
-        requires conn { conn < 64 }
         ensures lock { seat_lock seat.new ≡ seat_lock seat.old }
         ensures played { IsPlayed enabled (known_of seat.new).seen }
         ensures bytes { result ≡ Ok taken.Bytes → TakesBytes enabled output_at (known_of seat.old) conn into.new (known_of seat.new) }

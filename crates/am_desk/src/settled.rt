@@ -17,6 +17,9 @@ use am_counter::{Taken, Told};
 use std::alloc::Global;
 use turn_lock::Kept;
 
+/// How many connections there are.
+const CONNECTIONS: u32 = 64;
+
 /// A core without a plan that waits, with fewer than 2^64 entries, each number of which fits its field.
 #[derive(Drop)]
 pub struct Settled {
@@ -129,8 +132,8 @@ impl Settled {
         Items::copied(self.alloc, self.core.output(conn))
     }
 
-    /// Takes the unsent replies of a connection into `into`, if there are any.
-    pub fn take(&mut self, conn: u32, into: &mut Bytes) -> Result<Taken, NoMemory>
+    // Takes the unsent replies of one of the connections that there are.
+    fn take_within(&mut self, conn: u32, into: &mut Bytes) -> Result<Taken, NoMemory>
         requires { conn < 64 }
         ensures played { IsPlayed enabled (journal_of self.new) }
         ensures bytes { result ≡ Ok taken.Bytes → (journal_of self.new ≡ journal_of self.old ++ Took conn ∷ [])
@@ -154,6 +157,25 @@ impl Settled {
             }
             Err(_) => Err(NoMemory),
         }
+    }
+
+    /// Takes the unsent replies of a connection into `into`, if there are any.
+    pub fn take(&mut self, conn: u32, into: &mut Bytes) -> Result<Taken, NoMemory>
+        ensures played { IsPlayed enabled (journal_of self.new) }
+        ensures bytes { result ≡ Ok taken.Bytes → (journal_of self.new ≡ journal_of self.old ++ Took conn ∷ [])
+            × (enabled (journal_of self.old) (Took conn) ≡ None)
+            × (into.new ≡ output_at (journal_of self.old) conn) × (output_at (journal_of self.old) conn ≢ []) }
+        ensures nothing_yet { result ≡ Ok taken.NothingYet → (journal_of self.new ≡ journal_of self.old) × (into.new ≡ into.old)
+            × (answer_at (journal_of self.old) (ask.Ended conn) ≡ false) × (output_at (journal_of self.old) conn ≡ []) }
+        ensures ended { result ≡ Ok taken.Ended → (journal_of self.new ≡ journal_of self.old) × (into.new ≡ into.old)
+            × (answer_at (journal_of self.old) (ask.Ended conn) ≡ true) × (output_at (journal_of self.old) conn ≡ []) }
+        ensures err { OnErr result ((journal_of self.new ≡ journal_of self.old) × (into.new ≡ into.old)) }
+    {
+        if conn >= CONNECTIONS {
+            self.core.events_were_enabled();
+            return Ok(Taken::NothingYet);
+        }
+        self.take_within(conn, into)
     }
 
     /// The core, at the end.

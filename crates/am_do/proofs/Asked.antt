@@ -134,6 +134,14 @@ lacks most body fits = rw (fits, nothing) refl
 left_told : (most : ℕ) (body : TBody) (e : Ends) → nat_lt most (size_t body) ≡ false → e.held_now ≡ told_then e.held (spelled body) → IsLeft (asks most body []) e []
 left_told most body e fits put = subst (λ (x : Told Reply). IsLeft x e []) (sym (lacks most body fits)) (record { lacks = refl; put = put; said = refl })
 
+-- where it isn't there whole
+short : (most : ℕ) (body : TBody) (unread : List ℕ) → nat_lt most (size_t body) ≡ false → cut_of unread ≡ More → asks most body unread ≡ record { sent = spelled body; text = []; got = Lacks }
+unfolding asks
+short most body unread fits more = rw (fits, more) refl
+
+left_short : (most : ℕ) (body : TBody) (unread : List ℕ) (e : Ends) → nat_lt most (size_t body) ≡ false → cut_of unread ≡ More → e.held_now ≡ told_then e.held (spelled body) → IsLeft (asks most body unread) e []
+left_short most body unread e fits more put = subst (λ (x : Told Reply). IsLeft x e []) (sym (short most body unread fits more)) (record { lacks = refl; put = put; said = refl })
+
 -- what stands at the front is at fault
 wire_got : (f : WireFault) (c : Cut) (body : TBody) (bytes : List ℕ) → front_at c body bytes ≡ Some (fault.Wire f) → front_got c body bytes ≡ Faulty (fault.Wire f)
 wire_got f Whole body bytes e =
@@ -216,7 +224,7 @@ halted_fault fault.Ended g t after body o i ready is h =
 halted_fault fault.Torn g t after body o i ready is h =
     let same : fault.Torn ≡ g = cc in
     subst (λ (x : CallFault). Halted (stop.Fault x) (asks t.msize body) t (ends o.held o.held_now o.faults o.faults_now i.left i.left_now i.faults i.faults_now) []) same
-    (halted_stopped fault.Torn t after body o i ready (λ fits. (left_told t.msize body _ fits h.put, h.cause.0, h.cause.1, h.cause.2)) h)
+    (halted_stopped fault.Torn t after body o i ready (λ fits. (left_told t.msize body _ fits h.put, left_short t.msize body after.unread _ fits h.cause.1 h.put, h.cause.0, h.cause.1, h.cause.2)) h)
 halted_fault (fault.Wire f) g t after body o i ready is h =
     let same : fault.Wire f ≡ g = cc in
     subst (λ (x : CallFault). Halted (stop.Fault x) (asks t.msize body) t (ends o.held o.held_now o.faults o.faults_now i.left i.left_now i.faults i.faults_now) []) same

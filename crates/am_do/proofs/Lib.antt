@@ -6,3 +6,5 @@ pub mod Lines
 pub mod Parts
 pub mod Begun
 pub mod Ran
+pub mod Steady
+pub mod Completing

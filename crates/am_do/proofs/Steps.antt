@@ -44,7 +44,7 @@ module _ {A B : Type 0} where
 -- ---- a talk that stops in its first part
 
 module _ {A B : Type 0} where
-  got_first : (told : Told A) (two : A → List ℕ → Told B) (g : Got A) → told.got ≡ g → and_then told two ≡ then_got told.sent told.text g two
+  pub got_first : (told : Told A) (two : A → List ℕ → Told B) (g : Got A) → told.got ≡ g → and_then told two ≡ then_got told.sent told.text g two
   got_first told two g e = ap (λ (x : Got A). then_got told.sent told.text x two) e
 
   left_first : (told : Told A) (two : A → List ℕ → Told B) (e : Ends) (text : List ℕ) → IsLeft told e text → IsLeft (and_then told two) e text
@@ -72,7 +72,7 @@ module _ {A B : Type 0} where
   stops_first : (end : Stop) (used all : Told A) (two : A → List ℕ → Told B) (unread : List ℕ) (e : Ends) (text : List ℕ) → StopsFor end used all unread e text → StopsFor end (and_then used two) (and_then all two) unread e text
   stops_first stop.Refused used all two unread e text h = refused_first used two e text h
   stops_first (stop.Fault fault.Ended) used all two unread e text h = (left_first used two e text h.0, h.1, h.2)
-  stops_first (stop.Fault fault.Torn) used all two unread e text h = (left_first used two e text h.0, h.1, h.2, h.3)
+  stops_first (stop.Fault fault.Torn) used all two unread e text h = (left_first used two e text h.0, left_first all two e text h.1, h.2, h.3, h.4)
   stops_first (stop.Fault fault.ReadFault) used all two unread e text h = (left_first used two e text h.0, h.1, h.2)
   stops_first (stop.Fault fault.WriteFault) used all two unread e text h = cut_first used two e text h
   stops_first (stop.Fault (fault.Wire f)) used all two unread e text h = faulty_first (fault.Wire f) all two e text h
@@ -109,7 +109,8 @@ module _ {B : Type 0} where
       → StopsFor end used all unread e said → StopsFor end (behind sent text used) (behind sent text all) unread (before h f l a e) (text ++ said)
   stops_behind stop.Refused sent text used all unread h l f a e said p s r x = record { refused = x.refused; put = put_then h e.held e.held_now sent used.sent p x.put; said = ap (λ (u : List ℕ). text ++ u) x.said }
   stops_behind (stop.Fault fault.Ended) sent text used all unread h l f a e said p s r x = (left_behind sent text used h l f a e said p x.0, x.1, x.2)
-  stops_behind (stop.Fault fault.Torn) sent text used all unread h l f a e said p s r x = (left_behind sent text used h l f a e said p x.0, x.1, x.2, x.3)
+  stops_behind (stop.Fault fault.Torn) sent text used all unread h l f a e said p s r x =
+      (left_behind sent text used h l f a e said p x.0, left_behind sent text all h l f a e said p x.1, x.2, x.3, x.4)
   stops_behind (stop.Fault fault.ReadFault) sent text used all unread h l f a e said p s r x = (left_behind sent text used h l f a e said p x.0, x.1, risen_later a e.source_faults e.source_faults_now r x.2)
   stops_behind (stop.Fault fault.WriteFault) sent text used all unread h l f a e said p s r x = record {
     lacks = x.lacks;

@@ -3,3 +3,4 @@ pub mod Sorting
 pub mod Went
 pub mod Written
 pub mod Ends
+pub mod Complete

@@ -89,7 +89,7 @@ module _ {A : Type 0} where
   abbrev pub StopsFor : Stop → Told A → Told A → List ℕ → Ends → List ℕ → Type 0
   StopsFor stop.Refused used all unread e text = IsRefused used e text
   StopsFor (stop.Fault fault.Ended) used all unread e text = IsLeft used e text × (unread ≡ []) × AreTold e.left_now []
-  StopsFor (stop.Fault fault.Torn) used all unread e text = IsLeft used e text × (unread ≢ []) × (cut_of unread ≡ More) × AreTold e.left_now []
+  StopsFor (stop.Fault fault.Torn) used all unread e text = IsLeft used e text × IsLeft all e text × (unread ≢ []) × (cut_of unread ≡ More) × AreTold e.left_now []
   StopsFor (stop.Fault fault.ReadFault) used all unread e text = IsLeft used e text × (cut_of unread ≡ More) × HasRisen e.source_faults e.source_faults_now
   StopsFor (stop.Fault fault.WriteFault) used all unread e text = IsCutOff used e text
   StopsFor (stop.Fault (fault.Wire f)) used all unread e text = IsFaulty (fault.Wire f) all e text

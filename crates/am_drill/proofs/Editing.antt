@@ -18,25 +18,28 @@ use Rattle.core_windows.specs.Windows.{Window}
 use Rattle.core_windows.specs.declared.change.Setting.TheVariants as setting
 use Rattle.core_windows.specs.Stories.{WindowStory, shown_windows, edited_story, set_story}
 use Rattle.core_items.specs.NewItems.{plain_item, put_item, items_of_edits}
-use Rattle.core_answers.specs.declared.refusal.Refusal.TheVariants as refusal
+use Rattle.core_fids.specs.declared.refusal.Refusal.TheVariants as refusal
 use Rattle.core_answers.specs.Erring.{appends, fits_in}
-use Rattle.core_answers.specs.Fids.{holding}
-use Rattle.core_answers.specs.Refusals.{deed_or_refusal}
-use Rattle.core_answers.specs.Writing.{append_deed, written}
+use Rattle.core_fids.specs.Fids.{holding}
+use Rattle.core_fids.specs.Refusals.{reaction_or_refusal}
+use Rattle.core_answers.specs.Writing.{append_reaction, written}
 use Rattle.core_events.specs.declared.response.Response.{Response}
-use Rattle.core_events.specs.declared.putting.WindowItem.{WindowItem}
-use Rattle.core_events.specs.Putting.{item_in, put_all}
-use Rattle.core_events.specs.Serving.{served_most, book_served_most}
+use Rattle.core_scene.specs.declared.deed.WindowItem.{WindowItem}
+use Rattle.core_scene.specs.Scenes.{no_scene}
+use Rattle.core_scene.specs.Told.{of_window}
+use Rattle.core_events.specs.Putting.{put_all, put_living, ending}
+use Rattle.core_events.specs.Serving.{served_most, book_served_most, served_all, book_served_all}
 use Rattle.core_events.specs.Waits.{ended}
 use Rattle.event_book.specs.Lives.{fresh}
 use Rattle.event_book.specs.WindowFiles.{WindowFile}
 use Rattle.acme_core.specs.declared.doing.Doing.{Doing}
 use Rattle.acme_core.specs.Doings.{doing_of, message_doing, changing}
 use Rattle.acme_core.specs.Run.{step}
-use Rattle.acme_core.specs.Stages.{after_story, response, served, book_served}
+use Rattle.acme_core.specs.Stages.{after_story, response}
 use Rattle.acme_core.specs.States.{State, present}
 use Rattle.acme_core.specs.Typing.{edits_with_dot}
-use Rattle.acme_core.specs.Unsent.{nothing_unsent, replies_of, put_replies}
+use Rattle.acme_core.specs.Replies.{replies_of}
+use Rattle.core_outputs.specs.Unsent.{nothing_unsent, put_replies}
 use Rattle.am_drill.specs.Drill.{write, key}
 use Rattle.am_drill.proofs.Letters.{letter_decoded}
 use Rattle.am_drill.proofs.Shapes.{and_false, stays_listed}
@@ -48,20 +51,20 @@ use Rattle.am_drill.proofs.Steps.{answered}
 abbrev pub finished : Facts → WindowStory → List Response → List WindowItem → State
 finished f story first items =
     let at = f.entries + 1 in
-    let put = put_all (book_with [] f) items in
-    let said = first ++ served (not (length items == 0)) at put in
+    let put = put_living [] (book_with [] f) items in
+    let said = first ++ served_all at put in
     record (standing [] [] f) {
       entries = at;
       tables = ended (tables_with []) said;
       windows = Some story ∷ [];
-      book = book_served (not (length items == 0)) at put;
+      scene = record no_scene { book = put_all (book_served_all at put) (ending [] items) };
       unsent = put_replies (f.unsent ∷ replicate 63 nothing_unsent) (replies_of said);
       replies = replies_of said;
     }
 
 -- the items of an edit of window 1
 abbrev pub told : Origin → Edit → List WindowItem
-told origin e = map (item_in 1) (items_of_edits origin (e ∷ [])) ++ []
+told origin e = map (of_window 1) (items_of_edits origin (e ∷ []))
 
 -- what the body is, and where dot is in it
 abbrev pub text_of : Facts → List ℕ
@@ -74,9 +77,9 @@ dot_of f = range_now f.story.body.edits f.story.body.dot
 abbrev pub gone_on : Facts → Facts
 gone_on f = record f { entries = f.entries + 1; replies = [] }
 
--- an item more, at the last entry
+-- an item more
 abbrev pub with_item : Facts → WindowStory → Item → Facts
-with_item f story item = record f { story = story; items = f.items ++ fresh item ∷ []; latest = f.entries }
+with_item f story item = record f { story = story; items = f.items ++ fresh item ∷ [] }
 
 -- ---- a letter that is written
 
@@ -93,8 +96,8 @@ write_doing : (f : Facts) (l : ℕ) → l < 128 → length (text_of f) < 1677721
 write_doing f l ascii room =
     let windows : List (Option Window) = shown_windows (Some f.story ∷ []) in
     let fits : fits_in (text_of f) (l ∷ []) ≡ true = grind (arith, nat_tests) in
-    ap (λ (d : Decoded). message_doing (deed_or_refusal (append_deed windows 1 body_fid 1 1 d)) E) (letter_decoded l ascii)
-    ∙ ap (λ (b : Bool). message_doing (deed_or_refusal (if b then Ok (written (appends windows 1 (l ∷ [])) 1 (holding body_fid (part_of [])) 1) else Err refusal.TextTooLong)) E) fits
+    ap (λ (d : Decoded). message_doing (reaction_or_refusal (append_reaction windows 1 body_fid 1 1 d)) E) (letter_decoded l ascii)
+    ∙ ap (λ (b : Bool). message_doing (reaction_or_refusal (if b then Ok (written (appends windows 1 (l ∷ [])) 1 (holding body_fid (part_of [])) 1) else Err refusal.TextTooLong)) E) fits
 
 written_so : (f : Facts) (l : ℕ) → after_story (standing [] [] f) (present (standing [] [] f)) (write l) (written_doing f l)
     ≡ finished f (story_written f l) (response 0 4 (r.Write 1) ∷ []) (told E (end_edit f l))
@@ -104,12 +107,12 @@ abbrev pub letter_item : Origin → ℕ → ℕ → Item
 letter_item origin at l = plain_item origin BodyIns (record { q0 = at; q1 = at + 1 }) (l ∷ [])
 
 -- an edit that cuts nothing makes one item
-one_item : (origin : Origin) (q0 q1 l : ℕ) → nat_lt q0 q1 ≡ false → told origin (record { q0 = q0; q1 = q1; text = l ∷ [] }) ≡ item_in 1 (letter_item origin q0 l) ∷ []
+one_item : (origin : Origin) (q0 q1 l : ℕ) → nat_lt q0 q1 ≡ false → told origin (record { q0 = q0; q1 = q1; text = l ∷ [] }) ≡ of_window 1 (letter_item origin q0 l) ∷ []
 one_item origin q0 q1 l none =
-    ap (λ (b : Bool). map (item_in 1) ((option_to_list (if b then Some (plain_item origin BodyDel (record { q0 = q0; q1 = q1 }) []) else None) ++ option_to_list (put_item origin BodyIns q0 (l ∷ []))) ++ []) ++ []) none
+    ap (λ (b : Bool). map (of_window 1) ((option_to_list (if b then Some (plain_item origin BodyDel (record { q0 = q0; q1 = q1 }) []) else None) ++ option_to_list (put_item origin BodyIns q0 (l ∷ []))) ++ [])) none
 
 -- and the event file then has it
-finished_with : (f : Facts) (story : WindowStory) (first : List Response) (item : Item) → finished f story first (item_in 1 item ∷ [])
+finished_with : (f : Facts) (story : WindowStory) (first : List Response) (item : Item) → finished f story first (of_window 1 item ∷ [])
     ≡ record (standing [] [] (with_item (gone_on f) story item)) {
       tables = ended (tables_with []) (first ++ []);
       unsent = put_replies (f.unsent ∷ replicate 63 nothing_unsent) (replies_of (first ++ []));
@@ -119,7 +122,7 @@ unfolding served_most book_served_most
 finished_with f story first item =
     ap (λ (files : List WindowFile). record (standing [] [] (with_item (gone_on f) story item)) {
       tables = ended (tables_with []) (first ++ []);
-      book = record { files = files; owners = 1 ∷ []; reads = []; latest = f.entries + 1 };
+      scene = record no_scene { book = record { files = files; owners = 1 ∷ []; reads = []; latest = f.latest } };
       unsent = put_replies (f.unsent ∷ replicate 63 nothing_unsent) (replies_of (first ++ []));
       replies = replies_of (first ++ []);
     }) (stays_listed (file_with f.items f.carry) (f.items ++ fresh item ∷ []) f.carry)
@@ -153,7 +156,7 @@ key_doing f l =
     ap (λ (b : Bool). changing (edits_with_dot 1 (if b then [] else dot_edit f l ∷ []) (dot_after f)) K) (and_false ((dot_of f).q0 == (dot_of f).q1))
 
 typed_so : (f : Facts) (l : ℕ) → after_story (standing [] [] f) (present (standing [] [] f)) (key l) (typed_doing f l)
-    ≡ finished f (story_typed f l) [] (told K (dot_edit f l))
+    ≡ finished f (story_typed f l) [] (told K (dot_edit f l) ++ [])
 typed_so f l = refl
 
 pub key_step : (f : Facts) (l : ℕ) → (dot_of f).q0 ≡ (dot_of f).q1
@@ -163,5 +166,5 @@ key_step f l null =
     let cut : nat_lt (dot_of f).q0 (dot_of f).q1 ≡ false = grind (arith, nat_tests) in
     ap (λ (d : Doing). after_story (standing [] [] f) (present (standing [] [] f)) (key l) d) (key_doing f l)
     ∙ typed_so f l
-    ∙ ap (λ (items : List WindowItem). finished f (story_typed f l) [] items) (one_item K (dot_of f).q0 (dot_of f).q1 l cut)
+    ∙ ap (λ (items : List WindowItem). finished f (story_typed f l) [] (items ++ [])) (one_item K (dot_of f).q0 (dot_of f).q1 l cut)
     ∙ finished_with f (story_typed f l) [] (letter_item K (dot_of f).q0 l)

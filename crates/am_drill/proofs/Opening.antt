@@ -21,21 +21,23 @@ use Rattle.acme_tree.specs.Trees.{qid_of, entries}
 use Rattle.acme_tree.specs.Walks.{walk_one, entry_named, file_named, to_entry}
 use Rattle.fid_table.specs.declared.types.Fid.{Fid}
 use Rattle.event_book.specs.BookState.{BookState, empty_book}
+use Rattle.core_scene.specs.Scenes.{no_scene}
+use Rattle.core_events.specs.Serving.{served_most, book_served_most}
 use Rattle.core_windows.specs.Stories.{WindowStory, named_story, shown_windows}
 use Rattle.core_windows.specs.Windows.{world_of}
-use Rattle.core_answers.specs.Fids.{fresh}
-use Rattle.core_answers.specs.declared.walk.Trail.{Trail}
-use Rattle.core_answers.specs.declared.walk.WalkEnd.TheVariants as end
-use Rattle.core_answers.specs.Refusals.{deed_or_refusal}
-use Rattle.core_answers.specs.Walking.{trail, onwards, then_qid, arrives}
+use Rattle.core_fids.specs.Fids.{fresh}
+use Rattle.core_fids.specs.declared.walking.Trail.{Trail}
+use Rattle.core_fids.specs.declared.walking.WalkEnd.TheVariants as end
+use Rattle.core_fids.specs.Refusals.{reaction_or_refusal}
+use Rattle.core_fids.specs.Walking.{trail, onwards, then_qid, arrives}
 use Rattle.win_events.specs.declared.item.Origin.TheVariants.{F}
 use Rattle.acme_core.specs.Doings.{message_doing}
 use Rattle.acme_core.specs.Stages.{after_story}
 use Rattle.acme_core.specs.declared.connection.Connection.TheVariants.{Undialed, Live}
-use Rattle.acme_core.specs.declared.unsent.Reply.{Reply}
+use Rattle.core_outputs.specs.declared.reply.Reply.{Reply}
 use Rattle.acme_core.specs.Run.{step}
 use Rattle.acme_core.specs.States.{State, present, start}
-use Rattle.acme_core.specs.Unsent.{Unsent, nothing_unsent, with_reply}
+use Rattle.core_outputs.specs.Unsent.{Unsent, nothing_unsent, with_reply}
 use Rattle.am_drill.specs.Drill.{message, notag, nofid}
 use Rattle.am_drill.proofs.Standing.{Facts, body_fid, standing}
 use Rattle.am_drill.proofs.Steps.{said_of}
@@ -60,7 +62,7 @@ begun msize held windows book b = record {
   connections = Live ∷ replicate 63 Undialed;
   tables = record { sessions = record { conn = 0; msize = msize; fids = held } ∷ []; waiting = [] };
   windows = windows;
-  book = book;
+  scene = record no_scene { book = book };
   unsent = b.unsent ∷ replicate 63 nothing_unsent;
   replies = b.replies;
 }
@@ -91,18 +93,18 @@ abbrev pub dialed : Begun
 dialed = record { entries = 1; unsent = nothing_unsent; replies = [] }
 
 pub dial_step : step start (event.Dial 0) ≡ begun None [] [] empty_book dialed
-unfolding step
+unfolding step served_most book_served_most
 dial_step = refl
 
 pub version_step : (b : Begun) → step (begun None [] [] empty_book b) version ≡ begun (Some 8192) [] [] empty_book (told b notag (r.Version 8192 (codes "9P2000")))
-unfolding step
+unfolding step served_most book_served_most
 version_step b = refl
 
 abbrev pub root_fids : List (ℕ × Fid)
 root_fids = (0, fresh Root) ∷ []
 
 pub attach_step : (b : Begun) → step (begun (Some 8192) [] [] empty_book b) attach ≡ begun (Some 8192) root_fids [] empty_book (told b 1 (r.Attach (qid_of Root)))
-unfolding step
+unfolding step served_most book_served_most
 attach_step b = refl
 
 abbrev pub new_story : WindowStory
@@ -113,7 +115,7 @@ walked_fids = (0, fresh Root) ∷ (1, fresh (File 1 file.Body)) ∷ []
 
 pub walk_body_step : (b : Begun) → step (begun (Some 8192) root_fids [] empty_book b) walk_body
     ≡ begun (Some 8192) walked_fids (Some new_story ∷ []) empty_book (told b 2 (r.Walk (qid_of NewDir ∷ qid_of (File 1 file.Body) ∷ [])))
-unfolding step trail walk_one entry_named file_named entries
+unfolding step served_most book_served_most trail walk_one entry_named file_named entries
 walk_body_step b = refl
 
 abbrev pub opened_fids : List (ℕ × Fid)
@@ -121,7 +123,7 @@ opened_fids = (0, fresh Root) ∷ (1, body_fid) ∷ []
 
 pub open_body_step : (b : Begun) → step (begun (Some 8192) walked_fids (Some new_story ∷ []) empty_book b) open_body
     ≡ begun (Some 8192) opened_fids (Some new_story ∷ []) empty_book (told b 3 (r.Open (qid_of (File 1 file.Body)) 0))
-unfolding step may_open
+unfolding step served_most book_served_most may_open
 open_body_step b = refl
 
 -- ---- the walk to window 1, whose name is a decimal
@@ -146,10 +148,10 @@ trail_one =
 pub walk_event_step : (b : Begun) → step (begun (Some 8192) opened_fids (Some new_story ∷ []) empty_book b) walk_event
     ≡ begun (Some 8192) ((0, fresh Root) ∷ (1, body_fid) ∷ (2, fresh (File 1 file.Event)) ∷ []) (Some new_story ∷ []) empty_book
     (told b 2 (r.Walk (qid_of (Window 1) ∷ qid_of (File 1 file.Event) ∷ [])))
-unfolding step
+unfolding step served_most book_served_most
 walk_event_step b =
     let s : State = begun (Some 8192) opened_fids (Some new_story ∷ []) empty_book b in
-    ap (λ (rest : Trail). after_story s (present s) walk_event (message_doing (deed_or_refusal (arrives 2 world_one rest)) F)) trail_one
+    ap (λ (rest : Trail). after_story s (present s) walk_event (message_doing (reaction_or_refusal (arrives 2 world_one rest)) F)) trail_one
 
 -- ---- and so the rounds begin
 
@@ -158,7 +160,7 @@ facts_of b = record { entries = b.entries; story = new_story; items = []; carry 
 
 pub open_event_step : (b : Begun) → step (begun (Some 8192) ((0, fresh Root) ∷ (1, body_fid) ∷ (2, fresh (File 1 file.Event)) ∷ []) (Some new_story ∷ []) empty_book b) open_event
     ≡ standing [] [] (facts_of (told b 3 (r.Open (qid_of (File 1 file.Event)) 0)))
-unfolding step may_open
+unfolding step served_most book_served_most may_open
 open_event_step b = refl
 
 -- ---- lawful

@@ -5,16 +5,17 @@ use Rattle.fid_table.specs.declared.session.Waiting.{Waiting}
 use Rattle.fid_table.specs.Tables.{Tables}
 use Rattle.acme_tree.specs.declared.node.Node.TheVariants.{Root, File}
 use Rattle.acme_tree.specs.declared.node.WinFile.TheVariants as file
-use Rattle.core_answers.specs.Fids.{fresh, opened}
+use Rattle.core_fids.specs.Fids.{fresh, opened}
+use Rattle.core_scene.specs.Scenes.{no_scene}
 use Rattle.core_windows.specs.Stories.{WindowStory}
 use Rattle.event_book.specs.declared.lives.Recorded.{Recorded}
 use Rattle.event_book.specs.BookState.{BookState}
 use Rattle.event_book.specs.WindowFiles.{EventFile}
 use Rattle.wait_queue.specs.declared.types.Asker.{Asker}
 use Rattle.acme_core.specs.declared.connection.Connection.TheVariants.{Undialed, Live}
-use Rattle.acme_core.specs.declared.unsent.Reply.{Reply}
+use Rattle.core_outputs.specs.declared.reply.Reply.{Reply}
 use Rattle.acme_core.specs.States.{State}
-use Rattle.acme_core.specs.Unsent.{Unsent, nothing_unsent}
+use Rattle.core_outputs.specs.Unsent.{Unsent, nothing_unsent}
 
 -- ---- what stands fixed: fid 0 is the root, fid 1 the body of window 1, fid 2 its event file
 
@@ -54,7 +55,7 @@ standing waiting reads f = record {
   connections = Live ∷ replicate 63 Undialed;
   tables = tables_with waiting;
   windows = Some f.story ∷ [];
-  book = book_with reads f;
+  scene = record no_scene { book = book_with reads f };
   unsent = f.unsent ∷ replicate 63 nothing_unsent;
   replies = f.replies;
 }

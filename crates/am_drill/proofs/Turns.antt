@@ -124,8 +124,8 @@ polls_waiting f runes unsent few calm w =
     two (standing [] [] f) (standing (reading ∷ []) (reader ∷ []) g) _ poll flush runes (unsent + 2)
     (record { lawful = poll_lawful; allowed = poll_allowed f (omega (arith, calm.few)); brief = on_step _ _ poll is none_brief })
     is
-    (record { lawful = flush_lawful; allowed = flush_waiting_allowed g (omega (arith, calm.few)); brief = on_step _ _ flush (flush_waiting_step g) flushed_brief })
-    (flush_waiting_step g)
+    (record { lawful = flush_lawful; allowed = flush_waiting_allowed g (omega (arith, calm.few)); brief = on_step _ _ flush (flush_waiting_step g w) flushed_brief })
+    (flush_waiting_step g w)
     (record { facts = _; is = refl; calm = record { text = calm.text; dot = calm.dot; few = omega (arith, calm.few) } })
 
 -- the facts after a read of the event file that is answered

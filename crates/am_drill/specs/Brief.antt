@@ -2,7 +2,7 @@
 use Rattle.std.specs.Prelude.{◌≡◌, ◌≤◌, ◌<◌, ◌*◌, ◌^◌, List, [], ◌∷◌, ◌++◌, length, sum_by, None}
 use Rattle.am_journal.specs.declared.event.Event.{Event}
 use Rattle.am_journal.specs.Lawful.{IsLawful}
-use Rattle.acme_core.specs.declared.unsent.Reply.{Reply}
+use Rattle.core_outputs.specs.declared.reply.Reply.{Reply}
 use Rattle.acme_core.specs.Run.{run, enabled}
 use Rattle.am_drill.specs.declared.counting.Count.{Count}
 use Rattle.am_drill.specs.Summary.{bytes_in, count_at}

@@ -5,6 +5,7 @@ pub mod Gaining
 pub mod HangUps
 pub mod Passing
 pub mod Refusals
+pub mod Rooms
 pub mod Streams
 pub mod Turns
 pub mod Written

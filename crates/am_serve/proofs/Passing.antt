@@ -5,8 +5,8 @@ use Rattle.am_text.specs.Lines.{lines_of}
 use Rattle.am_journal.specs.declared.event.Event.{Event}
 use Rattle.am_counter.specs.Known.{Known, with_seen, with_entry, Looks, Submits}
 use Rattle.am_counter.specs.Played.{IsPrefix, has_hang}
-use Rattle.am_serve.specs.Gained.{Rule, Gains, gained, plain}
-use Rattle.am_serve.specs.Script.{Answers, Passes, PassesLine, Passed, RefusedAt, IsRefused, HaveEnded, asked_by, asked_by_lines, asked_by_script, asked_events, then_asked}
+use Rattle.am_serve.specs.Gained.{Rule, Answers, Gains, gained, plain}
+use Rattle.am_serve.specs.Script.{Passes, PassesLine, Passed, RefusedAt, IsRefused, HaveEnded, asked_by, asked_by_lines, asked_by_script, asked_events, then_asked}
 use Rattle.am_serve.specs.declared.asked.Asked.{Asked}
 use Rattle.am_serve.specs.declared.asked.Asked.TheVariants.{Does, Awaits, Ends, Faulty}
 use Rattle.am_serve.specs.declared.scripting.LineFault.{LineFault}

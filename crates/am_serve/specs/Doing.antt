@@ -3,8 +3,8 @@ use Rattle.std.specs.Prelude.{◌≡◌, ℕ, ◌<◌, false, List, Some}
 use Rattle.am_journal.specs.declared.event.Event.{Event}
 use Rattle.am_counter.specs.Known.{Known, Looks, Submits}
 use Rattle.am_counter.specs.Played.{has_hang}
-use Rattle.am_serve.specs.Gained.{Rule}
-use Rattle.am_serve.specs.Script.{Answers, PassesLine, IsRefused}
+use Rattle.am_serve.specs.Gained.{Rule, Answers}
+use Rattle.am_serve.specs.Script.{PassesLine, IsRefused}
 use Rattle.am_serve.specs.declared.asked.Asked.{Asked}
 use Rattle.am_serve.specs.declared.asked.Asked.TheVariants.{Ends}
 use Rattle.am_serve.specs.declared.scripting.LineFault.{LineFault}

@@ -5,6 +5,7 @@ use Rattle.am_journal.specs.declared.ending.Ending.{Ending}
 use Rattle.am_journal.specs.declared.event.Event.{Event}
 use Rattle.am_journal.specs.declared.event.Event.TheVariants.{Hang}
 use Rattle.am_journal.specs.declared.event.Why.{Why}
+use Rattle.am_counter.specs.declared.ask.Ask.{Ask}
 use Rattle.am_counter.specs.Known.{Known}
 use Rattle.am_counter.specs.Played.{IsPrefix, has_hang}
 
@@ -29,6 +30,10 @@ pub record Gains (v : Known) (entries : List (ℕ × Event)) (w : Known) : Type 
 -- what is enabled after a journal, and what isn't, with the reason
 abbrev pub Rule : Type 0
 Rule = List Event → Event → Option Why
+
+-- the answers to what is asked of a journal
+abbrev pub Answers : Type 0
+Answers = List Event → Ask → Bool
 
 -- the entry that ends a connection after a journal; none where another has ended it
 abbrev pub hang_up : List Event → ℕ → Ending → List (ℕ × Event)

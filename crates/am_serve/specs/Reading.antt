@@ -1,6 +1,6 @@
 -- What a side that reads messages does.
-use Rattle.std.specs.Prelude.{◌≡◌, ◌≢◌, ◌⊎◌, ℕ, ◌+◌, ◌==◌, true, false, List, [], ◌∷◌, ◌++◌, length, Option, Some, None, Ok, Err, if◌then◌else◌}
-use Rattle.std.specs.List.{flat_map, AllByRecursion}
+use Rattle.std.specs.Prelude.{◌≡◌, ◌≢◌, ◌⊎◌, ℕ, ◌+◌, ◌≤◌, ◌==◌, true, false, List, [], ◌∷◌, ◌++◌, length, Option, Some, None, Ok, Err, if◌then◌else◌}
+use Rattle.std.specs.List.{concat, flat_map, AllByRecursion}
 use Rattle.am_base.specs.Outside.{then_told}
 use Rattle.ninep_types.specs.declared.fault.WireFault.{WireFault}
 use Rattle.ninep_types.specs.declared.fault.WireFault.TheVariants as wire
@@ -17,10 +17,11 @@ use Rattle.am_journal.specs.declared.event.Event.{Event}
 use Rattle.am_journal.specs.declared.event.Event.TheVariants as event
 use Rattle.am_journal.specs.declared.event.Why.{Why}
 use Rattle.am_journal.specs.declared.event.Why.TheVariants as why
+use Rattle.am_counter.specs.declared.ask.Ask.TheVariants.{Room}
 use Rattle.am_counter.specs.Known.{Known}
 use Rattle.am_counter.specs.Played.{IsPrefix, has_hang}
 use Rattle.am_serve.specs.Budget.{fits_budget}
-use Rattle.am_serve.specs.Gained.{Rule, gained}
+use Rattle.am_serve.specs.Gained.{Rule, Answers, gained}
 
 -- ---- entries
 
@@ -124,7 +125,46 @@ abbrev pub Gives : Rule → ℕ → List Event → List (List ℕ) → Stream �
 Gives enabled conn seen given stream None = AreFront given stream.messages
 Gives enabled conn seen given stream (Some why) = (journal : List Event) × IsTurn conn seen given journal × EndsAfter enabled conn journal given stream why
 
--- bytes were read from a source, of which these messages were given, no more than the budget has
-abbrev pub GivesOf : Rule → ℕ → List Event → List (List ℕ) → Option (List ℕ) → Option (List ℕ) → Option Ending → Type 0
-GivesOf enabled conn seen given first now answer =
-    (bytes : List ℕ) × (first ≡ then_told bytes now) × (fits_budget given ≡ true) × Gives enabled conn seen given (cut_stream bytes) answer
+-- ---- room
+
+-- the most bytes of one read
+abbrev pub piece_limit : ℕ
+piece_limit = 8192
+
+-- At a turn the connection had room for a reply, and all messages of these bytes had come: what was seen begins with the journal of that
+-- turn.
+pub record HadRoom (answer : Answers) (conn : ℕ) (seen : List Event) (bytes : List ℕ) : Type 0 where
+  pub journal : List Event
+  pub front : IsPrefix journal seen
+  pub messages : StandAmong (cut_stream bytes).messages (messages_of journal conn)
+  pub room : answer journal (Room conn) ≡ true
+
+-- behind these bytes pieces were read, one after another, none longer than one read gives, and each once there was room
+abbrev pub HadRoomEach : Answers → ℕ → List Event → List ℕ → List (List ℕ) → Type 0
+HadRoomEach answer conn seen before [] = Unit {0}
+HadRoomEach answer conn seen before (piece ∷ pieces) = (length piece ≤ piece_limit) × HadRoom answer conn seen before × HadRoomEach answer conn seen (before ++ piece) pieces
+
+-- a cause that a read itself tells: it was made, and gave no piece
+abbrev pub IsOfRead : Option Ending → Type 0
+IsOfRead None = ⊥
+IsOfRead (Some ending.End) = Unit {0}
+IsOfRead (Some ending.Torn) = Unit {0}
+IsOfRead (Some ending.ReadFault) = Unit {0}
+IsOfRead (Some (ending.Broken what)) = ⊥
+IsOfRead (Some ending.Spent) = ⊥
+IsOfRead (Some ending.Gone) = ⊥
+IsOfRead (Some ending.NoMemory) = ⊥
+
+-- Reading was held while there was no room: bytes were read in pieces, each once there was room, and so was the last read made.
+pub record ReadWithRoom (answer : Answers) (conn : ℕ) (seen : List Event) (bytes : List ℕ) (read : Option Ending) : Type 0 where
+  pub pieces : List (List ℕ)
+  pub are : bytes ≡ concat pieces
+  pub each : HadRoomEach answer conn seen [] pieces
+  pub last : IsOfRead read → HadRoom answer conn seen bytes
+
+-- Bytes were read from a source, and reading was held while there was no room. Of the bytes these messages were given, no more than the
+-- budget has.
+abbrev pub GivesOf : Rule → Answers → ℕ → List Event → List (List ℕ) → Option (List ℕ) → Option (List ℕ) → Option Ending → Type 0
+GivesOf enabled answer conn seen given first now read =
+    (bytes : List ℕ) × (first ≡ then_told bytes now) × (fits_budget given ≡ true) × Gives enabled conn seen given (cut_stream bytes) read
+    × ReadWithRoom answer conn seen bytes read

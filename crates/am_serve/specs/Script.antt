@@ -6,11 +6,10 @@ use Rattle.am_journal.specs.declared.event.Event.TheVariants as event
 use Rattle.am_journal.specs.Journal.{is_report}
 use Rattle.am_journal.specs.Lawful.{IsLawful, IsInRange}
 use Rattle.am_journal.specs.Line.{after_front, event_of, window_at}
-use Rattle.am_counter.specs.declared.ask.Ask.{Ask}
 use Rattle.am_counter.specs.declared.ask.Ask.TheVariants.{EventOpen}
 use Rattle.am_counter.specs.Known.{Known, Looks, Submits}
 use Rattle.am_counter.specs.Played.{has_hang}
-use Rattle.am_serve.specs.Gained.{Rule, gained, plain}
+use Rattle.am_serve.specs.Gained.{Rule, Answers, gained, plain}
 use Rattle.am_serve.specs.declared.asked.Asked.{Asked}
 use Rattle.am_serve.specs.declared.asked.Asked.TheVariants.{Does, Awaits, Ends, Faulty}
 use Rattle.am_serve.specs.declared.scripting.LineFault.{LineFault}
@@ -84,9 +83,6 @@ asked_events (Ends ∷ others) = asked_events others
 asked_events (Faulty ∷ others) = asked_events others
 
 -- ---- what is done
-
-abbrev pub Answers : Type 0
-Answers = List Event → Ask → Bool
 
 -- One line is passed: its event is submitted in a turn, or the window's event file is open at a turn.
 abbrev pub PassesLine : Rule → Answers → Known → Asked → Known → Type 0

@@ -1,5 +1,6 @@
 -- What the steps of a side that reads messages do.
-use Rattle.std.specs.Prelude.{◌≡◌, ◌≢◌, ℕ, true, List, [], Option, Some, Ok, Err}
+use Rattle.std.specs.Prelude.{◌≡◌, ◌≢◌, ℕ, ◌≤◌, true, List, [], ◌++◌, length, Option, Some, None, Ok, Err}
+use Rattle.std.specs.List.{concat}
 use Rattle.am_base.specs.Outside.{then_told, AreTold, HasRisen}
 use Rattle.ninep_types.specs.declared.message.TMsg.{TMsg}
 use Rattle.ninep_types.specs.Reading.{t_of}
@@ -13,11 +14,12 @@ use Rattle.am_journal.specs.declared.event.Event.{Event}
 use Rattle.am_journal.specs.declared.event.Event.TheVariants.{Msg}
 use Rattle.am_journal.specs.declared.event.Why.{Why}
 use Rattle.am_journal.specs.declared.event.Why.TheVariants as why
+use Rattle.am_counter.specs.declared.ask.Ask.TheVariants.{Room}
 use Rattle.am_counter.specs.Known.{Known, Looks, Submits}
 use Rattle.am_counter.specs.Played.{IsPlayed, has_hang}
 use Rattle.am_serve.specs.Budget.{fits_budget, IsLeft}
-use Rattle.am_serve.specs.Gained.{Rule, Gains}
-use Rattle.am_serve.specs.Reading.{AreMessages, spellings, AreFront, EndsAfter}
+use Rattle.am_serve.specs.Gained.{Rule, Answers, Gains}
+use Rattle.am_serve.specs.Reading.{AreMessages, spellings, AreFront, EndsAfter, piece_limit, HadRoomEach, ReadWithRoom}
 use Rattle.am_serve.specs.declared.budget.Budget.{Budget}
 use Rattle.am_serve.specs.declared.sending.Stop.{Stop}
 use Rattle.am_serve.specs.declared.sending.Stop.TheVariants as stop
@@ -101,17 +103,22 @@ EndsIn s ending.ReadFault = (s.told_now ≡ s.told) × HasRisen s.faults s.fault
 EndsIn s (ending.Broken b) = ⊥
 EndsIn s ending.Spent = ⊥
 EndsIn s ending.Gone = ⊥
-EndsIn s ending.NoMemory = (piece : List ℕ) × (s.told ≡ then_told piece s.told_now)
+EndsIn s ending.NoMemory = (piece : List ℕ) × (length piece ≤ piece_limit) × (s.told ≡ then_told piece s.told_now)
 
--- why reading stops at a piece
-abbrev pub StopsIn : Rule → ℕ → List Event → Source → Stop → Type 0
-StopsIn enabled conn seen s stop.Ended = (s.told_now ≡ s.told) × HasEnded enabled conn seen
-StopsIn enabled conn seen s (stop.Ends cause) = EndsIn s cause
+-- a piece was read and fed to a cutter that had these bytes
+abbrev pub IsFed : Option (List ℕ) → Option (List ℕ) → List ℕ → List ℕ → Type 0
+IsFed told told_now left left_now = (piece : List ℕ) × (length piece ≤ piece_limit) × (told ≡ then_told piece told_now) × (left_now ≡ left ++ piece)
+
+-- why reading stops at a piece, which is read once there is room
+abbrev pub StopsIn : Rule → Answers → ℕ → List Event → Source → Stop → Type 0
+StopsIn enabled answer conn seen s stop.Ended = (s.told_now ≡ s.told) × HasEnded enabled conn seen
+StopsIn enabled answer conn seen s (stop.Ends cause) = EndsIn s cause × (answer seen (Room conn) ≡ true)
 
 -- ---- all so far
 
--- Messages were given of the bytes that were read, these bytes of them are left, and this of the budget.
-pub record ReadSoFar (conn : ℕ) (v w : Known) (left : List ℕ) (b : Budget) (first now : Option (List ℕ)) : Type 0 where
+-- Messages were given of the bytes that were read, these bytes of them are left, and this of the budget. Reading was held while there was
+-- no room.
+pub record ReadSoFar (answer : Answers) (conn : ℕ) (v w : Known) (left : List ℕ) (b : Budget) (first now : Option (List ℕ)) : Type 0 where
   pub entries : List (ℕ × Event)
   pub gains : Gains v entries w
   pub messages : AreMessages conn entries
@@ -119,14 +126,22 @@ pub record ReadSoFar (conn : ℕ) (v w : Known) (left : List ℕ) (b : Budget) (
   pub bytes : List ℕ
   pub told : first ≡ then_told bytes now
   pub stream : cut_stream bytes ≡ then_cut (spellings entries) (cut_stream left)
+  pub pieces : List (List ℕ)
+  pub are : bytes ≡ concat pieces
+  pub each : HadRoomEach answer conn w.seen [] pieces
 
 -- why reading stopped after a journal, behind the messages that were given
 abbrev pub StopsAfter : Rule → ℕ → List Event → List (List ℕ) → Stream → Stop → Type 0
 StopsAfter enabled conn journal given stream stop.Ended = AreFront given stream.messages
 StopsAfter enabled conn journal given stream (stop.Ends cause) = EndsAfter enabled conn journal given stream cause
 
+-- the cause that a stop tells
+abbrev pub cause_of : Stop → Option Ending
+cause_of stop.Ended = None
+cause_of (stop.Ends cause) = Some cause
+
 -- The same, and then reading stopped.
-pub record ReadUntil (enabled : Rule) (conn : ℕ) (v w : Known) (s : Stop) (first now : Option (List ℕ)) : Type 0 where
+pub record ReadUntil (enabled : Rule) (answer : Answers) (conn : ℕ) (v w : Known) (s : Stop) (first now : Option (List ℕ)) : Type 0 where
   pub entries : List (ℕ × Event)
   pub gains : Gains v entries w
   pub messages : AreMessages conn entries
@@ -134,3 +149,4 @@ pub record ReadUntil (enabled : Rule) (conn : ℕ) (v w : Known) (s : Stop) (fir
   pub bytes : List ℕ
   pub told : first ≡ then_told bytes now
   pub stops : StopsAfter enabled conn w.seen (spellings entries) (cut_stream bytes) s
+  pub with_room : ReadWithRoom answer conn w.seen bytes (cause_of s)

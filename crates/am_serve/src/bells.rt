@@ -6,6 +6,7 @@ use am_counter::Told;
 use am_text::NoMemory;
 use std::alloc::Global;
 use std::sync::Wait;
+use std::sync::atomic::{AtomicBool, Ordering};
 use turn_lock::Bell;
 
 /// How many connections there are at most.
@@ -18,6 +19,8 @@ struct Pair {
     replies: Bell,
     // Rings where its replies were taken, for the side that reads and waits for room.
     room: Bell,
+    // Whether a side has told that it has ended.
+    over: AtomicBool,
 }
 
 /// A bell for each side of each connection, and one for a script. A side waits for its own alone, so an entry wakes those sides alone for
@@ -38,6 +41,7 @@ impl Bells {
             connections.push_reserved(Pair {
                 replies: Bell::new(),
                 room: Bell::new(),
+                over: AtomicBool::new(false),
             });
         }
         Ok(Bells {
@@ -72,9 +76,17 @@ impl Bells {
         requires { conn < 64 }
     {
         let pair = &self.connections[conn as usize];
+        pair.over.store(true, Ordering::SeqCst);
         pair.replies.ring();
         pair.room.ring();
         self.script.ring();
+    }
+
+    /// Whether a side has told that a connection has ended. It asks without a turn; only the journal says so for certain.
+    pub fn is_over(&self, conn: u32) -> bool
+        requires { conn < 64 }
+    {
+        self.connections[conn as usize].over.load(Ordering::SeqCst)
     }
 
     /// Sleeps until replies were made to a connection, or it has ended, since the number `seen`, and answers the number that it found

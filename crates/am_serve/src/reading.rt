@@ -37,7 +37,7 @@ fn read_messages<C: Counter, S: Source, R: Wait>(
     requires conn { conn < 64 }
     requires dialled { has_dial (C.known seat.old).seen conn ≡ true }
     ensures fits { C.fits desk.now seat.new }
-    ensures reads { ReadUntil C.enabled conn (C.known seat.old) (C.known seat.new) result (S.left source.old) (S.left source.new) }
+    ensures reads { ReadUntil C.enabled C.answer conn (C.known seat.old) (C.known seat.new) result (S.left source.old) (S.left source.new) }
     ensures ended { result ≡ stop.Ended → HasEnded C.enabled conn (C.known seat.new).seen }
     ensures end { result ≡ stop.Ends ending.End → AreTold (S.left source.new) [] }
     ensures torn { result ≡ stop.Ends ending.Torn → AreTold (S.left source.new) [] }
@@ -94,8 +94,8 @@ pub fn read_side<C: Counter, S: Source, R: Wait>(
     ensures played { IsPlayed C.enabled (C.known seat.new).seen }
     ensures gains { Gains (C.known seat.old) (gained (C.known seat.old) (C.known seat.new)) (C.known seat.new) }
     ensures entries { AreRead conn result (C.known seat.old) (C.known seat.new) }
-    // Its messages are those of the bytes that were read.
-    ensures gives { GivesOf C.enabled conn (C.known seat.new).seen (spellings (gained (C.known seat.old) (C.known seat.new)))
+    // Its messages are those of the bytes that were read, each piece of which was read once there was room.
+    ensures gives { GivesOf C.enabled C.answer conn (C.known seat.new).seen (spellings (gained (C.known seat.old) (C.known seat.new)))
         (S.left source.old) (S.left source.new) result }
     ensures ended { has_hang (C.known seat.new).seen conn ≡ true }
     ensures end { result ≡ Some ending.End → AreTold (S.left source.new) [] }

@@ -1,12 +1,11 @@
 //! Submitting messages, and reading what they are cut from.
 
 ghost use Rattle.std.specs.Prelude.{◌≡◌, ◌<◌, ◌≤◌, ◌++◌, ℕ, List, true, false, length, IfOk, IfErr, OnOk};
-ghost use Rattle.am_base.specs.Outside.{then_told};
 ghost use Rattle.ninep_cut.specs.Cuts.{IsMessage};
 ghost use Rattle.am_counter.specs.declared.ask.Ask.TheVariants as ask;
 ghost use Rattle.am_counter.specs.Known.{Looks};
 ghost use Rattle.am_counter.specs.Played.{has_dial};
-ghost use Rattle.am_serve.specs.Sending.{HasEnded, Sends, Keeps, Tries, sent_for, EndsIn, StopsIn, source_with};
+ghost use Rattle.am_serve.specs.Sending.{HasEnded, Sends, Keeps, Tries, sent_for, EndsIn, IsFed, StopsIn, source_with};
 
 use crate::bells::Bells;
 use crate::due::Due;
@@ -54,7 +53,7 @@ pub(crate) fn wait_for_room<C: Counter, R: Wait>(
 {
     let mut rung = 0;
     for _ in rt.forever() {
-        if desk.look(rt, seat, Ask::Ended(conn)) {
+        if bells.is_over(conn) && desk.look(rt, seat, Ask::Ended(conn)) {
             return false;
         }
         if desk.look(rt, seat, Ask::Room(conn)) {
@@ -149,7 +148,7 @@ const PIECE: usize = 8192;
 
 // Reads a piece, and feeds it.
 fn read_piece<S: Source>(source: &mut S, cutter: &mut Cutter) -> Result<(), Ending>
-    ensures ok { OnOk result ((piece : List ℕ) × (S.left source.old ≡ then_told piece (S.left source.new)) × (cutter.new ≡ cutter.old ++ piece)) }
+    ensures ok { OnOk result (IsFed (S.left source.old) (S.left source.new) cutter.old cutter.new) }
     ensures err { IfErr result (EndsIn (source_with (S.left source.old) (S.left source.new) (S.faults source.old) (S.faults source.new) cutter.old)) }
     ensures later { S.faults source.old ≤ S.faults source.new }
 {
@@ -184,8 +183,9 @@ pub(crate) fn read_more<C: Counter, S: Source, R: Wait>(
     requires conn { conn < 64 }
     ensures fits { C.fits desk.now seat.new }
     ensures looks { Looks (C.known seat.old) (C.known seat.new) }
-    ensures ok { OnOk result ((piece : List ℕ) × (S.left source.old ≡ then_told piece (S.left source.new)) × (cutter.new ≡ cutter.old ++ piece)) }
-    ensures err { IfErr result (StopsIn C.enabled conn (C.known seat.new).seen
+    ensures ok { OnOk result (IsFed (S.left source.old) (S.left source.new) cutter.old cutter.new) }
+    ensures room { OnOk result (C.answer (C.known seat.new).seen (ask.Room conn) ≡ true) }
+    ensures err { IfErr result (StopsIn C.enabled C.answer conn (C.known seat.new).seen
         (source_with (S.left source.old) (S.left source.new) (S.faults source.old) (S.faults source.new) cutter.old)) }
     ensures later { S.faults source.old ≤ S.faults source.new }
 {

@@ -55,6 +55,10 @@ fn write_replies<C: Counter, K: Sink, R: Wait>(
                 if write_all(sink, replies.as_slice()).is_err() {
                     return WriteEnd::Gone;
                 }
+                // An ended connection gets no ring any more.
+                if !bells.is_over(conn) {
+                    rung = bells.wait_for_replies(rt, conn, rung);
+                }
             }
             Ok(Taken::NothingYet) => rung = bells.wait_for_replies(rt, conn, rung),
             Ok(Taken::Ended) => return WriteEnd::Ended,

@@ -12,6 +12,7 @@ use Rattle.am_serve.specs.declared.scripting.ScriptEnd.{ScriptEnd}
 use Rattle.am_serve.specs.declared.scripting.ScriptEnd.TheVariants as script
 use Rattle.am_serve.specs.declared.writing.WriteEnd.{WriteEnd}
 use Rattle.am_serve.specs.declared.writing.WriteEnd.TheVariants as write
+use Rattle.acme_core.specs.Asks.{answer_at}
 use Rattle.acme_core.specs.Run.{enabled, output_at}
 use Rattle.core_laws.specs.Replies.{replies}
 use Rattle.core_laws.specs.Laws.{EndedGetAllReplies}
@@ -60,7 +61,7 @@ neither false b h = (refl, h)
 
 module _ {G L S K : Type 0} (m : Outside G L S K) (journal : List Event) (law : EndedGetAllReplies) (played : IsPlayed enabled journal) where
   got_served : (n : ℕ) (x : Objects G L S K) (read : Option Ending) (wrote : WriteEnd) (why : Ending) → n < 64
-      → IsServed enabled output_at journal n (m.begins x.link) (m.left x.reader) read wrote (m.held x.writer) → Tells m (slot.Served x read wrote)
+      → IsServed enabled output_at answer_at journal n (m.begins x.link) (m.left x.reader) read wrote (m.held x.writer) → Tells m (slot.Served x read wrote)
       → wants_untold (slot.Served x read wrote) ≡ false → IsCause read wrote why → why ≢ ending.NoMemory → m.writer_faults x.writer ≡ 0
       → AreTold (m.held x.writer) (replies journal n)
   got_served n x read write.Ended why low is tells told caused other fine =
@@ -70,7 +71,7 @@ module _ {G L S K : Type 0} (m : Outside G L S K) (journal : List Event) (law : 
   got_served n x None write.NoMemory why low is tells told caused other fine = absurd (other caused)
   got_served n x (Some read) write.NoMemory why low is tells told caused other fine = absurd (other (caused ∙ for_memory read told))
 
-  got_one : (n : ℕ) (s : Slot G L S K) → n < 64 → IsOf m enabled output_at journal n s → Tells m s → wants_untold s ≡ false → GotAll m journal (served_of journal n s)
+  got_one : (n : ℕ) (s : Slot G L S K) → n < 64 → IsOf m enabled output_at answer_at journal n s → Tells m s → wants_untold s ≡ false → GotAll m journal (served_of journal n s)
   got_one n slot.Unbound low is tells told = λ why sink ended other there fine. absurd cc
   got_one n (slot.Bound gate) low is tells told = absurd tells
   got_one n (slot.Unlinked gate) low is tells told = λ why sink ended other there fine. absurd cc
@@ -85,7 +86,7 @@ module _ {G L S K : Type 0} (m : Outside G L S K) (journal : List Event) (law : 
 
   -- ---- all slots
 
-  pub got_all : (path : List ℕ) (n : ℕ) (slots : List (Slot G L S K)) → n + length slots ≤ 64 → EachIs m enabled output_at journal n slots → EachTells m path n slots
+  pub got_all : (path : List ℕ) (n : ℕ) (slots : List (Slot G L S K)) → n + length slots ≤ 64 → EachIs m enabled output_at answer_at journal n slots → EachTells m path n slots
       → list_any wants_untold slots ≡ false → AllByRecursion (GotAll m journal) (served_from journal n slots)
   got_all path n [] few is tells none = tt
   got_all path n (s ∷ slots) few is tells none =

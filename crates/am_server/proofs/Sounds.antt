@@ -25,6 +25,7 @@ use Rattle.am_journal.specs.declared.event.Event.TheVariants.{Msg}
 use Rattle.am_journal.specs.declared.event.Why.{Why}
 use Rattle.am_journal.specs.declared.event.Why.TheVariants as why
 use Rattle.am_counter.specs.Played.{IsPrefix, has_hang}
+use Rattle.acme_core.specs.Asks.{answer_at}
 use Rattle.acme_core.specs.Run.{enabled, output_at}
 use Rattle.am_serve.specs.Budget.{message_limit, byte_limit, fits_budget}
 use Rattle.am_serve.specs.Reading.{messages_of, spelled_on, StandAmong, IsNext, NextFaulty, NextRefused, SizeFaulty, IsBroken, EndsAfter}
@@ -161,7 +162,7 @@ told_parts first (Some more) piece bytes told read = let same : Some bytes ≡ S
 
 module _ {G L S K : Type 0} (joins : JoinsPieces) (breaks : CutsNoMore) (m : Outside G L S K) (journal : List Event) where
   served_soundly : (n : ℕ) (x : Objects G L S K) (read : Option Ending) (wrote : WriteEnd) (cause : Ending) (bytes : List ℕ)
-      → IsServed enabled output_at journal n (m.begins x.link) (m.left x.reader) read wrote (m.held x.writer) → Tells m (slot.Served x read wrote) → IsCause read wrote cause
+      → IsServed enabled output_at answer_at journal n (m.begins x.link) (m.left x.reader) read wrote (m.held x.writer) → Tells m (slot.Served x read wrote) → IsCause read wrote cause
       → m.begins x.link ≡ Some bytes → m.reader_faults x.reader ≡ 0 → m.writer_faults x.writer ≡ 0 → (cut_stream bytes).rest ≡ []
       → fits_budget (cut_stream bytes).messages ≡ true → MayCome journal n (cut_stream bytes).messages
       → (cause ≡ ending.End) ⊎ (cause ≡ ending.NoMemory)
@@ -185,7 +186,7 @@ module _ {G L S K : Type 0} (joins : JoinsPieces) (breaks : CutsNoMore) (m : Out
       before turn.front turn.goes_on given r (just_these journal before n turn.front turn.messages) torn fault g.3.2 in
       subst (λ (c : Ending). (c ≡ ending.End) ⊎ (c ≡ ending.NoMemory)) (sym caused) ends
 
-  sound_one : (n : ℕ) (s : Slot G L S K) → IsOf m enabled output_at journal n s → Tells m s → EndsWell m journal (served_of journal n s)
+  sound_one : (n : ℕ) (s : Slot G L S K) → IsOf m enabled output_at answer_at journal n s → Tells m s → EndsWell m journal (served_of journal n s)
   sound_one n slot.Unbound is tells = λ cause ended sound. absurd cc
   sound_one n (slot.Bound gate) is tells = absurd tells
   sound_one n (slot.Unlinked gate) is tells = λ cause ended sound. absurd cc
@@ -199,7 +200,7 @@ module _ {G L S K : Type 0} (joins : JoinsPieces) (breaks : CutsNoMore) (m : Out
       served_soundly n x read wrote cause sound.bytes is tells (subst (λ (c : Ending). IsCause read wrote c) same is.caused)
       (ap m.begins linked ∙ sound.told) (ap m.reader_faults reads ∙ sound.reads) (ap m.writer_faults writes ∙ sound.writes) sound.whole sound.fits sound.may_come
 
-  pub sound_all : (path : List ℕ) (n : ℕ) (slots : List (Slot G L S K)) → EachIs m enabled output_at journal n slots → EachTells m path n slots
+  pub sound_all : (path : List ℕ) (n : ℕ) (slots : List (Slot G L S K)) → EachIs m enabled output_at answer_at journal n slots → EachTells m path n slots
       → AllByRecursion (EndsWell m journal) (served_from journal n slots)
   sound_all path n [] is tells = tt
   sound_all path n (s ∷ slots) is tells = (sound_one n s is.0 tells.1, sound_all path (n + 1) slots is.1 tells.2)

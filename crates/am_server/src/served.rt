@@ -8,9 +8,10 @@ use am_base::{Gate, Host, Link};
 use am_journal::{Ending, Event};
 use am_slots::{Objects, Slot, Slots};
 use am_text::Items;
+use ninep_client::CallFault;
 
-/// How a served connection ended.
-#[derive(Clone, Copy, Debug, PartialEq, Eq)]
+/// How a connection ended.
+#[derive(Drop)]
 pub enum ServedEnd {
     /// Its gate could not be bound.
     Bind,
@@ -22,9 +23,11 @@ pub enum ServedEnd {
     NoMemory,
     /// It was dialled, and ended so.
     Ended(Ending),
+    /// It is a client's, and this fault has closed the client, if one did.
+    Did(Option<CallFault>),
 }
 
-/// A served connection: its slot, the objects that it was served by, and how it ended.
+/// A connection: its slot, the objects that it was served by, and how it ended. A client's has the slot 0 and no gate.
 #[derive(Drop)]
 pub struct Served<G, L, S, K> {
     pub slot: u32,

@@ -14,8 +14,8 @@ use Rattle.am_journal.specs.declared.event.Why.{Why}
 use Rattle.am_journal.specs.declared.event.Why.TheVariants as reason
 use Rattle.am_counter.specs.Laws.{TellsConnections}
 use Rattle.am_counter.specs.Played.{IsPlayed, has_dial, is_dial_of, Refuses}
-use Rattle.am_serve.specs.Gained.{Rule, plain}
-use Rattle.am_serve.specs.Script.{Answers, is_scripted}
+use Rattle.am_serve.specs.Gained.{Rule, Answers, plain}
+use Rattle.am_serve.specs.Script.{is_scripted}
 use Rattle.am_slots.specs.Connection.{is_of, IsSilent}
 use Rattle.am_slots.specs.Serving.{EachIs}
 use Rattle.am_slots.specs.Slots.{Outside, Has, EachHas, IsOf}
@@ -91,14 +91,14 @@ for_memory enabled journal answer laws played conn low silent refused was = by_c
     by_cause (why.NotEnabled x) h = absurd cc
     by_cause why.NoMemory h = refl
 
-module _ {G L S K : Type 0} (o : Outside G L S K) (enabled : Rule) (unsent : List Event → ℕ → List ℕ) (journal : List Event) where
+module _ {G L S K : Type 0} (o : Outside G L S K) (enabled : Rule) (unsent : List Event → ℕ → List ℕ) (answer : Answers) (journal : List Event) where
   -- ---- kinds that the lists of slots have none of
 
   none_of_empty : (p : Event → Bool) (own : List (List (ℕ × Event))) → own ≡ [] ∷ [] → NoneHas p own
   none_of_empty p own e = let P : List (List (ℕ × Event)) → Type 0 = λ l. NoneHas p l in subst P (sym e) (tt, tt)
 
   none_of_slot : (p : Event → Bool) (conn : ℕ) (s : Slot G L S K) (own : List (List (ℕ × Event))) → ((e : Event) → is_of conn e ≡ true → p e ≡ false)
-      → Has o enabled unsent conn journal s own → NoneHas p own
+      → Has o enabled unsent answer conn journal s own → NoneHas p own
   none_of_slot p conn slot.Unbound own h has = none_of_empty p own has
   none_of_slot p conn (slot.Bound gate) own h has = none_of_empty p own has
   none_of_slot p conn (slot.Unlinked gate) own h has = none_of_empty p own has
@@ -108,13 +108,13 @@ module _ {G L S K : Type 0} (o : Outside G L S K) (enabled : Rule) (unsent : Lis
       let P : List (List (ℕ × Event)) → Type 0 = λ l. NoneHas p l in
       let here : (conn == conn) ≡ true = eq-eqb conn conn refl in
       let hang : (why : Ending) → p (event.Hang conn why) ≡ false = λ why. h (event.Hang conn why) here in
-      let reads = reads_fail enabled conn journal (o.begins x.link) (o.left x.reader) read has.reads has.reading p
+      let reads = reads_fail enabled answer conn journal (o.begins x.link) (o.left x.reader) read has.reads has.reading p
       (h (event.Dial conn) here) (λ msg. h (event.Msg conn msg) here) (λ why e. hang why) in
       let writes = writes_fail unsent conn journal wrote (o.held x.writer) has.writes has.writing p (h (event.Took conn) here) hang in
       subst P (sym has.are) (reads, (writes, tt))
 
   none_of_slots : (p : Event → Bool) (conn : ℕ) (slots : List (Slot G L S K)) (lists : List (List (ℕ × Event)))
-      → ((c : ℕ) (e : Event) → conn ≤ c → c < conn + length slots → is_of c e ≡ true → p e ≡ false) → EachHas o enabled unsent conn journal slots lists → NoneHas p lists
+      → ((c : ℕ) (e : Event) → conn ≤ c → c < conn + length slots → is_of c e ≡ true → p e ≡ false) → EachHas o enabled unsent answer conn journal slots lists → NoneHas p lists
   none_of_slots p conn [] lists h has = let P : List (List (ℕ × Event)) → Type 0 = λ l. NoneHas p l in subst P (sym has) tt
   none_of_slots p conn (s ∷ slots) lists h has =
       let P : List (List (ℕ × Event)) → Type 0 = λ l. NoneHas p l in
@@ -124,7 +124,7 @@ module _ {G L S K : Type 0} (o : Outside G L S K) (enabled : Rule) (unsent : Lis
 
   -- ---- all slots
 
-  module _ (answer : Answers) (laws : TellsConnections enabled answer) (played : IsPlayed enabled journal) (mine : List (ℕ × Event)) (own : List (List (ℕ × Event)))
+  module _ (laws : TellsConnections enabled answer) (played : IsPlayed enabled journal) (mine : List (ℕ × Event)) (own : List (List (ℕ × Event)))
       (stand : AllStand journal (mine ∷ own)) (each_once : (k : ℕ) → total (times k) (mine ∷ own) ≡ once (length journal) k)
       (order : KeepsOrder journal (mine ∷ own)) (scripted : AllByRecursion (λ (x : ℕ × Event). is_scripted x.1 ≡ true) mine) where
     -- a connection that no list has an event of
@@ -133,7 +133,7 @@ module _ {G L S K : Type 0} (o : Outside G L S K) (enabled : Rule) (unsent : Lis
 
     -- one slot, with the lists before and after its own
     is_of_slot : (conn : ℕ) (s : Slot G L S K) (before lists after : List (List (ℕ × Event))) → own ≡ before ++ (lists ++ after) → conn < 64
-        → NoneHas (is_of conn) before → NoneHas (is_of conn) after → Has o enabled unsent conn journal s lists → IsOf o enabled unsent journal conn s
+        → NoneHas (is_of conn) before → NoneHas (is_of conn) after → Has o enabled unsent answer conn journal s lists → IsOf o enabled unsent answer journal conn s
     is_of_slot conn s before lists after are low nb na has = by_cases s has
       where
         empty : lists ≡ [] ∷ [] → IsSilent journal conn
@@ -142,7 +142,7 @@ module _ {G L S K : Type 0} (o : Outside G L S K) (enabled : Rule) (unsent : Lis
             let here : NoneHas (is_of conn) lists = none_of_empty (is_of conn) lists e in
             silent conn (subst P (sym are) (none-append (is_of conn) before (lists ++ after) nb (none-append (is_of conn) lists after here na)))
 
-        by_cases : (s : Slot G L S K) → Has o enabled unsent conn journal s lists → IsOf o enabled unsent journal conn s
+        by_cases : (s : Slot G L S K) → Has o enabled unsent answer conn journal s lists → IsOf o enabled unsent answer journal conn s
         by_cases slot.Unbound has = empty has
         by_cases (slot.Bound gate) has = empty has
         by_cases (slot.Unlinked gate) has = empty has
@@ -151,11 +151,11 @@ module _ {G L S K : Type 0} (o : Outside G L S K) (enabled : Rule) (unsent : Lis
         by_cases (slot.Served x read wrote) has =
             let all : mine ∷ own ≡ (mine ∷ before) ++ has.reads ∷ has.writes ∷ after = ap (λ l. mine ∷ l) are ∙ ap (λ l. (mine ∷ before) ++ (l ++ after)) has.are in
             served journal (mine ∷ own) order conn (mine ∷ before) after has.reads has.writes all (scripted_fails conn mine scripted, nb) na
-            enabled unsent (o.begins x.link) (o.left x.reader) wrote (o.held x.writer) has.writing answer laws played stand each_once low has.ended read has.reading
+            enabled unsent answer (o.begins x.link) (o.left x.reader) wrote (o.held x.writer) has.writing laws played stand each_once low has.ended read has.reading
 
     -- slots from this connection on
     each_is : (conn : ℕ) (slots : List (Slot G L S K)) (before lists : List (List (ℕ × Event))) → own ≡ before ++ lists → conn + length slots ≤ 64
-        → ((d : ℕ) → conn ≤ d → NoneHas (is_of d) before) → EachHas o enabled unsent conn journal slots lists → EachIs o enabled unsent journal conn slots
+        → ((d : ℕ) → conn ≤ d → NoneHas (is_of d) before) → EachHas o enabled unsent answer conn journal slots lists → EachIs o enabled unsent answer journal conn slots
     each_is conn [] before lists are few nb has = tt
     each_is conn (s ∷ slots) before lists are few nb has =
         let here : own ≡ before ++ (has.0 ++ has.1) = are ∙ ap (λ l. before ++ l) has.2 in
@@ -171,24 +171,24 @@ module _ {G L S K : Type 0} (o : Outside G L S K) (enabled : Rule) (unsent : Lis
 -- ---- the journal of a server that has ended
 
 -- what the journal has of each slot and of all other connections, and its events of windows
-pub record Assembled {G L S K : Type 0} (o : Outside G L S K) (enabled : Rule) (unsent : List Event → ℕ → List ℕ) (journal : List Event) (mine : List (ℕ × Event))
+pub record Assembled {G L S K : Type 0} (o : Outside G L S K) (enabled : Rule) (unsent : List Event → ℕ → List ℕ) (answer : Answers) (journal : List Event) (mine : List (ℕ × Event))
     (slots : List (Slot G L S K)) : Type 0 where
-  pub each : EachIs o enabled unsent journal 0 slots
+  pub each : EachIs o enabled unsent answer journal 0 slots
   pub others : (conn : ℕ) → length slots ≤ conn → IsSilent journal conn
   pub events : filter is_scripted journal ≡ plain mine
 
 pub assembled : {G L S K : Type 0} (o : Outside G L S K) (enabled : Rule) (unsent : List Event → ℕ → List ℕ) (answer : Answers) (laws : TellsConnections enabled answer)
     (journal : List Event) (played : IsPlayed enabled journal) (mine : List (ℕ × Event)) (slots : List (Slot G L S K)) (own : List (List (ℕ × Event)))
     (stand : AllStand journal (mine ∷ own)) (each_once : (k : ℕ) → total (times k) (mine ∷ own) ≡ once (length journal) k) (order : KeepsOrder journal (mine ∷ own))
-    (has : EachHas o enabled unsent 0 journal slots own) (scripted : AllByRecursion (λ (x : ℕ × Event). is_scripted x.1 ≡ true) mine) (few : length slots ≤ 64)
-    → Assembled o enabled unsent journal mine slots
+    (has : EachHas o enabled unsent answer 0 journal slots own) (scripted : AllByRecursion (λ (x : ℕ × Event). is_scripted x.1 ≡ true) mine) (few : length slots ≤ 64)
+    → Assembled o enabled unsent answer journal mine slots
 assembled o enabled unsent answer laws journal played mine slots own stand each_once order has scripted few =
     let none : (p : Event → Bool) → ((c : ℕ) (e : Event) → 0 ≤ c → c < 0 + length slots → is_of c e ≡ true → p e ≡ false) → NoneHas p own =
-    λ p h. none_of_slots o enabled unsent journal p 0 slots own h has in
+    λ p h. none_of_slots o enabled unsent answer journal p 0 slots own h has in
     let others : (conn : ℕ) → length slots ≤ conn → NoneHas (is_of conn) own =
     λ conn le. none (is_of conn) (λ c e low high is. of_another c conn e (λ q. omega (arith, le, high, q)) is) in
     record {
-      each = each_is o enabled unsent journal answer laws played mine own stand each_once order scripted 0 slots [] own refl (omega (arith, few)) (λ d le. tt) has;
-      others = λ conn le. silent o enabled unsent journal answer laws played mine own stand each_once order scripted conn (others conn le);
+      each = each_is o enabled unsent answer journal laws played mine own stand each_once order scripted 0 slots [] own refl (omega (arith, few)) (λ d le. tt) has;
+      others = λ conn le. silent o enabled unsent answer journal laws played mine own stand each_once order scripted conn (others conn le);
       events = order is_scripted [] own mine refl tt (none is_scripted (λ c e low high is. unscripted c e is)) ∙ all_scripted mine scripted;
     }

@@ -13,7 +13,7 @@ use Rattle.am_journal.specs.declared.event.Event.TheVariants.{Dial, Hang}
 use Rattle.am_counter.specs.Known.{Known, Looks, Submits, TakesIn, lists_of, without_parts, new_known}
 use Rattle.am_journal.specs.declared.event.Refused.{Refused}
 use Rattle.am_counter.specs.Played.{has_dial, has_hang, is_dial_of, Refuses}
-use Rattle.am_serve.specs.Gained.{Rule, gained, hang_up}
+use Rattle.am_serve.specs.Gained.{Rule, Answers, gained, hang_up}
 use Rattle.am_serve.specs.Reading.{AreRead, AreMessages, GivesOf, spelling_of, spellings}
 use Rattle.am_serve.specs.Writing.{AreWritten, AreTakings}
 use Rattle.am_serve.specs.declared.writing.WriteEnd.{WriteEnd}
@@ -99,11 +99,11 @@ written_entries conn v w end.NoMemory a = (a.0, hang_up a.1 conn ending.NoMemory
 
 -- ---- both sides
 
-module _ (enabled : Rule) (unsent : List Event → ℕ → List ℕ) (conn : ℕ) where
-  read_side : (v w : Known) (s : Read) (read : Option Ending) (number : ℕ) → DidRead enabled conn v w s read → Reads enabled conn w.seen s.first s.now read ((number, Dial conn) ∷ gained v w)
+module _ (enabled : Rule) (unsent : List Event → ℕ → List ℕ) (answer : Answers) (conn : ℕ) where
+  read_side : (v w : Known) (s : Read) (read : Option Ending) (number : ℕ) → DidRead enabled answer conn v w s read → Reads enabled answer conn w.seen s.first s.now read ((number, Dial conn) ∷ gained v w)
   read_side v w s read number d =
       let e = read_entries conn v w read d.entries in
-      let P : List (List ℕ) → Type 0 = λ l. GivesOf enabled conn w.seen l s.first s.now read in
+      let P : List (List ℕ) → Type 0 = λ l. GivesOf enabled answer conn w.seen l s.first s.now read in
       record {
         number = number;
         messages = e.0;
@@ -140,9 +140,9 @@ module _ (enabled : Rule) (unsent : List Event → ℕ → List ℕ) (conn : ℕ
       ∙ ap (λ (n : List (ℕ × Event)). F ((number, Dial conn) ∷ xs) [] n wrote.ended) c
       ∙ ap (λ (f : List (List (ℕ × Event))). F ((number, Dial conn) ∷ xs) [] ys f) d
 
-  module _ (v first second read wrote u : Known) (s t : Read) (answer : Option Ending) (end : WriteEnd)
+  module _ (v first second read wrote u : Known) (s t : Read) (told : Option Ending) (end : WriteEnd)
       (h : HasDialled conn v) (left : first ≡ without_parts 1 v) (new : second ≡ new_known 1 v)
-      (d : DidRead enabled conn first read s answer) (e : DidWrite unsent conn second wrote t end) (k : TakesIn read wrote u) where
+      (d : DidRead enabled answer conn first read s told) (e : DidWrite unsent conn second wrote t end) (k : TakesIn read wrote u) where
     pub served_parts : v.parts ≡ 2 → u.parts ≡ 2
     served_parts two =
         let a : first.parts ≡ v.parts - 1 = ap (λ (x : Known). x.parts) left in
@@ -162,16 +162,16 @@ module _ (enabled : Rule) (unsent : List Event → ℕ → List ℕ) (conn : ℕ
         ∙ all_lists v read wrote h.number (gained first read) (gained second wrote)
         reads_mine (d.gains.ended ∙ ap (λ (x : Known). x.ended) left ∙ h.ended) writes_mine (e.gains.ended ∙ ap (λ (x : Known). x.ended) new)
 
-    pub served : AreTold t.first [] → Serves enabled unsent conn u.seen s.first s.now answer end t.now (lists_of u)
+    pub served : AreTold t.first [] → Serves enabled unsent answer conn u.seen s.first s.now told end t.now (lists_of u)
     served empty =
         let now : List Event = k.0 in
         let at : u.seen ≡ now = ap (λ (x : Known). x.seen) k.3 in
-        let P : List Event → Type 0 = λ l. Serves enabled unsent conn l s.first s.now answer end t.now (lists_of u) in
+        let P : List Event → Type 0 = λ l. Serves enabled unsent answer conn l s.first s.now told end t.now (lists_of u) in
         subst P (sym at) (record {
           reads = (h.number, Dial conn) ∷ gained first read;
           writes = gained second wrote;
           are = lists;
-          reading = reads_later enabled conn read.seen now s.first s.now answer _ k.1 (read_side first read s answer h.number d);
+          reading = reads_later enabled answer conn read.seen now s.first s.now told _ k.1 (read_side first read s told h.number d);
           writing = writes_later unsent conn wrote.seen now end t.now _ k.2 (write_side second wrote t end empty e);
           ended = has_hang_kept read.seen now conn k.1 d.ended;
         })

@@ -6,7 +6,7 @@ use Rattle.turn_lock.specs.Journal.{total}
 use Rattle.am_journal.specs.declared.event.Event.{Event}
 use Rattle.am_counter.specs.Known.{Known, lists_of}
 use Rattle.am_counter.specs.Played.{IsPrefix}
-use Rattle.am_serve.specs.Gained.{Rule}
+use Rattle.am_serve.specs.Gained.{Rule, Answers}
 use Rattle.am_slots.specs.Binding.{HaveNames}
 use Rattle.am_slots.specs.Serving.{EachTells}
 use Rattle.am_slots.specs.Slots.{Outside, EachHas, unbound}
@@ -32,12 +32,12 @@ pub ready_same : {T G L S K : Type 0} (Fits : T → Type 0) (known : T → Known
     → All (IsReady Fits known faults) workers → All (IsReady Fits known faults) now
 ready_same {T} {G} {L} {S} {K} Fits known faults workers now e h = let P : List (Worker T G L S K) → Type 0 = λ l. All (IsReady Fits known faults) l in subst P (sym e) h
 
-module _ {T G L S K : Type 0} (Fits : T → Type 0) (known : T → Known) (o : Outside G L S K) (enabled : Rule) (unsent : List Event → ℕ → List ℕ) where
+module _ {T G L S K : Type 0} (Fits : T → Type 0) (known : T → Known) (o : Outside G L S K) (enabled : Rule) (unsent : List Event → ℕ → List ℕ) (answer : Answers) where
   -- what a call with a worker at its place says of that place
-  pub works_at : (conn : ℕ) (b a x y : Worker T G L S K) → x ≡ b → y ≡ a → Works Fits known o enabled unsent conn x y → Works Fits known o enabled unsent conn b a
+  pub works_at : (conn : ℕ) (b a x y : Worker T G L S K) → x ≡ b → y ≡ a → Works Fits known o enabled unsent answer conn x y → Works Fits known o enabled unsent answer conn b a
   works_at conn b a x y e f w =
-      let P : Worker T G L S K → Type 0 = λ z. Works Fits known o enabled unsent conn z a in
-      let Q : Worker T G L S K → Type 0 = λ z. Works Fits known o enabled unsent conn x z in
+      let P : Worker T G L S K → Type 0 = λ z. Works Fits known o enabled unsent answer conn z a in
+      let Q : Worker T G L S K → Type 0 = λ z. Works Fits known o enabled unsent answer conn x z in
       subst P e (subst Q f w)
 
   -- place by place, from this connection on
@@ -45,19 +45,19 @@ module _ {T G L S K : Type 0} (Fits : T → Type 0) (known : T → Known) (o : O
   WorkOn conn [] [] = Unit {0}
   WorkOn conn [] (y ∷ ys) = ⊥
   WorkOn conn (x ∷ xs) [] = ⊥
-  WorkOn conn (x ∷ xs) (y ∷ ys) = Works Fits known o enabled unsent conn x y × WorkOn (conn + 1) xs ys
+  WorkOn conn (x ∷ xs) (y ∷ ys) = Works Fits known o enabled unsent answer conn x y × WorkOn (conn + 1) xs ys
 
-  works_from : (conn : ℕ) (xs ys : List (Worker T G L S K)) → length ys ≡ length xs → ((k : ℕ) (d : Worker T G L S K) → k < length xs → Works Fits known o enabled unsent (conn + k) (get_or xs k d) (get_or ys k d))
+  works_from : (conn : ℕ) (xs ys : List (Worker T G L S K)) → length ys ≡ length xs → ((k : ℕ) (d : Worker T G L S K) → k < length xs → Works Fits known o enabled unsent answer (conn + k) (get_or xs k d) (get_or ys k d))
       → WorkOn conn xs ys
   works_from conn [] [] e h = tt
   works_from conn [] (y ∷ ys) e h = absurd (omega (arith, e))
   works_from conn (x ∷ xs) [] e h = absurd (omega (arith, e))
   works_from conn (x ∷ xs) (y ∷ ys) e h =
-      let P : ℕ → Type 0 = λ n. Works Fits known o enabled unsent n x y in
+      let P : ℕ → Type 0 = λ n. Works Fits known o enabled unsent answer n x y in
       let first : conn + 0 ≡ conn = omega arith in (
         subst P first (h 0 x (omega arith)),
         works_from (conn + 1) xs ys (omega (arith, e)) (λ k d lt.
-            let Q : ℕ → Type 0 = λ n. Works Fits known o enabled unsent n (get_or xs k d) (get_or ys k d) in
+            let Q : ℕ → Type 0 = λ n. Works Fits known o enabled unsent answer n (get_or xs k d) (get_or ys k d) in
             let next : conn + suc k ≡ conn + 1 + k = omega arith in
             subst Q next (h (suc k) d (omega (arith, lt)))),
       )
@@ -75,7 +75,7 @@ module _ {T G L S K : Type 0} (Fits : T → Type 0) (known : T → Known) (o : O
   parts_on conn (x ∷ xs) (y ∷ ys) h = omega (arith, h.0.parts, parts_on (conn + 1) xs ys h.1)
 
   has_on : (seen : List Event) (conn : ℕ) (xs ys : List (Worker T G L S K)) → WorkOn conn xs ys → AllByRecursion (λ w. IsPrefix (known w.seat).seen seen) ys
-      → EachHas o enabled unsent conn seen (slots_of ys) (flat_map (λ w. lists_of (known w.seat)) ys)
+      → EachHas o enabled unsent answer conn seen (slots_of ys) (flat_map (λ w. lists_of (known w.seat)) ys)
   has_on seen conn [] [] h a = refl
   has_on seen conn [] (y ∷ ys) h a = absurd h
   has_on seen conn (x ∷ xs) [] h a = absurd h
@@ -83,7 +83,7 @@ module _ {T G L S K : Type 0} (Fits : T → Type 0) (known : T → Known) (o : O
     lists_of (known y.seat),
     flat_map (λ w. lists_of (known w.seat)) ys,
     refl,
-    has_later enabled unsent conn o (known y.seat).seen seen y.slot (lists_of (known y.seat)) a.0 h.0.has,
+    has_later enabled unsent answer conn o (known y.seat).seen seen y.slot (lists_of (known y.seat)) a.0 h.0.has,
     has_on seen (conn + 1) xs ys h.1 a.1,
   )
 
@@ -99,16 +99,16 @@ module _ {T G L S K : Type 0} (Fits : T → Type 0) (known : T → Known) (o : O
   unbound_on conn (x ∷ xs) [] h = absurd h
   unbound_on conn (x ∷ xs) (y ∷ ys) h = omega (arith, unbound-cons y.slot (slots_of ys), unbound-cons x.slot (slots_of xs), h.0.bound, unbound_on (conn + 1) xs ys h.1)
 
-  pub works_same : (xs ys before after : List (Worker T G L S K)) → before ≡ xs → after ≡ ys → EachWorks Fits known o enabled unsent before ys → EachWorks Fits known o enabled unsent xs after
+  pub works_same : (xs ys before after : List (Worker T G L S K)) → before ≡ xs → after ≡ ys → EachWorks Fits known o enabled unsent answer before ys → EachWorks Fits known o enabled unsent answer xs after
   works_same xs ys before after e f h =
-      let P : List (Worker T G L S K) → Type 0 = λ l. EachWorks Fits known o enabled unsent l after in
-      let Q : List (Worker T G L S K) → Type 0 = λ l. EachWorks Fits known o enabled unsent before l in
+      let P : List (Worker T G L S K) → Type 0 = λ l. EachWorks Fits known o enabled unsent answer l after in
+      let Q : List (Worker T G L S K) → Type 0 = λ l. EachWorks Fits known o enabled unsent answer before l in
       subst P e (subst Q (sym f) h)
 
-  module _ (xs ys : List (Worker T G L S K)) (h : EachWorks Fits known o enabled unsent xs ys) where
+  module _ (xs ys : List (Worker T G L S K)) (h : EachWorks Fits known o enabled unsent answer xs ys) where
     all_work : WorkOn 0 xs ys
     all_work = works_from 0 xs ys h.count (λ k d lt.
-        let P : ℕ → Type 0 = λ n. Works Fits known o enabled unsent n (get_or xs k d) (get_or ys k d) in
+        let P : ℕ → Type 0 = λ n. Works Fits known o enabled unsent answer n (get_or xs k d) (get_or ys k d) in
         let e : k ≡ 0 + k = omega arith in
         subst P e (h.each k d lt))
 
@@ -118,7 +118,7 @@ module _ {T G L S K : Type 0} (Fits : T → Type 0) (known : T → Known) (o : O
     pub each_parts : total (λ w. (known w.seat).parts) ys ≡ 2 * length xs
     each_parts = parts_on 0 xs ys all_work
 
-    pub each_has : (seen : List Event) → AllByRecursion (λ w. IsPrefix (known w.seat).seen seen) ys → EachHas o enabled unsent 0 seen (slots_of ys) (flat_map (λ w. lists_of (known w.seat)) ys)
+    pub each_has : (seen : List Event) → AllByRecursion (λ w. IsPrefix (known w.seat).seen seen) ys → EachHas o enabled unsent answer 0 seen (slots_of ys) (flat_map (λ w. lists_of (known w.seat)) ys)
     each_has seen a = has_on seen 0 xs ys all_work a
 
     pub each_tells : (path : List ℕ) → HaveNames o.name path 0 (slots_of xs) → EachTells o path 0 (slots_of ys)

@@ -1,10 +1,10 @@
 -- What is said of a journal that was seen holds of a longer one.
-use Rattle.std.proofs.Common.{◌≡◌, ℕ, true, List, ◌++◌, Option, sym, ap, subst, ◌∙◌}
+use Rattle.std.proofs.Common.{◌≡◌, ℕ, List, Option, sym, ap, subst, ◌∙◌}
 use Rattle.turn_lock.specs.Journal.{Stands}
 use Rattle.am_journal.specs.declared.ending.Ending.{Ending}
 use Rattle.am_journal.specs.declared.event.Event.{Event}
 use Rattle.am_counter.specs.Played.{IsPrefix}
-use Rattle.am_serve.specs.Gained.{Rule}
+use Rattle.am_serve.specs.Gained.{Rule, Answers}
 use Rattle.am_serve.specs.Reading.{spellings}
 use Rattle.am_serve.specs.Writing.{taken_bytes, Gets}
 use Rattle.am_serve.specs.declared.writing.WriteEnd.{WriteEnd}
@@ -27,16 +27,16 @@ taken_later unsent log now entries p s = sym (taken_longer unsent log p.0 0 entr
 
 -- ---- seats
 
-pub reads_later : (enabled : Rule) (conn : ℕ) (xs ys : List Event) (first now : Option (List ℕ)) (read : Option Ending) (entries : List (ℕ × Event)) → IsPrefix xs ys
-    → Reads enabled conn xs first now read entries → Reads enabled conn ys first now read entries
-reads_later enabled conn xs ys first now read entries p r = record {
+pub reads_later : (enabled : Rule) (answer : Answers) (conn : ℕ) (xs ys : List Event) (first now : Option (List ℕ)) (read : Option Ending) (entries : List (ℕ × Event)) → IsPrefix xs ys
+    → Reads enabled answer conn xs first now read entries → Reads enabled answer conn ys first now read entries
+reads_later enabled answer conn xs ys first now read entries p r = record {
   number = r.number;
   messages = r.messages;
   hang = r.hang;
   are = r.are;
   are_messages = r.are_messages;
   hangs = r.hangs;
-  gives = gives_later enabled conn xs ys (spellings r.messages) first now read p r.gives;
+  gives = gives_later enabled answer conn xs ys (spellings r.messages) first now read p r.gives;
 }
 
 pub writes_later : (unsent : List Event → ℕ → List ℕ) (conn : ℕ) (xs ys : List Event) (wrote : WriteEnd) (held : Option (List ℕ)) (entries : List (ℕ × Event)) → IsPrefix xs ys
@@ -54,20 +54,20 @@ writes_later unsent conn xs ys wrote held entries p w = record {
   drained = λ e. let d = w.drained e in (d.0, grown d.0 xs ys d.1 p, d.2, d.3);
 }
 
-module _ (enabled : Rule) (unsent : List Event → ℕ → List ℕ) (conn : ℕ) where
+module _ (enabled : Rule) (unsent : List Event → ℕ → List ℕ) (answer : Answers) (conn : ℕ) where
   serves_later : (xs ys : List Event) (first now : Option (List ℕ)) (read : Option Ending) (wrote : WriteEnd) (held : Option (List ℕ)) (lists : List (List (ℕ × Event))) → IsPrefix xs ys
-      → Serves enabled unsent conn xs first now read wrote held lists → Serves enabled unsent conn ys first now read wrote held lists
+      → Serves enabled unsent answer conn xs first now read wrote held lists → Serves enabled unsent answer conn ys first now read wrote held lists
   serves_later xs ys first now read wrote held lists p s = record {
     reads = s.reads;
     writes = s.writes;
     are = s.are;
-    reading = reads_later enabled conn xs ys first now read s.reads p s.reading;
+    reading = reads_later enabled answer conn xs ys first now read s.reads p s.reading;
     writing = writes_later unsent conn xs ys wrote held s.writes p s.writing;
     ended = has_hang_kept xs ys conn p s.ended;
   }
 
   pub has_later : {G L S K : Type 0} (o : Outside G L S K) (xs ys : List Event) (s : Slot G L S K) (lists : List (List (ℕ × Event))) → IsPrefix xs ys
-      → Has o enabled unsent conn xs s lists → Has o enabled unsent conn ys s lists
+      → Has o enabled unsent answer conn xs s lists → Has o enabled unsent answer conn ys s lists
   has_later o xs ys slot.Unbound lists p h = h
   has_later o xs ys (slot.Bound gate) lists p h = h
   has_later o xs ys (slot.Unlinked gate) lists p h = h

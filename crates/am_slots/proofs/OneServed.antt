@@ -11,9 +11,8 @@ use Rattle.am_journal.specs.declared.event.Event.{Event}
 use Rattle.am_journal.specs.declared.event.Event.TheVariants as event
 use Rattle.am_counter.specs.Laws.{TellsConnections}
 use Rattle.am_counter.specs.Played.{IsPlayed, has_hang, is_dial_of}
-use Rattle.am_serve.specs.Gained.{Rule}
+use Rattle.am_serve.specs.Gained.{Rule, Answers}
 use Rattle.am_serve.specs.Reading.{GivesOf, spellings, spelled_on, messages_of}
-use Rattle.am_serve.specs.Script.{Answers}
 use Rattle.am_serve.specs.Writing.{taken_bytes, Gets}
 use Rattle.am_serve.specs.declared.writing.WriteEnd.{WriteEnd}
 use Rattle.am_counter.specs.Sent.{sent_by, sent}
@@ -78,21 +77,21 @@ module _ (journal : List Event) (lists : List (List (ℕ × Event))) (order : Ke
       gathered f journal lists (before ++ reads ∷ []) after writes order behind
       (none-append (gives f) before (reads ∷ []) (narrower before none_before) (none, tt)) (narrower after none_after)
 
-  module _ (enabled : Rule) (unsent : List Event → ℕ → List ℕ) (first now : Option (List ℕ)) (wrote : WriteEnd) (held : Option (List ℕ))
+  module _ (enabled : Rule) (unsent : List Event → ℕ → List ℕ) (answer : Answers) (first now : Option (List ℕ)) (wrote : WriteEnd) (held : Option (List ℕ))
       (w : Writes unsent conn journal wrote held writes) where
-    module _ (read : Option Ending) (r : Reads enabled conn journal first now read reads) where
+    module _ (read : Option Ending) (r : Reads enabled answer conn journal first now read reads) where
       dial_once : filter (is_dial_of conn) journal ≡ event.Dial conn ∷ []
       dial_once =
           let p = is_dial_of conn in
           order p before (writes ∷ after) reads are (none_narrower (is_of conn) p (no_dial conn) before none_before)
           (writes_fail unsent conn journal wrote held writes w p refl (λ why. refl), none_narrower (is_of conn) p (no_dial conn) after none_after)
-          ∙ dial_read enabled conn journal first now read reads r
+          ∙ dial_read enabled answer conn journal first now read reads r
 
       messages_are : messages_of journal conn ≡ spellings r.messages
       messages_are =
           let f = spelled_on conn in
           gathered_reads f (no_message conn) (writes_fail unsent conn journal wrote held writes w (gives f) refl (λ why. refl))
-          ∙ spelled_read enabled conn journal first now read reads r
+          ∙ spelled_read enabled answer conn journal first now read reads r
 
       -- the takings of the connection, with their numbers
       sent_are : AllStand journal lists → ((k : ℕ) → total (times k) lists ≡ once (length journal) k) → sent unsent journal conn ≡ taken_bytes unsent journal writes
@@ -100,7 +99,7 @@ module _ (journal : List Event) (lists : List (List (ℕ × Event))) (order : Ke
           let p = is_taking_of conn in
           let f : ℕ × Event → List ℕ = sent_at unsent journal conn in
           let none : (x : ℕ × Event) → p x.1 ≡ false → gives f x ≡ false = λ x h. gives_none f x (nothing_sent unsent conn (take (x.0 - 1) journal) x.1 h) in
-          let reads_none : AllFail p reads = reads_fail enabled conn journal first now read reads r p refl (λ msg. refl) (λ why e. refl) in
+          let reads_none : AllFail p reads = reads_fail enabled answer conn journal first now read reads r p refl (λ msg. refl) (λ why e. refl) in
           let before_none : NoneHas p (before ++ reads ∷ []) =
           none-append p before (reads ∷ []) (none_narrower (is_of conn) p (no_taking conn) before none_before) (reads_none, tt) in
           let after_none : NoneHas p after = none_narrower (is_of conn) p (no_taking conn) after none_after in
@@ -114,23 +113,23 @@ module _ (journal : List Event) (lists : List (List (ℕ × Event))) (order : Ke
           ∙ sent_taken unsent conn journal wrote held writes w
 
     -- the one hang-up has a cause that a side answered
-    cause_is : (read : Option Ending) → Reads enabled conn journal first now read reads → AllStand journal lists
+    cause_is : (read : Option Ending) → Reads enabled answer conn journal first now read reads → AllStand journal lists
         → (cause : Ending) → endings_of journal conn ≡ cause ∷ [] → IsCause read wrote cause
     cause_is (Some why) r stand cause e =
         let P : List (List (ℕ × Event)) → Type 0 = λ l. AllStand journal l in
-        cause_of_reading enabled conn journal first now why cause reads r (stands_among journal before (writes ∷ after) reads (subst P are stand)) e
+        cause_of_reading enabled answer conn journal first now why cause reads r (stands_among journal before (writes ∷ after) reads (subst P are stand)) e
     cause_is None r stand cause e =
         let f = ended_by conn in
-        let none : AllFail (gives f) reads = reads_fail enabled conn journal first now None reads r (gives f) refl (λ msg. refl) (λ why q. absurd cc) in
+        let none : AllFail (gives f) reads = reads_fail enabled answer conn journal first now None reads r (gives f) refl (λ msg. refl) (λ why q. absurd cc) in
         cause_of_writing unsent conn journal wrote held writes w cause (sym (gathered_writes f (no_ending conn) none) ∙ e)
 
     -- what the journal has of the connection
-    pub served : (answer : Answers) → TellsConnections enabled answer → IsPlayed enabled journal → AllStand journal lists
+    pub served : TellsConnections enabled answer → IsPlayed enabled journal → AllStand journal lists
         → ((k : ℕ) → total (times k) lists ≡ once (length journal) k) → conn < 64 → has_hang journal conn ≡ true
-        → (read : Option Ending) → Reads enabled conn journal first now read reads → IsServed enabled unsent journal conn first now read wrote held
-    served answer laws played stand each_once low ended read r =
+        → (read : Option Ending) → Reads enabled answer conn journal first now read reads → IsServed enabled unsent answer journal conn first now read wrote held
+    served laws played stand each_once low ended read r =
         let one = ends_once enabled conn (λ j why p. laws.hang j conn why p low) journal played ended in
-        let G : List (List ℕ) → Type 0 = λ l. GivesOf enabled conn journal l first now read in
+        let G : List (List ℕ) → Type 0 = λ l. GivesOf enabled answer conn journal l first now read in
         let S : List ℕ → Type 0 = λ l. Gets wrote w.first l held in
         record {
           dialled = dial_once read r;

@@ -14,7 +14,7 @@ use Rattle.am_journal.specs.declared.ending.Ending.TheVariants as ending
 use Rattle.am_journal.specs.declared.event.Event.{Event}
 use Rattle.am_journal.specs.declared.event.Event.TheVariants.{Dial, Msg, Hang, Took}
 use Rattle.am_counter.specs.Played.{is_dial_of}
-use Rattle.am_serve.specs.Gained.{Rule}
+use Rattle.am_serve.specs.Gained.{Rule, Answers}
 use Rattle.am_serve.specs.Reading.{AreMessages, spelling_of, spellings, spelled_on}
 use Rattle.am_serve.specs.Writing.{AreTakings, bytes_of, taken_bytes}
 use Rattle.am_serve.specs.declared.writing.WriteEnd.{WriteEnd}
@@ -64,8 +64,8 @@ module _ (conn : ℕ) (p : Event → Bool) where
 
 -- ---- the list of the side that reads
 
-module _ (enabled : Rule) (conn : ℕ) (seen : List Event) (first now : Option (List ℕ)) (read : Option Ending) (entries : List (ℕ × Event))
-    (r : Reads enabled conn seen first now read entries) where
+module _ (enabled : Rule) (answer : Answers) (conn : ℕ) (seen : List Event) (first now : Option (List ℕ)) (read : Option Ending) (entries : List (ℕ × Event))
+    (r : Reads enabled answer conn seen first now read entries) where
   pub reads_fail : (p : Event → Bool) → p (Dial conn) ≡ false → ((msg : TMsg) → p (Msg conn msg) ≡ false)
       → ((why : Ending) → read ≡ Some why → p (Hang conn why) ≡ false) → AllFail p entries
   reads_fail p d m h =
@@ -111,9 +111,9 @@ last_stands log low [] x s = s.1
 last_stands log low (y ∷ xs) x s = last_stands log y.0 xs x s.2
 
 -- where the side that reads made a hang-up, that is the one of the journal
-pub cause_of_reading : (enabled : Rule) (conn : ℕ) (seen : List Event) (first now : Option (List ℕ)) (why cause : Ending) (entries : List (ℕ × Event))
-    → Reads enabled conn seen first now (Some why) entries → Stands seen 0 entries → flat_map (ended_by conn) seen ≡ cause ∷ [] → cause ≡ why
-cause_of_reading enabled conn seen first now why cause entries r stand e =
+pub cause_of_reading : (enabled : Rule) (answer : Answers) (conn : ℕ) (seen : List Event) (first now : Option (List ℕ)) (why cause : Ending) (entries : List (ℕ × Event))
+    → Reads enabled answer conn seen first now (Some why) entries → Stands seen 0 entries → flat_map (ended_by conn) seen ≡ cause ∷ [] → cause ≡ why
+cause_of_reading enabled answer conn seen first now why cause entries r stand e =
     let P : List (ℕ × Event) → Type 0 = λ l. Stands seen 0 l in
     let n = r.hangs.0 in
     let whole : entries ≡ ((r.number, Dial conn) ∷ r.messages) ++ (n, Hang conn why) ∷ [] = r.are ∙ ap (λ l. (r.number, Dial conn) ∷ r.messages ++ l) r.hangs.1 in

@@ -1,5 +1,5 @@
 -- What the seat that has all entries at the end says of the journal.
-use Rattle.std.proofs.Common.{◌≡◌, ℕ, ◌≤◌, List, [], ◌∷◌, true, ◌∙◌, length, sym, subst, ap, refl, arith}
+use Rattle.std.proofs.Common.{◌≡◌, ℕ, ◌≤◌, List, true, ◌∙◌, length, sym, subst, ap, arith}
 use Rattle.std.specs.List.{AllByRecursion}
 use Rattle.turn_lock.specs.Journal.{total, once, times, AllStand}
 use Rattle.turn_lock.specs.Kinds.{KeepsOrder}
@@ -7,11 +7,10 @@ use Rattle.am_journal.specs.declared.event.Event.{Event}
 use Rattle.am_counter.specs.Known.{Known, lists_of}
 use Rattle.am_counter.specs.Laws.{TellsConnections}
 use Rattle.am_counter.specs.Played.{IsPlayed}
-use Rattle.am_serve.specs.Gained.{Rule, plain}
-use Rattle.am_serve.specs.Script.{Answers, is_scripted}
+use Rattle.am_serve.specs.Gained.{Rule, Answers, plain}
+use Rattle.am_serve.specs.Script.{is_scripted}
 use Rattle.am_serve.specs.declared.scripting.ScriptEnd.{ScriptEnd}
-use Rattle.am_slots.specs.Connection.{IsSilent}
-use Rattle.am_slots.specs.Serving.{ServesAll, DidScript, IsRun}
+use Rattle.am_slots.specs.Serving.{ServesAll, IsRun}
 use Rattle.am_slots.specs.Slots.{Outside}
 use Rattle.am_slots.specs.declared.slot.Slot.{Slot}
 use Rattle.am_slots.proofs.Assembly.{assembled}

@@ -3,8 +3,8 @@ use Rattle.std.specs.Prelude.{◌≡◌, ℕ, ◌+◌, ◌≤◌, List, [], ◌�
 use Rattle.am_journal.specs.declared.event.Event.{Event}
 use Rattle.am_counter.specs.Known.{Known}
 use Rattle.am_counter.specs.Played.{IsPrefix}
-use Rattle.am_serve.specs.Gained.{Rule, plain}
-use Rattle.am_serve.specs.Script.{Answers, EndsScript, asked_by_script, is_scripted}
+use Rattle.am_serve.specs.Gained.{Rule, Answers, plain}
+use Rattle.am_serve.specs.Script.{EndsScript, asked_by_script, is_scripted}
 use Rattle.am_serve.specs.declared.scripting.ScriptEnd.{ScriptEnd}
 use Rattle.am_slots.specs.Connection.{IsSilent}
 use Rattle.am_slots.specs.Slots.{Outside, IsOf, EachHas, HasName, Tells}
@@ -17,9 +17,9 @@ module _ {G L S K : Type 0} (o : Outside G L S K) where
   EachTells path conn (s ∷ slots) = HasName o.name path conn s × Tells o s × EachTells path (conn + 1) slots
 
   -- and what a journal has of them
-  abbrev pub EachIs : Rule → (List Event → ℕ → List ℕ) → List Event → ℕ → List (Slot G L S K) → Type 0
-  EachIs enabled unsent journal conn [] = Unit {0}
-  EachIs enabled unsent journal conn (s ∷ slots) = IsOf o enabled unsent journal conn s × EachIs enabled unsent journal (conn + 1) slots
+  abbrev pub EachIs : Rule → (List Event → ℕ → List ℕ) → Answers → List Event → ℕ → List (Slot G L S K) → Type 0
+  EachIs enabled unsent answer journal conn [] = Unit {0}
+  EachIs enabled unsent answer journal conn (s ∷ slots) = IsOf o enabled unsent answer journal conn s × EachIs enabled unsent answer journal (conn + 1) slots
 
 -- what a script's seat knows at first
 abbrev pub unseen : Known
@@ -27,7 +27,7 @@ unseen = record { parts = 1; seen = []; mine = []; ended = [] }
 
 -- All slots were served and the script was done: the seat has its entries, and those of the slots' seats ended in it.
 pub record ServesAll {G L S K : Type 0} (o : Outside G L S K) (enabled : Rule) (unsent : List Event → ℕ → List ℕ) (answer : Answers) (clients : ℕ) (script : List ℕ) (slots : List (Slot G L S K)) (end : ScriptEnd) (w : Known) : Type 0 where
-  pub each : EachHas o enabled unsent 0 w.seen slots w.ended
+  pub each : EachHas o enabled unsent answer 0 w.seen slots w.ended
   pub known : Known
   pub seen : IsPrefix known.seen w.seen
   pub mine : w.mine ≡ known.mine
@@ -42,6 +42,6 @@ pub record DidScript (enabled : Rule) (answer : Answers) (clients : ℕ) (script
 
 -- A journal of slots that were served and a script that was done, and of nothing else.
 pub record IsRun {G L S K : Type 0} (o : Outside G L S K) (enabled : Rule) (unsent : List Event → ℕ → List ℕ) (answer : Answers) (clients : ℕ) (script : List ℕ) (journal : List Event) (slots : List (Slot G L S K)) (end : ScriptEnd) : Type 0 where
-  pub each : EachIs o enabled unsent journal 0 slots
+  pub each : EachIs o enabled unsent answer journal 0 slots
   pub others : (conn : ℕ) → clients ≤ conn → IsSilent journal conn
   pub did : DidScript enabled answer clients script journal end

@@ -8,7 +8,7 @@ use Rattle.am_journal.specs.declared.event.Event.{Event}
 use Rattle.am_journal.specs.declared.event.Event.TheVariants.{Dial, Hang}
 use Rattle.am_journal.specs.declared.event.Refused.{Refused}
 use Rattle.am_counter.specs.Played.{IsPrefix, has_hang, Refuses}
-use Rattle.am_serve.specs.Gained.{Rule}
+use Rattle.am_serve.specs.Gained.{Rule, Answers}
 use Rattle.am_serve.specs.Reading.{AreMessages, GivesOf, spellings}
 use Rattle.am_serve.specs.Writing.{AreTakings, taken_bytes, Gets}
 use Rattle.am_serve.specs.declared.writing.WriteEnd.{WriteEnd}
@@ -34,15 +34,16 @@ HangsAfterWriting conn end.Ended entries = entries ≡ []
 HangsAfterWriting conn end.Gone entries = (entries ≡ []) ⊎ IsHangUp conn ending.Gone entries
 HangsAfterWriting conn end.NoMemory entries = (entries ≡ []) ⊎ IsHangUp conn ending.NoMemory entries
 
--- What a seat that dials a connection and reads has added: the dialling, messages of the bytes that were read, and a hang-up.
-pub record Reads (enabled : Rule) (conn : ℕ) (seen : List Event) (first now : Option (List ℕ)) (read : Option Ending) (entries : List (ℕ × Event)) : Type 0 where
+-- What a seat that dials a connection and reads has added: the dialling, messages of the bytes that were read, each
+-- piece of which was read once there was room, and a hang-up.
+pub record Reads (enabled : Rule) (answer : Answers) (conn : ℕ) (seen : List Event) (first now : Option (List ℕ)) (read : Option Ending) (entries : List (ℕ × Event)) : Type 0 where
   pub number : ℕ
   pub messages : List (ℕ × Event)
   pub hang : List (ℕ × Event)
   pub are : entries ≡ (number, Dial conn) ∷ messages ++ hang
   pub are_messages : AreMessages conn messages
   pub hangs : HangsAfterReading conn read hang
-  pub gives : GivesOf enabled conn seen (spellings messages) first now read
+  pub gives : GivesOf enabled answer conn seen (spellings messages) first now read
 
 -- What a seat that writes has added: the takings of replies, which its sink got, and a hang-up. Where it answers that the connection has
 -- ended, nothing was unsent then.
@@ -59,10 +60,10 @@ pub record Writes (unsent : List Event → ℕ → List ℕ) (conn : ℕ) (seen 
   pub drained : wrote ≡ end.Ended → IsDrained unsent seen conn
 
 -- A connection's seats, the first of which took in the second: what they have added, as far as a journal was seen that has the hang-up.
-pub record Serves (enabled : Rule) (unsent : List Event → ℕ → List ℕ) (conn : ℕ) (seen : List Event) (first now : Option (List ℕ)) (read : Option Ending) (wrote : WriteEnd) (held : Option (List ℕ)) (lists : List (List (ℕ × Event))) : Type 0 where
+pub record Serves (enabled : Rule) (unsent : List Event → ℕ → List ℕ) (answer : Answers) (conn : ℕ) (seen : List Event) (first now : Option (List ℕ)) (read : Option Ending) (wrote : WriteEnd) (held : Option (List ℕ)) (lists : List (List (ℕ × Event))) : Type 0 where
   pub reads : List (ℕ × Event)
   pub writes : List (ℕ × Event)
   pub are : lists ≡ reads ∷ writes ∷ []
-  pub reading : Reads enabled conn seen first now read reads
+  pub reading : Reads enabled answer conn seen first now read reads
   pub writing : Writes unsent conn seen wrote held writes
   pub ended : has_hang seen conn ≡ true

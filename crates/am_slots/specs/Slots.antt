@@ -8,7 +8,7 @@ use Rattle.am_journal.specs.declared.event.Event.{Event}
 use Rattle.am_journal.specs.declared.event.Event.TheVariants.{Dial}
 use Rattle.am_journal.specs.declared.event.Refused.TheVariants as why
 use Rattle.am_counter.specs.Played.{is_dial_of}
-use Rattle.am_serve.specs.Gained.{Rule}
+use Rattle.am_serve.specs.Gained.{Rule, Answers}
 use Rattle.am_serve.specs.Reading.{messages_of, GivesOf}
 use Rattle.am_serve.specs.Writing.{Gets}
 use Rattle.am_serve.specs.declared.writing.WriteEnd.{WriteEnd}
@@ -41,14 +41,14 @@ abbrev pub outside : {G L S K : Type 0} → (G → Option (List ℕ × ℕ)) →
 outside name gate_faults begins link_faults left reader_faults held writer_faults =
     record { name = name; gate_faults = gate_faults; begins = begins; link_faults = link_faults; left = left; reader_faults = reader_faults; held = held; writer_faults = writer_faults }
 
--- A connection that was served: it was dialled once and has ended once, its messages are those of its source, and its sink got what was
--- sent to it. Where writing ended with it, nothing was left unsent.
-pub record IsServed (enabled : Rule) (unsent : List Event → ℕ → List ℕ) (journal : List Event) (conn : ℕ) (first now : Option (List ℕ)) (read : Option Ending) (wrote : WriteEnd) (held : Option (List ℕ)) : Type 0 where
+-- A connection that was served: it was dialled once and has ended once, its messages are those of its source, which was read on only while
+-- there was room for replies, and its sink got what was sent to it. Where writing ended with it, nothing was left unsent.
+pub record IsServed (enabled : Rule) (unsent : List Event → ℕ → List ℕ) (answer : Answers) (journal : List Event) (conn : ℕ) (first now : Option (List ℕ)) (read : Option Ending) (wrote : WriteEnd) (held : Option (List ℕ)) : Type 0 where
   pub dialled : filter (is_dial_of conn) journal ≡ Dial conn ∷ []
   pub cause : Ending
   pub ended : endings_of journal conn ≡ cause ∷ []
   pub caused : IsCause read wrote cause
-  pub gives : GivesOf enabled conn journal (messages_of journal conn) first now read
+  pub gives : GivesOf enabled answer conn journal (messages_of journal conn) first now read
   pub empty : Option (List ℕ)
   pub begins_empty : AreTold empty []
   pub gets : Gets wrote empty (sent unsent journal conn) held
@@ -104,7 +104,7 @@ HasRisenBy n before now = (before + n ≤ now) ⊎ (2 ^ 64 ≤ now + 1)
 
 -- ---- slots and a journal
 
-module _ {G L S K : Type 0} (o : Outside G L S K) (enabled : Rule) (unsent : List Event → ℕ → List ℕ) where
+module _ {G L S K : Type 0} (o : Outside G L S K) (enabled : Rule) (unsent : List Event → ℕ → List ℕ) (answer : Answers) where
   -- what the seat of a slot has, and those that ended in it, as far as a journal was seen
   abbrev pub Has : ℕ → List Event → Slot G L S K → List (List (ℕ × Event)) → Type 0
   Has conn seen slot.Unbound lists = lists ≡ [] ∷ []
@@ -112,7 +112,7 @@ module _ {G L S K : Type 0} (o : Outside G L S K) (enabled : Rule) (unsent : Lis
   Has conn seen (slot.Unlinked gate) lists = lists ≡ [] ∷ []
   Has conn seen (slot.Unhalved gate link) lists = lists ≡ [] ∷ []
   Has conn seen (slot.Undialled x refused) lists = (lists ≡ [] ∷ []) × WasRefused enabled conn seen refused
-  Has conn seen (slot.Served x read wrote) lists = Serves enabled unsent conn seen (o.begins x.link) (o.left x.reader) read wrote (o.held x.writer) lists
+  Has conn seen (slot.Served x read wrote) lists = Serves enabled unsent answer conn seen (o.begins x.link) (o.left x.reader) read wrote (o.held x.writer) lists
 
   -- the same of slots one after another, from this connection on
   abbrev pub EachHas : ℕ → List Event → List (Slot G L S K) → List (List (ℕ × Event)) → Type 0
@@ -128,4 +128,4 @@ module _ {G L S K : Type 0} (o : Outside G L S K) (enabled : Rule) (unsent : Lis
   IsOf journal conn (slot.Unlinked gate) = IsSilent journal conn
   IsOf journal conn (slot.Unhalved gate link) = IsSilent journal conn
   IsOf journal conn (slot.Undialled x refused) = IsSilent journal conn × (refused ≡ why.NoMemory)
-  IsOf journal conn (slot.Served x read wrote) = IsServed enabled unsent journal conn (o.begins x.link) (o.left x.reader) read wrote (o.held x.writer)
+  IsOf journal conn (slot.Served x read wrote) = IsServed enabled unsent answer journal conn (o.begins x.link) (o.left x.reader) read wrote (o.held x.writer)

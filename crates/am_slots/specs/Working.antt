@@ -12,7 +12,7 @@ use Rattle.am_journal.specs.declared.event.Event.{Event}
 use Rattle.am_journal.specs.declared.event.Event.TheVariants.{Dial}
 use Rattle.am_counter.specs.Known.{Known, lists_of}
 use Rattle.am_counter.specs.Played.{IsPrefix, has_dial, has_hang}
-use Rattle.am_serve.specs.Gained.{Rule, Gains, gained}
+use Rattle.am_serve.specs.Gained.{Rule, Answers, Gains, gained}
 use Rattle.am_serve.specs.Reading.{AreRead, GivesOf, spellings}
 use Rattle.am_serve.specs.Writing.{AreWritten, Gets, taken_bytes}
 use Rattle.am_serve.specs.declared.writing.WriteEnd.{WriteEnd}
@@ -29,10 +29,10 @@ pub record Read : Type 0 where
   pub faults_now : ℕ
 
 -- what a side that reads does
-pub record DidRead (enabled : Rule) (conn : ℕ) (v w : Known) (s : Read) (read : Option Ending) : Type 0 where
+pub record DidRead (enabled : Rule) (answer : Answers) (conn : ℕ) (v w : Known) (s : Read) (read : Option Ending) : Type 0 where
   pub gains : Gains v (gained v w) w
   pub entries : AreRead conn read v w
-  pub gives : GivesOf enabled conn w.seen (spellings (gained v w)) s.first s.now read
+  pub gives : GivesOf enabled answer conn w.seen (spellings (gained v w)) s.first s.now read
   pub ended : has_hang w.seen conn ≡ true
   pub end : read ≡ Some ending.End → AreTold s.now []
   pub torn : read ≡ Some ending.Torn → AreTold s.now []
@@ -68,18 +68,18 @@ module _ {T G L S K : Type 0} (Fits : T → Type 0) (known : T → Known) where
     pub waits : IsWaiting faults w.slot
 
   -- a worker whose slot was served
-  pub record Works (o : Outside G L S K) (enabled : Rule) (unsent : List Event → ℕ → List ℕ) (conn : ℕ) (before after : Worker T G L S K) : Type 0 where
+  pub record Works (o : Outside G L S K) (enabled : Rule) (unsent : List Event → ℕ → List ℕ) (answer : Answers) (conn : ℕ) (before after : Worker T G L S K) : Type 0 where
     pub fits : Fits after.seat
     pub parts : (known after.seat).parts ≡ 2
-    pub has : Has o enabled unsent conn (known after.seat).seen after.slot (lists_of (known after.seat))
+    pub has : Has o enabled unsent answer conn (known after.seat).seen after.slot (lists_of (known after.seat))
     pub tells : Tells o after.slot
     pub named : (path : List ℕ) → HasName o.name path conn before.slot → HasName o.name path conn after.slot
     pub bound : unbound (after.slot ∷ []) ≡ unbound (before.slot ∷ [])
 
   -- the same of each, from connection 0 on
-  pub record EachWorks (o : Outside G L S K) (enabled : Rule) (unsent : List Event → ℕ → List ℕ) (before after : List (Worker T G L S K)) : Type 0 where
+  pub record EachWorks (o : Outside G L S K) (enabled : Rule) (unsent : List Event → ℕ → List ℕ) (answer : Answers) (before after : List (Worker T G L S K)) : Type 0 where
     pub count : length after ≡ length before
-    pub each : (k : ℕ) (d : Worker T G L S K) → k < length before → Works o enabled unsent k (slice_index_or before k d) (slice_index_or after k d)
+    pub each : (k : ℕ) (d : Worker T G L S K) → k < length before → Works o enabled unsent answer k (slice_index_or before k d) (slice_index_or after k d)
 
 module _ {F W : Type 0} (g : Shared F (ℕ × (MutBor W × Unit {0})) (Unit {0} × (MutBor W × Unit {0}))) (f : F) where
   -- each worker is what a call of f with its place left of it

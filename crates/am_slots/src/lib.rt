@@ -2,6 +2,7 @@
 #![tactic(auto)]
 
 mod binding;
+mod means;
 mod serving;
 mod slot;
 mod slots;

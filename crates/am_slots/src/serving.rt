@@ -7,13 +7,13 @@ ghost use Rattle.am_counter.specs.Played.{has_dial};
 ghost use Rattle.am_slots.specs.Slots.{Has, Tells, HasName, outside, unbound};
 ghost use Rattle.am_slots.specs.Working.{DidRead, DidWrite, HasDialled, IsFresh, IsReady, Works};
 
+use crate::means::Means;
 use crate::slot::{Objects, Slot};
 use crate::working::Worker;
 use am_base::{Gate, Link, Sink, Source};
 use am_counter::{Counter, Seats, Told};
 use am_journal::{Ending, Event};
-use am_serve::{Bells, WriteEnd, read_side, write_side};
-use std::alloc::Global;
+use am_serve::{WriteEnd, read_side, write_side};
 use std::mem;
 use std::sync::Wait;
 use std::thread::{Threads, join_mut};
@@ -27,9 +27,8 @@ fn serve_sides<
     R: Threads + Wait + Sync,
 >(
     rt: &R,
-    alloc: Global,
     desk: &C,
-    bells: &Bells,
+    means: Means<'_>,
     seat: &mut T,
     other: &mut T,
     conn: u32,
@@ -40,11 +39,12 @@ fn serve_sides<
     requires conn { conn < 64 }
     requires dialled { (has_dial (C.known seat.old).seen conn ≡ true) × (has_dial (C.known other.old).seen conn ≡ true) }
     ensures fits { C.fits desk.now seat.new × C.fits desk.now other.new }
-    ensures read { DidRead C.enabled conn (C.known seat.old) (C.known seat.new)
+    ensures read { DidRead C.enabled C.answer conn (C.known seat.old) (C.known seat.new)
         (record { first = S.left reader.old; now = S.left reader.new; faults = S.faults reader.old; faults_now = S.faults reader.new }) result.0 }
     ensures wrote { DidWrite C.unsent conn (C.known other.old) (C.known other.new)
         (record { first = K.held writer.old; now = K.held writer.new; faults = K.faults writer.old; faults_now = K.faults writer.new }) result.1 }
 {
+    let Means { alloc, bells } = means;
     // Where no thread can be made the side that writes comes last: it would wait for the other.
     let (wrote, read) = join_mut(
         rt,
@@ -65,9 +65,8 @@ fn serve_connection<
     R: Threads + Wait + Sync,
 >(
     rt: &R,
-    alloc: Global,
     desk: &C,
-    bells: &Bells,
+    means: Means<'_>,
     seat: &mut T,
     conn: u32,
     objects: Objects<G, L, S, K>,
@@ -81,7 +80,7 @@ fn serve_connection<
     ensures fits { C.fits desk.now seat.new }
     ensures parts { (C.known seat.new).parts ≡ 2 }
     ensures has { Has (outside G.name G.faults L.begins L.faults S.left S.faults K.held K.faults)
-        C.enabled C.unsent conn (C.known seat.new).seen result (lists_of (C.known seat.new)) }
+        C.enabled C.unsent C.answer conn (C.known seat.new).seen result (lists_of (C.known seat.new)) }
     ensures tells { Tells (outside G.name G.faults L.begins L.faults S.left S.faults K.held K.faults) result }
     ensures named { (path : List ℕ) → IsNamed (G.name objects.gate) path conn → HasName G.name path conn result }
     ensures bound { unbound (result ∷ []) ≡ 0 }
@@ -90,9 +89,8 @@ fn serve_connection<
     let mut other = desk.split(seat, 1);
     let (read, wrote) = serve_sides(
         rt,
-        alloc,
         desk,
-        bells,
+        means,
         seat,
         &mut other,
         conn,
@@ -112,15 +110,7 @@ fn serve_gate<
     S: Source + Drop + Send,
     K: Sink + Drop + Send,
     R: Threads + Wait + Sync,
->(
-    rt: &R,
-    alloc: Global,
-    desk: &C,
-    bells: &Bells,
-    seat: &mut T,
-    conn: u32,
-    gate: G,
-) -> Slot<G, L, S, K>
+>(rt: &R, desk: &C, means: Means<'_>, seat: &mut T, conn: u32, gate: G) -> Slot<G, L, S, K>
     requires fits { C.fits desk.now seat.old }
     requires conn { conn < 64 }
     requires fresh { IsFresh 2 (C.known seat.old) }
@@ -128,7 +118,7 @@ fn serve_gate<
     ensures fits { C.fits desk.now seat.new }
     ensures parts { (C.known seat.new).parts ≡ 2 }
     ensures has { Has (outside G.name G.faults L.begins L.faults S.left S.faults K.held K.faults)
-        C.enabled C.unsent conn (C.known seat.new).seen result (lists_of (C.known seat.new)) }
+        C.enabled C.unsent C.answer conn (C.known seat.new).seen result (lists_of (C.known seat.new)) }
     ensures tells { Tells (outside G.name G.faults L.begins L.faults S.left S.faults K.held K.faults) result }
     ensures named { (path : List ℕ) → IsNamed (G.name gate) path conn → HasName G.name path conn result }
     ensures bound { unbound (result ∷ []) ≡ 0 }
@@ -148,7 +138,7 @@ fn serve_gate<
     };
     // Nobody waits for a dialling, and it replies to none.
     match desk.submit(rt, seat, Event::Dial { conn }, &mut Told::none()) {
-        Ok(_) => serve_connection(rt, alloc, desk, bells, seat, conn, objects),
+        Ok(_) => serve_connection(rt, desk, means, seat, conn, objects),
         Err(refused) => Slot::Undialled(objects, refused),
     }
 }
@@ -162,15 +152,15 @@ pub(crate) fn serve_slot<
     S: Source + Drop + Send,
     K: Sink + Drop + Send,
     R: Threads + Wait + Sync,
->(rt: &R, alloc: Global, desk: &C, bells: &Bells, conn: u32, worker: &mut Worker<T, G, L, S, K>)
+>(rt: &R, desk: &C, means: Means<'_>, conn: u32, worker: &mut Worker<T, G, L, S, K>)
     requires ready { IsReady (C.fits desk.now) C.known G.faults worker.old }
     requires conn { conn < 64 }
     ensures { Works (C.fits desk.now) C.known (outside G.name G.faults L.begins L.faults S.left S.faults K.held K.faults)
-        C.enabled C.unsent conn worker.old worker.new }
+        C.enabled C.unsent C.answer conn worker.old worker.new }
 {
     let slot = mem::replace(&mut worker.slot, Slot::Unbound);
     worker.slot = match slot {
-        Slot::Bound(gate) => serve_gate(rt, alloc, desk, bells, &mut worker.seat, conn, gate),
+        Slot::Bound(gate) => serve_gate(rt, desk, means, &mut worker.seat, conn, gate),
         slot => slot,
     };
 }

@@ -10,6 +10,7 @@ ghost use Rattle.am_slots.specs.Working.{IsReady, Works, ServesEach, EachWorks, 
 ghost use Rattle.am_slots.specs.Serving.{ServesAll, EachTells};
 
 use crate::binding::bind_all;
+use crate::means::{Means, Script};
 use crate::serving::serve_slot;
 use crate::slot::{HostSlots, Slots};
 use crate::working::{Worker, gather, hire};
@@ -40,20 +41,19 @@ fn serve_each<W: Send, F: Fn(usize, &mut W) + Sync, R: Threads + Sync>(
 // The side of the script.
 fn do_script<C: Seats<Seat = T>, T, R: Wait>(
     rt: &R,
-    alloc: Global,
     desk: &C,
-    bells: &Bells,
-    script: &[u8],
-    clients: u32,
+    means: Means<'_>,
+    script: Script<'_>,
     seat: &mut T,
 ) -> ScriptEnd
     requires fits { C.fits desk.now seat.old }
-    requires clients { clients ≤ 64 }
+    requires clients { script.clients ≤ 64 }
     ensures fits { C.fits desk.now seat.new }
     ensures gains { Gains (C.known seat.old) (gained (C.known seat.old) (C.known seat.new)) (C.known seat.new) }
-    ensures ends { EndsScript C.enabled C.answer clients (C.known seat.old) (asked_by_script script.now) result (C.known seat.new) }
+    ensures ends { EndsScript C.enabled C.answer script.entry.clients (C.known seat.old) (asked_by_script script.entry.lines.now) result (C.known seat.new) }
 {
-    script_side(rt, alloc, desk, seat, bells, script, clients)
+    let Script { lines, clients } = script;
+    script_side(rt, means.alloc, desk, seat, means.bells, lines, clients)
 }
 
 // Serves each worker, and does the script beside them.
@@ -65,27 +65,25 @@ fn serve_beside<
     R: Threads + Wait + Sync,
 >(
     rt: &R,
-    alloc: Global,
     desk: &C,
-    bells: &Bells,
-    script: &[u8],
-    clients: u32,
+    means: Means<'_>,
+    script: Script<'_>,
     serve: &F,
     workers: &mut [W],
     seat: &mut T,
 ) -> ScriptEnd
     requires fits { C.fits desk.now seat.old }
-    requires clients { clients ≤ 64 }
+    requires clients { script.clients ≤ 64 }
     requires accepts { AcceptsEach F.Fn serve.now workers.old }
     ensures fits { C.fits desk.now seat.new }
     ensures gains { Gains (C.known seat.old) (gained (C.known seat.old) (C.known seat.new)) (C.known seat.new) }
-    ensures ends { EndsScript C.enabled C.answer clients (C.known seat.old) (asked_by_script script.now) result (C.known seat.new) }
+    ensures ends { EndsScript C.enabled C.answer script.entry.clients (C.known seat.old) (asked_by_script script.entry.lines.now) result (C.known seat.new) }
     ensures each { ServesEach F.Fn serve.now workers.old workers.new }
 {
     // Where no thread can be made the script comes last: it may wait for connections.
     let (end, _) = join_mut(
         rt,
-        &mut || do_script(rt, alloc, desk, bells, script, clients, seat),
+        &mut || do_script(rt, desk, means, script, seat),
         &mut ||
             requires { AcceptsEach F.Fn serve.now workers.now }
             ensures { ServesEach F.Fn serve.entry.now workers.entry.now workers.exit.now }
@@ -105,32 +103,28 @@ fn serve_workers<
     R: Threads + Wait + Sync,
 >(
     rt: &R,
-    alloc: Global,
     desk: &C,
-    bells: &Bells,
+    means: Means<'_>,
+    script: Script<'_>,
     seat: &mut T,
     workers: &mut [Worker<T, G, L, S, K>],
-    script: &[u8],
-    clients: u32,
 ) -> ScriptEnd
     requires fits { C.fits desk.now seat.old }
-    requires clients { clients ≤ 64 }
+    requires clients { script.clients ≤ 64 }
     requires ready { All (IsReady (C.fits desk.now) C.known G.faults) workers.old }
     requires few { length workers.old ≤ 64 }
     ensures fits { C.fits desk.now seat.new }
     ensures gains { Gains (C.known seat.old) (gained (C.known seat.old) (C.known seat.new)) (C.known seat.new) }
-    ensures ends { EndsScript C.enabled C.answer clients (C.known seat.old) (asked_by_script script.now) result (C.known seat.new) }
+    ensures ends { EndsScript C.enabled C.answer script.entry.clients (C.known seat.old) (asked_by_script script.entry.lines.now) result (C.known seat.new) }
     ensures works { EachWorks (C.fits desk.now) C.known (outside G.name G.faults L.begins L.faults S.left S.faults K.held K.faults)
-        C.enabled C.unsent workers.old workers.new }
+        C.enabled C.unsent C.answer workers.old workers.new }
 {
     let serve = |conn: usize, worker: &mut Worker<T, G, L, S, K>|
         requires { (conn < 64) × IsReady (C.fits desk.now) C.known G.faults worker.now }
         ensures { Works (C.fits desk.entry.now) C.known (outside G.name G.faults L.begins L.faults S.left S.faults K.held K.faults)
-            C.enabled C.unsent conn worker.entry.now worker.exit.now }
-    { serve_slot(rt, alloc, desk, bells, conn as u32, worker) };
-    serve_beside(
-        rt, alloc, desk, bells, script, clients, &serve, workers, seat,
-    )
+            C.enabled C.unsent C.answer conn worker.entry.now worker.exit.now }
+    { serve_slot(rt, desk, means, conn as u32, worker) };
+    serve_beside(rt, desk, means, script, &serve, workers, seat)
 }
 
 // Serves slots whose gates were tried, and does the script beside them.
@@ -148,18 +142,17 @@ fn serve_bound<
     desk: &C,
     seat: &mut T,
     bound: Slots<G, L, S, K>,
-    script: &[u8],
-    clients: u32,
+    script: Script<'_>,
 ) -> Result<(Slots<G, L, S, K>, ScriptEnd), NoMemory>
     requires fits { C.fits desk.now seat.old }
-    requires clients { (clients ≤ 64) × (length bound ≡ clients) }
-    requires fresh { IsFresh (2 * clients + 1) (C.known seat.old) × ((C.known seat.old).seen ≡ []) }
+    requires clients { (script.clients ≤ 64) × (length bound ≡ script.clients) }
+    requires fresh { IsFresh (2 * script.clients + 1) (C.known seat.old) × ((C.known seat.old).seen ≡ []) }
     requires waiting { AreWaiting G.faults bound }
     ensures fits { C.fits desk.now seat.new }
     ensures parts { (C.known seat.new).parts ≡ (C.known seat.old).parts }
-    ensures count { IfOk result (λ r. length r.0 ≡ clients) }
+    ensures count { IfOk result (λ r. length r.0 ≡ script.entry.clients) }
     ensures serves { IfOk result (λ r. ServesAll (outside G.name G.faults L.begins L.faults S.left S.faults K.held K.faults)
-        C.enabled C.unsent C.answer clients script.now r.0 r.1 (C.known seat.new)) }
+        C.enabled C.unsent C.answer script.entry.clients script.entry.lines.now r.0 r.1 (C.known seat.new)) }
     ensures tells { IfOk result (λ r. (path : List ℕ) → HaveNames G.name path 0 bound
         → EachTells (outside G.name G.faults L.begins L.faults S.left S.faults K.held K.faults) path 0 r.0) }
     ensures unbound { IfOk result (λ r. unbound r.0 ≡ unbound bound) }
@@ -169,16 +162,11 @@ fn serve_bound<
     let workers = Vec::with_capacity(alloc, bound.len())?;
     let bells = Bells::new(alloc)?;
     let mut workers = hire(desk, seat, bound, workers);
-    let end = serve_workers(
-        rt,
+    let means = Means {
         alloc,
-        desk,
-        &bells,
-        seat,
-        workers.as_mut_slice(),
-        script,
-        clients,
-    );
+        bells: &bells,
+    };
+    let end = serve_workers(rt, desk, means, script, seat, workers.as_mut_slice());
     Ok((gather(rt, desk, seat, workers, slots), end))
 }
 
@@ -211,5 +199,9 @@ pub fn serve_slots<H: Host, C: Seats<Seat = T> + Sync, T: Send + Drop, R: Thread
     ensures err { OnErr result (C.known seat.new ≡ C.known seat.old) }
 {
     let bound = bind_all(alloc, host, path, clients)?;
-    serve_bound(rt, alloc, desk, seat, bound, script, clients)
+    let script = Script {
+        lines: script,
+        clients,
+    };
+    serve_bound(rt, alloc, desk, seat, bound, script)
 }

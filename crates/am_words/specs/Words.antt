@@ -5,6 +5,8 @@ use Rattle.std.specs.Str.{bytes_eq, IsUtf8}
 use Rattle.am_text.specs.Number.{number_of}
 use Rattle.am_words.specs.declared.asked.Asked.{Asked}
 use Rattle.am_words.specs.declared.asked.Asked.TheVariants as asked
+use Rattle.am_words.specs.declared.asked.Tree.{Tree}
+use Rattle.am_words.specs.declared.asked.Tree.TheVariants.{Acme, Plumb}
 
 -- the words that ask for a replay
 abbrev pub are_replay : List (List ℕ) → Bool
@@ -87,10 +89,36 @@ asks_serve (command ∷ a ∷ b ∷ []) = if bytes_eq command (codes "serve") th
 asks_serve (command ∷ a ∷ b ∷ c ∷ []) = if bytes_eq command (codes "serve") then in_three a b c else None
 asks_serve (command ∷ a ∷ b ∷ c ∷ d ∷ words) = None
 
+-- the name that a tree is attached by
+abbrev pub tree_name : Tree → List ℕ
+tree_name Acme = codes "acme"
+tree_name Plumb = codes "plumb"
+
+-- the tree of this name
+abbrev pub tree_of : List ℕ → Option Tree
+tree_of name = if bytes_eq name (codes "acme") then Some Acme else (if bytes_eq name (codes "plumb") then Some Plumb else None)
+
+-- the path with the tree, where each is one
+abbrev pub with_tree : List ℕ → Option Tree → Option (List ℕ × Tree)
+with_tree path None = None
+with_tree path (Some tree) = if is_path path then Some (path, tree) else None
+
+-- the path and the tree, where the words ask for doing lines there
+abbrev pub asks_do : List (List ℕ) → Option (List ℕ × Tree)
+asks_do [] = None
+asks_do (command ∷ []) = None
+asks_do (command ∷ a ∷ []) = None
+asks_do (command ∷ a ∷ b ∷ []) = if bytes_eq command (codes "do") then with_tree a (tree_of b) else None
+asks_do (command ∷ a ∷ b ∷ c ∷ words) = None
+
 -- a path is asked for, and it is a text
-abbrev pub IsText : Option (List ℕ × ℕ) → Type 0
-IsText None = ⊥
-IsText (Some (path, clients)) = IsUtf8 path
+abbrev pub IsText : {A : Type 0} → Option (List ℕ × A) → Type 0
+IsText {A} None = ⊥
+IsText {A} (Some (path, x)) = IsUtf8 path
+
+-- the words ask for doing lines at a path, which is a text, over a tree
+abbrev pub AskDo : List (List ℕ) → List ℕ → Tree → Type 0
+AskDo words path tree = (asks_do words ≡ Some (path, tree)) × IsUtf8 path
 
 -- the words ask for serving a path, which is a text
 abbrev pub AskServe : List (List ℕ) → List ℕ → ℕ → Type 0
@@ -103,6 +131,7 @@ AsksFor words asked.Trace = are_trace words ≡ true
 AsksFor words asked.Pack = are_pack words ≡ true
 AsksFor words (asked.Drill rounds) = asks_drill words ≡ Some rounds
 AsksFor words (asked.Serve path clients) = AskServe words (string_bytes path) clients
+AsksFor words (asked.Do path tree) = AskDo words (string_bytes path) tree
 
 -- the number is within its limits
 abbrev pub IsWithin : Asked → Type 0
@@ -111,6 +140,7 @@ IsWithin asked.Trace = Unit {0}
 IsWithin asked.Pack = Unit {0}
 IsWithin (asked.Drill rounds) = (1 ≤ rounds) × (rounds ≤ 100000)
 IsWithin (asked.Serve path clients) = (1 ≤ clients) × (clients ≤ 64)
+IsWithin (asked.Do path tree) = Unit {0}
 
 -- the words ask for what one word asks for: a replay, a trace or packing
 abbrev pub AskInOne : List (List ℕ) → Type 0
@@ -119,4 +149,4 @@ AskInOne words = (are_replay words ≡ true) ⊎ ((are_trace words ≡ true) ⊎
 -- the words ask for something
 abbrev pub AreKnown : List (List ℕ) → Type 0
 AreKnown words = AskInOne words ⊎ (((rounds : ℕ) × (asks_drill words ≡ Some rounds))
-    ⊎ ((path : List ℕ) × (clients : ℕ) × AskServe words path clients))
+    ⊎ (((path : List ℕ) × (clients : ℕ) × AskServe words path clients) ⊎ ((path : List ℕ) × (tree : Tree) × AskDo words path tree)))

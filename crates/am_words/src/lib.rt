@@ -6,5 +6,5 @@ mod commands;
 mod reading;
 mod table;
 
-pub use asked::Asked;
+pub use asked::{Asked, Tree};
 pub use reading::read_words;

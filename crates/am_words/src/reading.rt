@@ -3,11 +3,13 @@
 ghost use Rattle.std.specs.Prelude.{◌≡◌, [], ◌∷◌, Some, true, is_some, IfErr, IfNone, IfOk, IfSome, string_bytes};
 ghost use Rattle.std.specs.List.{AllByRecursion};
 ghost use Rattle.std.specs.Str.{IsUtf8};
-ghost use Rattle.am_words.specs.Words.{AreKnown, AsksFor, IsText, IsWithin, asks_drill, asks_serve, in_three, in_two, rounds_of};
+ghost use Rattle.am_words.specs.Words.{AreKnown, AsksFor, IsText, IsWithin, asks_do, asks_drill, asks_serve, in_three, in_two, rounds_of, tree_of, with_tree};
 
-use crate::asked::{Asked, Serving};
+use crate::asked::{Asked, Doing, Serving};
 use crate::commands::{parse_drill, parse_serve};
-use crate::table::{asks_in_three, asks_in_two, is_pack, is_replay, is_trace, rounds_of};
+use crate::table::{
+    asks_in_three, asks_in_two, is_pack, is_path, is_replay, is_trace, rounds_of, tree_of,
+};
 use am_text::{Bytes, NoMemory};
 use std::alloc::Global;
 use std::str;
@@ -114,10 +116,45 @@ fn read_serve(alloc: Global, words: &[Bytes]) -> Result<Option<Serving>, NoMemor
     }
 }
 
-/// What the words after the program's name ask for: a replay by `replay`, a trace by `trace`, packing by `pack`, a drill by `drill N`, and serving by
-/// `serve PATH --clients N`, where the option may stand before the path, and may be one word, `--clients=N`. A number of rounds is 1 to
-/// 100,000, one of clients 1 to 64, in digits without a leading zero. A path is a text that isn't empty and doesn't begin with `-`. Other
-/// words ask for nothing.
+// The path and the tree that two words ask for.
+fn read_path_and_tree(alloc: Global, path: &[u8], tree: &[u8]) -> Result<Option<Doing>, NoMemory>
+    ensures some { IfOk result (λ r. IfSome r (λ d. with_tree path.now (tree_of tree.now) ≡ Some (string_bytes d.path, d.tree))) }
+    ensures none { IfOk result (λ r. IfNone r (¬ IsText (with_tree path.now (tree_of tree.now)))) }
+    ensures known { IfErr result (λ e. IsText (with_tree path.now (tree_of tree.now))) }
+{
+    let Some(tree) = tree_of(tree) else {
+        return Ok(None);
+    };
+    if !is_path(path) {
+        return Ok(None);
+    }
+    match str::from_utf8(path) {
+        Ok(text) => Ok(Some(Doing {
+            path: String::from_str(alloc, text)?,
+            tree,
+        })),
+        Err(_) => Ok(None),
+    }
+}
+
+// The path and the tree, where the words ask for doing lines.
+fn read_do(alloc: Global, words: &[Bytes]) -> Result<Option<Doing>, NoMemory>
+    ensures some { IfOk result (λ r. IfSome r (λ d. asks_do words.now ≡ Some (string_bytes d.path, d.tree))) }
+    ensures none { IfOk result (λ r. IfNone r (¬ IsText (asks_do words.now))) }
+    ensures known { IfErr result (λ e. IsText (asks_do words.now)) }
+{
+    match words {
+        [command, path, tree] if command.as_slice() == b"do".as_slice() => {
+            read_path_and_tree(alloc, path.as_slice(), tree.as_slice())
+        }
+        _ => Ok(None),
+    }
+}
+
+/// What the words after the program's name ask for: a replay by `replay`, a trace by `trace`, packing by `pack`, a drill by `drill N`, serving by
+/// `serve PATH --clients N`, where the option may stand before the path, and may be one word, `--clients=N`, and doing lines by
+/// `do PATH TREE`, the tree being `acme` or `plumb`. A number of rounds is 1 to 100,000, one of clients 1 to 64, in digits without a leading
+/// zero. A path is a text that isn't empty and doesn't begin with `-`. Other words ask for nothing.
 pub fn read_words(alloc: Global, words: &[Bytes]) -> Result<Option<Asked>, NoMemory>
     // What is asked for is what the words say.
     ensures asked { IfOk result (λ asked. IfSome asked (AsksFor words.now)) }
@@ -140,8 +177,11 @@ pub fn read_words(alloc: Global, words: &[Bytes]) -> Result<Option<Asked>, NoMem
     if let Some(rounds) = read_drill(alloc, words)? {
         return Ok(Some(Asked::Drill { rounds }));
     }
-    match read_serve(alloc, words)? {
-        Some(Serving { path, clients }) => Ok(Some(Asked::Serve { path, clients })),
+    if let Some(Serving { path, clients }) = read_serve(alloc, words)? {
+        return Ok(Some(Asked::Serve { path, clients }));
+    }
+    match read_do(alloc, words)? {
+        Some(Doing { path, tree }) => Ok(Some(Asked::Do { path, tree })),
         None => Ok(None),
     }
 }

@@ -1,8 +1,9 @@
 //! The table of the words, as a test that takes no memory.
 
 ghost use Rattle.std.specs.Prelude.{◌≡◌, is_some, option_copied};
-ghost use Rattle.am_words.specs.Words.{after_front, are_alone, are_pack, are_replay, are_trace, clients_of, in_three, in_two, is_path, path_and_clients, rounds_of};
+ghost use Rattle.am_words.specs.Words.{after_front, are_alone, are_pack, are_replay, are_trace, clients_of, in_three, in_two, is_path, path_and_clients, rounds_of, tree_of};
 
+use crate::asked::Tree;
 use am_text::{Bytes, read_decimal};
 
 /// Whether the words ask for a replay.
@@ -58,7 +59,8 @@ pub(crate) fn clients_of(number: &[u8]) -> Option<u32>
     }
 }
 
-fn is_path(path: &[u8]) -> bool
+/// Whether a word is a path.
+pub(crate) fn is_path(path: &[u8]) -> bool
     ensures { result ≡ is_path path.now }
 {
     match path.first() {
@@ -102,5 +104,18 @@ pub(crate) fn asks_in_three(first: &[u8], second: &[u8], third: &[u8]) -> bool
         are_path_and_clients(first, third)
     } else {
         false
+    }
+}
+
+/// The tree that a word names.
+pub(crate) fn tree_of(name: &[u8]) -> Option<Tree>
+    ensures { result ≡ tree_of name.now }
+{
+    if name == b"acme".as_slice() {
+        Some(Tree::Acme)
+    } else if name == b"plumb".as_slice() {
+        Some(Tree::Plumb)
+    } else {
+        None
     }
 }

@@ -3,8 +3,7 @@ use Rattle.std.proofs.Common.{[], ◌∷◌, inl, inr, ℕ, Bool, true, false, c
 use Rattle.std.specs.Prelude.{codes, nat_lt, ◌==◌}
 use Rattle.am_text.specs.Part.{part_bytes, part_of}
 use Rattle.am_text.specs.Pieces.{Decoded, decode_part}
-use Rattle.ninep_frame.specs.Records.{record_of}
-use Rattle.acme_tree.specs.Trees.{is_live, stat_of}
+use Rattle.acme_tree.specs.Trees.{is_live}
 use Rattle.ninep_types.specs.declared.message.Qid.{Qid}
 use Rattle.ninep_types.specs.declared.message.TBody.{TBody}
 use Rattle.ninep_types.specs.declared.message.TBody.TheVariants as t
@@ -17,67 +16,68 @@ use Rattle.core_addresses.specs.Data.{data_taken}
 use Rattle.core_addresses.specs.Ranges.{addressed}
 use Rattle.core_addresses.specs.declared.data.Taken.{Taken}
 use Rattle.core_addresses.specs.declared.fault.RangeFault.{RangeFault}
-use Rattle.core_answers.specs.Addressing.{data_deed, xdata_deed, addr_or_refusal, addr_deed, data_or_refusal, taking_deed}
-use Rattle.core_answers.specs.declared.content.Content.{Content}
-use Rattle.core_answers.specs.declared.content.Content.TheVariants as content
-use Rattle.core_answers.specs.declared.effect.Effect.{Effect}
-use Rattle.core_answers.specs.declared.effect.Effect.TheVariants as effect
-use Rattle.core_answers.specs.declared.effect.Deed.{Deed}
-use Rattle.core_answers.specs.declared.refusal.Refusal.{Refusal}
-use Rattle.core_answers.specs.declared.refusal.Refusal.TheVariants as refusal
-use Rattle.core_answers.specs.declared.walk.WalkEnd.{WalkEnd}
-use Rattle.core_answers.specs.declared.walk.WalkEnd.TheVariants as end
-use Rattle.core_answers.specs.Plainly.{does}
-use Rattle.core_answers.specs.Refusals.{refused_with, deed_or_refusal}
-use Rattle.core_answers.specs.declared.effect.Answer.TheVariants.{Says}
+use Rattle.core_answers.specs.Addressing.{data_reaction, xdata_reaction, addr_or_refusal, addr_reaction, data_or_refusal, taking_reaction}
+use Rattle.core_fids.specs.declared.content.Content.{Content}
+use Rattle.core_fids.specs.declared.content.Content.TheVariants as content
+use Rattle.core_fids.specs.declared.effect.Effect.{Effect}
+use Rattle.core_fids.specs.declared.effect.Effect.TheVariants as effect
+use Rattle.core_fids.specs.declared.effect.Reaction.{Reaction}
+use Rattle.core_fids.specs.declared.refusal.Refusal.{Refusal}
+use Rattle.core_fids.specs.declared.refusal.Refusal.TheVariants as refusal
+use Rattle.core_fids.specs.declared.walking.WalkEnd.{WalkEnd}
+use Rattle.core_fids.specs.declared.walking.WalkEnd.TheVariants as end
+use Rattle.core_fids.specs.Plainly.{does}
+use Rattle.core_fids.specs.Refusals.{refused_with, reaction_or_refusal}
+use Rattle.core_fids.specs.declared.effect.Answer.TheVariants.{Says}
 use Rattle.core_windows.specs.declared.change.Change.TheVariants as change
 use Rattle.core_windows.specs.Windows.{Window, window_at, named, world_of}
-use Rattle.core_answers.specs.Attaching.{is_version, agreed, version_deed, attach_refusal, or_attaches}
-use Rattle.core_answers.specs.Walking.{trail, walk_refusal, arrives_at, or_walks, walk_from}
-use Rattle.core_answers.specs.Opening.{open_refusal, or_opens, open_fid, denied, clunk_fid, remove_fid}
-use Rattle.core_answers.specs.Reading.{place_at, read_dir, read_opening, read_content, use_refusal, or_reads, most, read_fid, stat_fid}
-use Rattle.core_answers.specs.Writing.{written, if_lives, append_deed, add_deed, or_errors, errors_deed, control_answer, write_content, write_fid}
+use Rattle.core_fids.specs.Attaching.{is_version, agreed, version_reaction, attach_refusal, or_attaches}
+use Rattle.core_fids.specs.Walking.{trail, walk_refusal, arrives_at, or_walks, walk_from}
+use Rattle.core_fids.specs.Opening.{open_refusal, or_opens, open_fid, denied, clunk_fid, remove_fid}
+use Rattle.core_fids.specs.Directories.{place_at, read_dir, stat_fid}
+use Rattle.core_answers.specs.Reading.{read_opening, read_content, use_refusal, or_reads, most, read_fid}
+use Rattle.core_answers.specs.Writing.{written, if_lives, append_reaction, add_reaction, or_errors, errors_reaction, control_answer, write_content, write_fid}
 use Rattle.am_text.specs.Lines.{lines_of}
 use Rattle.core_answers.specs.Controls.{controls}
 use Rattle.core_answers.specs.Erring.{fits_in, fits_tag, appends, errors_of, root_errors, errors_refusal}
 use Rattle.core_answers.specs.Texts.{text_at, right_of, name_of, modified_of}
-use Rattle.core_answers.specs.Contents.{content_of}
-use Rattle.core_answers.specs.Fids.{is_for_reading, is_for_writing, holding}
-use Rattle.core_answers.specs.Deeds.{served, comes_first}
+use Rattle.core_fids.specs.Contents.{content_of}
+use Rattle.core_fids.specs.Fids.{is_for_reading, is_for_writing, holding}
+use Rattle.core_answers.specs.Reactions.{served, comes_first}
 use Rattle.core_answers.specs.Laws.{IsAnswered, EachIsAnswered}
 
 -- what is done is answered
-abbrev Answers : TBody → Result Deed Refusal → Type 0
+abbrev Answers : TBody → Result Reaction Refusal → Type 0
 Answers body (Ok d) = IsAnswered body d.answer
 Answers body (Err x) = Unit {0}
 
 refusal_answers : (body : TBody) (f : Effect) (x : Refusal) → IsAnswered body (refused_with f x).answer
 refusal_answers body f x = inr (x, refl)
 
-settled : (body : TBody) (x : Result Deed Refusal) → Answers body x → IsAnswered body (deed_or_refusal x).answer
+settled : (body : TBody) (x : Result Reaction Refusal) → Answers body x → IsAnswered body (reaction_or_refusal x).answer
 settled body (Ok d) h = h
 settled body (Err x) h = inr (x, refl)
 
-refused_or : (body : TBody) (b : Bool) (f : Effect) (x : Refusal) (d : Deed) → IsAnswered body d.answer → IsAnswered body (cond b (refused_with f x) d).answer
+refused_or : (body : TBody) (b : Bool) (f : Effect) (x : Refusal) (d : Reaction) → IsAnswered body d.answer → IsAnswered body (cond b (refused_with f x) d).answer
 refused_or body true f x d h = inr (x, refl)
 refused_or body false f x d h = h
 
-done_or : (body : TBody) (b : Bool) (d : Deed) (x : Refusal) → IsAnswered body d.answer → Answers body (cond b (Ok d) (Err x))
+done_or : (body : TBody) (b : Bool) (d : Reaction) (x : Refusal) → IsAnswered body d.answer → Answers body (cond b (Ok d) (Err x))
 done_or body true d x h = h
 done_or body false d x h = tt
 
-or_done : (body : TBody) (b : Bool) (x : Refusal) (d : Deed) → IsAnswered body d.answer → Answers body (cond b (Err x) (Ok d))
+or_done : (body : TBody) (b : Bool) (x : Refusal) (d : Reaction) → IsAnswered body d.answer → Answers body (cond b (Err x) (Ok d))
 or_done body true x d h = tt
 or_done body false x d h = h
 
 -- ---- message by message
 
 known_answers : (asked msize : ℕ) (version : List ℕ) (known : Bool)
-    → IsAnswered (t.Version asked version) (cond {A = Deed} known (does (effect.Begins (Some msize)) [] (r.Version msize (codes "9P2000"))) (does (effect.Begins None) [] (r.Version msize (codes "unknown")))).answer
+    → IsAnswered (t.Version asked version) (cond {A = Reaction} known (does (effect.Begins (Some msize)) [] (r.Version msize (codes "9P2000"))) (does (effect.Begins None) [] (r.Version msize (codes "unknown")))).answer
 known_answers asked msize version true = inl refl
 known_answers asked msize version false = inl refl
 
-version_answers : (msize : ℕ) (version : List ℕ) → IsAnswered (t.Version msize version) (version_deed msize version).answer
+version_answers : (msize : ℕ) (version : List ℕ) → IsAnswered (t.Version msize version) (version_reaction msize version).answer
 version_answers msize version =
     refused_or (t.Version msize version) (nat_lt msize 256) (effect.Begins None) refusal.MsizeTooSmall (agreed (min msize 65560) version) (known_answers msize (min msize 65560) version (is_version version))
 
@@ -90,7 +90,7 @@ arrives_answers fid newfid names world qids (end.At node) = inl refl
 arrives_answers fid newfid names world qids (end.Makes file) = inl refl
 arrives_answers fid newfid names world qids (end.Stops x) = or_done (t.Walk fid newfid names) (length qids == 0) x (does effect.Nothing [] (r.Walk qids)) (inl refl)
 
-or_walks_answers : (body : TBody) (o : Option Refusal) (x : Result Deed Refusal) → Answers body x → Answers body (or_walks o x)
+or_walks_answers : (body : TBody) (o : Option Refusal) (x : Result Reaction Refusal) → Answers body x → Answers body (or_walks o x)
 or_walks_answers body None x h = h
 or_walks_answers body (Some y) x h = tt
 
@@ -112,7 +112,7 @@ denied_answers : (body : TBody) (o : Option Fid) → Answers body (denied o)
 denied_answers body None = tt
 denied_answers body (Some f) = tt
 
-or_reads_answers : (body : TBody) (o : Option Refusal) (x : Result Deed Refusal) → Answers body x → Answers body (or_reads o x)
+or_reads_answers : (body : TBody) (o : Option Refusal) (x : Result Reaction Refusal) → Answers body x → Answers body (or_reads o x)
 or_reads_answers body None x h = h
 or_reads_answers body (Some y) x h = tt
 
@@ -124,11 +124,11 @@ read_opening_answers : (fid offset asked count : ℕ) (o : Option ℕ) → Answe
 read_opening_answers fid offset asked count None = tt
 read_opening_answers fid offset asked count (Some opening) = refl
 
-data_answers : (fid offset asked count w : ℕ) (o : Option Window) → IsAnswered (t.Read fid offset asked) (data_deed w count o).answer
+data_answers : (fid offset asked count w : ℕ) (o : Option Window) → IsAnswered (t.Read fid offset asked) (data_reaction w count o).answer
 data_answers fid offset asked count w None = inl refl
 data_answers fid offset asked count w (Some window) = inl refl
 
-xdata_answers : (fid offset asked count w : ℕ) (o : Option Window) → IsAnswered (t.Read fid offset asked) (xdata_deed w count o).answer
+xdata_answers : (fid offset asked count w : ℕ) (o : Option Window) → IsAnswered (t.Read fid offset asked) (xdata_reaction w count o).answer
 xdata_answers fid offset asked count w None = inl refl
 xdata_answers fid offset asked count w (Some window) = inl refl
 
@@ -152,27 +152,27 @@ read_answers world windows fid offset asked count None = tt
 read_answers world windows fid offset asked count (Some f) =
     or_reads_answers (t.Read fid offset asked) (use_refusal world f is_for_reading) _ (read_content_answers world windows fid offset asked count f (content_of f.node))
 
-if_lives_answers : (body : TBody) (o : Option Window) (x : Result Deed Refusal) → Answers body x → Answers body (if_lives o x)
+if_lives_answers : (body : TBody) (o : Option Window) (x : Result Reaction Refusal) → Answers body x → Answers body (if_lives o x)
 if_lives_answers body None x h = tt
 if_lives_answers body (Some w) x h = h
 
-append_answers : (windows : List (Option Window)) (fid offset : ℕ) (bytes : List ℕ) (f : Fid) (w : ℕ) (decoded : Decoded) → Answers (t.Write fid offset bytes) (append_deed windows fid f w (length bytes) decoded)
+append_answers : (windows : List (Option Window)) (fid offset : ℕ) (bytes : List ℕ) (f : Fid) (w : ℕ) (decoded : Decoded) → Answers (t.Write fid offset bytes) (append_reaction windows fid f w (length bytes) decoded)
 append_answers windows fid offset bytes f w decoded =
     if_lives_answers (t.Write fid offset bytes) (window_at windows w) _
     (done_or (t.Write fid offset bytes) (fits_in (text_at windows w) decoded.text)
     (written (appends windows w decoded.text) fid (holding f (part_of decoded.rest)) (length bytes)) refusal.TextTooLong (inl refl))
 
-add_answers : (windows : List (Option Window)) (fid offset : ℕ) (bytes : List ℕ) (f : Fid) (w : ℕ) (decoded : Decoded) → Answers (t.Write fid offset bytes) (add_deed windows fid f w (length bytes) decoded)
+add_answers : (windows : List (Option Window)) (fid offset : ℕ) (bytes : List ℕ) (f : Fid) (w : ℕ) (decoded : Decoded) → Answers (t.Write fid offset bytes) (add_reaction windows fid f w (length bytes) decoded)
 add_answers windows fid offset bytes f w decoded =
     if_lives_answers (t.Write fid offset bytes) (window_at windows w) _
     (done_or (t.Write fid offset bytes) (fits_tag (right_of (window_at windows w)) decoded.text)
     (written (change.Adds w decoded.text ∷ []) fid (holding f (part_of decoded.rest)) (length bytes)) refusal.TextTooLong (inl refl))
 
-or_errors_answers : (body : TBody) (o : Option Refusal) (d : Deed) → IsAnswered body d.answer → Answers body (or_errors o d)
+or_errors_answers : (body : TBody) (o : Option Refusal) (d : Reaction) → IsAnswered body d.answer → Answers body (or_errors o d)
 or_errors_answers body None d h = h
 or_errors_answers body (Some x) d h = tt
 
-errors_answers : (windows : List (Option Window)) (fid offset : ℕ) (bytes : List ℕ) (f : Fid) (name : List ℕ) (decoded : Decoded) → Answers (t.Write fid offset bytes) (errors_deed windows fid f name (length bytes) decoded)
+errors_answers : (windows : List (Option Window)) (fid offset : ℕ) (bytes : List ℕ) (f : Fid) (name : List ℕ) (decoded : Decoded) → Answers (t.Write fid offset bytes) (errors_reaction windows fid f name (length bytes) decoded)
 errors_answers windows fid offset bytes f name decoded =
     or_errors_answers (t.Write fid offset bytes) (errors_refusal windows (named windows name) decoded.text) _ (inl refl)
 
@@ -184,7 +184,7 @@ addr_set_answers : (fid offset w : ℕ) (bytes : List ℕ) (x : Result Range Ran
 addr_set_answers fid offset w bytes (Ok range) = inl refl
 addr_set_answers fid offset w bytes (Err f) = tt
 
-addr_answers : (fid offset w : ℕ) (bytes : List ℕ) (o : Option Window) → Answers (t.Write fid offset bytes) (addr_deed w bytes o)
+addr_answers : (fid offset w : ℕ) (bytes : List ℕ) (o : Option Window) → Answers (t.Write fid offset bytes) (addr_reaction w bytes o)
 addr_answers fid offset w bytes None = tt
 addr_answers fid offset w bytes (Some window) = addr_set_answers fid offset w bytes (addressed window.body bytes)
 
@@ -192,7 +192,7 @@ data_set_answers : (fid offset w : ℕ) (bytes : List ℕ) (x : Result Taken Ran
 data_set_answers fid offset w bytes (Ok taken) = inl refl
 data_set_answers fid offset w bytes (Err f) = tt
 
-taking_answers : (fid offset w : ℕ) (bytes : List ℕ) (o : Option Window) → Answers (t.Write fid offset bytes) (taking_deed w bytes o)
+taking_answers : (fid offset w : ℕ) (bytes : List ℕ) (o : Option Window) → Answers (t.Write fid offset bytes) (taking_reaction w bytes o)
 taking_answers fid offset w bytes None = tt
 taking_answers fid offset w bytes (Some window) = data_set_answers fid offset w bytes (data_taken window.body bytes)
 
@@ -229,7 +229,7 @@ remove_answers fid (Some f) = inr (refusal.PermissionDenied, refl)
 stat_answers : (world : World) (fid : ℕ) (o : Option Fid) → Answers (t.Stat fid) (stat_fid world o)
 stat_answers world fid None = tt
 stat_answers world fid (Some f) =
-    done_or (t.Stat fid) (is_live world f.node) (does effect.Nothing [] (r.Stat (record_of (stat_of world f.node)))) refusal.WindowDeleted (inl refl)
+    done_or (t.Stat fid) (is_live world f.node) _ refusal.WindowDeleted (inl refl)
 
 served_answers : (tables : Tables) (world : World) (windows : List (Option Window)) (openings conn : ℕ) (body : TBody) → Answers body (served tables world windows openings conn body)
 served_answers tables world windows openings conn (t.Version msize version) = version_answers msize version

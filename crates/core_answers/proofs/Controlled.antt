@@ -16,9 +16,9 @@ use Rattle.core_windows.proofs.Steps.{lives_then}
 use Rattle.core_answers.specs.declared.control.Told.{Told}
 use Rattle.core_answers.specs.declared.control.Told.TheVariants as told
 use Rattle.core_answers.specs.declared.control.Controls.{Controls}
-use Rattle.core_answers.specs.declared.refusal.Refusal.TheVariants as refusal
+use Rattle.core_fids.specs.declared.refusal.Refusal.TheVariants as refusal
 use Rattle.core_answers.specs.Controls.{is_guarded, msg_told, line_told, told_first, then_sets, name_after, modified_after, controls}
-use Rattle.core_answers.specs.Done.{CanBeMade}
+use Rattle.core_fids.specs.Done.{CanBeMade}
 
 -- what the lines before do, in front of what these do
 abbrev pub behind : List Change → Controls → Controls

@@ -1,11 +1,4 @@
-pub mod Answers
-pub mod Trails
-pub mod Entries
-pub mod Parted
-pub mod Named
 pub mod Controlled
 pub mod Possibly
 pub mod Indexed
-pub mod Fronts
-pub mod Scanned
 pub mod Answered

@@ -13,13 +13,13 @@ use Rattle.core_windows.specs.declared.change.Change.TheVariants as change
 use Rattle.core_windows.specs.declared.change.Setting.TheVariants as setting
 use Rattle.core_windows.specs.Windows.{Window}
 use Rattle.edit_log.specs.declared.types.Edit.{Edit}
-use Rattle.core_answers.specs.declared.effect.Effect.TheVariants as effect
-use Rattle.core_answers.specs.declared.effect.Deed.{Deed}
-use Rattle.core_answers.specs.declared.refusal.Fault.{Fault}
-use Rattle.core_answers.specs.declared.refusal.Fault.TheVariants as fault
-use Rattle.core_answers.specs.declared.refusal.Refusal.{Refusal}
-use Rattle.core_answers.specs.declared.refusal.Refusal.TheVariants as refusal
-use Rattle.core_answers.specs.Plainly.{does}
+use Rattle.core_fids.specs.declared.effect.Effect.TheVariants as effect
+use Rattle.core_fids.specs.declared.effect.Reaction.{Reaction}
+use Rattle.core_fids.specs.declared.refusal.Fault.{Fault}
+use Rattle.core_fids.specs.declared.refusal.Fault.TheVariants as fault
+use Rattle.core_fids.specs.declared.refusal.Refusal.{Refusal}
+use Rattle.core_fids.specs.declared.refusal.Refusal.TheVariants as refusal
+use Rattle.core_fids.specs.Plainly.{does}
 
 -- the address becomes a range
 abbrev pub sets_addr : ℕ → Range → List Change
@@ -36,19 +36,19 @@ addr_text None = []
 addr_text (Some window) = range_text window.body.addr
 
 -- what is given, and the address that is then
-abbrev pub gives : ℕ → Given → Deed
+abbrev pub gives : ℕ → Given → Reaction
 gives w given = does effect.Nothing (sets_addr w given.addr) (r.Read given.bytes)
 
-abbrev pub gives_nothing : Deed
+abbrev pub gives_nothing : Reaction
 gives_nothing = does effect.Nothing [] (r.Read [])
 
-abbrev pub data_deed : ℕ → ℕ → Option Window → Deed
-data_deed w count None = gives_nothing
-data_deed w count (Some window) = gives w (data_given window.body count)
+abbrev pub data_reaction : ℕ → ℕ → Option Window → Reaction
+data_reaction w count None = gives_nothing
+data_reaction w count (Some window) = gives w (data_given window.body count)
 
-abbrev pub xdata_deed : ℕ → ℕ → Option Window → Deed
-xdata_deed w count None = gives_nothing
-xdata_deed w count (Some window) = gives w (xdata_given window.body count)
+abbrev pub xdata_reaction : ℕ → ℕ → Option Window → Reaction
+xdata_reaction w count None = gives_nothing
+xdata_reaction w count (Some window) = gives w (xdata_given window.body count)
 
 -- ---- writes
 
@@ -67,19 +67,19 @@ abbrev pub fault_of : RangeFault → Fault
 fault_of range.NoMemory = fault.NoMemory
 fault_of f = fault.Refused (range_refusal f)
 
-abbrev pub addr_or_refusal : ℕ → ℕ → Result Range RangeFault → Result Deed Refusal
+abbrev pub addr_or_refusal : ℕ → ℕ → Result Range RangeFault → Result Reaction Refusal
 addr_or_refusal w count (Ok range) = Ok (does effect.Nothing (sets_addr w range) (r.Write count))
 addr_or_refusal w count (Err f) = Err (range_refusal f)
 
-abbrev pub addr_deed : ℕ → List ℕ → Option Window → Result Deed Refusal
-addr_deed w bytes None = Err refusal.WindowDeleted
-addr_deed w bytes (Some window) = addr_or_refusal w (length bytes) (addressed window.body bytes)
+abbrev pub addr_reaction : ℕ → List ℕ → Option Window → Result Reaction Refusal
+addr_reaction w bytes None = Err refusal.WindowDeleted
+addr_reaction w bytes (Some window) = addr_or_refusal w (length bytes) (addressed window.body bytes)
 
-abbrev pub data_or_refusal : ℕ → ℕ → Result Taken RangeFault → Result Deed Refusal
+abbrev pub data_or_refusal : ℕ → ℕ → Result Taken RangeFault → Result Reaction Refusal
 data_or_refusal w count (Ok taken) = Ok (does effect.Nothing (edits_with_addr w taken.edits taken.addr) (r.Write count))
 data_or_refusal w count (Err f) = Err (range_refusal f)
 
 -- `data` and `xdata` are written alike
-abbrev pub taking_deed : ℕ → List ℕ → Option Window → Result Deed Refusal
-taking_deed w bytes None = Err refusal.WindowDeleted
-taking_deed w bytes (Some window) = data_or_refusal w (length bytes) (data_taken window.body bytes)
+abbrev pub taking_reaction : ℕ → List ℕ → Option Window → Result Reaction Refusal
+taking_reaction w bytes None = Err refusal.WindowDeleted
+taking_reaction w bytes (Some window) = data_or_refusal w (length bytes) (data_taken window.body bytes)

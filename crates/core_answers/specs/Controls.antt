@@ -9,7 +9,7 @@ use Rattle.win_ctl.specs.Messages.{ctl_of}
 use Rattle.core_windows.specs.declared.change.Change.TheVariants as change
 use Rattle.core_windows.specs.declared.change.Setting.{Setting}
 use Rattle.core_windows.specs.declared.change.Setting.TheVariants as setting
-use Rattle.core_answers.specs.declared.refusal.Refusal.TheVariants as refusal
+use Rattle.core_fids.specs.declared.refusal.Refusal.TheVariants as refusal
 use Rattle.core_answers.specs.declared.control.Told.{Told}
 use Rattle.core_answers.specs.declared.control.Told.TheVariants as told
 use Rattle.core_answers.specs.declared.control.Controls.{Controls}

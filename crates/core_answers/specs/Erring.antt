@@ -6,8 +6,8 @@ use Rattle.win_ctl.specs.Directory.{directory}
 use Rattle.core_windows.specs.declared.change.Change.{Change}
 use Rattle.core_windows.specs.declared.change.Change.TheVariants as change
 use Rattle.core_windows.specs.Windows.{Window, world_of}
-use Rattle.core_answers.specs.declared.refusal.Refusal.{Refusal}
-use Rattle.core_answers.specs.declared.refusal.Refusal.TheVariants as refusal
+use Rattle.core_fids.specs.declared.refusal.Refusal.{Refusal}
+use Rattle.core_fids.specs.declared.refusal.Refusal.TheVariants as refusal
 use Rattle.core_answers.specs.Texts.{text_at, name_of}
 
 -- a body has at most 16,777,216 runes, and the right part of a tag 65,536

@@ -6,11 +6,11 @@ use Rattle.ninep_types.specs.declared.message.RBody.TheVariants as r
 use Rattle.ninep_types.specs.Spelling.{kind_t, kind_r}
 use Rattle.fid_table.specs.Tables.{Tables}
 use Rattle.core_windows.specs.Windows.{Window}
-use Rattle.core_answers.specs.declared.effect.Answer.{Answer}
-use Rattle.core_answers.specs.declared.effect.Answer.TheVariants.{Says, Reads}
-use Rattle.core_answers.specs.declared.refusal.Refusal.{Refusal}
-use Rattle.core_answers.specs.Deeds.{deed}
-use Rattle.core_answers.specs.Refusals.{refusal_text}
+use Rattle.core_fids.specs.declared.effect.Answer.{Answer}
+use Rattle.core_fids.specs.declared.effect.Answer.TheVariants.{Says, Reads}
+use Rattle.core_fids.specs.declared.refusal.Refusal.{Refusal}
+use Rattle.core_answers.specs.Reactions.{reaction}
+use Rattle.core_fids.specs.Refusals.{refusal_text}
 
 -- the text of a named refusal is answered
 abbrev pub IsRefused : RBody → Type 0
@@ -24,4 +24,4 @@ IsAnswered asked (Reads fid opening count) = kind_t asked ≡ 116
 -- In each state each message of each connection is answered.
 abbrev pub EachIsAnswered : Type 0
 EachIsAnswered =
-    (tables : Tables) (windows : List (Option Window)) (openings conn : ℕ) (body : TBody) → IsAnswered body (deed tables windows openings conn body).answer
+    (tables : Tables) (windows : List (Option Window)) (openings conn : ℕ) (body : TBody) → IsAnswered body (reaction tables windows openings conn body).answer

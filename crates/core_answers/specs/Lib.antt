@@ -1,16 +1,8 @@
-pub mod Fids
-pub mod Contents
 pub mod Texts
-pub mod Plainly
-pub mod Refusals
 pub mod Controls
 pub mod Erring
-pub mod Done
-pub mod Attaching
-pub mod Walking
-pub mod Opening
 pub mod Addressing
 pub mod Reading
 pub mod Writing
-pub mod Deeds
+pub mod Reactions
 pub mod Laws

@@ -11,51 +11,55 @@ use Rattle.fid_table.specs.Tables.{Tables, fid_of}
 use Rattle.core_windows.specs.declared.change.Change.{Change}
 use Rattle.core_windows.specs.declared.change.Change.TheVariants as change
 use Rattle.core_windows.specs.Windows.{Window, window_at, named}
-use Rattle.core_answers.specs.declared.effect.Effect.TheVariants as effect
-use Rattle.core_answers.specs.declared.effect.Deed.{Deed}
-use Rattle.core_answers.specs.Plainly.{does}
-use Rattle.core_answers.specs.declared.refusal.Refusal.{Refusal}
-use Rattle.core_answers.specs.declared.refusal.Refusal.TheVariants as refusal
-use Rattle.core_answers.specs.declared.content.Content.{Content}
-use Rattle.core_answers.specs.declared.content.Content.TheVariants as content
+use Rattle.core_fids.specs.declared.effect.Effect.TheVariants as effect
+use Rattle.core_fids.specs.declared.effect.Reaction.{Reaction}
+use Rattle.core_fids.specs.Plainly.{does}
+use Rattle.core_fids.specs.declared.refusal.Refusal.{Refusal}
+use Rattle.core_fids.specs.declared.refusal.Refusal.TheVariants as refusal
+use Rattle.core_fids.specs.declared.content.Content.{Content}
+use Rattle.core_fids.specs.declared.content.Content.TheVariants as content
 use Rattle.core_answers.specs.declared.control.Controls.{Controls}
-use Rattle.core_answers.specs.Addressing.{addr_deed, taking_deed}
-use Rattle.core_answers.specs.Contents.{content_of}
+use Rattle.core_answers.specs.Addressing.{addr_reaction, taking_reaction}
+use Rattle.core_fids.specs.Contents.{content_of}
 use Rattle.core_answers.specs.Controls.{controls}
 use Rattle.core_answers.specs.Erring.{fits_in, fits_tag, appends, errors_of, root_errors, errors_changes, errors_refusal}
-use Rattle.core_answers.specs.Fids.{is_for_writing, holding}
+use Rattle.core_fids.specs.Fids.{is_for_writing, holding}
 use Rattle.core_answers.specs.Reading.{use_refusal, or_reads}
-use Rattle.core_answers.specs.Refusals.{refusal_text}
+use Rattle.core_fids.specs.Refusals.{refusal_text}
 use Rattle.core_answers.specs.Texts.{text_at, right_of, name_of, modified_of}
 
 -- the whole count is answered
-abbrev pub written : List Change → ℕ → Fid → ℕ → Deed
+abbrev pub written : List Change → ℕ → Fid → ℕ → Reaction
 written changes number fid count = does (effect.Puts number fid) changes (r.Write count)
 
 -- what is done where the window lives
-abbrev pub if_lives : Option Window → Result Deed Refusal → Result Deed Refusal
+abbrev pub if_lives : Option Window → Result Reaction Refusal → Result Reaction Refusal
 if_lives window done = if is_some window then done else Err refusal.WindowDeleted
 
 -- ---- texts: whole runes are put at the end, and the bytes of an unfinished one are held for the fid
 
-abbrev pub append_deed : List (Option Window) → ℕ → Fid → ℕ → ℕ → Decoded → Result Deed Refusal
-append_deed windows number fid w count decoded = if_lives (window_at windows w) (if fits_in (text_at windows w) decoded.text
+-- the whole runes of what the fid holds and of these bytes, and the bytes of an unfinished one
+abbrev pub whole_runes : Fid → List ℕ → Decoded
+whole_runes fid bytes = decode_part (part_bytes fid.part ++ bytes)
+
+abbrev pub append_reaction : List (Option Window) → ℕ → Fid → ℕ → ℕ → Decoded → Result Reaction Refusal
+append_reaction windows number fid w count decoded = if_lives (window_at windows w) (if fits_in (text_at windows w) decoded.text
     then Ok (written (appends windows w decoded.text) number (holding fid (part_of decoded.rest)) count)
     else Err refusal.TextTooLong)
 
 -- the right part of the tag alone can be written
-abbrev pub add_deed : List (Option Window) → ℕ → Fid → ℕ → ℕ → Decoded → Result Deed Refusal
-add_deed windows number fid w count decoded = if_lives (window_at windows w) (if fits_tag (right_of (window_at windows w)) decoded.text
+abbrev pub add_reaction : List (Option Window) → ℕ → Fid → ℕ → ℕ → Decoded → Result Reaction Refusal
+add_reaction windows number fid w count decoded = if_lives (window_at windows w) (if fits_tag (right_of (window_at windows w)) decoded.text
     then Ok (written (change.Adds w decoded.text ∷ []) number (holding fid (part_of decoded.rest)) count)
     else Err refusal.TextTooLong)
 
-abbrev pub or_errors : Option Refusal → Deed → Result Deed Refusal
-or_errors None deed = Ok deed
-or_errors (Some refusal) deed = Err refusal
+abbrev pub or_errors : Option Refusal → Reaction → Result Reaction Refusal
+or_errors None reaction = Ok reaction
+or_errors (Some refusal) reaction = Err refusal
 
 -- what is written to `errors` or `cons` goes to the errors window of that name
-abbrev pub errors_deed : List (Option Window) → ℕ → Fid → List ℕ → ℕ → Decoded → Result Deed Refusal
-errors_deed windows number fid name count decoded =
+abbrev pub errors_reaction : List (Option Window) → ℕ → Fid → List ℕ → ℕ → Decoded → Result Reaction Refusal
+errors_reaction windows number fid name count decoded =
     or_errors (errors_refusal windows (named windows name) decoded.text)
     (written (errors_changes windows name (named windows name) decoded.text) number (holding fid (part_of decoded.rest)) count)
 
@@ -66,36 +70,36 @@ control_answer None count = r.Write count
 control_answer (Some refusal) count = r.Error (refusal_text refusal)
 
 -- what was done before a refusal stays done
-abbrev pub control_deed : ℕ → Controls → Deed
-control_deed count controls = does effect.Nothing controls.changes (control_answer controls.refusal count)
+abbrev pub control_reaction : ℕ → Controls → Reaction
+control_reaction count controls = does effect.Nothing controls.changes (control_answer controls.refusal count)
 
-abbrev pub ctl_deed : ℕ → List ℕ → Option Window → Result Deed Refusal
-ctl_deed w bytes window = if_lives window (Ok (control_deed (length bytes) (controls w (lines_of bytes) (name_of window) (modified_of window))))
+abbrev pub ctl_reaction : ℕ → List ℕ → Option Window → Result Reaction Refusal
+ctl_reaction w bytes window = if_lives window (Ok (control_reaction (length bytes) (controls w (lines_of bytes) (name_of window) (modified_of window))))
 
 -- ---- all files
 
 -- what is written to a file that holds nothing is dropped
-abbrev pub write_content : List (Option Window) → ℕ → Fid → List ℕ → Content → Result Deed Refusal
+abbrev pub write_content : List (Option Window) → ℕ → Fid → List ℕ → Content → Result Reaction Refusal
 write_content windows number fid bytes content.Directory = Err refusal.PermissionDenied
-write_content windows number fid bytes (content.BodyText w) = append_deed windows number fid w (length bytes) (decode_part (part_bytes fid.part ++ bytes))
-write_content windows number fid bytes (content.TagText w) = add_deed windows number fid w (length bytes) (decode_part (part_bytes fid.part ++ bytes))
-write_content windows number fid bytes (content.CtlText w) = ctl_deed w bytes (window_at windows w)
-write_content windows number fid bytes (content.AddrText w) = addr_deed w bytes (window_at windows w)
-write_content windows number fid bytes (content.DataOf w) = taking_deed w bytes (window_at windows w)
-write_content windows number fid bytes (content.XdataOf w) = taking_deed w bytes (window_at windows w)
+write_content windows number fid bytes (content.BodyText w) = append_reaction windows number fid w (length bytes) (whole_runes fid bytes)
+write_content windows number fid bytes (content.TagText w) = add_reaction windows number fid w (length bytes) (whole_runes fid bytes)
+write_content windows number fid bytes (content.CtlText w) = ctl_reaction w bytes (window_at windows w)
+write_content windows number fid bytes (content.AddrText w) = addr_reaction w bytes (window_at windows w)
+write_content windows number fid bytes (content.DataOf w) = taking_reaction w bytes (window_at windows w)
+write_content windows number fid bytes (content.XdataOf w) = taking_reaction w bytes (window_at windows w)
 write_content windows number fid bytes content.IndexText = Err refusal.PermissionDenied
 write_content windows number fid bytes (content.ErrorsOf w) =
-    errors_deed windows number fid (errors_of (window_at windows w)) (length bytes) (decode_part (part_bytes fid.part ++ bytes))
+    errors_reaction windows number fid (errors_of (window_at windows w)) (length bytes) (whole_runes fid bytes)
 write_content windows number fid bytes content.ConsErrors =
-    errors_deed windows number fid root_errors (length bytes) (decode_part (part_bytes fid.part ++ bytes))
+    errors_reaction windows number fid root_errors (length bytes) (whole_runes fid bytes)
 write_content windows number fid bytes content.Empty = Ok (does effect.Nothing [] (r.Write (length bytes)))
 write_content windows number fid bytes (content.EventsOf w) = Err refusal.NotServedYet
 write_content windows number fid bytes content.Unserved = Err refusal.NotServedYet
 
-abbrev pub write_fid : World → List (Option Window) → ℕ → List ℕ → Option Fid → Result Deed Refusal
+abbrev pub write_fid : World → List (Option Window) → ℕ → List ℕ → Option Fid → Result Reaction Refusal
 write_fid world windows number bytes None = Err refusal.UnknownFid
 write_fid world windows number bytes (Some fid) =
     or_reads (use_refusal world fid is_for_writing) (write_content windows number fid bytes (content_of fid.node))
 
-abbrev pub write_deed : Tables → World → List (Option Window) → ℕ → ℕ → List ℕ → Result Deed Refusal
-write_deed tables world windows conn number bytes = write_fid world windows number bytes (fid_of tables conn number)
+abbrev pub write_reaction : Tables → World → List (Option Window) → ℕ → ℕ → List ℕ → Result Reaction Refusal
+write_reaction tables world windows conn number bytes = write_fid world windows number bytes (fid_of tables conn number)

@@ -1,21 +1,18 @@
 //! What is read and written by a window's address: the files `addr`, `data` and `xdata`, after acme(4).
 
-ghost use Rattle.std.specs.Prelude.{◌≡◌, ◌+◌, ◌<◌, ◌^◌, IfOk, IfErr, Ok, None, Some, length};
-ghost use Rattle.core_windows.specs.Panes.{window_of};
+ghost use Rattle.std.specs.Prelude.{◌≡◌, ◌+◌, ◌<◌, ◌^◌, IfOk, IfErr, Ok, length};
 ghost use Rattle.core_windows.specs.Windows.{window_at};
-ghost use Rattle.win_text.specs.Bodies.{IsInside};
-ghost use Rattle.core_answers.specs.Addressing.{sets_addr, edits_with_addr, addr_text, gives, data_deed, xdata_deed, fault_of, addr_deed, taking_deed};
-ghost use Rattle.core_answers.specs.Done.{IsDone};
-ghost use Rattle.core_answers.specs.Refusals.{Gives};
+ghost use Rattle.core_answers.specs.Addressing.{sets_addr, edits_with_addr, addr_text, data_reaction, xdata_reaction, fault_of, addr_reaction, taking_reaction};
+ghost use Rattle.core_fids.specs.Done.{IsDone};
+ghost use Rattle.core_fids.specs.Refusals.{Gives};
 
-use crate::effect::{Deed, Effect};
 use crate::read::show;
-use crate::refusal::{Fault, Refusal};
 use am_text::{Bytes, Items, NoMemory, Range};
 use core_addresses::{
     Given, RangeFault, Taken, addressed, data_given, data_taken, range_text, xdata_given,
 };
-use core_windows::{Change, Changes, Edits, Pane, Setting, Windows};
+use core_fids::{Effect, Fault, Reaction, Refusal};
+use core_windows::{Change, Changes, Edits, Setting, Windows};
 use ninep_types::RBody;
 use std::alloc::Global;
 
@@ -57,26 +54,6 @@ pub(crate) fn addr_text(alloc: Global, windows: &Windows, window: u32) -> Result
     }
 }
 
-// What is given is answered, and the address is set.
-#[tactic(auto, using(crate::proofs::Possibly::addressing))]
-fn give(
-    alloc: Global,
-    windows: &Windows,
-    window: u32,
-    pane: &Pane,
-    given: Given,
-) -> Result<Deed, NoMemory>
-    requires size { length given.bytes + 11 < 2 ^ 32 }
-    requires there { window_at windows.now.present window ≡ Some (window_of pane.now) }
-    requires inside { IsInside pane.now.body.state.text given.addr }
-    ensures exact { IfOk result (λ d. d ≡ gives window given) }
-    ensures done { IfOk result (IsDone windows.now.present) }
-{
-    let Given { bytes, addr } = given;
-    let changes = sets_addr(alloc, window, addr)?;
-    Ok(Deed::plain(Effect::Nothing, changes, RBody::Read { bytes }))
-}
-
 /// What a read of `data` does.
 #[tactic(auto, using(crate::proofs::Possibly::addressing))]
 pub(crate) fn read_data(
@@ -84,17 +61,18 @@ pub(crate) fn read_data(
     windows: &Windows,
     window: u32,
     count: u32,
-) -> Result<Deed, NoMemory>
+) -> Result<Reaction, NoMemory>
     requires { count + 11 < 2 ^ 32 }
-    ensures exact { IfOk result (λ d. d ≡ data_deed window count (window_at windows.now.present window)) }
+    ensures exact { IfOk result (λ d. d ≡ data_reaction window count (window_at windows.now.present window)) }
     ensures done { IfOk result (IsDone windows.now.present) }
 {
     match windows.get(window) {
         Some(pane) => {
-            let given = data_given(alloc, &pane.body, count as usize)?;
-            give(alloc, windows, window, pane, given)
+            let Given { bytes, addr } = data_given(alloc, &pane.body, count as usize)?;
+            let changes = sets_addr(alloc, window, addr)?;
+            Ok(Reaction::plain(Effect::Nothing, changes, RBody::Read { bytes }))
         }
-        None => Ok(show(alloc, windows, Items::new(alloc))),
+        None => Ok(show(alloc, Items::new(alloc))),
     }
 }
 
@@ -105,17 +83,18 @@ pub(crate) fn read_xdata(
     windows: &Windows,
     window: u32,
     count: u32,
-) -> Result<Deed, NoMemory>
+) -> Result<Reaction, NoMemory>
     requires { count + 11 < 2 ^ 32 }
-    ensures exact { IfOk result (λ d. d ≡ xdata_deed window count (window_at windows.now.present window)) }
+    ensures exact { IfOk result (λ d. d ≡ xdata_reaction window count (window_at windows.now.present window)) }
     ensures done { IfOk result (IsDone windows.now.present) }
 {
     match windows.get(window) {
         Some(pane) => {
-            let given = xdata_given(alloc, &pane.body, count as usize)?;
-            give(alloc, windows, window, pane, given)
+            let Given { bytes, addr } = xdata_given(alloc, &pane.body, count as usize)?;
+            let changes = sets_addr(alloc, window, addr)?;
+            Ok(Reaction::plain(Effect::Nothing, changes, RBody::Read { bytes }))
         }
-        None => Ok(show(alloc, windows, Items::new(alloc))),
+        None => Ok(show(alloc, Items::new(alloc))),
     }
 }
 
@@ -140,10 +119,10 @@ pub(crate) fn write_addr(
     windows: &Windows,
     window: u32,
     bytes: &[u8],
-) -> Result<Deed, Fault>
+) -> Result<Reaction, Fault>
     requires { length bytes.now < 2 ^ 32 }
-    ensures exact { IfOk result (λ d. addr_deed window bytes.now (window_at windows.now.present window) ≡ Ok d) }
-    ensures refused { IfErr result (λ e. Gives e (addr_deed window bytes.now (window_at windows.now.present window))) }
+    ensures exact { IfOk result (λ d. addr_reaction window bytes.now (window_at windows.now.present window) ≡ Ok d) }
+    ensures refused { IfErr result (λ e. Gives e (addr_reaction window bytes.now (window_at windows.now.present window))) }
     ensures done { IfOk result (IsDone windows.now.present) }
 {
     let Some(pane) = windows.get(window) else {
@@ -153,7 +132,7 @@ pub(crate) fn write_addr(
         Ok(range) => range,
         Err(fault) => return Err(fault_of(fault)),
     };
-    Ok(Deed::plain(
+    Ok(Reaction::plain(
         Effect::Nothing,
         sets_addr(alloc, window, range)?,
         RBody::Write {
@@ -169,10 +148,10 @@ pub(crate) fn write_data(
     windows: &Windows,
     window: u32,
     bytes: &[u8],
-) -> Result<Deed, Fault>
+) -> Result<Reaction, Fault>
     requires { length bytes.now < 2 ^ 32 }
-    ensures exact { IfOk result (λ d. taking_deed window bytes.now (window_at windows.now.present window) ≡ Ok d) }
-    ensures refused { IfErr result (λ e. Gives e (taking_deed window bytes.now (window_at windows.now.present window))) }
+    ensures exact { IfOk result (λ d. taking_reaction window bytes.now (window_at windows.now.present window) ≡ Ok d) }
+    ensures refused { IfErr result (λ e. Gives e (taking_reaction window bytes.now (window_at windows.now.present window))) }
     ensures done { IfOk result (IsDone windows.now.present) }
 {
     let Some(pane) = windows.get(window) else {
@@ -182,7 +161,7 @@ pub(crate) fn write_data(
         Ok(taken) => taken,
         Err(fault) => return Err(fault_of(fault)),
     };
-    Ok(Deed::plain(
+    Ok(Reaction::plain(
         Effect::Nothing,
         edits_with_addr(alloc, window, edits, addr)?,
         RBody::Write {

@@ -1,32 +1,27 @@
 //! What each message does, and its answer.
 
-ghost use Rattle.std.specs.Prelude.{◌≡◌, IfOk, IfErr, Ok, All};
+ghost use Rattle.std.specs.Prelude.{◌≡◌, IfOk, IfErr, Ok};
 ghost use Rattle.ninep_types.specs.Spelling.{BodyFits_t};
-ghost use Rattle.ninep_frame.specs.Records.{IsName};
-ghost use Rattle.core_answers.specs.Deeds.{flush_deed, served, needs_session, comes_first, deed};
-ghost use Rattle.core_answers.specs.Done.{IsDone};
-ghost use Rattle.core_answers.specs.Refusals.{Gives};
-ghost use Rattle.core_windows.specs.Windows.{world_of};
+ghost use Rattle.core_fids.specs.Done.{IsDone, IsStill};
+ghost use Rattle.core_fids.specs.Refusals.{Gives};
+ghost use Rattle.core_fids.specs.Servers.{tables_in, windows_in, world_in};
+ghost use Rattle.core_answers.specs.Reactions.{flush_reaction, served, needs_session, comes_first, reaction};
 
-use crate::attach::{attach, version};
-use crate::effect::{Answer, Deed, Effect, EventChange};
-use crate::open::{clunk, deny, open, remove};
-use crate::read::{read, stat};
-use crate::refusal::{Fault, Refusal, refuse};
-use crate::walk::walk;
+use crate::read::read;
 use crate::write::write;
-use acme_tree::World;
 use am_text::{Items, NoMemory};
-use core_windows::Windows;
-use fid_table::Sessions;
+use core_fids::{
+    Answer, Effect, EventChange, Fault, Reaction, Refusal, Server, attach, clunk, deny, open,
+    refuse, remove, stat, version, walk,
+};
 use ninep_types::{RBody, TBody};
 use std::alloc::Global;
 
-fn flush(alloc: Global, windows: &Windows, oldtag: u16) -> Deed
-    ensures exact { result ≡ flush_deed oldtag }
-    ensures done { IsDone windows.now.present result }
+fn flush(alloc: Global, oldtag: u16) -> Reaction
+    ensures exact { result ≡ flush_reaction oldtag }
+    ensures still { IsStill result }
 {
-    Deed {
+    Reaction {
         effect: Effect::Nothing,
         events: EventChange::Cancels { tag: oldtag },
         changes: Items::new(alloc),
@@ -34,77 +29,35 @@ fn flush(alloc: Global, windows: &Windows, oldtag: u16) -> Deed
     }
 }
 
-fn served(
-    alloc: Global,
-    sessions: &Sessions,
-    windows: &Windows,
-    world: &World,
-    openings: usize,
-    conn: u32,
-    body: &TBody,
-) -> Result<Deed, Fault>
-    requires fits { BodyFits_t body.now }
-    requires world { world.now ≡ world_of windows.now.present }
-    requires named { All IsName world.now.ports }
-    ensures exact { IfOk result (λ d. served sessions.now.present world.now windows.now.present openings conn body.now ≡ Ok d) }
-    ensures refused { IfErr result (λ e. Gives e (served sessions.now.present world.now windows.now.present openings conn body.now)) }
-    ensures done { IfOk result (IsDone windows.now.present) }
+#[tactic(auto, using(crate::proofs::Possibly::still))]
+fn served(alloc: Global, server: &Server, body: &TBody) -> Result<Reaction, Fault>
+    requires { BodyFits_t body.now }
+    ensures exact { IfOk result (λ r. served (tables_in server.now) (world_in server.now) (windows_in server.now) server.now.openings server.now.conn body.now ≡ Ok r) }
+    ensures refused { IfErr result (λ e. Gives e (served (tables_in server.now) (world_in server.now) (windows_in server.now) server.now.openings server.now.conn body.now)) }
+    ensures done { IfOk result (IsDone (windows_in server.now)) }
 {
     match body {
         TBody::Version {
             msize,
             version: name,
-        } => Ok(version(alloc, windows, *msize, name.as_slice())?),
+        } => Ok(version(alloc, *msize, name.as_slice())?),
         TBody::Auth { .. } => Err(Fault::Refused(Refusal::AuthenticationNotRequired)),
-        TBody::Flush { oldtag } => Ok(flush(alloc, windows, *oldtag)),
+        TBody::Flush { oldtag } => Ok(flush(alloc, *oldtag)),
         TBody::Attach {
             fid,
             afid,
             aname,
             ..
-        } => attach(
-            alloc,
-            sessions,
-            windows,
-            conn,
-            *fid,
-            *afid,
-            aname.as_slice(),
-        ),
-        TBody::Walk { fid, newfid, names } => {
-            walk(
-                alloc,
-                sessions,
-                windows,
-                world,
-                conn,
-                *fid,
-                *newfid,
-                names.as_slice(),
-            )
-        }
-        TBody::Open { fid, mode } => open(
-            alloc, sessions, windows, world, openings, conn, *fid, *mode,
-        ),
-        TBody::Create { fid, .. } => Err(Fault::Refused(deny(sessions, conn, *fid))),
-        TBody::Read { fid, offset, count } => {
-            read(alloc, sessions, windows, world, conn, *fid, *offset, *count)
-        }
-        TBody::Write { fid, bytes, .. } => {
-            write(
-                alloc,
-                sessions,
-                windows,
-                world,
-                conn,
-                *fid,
-                bytes.as_slice(),
-            )
-        }
-        TBody::Clunk { fid } => clunk(alloc, sessions, windows, conn, *fid),
-        TBody::Remove { fid } => remove(alloc, sessions, windows, conn, *fid),
-        TBody::Stat { fid } => stat(alloc, sessions, windows, world, conn, *fid),
-        TBody::Wstat { fid, .. } => Err(Fault::Refused(deny(sessions, conn, *fid))),
+        } => attach(alloc, server, *fid, *afid, aname.as_slice()),
+        TBody::Walk { fid, newfid, names } => walk(alloc, server, *fid, *newfid, names.as_slice()),
+        TBody::Open { fid, mode } => open(alloc, server, *fid, *mode),
+        TBody::Create { fid, .. } => Err(Fault::Refused(deny(server, *fid))),
+        TBody::Read { fid, offset, count } => read(alloc, server, *fid, *offset, *count),
+        TBody::Write { fid, bytes, .. } => write(alloc, server, *fid, bytes.as_slice()),
+        TBody::Clunk { fid } => clunk(alloc, server, *fid),
+        TBody::Remove { fid } => remove(alloc, server, *fid),
+        TBody::Stat { fid } => stat(alloc, server, *fid),
+        TBody::Wstat { fid, .. } => Err(Fault::Refused(deny(server, *fid))),
     }
 }
 
@@ -128,41 +81,26 @@ fn needs_session(body: &TBody) -> bool
     }
 }
 
-fn comes_first(sessions: &Sessions, conn: u32, body: &TBody) -> bool
-    ensures { result ≡ comes_first sessions.now.present conn body.now }
+fn comes_first(server: &Server, body: &TBody) -> bool
+    ensures { result ≡ comes_first (tables_in server.now) server.now.conn body.now }
 {
-    needs_session(body) && sessions.msize(conn).is_none()
+    needs_session(body) && server.sessions.msize(server.conn).is_none()
 }
 
-/// What a message of a connection does, and its answer, where so many openings of event files were made.
-#[tactic(auto, using(crate::proofs::Named::naming))]
-pub fn deed_of(
-    alloc: Global,
-    sessions: &Sessions,
-    windows: &Windows,
-    openings: usize,
-    conn: u32,
-    body: &TBody,
-) -> Result<Deed, NoMemory>
+/// What a message of a connection does, and its answer.
+#[tactic(auto, using(crate::proofs::Possibly::still))]
+pub fn reaction_of(alloc: Global, server: &Server, body: &TBody) -> Result<Reaction, NoMemory>
     requires { BodyFits_t body.now }
-    ensures exact { IfOk result (λ d. d ≡ deed sessions.now.present windows.now.present openings conn body.now) }
+    ensures exact { IfOk result (λ r. r ≡ reaction (tables_in server.now) (windows_in server.now) server.now.openings server.now.conn body.now) }
     // Its answer has a spelling, and its change of the windows can be made.
-    ensures done { IfOk result (IsDone windows.now.present) }
+    ensures done { IfOk result (IsDone (windows_in server.now)) }
 {
-    if comes_first(sessions, conn, body) {
-        return refuse(alloc, windows, Effect::Nothing, Refusal::VersionFirst);
+    if comes_first(server, body) {
+        return refuse(alloc, Effect::Nothing, Refusal::VersionFirst);
     }
-    match served(
-        alloc,
-        sessions,
-        windows,
-        windows.world(),
-        openings,
-        conn,
-        body,
-    ) {
-        Ok(deed) => Ok(deed),
-        Err(Fault::Refused(refusal)) => refuse(alloc, windows, Effect::Nothing, refusal),
+    match served(alloc, server, body) {
+        Ok(reaction) => Ok(reaction),
+        Err(Fault::Refused(refusal)) => refuse(alloc, Effect::Nothing, refusal),
         Err(Fault::NoMemory) => Err(NoMemory),
     }
 }

@@ -4,12 +4,12 @@ ghost use Rattle.std.specs.Prelude.{◌≡◌, List, Option, IsSome, IfOk, lengt
 ghost use Rattle.am_text.specs.Lines.{lines_of};
 ghost use Rattle.win_ctl.specs.Messages.{ctl_of};
 ghost use Rattle.core_answers.specs.Controls.{is_guarded, del_told, msg_told, line_told, name_after, modified_after, controls};
-ghost use Rattle.core_answers.specs.Done.{CanBeMade};
+ghost use Rattle.core_fids.specs.Done.{CanBeMade};
 ghost use Rattle.core_windows.specs.Windows.{Window, window_at};
 ghost use Rattle.core_answers.specs.Texts.{is_dir_name};
 
-use crate::refusal::Refusal;
 use am_text::{Items, NoMemory, Rune, Runes, split_line};
+use core_fids::Refusal;
 use core_windows::{Change, Changes, Setting};
 use std::alloc::Global;
 use win_ctl::{CtlFault, CtlMsg, parse_ctl};

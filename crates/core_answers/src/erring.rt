@@ -2,15 +2,15 @@
 
 ghost use Rattle.std.specs.Prelude.{◌≡◌, ◌+◌, ◌++◌, ◌<◌, ◌≤◌, ◌^◌, ◌==◌, nat_le, [], ◌∷◌, if◌then◌else◌, false, is_some, IsSome, IfSome, IfOk, length, None};
 ghost use Rattle.acme_tree.specs.Trees.{is_full};
-ghost use Rattle.core_answers.specs.Done.{CanBeMade};
+ghost use Rattle.core_fids.specs.Done.{CanBeMade};
 ghost use Rattle.core_windows.specs.Windows.{window_at, world_of};
 ghost use Rattle.core_answers.specs.Erring.{fits_in, fits_tag, edits_at_end, appends, errors_name, errors_of, root_errors, errors_changes, long_refusal, errors_refusal};
 ghost use Rattle.core_answers.specs.Texts.{text_at, right_of, name_of, text_of};
 
 use crate::control::ERRORS;
-use crate::refusal::Refusal;
 use acme_tree::is_full;
 use am_text::{Items, Letters, NoMemory, Rune, Runes};
+use core_fids::Refusal;
 use core_windows::{Change, Changes, Edit, Edits, Windows};
 use std::alloc::Global;
 use win_ctl::directory;

@@ -1,28 +1,17 @@
-//! What each message of a connection does, and its answer, by the rules of the files.
+//! What each message of a connection does, and its answer; what the files of windows give and take.
 #![tactic(auto)]
 
 mod addressing;
 mod answer;
-mod attach;
-mod content;
 mod control;
-mod directory;
-mod effect;
 mod erring;
-mod fids;
 mod laws;
-mod open;
 mod read;
-mod refusal;
 mod texts;
-mod walk;
 mod write;
 
 pub use am_text::{Bytes, Items, NoMemory, Rune, Runes};
-pub use answer::deed_of;
-pub use core_windows::{Change, Changes, Windows};
-pub use effect::{Answer, Deed, Effect, EventChange};
-pub use fids::copy;
+pub use answer::reaction_of;
+pub use core_fids::{Reaction, Server};
 pub use laws::messages_are_answered;
-pub use ninep_types::{RBody, TBody};
-pub use refusal::{Refusal, error};
+pub use ninep_types::TBody;

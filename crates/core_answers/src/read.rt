@@ -1,156 +1,107 @@
-//! Reading, after read(5) and stat(5).
+//! Reading, after read(5).
 
-ghost use Rattle.std.specs.Prelude.{◌≡◌, ◌+◌, ◌<◌, ◌≤◌, ◌^◌, IfOk, IfErr, Ok, All, true, length, Option};
-ghost use Rattle.fid_table.specs.Tables.{fid_of};
-ghost use Rattle.ninep_frame.specs.Records.{IsName};
+ghost use Rattle.std.specs.Prelude.{◌≡◌, ◌+◌, ◌<◌, ◌^◌, IfOk, IfErr, Ok, true, length};
 ghost use Rattle.acme_tree.specs.Trees.{is_live};
-ghost use Rattle.core_answers.specs.Contents.{content_of};
-ghost use Rattle.core_answers.specs.Refusals.{Gives};
-ghost use Rattle.core_answers.specs.Done.{IsDone};
-ghost use Rattle.core_answers.specs.Fids.{is_for_reading, is_for_writing};
-ghost use Rattle.core_answers.specs.Reading.{shown, place_at, goes_on, read_dir, read_opening, read_content, mode_refusal, use_refusal, most, read_deed, stat_fid};
+ghost use Rattle.core_fids.specs.Contents.{content_of};
+ghost use Rattle.core_fids.specs.Done.{IsDone, IsStill};
+ghost use Rattle.core_fids.specs.Fids.{is_for_reading, is_for_writing};
+ghost use Rattle.core_fids.specs.Refusals.{Gives};
+ghost use Rattle.core_fids.specs.Servers.{tables_in, windows_in, world_in};
+ghost use Rattle.core_answers.specs.Reading.{shown, read_opening, read_content, use_refusal, most, read_reaction};
+ghost use Rattle.core_answers.specs.Texts.{part_at};
 
 use crate::addressing::{addr_text, read_data, read_xdata};
-use crate::content::{Content, content_of};
-use crate::directory::dir_part;
-use crate::effect::{Answer, Deed, Effect, EventChange};
-use crate::fids::{is_for_reading, is_for_writing, placed};
-use crate::refusal::{Fault, Refusal};
 use crate::texts::{body_part, ctl_if_live, index_text, part_at, tag_if_live};
-use acme_tree::{World, is_live, stat_of};
-use am_text::{Bytes, Items, utf8_slice};
-use core_windows::Windows;
-use fid_table::{Fid, Sessions};
-use ninep_frame::stat_write;
+use acme_tree::{World, is_live};
+use am_text::{Bytes, Items, NoMemory, utf8_slice};
+use core_fids::{
+    Answer, Content, Effect, EventChange, Fault, Reaction, Reading, Refusal, Server, content_of,
+    is_for_reading, is_for_writing, read_dir,
+};
+use fid_table::Fid;
 use ninep_types::RBody;
 use std::alloc::Global;
 
-/// The deed that answers bytes, and changes nothing.
-#[tactic(auto, using(crate::proofs::Answers::sent))]
-pub(crate) fn show(alloc: Global, windows: &Windows, bytes: Bytes) -> Deed
+/// What answers bytes, and changes nothing.
+pub(crate) fn show(alloc: Global, bytes: Bytes) -> Reaction
     requires { length bytes + 11 < 2 ^ 32 }
     ensures exact { result ≡ shown bytes }
-    ensures done { IsDone windows.now.present result }
+    ensures still { IsStill result }
 {
-    Deed::plain(Effect::Nothing, Items::new(alloc), RBody::Read { bytes })
+    Reaction::plain(Effect::Nothing, Items::new(alloc), RBody::Read { bytes })
 }
 
-fn place_at(fid: &Fid, offset: u64) -> Option<usize>
-    ensures { result ≡ place_at fid.now offset }
+// What answers the bytes of these that a read gets.
+fn show_part(alloc: Global, bytes: &[u8], reading: &Reading) -> Result<Reaction, NoMemory>
+    requires { reading.now.count + 11 < 2 ^ 32 }
+    ensures exact { IfOk result (λ r. r ≡ shown (part_at bytes.now reading.now.offset reading.now.count)) }
+    ensures still { IfOk result IsStill }
 {
-    if offset == 0 {
-        Some(0)
-    } else if offset == fid.given {
-        Some(fid.skip)
-    } else {
-        None
-    }
-}
-
-fn read_dir(
-    alloc: Global,
-    windows: &Windows,
-    world: &World,
-    number: u32,
-    fid: &Fid,
-    offset: u64,
-    count: u32,
-) -> Result<Deed, Fault>
-    requires named { All IsName world.now.ports }
-    requires live { is_live world.now fid.now.node ≡ true }
-    requires small { count + 11 < 2 ^ 32 }
-    ensures exact { IfOk result (λ d. read_dir world.now number fid.now offset count (place_at fid.now offset) ≡ Ok d) }
-    ensures refused { IfErr result (λ e. Gives e (read_dir world.now number fid.now offset count (place_at fid.now offset))) }
-    ensures done { IfOk result (IsDone windows.now.present) }
-{
-    let Some(skip) = place_at(fid, offset) else {
-        return Err(Fault::Refused(Refusal::BadDirectoryOffset));
-    };
-    let (bytes, given) = dir_part(alloc, world, fid.node, skip, count)?;
-    let fid = placed(alloc, fid, offset, bytes.len(), skip, given)?;
-    Ok(Deed::plain(
-        Effect::Puts { number, fid },
-        Items::new(alloc),
-        RBody::Read { bytes },
-    ))
+    let part = part_at(alloc, bytes, reading.offset, reading.count as usize)?;
+    Ok(show(alloc, part))
 }
 
 // A read of an event file, which gets what is there for its opening, or waits.
-fn read_opening(
-    alloc: Global,
-    windows: &Windows,
-    number: u32,
-    fid: &Fid,
-    count: u32,
-) -> Result<Deed, Fault>
-    requires { count + 11 < 2 ^ 32 }
-    ensures exact { IfOk result (λ d. read_opening number count fid.now.opening ≡ Ok d) }
-    ensures refused { IfErr result (λ e. Gives e (read_opening number count fid.now.opening)) }
-    ensures done { IfOk result (IsDone windows.now.present) }
+fn read_opening(alloc: Global, reading: &Reading) -> Result<Reaction, Fault>
+    requires { reading.now.count + 11 < 2 ^ 32 }
+    ensures exact { IfOk result (λ r. read_opening reading.now.number reading.now.count reading.now.fid.now.opening ≡ Ok r) }
+    ensures refused { IfErr result (λ e. Gives e (read_opening reading.now.number reading.now.count reading.now.fid.now.opening)) }
+    ensures still { IfOk result IsStill }
 {
-    match fid.opening {
+    match reading.fid.opening {
         None => Err(Fault::Refused(Refusal::FidIsNotOpen)),
-        Some(opening) => Ok(Deed {
+        Some(opening) => Ok(Reaction {
             effect: Effect::Nothing,
             events: EventChange::Nothing,
             changes: Items::new(alloc),
             answer: Answer::Reads {
-                fid: number,
+                fid: reading.number,
                 opening,
-                count,
+                count: reading.count,
             },
         }),
     }
 }
 
-fn read_content(
-    alloc: Global,
-    windows: &Windows,
-    world: &World,
-    number: u32,
-    fid: &Fid,
-    offset: u64,
-    count: u32,
-) -> Result<Deed, Fault>
-    requires named { All IsName world.now.ports }
-    requires live { is_live world.now fid.now.node ≡ true }
-    requires small { count + 11 < 2 ^ 32 }
-    ensures exact { IfOk result (λ d. read_content world.now windows.now.present number fid.now offset count (content_of fid.now.node) ≡ Ok d) }
-    ensures refused { IfErr result (λ e. Gives e (read_content world.now windows.now.present number fid.now offset count (content_of fid.now.node))) }
-    ensures done { IfOk result (IsDone windows.now.present) }
+#[tactic(auto, using(crate::proofs::Possibly::still))]
+fn read_content(alloc: Global, server: &Server, reading: &Reading) -> Result<Reaction, Fault>
+    requires live { is_live (world_in server.now) reading.now.fid.now.node ≡ true }
+    requires small { reading.now.count + 11 < 2 ^ 32 }
+    ensures exact { IfOk result (λ r. read_content (world_in server.now) (windows_in server.now) reading.now.number reading.now.fid.now reading.now.offset reading.now.count (content_of reading.now.fid.now.node) ≡ Ok r) }
+    ensures refused { IfErr result (λ e. Gives e (read_content (world_in server.now) (windows_in server.now) reading.now.number reading.now.fid.now reading.now.offset reading.now.count (content_of reading.now.fid.now.node))) }
+    ensures done { IfOk result (IsDone (windows_in server.now)) }
 {
-    match content_of(fid.node) {
-        Content::Directory => read_dir(alloc, windows, world, number, fid, offset, count),
+    let windows = server.windows;
+    let count = reading.count as usize;
+    match content_of(reading.fid.node) {
+        Content::Directory => read_dir(alloc, server, reading),
         Content::BodyText(window) => {
-            let bytes = body_part(alloc, windows, window, offset, count as usize)?;
-            Ok(show(alloc, windows, bytes))
+            let bytes = body_part(alloc, windows, window, reading.offset, count)?;
+            Ok(show(alloc, bytes))
         }
         Content::TagText(window) => {
             let text = tag_if_live(alloc, windows, window)?;
-            let bytes = utf8_slice(alloc, text.as_slice(), offset, count as usize)?;
-            Ok(show(alloc, windows, bytes))
+            let bytes = utf8_slice(alloc, text.as_slice(), reading.offset, count)?;
+            Ok(show(alloc, bytes))
         }
         Content::CtlText(window) => {
             let text = ctl_if_live(alloc, windows, window)?;
-            let bytes = part_at(alloc, text.as_slice(), offset, count as usize)?;
-            Ok(show(alloc, windows, bytes))
+            Ok(show_part(alloc, text.as_slice(), reading)?)
         }
         Content::AddrText(window) => {
             let text = addr_text(alloc, windows, window)?;
-            let bytes = part_at(alloc, text.as_slice(), offset, count as usize)?;
-            Ok(show(alloc, windows, bytes))
+            Ok(show_part(alloc, text.as_slice(), reading)?)
         }
-        Content::DataOf(window) => Ok(read_data(alloc, windows, window, count)?),
-        Content::XdataOf(window) => Ok(read_xdata(alloc, windows, window, count)?),
         Content::IndexText => {
             let text = index_text(alloc, windows)?;
-            let bytes = part_at(alloc, text.as_slice(), offset, count as usize)?;
-            Ok(show(alloc, windows, bytes))
+            Ok(show_part(alloc, text.as_slice(), reading)?)
         }
+        Content::DataOf(window) => Ok(read_data(alloc, windows, window, reading.count)?),
+        Content::XdataOf(window) => Ok(read_xdata(alloc, windows, window, reading.count)?),
+        Content::EventsOf(_) => read_opening(alloc, reading),
         Content::ErrorsOf(_) => Err(Fault::Refused(Refusal::PermissionDenied)),
-        Content::ConsErrors => Ok(show(alloc, windows, Items::new(alloc))),
-        Content::Empty => Ok(show(alloc, windows, Items::new(alloc))),
-        Content::EventsOf(_) => read_opening(alloc, windows, number, fid, count),
+        Content::ConsErrors => Ok(show(alloc, Items::new(alloc))),
+        Content::Empty => Ok(show(alloc, Items::new(alloc))),
         Content::Unserved => Err(Fault::Refused(Refusal::NotServedYet)),
     }
 }
@@ -196,56 +147,26 @@ fn most(count: u32, msize: Option<u32>) -> u32
 /// What a Tread does.
 pub(crate) fn read(
     alloc: Global,
-    sessions: &Sessions,
-    windows: &Windows,
-    world: &World,
-    conn: u32,
+    server: &Server,
     number: u32,
     offset: u64,
     count: u32,
-) -> Result<Deed, Fault>
-    requires { All IsName world.now.ports }
-    ensures exact { IfOk result (λ d. read_deed sessions.now.present world.now windows.now.present conn number offset count ≡ Ok d) }
-    ensures refused { IfErr result (λ e. Gives e (read_deed sessions.now.present world.now windows.now.present conn number offset count)) }
-    ensures done { IfOk result (IsDone windows.now.present) }
+) -> Result<Reaction, Fault>
+    ensures exact { IfOk result (λ r. read_reaction (tables_in server.now) (world_in server.now) (windows_in server.now) server.now.conn number offset count ≡ Ok r) }
+    ensures refused { IfErr result (λ e. Gives e (read_reaction (tables_in server.now) (world_in server.now) (windows_in server.now) server.now.conn number offset count)) }
+    ensures done { IfOk result (IsDone (windows_in server.now)) }
 {
-    let Some(fid) = sessions.fid(conn, number) else {
+    let Some(fid) = server.sessions.fid(server.conn, number) else {
         return Err(Fault::Refused(Refusal::UnknownFid));
     };
-    if let Some(refusal) = why_not_read(world, fid) {
+    if let Some(refusal) = why_not_read(server.windows.world(), fid) {
         return Err(Fault::Refused(refusal));
     }
-    let count = most(count, sessions.msize(conn));
-    read_content(alloc, windows, world, number, fid, offset, count)
-}
-
-/// What a Tstat does.
-#[tactic(auto, using(crate::proofs::Answers::sent))]
-pub(crate) fn stat(
-    alloc: Global,
-    sessions: &Sessions,
-    windows: &Windows,
-    world: &World,
-    conn: u32,
-    number: u32,
-) -> Result<Deed, Fault>
-    requires { All IsName world.now.ports }
-    ensures exact { IfOk result (λ d. stat_fid world.now (fid_of sessions.now.present conn number) ≡ Ok d) }
-    ensures refused { IfErr result (λ e. Gives e (stat_fid world.now (fid_of sessions.now.present conn number))) }
-    ensures done { IfOk result (IsDone windows.now.present) }
-{
-    let Some(fid) = sessions.fid(conn, number) else {
-        return Err(Fault::Refused(Refusal::UnknownFid));
+    let reading = Reading {
+        number,
+        fid,
+        offset,
+        count: most(count, server.sessions.msize(server.conn)),
     };
-    if !is_live(world, fid.node) {
-        return Err(Fault::Refused(Refusal::WindowDeleted));
-    }
-    let stat = stat_of(alloc, world, fid.node)?;
-    Ok(Deed::plain(
-        Effect::Nothing,
-        Items::new(alloc),
-        RBody::Stat {
-            stat: stat_write(alloc, &stat)?,
-        },
-    ))
+    read_content(alloc, server, &reading)
 }

@@ -7,7 +7,7 @@ ghost use Rattle.core_answers.specs.Texts.{part_at, read_of, tag_of, offered, wh
 
 use crate::control::is_dir_name;
 use am_text::{Bytes, Items, Letters, NoMemory, Runes, utf8_slice};
-use core_windows::{Body, Pane, Windows};
+use core_windows::{Pane, Windows};
 use std::alloc::Global;
 use win_ctl::{Shown, Tag, ctl_text, index_line, tag_text};
 
@@ -108,18 +108,6 @@ pub(crate) fn index_text(alloc: Global, windows: &Windows) -> Result<Bytes, NoMe
     index_of(alloc, windows.panes(), windows.world().next)
 }
 
-// The bytes of a body's text from an offset on, at most `count` of them. Each rune has a byte at least, so no more
-// runes than the bytes up to their end are looked at.
-#[tactic(auto, using(crate::proofs::Fronts::fronts))]
-fn part_of_body(alloc: Global, body: &Body, offset: u64, count: usize) -> Result<Bytes, NoMemory>
-    ensures { IfOk result (λ part. part ≡ read_of body.now.state.text offset count) }
-{
-    let most = (offset as usize).saturating_add(count);
-    let runes = body.slice(0, body.len().min(most))?;
-    let bytes = utf8_slice(alloc, runes.as_slice(), offset, count)?;
-    Ok(bytes)
-}
-
 /// The bytes of the text of a window's body from an offset on, at most `count` of them; none where it doesn't live.
 pub(crate) fn body_part(
     alloc: Global,
@@ -131,7 +119,7 @@ pub(crate) fn body_part(
     ensures { IfOk result (λ part. part ≡ read_of (text_at windows.now.present window) offset count) }
 {
     match windows.get(window) {
-        Some(pane) => part_of_body(alloc, &pane.body, offset, count),
+        Some(pane) => pane.body.part(offset, count),
         None => utf8_slice(alloc, &[], offset, count),
     }
 }

@@ -1,140 +1,133 @@
 //! Writing, after write(5).
 
-ghost use Rattle.std.specs.Prelude.{◌≡◌, ◌++◌, ◌<◌, ◌^◌, IfOk, IfErr, Ok, None, length};
+ghost use Rattle.std.specs.Prelude.{◌≡◌, ◌++◌, ◌<◌, ◌^◌, IfOk, IfErr, Ok, length};
 ghost use Rattle.am_text.specs.Part.{part_bytes, part_of};
-ghost use Rattle.am_text.specs.Pieces.{Decoded, decode_part};
-ghost use Rattle.core_windows.specs.Windows.{window_at, named};
-ghost use Rattle.core_answers.specs.Contents.{content_of};
-ghost use Rattle.core_answers.specs.Done.{IsSent, CanBeMade, IsDone};
-ghost use Rattle.core_answers.specs.Erring.{appends, errors_of, root_errors, errors_changes};
-ghost use Rattle.core_answers.specs.Fids.{holding};
-ghost use Rattle.core_answers.specs.Refusals.{Gives};
-ghost use Rattle.core_answers.specs.Texts.{text_at, right_of, name_of, modified_of};
-ghost use Rattle.core_answers.specs.Writing.{written, if_lives, append_deed, add_deed, errors_deed, control_answer, control_deed, ctl_deed, write_content, write_deed};
+ghost use Rattle.am_text.specs.Pieces.{decode_part};
+ghost use Rattle.core_windows.specs.Windows.{window_at};
+ghost use Rattle.core_fids.specs.Contents.{content_of};
+ghost use Rattle.core_fids.specs.Done.{IsSent, HasSpelling, IsDone};
+ghost use Rattle.core_fids.specs.Fids.{holding};
+ghost use Rattle.core_fids.specs.Refusals.{Gives};
+ghost use Rattle.core_fids.specs.Servers.{tables_in, windows_in, world_in};
+ghost use Rattle.core_answers.specs.Writing.{whole_runes, written, append_reaction, add_reaction, errors_reaction, control_answer, control_reaction, ctl_reaction, write_content, write_reaction};
 
 use crate::addressing::{write_addr, write_data};
-use crate::content::{Content, content_of};
 use crate::control::{Controls, controls_of};
-use crate::effect::{Deed, Effect};
 use crate::erring::{
     append_changes, errors_changes, errors_of, errors_refusal, fits_body, fits_tag, lives,
     root_errors,
 };
-use crate::fids::{at_most_three, holding};
 use crate::read::why_not_written;
-use crate::refusal::{Fault, Refusal, error};
-use acme_tree::World;
 use am_text::{Items, NoMemory, Part, Runes, decode_part};
+use core_fids::{
+    Content, Effect, Fault, Reaction, Refusal, Server, at_most_three, content_of, error, holding,
+};
 use core_windows::{Change, Changes, Windows};
-use fid_table::{Fid, Sessions};
+use fid_table::Fid;
 use ninep_types::RBody;
 use std::alloc::Global;
 
-// The whole runes of what the fid holds and of these bytes, and the bytes of an unfinished one.
-fn runes_of(alloc: Global, fid: &Fid, bytes: &[u8]) -> Result<(Runes, Part), NoMemory>
-    ensures text { IfOk result (λ made. made.0 ≡ (decode_part (part_bytes fid.now.part ++ bytes.now)).text) }
-    ensures rest { IfOk result (λ made. made.1 ≡ part_of (decode_part (part_bytes fid.now.part ++ bytes.now)).rest) }
-{
-    let held = at_most_three(fid.part);
-    decode_part(alloc, &held, bytes)
+/// A write to a fid: its number, the fid, and the bytes.
+#[derive(Clone, Copy)]
+struct Writing<'a> {
+    number: u32,
+    fid: &'a Fid,
+    bytes: &'a [u8],
 }
 
-// The deed of a write whose change is this; the fid holds the bytes of an unfinished rune.
+// The whole runes of what the fid holds and of what is written, and the bytes of an unfinished one.
+fn runes_of(alloc: Global, writing: &Writing) -> Result<(Runes, Part), NoMemory>
+    ensures text { IfOk result (λ made. made.0 ≡ (whole_runes writing.now.fid.now writing.now.bytes.now).text) }
+    ensures rest { IfOk result (λ made. made.1 ≡ part_of (whole_runes writing.now.fid.now writing.now.bytes.now).rest) }
+{
+    let held = at_most_three(writing.fid.part);
+    decode_part(alloc, &held, writing.bytes)
+}
+
+// What a write does whose changes are these; the fid holds the bytes of an unfinished rune.
 fn written(
     alloc: Global,
-    windows: &Windows,
+    writing: &Writing,
     changes: Changes,
-    number: u32,
-    fid: &Fid,
     part: Part,
-    bytes: &[u8],
-) -> Result<Deed, NoMemory>
-    requires size { length bytes.now < 2 ^ 32 }
-    requires possible { CanBeMade windows.now.present changes }
-    ensures exact { IfOk result (λ d. d ≡ written changes number (holding fid.now part) (length bytes.now)) }
-    ensures done { IfOk result (IsDone windows.now.present) }
+) -> Result<Reaction, NoMemory>
+    requires { length writing.now.bytes.now < 2 ^ 32 }
+    ensures exact { IfOk result (λ r. r ≡ written changes writing.now.number (holding writing.now.fid.now part) (length writing.now.bytes.now)) }
+    ensures sent { IfOk result (λ r. HasSpelling r.answer) }
 {
-    Ok(Deed::plain(
+    Ok(Reaction::plain(
         Effect::Puts {
-            number,
-            fid: holding(alloc, fid, part)?,
+            number: writing.number,
+            fid: holding(alloc, writing.fid, part)?,
         },
         changes,
         RBody::Write {
-            count: bytes.len() as u32,
+            count: writing.bytes.len() as u32,
         },
     ))
 }
 
+#[tactic(auto, using(crate::proofs::Possibly::made))]
 fn append(
     alloc: Global,
     windows: &Windows,
-    number: u32,
-    fid: &Fid,
+    writing: &Writing,
     window: u32,
-    bytes: &[u8],
-) -> Result<Deed, Fault>
-    requires { length bytes.now < 2 ^ 32 }
-    ensures exact { IfOk result (λ d. append_deed windows.now.present number fid.now window (length bytes.now) (decode_part (part_bytes fid.now.part ++ bytes.now)) ≡ Ok d) }
-    ensures refused { IfErr result (λ e. Gives e (append_deed windows.now.present number fid.now window (length bytes.now) (decode_part (part_bytes fid.now.part ++ bytes.now)))) }
+) -> Result<Reaction, Fault>
+    requires { length writing.now.bytes.now < 2 ^ 32 }
+    ensures exact { IfOk result (λ r. append_reaction windows.now.present writing.now.number writing.now.fid.now window (length writing.now.bytes.now) (whole_runes writing.now.fid.now writing.now.bytes.now) ≡ Ok r) }
+    ensures refused { IfErr result (λ e. Gives e (append_reaction windows.now.present writing.now.number writing.now.fid.now window (length writing.now.bytes.now) (whole_runes writing.now.fid.now writing.now.bytes.now))) }
     ensures done { IfOk result (IsDone windows.now.present) }
 {
     if !lives(windows, window) {
         return Err(Fault::Refused(Refusal::WindowDeleted));
     }
-    let (text, part) = runes_of(alloc, fid, bytes)?;
+    let (text, part) = runes_of(alloc, writing)?;
     if !fits_body(windows, window, text.as_slice()) {
         return Err(Fault::Refused(Refusal::TextTooLong));
     }
     let changes = append_changes(alloc, windows, window, text)?;
-    Ok(written(alloc, windows, changes, number, fid, part, bytes)?)
+    Ok(written(alloc, writing, changes, part)?)
 }
 
-fn add(
-    alloc: Global,
-    windows: &Windows,
-    number: u32,
-    fid: &Fid,
-    window: u32,
-    bytes: &[u8],
-) -> Result<Deed, Fault>
-    requires { length bytes.now < 2 ^ 32 }
-    ensures exact { IfOk result (λ d. add_deed windows.now.present number fid.now window (length bytes.now) (decode_part (part_bytes fid.now.part ++ bytes.now)) ≡ Ok d) }
-    ensures refused { IfErr result (λ e. Gives e (add_deed windows.now.present number fid.now window (length bytes.now) (decode_part (part_bytes fid.now.part ++ bytes.now)))) }
+#[tactic(auto, using(crate::proofs::Possibly::made))]
+fn add(alloc: Global, windows: &Windows, writing: &Writing, window: u32) -> Result<Reaction, Fault>
+    requires { length writing.now.bytes.now < 2 ^ 32 }
+    ensures exact { IfOk result (λ r. add_reaction windows.now.present writing.now.number writing.now.fid.now window (length writing.now.bytes.now) (whole_runes writing.now.fid.now writing.now.bytes.now) ≡ Ok r) }
+    ensures refused { IfErr result (λ e. Gives e (add_reaction windows.now.present writing.now.number writing.now.fid.now window (length writing.now.bytes.now) (whole_runes writing.now.fid.now writing.now.bytes.now))) }
     ensures done { IfOk result (IsDone windows.now.present) }
 {
     if !lives(windows, window) {
         return Err(Fault::Refused(Refusal::WindowDeleted));
     }
-    let (text, part) = runes_of(alloc, fid, bytes)?;
+    let (text, part) = runes_of(alloc, writing)?;
     if !fits_tag(windows, window, text.as_slice()) {
         return Err(Fault::Refused(Refusal::TextTooLong));
     }
     let mut changes = Items::new(alloc);
     changes.push(Change::Adds { window, text })?;
-    Ok(written(alloc, windows, changes, number, fid, part, bytes)?)
+    Ok(written(alloc, writing, changes, part)?)
 }
 
+#[tactic(auto, using(crate::proofs::Possibly::made))]
 fn complain(
     alloc: Global,
     windows: &Windows,
-    number: u32,
-    fid: &Fid,
+    writing: &Writing,
     name: Runes,
-    bytes: &[u8],
-) -> Result<Deed, Fault>
-    requires { length bytes.now < 2 ^ 32 }
-    ensures exact { IfOk result (λ d. errors_deed windows.now.present number fid.now name (length bytes.now) (decode_part (part_bytes fid.now.part ++ bytes.now)) ≡ Ok d) }
-    ensures refused { IfErr result (λ e. Gives e (errors_deed windows.now.present number fid.now name (length bytes.now) (decode_part (part_bytes fid.now.part ++ bytes.now)))) }
+) -> Result<Reaction, Fault>
+    requires { length writing.now.bytes.now < 2 ^ 32 }
+    ensures exact { IfOk result (λ r. errors_reaction windows.now.present writing.now.number writing.now.fid.now name (length writing.now.bytes.now) (whole_runes writing.now.fid.now writing.now.bytes.now) ≡ Ok r) }
+    ensures refused { IfErr result (λ e. Gives e (errors_reaction windows.now.present writing.now.number writing.now.fid.now name (length writing.now.bytes.now) (whole_runes writing.now.fid.now writing.now.bytes.now))) }
     ensures done { IfOk result (IsDone windows.now.present) }
 {
-    let (text, part) = runes_of(alloc, fid, bytes)?;
+    let (text, part) = runes_of(alloc, writing)?;
     let window = windows.named(name.as_slice());
     if let Some(refusal) = errors_refusal(windows, window, text.as_slice()) {
         return Err(Fault::Refused(refusal));
     }
     let changes = errors_changes(alloc, windows, name, window, text)?;
-    Ok(written(alloc, windows, changes, number, fid, part, bytes)?)
+    Ok(written(alloc, writing, changes, part)?)
 }
 
 fn control_answer(alloc: Global, refusal: Option<Refusal>, bytes: &[u8]) -> Result<RBody, NoMemory>
@@ -150,68 +143,58 @@ fn control_answer(alloc: Global, refusal: Option<Refusal>, bytes: &[u8]) -> Resu
     }
 }
 
-fn control_deed(
-    alloc: Global,
-    windows: &Windows,
-    bytes: &[u8],
-    controls: Controls,
-) -> Result<Deed, NoMemory>
-    requires size { length bytes.now < 2 ^ 32 }
-    requires possible { CanBeMade windows.now.present controls.changes }
-    ensures exact { IfOk result (λ d. d ≡ control_deed (length bytes.now) controls) }
-    ensures done { IfOk result (IsDone windows.now.present) }
+fn control_reaction(alloc: Global, bytes: &[u8], controls: Controls) -> Result<Reaction, NoMemory>
+    requires { length bytes.now < 2 ^ 32 }
+    ensures exact { IfOk result (λ r. r ≡ control_reaction (length bytes.now) controls) }
+    ensures sent { IfOk result (λ r. HasSpelling r.answer) }
 {
     let Controls { changes, refusal } = controls;
     let answer = control_answer(alloc, refusal, bytes)?;
-    Ok(Deed::plain(Effect::Nothing, changes, answer))
+    Ok(Reaction::plain(Effect::Nothing, changes, answer))
 }
 
 // What a write to the `ctl` of a window does.
-fn control(alloc: Global, windows: &Windows, window: u32, bytes: &[u8]) -> Result<Deed, Fault>
+#[tactic(auto, using(crate::proofs::Possibly::made))]
+fn control(alloc: Global, windows: &Windows, window: u32, bytes: &[u8]) -> Result<Reaction, Fault>
     requires { length bytes.now < 2 ^ 32 }
-    ensures exact { IfOk result (λ d. ctl_deed window bytes.now (window_at windows.now.present window) ≡ Ok d) }
-    ensures refused { IfErr result (λ e. Gives e (ctl_deed window bytes.now (window_at windows.now.present window))) }
+    ensures exact { IfOk result (λ r. ctl_reaction window bytes.now (window_at windows.now.present window) ≡ Ok r) }
+    ensures refused { IfErr result (λ e. Gives e (ctl_reaction window bytes.now (window_at windows.now.present window))) }
     ensures done { IfOk result (IsDone windows.now.present) }
 {
     let Some(pane) = windows.get(window) else {
         return Err(Fault::Refused(Refusal::WindowDeleted));
     };
     let controls = controls_of(alloc, window, bytes, pane.name.as_slice(), pane.modified)?;
-    Ok(control_deed(alloc, windows, bytes, controls)?)
+    Ok(control_reaction(alloc, bytes, controls)?)
 }
 
-fn write_content(
-    alloc: Global,
-    windows: &Windows,
-    number: u32,
-    fid: &Fid,
-    bytes: &[u8],
-) -> Result<Deed, Fault>
-    requires { length bytes.now < 2 ^ 32 }
-    ensures exact { IfOk result (λ d. write_content windows.now.present number fid.now bytes.now (content_of fid.now.node) ≡ Ok d) }
-    ensures refused { IfErr result (λ e. Gives e (write_content windows.now.present number fid.now bytes.now (content_of fid.now.node))) }
+#[tactic(auto, using(crate::proofs::Possibly::made))]
+fn write_content(alloc: Global, windows: &Windows, writing: &Writing) -> Result<Reaction, Fault>
+    requires { length writing.now.bytes.now < 2 ^ 32 }
+    ensures exact { IfOk result (λ r. write_content windows.now.present writing.now.number writing.now.fid.now writing.now.bytes.now (content_of writing.now.fid.now.node) ≡ Ok r) }
+    ensures refused { IfErr result (λ e. Gives e (write_content windows.now.present writing.now.number writing.now.fid.now writing.now.bytes.now (content_of writing.now.fid.now.node))) }
     ensures done { IfOk result (IsDone windows.now.present) }
 {
-    match content_of(fid.node) {
-        Content::BodyText(window) => append(alloc, windows, number, fid, window, bytes),
-        Content::TagText(window) => add(alloc, windows, number, fid, window, bytes),
-        Content::CtlText(window) => control(alloc, windows, window, bytes),
-        Content::AddrText(window) => write_addr(alloc, windows, window, bytes),
-        Content::DataOf(window) => write_data(alloc, windows, window, bytes),
-        Content::XdataOf(window) => write_data(alloc, windows, window, bytes),
+    match content_of(writing.fid.node) {
+        Content::BodyText(window) => append(alloc, windows, writing, window),
+        Content::TagText(window) => add(alloc, windows, writing, window),
+        Content::CtlText(window) => control(alloc, windows, window, writing.bytes),
+        Content::AddrText(window) => write_addr(alloc, windows, window, writing.bytes),
+        Content::DataOf(window) => write_data(alloc, windows, window, writing.bytes),
+        Content::XdataOf(window) => write_data(alloc, windows, window, writing.bytes),
         Content::ErrorsOf(window) => {
             let name = errors_of(alloc, windows, window)?;
-            complain(alloc, windows, number, fid, name, bytes)
+            complain(alloc, windows, writing, name)
         }
         Content::ConsErrors => {
             let name = root_errors(alloc)?;
-            complain(alloc, windows, number, fid, name, bytes)
+            complain(alloc, windows, writing, name)
         }
-        Content::Empty => Ok(Deed::plain(
+        Content::Empty => Ok(Reaction::plain(
             Effect::Nothing,
             Items::new(alloc),
             RBody::Write {
-                count: bytes.len() as u32,
+                count: writing.bytes.len() as u32,
             },
         )),
         Content::Directory => Err(Fault::Refused(Refusal::PermissionDenied)),
@@ -224,23 +207,21 @@ fn write_content(
 /// What a Twrite does.
 pub(crate) fn write(
     alloc: Global,
-    sessions: &Sessions,
-    windows: &Windows,
-    world: &World,
-    conn: u32,
+    server: &Server,
     number: u32,
     bytes: &[u8],
-) -> Result<Deed, Fault>
+) -> Result<Reaction, Fault>
     requires { length bytes.now < 2 ^ 32 }
-    ensures exact { IfOk result (λ d. write_deed sessions.now.present world.now windows.now.present conn number bytes.now ≡ Ok d) }
-    ensures refused { IfErr result (λ e. Gives e (write_deed sessions.now.present world.now windows.now.present conn number bytes.now)) }
-    ensures done { IfOk result (IsDone windows.now.present) }
+    ensures exact { IfOk result (λ r. write_reaction (tables_in server.now) (world_in server.now) (windows_in server.now) server.now.conn number bytes.now ≡ Ok r) }
+    ensures refused { IfErr result (λ e. Gives e (write_reaction (tables_in server.now) (world_in server.now) (windows_in server.now) server.now.conn number bytes.now)) }
+    ensures done { IfOk result (IsDone (windows_in server.now)) }
 {
-    let Some(fid) = sessions.fid(conn, number) else {
+    let Some(fid) = server.sessions.fid(server.conn, number) else {
         return Err(Fault::Refused(Refusal::UnknownFid));
     };
-    if let Some(refusal) = why_not_written(world, fid) {
+    if let Some(refusal) = why_not_written(server.windows.world(), fid) {
         return Err(Fault::Refused(refusal));
     }
-    write_content(alloc, windows, number, fid, bytes)
+    let writing = Writing { number, fid, bytes };
+    write_content(alloc, server.windows, &writing)
 }

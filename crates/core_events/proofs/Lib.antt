@@ -1,4 +1,6 @@
 pub mod Sounds
 pub mod Looked
+pub mod Saids
+pub mod Endings
 pub mod Turns
-pub mod Makings
+pub mod Idles

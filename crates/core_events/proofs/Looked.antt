@@ -3,45 +3,46 @@ use Rattle.std.proofs.Common.{◌≡◌, ℕ, zero, suc, ◌+◌, ◌≤◌, Boo
 use Rattle.std.specs.List.{filter}
 use Rattle.fid_table.specs.declared.types.Fid.{Fid}
 use Rattle.fid_table.specs.declared.session.Waiting.{Waiting}
+use Rattle.fid_table.specs.Tables.{Tables}
 use Rattle.am_text.specs.Twice.{Twice, both}
 use Rattle.event_book.specs.BookState.{BookState}
-use Rattle.core_answers.specs.declared.refusal.Refusal.{Refusal}
+use Rattle.core_fids.specs.declared.refusal.Refusal.{Refusal}
 use Rattle.core_events.specs.declared.response.Response.{Response}
-use Rattle.core_events.specs.Responses.{error, errors}
+use Rattle.core_events.specs.Responses.{feed_at, error, errors}
 use Rattle.core_events.specs.Waits.{answer_where}
 use Rattle.core_events.specs.Closing.{without_fid, without_opening, opening_at}
 
 -- ---- waiting reads
 
-first_read : (x : Refusal) (w : Waiting) (b : Bool) → errors x (cond b (w ∷ []) []) ≡ cond b (error x w.conn w.tag ∷ []) []
-first_read x w true = refl
-first_read x w false = refl
+first_read : (x : Refusal) (t : Tables) (w : Waiting) (b : Bool) → errors x t (cond b (w ∷ []) []) ≡ cond b (error x (feed_at t w) w.conn w.tag ∷ []) []
+first_read x t w true = refl
+first_read x t w false = refl
 
-later_read : (x : Refusal) (w : Waiting) (b : Bool) (vs ys : List Waiting) (zs : List Response) → errors x vs ≡ errors x ys ++ zs
-    → errors x (cond b (w ∷ vs) vs) ≡ errors x (cond b (w ∷ ys) ys) ++ zs
-later_read x w true vs ys zs e = ap (λ (l : List Response). error x w.conn w.tag ∷ l) e
-later_read x w false vs ys zs e = e
+later_read : (x : Refusal) (t : Tables) (w : Waiting) (b : Bool) (vs ys : List Waiting) (zs : List Response) → errors x t vs ≡ errors x t ys ++ zs
+    → errors x t (cond b (w ∷ vs) vs) ≡ errors x t (cond b (w ∷ ys) ys) ++ zs
+later_read x t w true vs ys zs e = ap (λ (l : List Response). error x (feed_at t w) w.conn w.tag ∷ l) e
+later_read x t w false vs ys zs e = e
 
-more : (x : Refusal) (ends : Waiting → Bool) (ws : List Waiting) (k : ℕ)
-    → errors x (filter ends (take (suc k) ws)) ≡ errors x (filter ends (take k ws)) ++ answer_where x ends (slice_get ws k)
-more x ends [] zero = refl
-more x ends [] (suc k) = refl
-more x ends (w ∷ ws) zero = first_read x w (ends w)
-more x ends (w ∷ ws) (suc k) = later_read x w (ends w) (filter ends (take (suc k) ws)) (filter ends (take k ws)) (answer_where x ends (slice_get ws k)) (more x ends ws k)
+more : (x : Refusal) (t : Tables) (ends : Waiting → Bool) (ws : List Waiting) (k : ℕ)
+    → errors x t (filter ends (take (suc k) ws)) ≡ errors x t (filter ends (take k ws)) ++ answer_where x t ends (slice_get ws k)
+more x t ends [] zero = refl
+more x t ends [] (suc k) = refl
+more x t ends (w ∷ ws) zero = first_read x t w (ends w)
+more x t ends (w ∷ ws) (suc k) = later_read x t w (ends w) (filter ends (take (suc k) ws)) (filter ends (take k ws)) (answer_where x t ends (slice_get ws k)) (more x t ends ws k)
 
-pub read_more : (x : Refusal) (ends : Waiting → Bool) (ws : List Waiting) (k : ℕ)
-    → errors x (filter ends (take (k + 1) ws)) ≡ errors x (filter ends (take k ws)) ++ answer_where x ends (slice_get ws k)
-read_more x ends ws k = let e : k + 1 ≡ suc k = omega arith in ap (λ (n : ℕ). errors x (filter ends (take n ws))) e ∙ more x ends ws k
+pub read_more : (x : Refusal) (t : Tables) (ends : Waiting → Bool) (ws : List Waiting) (k : ℕ)
+    → errors x t (filter ends (take (k + 1) ws)) ≡ errors x t (filter ends (take k ws)) ++ answer_where x t ends (slice_get ws k)
+read_more x t ends ws k = let e : k + 1 ≡ suc k = omega arith in ap (λ (n : ℕ). errors x t (filter ends (take n ws))) e ∙ more x t ends ws k
 
 -- what was said so far, and the answer to the next one
-pub said_more : (x : Refusal) (ends : Waiting → Bool) (ws : List Waiting) (k : ℕ) (said after : List Response)
-    → said ≡ errors x (filter ends (take k ws)) → after ≡ said ++ answer_where x ends (slice_get ws k) → after ≡ errors x (filter ends (take (k + 1) ws))
-said_more x ends ws k said after e h = h ∙ ap (λ (l : List Response). l ++ answer_where x ends (slice_get ws k)) e ∙ sym (read_more x ends ws k)
+pub said_more : (x : Refusal) (t : Tables) (ends : Waiting → Bool) (ws : List Waiting) (k : ℕ) (said after : List Response)
+    → said ≡ errors x t (filter ends (take k ws)) → after ≡ said ++ answer_where x t ends (slice_get ws k) → after ≡ errors x t (filter ends (take (k + 1) ws))
+said_more x t ends ws k said after e h = h ∙ ap (λ (l : List Response). l ++ answer_where x t ends (slice_get ws k)) e ∙ sym (read_more x t ends ws k)
 
 -- once all were looked at
-pub said_all : (x : Refusal) (ends : Waiting → Bool) (ws : List Waiting) (k : ℕ) (said : List Response)
-    → length ws ≤ k → said ≡ errors x (filter ends (take k ws)) → said ≡ errors x (filter ends ws)
-said_all x ends ws k said h e = e ∙ ap (λ (l : List Waiting). errors x (filter ends l)) (take_all k ws h)
+pub said_all : (x : Refusal) (t : Tables) (ends : Waiting → Bool) (ws : List Waiting) (k : ℕ) (said : List Response)
+    → length ws ≤ k → said ≡ errors x t (filter ends (take k ws)) → said ≡ errors x t (filter ends ws)
+said_all x t ends ws k said h e = e ∙ ap (λ (l : List Waiting). errors x t (filter ends l)) (take_all k ws h)
 
 -- ---- fids
 

@@ -3,15 +3,15 @@ use Rattle.std.proofs.Common.{◌≡◌, ℕ, ◌+◌, ◌<◌, ◌^◌, ◌&&�
 use Rattle.std.specs.List.{list_all, filter}
 use Rattle.std.proofs.lemmas.Bool.Decides.{nat_tests}
 use Rattle.am_text.specs.Twice.{Twice, both, IsSteady}
-use Rattle.core_events.specs.declared.putting.WindowItem.{WindowItem}
+use Rattle.core_scene.specs.declared.deed.WindowItem.{WindowItem}
 use Rattle.wait_queue.specs.Reads.{is_on, is_read, without_first}
 use Rattle.wait_queue.specs.declared.types.Asker.{Asker}
-use Rattle.event_book.specs.BookState.{BookState, is_open_window, after_put, is_ready, next_of, after_next, after_serve, after_leave, is_on_window}
-use Rattle.core_answers.specs.declared.effect.EventChange.{EventChange}
-use Rattle.core_answers.specs.declared.effect.EventChange.TheVariants as events
+use Rattle.event_book.specs.BookState.{BookState, is_open_window, after_put, is_ready, next_of, after_next, after_serve, after_leave, after_delete, is_on_window}
+use Rattle.core_fids.specs.declared.effect.EventChange.{EventChange}
+use Rattle.core_fids.specs.declared.effect.EventChange.TheVariants as events
 use Rattle.core_events.specs.Sound.{is_small, IsSound}
 use Rattle.core_events.specs.Closing.{cancelled, closed_with}
-use Rattle.core_events.specs.Putting.{put_one}
+use Rattle.core_events.specs.Putting.{put_one, is_ending, put_if_lives}
 
 -- ---- lists of reads
 
@@ -73,9 +73,8 @@ sound_cancelled at s conn (events.Opens w) sound = sound
 sound_cancelled at s conn (events.Cancels tag) sound =
     record { latest = sound.latest; small = all-filter is_small (λ r. not (is_read conn tag r)) s.reads sound.small }
 
-pub sound_closed : (at : ℕ) (s : BookState) (window : Option ℕ) → IsSound at s → IsSound at (closed_with at s window)
-sound_closed at s None sound = sound
-sound_closed at s (Some w) sound =
+pub sound_deleted : (at : ℕ) (s : BookState) (w : ℕ) → IsSound at s → IsSound at (after_delete s w at)
+sound_deleted at s w sound =
     record { latest = omega arith; small = all-filter is_small (λ r. not (is_on_window s.owners w r)) s.reads sound.small }
 
 sound_put : (at : ℕ) (s : BookState) (i : WindowItem) → IsSound at s → IsSound at (put_one s i)
@@ -89,6 +88,17 @@ pub sound_all : (at : ℕ) (s : BookState) (items : List WindowItem) → IsSound
 sound_all at s [] sound = sound
 sound_all at s (i ∷ items) sound = sound_all at (put_one s i) items (sound_put at s i sound)
 
+sound_if_lives : (at : ℕ) (deleted : List ℕ) (s : BookState) (i : WindowItem) → IsSound at s → IsSound at (put_if_lives deleted s i)
+sound_if_lives at deleted s i sound =
+    elim (is_ending deleted i) as (λ b. IsSound at (cond b s (put_one s i))) [
+      | true ↦ sound
+      | false ↦ sound_put at s i sound
+    ]
+
+pub sound_living : (at : ℕ) (deleted : List ℕ) (s : BookState) (items : List WindowItem) → IsSound at s → IsSound at (fold (put_if_lives deleted) s items)
+sound_living at deleted s [] sound = sound
+sound_living at deleted s (i ∷ items) sound = sound_living at deleted (put_if_lives deleted s i) items (sound_if_lives at deleted s i sound)
+
 -- both states of a steady book are its present one
 pub steady_both : (t : Twice BookState) → IsSteady t → t ≡ both t.present
 steady_both t steady = ap (λ (k : BookState). record { present = t.present; kept = k }) (sym steady)
@@ -96,3 +106,17 @@ steady_both t steady = ap (λ (k : BookState). record { present = t.present; kep
 -- a book whose states are both a sound one
 pub sound_both : (at : ℕ) (t : Twice BookState) (s : BookState) → t ≡ both s → IsSound at s → IsSound at t.present
 sound_both at t s e sound = subst (λ (u : Twice BookState). IsSound at u.present) (sym e) sound
+
+-- a window's event file closes, and the others are left
+pub still_steady : (at : ℕ) (t u : Twice BookState) (w : ℕ) → u ≡ both (after_delete t.present w at) → u ≡ both u.present
+still_steady at t u w e = e ∙ ap (λ (s : Twice BookState). both s.present) (sym e)
+
+pub sound_gone : (at : ℕ) (t u : Twice BookState) (w : ℕ) → u ≡ both (after_delete t.present w at) → IsSound at t.present → IsSound at u.present
+sound_gone at t u w e sound = sound_both at u (after_delete t.present w at) e (sound_deleted at t.present w sound)
+
+pub closed_gone : (at : ℕ) (t u : Twice BookState) (w : ℕ) (rest after : List ℕ) (end : BookState) → u ≡ both (after_delete t.present w at) → rest ≡ w ∷ after
+    → closed_with at t.present rest ≡ end → closed_with at u.present after ≡ end
+closed_gone at t u w rest after end e is closed =
+    ap (λ (s : Twice BookState). closed_with at s.present after) e ∙ ap (λ (ws : List ℕ). closed_with at t.present ws) (sym is) ∙ closed
+
+pub ruleset deleting = (steady_both, still_steady, sound_gone, closed_gone)

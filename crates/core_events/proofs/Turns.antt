@@ -12,11 +12,11 @@ use Rattle.wait_queue.specs.declared.types.Asker.{Asker}
 use Rattle.wait_queue.specs.declared.types.Piece.{Piece}
 use Rattle.event_book.specs.BookState.{BookState, file_on, piece_for, is_ready, next_of, after_next, served_of, after_serve}
 use Rattle.event_book.specs.WindowFiles.{queue_of}
-use Rattle.core_answers.specs.Done.{IsSent}
+use Rattle.core_fids.specs.Done.{IsSent}
 use Rattle.core_events.specs.declared.response.Response.{Response}
 use Rattle.core_events.specs.Responses.{IsSaid, AreSaid}
 use Rattle.core_events.specs.Sound.{IsSound}
-use Rattle.core_events.specs.Serving.{response_to, then_served, unless_served, served_most, book_served_most, served_all, book_served_all}
+use Rattle.core_events.specs.Serving.{response_to, then_served, served_most, book_served_most, served_all, book_served_all}
 use Rattle.core_events.proofs.Sounds.{next_small, sound_served}
 
 -- ---- at most as many bytes as a read asks for
@@ -48,6 +48,10 @@ served_small s (Some b) a p h =
     let parts = some_pair_parts b a (piece_for s b) p h in
     (ap (λ (x : Asker). Some x) parts.0, ap (piece_for s) (sym parts.0) ∙ parts.1)
 
+none_served : (s : BookState) (o : Option Asker) → with_piece s o ≡ None → o ≡ None
+none_served s None h = refl
+none_served s (Some b) h = absurd cc
+
 -- the answer to a waiting read has a spelling
 pub served_sent : (at : ℕ) (s : BookState) (a : Asker) (p : Piece) → IsSound at s → served_of s ≡ Some (a, p) → IsSent (r.Read p.bytes)
 served_sent at s a p sound h =
@@ -64,7 +68,7 @@ found_less t (x ∷ rs) a h =
       | false ↦ λ k. ap suc (found_less t rs a k)
     ]) h
 
-next_less : (at : ℕ) (s : BookState) (a : Asker) → next_of s ≡ Some a → length s.reads ≡ suc (length (after_serve s at).reads)
+pub next_less : (at : ℕ) (s : BookState) (a : Asker) → next_of s ≡ Some a → length s.reads ≡ suc (length (after_serve s at).reads)
 next_less at s a h = found_less (is_ready s.files s.owners) s.reads a h ∙ ap (λ (o : Option Asker). suc (length (after_next o s at).reads)) (sym h)
 
 pub served_less : (at : ℕ) (s : BookState) (a : Asker) (p : Piece) → served_of s ≡ Some (a, p) → length s.reads ≡ suc (length (after_serve s at).reads)
@@ -77,31 +81,34 @@ unfolding served_most
 one_more n at s x k e h =
     ap (λ (m : ℕ). served_most m at s) e ∙ ap (λ (o : Option (Asker × Piece)). then_served o (served_most k at (after_serve s at))) h
 
-book_one_more : (n at : ℕ) (s : BookState) (x : Asker × Piece) (k : ℕ) → n ≡ suc k → served_of s ≡ Some x → book_served_most n at s ≡ book_served_most k at (after_serve s at)
+book_one_more : (n at : ℕ) (s : BookState) (k : ℕ) → n ≡ suc k → book_served_most n at s ≡ book_served_most k at (after_serve s at)
 unfolding book_served_most
-book_one_more n at s x k e h =
-    ap (λ (m : ℕ). book_served_most m at s) e ∙ ap (λ (o : Option (Asker × Piece)). unless_served o (after_serve s at) (book_served_most k at (after_serve s at))) h
+book_one_more n at s k e = ap (λ (m : ℕ). book_served_most m at s) e
 
 none_more : (n at : ℕ) (s : BookState) → served_of s ≡ None → served_most n at s ≡ []
 unfolding served_most
 none_more zero at s h = refl
 none_more (suc n) at s h = ap (λ (o : Option (Asker × Piece)). then_served o (served_most n at (after_serve s at))) h
 
-book_none_more : (n at : ℕ) (s : BookState) → served_of s ≡ None → book_served_most n at s ≡ after_serve s at
+-- where none can be answered, all stays
+pub idle : (at : ℕ) (s : BookState) → served_of s ≡ None → after_serve s at ≡ s
+idle at s h = ap (λ (o : Option Asker). after_next o s at) (none_served s (next_of s) h)
+
+pub book_none_more : (n at : ℕ) (s : BookState) → served_of s ≡ None → book_served_most n at s ≡ s
 unfolding book_served_most
 book_none_more zero at s h = refl
-book_none_more (suc n) at s h = ap (λ (o : Option (Asker × Piece)). unless_served o (after_serve s at) (book_served_most n at (after_serve s at))) h
+book_none_more (suc n) at s h = ap (λ (t : BookState). book_served_most n at t) (idle at s h) ∙ book_none_more n at s h
 
 pub all_more : (at : ℕ) (s : BookState) (a : Asker) (p : Piece) → served_of s ≡ Some (a, p) → served_all at s ≡ response_to (a, p) ∷ served_all at (after_serve s at)
 all_more at s a p h = one_more (length s.reads) at s (a, p) (length (after_serve s at).reads) (served_less at s a p h) h
 
 pub book_all_more : (at : ℕ) (s : BookState) (a : Asker) (p : Piece) → served_of s ≡ Some (a, p) → book_served_all at s ≡ book_served_all at (after_serve s at)
-book_all_more at s a p h = book_one_more (length s.reads) at s (a, p) (length (after_serve s at).reads) (served_less at s a p h) h
+book_all_more at s a p h = book_one_more (length s.reads) at s (length (after_serve s at).reads) (served_less at s a p h)
 
 pub all_none : (at : ℕ) (s : BookState) → served_of s ≡ None → served_all at s ≡ []
 all_none at s h = none_more (length s.reads) at s h
 
-pub book_all_none : (at : ℕ) (s : BookState) → served_of s ≡ None → book_served_all at s ≡ after_serve s at
+pub book_all_none : (at : ℕ) (s : BookState) → served_of s ≡ None → book_served_all at s ≡ s
 book_all_none at s h = book_none_more (length s.reads) at s h
 
 -- ---- an answer more to what was said so far

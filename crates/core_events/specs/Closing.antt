@@ -1,13 +1,13 @@
 -- What ends openings and waiting reads without a reply of their own.
-use Rattle.std.specs.Prelude.{ℕ, Option, Some, None, if◌then◌else◌}
+use Rattle.std.specs.Prelude.{ℕ, List, [], ◌∷◌, Option, Some, None, if◌then◌else◌}
 use Rattle.std.specs.List.{fold}
 use Rattle.fid_table.specs.declared.types.Fid.{Fid}
 use Rattle.fid_table.specs.Tables.{Tables, fid_of, fids_of}
 use Rattle.event_book.specs.BookState.{BookState, is_living, after_leave, after_cancel, after_delete}
-use Rattle.core_answers.specs.declared.effect.Effect.{Effect}
-use Rattle.core_answers.specs.declared.effect.Effect.TheVariants as effect
-use Rattle.core_answers.specs.declared.effect.EventChange.{EventChange}
-use Rattle.core_answers.specs.declared.effect.EventChange.TheVariants as events
+use Rattle.core_fids.specs.declared.effect.Effect.{Effect}
+use Rattle.core_fids.specs.declared.effect.Effect.TheVariants as effect
+use Rattle.core_fids.specs.declared.effect.EventChange.{EventChange}
+use Rattle.core_fids.specs.declared.effect.EventChange.TheVariants as events
 
 -- An opening closes, unless it did with its window.
 abbrev pub without_opening : ℕ → BookState → Option ℕ → BookState
@@ -43,7 +43,7 @@ cancelled book conn events.Nothing = book
 cancelled book conn (events.Opens w) = book
 cancelled book conn (events.Cancels tag) = after_cancel book conn tag
 
--- the event file of a window that is deleted closes
-abbrev pub closed_with : ℕ → BookState → Option ℕ → BookState
-closed_with at book None = book
-closed_with at book (Some w) = after_delete book w at
+-- the event files of windows that are deleted close, one after another
+abbrev pub closed_with : ℕ → BookState → List ℕ → BookState
+closed_with at book [] = book
+closed_with at book (w ∷ ws) = closed_with at (after_delete book w at) ws

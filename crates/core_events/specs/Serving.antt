@@ -5,18 +5,15 @@ use Rattle.wait_queue.specs.declared.types.Asker.{Asker}
 use Rattle.wait_queue.specs.declared.types.Piece.{Piece}
 use Rattle.event_book.specs.BookState.{BookState, served_of, after_serve}
 use Rattle.core_events.specs.declared.response.Response.{Response}
+use Rattle.core_events.specs.Responses.{event_feed}
 
 abbrev pub response_to : Asker × Piece → Response
-response_to served = record { conn = served.0.conn; message = record { tag = served.0.tag; body = r.Read served.1.bytes } }
+response_to served = record { conn = served.0.conn; message = record { tag = served.0.tag; body = r.Read served.1.bytes }; feed = Some (event_feed served.0.opening) }
 
 -- the answer to the next one, and what comes behind it
 abbrev pub then_served : Option (Asker × Piece) → List Response → List Response
 then_served None rest = []
 then_served (Some served) rest = response_to served ∷ rest
-
-abbrev pub unless_served : Option (Asker × Piece) → BookState → BookState → BookState
-unless_served None book rest = book
-unless_served (Some served) book rest = rest
 
 -- at most so many reads are answered at this entry
 unfoldable pub served_most : ℕ → ℕ → BookState → List Response
@@ -24,8 +21,8 @@ served_most zero at book = []
 served_most (suc n) at book = then_served (served_of book) (served_most n at (after_serve book at))
 
 unfoldable pub book_served_most : ℕ → ℕ → BookState → BookState
-book_served_most zero at book = after_serve book at
-book_served_most (suc n) at book = unless_served (served_of book) (after_serve book at) (book_served_most n at (after_serve book at))
+book_served_most zero at book = book
+book_served_most (suc n) at book = book_served_most n at (after_serve book at)
 
 -- until none can be: each answer leaves a read less
 abbrev pub served_all : ℕ → BookState → List Response

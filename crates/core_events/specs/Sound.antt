@@ -1,9 +1,9 @@
 -- What holds of the book between the steps: nothing was done later than the last entry, and the answer to each waiting read will have a
 -- spelling.
-use Rattle.std.specs.Prelude.{ℕ, ◌+◌, ◌≤◌, Bool, ◌≡◌, true, nat_lt, ◌^◌}
+use Rattle.std.specs.Prelude.{None, ℕ, ◌+◌, ◌≤◌, Bool, ◌≡◌, true, nat_lt, ◌^◌}
 use Rattle.std.specs.List.{list_all}
 use Rattle.wait_queue.specs.declared.types.Asker.{Asker}
-use Rattle.event_book.specs.BookState.{BookState}
+use Rattle.event_book.specs.BookState.{BookState, next_of}
 
 abbrev pub is_small : Asker → Bool
 is_small asker = nat_lt (asker.count + 11) (2 ^ 32)
@@ -11,3 +11,7 @@ is_small asker = nat_lt (asker.count + 11) (2 ^ 32)
 pub record IsSound (at : ℕ) (book : BookState) : Type 0 where
   pub latest : book.latest ≤ at
   pub small : list_all is_small book.reads ≡ true
+
+-- No waiting read can be answered.
+abbrev pub IsIdle : BookState → Type 0
+IsIdle book = next_of book ≡ None

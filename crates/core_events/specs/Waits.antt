@@ -1,27 +1,29 @@
 -- The waiting reads that a clunk and a deletion end, and those that wait no more.
-use Rattle.std.specs.Prelude.{ℕ, Bool, false, ◌==◌, ◌&&◌, List, [], ◌∷◌, filter, Option, Some, None, if◌then◌else◌}
+use Rattle.std.specs.Prelude.{ℕ, Bool, false, ◌==◌, ◌&&◌, List, [], ◌∷◌, ◌++◌, filter, Option, Some, None, if◌then◌else◌}
 use Rattle.std.specs.List.{fold}
+use Rattle.std.specs.Option.{option_to_list}
 use Rattle.acme_tree.specs.declared.node.Node.{Node}
 use Rattle.acme_tree.specs.declared.node.Node.TheVariants.{File}
 use Rattle.acme_tree.specs.declared.node.WinFile.TheVariants.{Event}
 use Rattle.fid_table.specs.declared.types.Fid.{Fid}
 use Rattle.fid_table.specs.declared.session.Waiting.{Waiting}
 use Rattle.fid_table.specs.Tables.{Tables, fid_of, after_done}
-use Rattle.core_windows.specs.declared.change.Change.{Change}
-use Rattle.core_windows.specs.declared.change.Change.TheVariants as change
-use Rattle.core_answers.specs.declared.effect.Effect.{Effect}
-use Rattle.core_answers.specs.declared.effect.Effect.TheVariants as effect
-use Rattle.core_answers.specs.declared.effect.EventChange.{EventChange}
-use Rattle.core_answers.specs.declared.effect.EventChange.TheVariants as events
-use Rattle.core_answers.specs.declared.refusal.Refusal.{Refusal}
-use Rattle.core_answers.specs.declared.refusal.Refusal.TheVariants as refusal
+use Rattle.core_windows.specs.declared.change.Change.TheVariants.{Deletes}
+use Rattle.core_scene.specs.declared.deed.Deed.{Deed}
+use Rattle.core_scene.specs.declared.deed.Deed.TheVariants.{Windows}
+use Rattle.core_fids.specs.declared.effect.Effect.{Effect}
+use Rattle.core_fids.specs.declared.effect.Effect.TheVariants as effect
+use Rattle.core_fids.specs.declared.effect.EventChange.{EventChange}
+use Rattle.core_fids.specs.declared.effect.EventChange.TheVariants as events
+use Rattle.core_fids.specs.declared.refusal.Refusal.{Refusal}
+use Rattle.core_fids.specs.declared.refusal.Refusal.TheVariants as refusal
 use Rattle.core_events.specs.declared.response.Response.{Response}
-use Rattle.core_events.specs.Responses.{error, errors}
+use Rattle.core_events.specs.Responses.{feed_at, error, errors}
 
 -- the answer to a read, where there is one and it is one that is refused
-abbrev pub answer_where : Refusal → (Waiting → Bool) → Option Waiting → List Response
-answer_where refusal ends None = []
-answer_where refusal ends (Some w) = if ends w then error refusal w.conn w.tag ∷ [] else []
+abbrev pub answer_where : Refusal → Tables → (Waiting → Bool) → Option Waiting → List Response
+answer_where refusal tables ends None = []
+answer_where refusal tables ends (Some w) = if ends w then error refusal (feed_at tables w) w.conn w.tag ∷ [] else []
 
 -- ---- a clunk
 
@@ -34,7 +36,7 @@ abbrev pub clunked : Tables → ℕ → Effect → List Response
 clunked tables conn effect.Nothing = []
 clunked tables conn (effect.Begins msize) = []
 clunked tables conn (effect.Puts fid value) = []
-clunked tables conn (effect.Frees fid) = errors refusal.FidClunked (filter (is_of_fid conn fid) tables.waiting)
+clunked tables conn (effect.Frees fid) = errors refusal.FidClunked tables (filter (is_of_fid conn fid) tables.waiting)
 
 -- ---- a deletion
 
@@ -51,29 +53,20 @@ reads_event_of w (Some fid) = is_event_of w fid.node
 abbrev pub is_of_window : Tables → ℕ → Waiting → Bool
 is_of_window tables w r = reads_event_of w (fid_of tables r.conn r.fid)
 
--- the window that a change deletes
-abbrev pub deletes : Change → Option ℕ
-deletes (change.Makes name) = None
-deletes (change.Deletes w) = Some w
-deletes (change.Edits w edits) = None
-deletes (change.Adds w text) = None
-deletes (change.Sets w setting) = None
-deletes (change.Undoes w) = None
-deletes (change.Redoes w) = None
+-- the window that a deed deletes
+abbrev pub deletes : Deed → Option ℕ
+deletes (Windows (Deletes w)) = Some w
+deletes d = None
 
-abbrev pub or_later : Option ℕ → Option ℕ → Option ℕ
-or_later None later = later
-or_later (Some w) later = Some w
+-- the windows that the deeds of a step delete, in order
+abbrev pub deleted_by : List Deed → List ℕ
+deleted_by [] = []
+deleted_by (d ∷ ds) = option_to_list (deletes d) ++ deleted_by ds
 
--- the window that the changes of a step delete
-abbrev pub deleted_by : List Change → Option ℕ
-deleted_by [] = None
-deleted_by (c ∷ cs) = or_later (deletes c) (deleted_by cs)
-
--- Deleting a window answers each read that waits on its event file, the oldest first.
-abbrev pub deletions : Tables → Option ℕ → List Response
-deletions tables None = []
-deletions tables (Some w) = errors refusal.WindowDeleted (filter (is_of_window tables w) tables.waiting)
+-- Deleting a window answers each read that waits on its event file, the oldest first; windows are deleted one after another.
+abbrev pub deletions : Tables → List ℕ → List Response
+deletions tables [] = []
+deletions tables (w ∷ ws) = errors refusal.WindowDeleted tables (filter (is_of_window tables w) tables.waiting) ++ deletions tables ws
 
 -- ---- reads that wait no more
 

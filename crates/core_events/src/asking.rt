@@ -3,12 +3,12 @@
 ghost use Rattle.std.specs.Prelude.{◌≡◌, ℕ, ◌+◌, ◌<◌, ◌^◌, IfOk, IfSome, OnOk};
 ghost use Rattle.am_text.specs.Twice.{IsSteady};
 ghost use Rattle.fid_table.specs.Tables.{HasJoined};
-ghost use Rattle.core_answers.specs.Done.{IsSent};
+ghost use Rattle.core_fids.specs.Done.{IsSent};
 ghost use Rattle.core_events.specs.Asking.{opened, is_full, read_said, book_read, tables_read};
 ghost use Rattle.core_events.specs.Sound.{IsSound};
 
 use am_text::NoMemory;
-use core_answers::{EventChange, RBody, Refusal, error};
+use core_fids::{EventChange, RBody, Refusal, error};
 use event_book::Book;
 use fid_table::Sessions;
 use std::alloc::Global;

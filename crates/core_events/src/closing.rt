@@ -6,7 +6,7 @@ ghost use Rattle.fid_table.specs.Tables.{fids_of};
 ghost use Rattle.core_events.specs.Closing.{without_opening, opening_at, without_fids, opening_in, freed, cancelled, closed_with};
 ghost use Rattle.core_events.specs.Sound.{IsSound};
 
-use core_answers::{Effect, EventChange};
+use core_fids::{Effect, EventChange};
 use event_book::Book;
 use fid_table::{Fid, Sessions};
 
@@ -89,14 +89,17 @@ pub fn cancel_read(book: &mut Book, conn: u32, events: EventChange)
     }
 }
 
-/// The event file of a window that is deleted closes. It takes no memory.
-pub fn close_events(book: &mut Book, window: Option<u32>, at: u64)
+/// The event files of windows that are deleted close, one after another. It takes no memory.
+#[tactic(auto, using(crate::proofs::Sounds::deleting))]
+pub fn close_events(book: &mut Book, windows: &[u32], at: u64)
     requires steady { IsSteady book.old }
     requires sound { IsSound at book.old.present }
-    ensures new { book.new ≡ both (closed_with at book.old.present window) }
+    ensures new { book.new ≡ both (closed_with at book.old.present windows.now) }
     ensures sound { IsSound at book.new.present }
 {
-    if let Some(window) = window {
-        book.delete(window, at);
+    let mut rest = windows;
+    while let Some((window, after)) = rest.split_first() {
+        book.delete(*window, at);
+        rest = after;
     }
 }

@@ -1,14 +1,71 @@
 //! What is said to connections.
 
-use am_text::Items;
+ghost use Rattle.std.specs.Prelude.{◌≡◌, ◌++◌, option_copied, IfOk};
+ghost use Rattle.core_events.specs.Responses.{AreSaid, event_feed, feed_in};
+
+use am_text::{Items, NoMemory};
+use fid_table::Fid;
 use ninep_types::RMsg;
 
-/// What is said to a connection in answer to the message that has the same tag.
+/// What a feed gives: what comes later is read as it comes.
+#[derive(Clone, Copy, Debug, PartialEq, Eq)]
+pub enum FeedKind {
+    /// The items of a window's event file.
+    Events,
+}
+
+/// What a read that may wait reads: one opening of a file of this kind.
+#[derive(Clone, Copy, Debug, PartialEq, Eq)]
+pub struct Feed {
+    pub kind: FeedKind,
+    pub opening: u32,
+}
+
+/// What is said to a connection in answer to the message that has the same tag; and where that message read an event file, what it read.
 #[derive(Drop)]
 pub struct Response {
     pub conn: u32,
     pub message: RMsg,
+    pub feed: Option<Feed>,
 }
 
 /// What is said, one after another.
 pub type Responses = Items<Response>;
+
+/// An opening of an event file.
+pub fn event_feed(opening: u32) -> Feed
+    ensures { result ≡ event_feed opening }
+{
+    Feed {
+        kind: FeedKind::Events,
+        opening,
+    }
+}
+
+/// What reads of a fid read, where they may wait.
+pub(crate) fn feed_in(fid: Option<&Fid>) -> Option<Feed>
+    ensures { result ≡ feed_in (option_copied fid.entry) }
+{
+    match fid?.opening {
+        Some(opening) => Some(event_feed(opening)),
+        None => None,
+    }
+}
+
+/// These, and then those.
+#[tactic(auto, using(crate::proofs::Saids::saying))]
+pub fn joined(said: Responses, more: Responses) -> Result<Responses, NoMemory>
+    requires said { AreSaid said }
+    requires more { AreSaid more }
+    ensures exact { IfOk result (λ all. all ≡ said ++ more) }
+    ensures said { IfOk result AreSaid }
+{
+    if said.is_empty() {
+        return Ok(more);
+    }
+    let mut all = said;
+    for response in more.into_vec() {
+        all.push(response)?;
+    }
+    Ok(all)
+}

@@ -5,9 +5,9 @@ ghost use Rattle.core_events.specs.Responses.{AreSaid};
 ghost use Rattle.core_events.specs.Serving.{served_all, book_served_all};
 ghost use Rattle.core_events.specs.Sound.{IsSound};
 
-use crate::response::{Response, Responses};
+use crate::response::{Feed, FeedKind, Response, Responses};
 use am_text::{Items, NoMemory};
-use core_answers::RBody;
+use core_fids::RBody;
 use event_book::Book;
 use ninep_types::RMsg;
 use std::alloc::Global;
@@ -29,6 +29,10 @@ pub fn serve_all(alloc: Global, book: &mut Book, at: u64) -> Result<Responses, N
                 tag: asker.tag,
                 body: RBody::Read { bytes: piece.bytes },
             },
+            feed: Some(Feed {
+                kind: FeedKind::Events,
+                opening: asker.opening,
+            }),
         })?;
     }
     Ok(said)

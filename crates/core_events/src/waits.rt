@@ -1,19 +1,22 @@
 //! The waiting reads that a clunk and a deletion end, and those that wait no more.
 
-ghost use Rattle.std.specs.Prelude.{◌≡◌, [], ◌∷◌, ◌++◌, slice_get, filter, option_copied, IfOk, OnOk};
+ghost use Rattle.std.specs.Prelude.{◌≡◌, [], ◌∷◌, ◌++◌, ℕ, slice_get, filter, option_copied, IfOk, OnOk};
 ghost use Rattle.am_text.specs.Twice.{both, IsSteady};
-ghost use Rattle.core_answers.specs.declared.refusal.Refusal.TheVariants.{FidClunked as fid_clunked, WindowDeleted as window_deleted};
-ghost use Rattle.core_events.specs.Responses.{AreSaid, error, errors};
+ghost use Rattle.core_fids.specs.declared.refusal.Refusal.TheVariants.{FidClunked as fid_clunked, WindowDeleted as window_deleted};
+ghost use Rattle.core_events.specs.Responses.{AreSaid, feed_in, feed_at, error, errors};
 ghost use Rattle.core_events.specs.Waits.{is_of_fid, is_of_window, answer_where, clunked, is_event_of, reads_event_of, deletes, deleted_by, deletions, ended, without_cancelled};
 
-use crate::response::{Response, Responses};
+use crate::response::{Feed, Response, Responses, feed_in, joined};
 use acme_tree::{Node, WinFile};
 use am_text::{Items, NoMemory};
-use core_answers::{Effect, EventChange, Refusal, error};
-use core_windows::Change;
+use core_fids::{Effect, EventChange, Refusal, error};
+use core_scene::{Change, Deed};
 use fid_table::{Fid, Sessions};
 use ninep_types::RMsg;
 use std::alloc::Global;
+
+/// Numbers of windows, one after another.
+pub type Numbers = Items<u32>;
 
 // Says that a waiting read is refused.
 fn refuse(
@@ -21,16 +24,18 @@ fn refuse(
     said: &mut Responses,
     conn: u32,
     tag: u16,
+    feed: Option<Feed>,
     refusal: Refusal,
 ) -> Result<(), NoMemory>
     requires { AreSaid said.old }
-    ensures ok { OnOk result (said.new ≡ said.old ++ error refusal conn tag ∷ []) }
+    ensures ok { OnOk result (said.new ≡ said.old ++ error refusal feed conn tag ∷ []) }
     ensures said { OnOk result (AreSaid said.new) }
 {
     let body = error(alloc, refusal)?;
     said.push(Response {
         conn,
         message: RMsg { tag, body },
+        feed,
     })
 }
 
@@ -44,14 +49,15 @@ fn answer_clunked(
     k: usize,
 ) -> Result<(), NoMemory>
     requires { AreSaid said.old }
-    ensures ok { OnOk result (said.new ≡ said.old ++ answer_where fid_clunked (is_of_fid conn fid) (slice_get sessions.now.present.waiting k)) }
+    ensures ok { OnOk result (said.new ≡ said.old ++ answer_where fid_clunked sessions.now.present (is_of_fid conn fid) (slice_get sessions.now.present.waiting k)) }
     ensures said { OnOk result (AreSaid said.new) }
 {
     let Some((of, tag, read)) = sessions.waiter(k) else {
         return Ok(());
     };
     if of == conn && read == fid {
-        refuse(alloc, said, of, tag, Refusal::FidClunked)
+        let feed = feed_in(sessions.fid(of, read));
+        refuse(alloc, said, of, tag, feed, Refusal::FidClunked)
     } else {
         Ok(())
     }
@@ -64,7 +70,7 @@ fn clunked_reads(
     conn: u32,
     fid: u32,
 ) -> Result<Responses, NoMemory>
-    ensures exact { IfOk result (λ said. said ≡ errors fid_clunked (filter (is_of_fid conn fid) sessions.now.present.waiting)) }
+    ensures exact { IfOk result (λ said. said ≡ errors fid_clunked sessions.now.present (filter (is_of_fid conn fid) sessions.now.present.waiting)) }
     ensures said { IfOk result AreSaid }
 {
     let mut said = Items::new(alloc);
@@ -110,32 +116,27 @@ fn reads_event_of(window: u32, fid: Option<&Fid>) -> bool
     }
 }
 
-fn deletes(change: &Change) -> Option<u32>
-    ensures { result ≡ deletes change.now }
+fn deletes(deed: &Deed) -> Option<u32>
+    ensures { result ≡ deletes deed.now }
 {
-    match change {
-        Change::Makes { .. } => None,
-        Change::Deletes { window } => Some(*window),
-        Change::Edits { .. } => None,
-        Change::Adds { .. } => None,
-        Change::Sets { .. } => None,
-        Change::Undoes { .. } => None,
-        Change::Redoes { .. } => None,
+    match deed {
+        Deed::Windows(Change::Deletes { window }) => Some(*window),
+        _ => None,
     }
 }
 
-/// The window that the changes of a step delete.
-pub fn deleted_by(changes: &[Change]) -> Option<u32>
-    ensures { result ≡ deleted_by changes.now }
+/// The windows that the deeds of a step delete, in order.
+#[tactic(auto, using(crate::proofs::Endings::joined))]
+pub fn deleted_by(alloc: Global, deeds: &[Deed]) -> Result<Numbers, NoMemory>
+    ensures { IfOk result (λ windows. windows ≡ deleted_by deeds.now) }
 {
-    let mut rest = changes;
-    while let [change, after @ ..] = rest {
-        if let Some(window) = deletes(change) {
-            return Some(window);
+    let mut windows = Items::new(alloc);
+    for deed in deeds {
+        if let Some(window) = deletes(deed) {
+            windows.push(window)?;
         }
-        rest = after;
     }
-    None
+    Ok(windows)
 }
 
 // Answers the k-th waiting read, where it is one of this window's event file.
@@ -147,14 +148,22 @@ fn answer_deleted(
     k: usize,
 ) -> Result<(), NoMemory>
     requires { AreSaid said.old }
-    ensures ok { OnOk result (said.new ≡ said.old ++ answer_where window_deleted (is_of_window sessions.now.present window) (slice_get sessions.now.present.waiting k)) }
+    ensures ok { OnOk result (said.new ≡ said.old ++ answer_where window_deleted sessions.now.present (is_of_window sessions.now.present window) (slice_get sessions.now.present.waiting k)) }
     ensures said { OnOk result (AreSaid said.new) }
 {
     let Some((conn, tag, fid)) = sessions.waiter(k) else {
         return Ok(());
     };
-    if reads_event_of(window, sessions.fid(conn, fid)) {
-        refuse(alloc, said, conn, tag, Refusal::WindowDeleted)
+    let read = sessions.fid(conn, fid);
+    if reads_event_of(window, read) {
+        refuse(
+            alloc,
+            said,
+            conn,
+            tag,
+            feed_in(read),
+            Refusal::WindowDeleted,
+        )
     } else {
         Ok(())
     }
@@ -162,7 +171,7 @@ fn answer_deleted(
 
 // The answers to the reads that wait on the event file of this window.
 fn deleted_reads(alloc: Global, sessions: &Sessions, window: u32) -> Result<Responses, NoMemory>
-    ensures exact { IfOk result (λ said. said ≡ errors window_deleted (filter (is_of_window sessions.now.present window) sessions.now.present.waiting)) }
+    ensures exact { IfOk result (λ said. said ≡ errors window_deleted sessions.now.present (filter (is_of_window sessions.now.present window) sessions.now.present.waiting)) }
     ensures said { IfOk result AreSaid }
 {
     let mut said = Items::new(alloc);
@@ -172,19 +181,17 @@ fn deleted_reads(alloc: Global, sessions: &Sessions, window: u32) -> Result<Resp
     Ok(said)
 }
 
-/// The answers to the reads that wait on the event file of a window that is deleted, the oldest first.
-pub fn deletions(
-    alloc: Global,
-    sessions: &Sessions,
-    window: Option<u32>,
-) -> Result<Responses, NoMemory>
-    ensures exact { IfOk result (λ said. said ≡ deletions sessions.now.present window) }
+/// The answers to the reads that wait on the event files of windows that are deleted: window by window, and the oldest first.
+#[tactic(auto, using(crate::proofs::Endings::joined, crate::proofs::Saids::saying))]
+pub fn deletions(alloc: Global, sessions: &Sessions, windows: &[u32]) -> Result<Responses, NoMemory>
+    ensures exact { IfOk result (λ said. said ≡ deletions sessions.now.present windows.now) }
     ensures said { IfOk result AreSaid }
 {
-    match window {
-        Some(window) => deleted_reads(alloc, sessions, window),
-        None => Ok(Items::new(alloc)),
+    let mut said = Items::new(alloc);
+    for window in windows {
+        said = joined(said, deleted_reads(alloc, sessions, *window)?)?;
     }
+    Ok(said)
 }
 
 /// The reads that these answer wait no more. It takes no memory.

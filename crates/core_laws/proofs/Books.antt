@@ -5,19 +5,18 @@ use Rattle.std.specs.Map.{lookup}
 use Rattle.std.proofs.lemmas.Bool.{eqb-false, not-true, and_parts, both_ways}
 use Rattle.std.proofs.lemmas.List.Elements.{All-nil, All-cons, All-head, All-tail, All-push, All-filter, All-weaker, filter_passes}
 use Rattle.fid_table.specs.declared.types.Fid.{Fid}
-use Rattle.core_events.specs.declared.putting.WindowItem.{WindowItem}
+use Rattle.core_scene.specs.declared.deed.WindowItem.{WindowItem}
 use Rattle.wait_queue.specs.Reads.{is_on, is_read, without_first}
 use Rattle.wait_queue.specs.declared.types.Asker.{Asker}
-use Rattle.wait_queue.specs.declared.types.Piece.{Piece}
-use Rattle.event_book.specs.BookState.{BookState, is_open_window, is_living, is_ready, next_of, after_next, after_add, after_put, read_waits, after_answer, after_ask, after_serve, served_of, after_leave, is_on_window}
+use Rattle.event_book.specs.BookState.{BookState, is_open_window, is_living, is_ready, next_of, after_next, after_add, after_put, read_waits, after_answer, after_ask, after_serve, after_leave, after_delete, is_on_window}
 use Rattle.event_book.specs.Laws.{IsLawful}
 use Rattle.event_book.proofs.LawfulLemmas.{lawful-add, lawful-put_in, lawful-waits, lawful-answer, lawful-serve, lawful-cancel, lawful-leave, lawful-delete}
-use Rattle.core_answers.specs.declared.effect.EventChange.{EventChange}
-use Rattle.core_answers.specs.declared.effect.EventChange.TheVariants as events
+use Rattle.core_fids.specs.declared.effect.EventChange.{EventChange}
+use Rattle.core_fids.specs.declared.effect.EventChange.TheVariants as events
 use Rattle.core_events.specs.Asking.{opened}
 use Rattle.core_events.specs.Closing.{without_opening, without_fid, cancelled, closed_with}
-use Rattle.core_events.specs.Putting.{put_one, put_all}
-use Rattle.core_events.specs.Serving.{unless_served, book_served_most, book_served_all}
+use Rattle.core_events.specs.Putting.{put_one, put_all, is_ending, put_if_lives, put_living, ending}
+use Rattle.core_events.specs.Serving.{book_served_most, book_served_all}
 
 -- a lawful book up to an entry, each of whose waiting reads is such a one
 pub record IsBook (P : Asker → Type 0) (at : ℕ) (s : BookState) : Type 0 where
@@ -65,6 +64,15 @@ module _ (P : Asker → Type 0) (at : ℕ) where
   book_put_all s [] b = b
   book_put_all s (i ∷ items) b = book_put_all (put_one s i) items (book_put s i b)
 
+  pub book_put_living : (deleted : List ℕ) (s : BookState) (items : List WindowItem) → IsBook P at s → IsBook P at (put_living deleted s items)
+  book_put_living deleted s [] b = b
+  book_put_living deleted s (i ∷ items) b =
+      book_put_living deleted (put_if_lives deleted s i) items
+      (elim (is_ending deleted i) as (λ t. IsBook P at (cond t s (put_one s i))) [
+        | true ↦ b
+        | false ↦ book_put s i b
+      ])
+
   pub book_ask : (s : BookState) (r : Asker) → is_living s r.opening ≡ true → P r → IsBook P at s → IsBook P at (after_ask s r at)
   book_ask s r living own b =
       elim (read_waits s r) as (λ t. IsBook P at (cond t (record s { reads = s.reads ++ r ∷ []; latest = at }) (after_answer s r at))) [
@@ -76,26 +84,21 @@ module _ (P : Asker → Type 0) (at : ℕ) where
   reads_next None s h = h
   reads_next (Some r) s h = all_without_first (is_ready s.files s.owners) s.reads h
 
-  latest_next : (o : Option Asker) (s : BookState) → (after_next o s at).latest ≤ at
-  latest_next None s = omega arith
-  latest_next (Some r) s = omega arith
+  latest_next : (o : Option Asker) (s : BookState) → s.latest ≤ at → (after_next o s at).latest ≤ at
+  latest_next None s h = h
+  latest_next (Some r) s h = omega arith
 
   pub book_serve : (s : BookState) → IsBook P at s → IsBook P at (after_serve s at)
   book_serve s b = record {
     lawful = lawful-serve s at b.latest b.lawful;
-    latest = latest_next (next_of s) s;
+    latest = latest_next (next_of s) s b.latest;
     reads = reads_next (next_of s) s b.reads;
   }
 
-  unless : (o : Option (Asker × Piece)) (s t : BookState) → IsBook P at s → IsBook P at t → IsBook P at (unless_served o s t)
-  unless None s t b c = b
-  unless (Some x) s t b c = c
-
   book_serve_most : (n : ℕ) (s : BookState) → IsBook P at s → IsBook P at (book_served_most n at s)
   unfolding book_served_most
-  book_serve_most zero s b = book_serve s b
-  book_serve_most (suc n) s b =
-      unless (served_of s) (after_serve s at) (book_served_most n at (after_serve s at)) (book_serve s b) (book_serve_most n (after_serve s at) (book_serve s b))
+  book_serve_most zero s b = b
+  book_serve_most (suc n) s b = book_serve_most n (after_serve s at) (book_serve s b)
 
   pub book_serve_all : (s : BookState) → IsBook P at s → IsBook P at (book_served_all at s)
   book_serve_all s b = book_serve_most (length s.reads) s b
@@ -130,13 +133,16 @@ module _ (P : Asker → Type 0) (at : ℕ) where
     reads = All-filter (λ r. not (is_read conn tag r)) P s.reads b.reads;
   }
 
-  pub book_closed : (s : BookState) (o : Option ℕ) → IsBook P at s → IsBook P at (closed_with at s o)
-  book_closed s None b = b
-  book_closed s (Some w) b = record {
+  book_deleted : (s : BookState) (w : ℕ) → IsBook P at s → IsBook P at (after_delete s w at)
+  book_deleted s w b = record {
     lawful = lawful-delete s w at b.latest b.lawful;
     latest = omega arith;
     reads = All-filter (λ r. not (is_on_window s.owners w r)) P s.reads b.reads;
   }
+
+  pub book_closed : (s : BookState) (ws : List ℕ) → IsBook P at s → IsBook P at (closed_with at s ws)
+  book_closed s [] b = b
+  book_closed s (w ∷ ws) b = book_closed (after_delete s w at) ws (book_deleted s w b)
 
 -- ---- an opening that is left has no reads
 

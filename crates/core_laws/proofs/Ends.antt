@@ -1,8 +1,10 @@
 -- What is said goes to connections that live, so an ended one is replied nothing more.
-use Rattle.std.proofs.Common.{◌≡◌, ◌≢◌, ℕ, ◌+◌, ◌<◌, true, false, eqb, ◌||◌, List, [], ◌∷◌, ◌++◌, None, All, refl, sym, ap, subst, ◌∙◌, append-nil}
+use Rattle.std.proofs.Common.{◌≡◌, ◌≢◌, ℕ, zero, suc, ◌+◌, ◌<◌, true, false, eqb, ◌||◌, List, [], ◌∷◌, ◌++◌, None, All, refl, sym, ap, subst, ◌∙◌, append-nil}
 use Rattle.std.proofs.lemmas.Bool.{ne_eqb, or_left}
 use Rattle.std.proofs.lemmas.List.Elements.{All-head, All-tail, All-weaker}
 use Rattle.std.proofs.lemmas.List.Folds.{list_any-append}
+use Rattle.std.specs.Prelude.{slice_set}
+use Rattle.fid_table.specs.declared.session.Waiting.{Waiting}
 use Rattle.fid_table.specs.Tables.{Tables}
 use Rattle.event_book.specs.BookState.{BookState}
 use Rattle.am_journal.specs.declared.event.Event.{Event}
@@ -14,11 +16,16 @@ use Rattle.acme_core.specs.declared.connection.Connection.{Connection}
 use Rattle.acme_core.specs.declared.connection.Connection.TheVariants.{Undialed, Live, Ended}
 use Rattle.acme_core.specs.Asks.{is_ended}
 use Rattle.acme_core.specs.Connections.{connection_at, is_live}
+use Rattle.acme_core.specs.declared.doing.Doing.{Doing}
+use Rattle.acme_core.specs.declared.kind.Kind.{Kind}
+use Rattle.acme_core.specs.declared.kind.Kind.TheVariants as kind
 use Rattle.acme_core.specs.Doings.{enabled_at, doing_of}
+use Rattle.acme_core.specs.Enabled.{dial_refusal}
+use Rattle.acme_core.specs.Kinds.{kind_of}
 use Rattle.acme_core.specs.Run.{step, run, enabled, output_at}
-use Rattle.acme_core.specs.Stages.{said}
-use Rattle.acme_core.specs.States.{State, present}
-use Rattle.acme_core.specs.Unsent.{replies_of}
+use Rattle.acme_core.specs.Stages.{grown_tables, read_book, said}
+use Rattle.acme_core.specs.States.{Present, State, present}
+use Rattle.acme_core.specs.Replies.{replies_of}
 use Rattle.acme_core.proofs.Connected.{tells_connections}
 use Rattle.acme_core.proofs.Goes.{run-push}
 use Rattle.core_laws.specs.Laws.{NothingAfterTheHangUp, EndedGetAllReplies}
@@ -27,9 +34,9 @@ use Rattle.core_laws.proofs.Books.{IsBook, book_weaker}
 use Rattle.core_laws.proofs.Fids.{IsHeld, fids_at}
 use Rattle.core_laws.proofs.Playing.{played_more, played_parts}
 use Rattle.core_laws.proofs.Replying.{replied_by, replied_from, all_replied, replied_parts}
-use Rattle.core_laws.proofs.Tells.{Tells, Reading, tells}
+use Rattle.core_laws.proofs.Tells.{Tells, Reading, OfMessage, tells}
 use Rattle.core_laws.proofs.Unsents.{ahead, sent_or_unsent}
-use Rattle.core_laws.proofs.Wells.{Lives, IsOfLive, AreWell, IsWell, later, message_lives, well_read, well_after}
+use Rattle.core_laws.proofs.Wells.{Lives, IsOfLive, WaitsOnLive, AreWell, IsWell, IsOwn, begun, own, dial_lives, later, well_read, well_after}
 
 -- ---- what an entry says goes to connections that live
 
@@ -40,21 +47,55 @@ reads_live : (cs : List Connection) (t : Tables) (at : ℕ) (b : BookState) → 
 reads_live cs t at b well =
     book_weaker (IsHeld t) (Reading (OnLive cs)) at b (λ r h. (fids_at (IsOfLive cs) t r.conn h.number h.fid well.fids h.is).0) well.book
 
-says_live : (s : State) (e : Event) → enabled_at (present s) e ≡ None → IsWell s → All (Tells (OnLive s.connections)) (said (present s) e (doing_of (present s) e))
-says_live s (event.Dial conn) allowed well =
-    tells (OnLive s.connections) (present s) (event.Dial conn) tt (reads_live s.connections s.tables (s.entries + 1) s.book (later s well)) well.waiting
-says_live s (event.Msg conn msg) allowed well =
-    tells (OnLive s.connections) (present s) (event.Msg conn msg) (message_lives (present s) conn msg allowed) (reads_live s.connections _ (s.entries + 1) _ (well_read s conn msg allowed well)) well.waiting
-says_live s (event.Hang conn why) allowed well =
-    tells (OnLive s.connections) (present s) (event.Hang conn why) tt (reads_live s.connections s.tables (s.entries + 1) s.book (later s well)) well.waiting
-says_live s (event.Took conn) allowed well =
-    tells (OnLive s.connections) (present s) (event.Took conn) tt (reads_live s.connections s.tables (s.entries + 1) s.book (later s well)) well.waiting
-says_live s event.New allowed well =
-    tells (OnLive s.connections) (present s) event.New tt (reads_live s.connections s.tables (s.entries + 1) s.book (later s well)) well.waiting
-says_live s (event.Key w side text) allowed well =
-    tells (OnLive s.connections) (present s) (event.Key w side text) tt (reads_live s.connections s.tables (s.entries + 1) s.book (later s well)) well.waiting
-says_live s (event.Sel w range) allowed well =
-    tells (OnLive s.connections) (present s) (event.Sel w range) tt (reads_live s.connections s.tables (s.entries + 1) s.book (later s well)) well.waiting
+own_live : (cs : List Connection) (s : Present) (k : Kind) (d : Doing) → cs ≡ s.connections → IsOwn s k d → OfMessage (OnLive (begun cs k)) k
+unfolding IsOwn begun
+own_live cs s (kind.Dials conn) d e own = tt
+own_live cs s (kind.Asks conn tag) d e own = subst (λ (x : List Connection). Lives x conn) (sym e) own.0
+own_live cs s (kind.Ends conn why) d e own = tt
+own_live cs s (kind.Takes conn) d e own = tt
+own_live cs s kind.Acts d e own = tt
+
+waits_live : (cs : List Connection) (k : Kind) (ws : List Waiting) → All (WaitsOnLive cs) ws → All (WaitsOnLive (begun cs k)) ws
+unfolding begun
+waits_live cs (kind.Dials conn) ws h = All-weaker (WaitsOnLive cs) (WaitsOnLive (slice_set cs conn Live)) (λ w l. dial_lives cs conn w.conn l) ws h
+waits_live cs (kind.Asks conn tag) ws h = h
+waits_live cs (kind.Ends conn why) ws h = h
+waits_live cs (kind.Takes conn) ws h = h
+waits_live cs kind.Acts ws h = h
+
+undialed_ended : (v : Connection) → dial_refusal v ≡ None → is_ended v ≡ true → ⊥
+undialed_ended Undialed e h = absurd cc
+undialed_ended Live e h = absurd cc
+undialed_ended (Ended why) e h = absurd cc
+
+dial_ended : (cs : List Connection) (c x : ℕ) → dial_refusal (connection_at cs c) ≡ None → is_ended (connection_at cs x) ≡ true → is_ended (connection_at (slice_set cs c Live) x) ≡ true
+dial_ended [] c x e h = h
+dial_ended (v ∷ cs) zero zero e h = absurd (undialed_ended v e h)
+dial_ended (v ∷ cs) zero (suc x) e h = h
+dial_ended (v ∷ cs) (suc c) zero e h = h
+dial_ended (v ∷ cs) (suc c) (suc x) e h = dial_ended cs c x e h
+
+says_live : (s : State) (e : Event) → enabled_at (present s) e ≡ None → IsWell s
+    → All (Tells (OnLive (begun s.connections (kind_of e)))) (said (present s) (kind_of e) (doing_of (present s) e))
+says_live s e allowed well =
+    let p : Present = present s in
+    let k : Kind = kind_of e in
+    let d : Doing = doing_of p e in
+    let mine : IsOwn p k d = own s e allowed well in
+    tells (OnLive (begun s.connections k)) p k d (own_live s.connections p k d refl mine)
+    (reads_live (begun s.connections k) (grown_tables p k d) (s.entries + 1) (read_book p k d) (well_read p k d mine (later s well)))
+    (waits_live s.connections k s.tables.waiting well.waiting)
+
+-- an ended connection isn't dialled again
+still_ended : (s : State) (e : Event) (conn : ℕ) → enabled_at (present s) e ≡ None → is_ended (connection_at s.connections conn) ≡ true → is_ended (connection_at (begun s.connections (kind_of e)) conn) ≡ true
+unfolding begun
+still_ended s (event.Dial c) conn allowed ended = dial_ended s.connections c conn allowed ended
+still_ended s (event.Msg c msg) conn allowed ended = ended
+still_ended s (event.Hang c why) conn allowed ended = ended
+still_ended s (event.Took c) conn allowed ended = ended
+still_ended s event.New conn allowed ended = ended
+still_ended s (event.Key w side text) conn allowed ended = ended
+still_ended s (event.Sel w range) conn allowed ended = ended
 
 -- ---- an ended connection
 
@@ -69,17 +110,19 @@ joined_none conn (x ∷ xs) h =
     let apart : eqb x.conn conn ≡ false = ne_eqb x.conn conn (All-head (λ (y : Response). y.conn ≢ conn) x xs h) in
     rw apart (joined_none conn xs (All-tail (λ (y : Response). y.conn ≢ conn) x xs h))
 
-step_replies : (s : State) (e : Event) → (step s e).replies ≡ replies_of (said (present s) e (doing_of (present s) e))
+step_replies : (s : State) (e : Event) → (step s e).replies ≡ replies_of (said (present s) (kind_of e) (doing_of (present s) e))
 unfolding step
 step_replies s e = refl
 
 replied_none : (before : List Event) (e : Event) (conn : ℕ) → enabled before e ≡ None → IsWell (run before) → is_ended (connection_at (run before).connections conn) ≡ true → replied_by conn before e ≡ []
 replied_none before e conn allowed well ended =
     let s : State = run before in
-    let xs : List Response = said (present s) e (doing_of (present s) e) in
+    let cs : List Connection = begun s.connections (kind_of e) in
+    let xs : List Response = said (present s) (kind_of e) (doing_of (present s) e) in
+    let over : is_ended (connection_at cs conn) ≡ true = still_ended s e conn allowed ended in
     let apart : All (λ x. x.conn ≢ conn) xs =
-    All-weaker (Tells (OnLive s.connections)) (λ x. x.conn ≢ conn)
-    (λ x live (same : x.conn ≡ conn). both (connection_at s.connections conn) (subst (Lives s.connections) same live) ended) xs (says_live s e allowed well)
+    All-weaker (Tells (OnLive cs)) (λ x. x.conn ≢ conn)
+    (λ x live (same : x.conn ≡ conn). both (connection_at cs conn) (subst (Lives cs) same live) over) xs (says_live s e allowed well)
     in
     ap (λ (u : State). bytes_to conn u.replies) (run-push before e) ∙ ap (bytes_to conn) (step_replies s e) ∙ joined_none conn xs apart
 

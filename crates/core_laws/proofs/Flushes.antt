@@ -12,29 +12,32 @@ use Rattle.wait_queue.specs.Reads.{is_read}
 use Rattle.wait_queue.specs.declared.types.Asker.{Asker}
 use Rattle.win_events.specs.declared.item.Origin.TheVariants.{F}
 use Rattle.am_journal.specs.declared.event.Event.{Event}
-use Rattle.am_journal.specs.declared.event.Event.TheVariants as event
+use Rattle.acme_core.specs.declared.kind.Kind.{Kind}
+use Rattle.acme_core.specs.declared.kind.Kind.TheVariants as kind
+use Rattle.acme_core.specs.Kinds.{kind_of}
 use Rattle.am_counter.specs.Played.{ArePlayed}
-use Rattle.core_answers.specs.declared.effect.Deed.{Deed}
-use Rattle.core_answers.specs.declared.refusal.Refusal.TheVariants as refusal
-use Rattle.core_answers.specs.Deeds.{flush_deed}
-use Rattle.core_answers.specs.Fids.{is_there}
-use Rattle.core_answers.specs.Refusals.{refused}
+use Rattle.core_fids.specs.declared.effect.Reaction.{Reaction}
+use Rattle.core_fids.specs.declared.refusal.Refusal.TheVariants as refusal
+use Rattle.core_answers.specs.Reactions.{flush_reaction}
+use Rattle.core_fids.specs.Fids.{is_there}
+use Rattle.core_fids.specs.Refusals.{refused}
 use Rattle.core_events.specs.declared.response.Response.{Response}
 use Rattle.core_events.specs.Waits.{ended}
 use Rattle.acme_core.specs.Doings.{message_doing, doing_of}
 use Rattle.acme_core.specs.Run.{step, run, enabled}
-use Rattle.acme_core.specs.Stages.{said, tables_after, book_after}
+use Rattle.acme_core.specs.Stages.{said, grown_book, tables_after, book_after}
 use Rattle.acme_core.specs.States.{Present, State, present}
-use Rattle.acme_core.specs.Unsent.{replies_of}
+use Rattle.acme_core.specs.Replies.{replies_of}
 use Rattle.acme_core.proofs.Goes.{run-push}
-use Rattle.core_laws.specs.Laws.{IsFree, RepliesAreSaid, NothingToAFlushedTag}
-use Rattle.core_laws.specs.Saying.{is_message, flush_of, flushed}
+use Rattle.acme_core.proofs.Idling.{idle_after}
+use Rattle.core_laws.specs.Laws.{IsFree, RepliesAreSaid, NothingToAFlushedTag, NoReadCanBeAnswered}
+use Rattle.core_laws.specs.Saying.{asks, is_message, flush_of, flushed}
 use Rattle.core_laws.proofs.Playing.{played_parts, played_first}
 use Rattle.core_laws.proofs.Quiets.{IsQuiet, OfMessages, quiet_all, quiet_end}
-use Rattle.core_laws.proofs.Tells.{IsWaiting, Reading}
+use Rattle.core_laws.proofs.Tells.{IsWaiting, Reading, OfMessage}
 use Rattle.core_laws.proofs.Wells.{IsWell, well_step, well_after}
 
-step_replies : (s : State) (e : Event) → (step s e).replies ≡ replies_of (said (present s) e (doing_of (present s) e))
+step_replies : (s : State) (e : Event) → (step s e).replies ≡ replies_of (said (present s) (kind_of e) (doing_of (present s) e))
 unfolding step
 step_replies s e = refl
 
@@ -59,8 +62,8 @@ none_reading conn tag rs =
 -- ---- a Tflush
 
 -- what a Tflush does, by whether a session is missing
-abbrev pub flush_or : Bool → ℕ → Deed
-flush_or missing oldtag = cond missing (refused refusal.VersionFirst) (flush_deed oldtag)
+abbrev pub flush_or : Bool → ℕ → Reaction
+flush_or missing oldtag = cond missing (refused refusal.VersionFirst) (flush_reaction oldtag)
 
 flushes : RBody → Bool
 flushes r.Flush = true
@@ -71,22 +74,22 @@ unfolding flushes
 first_flushes [] = false
 first_flushes (x ∷ xs) = flushes x.message.body
 
-is_flush : (s : Present) (conn tag oldtag : ℕ) (missing : Bool) → said s (flush_of conn tag oldtag) (message_doing (flush_or missing oldtag) F) ≡ flushed conn tag ∷ []
-    → flush_or missing oldtag ≡ flush_deed oldtag
+is_flush : (s : Present) (conn tag oldtag : ℕ) (missing : Bool) → said s (kind.Asks conn tag) (message_doing (flush_or missing oldtag) F) ≡ flushed conn tag ∷ []
+    → flush_or missing oldtag ≡ flush_reaction oldtag
 unfolding first_flushes flushes
 is_flush s conn tag oldtag true h = absurd (false≢true (ap first_flushes h))
 is_flush s conn tag oldtag false h = refl
 
-abbrev QuietAfter : Present → ℕ → ℕ → ℕ → Deed → Type 0
+abbrev QuietAfter : Present → ℕ → ℕ → ℕ → Reaction → Type 0
 QuietAfter s conn tag oldtag d =
-    All (IsWaiting (OtherTag conn oldtag)) (tables_after s (flush_of conn tag oldtag) (message_doing d F)).waiting
-    × All (Reading (OtherTag conn oldtag)) (book_after s (flush_of conn tag oldtag) (message_doing d F)).reads
+    All (IsWaiting (OtherTag conn oldtag)) (tables_after s (kind.Asks conn tag) (message_doing d F)).waiting
+    × All (Reading (OtherTag conn oldtag)) (book_after s (kind.Asks conn tag) (message_doing d F)).reads
 
-quiet_flush : (s : Present) (conn tag oldtag : ℕ) → QuietAfter s conn tag oldtag (flush_deed oldtag)
+quiet_flush : (s : Present) (conn tag oldtag : ℕ) → QuietAfter s conn tag oldtag (flush_reaction oldtag)
 quiet_flush s conn tag oldtag =
-    (none_waiting conn oldtag (ended s.tables (flushed conn tag ∷ [])).waiting, none_reading conn oldtag s.book.reads)
+    (none_waiting conn oldtag (ended s.tables (said s (kind.Asks conn tag) (message_doing (flush_reaction oldtag) F))).waiting, none_reading conn oldtag (grown_book s (kind.Asks conn tag) (message_doing (flush_reaction oldtag) F)).reads)
 
-quiet_then : (s : State) (conn tag oldtag : ℕ) → said (present s) (flush_of conn tag oldtag) (doing_of (present s) (flush_of conn tag oldtag)) ≡ flushed conn tag ∷ []
+quiet_then : (s : State) (conn tag oldtag : ℕ) → said (present s) (kind.Asks conn tag) (doing_of (present s) (flush_of conn tag oldtag)) ≡ flushed conn tag ∷ []
     → IsQuiet (OtherTag conn oldtag) (step s (flush_of conn tag oldtag))
 unfolding step
 quiet_then s conn tag oldtag is =
@@ -94,22 +97,23 @@ quiet_then s conn tag oldtag is =
 
 -- ---- behind it
 
+of_message : (conn tag : ℕ) (k : Kind) → asks conn tag k ≡ false → OfMessage (OtherTag conn tag) k
+of_message conn tag (kind.Dials c) h = tt
+of_message conn tag (kind.Asks c t) h = h
+of_message conn tag (kind.Ends c why) h = tt
+of_message conn tag (kind.Takes c) h = tt
+of_message conn tag kind.Acts h = tt
+
 of_messages : (conn tag : ℕ) (events : List Event) → list_any (is_message conn tag) events ≡ false → OfMessages (OtherTag conn tag) events
 of_messages conn tag [] h = tt
-of_messages conn tag (event.Dial c ∷ events) h = (tt, of_messages conn tag events h)
-of_messages conn tag (event.Msg c msg ∷ events) h =
-    let parts = or_parts (eqb c conn && eqb msg.tag tag) (list_any (is_message conn tag) events) h in
-    (parts.0, of_messages conn tag events parts.1)
-of_messages conn tag (event.Hang c why ∷ events) h = (tt, of_messages conn tag events h)
-of_messages conn tag (event.Took c ∷ events) h = (tt, of_messages conn tag events h)
-of_messages conn tag (event.New ∷ events) h = (tt, of_messages conn tag events h)
-of_messages conn tag (event.Key w side text ∷ events) h = (tt, of_messages conn tag events h)
-of_messages conn tag (event.Sel w range ∷ events) h = (tt, of_messages conn tag events h)
+of_messages conn tag (e ∷ events) h =
+    let parts : (asks conn tag (kind_of e) ≡ false) × (list_any (is_message conn tag) events ≡ false) = or_parts (asks conn tag (kind_of e)) (list_any (is_message conn tag) events) h in
+    (of_message conn tag (kind_of e) parts.0, of_messages conn tag events parts.1)
 
 free_by : (journal : List Event) (conn tag : ℕ) → IsQuiet (OtherTag conn tag) (run journal) → IsFree journal conn tag
 free_by journal conn tag quiet = record {
   waiting = list_any_none (is_waiting conn tag) (run journal).tables.waiting quiet.0;
-  reads = list_any_none (is_read conn tag) (run journal).book.reads quiet.1;
+  reads = list_any_none (is_read conn tag) (run journal).scene.book.reads quiet.1;
 }
 
 pub nothing_to_a_flushed : NothingToAFlushedTag
@@ -129,3 +133,10 @@ nothing_to_a_flushed before behind conn tag oldtag played is none =
     )
 
 pub ruleset flushing = (replies_said, nothing_to_a_flushed)
+
+-- ---- no read that waits can be answered
+
+pub none_can : NoReadCanBeAnswered
+none_can journal = idle_after journal
+
+pub ruleset waiting = (none_can)

@@ -2,7 +2,7 @@ mod Replying
 mod Unsents
 mod Fids
 mod Books
-mod Deeds
+mod Reactions
 mod Wells
 mod Playing
 mod Tells

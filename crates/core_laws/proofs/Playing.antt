@@ -1,9 +1,14 @@
 -- Journals of enabled events, in parts.
-use Rattle.std.proofs.Common.{◌≡◌, List, [], ◌∷◌, ◌++◌, None, sym, subst, append_assoc, append-nil}
+use Rattle.std.specs.List.{fold}
+use Rattle.std.proofs.Common.{◌≡◌, ℕ, refl, List, [], ◌∷◌, ◌++◌, None, sym, subst, append_assoc, append-nil}
 use Rattle.am_journal.specs.Lawful.{IsLawful}
 use Rattle.am_journal.specs.declared.event.Event.{Event}
 use Rattle.am_counter.specs.Played.{ArePlayed}
-use Rattle.acme_core.specs.Run.{enabled}
+use Rattle.core_events.specs.Putting.{put_living}
+use Rattle.core_events.specs.Serving.{served_all}
+use Rattle.acme_core.specs.Run.{step, run, enabled}
+use Rattle.acme_core.specs.States.{State, start}
+use Rattle.acme_core.proofs.Idling.{idle_after, silent}
 
 pub played_more : (before events : List Event) (e : Event) → ArePlayed enabled before events → IsLawful e → enabled (before ++ events) e ≡ None → ArePlayed enabled before (events ++ e ∷ [])
 unfolding ArePlayed
@@ -23,3 +28,18 @@ played_parts before (x ∷ xs) ys all =
 pub played_first : (before events : List Event) (e : Event) → ArePlayed enabled before (e ∷ events) → (enabled before e ≡ None) × ArePlayed enabled (before ++ e ∷ []) events
 unfolding ArePlayed
 played_first before events e all = (all.1, all.2)
+
+-- ---- no items of a step are left behind it
+
+fold_items : (s : State) (events : List Event) → s.scene.items ≡ [] → (fold step s events).scene.items ≡ []
+unfolding step
+fold_items s [] none = none
+fold_items s (e ∷ events) none = fold_items (step s e) events refl
+
+pub no_items : (journal : List Event) → (run journal).scene.items ≡ []
+unfolding run
+no_items journal = fold_items start journal refl
+
+-- so an entry without deeds answers no read that waits
+pub silent_after : (journal : List Event) (at : ℕ) → served_all at (put_living [] (run journal).scene.book (run journal).scene.items) ≡ []
+silent_after journal at = silent at [] (run journal).scene.book (run journal).scene.items (idle_after journal) (no_items journal)

@@ -1,27 +1,27 @@
 -- What is true of the connection and the tag of each message, as long as messages come, is true of all that is said.
-use Rattle.std.proofs.Common.{ℕ, ◌+◌, not, List, [], ◌∷◌, ◌++◌, Some, All, sym, subst, append_assoc, append-nil}
+use Rattle.std.proofs.Common.{ℕ, ◌+◌, not, List, [], ◌∷◌, ◌++◌, Option, Some, None, All, sym, subst, append_assoc, append-nil}
 use Rattle.std.proofs.lemmas.List.Elements.{All-nil, All-append, All-filter}
-use Rattle.ninep_types.specs.declared.message.TMsg.{TMsg}
-use Rattle.fid_table.specs.Tables.{Tables, fid_of, fids_of, is_waiting_on}
+use Rattle.fid_table.specs.Tables.{Tables, fid_of, fids_of, is_waiting_on, after_hangup}
 use Rattle.event_book.specs.BookState.{BookState}
 use Rattle.am_journal.specs.declared.event.Event.{Event}
-use Rattle.am_journal.specs.declared.event.Event.TheVariants as event
 use Rattle.am_counter.specs.Played.{ArePlayed}
-use Rattle.core_answers.specs.declared.effect.Answer.{Answer}
-use Rattle.core_answers.specs.declared.effect.Answer.TheVariants.{Says, Reads}
-use Rattle.core_answers.specs.declared.effect.Deed.{Deed}
-use Rattle.core_answers.specs.declared.effect.Effect.{Effect}
-use Rattle.core_answers.specs.declared.effect.Effect.TheVariants as effect
+use Rattle.core_fids.specs.declared.effect.Answer.{Answer}
+use Rattle.core_fids.specs.declared.effect.Answer.TheVariants.{Says, Reads}
+use Rattle.core_fids.specs.declared.effect.Effect.{Effect}
+use Rattle.core_fids.specs.declared.effect.Effect.TheVariants as effect
 use Rattle.core_events.specs.declared.response.Response.{Response}
 use Rattle.core_events.specs.Asking.{read_said}
 use Rattle.core_events.specs.Closing.{freed, cancelled, opening_in}
 use Rattle.core_events.specs.Waits.{deleted_by, ended}
 use Rattle.acme_core.specs.declared.doing.Doing.{Doing}
 use Rattle.acme_core.specs.Connections.{grown_with, ended_with}
-use Rattle.acme_core.specs.Doings.{deed_at, doing_of}
+use Rattle.acme_core.specs.declared.kind.Kind.{Kind}
+use Rattle.acme_core.specs.declared.kind.Kind.TheVariants as kind
+use Rattle.acme_core.specs.Doings.{doing_of}
+use Rattle.acme_core.specs.Kinds.{kind_of}
 use Rattle.acme_core.specs.Run.{step, run, enabled}
-use Rattle.acme_core.specs.Stages.{asker_of, answer_book, answer_tables, grown_book, read_book, items_made, serves, said}
-use Rattle.acme_core.specs.States.{Present, State, present}
+use Rattle.acme_core.specs.Stages.{asker_of, answer_book, answer_tables, grown_tables, grown_book, read_book, left_book, ended_tables, book_after, said}
+use Rattle.acme_core.specs.States.{Present, State, present, next_entry}
 use Rattle.acme_core.proofs.Goes.{run-push}
 use Rattle.core_laws.specs.Saying.{said_from}
 use Rattle.core_laws.proofs.Books.{IsBook, book_without, book_without_fids, book_cancelled, book_closed}
@@ -31,26 +31,44 @@ use Rattle.core_laws.proofs.Wells.{IsWell, later, done_waiting, cancelled_waitin
 module _ (L : ℕ → ℕ → Type 0) where
   -- it is true of each read that waits
   abbrev pub IsQuiet : State → Type 0
-  IsQuiet s = All (IsWaiting L) s.tables.waiting × All (Reading L) s.book.reads
+  IsQuiet s = All (IsWaiting L) s.tables.waiting × All (Reading L) s.scene.book.reads
 
-  book_of : (s : State) → IsWell s → IsQuiet s → IsBook (Reading L) (s.entries + 1) s.book
+  book_of : (s : State) → IsWell s → IsQuiet s → IsBook (Reading L) (s.entries + 1) s.scene.book
   book_of s well quiet = let b = later s well in record { lawful = b.book.lawful; latest = b.book.latest; reads = quiet.1 }
 
-  -- ---- a message
+  -- ---- what grows
 
-  grown_waiting : (t : Tables) (conn : ℕ) (e : Effect) → All (IsWaiting L) t.waiting → All (IsWaiting L) (grown_with t conn e).waiting
-  grown_waiting t conn effect.Nothing h = h
-  grown_waiting t conn (effect.Begins msize) h = h
-  grown_waiting t conn (effect.Puts number fid) h = h
-  grown_waiting t conn (effect.Frees number) h = h
+  put_waiting : (t : Tables) (conn : ℕ) (e : Effect) → All (IsWaiting L) t.waiting → All (IsWaiting L) (grown_with t conn e).waiting
+  put_waiting t conn effect.Nothing h = h
+  put_waiting t conn (effect.Begins msize) h = h
+  put_waiting t conn (effect.Puts number fid) h = h
+  put_waiting t conn (effect.Frees number) h = h
 
-  answered_waiting : (t : Tables) (b : BookState) (conn tag : ℕ) (a : Answer) → L conn tag → All (IsWaiting L) t.waiting → All (IsWaiting L) (answer_tables t b conn tag (Some a)).waiting
-  answered_waiting t b conn tag (Says body) own h = h
-  answered_waiting t b conn tag (Reads fid opening count) own h = waits_waiting (IsWaiting L) (read_said t b (asker_of conn tag opening count)) t conn tag fid own h
+  answered_waiting : (t : Tables) (b : BookState) (conn tag : ℕ) (a : Option Answer) → L conn tag → All (IsWaiting L) t.waiting → All (IsWaiting L) (answer_tables t b conn tag a).waiting
+  answered_waiting t b conn tag None own h = h
+  answered_waiting t b conn tag (Some (Says body)) own h = h
+  answered_waiting t b conn tag (Some (Reads fid opening count)) own h = waits_waiting (IsWaiting L) (read_said t b (asker_of conn tag opening count)) t conn tag fid own h
 
-  answered_book : (at : ℕ) (t : Tables) (b : BookState) (conn tag : ℕ) (a : Answer) → L conn tag → IsBook (Reading L) at b → IsBook (Reading L) at (answer_book t b conn tag (Some a) at)
-  answered_book at t b conn tag (Says body) own book = book
-  answered_book at t b conn tag (Reads fid opening count) own book = reading_book (Reading L) at t b (asker_of conn tag opening count) own book
+  answered_book : (at : ℕ) (t : Tables) (b : BookState) (conn tag : ℕ) (a : Option Answer) → L conn tag → IsBook (Reading L) at b → IsBook (Reading L) at (answer_book t b conn tag a at)
+  answered_book at t b conn tag None own book = book
+  answered_book at t b conn tag (Some (Says body)) own book = book
+  answered_book at t b conn tag (Some (Reads fid opening count)) own book = reading_book (Reading L) at t b (asker_of conn tag opening count) own book
+
+  grown_waiting : (s : Present) (k : Kind) (d : Doing) → OfMessage L k → All (IsWaiting L) s.tables.waiting → All (IsWaiting L) (grown_tables s k d).waiting
+  grown_waiting s (kind.Dials conn) d own h = h
+  grown_waiting s (kind.Asks conn tag) d own h = answered_waiting (grown_with s.tables conn d.effect) s.scene.book conn tag d.answer own (put_waiting s.tables conn d.effect h)
+  grown_waiting s (kind.Ends conn why) d own h = h
+  grown_waiting s (kind.Takes conn) d own h = h
+  grown_waiting s kind.Acts d own h = h
+
+  quiet_read : (s : Present) (k : Kind) (d : Doing) → OfMessage L k → IsBook (Reading L) (next_entry s) s.scene.book → IsBook (Reading L) (next_entry s) (read_book s k d)
+  quiet_read s (kind.Dials conn) d own book = book
+  quiet_read s (kind.Asks conn tag) d own book = answered_book (next_entry s) (grown_with s.tables conn d.effect) s.scene.book conn tag d.answer own book
+  quiet_read s (kind.Ends conn why) d own book = book
+  quiet_read s (kind.Takes conn) d own book = book
+  quiet_read s kind.Acts d own book = book
+
+  -- ---- what ends
 
   freed_waiting : (t : Tables) (conn : ℕ) (e : Effect) → All (IsWaiting L) t.waiting → All (IsWaiting L) (ended_with t conn e).waiting
   freed_waiting t conn effect.Nothing h = h
@@ -64,85 +82,54 @@ module _ (L : ℕ → ℕ → Type 0) where
   freed_book at t b conn (effect.Puts number fid) book = book
   freed_book at t b conn (effect.Frees number) book = book_without (Reading L) at b (opening_in (fid_of t conn number)) book
 
+  left_waiting : (t : Tables) (k : Kind) (d : Doing) (xs : List Response) → All (IsWaiting L) t.waiting → All (IsWaiting L) (ended_tables t k d xs).waiting
+  left_waiting t (kind.Dials conn) d xs h = done_waiting (IsWaiting L) t xs h
+  left_waiting t (kind.Asks conn tag) d xs h =
+      let left : Tables = ended_with t conn d.effect in
+      cancelled_waiting (IsWaiting L) (ended left xs) conn d.events (done_waiting (IsWaiting L) left xs (freed_waiting t conn d.effect h))
+  left_waiting t (kind.Ends conn why) d xs h =
+      done_waiting (IsWaiting L) (after_hangup t conn) xs (All-filter (λ w. not (is_waiting_on conn w)) (IsWaiting L) t.waiting h)
+  left_waiting t (kind.Takes conn) d xs h = done_waiting (IsWaiting L) t xs h
+  left_waiting t kind.Acts d xs h = done_waiting (IsWaiting L) t xs h
+
+  quiet_left : (at : ℕ) (t : Tables) (b : BookState) (k : Kind) (d : Doing) → IsBook (Reading L) at b → IsBook (Reading L) at (left_book at t k d b)
+  quiet_left at t b (kind.Dials conn) d book = book
+  quiet_left at t b (kind.Asks conn tag) d book = book_cancelled (Reading L) at (freed at b t conn d.effect) conn d.events (freed_book at t b conn d.effect book)
+  quiet_left at t b (kind.Ends conn why) d book = book_without_fids (Reading L) at b (fids_of t conn) book
+  quiet_left at t b (kind.Takes conn) d book = book
+  quiet_left at t b kind.Acts d book = book
+
   -- ---- one event
 
-  quiet_read : (s : State) (e : Event) → OfMessage L e → IsWell s → IsQuiet s → IsBook (Reading L) (s.entries + 1) (read_book (present s) e (doing_of (present s) e))
-  quiet_read s (event.Dial conn) own well quiet = book_of s well quiet
-  quiet_read s (event.Msg conn msg) own well quiet =
-      let done : Deed = deed_at (present s) conn msg in
-      answered_book (s.entries + 1) (grown_with s.tables conn done.effect) s.book conn msg.tag done.answer own (book_of s well quiet)
-  quiet_read s (event.Hang conn why) own well quiet = book_of s well quiet
-  quiet_read s (event.Took conn) own well quiet = book_of s well quiet
-  quiet_read s event.New own well quiet = book_of s well quiet
-  quiet_read s (event.Key w side text) own well quiet = book_of s well quiet
-  quiet_read s (event.Sel w range) own well quiet = book_of s well quiet
+  pub quiet_says : (s : State) (e : Event) → OfMessage L (kind_of e) → IsWell s → IsQuiet s → All (Tells L) (said (present s) (kind_of e) (doing_of (present s) e))
+  quiet_says s e own well quiet =
+      tells L (present s) (kind_of e) (doing_of (present s) e) own (quiet_read (present s) (kind_of e) (doing_of (present s) e) own (book_of s well quiet)) quiet.0
 
-  pub quiet_says : (s : State) (e : Event) → OfMessage L e → IsWell s → IsQuiet s → All (Tells L) (said (present s) e (doing_of (present s) e))
-  quiet_says s e own well quiet = tells L (present s) e own (quiet_read s e own well quiet) quiet.0
-
-  -- an event that isn't one of a connection
-  quiet_change : (s : State) (e : Event) (xs : List Response) → IsBook (Reading L) (s.entries + 1) (read_book (present s) e (doing_of (present s) e)) → IsQuiet s
-      → All (IsWaiting L) (ended s.tables xs).waiting × All (Reading L) (grown_book (present s) e (doing_of (present s) e)).reads
-  quiet_change s e xs book quiet =
-      let p : Present = present s in
-      let d : Doing = doing_of p e in
-      let items : IsBook (Reading L) (s.entries + 1) (grown_book p e d) =
-      items_book (Reading L) (s.entries + 1) (read_book p e d) d.events (items_made p d) (serves p d) book
-      in
-      (done_waiting (IsWaiting L) s.tables xs quiet.0, items.reads)
-
-  quiet_message : (s : State) (conn : ℕ) (msg : TMsg) → L conn msg.tag → IsWell s → IsQuiet s → IsQuiet (step s (event.Msg conn msg))
+  pub quiet_step : (s : State) (e : Event) → OfMessage L (kind_of e) → IsWell s → IsQuiet s → IsQuiet (step s e)
   unfolding step
-  quiet_message s conn msg own well quiet =
+  quiet_step s e own well quiet =
       let p : Present = present s in
-      let e : Event = event.Msg conn msg in
+      let k : Kind = kind_of e in
       let d : Doing = doing_of p e in
       let at : ℕ = s.entries + 1 in
-      let done : Deed = deed_at p conn msg in
-      let put : Tables = grown_with s.tables conn done.effect in
-      let t : Tables = answer_tables put s.book conn msg.tag (Some done.answer) in
-      let xs : List Response = said p e d in
-      let left : Tables = ended_with t conn done.effect in
-      let items : IsBook (Reading L) at (grown_book p e d) =
-      items_book (Reading L) at (read_book p e d) d.events (items_made p d) (serves p d) (quiet_read s e own well quiet)
+      let t : Tables = grown_tables p k d in
+      let items : IsBook (Reading L) at (grown_book p k d) = items_book (Reading L) p k d (quiet_read p k d own (book_of s well quiet)) in
+      let closed : IsBook (Reading L) at (book_after p k d) =
+      book_closed (Reading L) at (left_book at t k d (grown_book p k d)) (deleted_by d.deeds) (quiet_left at t (grown_book p k d) k d items)
       in
-      let ends : IsBook (Reading L) at (cancelled (freed at (grown_book p e d) t conn done.effect) conn done.events) =
-      book_cancelled (Reading L) at (freed at (grown_book p e d) t conn done.effect) conn done.events (freed_book at t (grown_book p e d) conn done.effect items)
-      in
-      let closed : IsBook (Reading L) at _ = book_closed (Reading L) at (cancelled (freed at (grown_book p e d) t conn done.effect) conn done.events) (deleted_by done.changes) ends in (
-        cancelled_waiting (IsWaiting L) (ended left xs) conn done.events
-            (done_waiting (IsWaiting L) left xs
-            (freed_waiting t conn done.effect (answered_waiting put s.book conn msg.tag done.answer own (grown_waiting s.tables conn done.effect quiet.0)))),
-        closed.reads,
-      )
-
-  pub quiet_step : (s : State) (e : Event) → OfMessage L e → IsWell s → IsQuiet s → IsQuiet (step s e)
-  unfolding step
-  quiet_step s (event.Dial conn) own well quiet = quiet
-  quiet_step s (event.Msg conn msg) own well quiet = quiet_message s conn msg own well quiet
-  quiet_step s (event.Hang conn why) own well quiet =
-      let hung : IsBook (Reading L) (s.entries + 1) _ = book_without_fids (Reading L) (s.entries + 1) s.book (fids_of s.tables conn) (book_of s well quiet) in
-      (All-filter (λ w. not (is_waiting_on conn w)) (IsWaiting L) s.tables.waiting quiet.0, hung.reads)
-  quiet_step s (event.Took conn) own well quiet = quiet
-  quiet_step s event.New own well quiet = quiet
-  quiet_step s (event.Key w side text) own well quiet =
-      let e : Event = event.Key w side text in
-      quiet_change s e (said (present s) e (doing_of (present s) e)) (quiet_read s e own well quiet) quiet
-  quiet_step s (event.Sel w range) own well quiet =
-      let e : Event = event.Sel w range in
-      quiet_change s e (said (present s) e (doing_of (present s) e)) (quiet_read s e own well quiet) quiet
+      (left_waiting t k d (said p k d) (grown_waiting p k d own quiet.0), closed.reads)
 
   -- ---- all events
 
   abbrev pub OfMessages : List Event → Type 0
   OfMessages [] = Unit {0}
-  OfMessages (e ∷ events) = OfMessage L e × OfMessages events
+  OfMessages (e ∷ events) = OfMessage L (kind_of e) × OfMessages events
 
   pub quiet_all : (before events : List Event) → ArePlayed enabled before events → OfMessages events → IsWell (run before) → IsQuiet (run before) → All (Tells L) (said_from before events)
   unfolding ArePlayed said_from
   quiet_all before [] played own well quiet = All-nil (Tells L)
   quiet_all before (e ∷ events) played own well quiet =
-      All-append (Tells L) (said (present (run before)) e (doing_of (present (run before)) e)) (said_from (before ++ e ∷ []) events) (quiet_says (run before) e own.0 well quiet)
+      All-append (Tells L) (said (present (run before)) (kind_of e) (doing_of (present (run before)) e)) (said_from (before ++ e ∷ []) events) (quiet_says (run before) e own.0 well quiet)
       (quiet_all (before ++ e ∷ []) events played.2 own.1
       (subst IsWell (sym (run-push before e)) (well_step (run before) e played.1 well))
       (subst IsQuiet (sym (run-push before e)) (quiet_step (run before) e own.0 well quiet)))

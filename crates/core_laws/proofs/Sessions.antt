@@ -12,34 +12,38 @@ use Rattle.ninep_types.specs.declared.message.RBody.{RBody}
 use Rattle.ninep_types.specs.declared.message.RBody.TheVariants as r
 use Rattle.fid_table.specs.declared.session.Session.{Session}
 use Rattle.fid_table.specs.declared.session.Waiting.{Waiting}
-use Rattle.fid_table.specs.Tables.{Tables, is_session, is_waiting, is_waiting_on, msize_in, msize_of, on_session, put_in, taken_from, begun, after_join, after_version}
+use Rattle.fid_table.specs.Tables.{Tables, is_session, is_waiting, is_waiting_on, msize_in, msize_of, on_session, put_in, taken_from, begun, after_join, after_version, after_hangup}
 use Rattle.fid_table.proofs.PlaceLemmas.{find_changed, find_other}
 use Rattle.event_book.specs.BookState.{BookState}
 use Rattle.win_events.specs.declared.item.Origin.TheVariants.{F}
 use Rattle.am_journal.specs.declared.event.Event.{Event}
 use Rattle.am_journal.specs.declared.event.Event.TheVariants as event
-use Rattle.core_answers.specs.declared.effect.Answer.{Answer}
-use Rattle.core_answers.specs.declared.effect.Answer.TheVariants.{Says, Reads}
-use Rattle.core_answers.specs.declared.effect.Deed.{Deed}
-use Rattle.core_answers.specs.declared.effect.Effect.{Effect}
-use Rattle.core_answers.specs.declared.effect.Effect.TheVariants as effect
-use Rattle.core_answers.specs.declared.effect.EventChange.{EventChange}
-use Rattle.core_answers.specs.declared.refusal.Refusal.TheVariants as refusal
-use Rattle.core_answers.specs.Attaching.{is_version, agreed, version_deed}
-use Rattle.core_answers.specs.Deeds.{needs_session, served}
-use Rattle.core_answers.specs.Plainly.{does}
+use Rattle.core_fids.specs.declared.effect.Answer.{Answer}
+use Rattle.core_fids.specs.declared.effect.Answer.TheVariants.{Says, Reads}
+use Rattle.core_fids.specs.declared.effect.Reaction.{Reaction}
+use Rattle.core_fids.specs.declared.effect.Effect.{Effect}
+use Rattle.core_fids.specs.declared.effect.Effect.TheVariants as effect
+use Rattle.core_fids.specs.declared.effect.EventChange.{EventChange}
+use Rattle.core_fids.specs.declared.refusal.Refusal.TheVariants as refusal
+use Rattle.core_fids.specs.Attaching.{is_version, agreed, version_reaction}
+use Rattle.core_answers.specs.Reactions.{needs_session, served, flush_reaction}
+use Rattle.core_fids.specs.Plainly.{does}
 use Rattle.core_windows.specs.declared.change.Change.TheVariants as change
 use Rattle.core_windows.specs.Windows.{Window, world_of}
-use Rattle.core_answers.specs.Fids.{is_there}
-use Rattle.core_answers.specs.Refusals.{refused, refused_with, deed_or_refusal}
+use Rattle.core_fids.specs.Fids.{is_there}
+use Rattle.core_fids.specs.Refusals.{refused, refused_with, reaction_or_refusal}
 use Rattle.core_events.specs.declared.response.Response.{Response}
 use Rattle.core_events.specs.Asking.{read_said, waits_unless}
 use Rattle.core_events.specs.Waits.{ended, without_cancelled}
+use Rattle.acme_core.specs.declared.kind.Kind.TheVariants as kind
 use Rattle.acme_core.specs.Connections.{grown_with, ended_with}
-use Rattle.acme_core.specs.Doings.{message_doing, deed_at, doing_of}
+use Rattle.core_events.specs.Putting.{put_living}
+use Rattle.core_events.specs.Serving.{served_all}
+use Rattle.core_laws.proofs.Playing.{silent_after}
+use Rattle.acme_core.specs.Doings.{message_doing, reaction_at, doing_of}
 use Rattle.acme_core.specs.Run.{step, run}
 use Rattle.acme_core.specs.Stages.{asker_of, answer_tables, said}
-use Rattle.acme_core.specs.States.{Present, State, present, start}
+use Rattle.acme_core.specs.States.{Present, State, present, start, next_entry}
 use Rattle.core_laws.specs.Laws.{FlushesAreAnswered}
 use Rattle.core_laws.specs.Saying.{flush_of, flushed}
 use Rattle.core_laws.proofs.Flushes.{flush_or}
@@ -128,10 +132,11 @@ in_waits t o conn tag fid own h =
     same_in t (waits_unless o t conn tag fid) (by_sessions t (waits_unless o t conn tag fid) (waits_sessions o t conn tag fid)) (waits_unless o t conn tag fid).waiting
     (waits_waiting (InSession t) o t conn tag fid own h)
 
-in_answered : (t : Tables) (b : BookState) (conn tag : ℕ) (a : Answer) → ((fid opening count : ℕ) → a ≡ Reads fid opening count → HasSession t conn) → AreInSession t
-    → AreInSession (answer_tables t b conn tag (Some a))
-in_answered t b conn tag (Says body) own h = h
-in_answered t b conn tag (Reads fid opening count) own h = in_waits t (read_said t b (asker_of conn tag opening count)) conn tag fid (own fid opening count refl) h
+in_answered : (t : Tables) (b : BookState) (conn tag : ℕ) (a : Option Answer) → ((fid opening count : ℕ) → a ≡ Some (Reads fid opening count) → HasSession t conn) → AreInSession t
+    → AreInSession (answer_tables t b conn tag a)
+in_answered t b conn tag None own h = h
+in_answered t b conn tag (Some (Says body)) own h = h
+in_answered t b conn tag (Some (Reads fid opening count)) own h = in_waits t (read_said t b (asker_of conn tag opening count)) conn tag fid (own fid opening count refl) h
 
 -- ---- a read is asked in a session
 
@@ -139,22 +144,22 @@ abbrev is_reads : Answer → Bool
 is_reads (Says body) = false
 is_reads (Reads fid opening count) = true
 
-says_or : (b : Bool) (d e : Deed) → is_reads d.answer ≡ false → is_reads e.answer ≡ false → is_reads (cond b d e).answer ≡ false
+says_or : (b : Bool) (d e : Reaction) → is_reads d.answer ≡ false → is_reads e.answer ≡ false → is_reads (cond b d e).answer ≡ false
 says_or true d e g h = g
 says_or false d e g h = h
 
-version_says : (msize : ℕ) (version : List ℕ) → is_reads (version_deed msize version).answer ≡ false
+version_says : (msize : ℕ) (version : List ℕ) → is_reads (version_reaction msize version).answer ≡ false
 version_says msize version =
     says_or (nat_lt msize 256) (refused_with (effect.Begins None) refusal.MsizeTooSmall) (agreed (min msize 65560) version) refl
     (says_or (is_version version) (does (effect.Begins (Some (min msize 65560))) [] (r.Version (min msize 65560) (codes "9P2000")))
     (does (effect.Begins None) [] (r.Version (min msize 65560) (codes "unknown"))) refl refl)
 
 -- what a message does, by whether a session is missing
-abbrev deed_or : Tables → List (Option Window) → ℕ → ℕ → TBody → Bool → Deed
-deed_or tables windows openings conn body missing =
-    cond (needs_session body && missing) (refused refusal.VersionFirst) (deed_or_refusal (served tables (world_of windows) windows openings conn body))
+abbrev reaction_or : Tables → List (Option Window) → ℕ → ℕ → TBody → Bool → Reaction
+reaction_or tables windows openings conn body missing =
+    cond (needs_session body && missing) (refused refusal.VersionFirst) (reaction_or_refusal (served tables (world_of windows) windows openings conn body))
 
-missing_says : (tables : Tables) (windows : List (Option Window)) (openings conn : ℕ) (body : TBody) → is_reads (deed_or tables windows openings conn body true).answer ≡ false
+missing_says : (tables : Tables) (windows : List (Option Window)) (openings conn : ℕ) (body : TBody) → is_reads (reaction_or tables windows openings conn body true).answer ≡ false
 missing_says tables windows openings conn (t.Version msize version) = version_says msize version
 missing_says tables windows openings conn (t.Auth afid uname aname) = refl
 missing_says tables windows openings conn (t.Flush oldtag) = refl
@@ -170,7 +175,7 @@ missing_says tables windows openings conn (t.Stat fid) = refl
 missing_says tables windows openings conn (t.Wstat fid stat) = refl
 
 asked_in : (tables : Tables) (windows : List (Option Window)) (openings conn : ℕ) (body : TBody) (fid opening count : ℕ) (there : Bool)
-    → (deed_or tables windows openings conn body (not there)).answer ≡ Reads fid opening count → there ≡ true
+    → (reaction_or tables windows openings conn body (not there)).answer ≡ Reads fid opening count → there ≡ true
 asked_in tables windows openings conn body fid opening count true h = refl
 asked_in tables windows openings conn body fid opening count false h =
     absurd (false≢true (sym (missing_says tables windows openings conn body) ∙ ap is_reads h))
@@ -181,29 +186,33 @@ in_message : (s : State) (conn : ℕ) (msg : TMsg) → AreInSession s.tables →
 unfolding step
 in_message s conn msg h =
     let p : Present = present s in
-    let e : Event = event.Msg conn msg in
-    let done : Deed = deed_at p conn msg in
+    let done : Reaction = reaction_at p conn msg in
     let put : Tables = grown_with s.tables conn done.effect in
-    let read : Tables = answer_tables put s.book conn msg.tag (Some done.answer) in
+    let read : Tables = answer_tables put s.scene.book conn msg.tag (Some done.answer) in
     let left : Tables = ended_with read conn done.effect in
-    let xs : List Response = said p e (doing_of p e) in
+    let xs : List Response = said p (kind.Asks conn msg.tag) (doing_of p (event.Msg conn msg)) in
     in_cancelled (ended left xs) conn done.events
     (in_ended left xs
     (in_freed read conn done.effect
-    (in_answered put s.book conn msg.tag done.answer
-    (λ fid opening count is. ap is_there (grown_msize s.tables conn done.effect conn)
-    ∙ asked_in s.tables p.windows (length s.book.owners) conn msg.body fid opening count (is_there (msize_of s.tables conn)) is)
+    (in_answered put s.scene.book conn msg.tag (Some done.answer)
+    (λ fid opening count is.
+    let same : done.answer ≡ Reads fid opening count = cc in
+    ap is_there (grown_msize s.tables conn done.effect conn)
+    ∙ asked_in s.tables p.scene.windows (length s.scene.book.owners) conn msg.body fid opening count (is_there (msize_of s.tables conn)) same)
     (in_grown s.tables conn done.effect h))))
 
 in_step : (s : State) (e : Event) → AreInSession s.tables → AreInSession (step s e).tables
 unfolding step
-in_step s (event.Dial conn) h = same_in s.tables (after_join s.tables conn) (join_msize s.tables conn) s.tables.waiting h
+in_step s (event.Dial conn) h =
+    in_ended (after_join s.tables conn) (said (present s) (kind.Dials conn) (doing_of (present s) (event.Dial conn)))
+    (same_in s.tables (after_join s.tables conn) (join_msize s.tables conn) s.tables.waiting h)
 in_step s (event.Msg conn msg) h = in_message s conn msg h
-in_step s (event.Hang conn why) h = in_version s.tables conn None h
-in_step s (event.Took conn) h = h
-in_step s event.New h = h
-in_step s (event.Key w side text) h = in_ended s.tables (said (present s) (event.Key w side text) (doing_of (present s) (event.Key w side text))) h
-in_step s (event.Sel w range) h = in_ended s.tables (said (present s) (event.Sel w range) (doing_of (present s) (event.Sel w range))) h
+in_step s (event.Hang conn why) h =
+    in_ended (after_hangup s.tables conn) (said (present s) (kind.Ends conn why) (doing_of (present s) (event.Hang conn why))) (in_version s.tables conn None h)
+in_step s (event.Took conn) h = in_ended s.tables (said (present s) (kind.Takes conn) (doing_of (present s) (event.Took conn))) h
+in_step s event.New h = in_ended s.tables (said (present s) kind.Acts (doing_of (present s) event.New)) h
+in_step s (event.Key w side text) h = in_ended s.tables (said (present s) kind.Acts (doing_of (present s) (event.Key w side text))) h
+in_step s (event.Sel w range) h = in_ended s.tables (said (present s) kind.Acts (doing_of (present s) (event.Sel w range))) h
 
 in_fold : (s : State) (events : List Event) → AreInSession s.tables → AreInSession (fold step s events).tables
 in_fold s [] h = h
@@ -223,10 +232,15 @@ any_session t conn tag (w ∷ ws) all h =
       | false ↦ λ e k. any_session t conn tag ws (All-tail (InSession t) w ws all) k
     ] refl h
 
+-- nothing is served, since no read that waits can be answered
+flush_says : (s : Present) (conn tag oldtag : ℕ) → served_all (next_entry s) (put_living [] s.scene.book s.scene.items) ≡ [] → said s (kind.Asks conn tag) (message_doing (flush_reaction oldtag) F) ≡ flushed conn tag ∷ []
+flush_says s conn tag oldtag none = ap (λ (xs : List Response). flushed conn tag ∷ xs) none
+
 pub flushes_answered : FlushesAreAnswered
 flushes_answered before conn tag oldtag waits =
     let s : Present = present (run before) in
     let there : is_there (msize_of s.tables conn) ≡ true = any_session s.tables conn oldtag s.tables.waiting (in_run before) waits in
-    subst (λ (b : Bool). said s (flush_of conn tag oldtag) (message_doing (flush_or (not b) oldtag) F) ≡ flushed conn tag ∷ []) (sym there) refl
+    subst (λ (b : Bool). said s (kind.Asks conn tag) (message_doing (flush_or (not b) oldtag) F) ≡ flushed conn tag ∷ []) (sym there)
+    (flush_says s conn tag oldtag (silent_after before (next_entry s)))
 
 pub ruleset answering = (flushes_answered)

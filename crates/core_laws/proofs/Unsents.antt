@@ -1,18 +1,24 @@
 -- What entries reply is what they leave unsent, but for what they take.
-use Rattle.std.proofs.Common.{◌≡◌, ℕ, zero, suc, ◌<◌, true, false, cond, eqb, List, [], ◌∷◌, ◌++◌, length, fold, refl, sym, ap, subst, ◌∙◌, append_assoc, append-nil, arith}
+use Rattle.std.proofs.Common.{◌≡◌, ℕ, zero, suc, ◌+◌, ◌<◌, true, false, cond, eqb, List, [], ◌∷◌, ◌++◌, length, fold, refl, sym, ap, subst, ◌∙◌, append_assoc, append-nil, arith}
 use Rattle.std.specs.Prelude.{slice_set, replicate}
 use Rattle.std.proofs.lemmas.Bool.{eqb-true, eqb-false}
 use Rattle.std.proofs.lemmas.List.{get_or-set_same, get_or-set_other, length-set, length-replicate}
 use Rattle.am_journal.specs.declared.event.Event.{Event}
 use Rattle.am_journal.specs.declared.event.Event.TheVariants as event
 use Rattle.am_counter.specs.Sent.{sent_by, sent_from}
-use Rattle.acme_core.specs.declared.unsent.Reply.{Reply}
+use Rattle.core_outputs.specs.declared.reply.Reply.{Reply}
+use Rattle.acme_core.specs.Kinds.{kind_of}
 use Rattle.acme_core.specs.Run.{step, run, output_at}
-use Rattle.acme_core.specs.Stages.{said}
+use Rattle.acme_core.specs.declared.kind.Kind.{Kind}
+use Rattle.acme_core.specs.declared.kind.Kind.TheVariants as kind
+use Rattle.acme_core.specs.Stages.{left_unsent, said}
 use Rattle.acme_core.specs.States.{State, present, start}
 use Rattle.acme_core.specs.Doings.{doing_of}
-use Rattle.acme_core.specs.Unsent.{Unsent, nothing_unsent, unsent_at, with_reply, put_reply, put_replies, replies_of, taken}
+use Rattle.acme_core.specs.Replies.{replies_of}
+use Rattle.core_outputs.specs.Unsent.{Unsent, nothing_unsent, unsent_at, with_reply, put_reply, put_replies}
+use Rattle.core_events.specs.declared.response.Response.{Response}
 use Rattle.acme_core.proofs.Goes.{run-push}
+use Rattle.core_laws.proofs.Playing.{silent_after}
 use Rattle.core_laws.specs.Replies.{bytes_to}
 use Rattle.core_laws.proofs.Replying.{replied_by, replied_from, all_replied}
 use Rattle.core_laws.specs.Laws.{RepliesAreSentOrUnsent}
@@ -46,20 +52,18 @@ length_put : (us : List Unsent) (xs : List Reply) → length (put_replies us xs)
 length_put us [] = refl
 length_put us (x ∷ xs) = length_put (put_reply us x) xs ∙ length-set us x.conn (with_reply (unsent_at us x.conn) x.bytes)
 
-length_taken : (us : List Unsent) (e : Event) → length (taken us e) ≡ length us
-length_taken us (event.Dial conn) = refl
-length_taken us (event.Msg conn msg) = refl
-length_taken us (event.Hang conn why) = refl
-length_taken us (event.Took conn) = length-set us conn nothing_unsent
-length_taken us event.New = refl
-length_taken us (event.Key w side text) = refl
-length_taken us (event.Sel w range) = refl
+length_left : (us : List Unsent) (k : Kind) → length (left_unsent us k) ≡ length us
+length_left us (kind.Dials conn) = refl
+length_left us (kind.Asks conn tag) = refl
+length_left us (kind.Ends conn why) = refl
+length_left us (kind.Takes conn) = length-set us conn nothing_unsent
+length_left us kind.Acts = refl
 
 length_step : (s : State) (e : Event) → length (step s e).unsent ≡ length s.unsent
 unfolding step
 length_step s e =
-    let xs : List Reply = replies_of (said (present s) e (doing_of (present s) e)) in
-    length_taken (put_replies s.unsent xs) e ∙ length_put s.unsent xs
+    let xs : List Reply = replies_of (said (present s) (kind_of e) (doing_of (present s) e)) in
+    length_left (put_replies s.unsent xs) (kind_of e) ∙ length_put s.unsent xs
 
 length_all : (s : State) (journal : List Event) → length (fold step s journal).unsent ≡ length s.unsent
 length_all s [] = refl
@@ -85,7 +89,7 @@ taken_at us c conn inside =
 
 -- what a step of this state says
 abbrev said_by : State → Event → List Reply
-said_by s e = replies_of (said (present s) e (doing_of (present s) e))
+said_by s e = replies_of (said (present s) (kind_of e) (doing_of (present s) e))
 
 one : (before : List Event) (e : Event) (conn : ℕ) → conn < length (run before).unsent
     → output_at before conn ++ bytes_to conn (step (run before) e).replies ≡ sent_by output_at conn before e ++ bytes_at (step (run before) e).unsent conn
@@ -93,7 +97,11 @@ unfolding step
 one before (event.Dial c) conn inside = sym (put_all (run before).unsent (said_by (run before) (event.Dial c)) conn inside)
 one before (event.Msg c msg) conn inside = sym (put_all (run before).unsent (said_by (run before) (event.Msg c msg)) conn inside)
 one before (event.Hang c why) conn inside = sym (put_all (run before).unsent (said_by (run before) (event.Hang c why)) conn inside)
-one before (event.Took c) conn inside = taken_at (run before).unsent c conn inside
+one before (event.Took c) conn inside =
+    let s : State = run before in
+    let none : said (present s) (kind.Takes c) (doing_of (present s) (event.Took c)) ≡ [] = silent_after before (s.entries + 1) in
+    subst (λ (xs : List Response). output_at before conn ++ bytes_to conn (replies_of xs) ≡ cond (eqb c conn) (bytes_at s.unsent c) [] ++ bytes_at (slice_set (put_replies s.unsent (replies_of xs)) c nothing_unsent) conn)
+    (sym none) (taken_at s.unsent c conn inside)
 one before event.New conn inside = sym (put_all (run before).unsent (said_by (run before) event.New) conn inside)
 one before (event.Key w side text) conn inside = sym (put_all (run before).unsent (said_by (run before) (event.Key w side text)) conn inside)
 one before (event.Sel w range) conn inside = sym (put_all (run before).unsent (said_by (run before) (event.Sel w range)) conn inside)

@@ -9,7 +9,7 @@ use Rattle.ninep_types.specs.declared.message.RBody.{RBody}
 use Rattle.fid_table.specs.declared.types.Fid.{Fid}
 use Rattle.fid_table.specs.declared.session.Waiting.{Waiting}
 use Rattle.fid_table.specs.Tables.{Tables, nothing, fid_of, fids_of, is_waiting, is_waiting_on, after_join, after_done, after_hangup, after_put, after_take, after_version}
-use Rattle.core_events.specs.declared.putting.WindowItem.{WindowItem}
+use Rattle.core_scene.specs.declared.deed.WindowItem.{WindowItem}
 use Rattle.wait_queue.specs.declared.types.Asker.{Asker}
 use Rattle.wait_queue.specs.declared.types.Asked.{Asked}
 use Rattle.wait_queue.specs.declared.types.Asked.TheVariants.{Now, Waits}
@@ -20,32 +20,36 @@ use Rattle.am_journal.specs.declared.ending.Ending.{Ending}
 use Rattle.am_journal.specs.declared.event.Event.{Event}
 use Rattle.am_journal.specs.declared.event.Event.TheVariants as event
 use Rattle.am_journal.specs.declared.event.Why.{Why}
-use Rattle.core_answers.specs.declared.effect.Answer.{Answer}
-use Rattle.core_answers.specs.declared.effect.Answer.TheVariants.{Says, Reads}
-use Rattle.core_answers.specs.declared.effect.Deed.{Deed}
-use Rattle.core_answers.specs.declared.effect.Effect.{Effect}
-use Rattle.core_answers.specs.declared.effect.Effect.TheVariants as effect
-use Rattle.core_answers.specs.declared.effect.EventChange.{EventChange}
-use Rattle.core_answers.specs.declared.effect.EventChange.TheVariants as events
+use Rattle.core_fids.specs.declared.effect.Answer.{Answer}
+use Rattle.core_fids.specs.declared.effect.Answer.TheVariants.{Says, Reads}
+use Rattle.core_fids.specs.declared.effect.Reaction.{Reaction}
+use Rattle.core_fids.specs.declared.effect.Effect.{Effect}
+use Rattle.core_fids.specs.declared.effect.Effect.TheVariants as effect
+use Rattle.core_fids.specs.declared.effect.EventChange.{EventChange}
+use Rattle.core_fids.specs.declared.effect.EventChange.TheVariants as events
 use Rattle.core_events.specs.declared.response.Response.{Response}
 use Rattle.core_events.specs.Asking.{is_full, opened, read_said, book_asked, book_read, waits_unless}
 use Rattle.core_events.specs.Closing.{freed, cancelled, closed_with, opening_in, without_fids, without_opening}
-use Rattle.core_events.specs.Putting.{put_all}
+use Rattle.core_events.specs.Putting.{put_living, put_all, ending}
+use Rattle.core_events.specs.Serving.{book_served_all}
 use Rattle.core_events.specs.Waits.{deleted_by, ended, without_cancelled}
 use Rattle.acme_core.specs.declared.connection.Connection.{Connection}
 use Rattle.acme_core.specs.declared.connection.Connection.TheVariants.{Undialed, Live, Ended}
 use Rattle.acme_core.specs.declared.doing.Doing.{Doing}
-use Rattle.acme_core.specs.Connections.{connection_at, is_live, grown_with, ended_with}
-use Rattle.acme_core.specs.Doings.{enabled_at, deed_at, doing_of}
+use Rattle.acme_core.specs.declared.kind.Kind.{Kind}
+use Rattle.acme_core.specs.declared.kind.Kind.TheVariants as kind
+use Rattle.acme_core.specs.Connections.{connection_at, connections_after, is_live, grown_with, ended_with}
+use Rattle.acme_core.specs.Kinds.{kind_of}
+use Rattle.acme_core.specs.Doings.{enabled_at, reaction_at, doing_of}
 use Rattle.acme_core.specs.Enabled.{first_why, live_refusal}
 use Rattle.acme_core.specs.Run.{step, run, enabled}
-use Rattle.acme_core.specs.Stages.{asker_of, answer_book, answer_tables, grown_tables, read_book, items_made, serves, book_served, grown_book, said}
-use Rattle.acme_core.specs.States.{Present, State, present, start}
+use Rattle.acme_core.specs.Stages.{asker_of, answer_book, answer_tables, acted, grown_tables, read_book, put_book, grown_book, left_book, ended_tables, tables_after, book_after, said}
+use Rattle.acme_core.specs.States.{Present, State, present, start, next_entry}
 use Rattle.acme_core.proofs.Goes.{run-push}
 use Rattle.acme_core.proofs.Joins.{elsewhere}
 use Rattle.core_laws.proofs.Fids.{AllFids, no_fids, fids_weaker, fids_at, IsHeld, fids_join, fids_put, fids_take, fids_version, fids_same, held_join, held_put, held_take, held_version, held_same}
-use Rattle.core_laws.proofs.Books.{IsBook, IsApart, book_weaker, book_later, book_opened, book_put_all, book_ask, book_serve_all, book_without, book_without_fids, book_cancelled, book_closed, without_none, fids_none}
-use Rattle.core_laws.proofs.Deeds.{IsModed, PutsSane, HasOpening, ReadsSane, IsSane, deed_sane}
+use Rattle.core_laws.proofs.Books.{IsBook, IsApart, book_weaker, book_later, book_opened, book_put_living, book_put_all, book_ask, book_serve_all, book_without, book_without_fids, book_cancelled, book_closed, without_none, fids_none}
+use Rattle.core_laws.proofs.Reactions.{IsModed, PutsSane, HasOpening, ReadsSane, IsSane, reaction_sane}
 
 -- ---- connections
 
@@ -65,7 +69,7 @@ pub message_lives : (s : Present) (conn : ℕ) (msg : TMsg) → enabled_at s (ev
 message_lives s conn msg e = live_if (connection_at s.connections conn) (first_none (live_refusal (connection_at s.connections conn)) _ e)
 
 -- a connection that is dialled lives, and the others stay
-dial_lives : (cs : List Connection) (c x : ℕ) → Lives cs x → Lives (slice_set cs c Live) x
+pub dial_lives : (cs : List Connection) (c x : ℕ) → Lives cs x → Lives (slice_set cs c Live) x
 dial_lives [] c x h = h
 dial_lives (v ∷ cs) zero zero h = refl
 dial_lives (v ∷ cs) zero (suc x) h = h
@@ -89,7 +93,7 @@ pub record AreWell (cs : List Connection) (t : Tables) (at : ℕ) (b : BookState
   pub book : IsBook (IsHeld t) at b
 
 abbrev pub IsWell : State → Type 0
-IsWell s = AreWell s.connections s.tables s.entries s.book
+IsWell s = AreWell s.connections s.tables s.entries s.scene.book
 
 -- ---- reads that wait no more
 
@@ -163,11 +167,16 @@ pub waits_waiting : (P : Waiting → Type 0) (o : Option RBody) (t : Tables) (co
 waits_waiting P None t conn tag fid own h = All-push P t.waiting (record { conn = conn; tag = tag; fid = fid }) h own
 waits_waiting P (Some x) t conn tag fid own h = h
 
-well_answered : (cs : List Connection) (t : Tables) (at : ℕ) (b : BookState) (conn tag : ℕ) (a : Answer) → Lives cs conn
-    → ((fid opening count : ℕ) → a ≡ Reads fid opening count → IsHeld t (asker_of conn tag opening count)) → AreWell cs t at b
-    → AreWell cs (answer_tables t b conn tag (Some a)) at (answer_book t b conn tag (Some a) at)
-well_answered cs t at b conn tag (Says body) live own well = well
-well_answered cs t at b conn tag (Reads fid opening count) live own well =
+-- a read is one of an opening that a fid has
+unfoldable pub AsksSane : Tables → ℕ → ℕ → Option Answer → Type 0
+AsksSane t conn tag a = (fid opening count : ℕ) → a ≡ Some (Reads fid opening count) → IsHeld t (asker_of conn tag opening count)
+
+well_answered : (cs : List Connection) (t : Tables) (at : ℕ) (b : BookState) (conn tag : ℕ) (a : Option Answer) → Lives cs conn → AsksSane t conn tag a → AreWell cs t at b
+    → AreWell cs (answer_tables t b conn tag a) at (answer_book t b conn tag a at)
+unfolding AsksSane
+well_answered cs t at b conn tag None live own well = well
+well_answered cs t at b conn tag (Some (Says body)) live own well = well
+well_answered cs t at b conn tag (Some (Reads fid opening count)) live own well =
     let r : Asker = asker_of conn tag opening count in
     let o : Option RBody = read_said t b r in
     record {
@@ -177,19 +186,16 @@ well_answered cs t at b conn tag (Reads fid opening count) live own well =
           (reading_book (IsHeld t) at t b r (own fid opening count refl) well.book);
     }
 
-pub served_book : (P : Asker → Type 0) (at : ℕ) (serves : Bool) (b : BookState) → IsBook P at b → IsBook P at (book_served serves at b)
-served_book P at true b book = book_serve_all P at b book
-served_book P at false b book = book
+-- an opening joins, items come, and reads are served
+pub items_book : (P : Asker → Type 0) (s : Present) (k : Kind) (d : Doing) → IsBook P (next_entry s) (read_book s k d) → IsBook P (next_entry s) (grown_book s k d)
+items_book P s k d book =
+    let at : ℕ = next_entry s in
+    let items : List WindowItem = (acted s d).items in
+    let put : IsBook P at (put_book s k d) = book_put_living P at (deleted_by d.deeds) _ items (book_opened P at (read_book s k d) d.events book) in
+    book_put_all P at (book_served_all at (put_book s k d)) (ending (deleted_by d.deeds) items) (book_serve_all P at (put_book s k d) put)
 
--- items come, and reads are served
-pub items_book : (P : Asker → Type 0) (at : ℕ) (b : BookState) (e : EventChange) (items : List WindowItem) (serves : Bool) → IsBook P at b
-    → IsBook P at (book_served serves at (put_all (opened b e) items))
-items_book P at b e items serves book =
-    served_book P at serves (put_all (opened b e) items) (book_put_all P at (opened b e) items (book_opened P at b e book))
-
-well_items : (cs : List Connection) (t : Tables) (at : ℕ) (b : BookState) (e : EventChange) (items : List WindowItem) (serves : Bool) → AreWell cs t at b
-    → AreWell cs t at (book_served serves at (put_all (opened b e) items))
-well_items cs t at b e items serves well = record { fids = well.fids; waiting = well.waiting; book = items_book (IsHeld t) at b e items serves well.book }
+well_items : (cs : List Connection) (t : Tables) (s : Present) (k : Kind) (d : Doing) → AreWell cs t (next_entry s) (read_book s k d) → AreWell cs t (next_entry s) (grown_book s k d)
+well_items cs t s k d well = record { fids = well.fids; waiting = well.waiting; book = items_book (IsHeld t) s k d well.book }
 
 -- ---- what ends
 
@@ -236,7 +242,7 @@ well_freed cs t at b conn (effect.Frees number) well = record {
   book = freed_one t at b conn number well.book;
 }
 
-well_closed : (cs : List Connection) (t : Tables) (at : ℕ) (b : BookState) (o : Option ℕ) → AreWell cs t at b → AreWell cs t at (closed_with at b o)
+well_closed : (cs : List Connection) (t : Tables) (at : ℕ) (b : BookState) (o : List ℕ) → AreWell cs t at b → AreWell cs t at (closed_with at b o)
 well_closed cs t at b o well = record { fids = well.fids; waiting = well.waiting; book = book_closed (IsHeld t) at b o well.book }
 
 -- a hang-up
@@ -255,85 +261,103 @@ well_hung cs t at b conn why well =
 
 -- ---- one event
 
-pub later : (s : State) → IsWell s → AreWell s.connections s.tables (s.entries + 1) s.book
-later s well = record { fids = well.fids; waiting = well.waiting; book = book_later (IsHeld s.tables) s.entries (s.entries + 1) s.book (omega arith) well.book }
+pub later : (s : State) → IsWell s → AreWell s.connections s.tables (s.entries + 1) s.scene.book
+later s well = record { fids = well.fids; waiting = well.waiting; book = book_later (IsHeld s.tables) s.entries (s.entries + 1) s.scene.book (omega arith) well.book }
 
-well_dial : (s : State) (conn : ℕ) → IsWell s → IsWell (step s (event.Dial conn))
-unfolding step
-well_dial s conn well =
-    let now : List Connection = slice_set s.connections conn Live in
+-- a connection that is dialled
+well_dialed : (cs : List Connection) (t : Tables) (at : ℕ) (b : BookState) (conn : ℕ) → AreWell cs t at b → AreWell (slice_set cs conn Live) (after_join t conn) at b
+well_dialed cs t at b conn well =
+    let now : List Connection = slice_set cs conn Live in
     record {
-      fids = fids_join (IsOfLive now) s.tables conn
-          (fids_weaker (IsOfLive s.connections) (IsOfLive now) s.tables (λ c f h. (dial_lives s.connections conn c h.0, h.1)) well.fids);
-      waiting = All-weaker (WaitsOnLive s.connections) (WaitsOnLive now) (λ w h. dial_lives s.connections conn w.conn h) s.tables.waiting well.waiting;
-      book = book_weaker (IsHeld s.tables) (IsHeld (after_join s.tables conn)) (s.entries + 1) s.book (λ r h. held_join s.tables conn r h) (later s well).book;
+      fids = fids_join (IsOfLive now) t conn (fids_weaker (IsOfLive cs) (IsOfLive now) t (λ c f h. (dial_lives cs conn c h.0, h.1)) well.fids);
+      waiting = All-weaker (WaitsOnLive cs) (WaitsOnLive now) (λ w h. dial_lives cs conn w.conn h) t.waiting well.waiting;
+      book = book_weaker (IsHeld t) (IsHeld (after_join t conn)) at b (λ r h. held_join t conn r h) well.book;
     }
 
+-- the connections while what an event makes is made
+unfoldable pub begun : List Connection → Kind → List Connection
+begun cs (kind.Dials conn) = slice_set cs conn Live
+begun cs (kind.Asks conn tag) = cs
+begun cs (kind.Ends conn why) = cs
+begun cs (kind.Takes conn) = cs
+begun cs kind.Acts = cs
+
+-- the connection of a message lives, and the message puts and reads what it may
+unfoldable pub IsOwn : Present → Kind → Doing → Type 0
+IsOwn s (kind.Dials conn) d = Unit {0}
+IsOwn s (kind.Asks conn tag) d = Lives s.connections conn × PutsSane s.tables conn d.effect × AsksSane (grown_with s.tables conn d.effect) conn tag d.answer
+IsOwn s (kind.Ends conn why) d = Unit {0}
+IsOwn s (kind.Takes conn) d = Unit {0}
+IsOwn s kind.Acts d = Unit {0}
+
+-- with what the message puts, and takes of its opening
+pub well_read : (s : Present) (k : Kind) (d : Doing) → IsOwn s k d → AreWell s.connections s.tables (next_entry s) s.scene.book
+    → AreWell (begun s.connections k) (grown_tables s k d) (next_entry s) (read_book s k d)
+unfolding begun IsOwn
+well_read s (kind.Dials conn) d own well = well_dialed s.connections s.tables (next_entry s) s.scene.book conn well
+well_read s (kind.Asks conn tag) d own well =
+    well_answered s.connections (grown_with s.tables conn d.effect) (next_entry s) s.scene.book conn tag d.answer own.0 own.2
+    (well_grown s.connections s.tables (next_entry s) s.scene.book conn d.effect own.0 own.1 well)
+well_read s (kind.Ends conn why) d own well = well
+well_read s (kind.Takes conn) d own well = well
+well_read s kind.Acts d own well = well
+
+well_left : (cs : List Connection) (t : Tables) (at : ℕ) (b : BookState) (k : Kind) (d : Doing) (xs : List Response) → AreWell (begun cs k) t at b
+    → AreWell (connections_after cs k) (ended_tables t k d xs) at (left_book at t k d b)
+unfolding begun
+well_left cs t at b (kind.Dials conn) d xs well = well_ended (slice_set cs conn Live) t at b xs well
+well_left cs t at b (kind.Asks conn tag) d xs well =
+    let left : Tables = ended_with t conn d.effect in
+    let free : BookState = freed at b t conn d.effect in
+    well_cancelled cs (ended left xs) at free conn d.events (well_ended cs left at free xs (well_freed cs t at b conn d.effect well))
+well_left cs t at b (kind.Ends conn why) d xs well =
+    well_ended (slice_set cs conn (Ended why)) (after_hangup t conn) at (without_fids at b t conn) xs (well_hung cs t at b conn why well)
+well_left cs t at b (kind.Takes conn) d xs well = well_ended cs t at b xs well
+well_left cs t at b kind.Acts d xs well = well_ended cs t at b xs well
+
+well_kind : (s : Present) (k : Kind) (d : Doing) → IsOwn s k d → AreWell s.connections s.tables (next_entry s) s.scene.book
+    → AreWell (connections_after s.connections k) (tables_after s k d) (next_entry s) (book_after s k d)
+well_kind s k d own well =
+    well_closed (connections_after s.connections k) (tables_after s k d) (next_entry s) (left_book (next_entry s) (grown_tables s k d) k d (grown_book s k d)) (deleted_by d.deeds)
+    (well_left s.connections (grown_tables s k d) (next_entry s) (grown_book s k d) k d (said s k d)
+    (well_items (begun s.connections k) (grown_tables s k d) s k d (well_read s k d own well)))
+
 -- what holds of the fids of a connection
-pub moded : (s : State) (conn : ℕ) → IsWell s → (number : ℕ) (f : Fid) → fid_of s.tables conn number ≡ Some f → IsModed f
+moded : (s : State) (conn : ℕ) → IsWell s → (number : ℕ) (f : Fid) → fid_of s.tables conn number ≡ Some f → IsModed f
 moded s conn well number f e = (fids_at (IsOfLive s.connections) s.tables conn number f well.fids e).1
 
 -- the read of a message is one of an opening that a fid has
-own_held : (t : Tables) (conn tag : ℕ) (e : Effect) (a : Answer) → ReadsSane t conn e a → (fid opening count : ℕ) → a ≡ Reads fid opening count
-    → IsHeld (grown_with t conn e) (asker_of conn tag opening count)
+own_held : (t : Tables) (conn tag : ℕ) (e : Effect) (a : Answer) → ReadsSane t conn e a → AsksSane (grown_with t conn e) conn tag (Some a)
+unfolding AsksSane
 own_held t conn tag e a sane fid opening count is =
-    let reads : (e ≡ effect.Nothing) × HasOpening t conn fid opening = subst (ReadsSane t conn e) is sane in
+    let same : a ≡ Reads fid opening count = cc in
+    let reads : (e ≡ effect.Nothing) × HasOpening t conn fid opening = subst (ReadsSane t conn e) same sane in
     let has : HasOpening t conn fid opening = reads.1 in
     subst (λ (x : Effect). IsHeld (grown_with t conn x) (asker_of conn tag opening count)) (sym reads.0)
     (record { number = fid; fid = has.fid; is = has.is; opens = has.opens })
 
--- with what the message puts, and takes of its opening
-pub well_read : (s : State) (conn : ℕ) (msg : TMsg) → enabled_at (present s) (event.Msg conn msg) ≡ None → IsWell s
-    → AreWell s.connections (grown_tables (present s) (event.Msg conn msg) (doing_of (present s) (event.Msg conn msg))) (s.entries + 1)
-    (read_book (present s) (event.Msg conn msg) (doing_of (present s) (event.Msg conn msg)))
-well_read s conn msg allowed well =
+own_message : (s : State) (conn : ℕ) (msg : TMsg) → enabled_at (present s) (event.Msg conn msg) ≡ None → IsWell s
+    → IsOwn (present s) (kind.Asks conn msg.tag) (doing_of (present s) (event.Msg conn msg))
+unfolding IsOwn
+own_message s conn msg allowed well =
     let p : Present = present s in
-    let done : Deed = deed_at p conn msg in
-    let sane : IsSane s.tables conn done = deed_sane s.tables conn (moded s conn well) p.windows (length s.book.owners) msg.body in
-    let live : Lives s.connections conn = message_lives p conn msg allowed in
-    let put : Tables = grown_with s.tables conn done.effect in
-    well_answered s.connections put (s.entries + 1) s.book conn msg.tag done.answer live (own_held s.tables conn msg.tag done.effect done.answer sane.1)
-    (well_grown s.connections s.tables (s.entries + 1) s.book conn done.effect live sane.0 (later s well))
+    let done : Reaction = reaction_at p conn msg in
+    let sane : IsSane s.tables conn done = reaction_sane s.tables conn (moded s conn well) p.scene.windows (length s.scene.book.owners) msg.body in
+    (message_lives p conn msg allowed, sane.0, own_held s.tables conn msg.tag done.effect done.answer sane.1)
 
-well_msg : (s : State) (conn : ℕ) (msg : TMsg) → enabled_at (present s) (event.Msg conn msg) ≡ None → IsWell s → IsWell (step s (event.Msg conn msg))
-unfolding step
-well_msg s conn msg allowed well =
-    let p : Present = present s in
-    let e : Event = event.Msg conn msg in
-    let d : Doing = doing_of p e in
-    let at : ℕ = s.entries + 1 in
-    let t : Tables = grown_tables p e d in
-    let b : BookState = grown_book p e d in
-    let xs : List Response = said p e d in
-    let cs : List Connection = s.connections in
-    let left : Tables = ended_with t conn d.effect in
-    let freed_book : BookState = freed at b t conn d.effect in
-    well_closed cs (without_cancelled (ended left xs) conn d.events) at (cancelled freed_book conn d.events) (deleted_by d.changes)
-    (well_cancelled cs (ended left xs) at freed_book conn d.events
-    (well_ended cs left at freed_book xs
-    (well_freed cs t at b conn d.effect
-    (well_items cs t at (read_book p e d) d.events (items_made p d) (serves p d) (well_read s conn msg allowed well)))))
-
--- an event that only changes windows
-well_change : (s : State) (d : Doing) (xs : List Response) → IsWell s
-    → AreWell s.connections (ended s.tables xs) (s.entries + 1) (book_served (serves (present s) d) (s.entries + 1) (put_all s.book (items_made (present s) d)))
-well_change s d xs well =
-    well_ended s.connections s.tables (s.entries + 1) _ xs
-    (well_items s.connections s.tables (s.entries + 1) s.book events.Nothing (items_made (present s) d) (serves (present s) d) (later s well))
+pub own : (s : State) (e : Event) → enabled_at (present s) e ≡ None → IsWell s → IsOwn (present s) (kind_of e) (doing_of (present s) e)
+unfolding IsOwn
+own s (event.Dial conn) allowed well = tt
+own s (event.Msg conn msg) allowed well = own_message s conn msg allowed well
+own s (event.Hang conn why) allowed well = tt
+own s (event.Took conn) allowed well = tt
+own s event.New allowed well = tt
+own s (event.Key w side text) allowed well = tt
+own s (event.Sel w range) allowed well = tt
 
 pub well_step : (s : State) (e : Event) → enabled_at (present s) e ≡ None → IsWell s → IsWell (step s e)
 unfolding step
-well_step s (event.Dial conn) allowed well = well_dial s conn well
-well_step s (event.Msg conn msg) allowed well = well_msg s conn msg allowed well
-well_step s (event.Hang conn why) allowed well = well_hung s.connections s.tables (s.entries + 1) s.book conn why (later s well)
-well_step s (event.Took conn) allowed well = later s well
-well_step s event.New allowed well = later s well
-well_step s (event.Key w side text) allowed well =
-    let e : Event = event.Key w side text in
-    well_change s (doing_of (present s) e) (said (present s) e (doing_of (present s) e)) well
-well_step s (event.Sel w range) allowed well =
-    let e : Event = event.Sel w range in
-    well_change s (doing_of (present s) e) (said (present s) e (doing_of (present s) e)) well
+well_step s e allowed well = well_kind (present s) (kind_of e) (doing_of (present s) e) (own s e allowed well) (later s well)
 
 -- ---- all events
 

@@ -6,8 +6,9 @@ use Rattle.wait_queue.specs.Reads.{is_read}
 use Rattle.am_journal.specs.declared.event.Event.{Event}
 use Rattle.am_counter.specs.Played.{IsPrefix, IsPlayed, has_hang}
 use Rattle.am_counter.specs.Sent.{sent}
+use Rattle.core_events.specs.Sound.{IsIdle}
 use Rattle.acme_core.specs.Run.{run, enabled, output_at}
-use Rattle.acme_core.specs.Unsent.{replies_of}
+use Rattle.acme_core.specs.Replies.{replies_of}
 use Rattle.core_laws.specs.Replies.{replies}
 use Rattle.core_laws.specs.Saying.{said_after, said_from, is_told, is_message, flush_of, flushed}
 
@@ -41,7 +42,7 @@ FlushesAreAnswered =
 -- no read with this tag on this connection waits after a journal
 pub record IsFree (journal : List Event) (conn tag : ℕ) : Type 0 where
   pub waiting : list_any (is_waiting conn tag) (run journal).tables.waiting ≡ false
-  pub reads : list_any (is_read conn tag) (run journal).book.reads ≡ false
+  pub reads : list_any (is_read conn tag) (run journal).scene.book.reads ≡ false
 
 -- Behind a Tflush that was answered by Rflush alone no read waits with the tag that it names, and nothing is said to that tag, up to the
 -- next message of that tag.
@@ -51,3 +52,7 @@ NothingToAFlushedTag =
     → said_after before (flush_of conn tag oldtag) ≡ flushed conn tag ∷ [] → list_any (is_message conn oldtag) behind ≡ false
     → IsFree (before ++ flush_of conn tag oldtag ∷ behind) conn oldtag
     × All (λ x. is_told conn oldtag x ≡ false) (said_from (before ++ flush_of conn tag oldtag ∷ []) behind)
+
+-- Between entries no read that waits can be answered: there is nothing for it yet.
+abbrev pub NoReadCanBeAnswered : Type 0
+NoReadCanBeAnswered = (journal : List Event) → IsIdle (run journal).scene.book

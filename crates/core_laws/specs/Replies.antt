@@ -1,7 +1,7 @@
 -- The replies that a journal makes.
 use Rattle.std.specs.Prelude.{ℕ, ◌==◌, List, [], ◌∷◌, ◌++◌, if◌then◌else◌}
 use Rattle.am_journal.specs.declared.event.Event.{Event}
-use Rattle.acme_core.specs.declared.unsent.Reply.{Reply}
+use Rattle.core_outputs.specs.declared.reply.Reply.{Reply}
 use Rattle.acme_core.specs.Run.{step}
 use Rattle.acme_core.specs.States.{State, start}
 

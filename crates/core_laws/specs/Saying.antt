@@ -5,13 +5,16 @@ use Rattle.ninep_types.specs.declared.message.TBody.TheVariants as t
 use Rattle.am_journal.specs.declared.event.Event.{Event}
 use Rattle.am_journal.specs.declared.event.Event.TheVariants as event
 use Rattle.core_events.specs.declared.response.Response.{Response}
+use Rattle.acme_core.specs.declared.kind.Kind.{Kind}
+use Rattle.acme_core.specs.declared.kind.Kind.TheVariants as kind
 use Rattle.acme_core.specs.Doings.{doing_of}
+use Rattle.acme_core.specs.Kinds.{kind_of}
 use Rattle.acme_core.specs.Run.{present_after}
 use Rattle.acme_core.specs.Stages.{response, said}
 
 -- what an entry says, after the entries before it
 abbrev pub said_after : List Event → Event → List Response
-said_after before e = said (present_after before) e (doing_of (present_after before) e)
+said_after before e = said (present_after before) (kind_of e) (doing_of (present_after before) e)
 
 -- what entries say, each after those before it
 unfoldable pub said_from : List Event → List Event → List Response
@@ -23,14 +26,15 @@ abbrev pub is_told : ℕ → ℕ → Response → Bool
 is_told conn tag x = (x.conn == conn) && (x.message.tag == tag)
 
 -- whether it is a message of this tag on this connection
+abbrev pub asks : ℕ → ℕ → Kind → Bool
+asks conn tag (kind.Dials c) = false
+asks conn tag (kind.Asks c t) = (c == conn) && (t == tag)
+asks conn tag (kind.Ends c why) = false
+asks conn tag (kind.Takes c) = false
+asks conn tag kind.Acts = false
+
 abbrev pub is_message : ℕ → ℕ → Event → Bool
-is_message conn tag (event.Dial c) = false
-is_message conn tag (event.Msg c msg) = (c == conn) && (msg.tag == tag)
-is_message conn tag (event.Hang c why) = false
-is_message conn tag (event.Took c) = false
-is_message conn tag event.New = false
-is_message conn tag (event.Key w side text) = false
-is_message conn tag (event.Sel w range) = false
+is_message conn tag e = asks conn tag (kind_of e)
 
 -- a Tflush with this tag, for an older one, and its answer
 abbrev pub flush_of : ℕ → ℕ → ℕ → Event

@@ -1,6 +1,6 @@
 //! Laws of all journals.
 
-ghost use Rattle.core_laws.specs.Laws.{RepliesAreSentOrUnsent, NothingAfterTheHangUp, EndedGetAllReplies, RepliesAreSaid, FlushesAreAnswered, NothingToAFlushedTag};
+ghost use Rattle.core_laws.specs.Laws.{RepliesAreSentOrUnsent, NothingAfterTheHangUp, EndedGetAllReplies, RepliesAreSaid, FlushesAreAnswered, NothingToAFlushedTag, NoReadCanBeAnswered};
 
 /// All that was ever replied to a connection is what was sent to it, and then what is unsent.
 #[tactic(auto, using(crate::proofs::Unsents::sent_or_unsent))]
@@ -23,4 +23,10 @@ pub fn flushed_reads_are_not_answered()
     ensures said { RepliesAreSaid }
     ensures answered { FlushesAreAnswered }
     ensures behind { NothingToAFlushedTag }
+{}
+
+/// Between entries no read that waits can be answered: an entry answers the oldest that can be, until none can.
+#[tactic(auto, using(crate::proofs::Flushes::waiting))]
+pub fn no_waiting_read_can_be_answered()
+    ensures { NoReadCanBeAnswered }
 {}

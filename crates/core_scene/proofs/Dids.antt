@@ -43,11 +43,27 @@ windows_done : (e : Entry) (s : SceneState) (ds : List Deed) → all_changed e.a
 windows_done e s [] = refl
 windows_done e s (deed.Windows c ∷ ds) = windows_done e (done e s (deed.Windows c)) ds
 windows_done e s (deed.Item w item ∷ ds) = windows_done e (done e s (deed.Item w item)) ds
+windows_done e s (deed.Snarfs text ∷ ds) = windows_done e (done e s (deed.Snarfs text)) ds
+windows_done e s (deed.Stores path bytes ∷ ds) = windows_done e (done e s (deed.Stores path bytes)) ds
+windows_done e s (deed.MakesDir path ∷ ds) = windows_done e (done e s (deed.MakesDir path)) ds
+windows_done e s (deed.Requests job ∷ ds) = windows_done e (done e s (deed.Requests job)) ds
+windows_done e s (deed.AddsRules sets vars text ∷ ds) = windows_done e (done e s (deed.AddsRules sets vars text)) ds
+windows_done e s (deed.ClearsRules ∷ ds) = windows_done e (done e s (deed.ClearsRules)) ds
+windows_done e s (deed.AddsPort name ∷ ds) = windows_done e (done e s (deed.AddsPort name)) ds
+windows_done e s (deed.Delivers port message keep ∷ ds) = windows_done e (done e s (deed.Delivers port message keep)) ds
 
 can_change_all : (e : Entry) (s : SceneState) (ds : List Deed) → CanDoAll e s ds → CanChangeAll e.at s.windows (changes_in ds)
 can_change_all e s [] h = tt
 can_change_all e s (deed.Windows c ∷ ds) h = (h.0, can_change_all e (done e s (deed.Windows c)) ds h.1)
 can_change_all e s (deed.Item w item ∷ ds) h = can_change_all e (done e s (deed.Item w item)) ds h.1
+can_change_all e s (deed.Snarfs text ∷ ds) h = can_change_all e (done e s (deed.Snarfs text)) ds h.1
+can_change_all e s (deed.Stores path bytes ∷ ds) h = can_change_all e (done e s (deed.Stores path bytes)) ds h.1
+can_change_all e s (deed.MakesDir path ∷ ds) h = can_change_all e (done e s (deed.MakesDir path)) ds h.1
+can_change_all e s (deed.Requests job ∷ ds) h = can_change_all e (done e s (deed.Requests job)) ds h.1
+can_change_all e s (deed.AddsRules sets vars text ∷ ds) h = can_change_all e (done e s (deed.AddsRules sets vars text)) ds h.1
+can_change_all e s (deed.ClearsRules ∷ ds) h = can_change_all e (done e s (deed.ClearsRules)) ds h.1
+can_change_all e s (deed.AddsPort name ∷ ds) h = can_change_all e (done e s (deed.AddsPort name)) ds h.1
+can_change_all e s (deed.Delivers port message keep ∷ ds) h = can_change_all e (done e s (deed.Delivers port message keep)) ds h.1
 
 pub deeds_shown : ChangesShow → ChangesAreLawful → DeedsShow
 deeds_shown shows lawful e stories s ds same are can =

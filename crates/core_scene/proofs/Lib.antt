@@ -1,2 +1,4 @@
 pub mod Dids
 pub mod Joined
+pub mod Possible
+pub mod Settled

@@ -1,3 +1,4 @@
 pub mod Told
 pub mod Scenes
+pub mod Changing
 pub mod SceneLaws

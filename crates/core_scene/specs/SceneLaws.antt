@@ -16,6 +16,14 @@ abbrev pub changes_in : List Deed → List Change
 changes_in [] = []
 changes_in (deed.Windows c ∷ ds) = c ∷ changes_in ds
 changes_in (deed.Item w item ∷ ds) = changes_in ds
+changes_in (deed.Snarfs text ∷ ds) = changes_in ds
+changes_in (deed.Stores path bytes ∷ ds) = changes_in ds
+changes_in (deed.MakesDir path ∷ ds) = changes_in ds
+changes_in (deed.Requests job ∷ ds) = changes_in ds
+changes_in (deed.AddsRules sets vars text ∷ ds) = changes_in ds
+changes_in (deed.ClearsRules ∷ ds) = changes_in ds
+changes_in (deed.AddsPort name ∷ ds) = changes_in ds
+changes_in (deed.Delivers port message keep ∷ ds) = changes_in ds
 
 pub record AreShown (e : Entry) (stories : List (Option WindowStory)) (s : SceneState) (ds : List Deed) : Type 0 where
   pub shown : shown_windows (all_changed_stories e.at stories (changes_in ds)) ≡ (done_all e s ds).windows

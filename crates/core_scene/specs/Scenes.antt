@@ -1,7 +1,15 @@
 -- The scene that a step plays on, and what deeds make of it.
-use Rattle.std.specs.Prelude.{◌≡◌, List, [], ◌∷◌, ◌++◌, Option}
-use Rattle.event_book.specs.BookState.{BookState}
+use Rattle.std.specs.Prelude.{◌≡◌, ℕ, ◌||◌, Bool, true, false, nat_lt, List, [], ◌∷◌, ◌++◌, length, Option, None}
+use Rattle.am_text.specs.Twice.{both, IsSteady}
+use Rattle.am_text.specs.declared.job.Job.{Job}
+use Rattle.event_book.specs.BookState.{BookState, empty_book}
+use Rattle.name_tree.specs.declared.types.Node.{Node}
+use Rattle.name_tree.specs.Kinds.{file_clashes, directory_clashes, after_file, after_directory}
+use Rattle.core_stores.specs.Stores.{RuleState, no_rules, added, has_room}
+use Rattle.plumb_ports.specs.PortList.{is_there}
+use Rattle.plumb_ports.specs.PortsState.{PortsState, beginning, after_add, refusal, after_deliver}
 use Rattle.core_windows.specs.Windows.{Window, changed}
+use Rattle.core_windows.specs.declared.change.Change.{Change}
 use Rattle.core_windows.specs.Possible.{CanChange}
 use Rattle.core_items.specs.NewItems.{items_of}
 use Rattle.core_scene.specs.declared.deed.WindowItem.{WindowItem}
@@ -11,29 +19,53 @@ use Rattle.core_scene.specs.declared.deed.Deed.TheVariants as deed
 use Rattle.core_scene.specs.declared.scene.Scene.{Scene}
 use Rattle.core_scene.specs.Told.{told_in, told_if_any, teller_of}
 
--- all windows, the event files, and the items that the step has made so far
+-- all windows, the event files, the tree of files, the snarfed text, the requests, the rules and ports of the plumber, and the
+-- items that the step has made so far
 pub record SceneState : Type 0 where
   pub windows : List (Option Window)
   pub book : BookState
+  pub files : List (List ℕ × Node)
+  pub snarf : List ℕ
+  pub jobs : List Job
+  pub rules : RuleState
+  pub ports : PortsState
   pub items : List WindowItem
 
 -- ---- one deed
 
-abbrev pub windows_after : Entry → List (Option Window) → Deed → List (Option Window)
-windows_after e ws (deed.Windows c) = changed e.at ws c
-windows_after e ws (deed.Item w item) = ws
-
--- the items that a deed makes, told by the windows as they stand before it
-abbrev pub items_told : Entry → List (Option Window) → BookState → Deed → List WindowItem
-items_told e ws book (deed.Windows c) = told_if_any book (teller_of c) (items_of ws e.origin c)
-items_told e ws book (deed.Item w item) = told_in book w (item ∷ [])
+-- the items that a change makes, told by the windows as they stand before it
+abbrev pub items_told : Entry → SceneState → Change → List WindowItem
+items_told e s c = told_if_any s.book (teller_of c) (items_of s.windows e.origin c)
 
 abbrev pub done : Entry → SceneState → Deed → SceneState
-done e s d = record { windows = windows_after e s.windows d; book = s.book; items = s.items ++ items_told e s.windows s.book d }
+done e s (deed.Windows c) = record s { windows = changed e.at s.windows c; items = s.items ++ items_told e s c }
+done e s (deed.Item w item) = record s { items = s.items ++ told_in s.book w (item ∷ []) }
+done e s (deed.Snarfs text) = record s { snarf = text }
+done e s (deed.Stores path bytes) = record s { files = after_file s.files path bytes }
+done e s (deed.MakesDir path) = record s { files = after_directory s.files path }
+done e s (deed.Requests job) = record s { jobs = s.jobs ++ job ∷ [] }
+done e s (deed.AddsRules sets vars text) = record s { rules = added s.rules sets vars text }
+done e s deed.ClearsRules = record s { rules = no_rules }
+done e s (deed.AddsPort name) = record s { ports = after_add s.ports name }
+done e s (deed.Delivers port message keep) = record s { ports = after_deliver s.ports port message }
 
+-- whether a port of this name is there, or there is room for one more
+abbrev pub can_add : PortsState → List ℕ → Bool
+can_add s name = is_there s.ports name || nat_lt (length s.ports) 65536
+
+-- what a change names is there; what is stored or made clashes with nothing; there is room for rules and ports; a port takes
+-- what is delivered
 abbrev pub CanDo : SceneState → Deed → Type 0
 CanDo s (deed.Windows c) = CanChange s.windows c
 CanDo s (deed.Item w item) = Unit {0}
+CanDo s (deed.Snarfs text) = Unit {0}
+CanDo s (deed.Stores path bytes) = file_clashes s.files path ≡ false
+CanDo s (deed.MakesDir path) = directory_clashes s.files path ≡ false
+CanDo s (deed.Requests job) = Unit {0}
+CanDo s (deed.AddsRules sets vars text) = has_room s.rules (length text) ≡ true
+CanDo s deed.ClearsRules = Unit {0}
+CanDo s (deed.AddsPort name) = can_add s.ports name ≡ true
+CanDo s (deed.Delivers port message keep) = refusal s.ports port keep ≡ None
 
 -- ---- several, one after another
 
@@ -55,6 +87,58 @@ pub record Did (e : Entry) (before after : SceneState) (deeds : List Deed) : Typ
 abbrev pub then_ : Entry → (SceneState → List Deed) → (SceneState → List Deed) → SceneState → List Deed
 then_ e f g s = f s ++ g (done_all e s (f s))
 
+-- ---- two states
+
+-- nothing was ever made
+abbrev pub no_scene : SceneState
+no_scene = record { windows = []; book = empty_book; files = []; snarf = []; jobs = []; rules = no_rules; ports = beginning; items = [] }
+
 -- the present state of a scene
 abbrev pub scene_of : Scene → SceneState
-scene_of s = record { windows = s.windows.present; book = s.book.present; items = s.items }
+scene_of s = record {
+  windows = s.windows.present;
+  book = s.book.present;
+  files = s.files.present;
+  snarf = s.snarf.present;
+  jobs = s.jobs.present;
+  rules = s.rules.present;
+  ports = s.ports.present;
+  items = s.items;
+}
+
+-- its kept state, which has no items
+abbrev pub kept_of : Scene → SceneState
+kept_of s = record {
+  windows = s.windows.kept;
+  book = s.book.kept;
+  files = s.files.kept;
+  snarf = s.snarf.kept;
+  jobs = s.jobs.kept;
+  rules = s.rules.kept;
+  ports = s.ports.kept;
+  items = [];
+}
+
+-- the scene that has this state as the present one and as the kept one, and no items
+abbrev pub scene_in : SceneState → Scene
+scene_in s = record {
+  windows = both s.windows;
+  book = both s.book;
+  files = both s.files;
+  snarf = both s.snarf;
+  jobs = both s.jobs;
+  rules = both s.rules;
+  ports = both s.ports;
+  items = [];
+}
+
+-- the present state is the kept one, and there are no items
+pub record IsSettled (s : Scene) : Type 0 where
+  pub windows : IsSteady s.windows
+  pub book : IsSteady s.book
+  pub files : IsSteady s.files
+  pub snarf : IsSteady s.snarf
+  pub jobs : IsSteady s.jobs
+  pub rules : IsSteady s.rules
+  pub ports : IsSteady s.ports
+  pub items : s.items ≡ []

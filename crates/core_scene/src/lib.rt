@@ -1,15 +1,22 @@
-//! What a step is made of: deeds, done one after another to one scene, the windows and the event files.
+//! What a step is made of: deeds, done one after another to one scene: the windows, the event files, the tree of files, the
+//! snarfed text, the requests, and the rules and ports of the plumber.
 #![tactic(auto)]
 
+mod changing;
 mod deed;
 mod laws;
 mod scene;
 mod told;
 
-pub use am_text::{Items, NoMemory};
-pub use core_windows::{Change, Setting, Windows, World};
+pub use am_text::{Bytes, Items, Job, JobKind, NoMemory, Runes};
+pub use changing::deeds_of;
+pub use core_stores::{Requests, RuleStore, Snarf};
+pub use core_windows::{Change, Changes, Setting, Windows, World};
 pub use deed::{Deed, Deeds, Entry, WindowItem, WindowItems};
 pub use event_book::Book;
 pub use laws::{deeds_join, deeds_show};
+pub use name_tree::{Found, Tree};
+pub use plumb_ports::Ports;
+pub use rule_syntax::{RuleSets, Vars};
 pub use scene::Scene;
 pub use win_events::{Item, Origin};

@@ -1,38 +1,50 @@
 //! The scene that a step plays on.
 
-ghost use Rattle.std.specs.Prelude.{◌≡◌, ◌∷◌, [], OnOk, IfOk};
-ghost use Rattle.am_text.specs.Twice.{both};
-ghost use Rattle.event_book.specs.BookState.{empty_book};
+ghost use Rattle.std.specs.Prelude.{◌≡◌, ◌∷◌, [], true, false, None, OnOk, IfOk};
+ghost use Rattle.name_tree.specs.Kinds.{file_clashes, directory_clashes};
+ghost use Rattle.plumb_ports.specs.PortsState.{refusal};
 ghost use Rattle.core_windows.specs.Possible.{CanChange};
-ghost use Rattle.core_scene.specs.Scenes.{scene_of, done, CanDo, CanDoAll, Did};
+ghost use Rattle.core_scene.specs.Scenes.{can_add, no_scene, scene_in, scene_of, kept_of, done, CanDo, CanDoAll, Did};
 ghost use Rattle.core_scene.specs.declared.deed.Deed.TheVariants as deed;
 
 use crate::deed::{Deed, Deeds, Entry, WindowItems};
 use crate::told::{tell_change, tell_item};
-use am_text::{Items, NoMemory};
+use am_text::{Bytes, Items, Job, NoMemory, Runes};
+use core_stores::{Requests, RuleStore, Snarf};
 use core_windows::{Change, Windows};
 use event_book::Book;
+use name_tree::{Tree, TreeFault};
+use plumb_ports::{PortFault, Ports};
 use std::alloc::Global;
 use win_events::Item;
 
-/// What deeds are done to: the windows and the event files, each in two states, and the items that the step has made so far.
+/// What deeds are done to: the windows, the event files, the tree of files, the snarfed text, the requests, and the rules and
+/// ports of the plumber, each in two states, and the items that the step has made so far.
 #[derive(Drop)]
 pub struct Scene {
     pub windows: Windows,
     pub book: Book,
+    pub files: Tree,
+    pub snarf: Snarf,
+    pub jobs: Requests,
+    pub rules: RuleStore,
+    pub ports: Ports,
     pub items: WindowItems,
 }
 
 impl Scene {
-    /// No window was ever made.
+    /// Nothing was ever made.
     pub fn new(alloc: Global) -> Result<Scene, NoMemory>
-        ensures windows { IfOk result (λ scene. scene.windows ≡ both []) }
-        ensures book { IfOk result (λ scene. scene.book ≡ both empty_book) }
-        ensures items { IfOk result (λ scene. scene.items ≡ []) }
+        ensures { IfOk result (λ scene. scene ≡ scene_in no_scene) }
     {
         Ok(Scene {
             windows: Windows::new(alloc)?,
             book: Book::new(alloc),
+            files: Tree::new(alloc),
+            snarf: Snarf::new(alloc),
+            jobs: Requests::new(alloc),
+            rules: RuleStore::new(alloc),
+            ports: Ports::new(alloc)?,
             items: Items::new(alloc),
         })
     }
@@ -41,19 +53,37 @@ impl Scene {
     pub fn act(&mut self, alloc: Global, entry: Entry, deed: Deed) -> Result<(), NoMemory>
         requires { CanDo (scene_of self.old) deed }
         ensures ok { OnOk result (Did entry (scene_of self.old) (scene_of self.new) (deed ∷ [])) }
-        ensures kept { self.new.windows.kept ≡ self.old.windows.kept }
+        ensures kept { kept_of self.new ≡ kept_of self.old }
         ensures book { self.new.book ≡ self.old.book }
     {
         match deed {
             Deed::Windows(change) => self.change(alloc, entry, change),
             Deed::Item { window, item } => self.tell(entry, window, item),
+            Deed::Snarfs(text) => {
+                self.snarf.put(text);
+                Ok(())
+            }
+            Deed::Stores { path, bytes } => self.store(entry, path, bytes),
+            Deed::MakesDir { path } => self.make_dir(entry, path),
+            Deed::Requests(job) => self.jobs.add(job),
+            Deed::AddsRules { sets, vars, text } => self.rules.add(sets, vars, text.as_slice()),
+            Deed::ClearsRules => {
+                self.rules.clear();
+                Ok(())
+            }
+            Deed::AddsPort(name) => self.add_port(entry, name),
+            Deed::Delivers {
+                port,
+                message,
+                keep,
+            } => self.deliver(entry, port, message, keep),
         }
     }
 
     fn change(&mut self, alloc: Global, entry: Entry, change: Change) -> Result<(), NoMemory>
         requires { CanChange self.old.windows.present change }
         ensures ok { OnOk result (scene_of self.new ≡ done entry (scene_of self.old) (deed.Windows change)) }
-        ensures kept { self.new.windows.kept ≡ self.old.windows.kept }
+        ensures kept { kept_of self.new ≡ kept_of self.old }
         ensures book { self.new.book ≡ self.old.book }
     {
         tell_change(
@@ -69,10 +99,68 @@ impl Scene {
 
     fn tell(&mut self, entry: Entry, window: u32, item: Item) -> Result<(), NoMemory>
         ensures ok { OnOk result (scene_of self.new ≡ done entry (scene_of self.old) (deed.Item window item)) }
-        ensures windows { self.new.windows ≡ self.old.windows }
+        ensures kept { kept_of self.new ≡ kept_of self.old }
         ensures book { self.new.book ≡ self.old.book }
     {
         tell_item(&self.book, &mut self.items, window, item)
+    }
+
+    fn store(&mut self, entry: Entry, path: Bytes, bytes: Bytes) -> Result<(), NoMemory>
+        requires { file_clashes self.old.files.present path ≡ false }
+        ensures ok { OnOk result (scene_of self.new ≡ done entry (scene_of self.old) (deed.Stores path bytes)) }
+        ensures kept { kept_of self.new ≡ kept_of self.old }
+        ensures book { self.new.book ≡ self.old.book }
+    {
+        match self.files.file(path.as_slice(), bytes.as_slice()) {
+            Ok(()) => Ok(()),
+            Err(TreeFault::NoMemory) => Err(NoMemory),
+            Err(TreeFault::Clash) => unreachable!(),
+        }
+    }
+
+    fn make_dir(&mut self, entry: Entry, path: Bytes) -> Result<(), NoMemory>
+        requires { directory_clashes self.old.files.present path ≡ false }
+        ensures ok { OnOk result (scene_of self.new ≡ done entry (scene_of self.old) (deed.MakesDir path)) }
+        ensures kept { kept_of self.new ≡ kept_of self.old }
+        ensures book { self.new.book ≡ self.old.book }
+    {
+        match self.files.dir(path.as_slice()) {
+            Ok(()) => Ok(()),
+            Err(TreeFault::NoMemory) => Err(NoMemory),
+            Err(TreeFault::Clash) => unreachable!(),
+        }
+    }
+
+    fn add_port(&mut self, entry: Entry, name: Bytes) -> Result<(), NoMemory>
+        requires { can_add self.old.ports.present name ≡ true }
+        ensures ok { OnOk result (scene_of self.new ≡ done entry (scene_of self.old) (deed.AddsPort name)) }
+        ensures kept { kept_of self.new ≡ kept_of self.old }
+        ensures book { self.new.book ≡ self.old.book }
+    {
+        self.ports.add(name.as_slice())?;
+        Ok(())
+    }
+
+    fn deliver(
+        &mut self,
+        entry: Entry,
+        port: Bytes,
+        message: Bytes,
+        keep: bool,
+    ) -> Result<(), NoMemory>
+        requires { refusal self.old.ports.present port keep ≡ None }
+        ensures ok { OnOk result (scene_of self.new ≡ done entry (scene_of self.old) (deed.Delivers port message keep)) }
+        ensures kept { kept_of self.new ≡ kept_of self.old }
+        ensures book { self.new.book ≡ self.old.book }
+    {
+        match self
+            .ports
+            .deliver(port.as_slice(), message.as_slice(), keep)
+        {
+            Ok(()) => Ok(()),
+            Err(PortFault::NoMemory) => Err(NoMemory),
+            Err(_) => unreachable!(),
+        }
     }
 
     /// Does deeds from first to last, in the present state alone.
@@ -80,7 +168,7 @@ impl Scene {
     pub fn act_all(&mut self, alloc: Global, entry: Entry, deeds: Deeds) -> Result<(), NoMemory>
         requires { CanDoAll entry (scene_of self.old) deeds }
         ensures ok { OnOk result (Did entry (scene_of self.old) (scene_of self.new) deeds) }
-        ensures kept { self.new.windows.kept ≡ self.old.windows.kept }
+        ensures kept { kept_of self.new ≡ kept_of self.old }
         ensures book { self.new.book ≡ self.old.book }
     {
         for deed in deeds.into_vec() {
@@ -89,14 +177,31 @@ impl Scene {
         Ok(())
     }
 
-    /// Takes back what was done since the last `keep` of the windows and of the event files. It takes no memory.
+    /// The present state becomes the kept one, and the items are let go. It takes no memory.
+    pub fn keep(&mut self, alloc: Global)
+        ensures { self.new ≡ scene_in (scene_of self.old) }
+    {
+        self.windows.keep();
+        self.book.keep();
+        self.files.keep();
+        self.snarf.keep();
+        self.jobs.keep();
+        self.rules.keep();
+        self.ports.keep();
+        self.items = Items::new(alloc);
+    }
+
+    /// The kept state becomes the present one again, and the items are let go. It takes no memory.
     pub fn back(&mut self, alloc: Global)
-        ensures windows { self.new.windows ≡ both self.old.windows.kept }
-        ensures book { self.new.book ≡ both self.old.book.kept }
-        ensures items { self.new.items ≡ [] }
+        ensures { self.new ≡ scene_in (kept_of self.old) }
     {
         self.windows.back();
         self.book.back();
+        self.files.back();
+        self.snarf.back();
+        self.jobs.back();
+        self.rules.back();
+        self.ports.back();
         self.items = Items::new(alloc);
     }
 

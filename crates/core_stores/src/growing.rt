@@ -1,6 +1,6 @@
 //! A list that grows, in two states.
 
-ghost use Rattle.std.specs.Prelude.{◌≡◌, ◌++◌, ◌∷◌, [], take, OnOk, OnErr};
+ghost use Rattle.std.specs.Prelude.{◌≡◌, ◌++◌, ◌∷◌, [], take, drop, length, OnOk, OnErr};
 ghost use Rattle.am_text.specs.Twice.{both};
 
 use am_text::{Items, NoMemory};
@@ -54,6 +54,13 @@ impl<T> Growing<T> {
         ensures { result.now ≡ self.now.present }
     {
         &self.items
+    }
+
+    /// Those that came since the last `keep`.
+    pub(crate) fn made(&self) -> &[T]
+        ensures { result.now ≡ drop (length self.now.kept) self.now.present }
+    {
+        &self.items.as_slice()[self.kept..]
     }
 
     /// The present state becomes the kept one. It takes no memory.

@@ -1,6 +1,6 @@
 //! What the editor asked its user's programs to do.
 
-ghost use Rattle.std.specs.Prelude.{◌≡◌, ◌++◌, ◌∷◌, [], length, OnOk, OnErr, option_copied};
+ghost use Rattle.std.specs.Prelude.{◌≡◌, ◌++◌, ◌∷◌, ◌+◌, [], length, drop, OnOk, OnErr, option_copied};
 ghost use Rattle.am_text.specs.Twice.{both};
 ghost use Rattle.core_stores.specs.Stores.{request};
 
@@ -35,6 +35,13 @@ fn numbered(jobs: &[Job], number: usize) -> Option<&Job>
     jobs.get(number - 1)
 }
 
+// The number of the one that comes behind these.
+fn number_behind(jobs: &[Job]) -> usize
+    ensures { result ≡ length jobs.now + 1 }
+{
+    jobs.len() + 1
+}
+
 impl Requests {
     /// No request. It takes no memory.
     pub fn new(alloc: Global) -> Requests
@@ -57,6 +64,20 @@ impl Requests {
         ensures { result ≡ length self.now.present }
     {
         self.jobs.items().len()
+    }
+
+    /// The number of the next one.
+    pub fn next(&self) -> usize
+        ensures { result ≡ length self.now.present + 1 }
+    {
+        number_behind(self.jobs.items().as_slice())
+    }
+
+    /// Those that were made since the last `keep`.
+    pub fn made(&self) -> &[Job]
+        ensures { result.now ≡ drop (length self.now.kept) self.now.present }
+    {
+        self.jobs.made()
     }
 
     /// The present request of a number, where there is one.

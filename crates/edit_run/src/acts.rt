@@ -15,9 +15,9 @@ ghost use Rattle.edit_run.specs.Lines.{IsCursorOf};
 ghost use Rattle.edit_run.specs.Told.{told, lines_told, places_told};
 ghost use Rattle.edit_run.specs.Meaning.{range_of, text_at, replaced, is_within, moved, copied, job_for};
 
+use crate::doing::{Doing, Over};
 use crate::effects::Effects;
 use crate::fault::EditFault;
-use crate::line_cursor::LineCursor;
 use crate::replacing::substituted;
 use crate::telling::{lines_told, places_told};
 use crate::texts::text_at;
@@ -30,38 +30,32 @@ use std::alloc::Global;
 use win_ctl::directory;
 
 // The range of an address that is written.
-fn range_at<T: Letters>(
-    alloc: Global,
-    addr: &Addr,
-    text: &T,
-    dot: Range,
-) -> Result<Range, EditFault>
-    requires { IsInside (T.letters text.now) dot }
-    ensures value { IfOk result (λ range. range_of (address.tree addr.now) (T.letters text.now) dot ≡ Ok range) }
-    ensures fault { IfErr result (λ e. IsFault e (range_of (address.tree addr.now) (T.letters text.now) dot)) }
-    ensures inside { IfOk result (IsInside (T.letters text.now)) }
+fn range_at<T: Letters>(over: &Over<T>, addr: &Addr, dot: Range) -> Result<Range, EditFault>
+    requires { IsInside (T.letters over.now.text.now) dot }
+    ensures value { IfOk result (λ range. range_of (address.tree addr.now) (T.letters over.now.text.now) dot ≡ Ok range) }
+    ensures fault { IfErr result (λ e. IsFault e (range_of (address.tree addr.now) (T.letters over.now.text.now) dot)) }
+    ensures inside { IfOk result (IsInside (T.letters over.now.text.now)) }
 {
     let whole = Range {
         q0: 0,
-        q1: text.len(),
+        q1: over.text.len(),
     };
-    Ok(value(alloc, addr, text, dot, whole)?)
+    Ok(value(over.alloc, addr, over.text, dot, whole)?)
 }
 
 /// The range of an address, which is dot where none is written.
 pub fn range_of<T: Letters>(
-    alloc: Global,
+    over: &Over<T>,
     addr: &Option<Addr>,
-    text: &T,
     dot: Range,
 ) -> Result<Range, EditFault>
-    requires { IsInside (T.letters text.now) dot }
-    ensures value { IfOk result (λ range. range_of (address.tree_of addr.now) (T.letters text.now) dot ≡ Ok range) }
-    ensures fault { IfErr result (λ e. IsFault e (range_of (address.tree_of addr.now) (T.letters text.now) dot)) }
-    ensures inside { IfOk result (IsInside (T.letters text.now)) }
+    requires { IsInside (T.letters over.now.text.now) dot }
+    ensures value { IfOk result (λ range. range_of (address.tree_of addr.now) (T.letters over.now.text.now) dot ≡ Ok range) }
+    ensures fault { IfErr result (λ e. IsFault e (range_of (address.tree_of addr.now) (T.letters over.now.text.now) dot)) }
+    ensures inside { IfOk result (IsInside (T.letters over.now.text.now)) }
 {
     match addr {
-        Some(addr) => range_at(alloc, addr, text, dot),
+        Some(addr) => range_at(over, addr, dot),
         None => Ok(dot),
     }
 }
@@ -94,22 +88,21 @@ pub fn delete(alloc: Global, range: Range, effects: &mut Effects) -> Result<(), 
 
 /// Replaces each of these matches.
 pub fn replace_all<T: Letters>(
-    alloc: Global,
+    over: &Over<T>,
     re: &Re,
     with: &[Rune],
-    text: &T,
     spans: &[Range],
     effects: &mut Effects,
 ) -> Result<(), EditFault>
-    requires matches { AreMatches (tree re.now) (T.letters text.now) spans.now }
-    requires within { IsWithin (T.letters text.now) effects.old }
-    ensures value { OnOk result (effects.new ≡ replaced (substituted (tree re.now) (T.letters text.now) with.now) spans.now effects.old) }
+    requires matches { AreMatches (tree re.now) (T.letters over.now.text.now) spans.now }
+    requires within { IsWithin (T.letters over.now.text.now) effects.old }
+    ensures value { OnOk result (effects.new ≡ replaced (substituted (tree re.now) (T.letters over.now.text.now) with.now) spans.now effects.old) }
     ensures fault { IfErr result (λ e. e ≡ NoMemory) }
-    ensures within { OnOk result (IsWithin (T.letters text.now) effects.new) }
+    ensures within { OnOk result (IsWithin (T.letters over.now.text.now) effects.new) }
 {
     let mut rest = spans;
     while let [span, after @ ..] = rest {
-        let made = substituted(alloc, re, text, with, *span)?;
+        let made = substituted(over.alloc, re, over.text, with, *span)?;
         effects.change(span.q0, span.q1, made)?;
         rest = after;
     }
@@ -124,28 +117,27 @@ fn is_within(range: Range, place: usize) -> bool
 
 // Puts the range's text at a place and deletes it where it stands, the earlier of the two first.
 fn moved<T: Letters>(
-    alloc: Global,
-    text: &T,
+    over: &Over<T>,
     range: Range,
     place: usize,
     effects: &mut Effects,
 ) -> Result<(), EditFault>
-    requires range { IsInside (T.letters text.now) range }
-    requires place { place ≤ length (T.letters text.now) }
-    requires within { IsWithin (T.letters text.now) effects.old }
-    ensures value { OnOk result (moved (T.letters text.now) range place effects.old ≡ Ok effects.new) }
-    ensures fault { IfErr result (λ e. IsFault e (moved (T.letters text.now) range place effects.old)) }
-    ensures within { OnOk result (IsWithin (T.letters text.now) effects.new) }
+    requires range { IsInside (T.letters over.now.text.now) range }
+    requires place { place ≤ length (T.letters over.now.text.now) }
+    requires within { IsWithin (T.letters over.now.text.now) effects.old }
+    ensures value { OnOk result (moved (T.letters over.now.text.now) range place effects.old ≡ Ok effects.new) }
+    ensures fault { IfErr result (λ e. IsFault e (moved (T.letters over.now.text.now) range place effects.old)) }
+    ensures within { OnOk result (IsWithin (T.letters over.now.text.now) effects.new) }
 {
     if is_within(range, place) {
         return Err(EditFault::Overlap);
     }
-    let put = text_at(alloc, text, range)?;
+    let put = text_at(over.alloc, over.text, range)?;
     if place <= range.q0 {
         effects.change(place, place, put)?;
-        delete(alloc, range, effects)
+        delete(over.alloc, range, effects)
     } else {
-        delete(alloc, range, effects)?;
+        delete(over.alloc, range, effects)?;
         effects.change(place, place, put)?;
         Ok(())
     }
@@ -153,82 +145,82 @@ fn moved<T: Letters>(
 
 /// Moves the range's text behind the range of an address.
 pub fn move_text<T: Letters>(
-    alloc: Global,
+    over: &Over<T>,
     to: &Addr,
-    text: &T,
     dot: Range,
     range: Range,
     effects: &mut Effects,
 ) -> Result<(), EditFault>
-    requires dot { IsInside (T.letters text.now) dot }
-    requires range { IsInside (T.letters text.now) range }
-    requires within { IsWithin (T.letters text.now) effects.old }
-    ensures value { OnOk result (and_then (range_of (address.tree to.now) (T.letters text.now) dot) (λ place. moved (T.letters text.now) range place.q1 effects.old) ≡ Ok effects.new) }
-    ensures fault { IfErr result (λ e. IsFault e (and_then (range_of (address.tree to.now) (T.letters text.now) dot) (λ place. moved (T.letters text.now) range place.q1 effects.old))) }
-    ensures within { OnOk result (IsWithin (T.letters text.now) effects.new) }
+    requires dot { IsInside (T.letters over.now.text.now) dot }
+    requires range { IsInside (T.letters over.now.text.now) range }
+    requires within { IsWithin (T.letters over.now.text.now) effects.old }
+    ensures value { OnOk result (and_then (range_of (address.tree to.now) (T.letters over.now.text.now) dot) (λ place. moved (T.letters over.now.text.now) range place.q1 effects.old) ≡ Ok effects.new) }
+    ensures fault { IfErr result (λ e. IsFault e (and_then (range_of (address.tree to.now) (T.letters over.now.text.now) dot) (λ place. moved (T.letters over.now.text.now) range place.q1 effects.old))) }
+    ensures within { OnOk result (IsWithin (T.letters over.now.text.now) effects.new) }
 {
-    let place = range_at(alloc, to, text, dot)?;
-    moved(alloc, text, range, place.q1, effects)
+    let place = range_at(over, to, dot)?;
+    moved(over, range, place.q1, effects)
 }
 
 /// Copies the range's text behind the range of an address.
 pub fn copy_text<T: Letters>(
-    alloc: Global,
+    over: &Over<T>,
     to: &Addr,
-    text: &T,
     dot: Range,
     range: Range,
     effects: &mut Effects,
 ) -> Result<(), EditFault>
-    requires dot { IsInside (T.letters text.now) dot }
-    requires range { IsInside (T.letters text.now) range }
-    requires within { IsWithin (T.letters text.now) effects.old }
-    ensures value { OnOk result (and_then (range_of (address.tree to.now) (T.letters text.now) dot) (λ place. copied (T.letters text.now) range place.q1 effects.old) ≡ Ok effects.new) }
-    ensures fault { IfErr result (λ e. IsFault e (and_then (range_of (address.tree to.now) (T.letters text.now) dot) (λ place. copied (T.letters text.now) range place.q1 effects.old))) }
-    ensures within { OnOk result (IsWithin (T.letters text.now) effects.new) }
+    requires dot { IsInside (T.letters over.now.text.now) dot }
+    requires range { IsInside (T.letters over.now.text.now) range }
+    requires within { IsWithin (T.letters over.now.text.now) effects.old }
+    ensures value { OnOk result (and_then (range_of (address.tree to.now) (T.letters over.now.text.now) dot) (λ place. copied (T.letters over.now.text.now) range place.q1 effects.old) ≡ Ok effects.new) }
+    ensures fault { IfErr result (λ e. IsFault e (and_then (range_of (address.tree to.now) (T.letters over.now.text.now) dot) (λ place. copied (T.letters over.now.text.now) range place.q1 effects.old))) }
+    ensures within { OnOk result (IsWithin (T.letters over.now.text.now) effects.new) }
 {
-    let place = range_at(alloc, to, text, dot)?;
-    let put = text_at(alloc, text, range)?;
+    let place = range_at(over, to, dot)?;
+    let put = text_at(over.alloc, over.text, range)?;
     effects.change(place.q1, place.q1, put)?;
     Ok(())
 }
 
 /// Prints the range.
 pub fn print<T: Letters>(
-    alloc: Global,
-    text: &T,
+    over: &Over<T>,
     range: Range,
     effects: &mut Effects,
 ) -> Result<(), EditFault>
-    requires { IsWithin (T.letters text.now) effects.old }
-    ensures value { OnOk result (effects.new ≡ printed (text_at (T.letters text.now) range) effects.old) }
+    requires { IsWithin (T.letters over.now.text.now) effects.old }
+    ensures value { OnOk result (effects.new ≡ printed (text_at (T.letters over.now.text.now) range) effects.old) }
     ensures fault { IfErr result (λ e. e ≡ NoMemory) }
-    ensures within { OnOk result (IsWithin (T.letters text.now) effects.new) }
+    ensures within { OnOk result (IsWithin (T.letters over.now.text.now) effects.new) }
 {
-    let runes = text_at(alloc, text, range)?;
+    let runes = text_at(over.alloc, over.text, range)?;
     effects.print(runes.as_slice())?;
     Ok(())
 }
 
 /// Prints the lines of the range.
 pub fn print_lines<T: Letters>(
-    alloc: Global,
-    site: &Site,
-    text: &T,
+    over: &Over<T>,
     range: Range,
-    cursor: &mut LineCursor,
-    effects: &mut Effects,
+    doing: &mut Doing,
 ) -> Result<(), EditFault>
-    requires range { IsInside (T.letters text.now) range }
-    requires cursor { IsCursorOf (T.letters text.now) cursor.old }
-    requires within { IsWithin (T.letters text.now) effects.old }
-    ensures value { OnOk result (effects.new ≡ printed (told site.now.name (lines_told (T.letters text.now) range)) effects.old) }
+    requires range { IsInside (T.letters over.now.text.now) range }
+    requires cursor { IsCursorOf (T.letters over.now.text.now) doing.old.cursor }
+    requires within { IsWithin (T.letters over.now.text.now) doing.old.effects }
+    ensures value { OnOk result (doing.new.effects ≡ printed (told over.now.site.now.name (lines_told (T.letters over.now.text.now) range)) doing.old.effects) }
     ensures fault { IfErr result (λ e. e ≡ NoMemory) }
-    ensures cursor { OnOk result (IsCursorOf (T.letters text.now) cursor.new) }
-    ensures within { OnOk result (IsWithin (T.letters text.now) effects.new) }
+    ensures cursor { OnOk result (IsCursorOf (T.letters over.now.text.now) doing.new.cursor) }
+    ensures within { OnOk result (IsWithin (T.letters over.now.text.now) doing.new.effects) }
 {
-    let lines = lines_told(alloc, site.name.as_slice(), text, range, cursor)?;
-    effects.print(lines.as_slice())?;
+    let lines = lines_told(
+        over.alloc,
+        over.site.name.as_slice(),
+        over.text,
+        range,
+        &mut doing.cursor,
+    )?;
+    doing.effects.print(lines.as_slice())?;
     Ok(())
 }
 
@@ -249,23 +241,22 @@ pub fn print_places(
 }
 
 // Asks the user's programs for something.
-fn ask(
-    alloc: Global,
+fn ask<T>(
+    over: &Over<T>,
     kind: JobKind,
     command: &Runes,
-    site: &Site,
     input: Runes,
     effects: &mut Effects,
 ) -> Result<(), EditFault>
-    ensures value { OnOk result (effects.new ≡ asked (job_for kind command.now site.now input) effects.old) }
+    ensures value { OnOk result (effects.new ≡ asked (job_for kind command.now over.now.site.now input) effects.old) }
     ensures fault { IfErr result (λ e. e ≡ NoMemory) }
     ensures within { OnOk result ((t : List ℕ) → IsWithin t effects.old → IsWithin t effects.new) }
 {
     effects.ask(Job {
         kind,
-        window: site.window,
-        dir: directory(alloc, site.name.as_slice())?,
-        command: Items::copied(alloc, command.as_slice())?,
+        window: over.site.window,
+        dir: directory(over.alloc, over.site.name.as_slice())?,
+        command: Items::copied(over.alloc, command.as_slice())?,
         input,
     })?;
     Ok(())
@@ -273,39 +264,35 @@ fn ask(
 
 /// Asks for a command that is given the range's text.
 pub fn ask_with<T: Letters>(
-    alloc: Global,
+    over: &Over<T>,
     kind: JobKind,
     command: &Runes,
-    site: &Site,
-    text: &T,
     range: Range,
     effects: &mut Effects,
 ) -> Result<(), EditFault>
-    ensures value { OnOk result (effects.new ≡ asked (job_for kind command.now site.now (text_at (T.letters text.now) range)) effects.old) }
+    ensures value { OnOk result (effects.new ≡ asked (job_for kind command.now over.now.site.now (text_at (T.letters over.now.text.now) range)) effects.old) }
     ensures fault { IfErr result (λ e. e ≡ NoMemory) }
     ensures within { OnOk result ((t : List ℕ) → IsWithin t effects.old → IsWithin t effects.new) }
 {
-    let input = text_at(alloc, text, range)?;
-    ask(alloc, kind, command, site, input, effects)
+    let input = text_at(over.alloc, over.text, range)?;
+    ask(over, kind, command, input, effects)
 }
 
 /// Asks for a command whose output is to take the place of the range.
-pub fn ask_without(
-    alloc: Global,
+pub fn ask_without<T>(
+    over: &Over<T>,
     command: &Runes,
-    site: &Site,
     effects: &mut Effects,
 ) -> Result<(), EditFault>
-    ensures value { OnOk result (effects.new ≡ asked (job_for From command.now site.now []) effects.old) }
+    ensures value { OnOk result (effects.new ≡ asked (job_for From command.now over.now.site.now []) effects.old) }
     ensures fault { IfErr result (λ e. e ≡ NoMemory) }
     ensures within { OnOk result ((t : List ℕ) → IsWithin t effects.old → IsWithin t effects.new) }
 {
     ask(
-        alloc,
+        over,
         JobKind::From,
         command,
-        site,
-        Items::new(alloc),
+        Items::new(over.alloc),
         effects,
     )
 }

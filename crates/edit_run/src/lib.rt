@@ -2,6 +2,7 @@
 #![tactic(auto)]
 
 mod acts;
+mod doing;
 mod effects;
 mod fault;
 mod kept;

@@ -9,6 +9,7 @@ ghost use Rattle.edit_run.specs.Faults.{IsFault};
 ghost use Rattle.edit_run.specs.Within.{AreChangesOf};
 ghost use Rattle.edit_run.specs.Plan.{wanted, planned, dot_after, are_in_sequence, edits_of};
 
+use crate::doing::{Doing, Over};
 use crate::effects::Effects;
 use crate::fault::EditFault;
 use crate::line_cursor::LineCursor;
@@ -71,24 +72,18 @@ pub fn changes<T: Letters>(
     ensures in_range { IfOk result (λ plan. AreInRange (T.letters text.now) plan.edits) }
     ensures dot { IfOk result (λ plan. IsInside (text_after (T.letters text.now) plan.edits) plan.dot) }
 {
-    let mut effects = Effects::none(alloc, site.dot);
-    let mut cursor = LineCursor::start();
-    run(
-        alloc,
-        cmd,
-        &None,
-        text,
-        site,
-        site.dot,
-        &mut cursor,
-        &mut effects,
-    )?;
+    let over = Over { alloc, text, site };
+    let mut doing = Doing {
+        effects: Effects::none(alloc, site.dot),
+        cursor: LineCursor::start(),
+    };
+    run(cmd, &None, &over, site.dot, &mut doing)?;
     let Effects {
         changes,
         prints,
         jobs,
         last,
-    } = effects;
+    } = doing.effects;
     let edits = spliced(alloc, &changes, text.len())?;
     let dot = dot_after(last, edits.as_slice())?;
     Ok(EditPlan {

@@ -17,42 +17,36 @@ use crate::acts::{
     ask_with, ask_without, copy_text, delete, move_text, print, print_lines, print_places,
     put_text, range_of, replace_all,
 };
-use crate::effects::Effects;
+use crate::doing::{Doing, Over};
 use crate::fault::EditFault;
 use crate::kept::{Kept, kept_for};
-use crate::line_cursor::LineCursor;
 use crate::matching::{chosen, matches_in, ranges_of};
-use crate::types::Site;
 use am_text::{JobKind, Letters, Range};
 use edit_parts::Loop::{ForBetween, ForEach, Where, WhereNot};
 use edit_parts::{Act, Cmd, Loop};
 use re_spans::Re;
-use std::alloc::Global;
 
 // Does a command for each of these ranges.
 #[cycle(command)]
 fn run_each<T: Letters>(
-    alloc: Global,
     cmd: &Cmd,
     kept: &Kept,
-    text: &T,
-    site: &Site,
+    over: &Over<T>,
     ranges: &[Range],
-    cursor: &mut LineCursor,
-    effects: &mut Effects,
+    doing: &mut Doing,
 ) -> Result<(), EditFault>
     requires kept { IsKept (action cmd.now.act) kept.now }
-    requires ranges { AreInside (T.letters text.now) ranges.now }
-    requires cursor { IsCursorOf (T.letters text.now) cursor.old }
-    requires within { IsWithin (T.letters text.now) effects.old }
-    ensures value { OnOk result (for_each (meaning (command cmd.now) (T.letters text.now) site.now) ranges.now effects.old ≡ Ok effects.new) }
-    ensures fault { IfErr result (λ e. IsFault e (for_each (meaning (command cmd.now) (T.letters text.now) site.now) ranges.now effects.old)) }
-    ensures cursor { OnOk result (IsCursorOf (T.letters text.now) cursor.new) }
-    ensures within { OnOk result (IsWithin (T.letters text.now) effects.new) }
+    requires ranges { AreInside (T.letters over.now.text.now) ranges.now }
+    requires cursor { IsCursorOf (T.letters over.now.text.now) doing.old.cursor }
+    requires within { IsWithin (T.letters over.now.text.now) doing.old.effects }
+    ensures value { OnOk result (for_each (meaning (command cmd.now) (T.letters over.now.text.now) over.now.site.now) ranges.now doing.old.effects ≡ Ok doing.new.effects) }
+    ensures fault { IfErr result (λ e. IsFault e (for_each (meaning (command cmd.now) (T.letters over.now.text.now) over.now.site.now) ranges.now doing.old.effects)) }
+    ensures cursor { OnOk result (IsCursorOf (T.letters over.now.text.now) doing.new.cursor) }
+    ensures within { OnOk result (IsWithin (T.letters over.now.text.now) doing.new.effects) }
 {
     let mut rest = ranges;
     while let [range, after @ ..] = rest {
-        run(alloc, cmd, kept, text, site, *range, cursor, effects)?;
+        run(cmd, kept, over, *range, doing)?;
         rest = after;
     }
     Ok(())
@@ -62,24 +56,21 @@ fn run_each<T: Letters>(
 #[cycle(command)]
 #[tactic(auto, using(crate::proofs::Blocks::listing))]
 fn run_all<T: Letters>(
-    alloc: Global,
     commands: &[Cmd],
-    text: &T,
-    site: &Site,
+    over: &Over<T>,
     dot: Range,
-    cursor: &mut LineCursor,
-    effects: &mut Effects,
+    doing: &mut Doing,
 ) -> Result<(), EditFault>
-    requires dot { IsInside (T.letters text.now) dot }
-    requires cursor { IsCursorOf (T.letters text.now) cursor.old }
-    requires within { IsWithin (T.letters text.now) effects.old }
-    ensures value { OnOk result (list_done commands.now (T.letters text.now) site.now dot effects.old ≡ Ok effects.new) }
-    ensures fault { IfErr result (λ e. IsFault e (list_done commands.now (T.letters text.now) site.now dot effects.old)) }
-    ensures cursor { OnOk result (IsCursorOf (T.letters text.now) cursor.new) }
-    ensures within { OnOk result (IsWithin (T.letters text.now) effects.new) }
+    requires dot { IsInside (T.letters over.now.text.now) dot }
+    requires cursor { IsCursorOf (T.letters over.now.text.now) doing.old.cursor }
+    requires within { IsWithin (T.letters over.now.text.now) doing.old.effects }
+    ensures value { OnOk result (list_done commands.now (T.letters over.now.text.now) over.now.site.now dot doing.old.effects ≡ Ok doing.new.effects) }
+    ensures fault { IfErr result (λ e. IsFault e (list_done commands.now (T.letters over.now.text.now) over.now.site.now dot doing.old.effects)) }
+    ensures cursor { OnOk result (IsCursorOf (T.letters over.now.text.now) doing.new.cursor) }
+    ensures within { OnOk result (IsWithin (T.letters over.now.text.now) doing.new.effects) }
 {
     for cmd in commands {
-        run(alloc, cmd, &None, text, site, dot, cursor, effects)?;
+        run(cmd, &None, over, dot, doing)?;
     }
     Ok(())
 }
@@ -87,112 +78,93 @@ fn run_all<T: Letters>(
 // Does a loop's command for the ranges that the loop has in the range that began last.
 #[cycle(command)]
 fn repeat<T: Letters>(
-    alloc: Global,
     cmd: &Cmd,
     kind: Loop,
     re: &Re,
     kept: &Kept,
-    text: &T,
-    site: &Site,
-    cursor: &mut LineCursor,
-    effects: &mut Effects,
+    over: &Over<T>,
+    doing: &mut Doing,
 ) -> Result<(), EditFault>
     requires kept { IsFor (tree re.now) kept.now }
-    requires cursor { IsCursorOf (T.letters text.now) cursor.old }
-    requires within { IsWithin (T.letters text.now) effects.old }
-    ensures value { OnOk result (for_each (meaning (command cmd.now) (T.letters text.now) site.now) (ranges_of (loop_of kind) (tree re.now) (T.letters text.now) effects.old.last) effects.old ≡ Ok effects.new) }
-    ensures fault { IfErr result (λ e. IsFault e (for_each (meaning (command cmd.now) (T.letters text.now) site.now) (ranges_of (loop_of kind) (tree re.now) (T.letters text.now) effects.old.last) effects.old)) }
-    ensures cursor { OnOk result (IsCursorOf (T.letters text.now) cursor.new) }
-    ensures within { OnOk result (IsWithin (T.letters text.now) effects.new) }
+    requires cursor { IsCursorOf (T.letters over.now.text.now) doing.old.cursor }
+    requires within { IsWithin (T.letters over.now.text.now) doing.old.effects }
+    ensures value { OnOk result (for_each (meaning (command cmd.now) (T.letters over.now.text.now) over.now.site.now) (ranges_of (loop_of kind) (tree re.now) (T.letters over.now.text.now) doing.old.effects.last) doing.old.effects ≡ Ok doing.new.effects) }
+    ensures fault { IfErr result (λ e. IsFault e (for_each (meaning (command cmd.now) (T.letters over.now.text.now) over.now.site.now) (ranges_of (loop_of kind) (tree re.now) (T.letters over.now.text.now) doing.old.effects.last) doing.old.effects)) }
+    ensures cursor { OnOk result (IsCursorOf (T.letters over.now.text.now) doing.new.cursor) }
+    ensures within { OnOk result (IsWithin (T.letters over.now.text.now) doing.new.effects) }
 {
-    let ranges = ranges_of(alloc, kind, re, kept, text, effects.last)?;
-    let kept = kept_for(alloc, &cmd.act, ranges.as_slice())?;
-    run_each(
-        alloc,
-        cmd,
-        &kept,
-        text,
-        site,
-        ranges.as_slice(),
-        cursor,
-        effects,
-    )
+    let ranges = ranges_of(over.alloc, kind, re, kept, over.text, doing.effects.last)?;
+    let kept = kept_for(over.alloc, &cmd.act, ranges.as_slice())?;
+    run_each(cmd, &kept, over, ranges.as_slice(), doing)
 }
 
 // Does what a command does with the range that began last, its own.
 #[cycle(command)]
 #[tactic(auto, using(crate::proofs::Inside::chosen_matches))]
 fn act<T: Letters>(
-    alloc: Global,
     act: &Act,
     kept: &Kept,
-    text: &T,
-    site: &Site,
+    over: &Over<T>,
     dot: Range,
-    cursor: &mut LineCursor,
-    effects: &mut Effects,
+    doing: &mut Doing,
 ) -> Result<(), EditFault>
     requires kept { IsKept (action act.now) kept.now }
-    requires dot { IsInside (T.letters text.now) dot }
-    requires cursor { IsCursorOf (T.letters text.now) cursor.old }
-    requires within { IsWithin (T.letters text.now) effects.old }
-    ensures value { OnOk result (acted (action act.now) (T.letters text.now) site.now dot effects.old.last effects.old ≡ Ok effects.new) }
-    ensures fault { IfErr result (λ e. IsFault e (acted (action act.now) (T.letters text.now) site.now dot effects.old.last effects.old)) }
-    ensures cursor { OnOk result (IsCursorOf (T.letters text.now) cursor.new) }
-    ensures within { OnOk result (IsWithin (T.letters text.now) effects.new) }
+    requires dot { IsInside (T.letters over.now.text.now) dot }
+    requires cursor { IsCursorOf (T.letters over.now.text.now) doing.old.cursor }
+    requires within { IsWithin (T.letters over.now.text.now) doing.old.effects }
+    ensures value { OnOk result (acted (action act.now) (T.letters over.now.text.now) over.now.site.now dot doing.old.effects.last doing.old.effects ≡ Ok doing.new.effects) }
+    ensures fault { IfErr result (λ e. IsFault e (acted (action act.now) (T.letters over.now.text.now) over.now.site.now dot doing.old.effects.last doing.old.effects)) }
+    ensures cursor { OnOk result (IsCursorOf (T.letters over.now.text.now) doing.new.cursor) }
+    ensures within { OnOk result (IsWithin (T.letters over.now.text.now) doing.new.effects) }
 {
-    let range = effects.last;
+    let range = doing.effects.last;
+    let effects = &mut doing.effects;
     match act {
         Act::Nothing => Ok(()),
-        Act::Append(put) => put_text(alloc, range.q1, range.q1, put, effects),
-        Act::Change(put) => put_text(alloc, range.q0, range.q1, put, effects),
-        Act::Insert(put) => put_text(alloc, range.q0, range.q0, put, effects),
-        Act::Delete => delete(alloc, range, effects),
+        Act::Append(put) => put_text(over.alloc, range.q1, range.q1, put, effects),
+        Act::Change(put) => put_text(over.alloc, range.q0, range.q1, put, effects),
+        Act::Insert(put) => put_text(over.alloc, range.q0, range.q0, put, effects),
+        Act::Delete => delete(over.alloc, range, effects),
         Act::Subst { nth, re, with, all } => {
-            let spans = matches_in(alloc, re, kept, text, range)?;
+            let spans = matches_in(over.alloc, re, kept, over.text, range)?;
             let spans = chosen(spans.as_slice(), *nth, *all);
-            replace_all(alloc, re, with.as_slice(), text, spans, effects)
+            replace_all(over, re, with.as_slice(), spans, effects)
         }
-        Act::Move(to) => move_text(alloc, to, text, dot, range, effects),
-        Act::Copy(to) => copy_text(alloc, to, text, dot, range, effects),
-        Act::Print => print(alloc, text, range, effects),
-        Act::LineNo => print_lines(alloc, site, text, range, cursor, effects),
-        Act::CharNo => print_places(alloc, site, range, effects),
-        Act::Each(re, cmd) => repeat(alloc, cmd, ForEach, re, kept, text, site, cursor, effects),
-        Act::Between(re, cmd) => repeat(
-            alloc, cmd, ForBetween, re, kept, text, site, cursor, effects,
-        ),
-        Act::If(re, cmd) => repeat(alloc, cmd, Where, re, kept, text, site, cursor, effects),
-        Act::Unless(re, cmd) => repeat(alloc, cmd, WhereNot, re, kept, text, site, cursor, effects),
-        Act::Block(all) => run_all(alloc, all.as_slice(), text, site, range, cursor, effects),
-        Act::Pipe(command) => ask_with(alloc, JobKind::Pipe, command, site, text, range, effects),
-        Act::From(command) => ask_without(alloc, command, site, effects),
-        Act::To(command) => ask_with(alloc, JobKind::To, command, site, text, range, effects),
+        Act::Move(to) => move_text(over, to, dot, range, effects),
+        Act::Copy(to) => copy_text(over, to, dot, range, effects),
+        Act::Print => print(over, range, effects),
+        Act::LineNo => print_lines(over, range, doing),
+        Act::CharNo => print_places(over.alloc, over.site, range, effects),
+        Act::Each(re, cmd) => repeat(cmd, ForEach, re, kept, over, doing),
+        Act::Between(re, cmd) => repeat(cmd, ForBetween, re, kept, over, doing),
+        Act::If(re, cmd) => repeat(cmd, Where, re, kept, over, doing),
+        Act::Unless(re, cmd) => repeat(cmd, WhereNot, re, kept, over, doing),
+        Act::Block(all) => run_all(all.as_slice(), over, range, doing),
+        Act::Pipe(command) => ask_with(over, JobKind::Pipe, command, range, effects),
+        Act::From(command) => ask_without(over, command, effects),
+        Act::To(command) => ask_with(over, JobKind::To, command, range, effects),
     }
 }
 
 /// Does a command, where dot is this range. The machine is that of its own expression, or none.
 #[cycle(command)]
 pub fn run<T: Letters>(
-    alloc: Global,
     cmd: &Cmd,
     kept: &Kept,
-    text: &T,
-    site: &Site,
+    over: &Over<T>,
     dot: Range,
-    cursor: &mut LineCursor,
-    effects: &mut Effects,
+    doing: &mut Doing,
 ) -> Result<(), EditFault>
     requires kept { IsKept (action cmd.now.act) kept.now }
-    requires dot { IsInside (T.letters text.now) dot }
-    requires cursor { IsCursorOf (T.letters text.now) cursor.old }
-    requires within { IsWithin (T.letters text.now) effects.old }
-    ensures value { OnOk result (meaning (command cmd.now) (T.letters text.now) site.now dot effects.old ≡ Ok effects.new) }
-    ensures fault { IfErr result (λ e. IsFault e (meaning (command cmd.now) (T.letters text.now) site.now dot effects.old)) }
-    ensures cursor { OnOk result (IsCursorOf (T.letters text.now) cursor.new) }
-    ensures within { OnOk result (IsWithin (T.letters text.now) effects.new) }
+    requires dot { IsInside (T.letters over.now.text.now) dot }
+    requires cursor { IsCursorOf (T.letters over.now.text.now) doing.old.cursor }
+    requires within { IsWithin (T.letters over.now.text.now) doing.old.effects }
+    ensures value { OnOk result (meaning (command cmd.now) (T.letters over.now.text.now) over.now.site.now dot doing.old.effects ≡ Ok doing.new.effects) }
+    ensures fault { IfErr result (λ e. IsFault e (meaning (command cmd.now) (T.letters over.now.text.now) over.now.site.now dot doing.old.effects)) }
+    ensures cursor { OnOk result (IsCursorOf (T.letters over.now.text.now) doing.new.cursor) }
+    ensures within { OnOk result (IsWithin (T.letters over.now.text.now) doing.new.effects) }
 {
-    let range = range_of(alloc, &cmd.addr, text, dot)?;
-    effects.begin(range);
-    act(alloc, &cmd.act, kept, text, site, dot, cursor, effects)
+    let range = range_of(over, &cmd.addr, dot)?;
+    doing.effects.begin(range);
+    act(&cmd.act, kept, over, dot, doing)
 }

@@ -228,15 +228,15 @@ same-delete s w at o h n =
     (ap (λ (g : EventFile). spelled_in o g.items) file)
     (ap (λ (g : EventFile). carry_of g.openings o) file)
 
-idle-serve : (s : BookState) (at o : ℕ) → Same s (record s { latest = at }) o
-idle-serve s at o = (refl, refl)
+idle-serve : (s : BookState) (o : ℕ) → Same s s o
+idle-serve s o = (refl, refl)
 
 pub nothing_else : NothingElseGives
 nothing_else s o h l = record {
   add = λ w. same-add s w o h l;
   put = λ w item. same-with s w (with_item (file_of s.files w) item) s.latest o s.reads h (spelled-push o (file_of s.files w).items item) refl;
   waits = λ r at e. rw e (ask-waits s r at o);
-  idle = λ at e. rw e (idle-serve s at o);
+  idle = λ at e. rw e (idle-serve s o);
   written = λ w number at. same-with s w (with_written (file_of s.files w) number at) at o s.reads h (spelled-written o at number (file_of s.files w).items) refl;
   cancel = λ conn tag. (refl, refl);
   leave = λ other at n. same-leave s other at o h n;

@@ -189,7 +189,7 @@ lawful-without_next s h = record {
 }
 
 lawful-next : (next : Option Asker) (s : BookState) (at : ℕ) → s.latest ≤ at → ((r : Asker) → next ≡ Some r → is_living s r.opening ≡ true) → IsLawful s → IsLawful (after_next next s at)
-lawful-next None s at l n h = later s at l h
+lawful-next None s at l n h = h
 lawful-next (Some r) s at l n h = lawful-answer (without_next s) r at l (n r refl) (lawful-without_next s h)
 
 pub lawful-serve : (s : BookState) (at : ℕ) → s.latest ≤ at → IsLawful s → IsLawful (after_serve s at)

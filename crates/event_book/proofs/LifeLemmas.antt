@@ -128,15 +128,15 @@ closed_taken now x item o at h =
 waits_taken : (s : BookState) (r : Asker) (at : ℕ) → TakesNone s (record s { reads = s.reads ++ r ∷ []; latest = at })
 waits_taken s r at = λ v n item o e k. k
 
-idle_taken : (s : BookState) (at : ℕ) → TakesNone s (record s { latest = at })
-idle_taken s at = λ v n item o e k. k
+idle_taken : (s : BookState) → TakesNone s s
+idle_taken s = λ v n item o e k. k
 
 pub only_answers_take : TakenByAnswers
 only_answers_take s h = record {
   add = λ w. with_items WasTaken was_taken s w (enlisted (file_of s.files w) (next_opening s)) h (λ n. was_taken (numbered (file_of s.files w).items n));
   put = λ w new. with_items WasTaken was_taken s w (with_item (file_of s.files w) new) h (by_number WasTaken was_taken (file_of s.files w).items ((file_of s.files w).items ++ fresh new ∷ []) (pushed WasTaken was_taken new (fresh_taken new) (file_of s.files w).items));
   waits = λ r at e. rw e (waits_taken s r at);
-  idle = λ at e. rw e (idle_taken s at);
+  idle = λ at e. rw e (idle_taken s);
   written = λ w m at. with_items WasTaken was_taken s w (with_written (file_of s.files w) m at) h (by_number WasTaken was_taken (file_of s.files w).items (written_back at m (file_of s.files w).items) (written WasTaken was_taken at (written_taken at) m (file_of s.files w).items));
   cancel = λ conn tag. λ v n item o e k. k;
   leave = λ o at. with_items WasTaken was_taken s (window_of s.owners o) (left (file_on s o) o at) h (left_items WasTaken was_taken at (closed_taken at) (without_opening (file_on s o).openings o) (file_on s o));

@@ -120,7 +120,7 @@ abbrev pub without_next : BookState → BookState
 without_next s = record s { reads = without_first (is_ready s.files s.owners) s.reads }
 
 abbrev pub after_next : Option Asker → BookState → ℕ → BookState
-after_next None s at = record s { latest = at }
+after_next None s at = s
 after_next (Some r) s at = after_answer (without_next s) r at
 
 abbrev pub after_serve : BookState → ℕ → BookState

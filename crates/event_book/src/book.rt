@@ -130,7 +130,7 @@ impl Book {
     }
 
     /// Answers the oldest waiting read over all windows that can be answered. None exactly where
-    /// there is none.
+    /// there is none, and then nothing changes.
     pub fn serve(&mut self, at: u64) -> Result<Option<(Asker, Piece)>, NoMemory>
         requires { self.old.present.latest ≤ at }
         ensures answer { IfOk result (λ served. served ≡ served_of self.old.present) }

@@ -259,14 +259,6 @@ impl Tables {
         self.reads.take_ready(&offer);
     }
 
-    // A call had this entry.
-    fn pass(&mut self, at: u64)
-        ensures { self.new ≡ record self.old { present = record self.old.present { latest = at } } }
-    {
-        self.changed = true;
-        self.latest = at;
-    }
-
     /// Answers the oldest waiting read that can be answered, at this entry.
     pub fn serve(&mut self, at: u64) -> Result<Option<(Asker, Piece)>, NoMemory>
         requires { AllLiving self.old.present }
@@ -275,7 +267,6 @@ impl Tables {
         ensures err { OnErr result (self.new ≡ both self.old.kept) }
     {
         let Some(asker) = self.next() else {
-            self.pass(at);
             return Ok(None);
         };
         self.take_next();

@@ -105,6 +105,20 @@ impl Tree {
         false
     }
 
+    /// Whether a file can't be stored at the path: it is a directory, or a directory above it is a file.
+    pub fn clashes_file(&self, path: &[u8]) -> bool
+        ensures { result ≡ file_clashes self.now.present path.now }
+    {
+        self.is_directory(path) || self.is_below_file(path)
+    }
+
+    /// Whether a directory can't be made at the path: it is a file, or a directory above it is a file.
+    pub fn clashes_dir(&self, path: &[u8]) -> bool
+        ensures { result ≡ directory_clashes self.now.present path.now }
+    {
+        self.is_file(path) || self.is_below_file(path)
+    }
+
     /// Puts a path that isn't there in its place.
     fn add(&mut self, path: &[u8], node: Node) -> Result<(), NoMemory>
         requires { entry_at self.old.present path.now ≡ None }
@@ -197,7 +211,7 @@ impl Tree {
         ensures ok { OnOk result (self.new ≡ record self.old { present = after_file self.old.present path.now bytes.now }) }
         ensures no_memory { result ≡ Err fault.NoMemory → self.new ≡ both self.old.kept }
     {
-        if self.is_directory(path) || self.is_below_file(path) {
+        if self.clashes_file(path) {
             return Err(TreeFault::Clash);
         }
         match self.try_file(path, bytes) {
@@ -227,7 +241,7 @@ impl Tree {
         ensures ok { OnOk result (self.new ≡ record self.old { present = after_directory self.old.present path.now }) }
         ensures no_memory { result ≡ Err fault.NoMemory → self.new ≡ both self.old.kept }
     {
-        if self.is_file(path) || self.is_below_file(path) {
+        if self.clashes_dir(path) {
             return Err(TreeFault::Clash);
         }
         match self.try_dir(path) {

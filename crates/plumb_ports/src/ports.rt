@@ -5,7 +5,7 @@ ghost use Rattle.std.specs.List.{list_any};
 ghost use Rattle.am_text.specs.Twice.{Twice, both, IsSteady};
 ghost use Rattle.wait_queue.specs.Reads.{is_read};
 ghost use Rattle.plumb_ports.specs.PortList.{named, edit_name, is_there, number_of};
-ghost use Rattle.plumb_ports.specs.PortsState.{PortsState, beginning, is_open, has_joined, HasJoined, added_number, after_add, after_join, refusal, Refuses, after_fault, after_deliver, delivered_at, read_waits, piece_for, after_answer, asked_of, after_ask, next_of, without_next, served_of, after_serve, after_cancel, after_leave};
+ghost use Rattle.plumb_ports.specs.PortsState.{PortsState, beginning, is_open, is_full, has_joined, HasJoined, added_number, after_add, after_join, refusal, Refuses, after_fault, after_deliver, delivered_at, read_waits, piece_for, after_answer, asked_of, after_ask, next_of, without_next, served_of, after_serve, after_cancel, after_leave};
 
 use crate::fault::PortFault;
 use crate::opening_table::OpeningTable;
@@ -141,6 +141,13 @@ impl Ports {
         self.openings.has_port(port)
     }
 
+    /// Whether the port with this number keeps as many messages as it may.
+    pub fn is_full(&self, port: u32) -> bool
+        ensures { result ≡ is_full self.now.present port }
+    {
+        self.table.kept(port).len() >= KEPT_MESSAGES
+    }
+
     /// Whether this opening joined a port, and hasn't left.
     pub fn has_joined(&self, opening: u32) -> bool
         ensures { result ≡ has_joined self.now.present opening }
@@ -221,7 +228,7 @@ impl Ports {
         if !keep {
             return Err(PortFault::Closed);
         }
-        if self.table.kept(port).len() >= KEPT_MESSAGES {
+        if self.is_full(port) {
             return Err(PortFault::Full);
         }
         Ok(port)

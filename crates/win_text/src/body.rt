@@ -1,6 +1,7 @@
 //! The body of a window.
 
-ghost use Rattle.std.specs.Prelude.{◌≡◌, ◌<◌, ◌≤◌, ◌+◌, ◌^◌, ◌==◌, not, [], length, slice_range, IfOk, IfSome, OnOk};
+ghost use Rattle.std.specs.Prelude.{◌≡◌, ◌<◌, ◌≤◌, ◌+◌, ◌^◌, ◌==◌, not, [], length, take, drop, slice_range, IfOk, IfSome, OnOk};
+ghost use Rattle.am_text.specs.Utf8.{utf8};
 ghost use Rattle.edit_log.specs.Edited.{text_after};
 ghost use Rattle.win_text.specs.Bodies.{empty_body, IsInside, IsLimitInside, IsSound, AreInRange, moved, moved_limit, group_for, put_length, with_dot, with_addr, with_limit, marked_body, undo_plan_of, redo_plan_of, IsPlanFor, IsReady, applied, history_of};
 ghost use Rattle.win_text.specs.Traces.{total, shape_of, made, settled_shape, trace_of, unmade, CanUnmake, noted_trace, marks_of};
@@ -12,7 +13,7 @@ use crate::groups::{group_for, kind_of, make_edits, note_plan, reserve_log, rune
 use crate::plans::plan_of_any;
 use crate::ranges::range_after;
 use crate::types::{Marks, PlanKind, Ready, TextPlan, Trace, TraceKind};
-use am_text::{Letters, NoMemory, Range, Rune, Runes};
+use am_text::{Bytes, Letters, NoMemory, Range, Rune, Runes};
 use edit_log::{Edit, Edits, UndoLog};
 use rune_gap::RuneText;
 use std::alloc::Global;
@@ -115,6 +116,14 @@ impl Body {
         ensures { IfOk result (λ runes. runes ≡ self.now.state.text) }
     {
         self.text.slice(0, self.text.len())
+    }
+
+    /// The bytes of the text in UTF-8 from an offset on, at most `count` of them. A rune may be cut at
+    /// both ends. What stands before the offset isn't walked over.
+    pub fn part(&self, offset: u64, count: usize) -> Result<Bytes, NoMemory>
+        ensures { IfOk result (λ bytes. bytes ≡ take count (drop offset (utf8 self.now.state.text))) }
+    {
+        self.text.part(offset, count)
     }
 
     /// Sets dot. It takes no memory.

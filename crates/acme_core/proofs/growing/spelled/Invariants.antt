@@ -1,5 +1,6 @@
 use Rattle.std.proofs.Common.{◌≡◌, ◌++◌, drop}
-use Rattle.acme_core.specs.Unsent.{replies_of, HaveBytes}
+use Rattle.acme_core.specs.Replies.{replies_of}
+use Rattle.core_outputs.specs.Unsent.{HaveBytes}
 use Rattle.acme_core.proofs.growing.spelled.Given as goal
 
 abbrev pub invariant-loop-response : goal.invariant-loop-response

@@ -8,18 +8,18 @@ use Rattle.am_serve.proofs.reading.read_messages.Goals as goal
 
 pub loop-init : goal.loop-init
 loop-init g c =
-    let P : List ℕ → Type 0 = λ x. ReadSoFar c.args.conn (g.C.Counter.known c.args.seat.now) (g.C.Counter.known c.args.seat.now) x whole (g.S.Source.left c.args.source.now) (g.S.Source.left c.args.source.now) in
-    let Q : Budget → Type 0 = λ b. ReadSoFar c.args.conn (g.C.Counter.known c.args.seat.now) (g.C.Counter.known c.args.seat.now) c.new-cutter.result b (g.S.Source.left c.args.source.now) (g.S.Source.left c.args.source.now) in
+    let P : List ℕ → Type 0 = λ x. ReadSoFar g.C.Counter.answer c.args.conn (g.C.Counter.known c.args.seat.now) (g.C.Counter.known c.args.seat.now) x whole (g.S.Source.left c.args.source.now) (g.S.Source.left c.args.source.now) in
+    let Q : Budget → Type 0 = λ b. ReadSoFar g.C.Counter.answer c.args.conn (g.C.Counter.known c.args.seat.now) (g.C.Counter.known c.args.seat.now) c.new-cutter.result b (g.S.Source.left c.args.source.now) (g.S.Source.left c.args.source.now) in
     record {
       fits = c.requires.fits;
-      so_far = subst Q (sym c.new-budget.ensures) (subst P (sym c.new-cutter.ensures) (read_nothing c.args.conn (g.C.Counter.known c.args.seat.now) (g.S.Source.left c.args.source.now)));
+      so_far = subst Q (sym c.new-budget.ensures) (subst P (sym c.new-cutter.ensures) (read_nothing g.C.Counter.answer c.args.conn (g.C.Counter.known c.args.seat.now) (g.S.Source.left c.args.source.now)));
       later = omega arith;
     }
 
 pub returns-in-Err-send_message-clause-reads : goal.returns-in-Err-send_message-clause-reads
 returns-in-Err-send_message-clause-reads g c =
     let t : TakesFirst c.loop.cutter c.next-in-loop.new.self c.next-in-loop.new.into = rw c.in-Ok-Whole.field-0-is at c.in-Ok-Whole.ensures.takes in
-    stops_sending g.C.Counter.enabled c.args.conn (g.C.Counter.known c.args.seat.now) (g.C.Counter.known c.loop.seat) (g.C.Counter.known c.send_message.new.seat)
+    stops_sending g.C.Counter.enabled g.C.Counter.answer c.args.conn (g.C.Counter.known c.args.seat.now) (g.C.Counter.known c.loop.seat) (g.C.Counter.known c.send_message.new.seat)
     c.loop.cutter c.next-in-loop.new.self c.next-in-loop.new.into c.as_slice-bytes.result.now c.loop.budget c.in-Err-send_message.stop
     (g.S.Source.left c.args.source.now) (g.S.Source.left c.loop.source)
     c.loop.invariant.so_far t c.as_slice-bytes.ensures (search rules) c.in-Err-send_message.ensures.err
@@ -30,7 +30,7 @@ loop-preserved-in_default g c =
     record {
       fits = c.send_message.ensures.fits;
       so_far =
-          sends_on g.C.Counter.enabled c.args.conn (g.C.Counter.known c.args.seat.now) (g.C.Counter.known c.loop.seat) (g.C.Counter.known c.send_message.new.seat)
+          sends_on g.C.Counter.enabled g.C.Counter.answer c.args.conn (g.C.Counter.known c.args.seat.now) (g.C.Counter.known c.loop.seat) (g.C.Counter.known c.send_message.new.seat)
           c.loop.cutter c.next-in-loop.new.self c.next-in-loop.new.into c.as_slice-bytes.result.now c.loop.budget c.spend.new.self
           (g.S.Source.left c.args.source.now) (g.S.Source.left c.loop.source)
           c.loop.invariant.so_far t c.as_slice-bytes.ensures (search rules) (search rules) c.in_default.ensures.ok;
@@ -40,7 +40,7 @@ loop-preserved-in_default g c =
 pub returns-in-Err-read_more-clause-reads : goal.returns-in-Err-read_more-clause-reads
 returns-in-Err-read_more-clause-reads g c =
     let t : TakesNone c.loop.cutter c.next-in-loop.new.self c.loop.message c.next-in-loop.new.into = rw c.in-Ok-More.field-0-is at c.in-Ok-More.ensures.takes in
-    stops_reading g.C.Counter.enabled c.args.conn (g.C.Counter.known c.args.seat.now) (g.C.Counter.known c.loop.seat) (g.C.Counter.known c.read_more.new.seat)
+    stops_reading g.C.Counter.enabled g.C.Counter.answer c.args.conn (g.C.Counter.known c.args.seat.now) (g.C.Counter.known c.loop.seat) (g.C.Counter.known c.read_more.new.seat)
     c.loop.cutter c.next-in-loop.new.self c.loop.message c.next-in-loop.new.into c.loop.budget c.in-Err-read_more.stop
     (g.S.Source.left c.args.source.now) (g.S.Source.left c.loop.source) (g.S.Source.left c.read_more.new.source) (g.S.Source.faults c.loop.source) (g.S.Source.faults c.read_more.new.source)
     c.loop.invariant.so_far t (rw c.in-Ok-More.field-0-is at c.in-Ok-More.ensures.answer) c.pieces_are_joined.ensures.pieces c.read_more.ensures.looks c.in-Err-read_more.ensures.err
@@ -51,17 +51,17 @@ loop-preserved g c =
     record {
       fits = c.read_more.ensures.fits;
       so_far =
-          reads_on c.args.conn (g.C.Counter.known c.args.seat.now) (g.C.Counter.known c.loop.seat) (g.C.Counter.known c.read_more.new.seat)
+          reads_on g.C.Counter.answer c.args.conn (g.C.Counter.known c.args.seat.now) (g.C.Counter.known c.loop.seat) (g.C.Counter.known c.read_more.new.seat)
           c.loop.cutter c.next-in-loop.new.self c.read_more.new.cutter c.loop.message c.next-in-loop.new.into c.loop.budget
           (g.S.Source.left c.args.source.now) (g.S.Source.left c.loop.source) (g.S.Source.left c.read_more.new.source)
-          c.loop.invariant.so_far t c.pieces_are_joined.ensures.pieces c.read_more.ensures.looks c.in_default-read_more.ensures.ok;
+          c.loop.invariant.so_far t c.pieces_are_joined.ensures.pieces c.read_more.ensures.looks c.in_default-read_more.ensures.ok c.in_default-read_more.ensures.room;
       later = omega (arith, c.loop.invariant.later, c.read_more.ensures.later);
     }
 
 pub returns-then-not-spend-clause-reads : goal.returns-then-not-spend-clause-reads
 returns-then-not-spend-clause-reads g c =
     let t : TakesFirst c.loop.cutter c.next-in-loop.new.self c.next-in-loop.new.into = rw c.in-Ok-Whole.field-0-is at c.in-Ok-Whole.ensures.takes in
-    stops_spent g.C.Counter.enabled c.args.conn (g.C.Counter.known c.args.seat.now) (g.C.Counter.known c.loop.seat)
+    stops_spent g.C.Counter.enabled g.C.Counter.answer c.args.conn (g.C.Counter.known c.args.seat.now) (g.C.Counter.known c.loop.seat)
     c.loop.cutter c.next-in-loop.new.self c.next-in-loop.new.into c.as_slice-bytes.result.now c.loop.budget
     (g.S.Source.left c.args.source.now) (g.S.Source.left c.loop.source)
     c.loop.invariant.so_far t c.as_slice-bytes.ensures (search rules)

@@ -15,8 +15,18 @@ returns-then-is_err-clause-wrote g c =
     (g.K.Sink.held c.args.sink.now) (g.K.Sink.held c.loop.sink) (g.K.Sink.held c.write_all.new.sink)
     c.loop.invariant.wrote (search rules) (search rules)
 
-pub loop-preserved-else-is_err : goal.loop-preserved-else-is_err
-loop-preserved-else-is_err g c = record {
+pub loop-preserved-then-not-is_over : goal.loop-preserved-then-not-is_over
+loop-preserved-then-not-is_over g c = record {
+  fits = c.take.ensures.fits;
+  wrote =
+      wrote_more g.C.Counter.unsent c.args.conn g.C.Counter.enabled (g.C.Counter.known c.args.seat.now) (g.C.Counter.known c.loop.seat) (g.C.Counter.known c.take.new.seat) c.take.new.into
+      (g.K.Sink.held c.args.sink.now) (g.K.Sink.held c.loop.sink) (g.K.Sink.held c.write_all.new.sink)
+      c.loop.invariant.wrote (search rules) (search rules);
+  later = omega (arith, c.loop.invariant.later, c.write_all.ensures.cause.later);
+}
+
+pub loop-preserved-else-not-is_over : goal.loop-preserved-else-not-is_over
+loop-preserved-else-not-is_over g c = record {
   fits = c.take.ensures.fits;
   wrote =
       wrote_more g.C.Counter.unsent c.args.conn g.C.Counter.enabled (g.C.Counter.known c.args.seat.now) (g.C.Counter.known c.loop.seat) (g.C.Counter.known c.take.new.seat) c.take.new.into

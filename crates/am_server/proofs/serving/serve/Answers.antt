@@ -1,4 +1,4 @@
-use Rattle.std.proofs.Common.{◌≤◌, length, List, ℕ, sym, subst}
+use Rattle.std.proofs.Common.{◌≤◌, inl, length, List, ℕ, refl, sym, subst}
 use Rattle.std.specs.Prelude.{IfSome}
 use Rattle.am_base.specs.Outside.{AreTold}
 use Rattle.am_base.specs.Stops.{StopsFor, input_limit}
@@ -22,3 +22,9 @@ returns-in-Err-TooLong g c =
     says_long {G = g.row.H-G.Denot} {L = g.row.H-G-L.Denot} {S = g.row.H-G-L-R.Denot} {K = g.row.H-G-L-W.Denot}
     (outside g.H.G.Gate.name g.H.G.Gate.faults g.H.G.L.Link.begins g.H.G.L.Link.faults g.H.G.L.R.Source.left g.H.G.L.R.Source.faults g.H.G.L.W.Sink.held g.H.G.L.W.Sink.faults)
     c.args.path.now c.args.clients _ _ _ _ _ stopped.0 c.refuse_input.ensures
+
+pub returns-in-Err-ReadFault : goal.returns-in-Err-ReadFault
+returns-in-Err-ReadFault g c =
+    let P : ReadStop → Type 0 = λ x. StopsFor x (g.I.Source.faults c.args.input.now) (g.I.Source.faults c.read_to_end.new.source) (g.I.Source.left c.args.input.now) (g.I.Source.left c.read_to_end.new.source) input_limit in
+    let stopped = subst P c.in-Err-ReadFault.field-0-is c.in-Err-ReadFault.ensures.err in
+    inl (c.idle.ensures.end, stopped, record { silent = refl; empty = c.idle.ensures.journal; none = c.idle.ensures.served })

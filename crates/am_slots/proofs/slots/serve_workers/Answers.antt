@@ -30,5 +30,5 @@ returns-clause-works g c = record {
   count = c.serve_beside.ensures.each.count;
   each = λ k d lt.
       let h = (c.serve_beside.ensures.each.each k d lt).1 in
-      works_at (g.C.Counter.fits c.args.desk.now) g.C.Counter.known (outside g.G.Gate.name g.G.Gate.faults g.L.Link.begins g.L.Link.faults g.S.Source.left g.S.Source.faults g.K.Sink.held g.K.Sink.faults) g.C.Counter.enabled g.C.Counter.unsent k (get_or c.args.workers.now k d) (get_or c.serve_beside.new.workers k d) h.argument.now h.after_call.now h.argument_is h.left h.call;
+      works_at (g.C.Counter.fits c.args.desk.now) g.C.Counter.known (outside g.G.Gate.name g.G.Gate.faults g.L.Link.begins g.L.Link.faults g.S.Source.left g.S.Source.faults g.K.Sink.held g.K.Sink.faults) g.C.Counter.enabled g.C.Counter.unsent g.C.Counter.answer k (get_or c.args.workers.now k d) (get_or c.serve_beside.new.workers k d) h.argument.now h.after_call.now h.argument_is h.left h.call;
 }

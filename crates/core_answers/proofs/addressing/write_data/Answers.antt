@@ -1,6 +1,6 @@
 use Rattle.std.proofs.Common.{arith}
 use Rattle.core_windows.specs.Panes.{window_of}
-use Rattle.core_answers.proofs.Answers.{plain_done}
+use Rattle.core_fids.proofs.Answers.{plain_done}
 use Rattle.core_answers.proofs.Possibly.{data_possible}
 use Rattle.core_answers.proofs.addressing.write_data.Goals as goal
 

@@ -1,4 +1,4 @@
-use Rattle.core_answers.specs.declared.effect.EventChange.TheVariants as events
+use Rattle.core_fids.specs.declared.effect.EventChange.TheVariants as events
 use Rattle.core_events.proofs.Sounds.{sound_cancelled, sound_both}
 use Rattle.core_events.proofs.closing.cancel_read.Goals as goal
 

@@ -3,7 +3,7 @@ use Rattle.am_text.specs.Twice.{Twice}
 use Rattle.event_book.specs.BookState.{BookState, served_of, after_serve}
 use Rattle.core_events.specs.declared.response.Response.{Response}
 use Rattle.core_events.specs.Serving.{book_served_all}
-use Rattle.core_events.proofs.Turns.{said_more, more_said, book_all_more, all_none, book_all_none, fewer, sound_after}
+use Rattle.core_events.proofs.Turns.{said_more, more_said, book_all_more, all_none, idle, book_all_none, fewer, sound_after}
 use Rattle.core_events.proofs.serving.serve_all.Goals as goal
 
 pub loop-said-smaller : goal.loop-said-smaller
@@ -36,6 +36,8 @@ returns-clause-exact c =
 
 pub returns-clause-ok : goal.returns-clause-ok
 returns-clause-ok c =
+    let none = sym c.in_ok-asker.ensures.answer ∙ c.in_default.is in
     ap (λ (t : Twice BookState). t.present) c.in_ok-asker.ensures.ok
-    ∙ sym (book_all_none c.args.at c.loop-said.book.present (sym c.in_ok-asker.ensures.answer ∙ c.in_default.is))
+    ∙ idle c.args.at c.loop-said.book.present none
+    ∙ sym (book_all_none c.args.at c.loop-said.book.present none)
     ∙ c.loop-said.invariant.rest

@@ -1,11 +1,11 @@
 use Rattle.std.proofs.Common.{◌≡◌, take, filter}
-use Rattle.core_answers.specs.declared.refusal.Refusal.TheVariants as refusal
+use Rattle.core_fids.specs.declared.refusal.Refusal.TheVariants as refusal
 use Rattle.core_events.specs.Responses.{AreSaid, errors}
 use Rattle.core_events.specs.Waits.{is_of_fid}
 use Rattle.core_events.proofs.waits.clunked_reads.Given as goal
 
 abbrev pub invariant-loop-k : goal.invariant-loop-k
 invariant-loop-k l = record {
-  exact : l.said ≡ errors refusal.FidClunked (filter (is_of_fid l.conn l.fid) (take l.k l.sessions.present.waiting));
+  exact : l.said ≡ errors refusal.FidClunked l.sessions.present (filter (is_of_fid l.conn l.fid) (take l.k l.sessions.present.waiting));
   said : AreSaid l.said;
 }

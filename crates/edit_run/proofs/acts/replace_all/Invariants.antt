@@ -8,7 +8,7 @@ use Rattle.edit_run.proofs.acts.replace_all.Given as goal
 
 abbrev pub invariant-loop-rest : goal.invariant-loop-rest
 invariant-loop-rest g l =
-    let t = g.T.Letters.letters l.text in
+    let t = g.T.Letters.letters l.over.text.now in
     let text = substituted (tree l.re) t l.with in
     record {
       matches : AreMatches (tree l.re) t l.rest;

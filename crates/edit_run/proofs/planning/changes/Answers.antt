@@ -10,7 +10,7 @@ use Rattle.edit_run.proofs.planning.changes.Goals as goal
 pub returns-clause-dot : goal.returns-clause-dot
 returns-clause-dot g c =
     let t = g.T.Letters.letters c.args.text.now in
-    let last = c.run.new.effects.last in
+    let last = c.run.new.doing.effects.last in
     let edits = c.in_ok-edits.edits in
     let ranged = c.in_ok-edits.ensures.in_range t (sym c.len.ensures) in
     let inside = dot_inside t last edits c.in_ok-run.ensures.within.last ranged in

@@ -11,9 +11,9 @@ use Rattle.edit_run.proofs.running.+command.Goals as goal
 
 pub act-returns-in-Each-clause-fault : goal.act-returns-in-Each-clause-fault
 act-returns-in-Each-clause-fault g t c =
-    let text = g.T.Letters.letters c.args.text.now in
-    let site = c.args.site.now in
-    let e = c.args.effects.now in
+    let text = g.T.Letters.letters c.args.over.now.text.now in
+    let site = c.args.over.now.site.now in
+    let e = c.args.doing.now.effects in
     let all = ranges_of ForEach (tree c.in-Each.re) text e.last in
     let same =
     ap (λ (x : Cmd). for_each (meaning (command x) text site) all e) c.deref.ensures ∙ ap (λ (x : Act). acted (action x) text site c.args.dot e.last e) (sym c.in-Each.is)
@@ -22,9 +22,9 @@ act-returns-in-Each-clause-fault g t c =
 
 pub act-returns-in-Between-clause-fault : goal.act-returns-in-Between-clause-fault
 act-returns-in-Between-clause-fault g t c =
-    let text = g.T.Letters.letters c.args.text.now in
-    let site = c.args.site.now in
-    let e = c.args.effects.now in
+    let text = g.T.Letters.letters c.args.over.now.text.now in
+    let site = c.args.over.now.site.now in
+    let e = c.args.doing.now.effects in
     let all = ranges_of ForBetween (tree c.in-Between.re) text e.last in
     let same =
     ap (λ (x : Cmd). for_each (meaning (command x) text site) all e) c.deref-in-Between.ensures ∙ ap (λ (x : Act). acted (action x) text site c.args.dot e.last e) (sym c.in-Between.is)
@@ -33,20 +33,20 @@ act-returns-in-Between-clause-fault g t c =
 
 pub act-returns-in-Block-clause-value : goal.act-returns-in-Block-clause-value
 act-returns-in-Block-clause-value g t c =
-    let text = g.T.Letters.letters c.args.text.now in
-    let site = c.args.site.now in
-    let e = c.args.effects.now in
+    let text = g.T.Letters.letters c.args.over.now.text.now in
+    let site = c.args.over.now.site.now in
+    let e = c.args.doing.now.effects in
     let same =
-    ap (λ (x : List Cmd). list_done x text site c.args.effects.now.last e) c.as_slice-in-Block.ensures.value ∙ (block_done c.in-Block.all text site c.args.dot c.args.effects.now.last e ∙ ap (λ (x : Act). acted (action x) text site c.args.dot c.args.effects.now.last e) (sym c.in-Block.is))
+    ap (λ (x : List Cmd). list_done x text site c.args.doing.now.effects.last e) c.as_slice-in-Block.ensures.value ∙ (block_done c.in-Block.all text site c.args.dot c.args.doing.now.effects.last e ∙ ap (λ (x : Act). acted (action x) text site c.args.dot c.args.doing.now.effects.last e) (sym c.in-Block.is))
     in
-    subst (λ (o : Outcome). OnOk c.run_all.result (o ≡ Ok c.run_all.new.effects)) same c.run_all.ensures.value
+    subst (λ (o : Outcome). OnOk c.run_all.result (o ≡ Ok c.run_all.new.doing.effects)) same c.run_all.ensures.value
 
 pub act-returns-in-Block-clause-fault : goal.act-returns-in-Block-clause-fault
 act-returns-in-Block-clause-fault g t c =
-    let text = g.T.Letters.letters c.args.text.now in
-    let site = c.args.site.now in
-    let e = c.args.effects.now in
+    let text = g.T.Letters.letters c.args.over.now.text.now in
+    let site = c.args.over.now.site.now in
+    let e = c.args.doing.now.effects in
     let same =
-    ap (λ (x : List Cmd). list_done x text site c.args.effects.now.last e) c.as_slice-in-Block.ensures.value ∙ (block_done c.in-Block.all text site c.args.dot c.args.effects.now.last e ∙ ap (λ (x : Act). acted (action x) text site c.args.dot c.args.effects.now.last e) (sym c.in-Block.is))
+    ap (λ (x : List Cmd). list_done x text site c.args.doing.now.effects.last e) c.as_slice-in-Block.ensures.value ∙ (block_done c.in-Block.all text site c.args.dot c.args.doing.now.effects.last e ∙ ap (λ (x : Act). acted (action x) text site c.args.dot c.args.doing.now.effects.last e) (sym c.in-Block.is))
     in
     subst (λ (o : Outcome). IfErr c.run_all.result (λ f. IsFault f o)) same c.run_all.ensures.fault

@@ -8,22 +8,22 @@ use Rattle.edit_run.proofs.running.+command.Given as goal
 
 abbrev pub invariant-run_all-loop-cmd : goal.invariant-run_all-loop-cmd
 invariant-run_all-loop-cmd g l =
-    let t = g.T.Letters.letters l.text in
+    let t = g.T.Letters.letters l.over.text.now in
     record {
-      cursor : IsCursorOf t l.cursor;
-      within : IsWithin t l.effects;
-      same : list_done (drop l.cmd-index l.commands) t l.site l.dot l.effects ≡ list_done l.commands t l.site l.dot l.fn.effects;
+      cursor : IsCursorOf t l.doing.cursor;
+      within : IsWithin t l.doing.effects;
+      same : list_done (drop l.cmd-index l.commands) t l.over.site.now l.dot l.doing.effects ≡ list_done l.commands t l.over.site.now l.dot l.fn.doing.effects;
     }
 
 abbrev pub invariant-run_each-loop-rest : goal.invariant-run_each-loop-rest
 invariant-run_each-loop-rest g l =
-    let t = g.T.Letters.letters l.text in
-    let body = meaning (command l.cmd) t l.site in
+    let t = g.T.Letters.letters l.over.text.now in
+    let body = meaning (command l.cmd) t l.over.site.now in
     record {
       ranges : AreInside t l.rest;
-      cursor : IsCursorOf t l.cursor;
-      within : IsWithin t l.effects;
-      same : for_each body l.rest l.effects ≡ for_each body l.ranges l.fn.effects;
+      cursor : IsCursorOf t l.doing.cursor;
+      within : IsWithin t l.doing.effects;
+      same : for_each body l.rest l.doing.effects ≡ for_each body l.ranges l.fn.doing.effects;
     }
 
 abbrev pub decreases-run_each-loop-rest : goal.decreases-run_each-loop-rest

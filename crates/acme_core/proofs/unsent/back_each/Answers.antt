@@ -1,8 +1,0 @@
-use Rattle.std.proofs.Common.{arith}
-use Rattle.acme_core.specs.Unsent.{with_kept}
-use Rattle.wait_queue.proofs.OpeningLemmas.{each_changed}
-use Rattle.acme_core.proofs.unsent.back_each.Goals as goal
-
-pub loop-unsent-preserved : goal.loop-unsent-preserved
-loop-unsent-preserved c =
-    each_changed with_kept _ _ _ c.unsent-item.result _ c.loop-unsent.invariant (omega arith) (cc)

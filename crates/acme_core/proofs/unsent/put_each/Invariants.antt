@@ -1,9 +1,0 @@
-use Rattle.std.proofs.Common.{◌≡◌, map, drop}
-use Rattle.acme_core.specs.Unsent.{put_replies, present_of, kept_of}
-use Rattle.acme_core.proofs.unsent.put_each.Given as goal
-
-abbrev pub invariant-loop-reply : goal.invariant-loop-reply
-invariant-loop-reply l = record {
-  present : put_replies (map present_of l.all) (drop l.reply-index l.replies) ≡ put_replies (map present_of l.initial.all) l.replies;
-  kept : map kept_of l.all ≡ map kept_of l.initial.all;
-}

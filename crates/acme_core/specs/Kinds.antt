@@ -1,0 +1,24 @@
+-- What an event is to connections.
+use Rattle.std.specs.Prelude.{ℕ}
+use Rattle.am_journal.specs.declared.event.Event.{Event}
+use Rattle.am_journal.specs.declared.event.Event.TheVariants as event
+use Rattle.acme_core.specs.declared.kind.Kind.{Kind}
+use Rattle.acme_core.specs.declared.kind.Kind.TheVariants as kind
+
+-- decided once: the stages of a step go by it
+abbrev pub kind_of : Event → Kind
+kind_of (event.Dial conn) = kind.Dials conn
+kind_of (event.Msg conn msg) = kind.Asks conn msg.tag
+kind_of (event.Hang conn why) = kind.Ends conn why
+kind_of (event.Took conn) = kind.Takes conn
+kind_of event.New = kind.Acts
+kind_of (event.Key w side text) = kind.Acts
+kind_of (event.Sel w range) = kind.Acts
+
+-- its connection, 0 where it has none
+abbrev pub conn_of : Kind → ℕ
+conn_of (kind.Dials conn) = conn
+conn_of (kind.Asks conn tag) = conn
+conn_of (kind.Ends conn why) = conn
+conn_of (kind.Takes conn) = conn
+conn_of kind.Acts = 0

@@ -1,0 +1,241 @@
+-- What doing lines says of the program's status, its input and its output.
+use Rattle.std.proofs.Common.{◌≡◌, ◌⊎◌, inl, inr, ℕ, ◌≤◌, Bool, true, false, List, [], ◌∷◌, ◌∙◌, Option, Some, None, refl, sym, ap, subst, ⊎_elim, arith, codes}
+use Rattle.std.specs.Prelude.{Result, Ok, Err, IfSome, is_some}
+use Rattle.std.specs.Char.{encode_utf8}
+use Rattle.std.specs.List.{AllByRecursion}
+use Rattle.std.specs.Str.{is_utf8, chars}
+use Rattle.am_base.specs.Outside.{HasRisen}
+use Rattle.am_base.specs.Written.{Output}
+use Rattle.am_text.specs.Lines.{lines_of}
+use Rattle.am_journal.specs.declared.ending.Ending.{Ending}
+use Rattle.am_journal.specs.declared.event.Event.{Event}
+use Rattle.ninep_types.specs.Fields.{is_text}
+use Rattle.ninep_types.specs.Spelling.{IsString}
+use Rattle.ninep_client.specs.Asking.{Talk, begun}
+use Rattle.ninep_client.specs.declared.fault.CallFault.{CallFault}
+use Rattle.ninep_client.specs.declared.fault.CallFault.TheVariants as fault
+use Rattle.do_lines.specs.declared.line.DoLine.{DoLine}
+use Rattle.do_lines.specs.Lines.{lines_from}
+use Rattle.am_do.specs.declared.running.DoEnd.{DoEnd}
+use Rattle.am_do.specs.declared.running.DoEnd.TheVariants as doing
+use Rattle.am_do.specs.declared.running.Doing.{Doing}
+use Rattle.am_do.specs.declared.stop.Stop.{Stop}
+use Rattle.am_do.specs.declared.stop.Stop.TheVariants as stop
+use Rattle.am_do.specs.Ends as talks
+use Rattle.am_do.specs.Ends.{Peer, Refuses, Lined, Says, end_at, unlinked}
+use Rattle.am_do.specs.Complete.{NothingFails}
+use Rattle.am_do.specs.Talks.{Told, told_of}
+use Rattle.am_do.specs.Went as talking
+use Rattle.am_do.specs.Written.{Comes}
+use Rattle.am_do.proofs.Completing.{says_complete}
+use Rattle.am_slots.specs.Slots.{Outside}
+use Rattle.am_server.specs.Ends.{Given}
+use Rattle.am_server.specs.Replied.{GotAll}
+use Rattle.am_server.specs.Sound.{EndsWell}
+use Rattle.am_server.specs.declared.served.Served.{Served}
+use Rattle.am_server.specs.declared.served.ServedEnd.{ServedEnd}
+use Rattle.am_server.specs.declared.served.ServedEnd.TheVariants as end
+use Rattle.am_words.specs.declared.asked.Tree.{Tree}
+use Rattle.am_words.specs.declared.asked.Tree.TheVariants.{Acme, Plumb}
+use Rattle.am_words.specs.Words.{tree_name}
+use Rattle.acmefs.specs.Does.{Does, closed_by, do_code, ended_by, entry_at, entry_of, how_ended, listed, peer_of, given_of, undialled}
+
+acme_text : is_text (codes "acme") ≡ true
+unfolding is_text is_utf8 chars encode_utf8
+acme_text = refl
+
+plumb_text : is_text (codes "plumb") ≡ true
+unfolding is_text is_utf8 chars encode_utf8
+plumb_text = refl
+
+-- a tree's name fits a message
+pub name_fits : (tree : Tree) (name : List ℕ) → name ≡ tree_name tree → IsString name
+name_fits Acme name is = subst IsString (sym is) (record { text = acme_text; len = omega arith })
+name_fits Plumb name is = subst IsString (sym is) (record { text = plumb_text; len = omega arith })
+
+-- ---- statuses
+
+no_usage : (e : DoEnd) → do_code e ≡ 1 → ⊥
+no_usage doing.Done h = absurd (omega (arith, h))
+no_usage doing.Script h = absurd (omega (arith, h))
+no_usage doing.ReadFault h = absurd (omega (arith, h))
+no_usage doing.HostFault h = absurd (omega (arith, h))
+no_usage doing.Talk h = absurd (omega (arith, h))
+no_usage doing.NoMemory h = absurd (omega (arith, h))
+no_usage doing.WriteFault h = absurd (omega (arith, h))
+
+-- after lines that were done no end tells of the input
+not_read : (why : Option Stop) (failed : Bool) → do_code (end_at why failed) ≡ 3 → ⊥
+not_read None false h = absurd (omega (arith, h))
+not_read None true h = absurd (omega (arith, h))
+not_read (Some stop.Refused) failed h = absurd (omega (arith, h))
+not_read (Some (stop.Fault fault.NoMemory)) failed h = absurd (omega (arith, h))
+not_read (Some (stop.Fault fault.Ended)) failed h = absurd (omega (arith, h))
+not_read (Some (stop.Fault fault.Torn)) failed h = absurd (omega (arith, h))
+not_read (Some (stop.Fault fault.ReadFault)) failed h = absurd (omega (arith, h))
+not_read (Some (stop.Fault fault.WriteFault)) failed h = absurd (omega (arith, h))
+not_read (Some (stop.Fault (fault.Wire f))) failed h = absurd (omega (arith, h))
+not_read (Some (stop.Fault (fault.Unasked n))) failed h = absurd (omega (arith, h))
+not_read (Some (stop.Fault (fault.Kind kind))) failed h = absurd (omega (arith, h))
+not_read (Some (stop.Fault fault.Closed)) failed h = absurd (omega (arith, h))
+not_read (Some (stop.Fault fault.Tags)) failed h = absurd (omega (arith, h))
+not_read (Some (stop.Fault fault.Large)) failed h = absurd (omega (arith, h))
+not_read (Some (stop.Fault (fault.Remote text))) failed h = absurd (omega (arith, h))
+
+-- the output has failed where an end tells so
+put_badly : (why : Option Stop) (failed : Bool) (talk : List ℕ → Told (Unit {0})) (t : Talk) (e : talking.Ends) (o : Output)
+    → do_code (end_at why failed) ≡ 4 → Comes why talk t e failed o → HasRisen o.faults o.faults_now
+put_badly None false talk t e o h comes = absurd (omega (arith, h))
+put_badly None true talk t e o h comes = comes.wrote.holds.risen
+put_badly (Some stop.Refused) failed talk t e o h comes = absurd (omega (arith, h))
+put_badly (Some (stop.Fault fault.NoMemory)) failed talk t e o h comes = absurd (omega (arith, h))
+put_badly (Some (stop.Fault fault.Ended)) failed talk t e o h comes = absurd (omega (arith, h))
+put_badly (Some (stop.Fault fault.Torn)) failed talk t e o h comes = absurd (omega (arith, h))
+put_badly (Some (stop.Fault fault.ReadFault)) failed talk t e o h comes = absurd (omega (arith, h))
+put_badly (Some (stop.Fault fault.WriteFault)) failed talk t e o h comes = absurd (omega (arith, h))
+put_badly (Some (stop.Fault (fault.Wire f))) failed talk t e o h comes = absurd (omega (arith, h))
+put_badly (Some (stop.Fault (fault.Unasked n))) failed talk t e o h comes = absurd (omega (arith, h))
+put_badly (Some (stop.Fault (fault.Kind kind))) failed talk t e o h comes = absurd (omega (arith, h))
+put_badly (Some (stop.Fault fault.Closed)) failed talk t e o h comes = absurd (omega (arith, h))
+put_badly (Some (stop.Fault fault.Tags)) failed talk t e o h comes = absurd (omega (arith, h))
+put_badly (Some (stop.Fault fault.Large)) failed talk t e o h comes = absurd (omega (arith, h))
+put_badly (Some (stop.Fault (fault.Remote text))) failed talk t e o h comes = absurd (omega (arith, h))
+
+-- where nothing outside fails and all is answered, all is done, or memory runs out
+good_code : (e : DoEnd) (status : ℕ) → status ≡ do_code e → (e ≡ doing.Done) ⊎ (e ≡ doing.NoMemory) → (status ≡ 0) ⊎ (status ≡ 6)
+good_code e status is (inl done) = inl (is ∙ ap do_code done)
+good_code e status is (inr none) = inr (is ∙ ap do_code none)
+
+module _ {L S K : Type 0} where
+  code_at : (e : DoEnd) (d : Doing L S K) → d ≡ unlinked e → do_code d.end ≡ do_code e
+  code_at e d is = ap (λ (x : Doing L S K). do_code x.end) is
+
+  refused_code : (line : ℕ) (word : List ℕ) (o : Output) (d : Doing L S K) → Refuses line word o d → (do_code d.end ≡ 2) ⊎ (do_code d.end ≡ 6)
+  refused_code line word o d (inl r) = inl (code_at doing.Script d r.nothing)
+  refused_code line word o d (inr r) = inr (code_at doing.NoMemory d r.nothing)
+
+  not_refused : (line : ℕ) (word : List ℕ) (o : Output) (d : Doing L S K) (n : ℕ) → (2 ≡ n → ⊥) → (6 ≡ n → ⊥) → Refuses line word o d → do_code d.end ≡ n → ⊥
+  not_refused line word o d n two six r h = ⊎_elim (λ (x : do_code d.end ≡ 2). two (sym x ∙ h)) (λ (x : do_code d.end ≡ 6). six (sym x ∙ h)) (refused_code line word o d r)
+
+  lined_read : (m : Peer L S K) (tree : List ℕ) (read : Result (List DoLine) ℕ) (i : talks.Given) (o : Output) (d : Doing L S K) → Lined m tree read i o d → do_code d.end ≡ 3 → ⊥
+  lined_read m tree (Err k) i o d r h = not_refused k (codes "line") o d 3 (λ x. absurd (omega (arith, x))) (λ x. absurd (omega (arith, x))) r h
+  lined_read m tree (Ok lines) i o d (inl x) h = absurd (omega (arith, code_at doing.HostFault d x.0.nothing, h))
+  lined_read m tree (Ok lines) i o d (inr (inl x)) h = absurd (omega (arith, ap (λ (y : Doing L S K). do_code y.end) x.none, h))
+  lined_read m tree (Ok lines) i o d (inr (inr x)) h = not_read d.stop x.failed (sym (ap do_code x.ended) ∙ h)
+
+  said_read : (m : Peer L S K) (tree : List ℕ) (i : talks.Given) (o : Output) (d : Doing L S K) → Says m tree i o d → do_code d.end ≡ 3
+      → HasRisen i.faults i.faults_now × (o.held_now ≡ o.held)
+  said_read m tree i o d (inl s) h = (s.1, s.0.silent)
+  said_read m tree i o d (inr (inl (long, r))) h = absurd (not_refused 0 (codes "input") o d 3 (λ x. absurd (omega (arith, x))) (λ x. absurd (omega (arith, x))) r h)
+  said_read m tree i o d (inr (inr (inl w))) h = absurd (omega (arith, code_at doing.NoMemory d w.nothing, h))
+  said_read m tree i o d (inr (inr (inr (bytes, told, fits, lined)))) h = absurd (lined_read m tree (lines_from 1 (lines_of bytes)) i o d lined h)
+
+  lined_written : (m : Peer L S K) (tree : List ℕ) (read : Result (List DoLine) ℕ) (i : talks.Given) (o : Output) (d : Doing L S K) → Lined m tree read i o d → do_code d.end ≡ 4
+      → HasRisen o.faults o.faults_now
+  lined_written m tree (Err k) i o d r h = absurd (not_refused k (codes "line") o d 4 (λ x. absurd (omega (arith, x))) (λ x. absurd (omega (arith, x))) r h)
+  lined_written m tree (Ok lines) i o d (inl x) h = absurd (omega (arith, code_at doing.HostFault d x.0.nothing, h))
+  lined_written m tree (Ok lines) i o d (inr (inl x)) h = absurd (omega (arith, ap (λ (y : Doing L S K). do_code y.end) x.none, h))
+  lined_written m tree (Ok lines) i o d (inr (inr x)) h =
+      put_badly d.stop x.failed (told_of tree lines) begun (talking.ends x.held (m.held x.writer) 0 (m.sink_faults x.writer) (m.begins x.link) (m.left x.reader) 0 (m.source_faults x.reader)) o
+      (sym (ap do_code x.ended) ∙ h) x.comes
+
+  said_written : (m : Peer L S K) (tree : List ℕ) (i : talks.Given) (o : Output) (d : Doing L S K) → Says m tree i o d → do_code d.end ≡ 4 → HasRisen o.faults o.faults_now
+  said_written m tree i o d (inl s) h = absurd (omega (arith, code_at doing.ReadFault d s.0.nothing, h))
+  said_written m tree i o d (inr (inl (long, r))) h = absurd (not_refused 0 (codes "input") o d 4 (λ x. absurd (omega (arith, x))) (λ x. absurd (omega (arith, x))) r h)
+  said_written m tree i o d (inr (inr (inl w))) h = absurd (omega (arith, code_at doing.NoMemory d w.nothing, h))
+  said_written m tree i o d (inr (inr (inr (bytes, told, fits, lined)))) h = lined_written m tree (lines_from 1 (lines_of bytes)) i o d lined h
+
+-- ---- no entry of a client tells of a served connection's end
+
+not_served : (f : CallFault) (why : Ending) → closed_by f ≡ end.Ended why → ⊥
+not_served (fault.Remote text) why e = cc
+not_served fault.Large why e = cc
+not_served fault.Tags why e = cc
+not_served fault.Closed why e = cc
+not_served fault.WriteFault why e = cc
+not_served fault.ReadFault why e = cc
+not_served fault.Ended why e = cc
+not_served fault.Torn why e = cc
+not_served (fault.Wire f) why e = cc
+not_served (fault.Unasked n) why e = cc
+not_served (fault.Kind kind) why e = cc
+not_served fault.NoMemory why e = cc
+
+not_ended : (why : Option Stop) (cause : Ending) → ended_by why ≡ end.Ended cause → ⊥
+not_ended None cause e = cc
+not_ended (Some stop.Refused) cause e = cc
+not_ended (Some (stop.Fault f)) cause e = not_served f cause e
+
+not_dialled : (e : DoEnd) (cause : Ending) → undialled e ≡ Some (end.Ended cause) → ⊥
+not_dialled doing.Done cause is = cc
+not_dialled doing.Script cause is = cc
+not_dialled doing.ReadFault cause is = cc
+not_dialled doing.HostFault cause is = cc
+not_dialled doing.Talk cause is = cc
+not_dialled doing.NoMemory cause is = cc
+not_dialled doing.WriteFault cause is = cc
+
+never_ended : (e : DoEnd) (is_linked is_halved : Bool) (why : Option Stop) (cause : Ending) → how_ended e is_linked is_halved why ≡ Some (end.Ended cause) → ⊥
+never_ended e is_linked true why cause is = not_ended why cause (let k : ended_by why ≡ end.Ended cause = cc in k)
+never_ended e true false why cause is = cc
+never_ended e false false why cause is = not_dialled e cause is
+
+module _ {G L S K : Type 0} where
+  -- what is promised of connections that were served holds of an entry that tells of none
+  all_at : (P : Served G L S K → Type 0) (d : Doing L S K) (o : Option ServedEnd) → ((s : Served G L S K) → o ≡ Some s.end → P s) → AllByRecursion P (listed (entry_at {G = G} d o))
+  all_at P d None f = tt
+  all_at P d (Some e) f = (f (record { slot = 0; gate = None; link = d.link; reader = d.reader; writer = d.writer; end = e }) refl, tt)
+
+  all_of : (P : Served G L S K → Type 0) (served : List (Served G L S K)) (d : Doing L S K) → served ≡ listed (entry_of d)
+      → ((s : Served G L S K) → how_ended d.end (is_some d.link) (is_some d.reader) d.stop ≡ Some s.end → P s) → AllByRecursion P served
+  all_of P served d is f = subst (λ (l : List (Served G L S K)). AllByRecursion P l) (sym is) (all_at P d (how_ended d.end (is_some d.link) (is_some d.reader) d.stop) f)
+
+  no_cause : (d : Doing L S K) (s : Served G L S K) (cause : Ending) → how_ended d.end (is_some d.link) (is_some d.reader) d.stop ≡ Some s.end → s.end ≡ end.Ended cause → ⊥
+  no_cause d s cause is e = never_ended d.end (is_some d.link) (is_some d.reader) d.stop cause (is ∙ ap (λ (x : ServedEnd). Some x) e)
+
+  pub complete_at : (status : ℕ) (m : Outside G L S K) (tree : List ℕ) (i : Given) (o : Output) (d : Doing L S K) → status ≡ do_code d.end → Says (peer_of m) tree (given_of i) o d
+      → IfSome i.told (λ bytes. NothingFails (peer_of m) tree bytes (given_of i) o d → (status ≡ 0) ⊎ (status ≡ 6))
+  complete_at status m tree i o d is says = by_case i.told refl
+    where
+      by_case : (t : Option (List ℕ)) → i.told ≡ t → IfSome t (λ bytes. NothingFails (peer_of m) tree bytes (given_of i) o d → (status ≡ 0) ⊎ (status ≡ 6))
+      by_case None told = tt
+      by_case (Some bytes) told = λ n. good_code d.end status is (says_complete (peer_of m) tree bytes (given_of i) o d told says n)
+
+  module _ (status : ℕ) (m : Outside G L S K) (tree : List ℕ) (i : Given) (o : Output) (served : List (Served G L S K)) (does : Does status m tree i o served) where
+    pub usage : status ≡ 1 → ⊥
+    usage h = no_usage does.doing.end (sym does.coded ∙ h)
+
+    pub read_fault : status ≡ 3 → HasRisen i.faults i.faults_now × (o.held_now ≡ o.held)
+    read_fault h = said_read (peer_of m) tree (given_of i) o does.doing does.says (sym does.coded ∙ h)
+
+    pub write_cause : status ≡ 4 → HasRisen o.faults o.faults_now
+    write_cause h = said_written (peer_of m) tree (given_of i) o does.doing does.says (sym does.coded ∙ h)
+
+    pub replied : (journal : List Event) → AllByRecursion (GotAll m journal) served
+    replied journal = all_of (GotAll m journal) served does.doing does.told (λ s is why sink ended other there fine. absurd (no_cause does.doing s why is ended))
+
+    pub sound : (journal : List Event) → AllByRecursion (EndsWell m journal) served
+    sound journal = all_of (EndsWell m journal) served does.doing does.told (λ s is cause ended sound. absurd (no_cause does.doing s cause is ended))
+
+  pub of_tree : (status : ℕ) (m : Outside G L S K) (a b : Tree) (i : Given) (o : Output) (served : List (Served G L S K)) → a ≡ b → Does status m (tree_name a) i o served → Does status m (tree_name b) i o served
+  of_tree status m a b i o served same d = subst (λ (t : Tree). Does status m (tree_name t) i o served) same d
+
+  -- what came of lines
+  pub done : (status : ℕ) (m : Outside G L S K) (name tree : List ℕ) (i : Given) (o : Output) (served : List (Served G L S K)) (d : Doing L S K) (entry : Option (Served G L S K))
+      → status ≡ do_code d.end → served ≡ listed entry → entry ≡ entry_of d → name ≡ tree → Says (peer_of m) name (given_of i) o d → Does status m tree i o served
+  done status m name tree i o served d entry coded told is same says =
+      let said : Says (peer_of m) tree (given_of i) o d = subst (λ (n : List ℕ). Says (peer_of m) n (given_of i) o d) same says in
+      record {
+        doing = d;
+        coded = coded;
+        told = told ∙ ap (λ (e : Option (Served G L S K)). listed e) is;
+        says = said;
+        complete = complete_at status m tree i o d coded said;
+      }
+
+  -- memory ran out before the words were read
+  pub idle : (status : ℕ) (m : Outside G L S K) (tree : List ℕ) (i : Given) (o : Output) (served : List (Served G L S K)) → o.held_now ≡ o.held → status ≡ 6 → served ≡ [] → Does status m tree i o served
+  idle status m tree i o served silent is none = record { doing = unlinked doing.NoMemory; coded = is; told = none; says = idly; complete = complete_at status m tree i o (unlinked doing.NoMemory) is idly }
+    where
+      idly : Says (peer_of m) tree (given_of i) o (unlinked doing.NoMemory)
+      idly = inr (inr (inl (record { nothing = refl; silent = silent })))

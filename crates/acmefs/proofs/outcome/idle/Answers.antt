@@ -1,0 +1,8 @@
+use Rattle.acmefs.proofs.Idle.{plays, trips}
+use Rattle.acmefs.proofs.outcome.idle.Goals as goal
+
+pub returns-clause-played : goal.returns-clause-played
+returns-clause-played g c = plays _ c.new.ensures
+
+pub returns-clause-round_trip : goal.returns-clause-round_trip
+returns-clause-round_trip g c = trips _ c.new.ensures

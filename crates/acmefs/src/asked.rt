@@ -1,0 +1,199 @@
+//! What the words ask for.
+
+ghost use Rattle.std.specs.Prelude.{◌≡◌, ◌⊎◌, ◌≤◌, ℕ, List, [], Some, None, true, false, IfSome};
+ghost use Rattle.std.specs.List.{AllByRecursion};
+ghost use Rattle.am_base.specs.Outside.{HasRisen};
+ghost use Rattle.am_base.specs.Written.{seen};
+ghost use Rattle.am_counter.specs.Played.{IsPlayed};
+ghost use Rattle.acme_core.specs.Run.{enabled};
+ghost use Rattle.acmefs.specs.declared.replay.End.TheVariants as ends;
+ghost use Rattle.acmefs.specs.Scripts.{script_of};
+ghost use Rattle.acmefs.specs.Ends.{Says, IsIdle, RanTold, IsComplete, Drilled, IsDrilled, IsServeComplete, code_of, serve_code};
+ghost use Rattle.acmefs.specs.Does.{Does};
+ghost use Rattle.acmefs.specs.Own.{PutsOwn, RoundTrips};
+ghost use Rattle.acmefs.specs.Packs.{PackEnds, pack_code};
+ghost use Rattle.acmefs.specs.Traces.{TraceEnds, TraceSays};
+ghost use Rattle.am_pack.specs.Ends.{PackSays};
+ghost use Rattle.am_journal.specs.Journal.{AreSpelled};
+ghost use Rattle.am_words.specs.Words.{are_pack, are_replay, are_trace, asks_do, asks_drill, asks_serve, tree_name, AskDo, AskServe, AreKnown};
+ghost use Rattle.am_words.specs.declared.asked.Tree.{Tree};
+ghost use Rattle.am_server.specs.Ends.{SaysServe, given};
+ghost use Rattle.am_server.specs.Replied.{GotAll};
+ghost use Rattle.am_server.specs.Sound.{EndsWell};
+ghost use Rattle.am_slots.specs.Slots.{outside};
+
+use crate::doing::do_main;
+use crate::drill::drill_main;
+use crate::outcome::{Outcome, idle};
+use crate::replay::{End, code, replay};
+use crate::serving::serve_main;
+use crate::trace::trace;
+use am_base::{Host, Sink, Source};
+use am_pack::{PackEnd, pack};
+use am_text::{Items, NoMemory, Words};
+use am_words::{Asked, read_words};
+use std::alloc::Global;
+use std::sync::Wait;
+use std::thread::Threads;
+
+// What a replay comes to.
+fn replayed<I: Source, O: Sink, H: Host>(alloc: Global, input: &mut I, output: &mut O) -> Outcome<H>
+    ensures says { (end : _) × (result.status ≡ code_of end)
+        × Says end (I.left input.old) (I.faults input.old) (I.faults input.new)
+        (seen (O.held output.old) (O.held output.new) (O.faults output.old) (O.faults output.new)) result.journal }
+    ensures played { IsPlayed enabled result.journal }
+    ensures round_trip { RoundTrips result.journal }
+    ensures none_served { result.served ≡ [] }
+{
+    let ended = replay(alloc, input, output);
+    Outcome {
+        status: code(ended.end),
+        journal: ended.journal,
+        served: Items::new(alloc),
+    }
+}
+
+// What a trace comes to.
+fn traced<I: Source, O: Sink, H: Host>(alloc: Global, input: &mut I, output: &mut O) -> Outcome<H>
+    ensures says { (end : _) × (result.status ≡ code_of end)
+        × TraceSays end (I.left input.old) (I.faults input.old) (I.faults input.new)
+        (seen (O.held output.old) (O.held output.new) (O.faults output.old) (O.faults output.new)) result.journal }
+    ensures played { IsPlayed enabled result.journal }
+    ensures round_trip { RoundTrips result.journal }
+    ensures none_served { result.served ≡ [] }
+{
+    let ended = trace(alloc, input, output);
+    Outcome {
+        status: code(ended.end),
+        journal: ended.journal,
+        served: Items::new(alloc),
+    }
+}
+
+// The status of an end of packing.
+fn pack_code(end: PackEnd) -> u8
+    ensures { result ≡ pack_code end }
+{
+    match end {
+        PackEnd::Done => 0,
+        PackEnd::Script => 2,
+        PackEnd::ReadFault => 3,
+        PackEnd::WriteFault => 4,
+        PackEnd::NoMemory => 6,
+    }
+}
+
+// What packing comes to.
+fn packed<I: Source, O: Sink, H: Host>(alloc: Global, input: &mut I, output: &mut O) -> Outcome<H>
+    ensures says { (end : _) × (result.status ≡ pack_code end)
+        × PackSays end (I.left input.old) (I.faults input.old) (I.faults input.new)
+        (seen (O.held output.old) (O.held output.new) (O.faults output.old) (O.faults output.new)) result.journal }
+    ensures spelled { AreSpelled result.journal }
+    ensures none_served { result.served ≡ [] }
+{
+    let ended = pack(alloc, input, output);
+    Outcome {
+        status: pack_code(ended.end),
+        journal: ended.journal,
+        served: Items::new(alloc),
+    }
+}
+
+// What a drill comes to.
+fn drilled<O: Sink, H: Host>(alloc: Global, rounds: u64, output: &mut O) -> Outcome<H>
+    requires rounds { (1 ≤ rounds) × (rounds ≤ 100000) }
+    ensures drills { Drilled result.status rounds
+        (seen (O.held output.old) (O.held output.new) (O.faults output.old) (O.faults output.new)) result.journal }
+    ensures played { IsPlayed enabled result.journal }
+    ensures round_trip { RoundTrips result.journal }
+    ensures none_served { result.served ≡ [] }
+{
+    let ended = drill_main(alloc, rounds, output);
+    Outcome {
+        status: ended.status,
+        journal: ended.journal,
+        served: Items::new(alloc),
+    }
+}
+
+/// Does what the words ask for. The clauses are those of the groups of `acmefs`, one by one (`specs/Top` says what each means).
+pub(crate) fn do_asked<I: Source, O: Sink, H: Host, R: Threads + Wait + Sync>(
+    rt: &R,
+    alloc: Global,
+    words: &Words,
+    input: &mut I,
+    output: &mut O,
+    host: &mut H,
+) -> Outcome<H>
+    ensures usage { result.status ≡ 1 → ¬ AreKnown words.now }
+    ensures other_words { ¬ AreKnown words.now → result.status ≡ 1 }
+    ensures unread { result.status ≡ 1 → I.left input.new ≡ I.left input.old }
+    ensures idle_words { result.status ≡ 1 → IsIdle
+        (seen (O.held output.old) (O.held output.new) (O.faults output.old) (O.faults output.new)) result.journal }
+    ensures read_fault { result.status ≡ 3 → HasRisen (I.faults input.old) (I.faults input.new) }
+    ensures idle_fault { result.status ≡ 3 → IsIdle
+        (seen (O.held output.old) (O.held output.new) (O.faults output.old) (O.faults output.new)) result.journal }
+    ensures done { are_replay words.now ≡ true → result.status ≡ 0 → RanTold ends.Done (I.left input.old)
+        (seen (O.held output.old) (O.held output.new) (O.faults output.old) (O.faults output.new)) result.journal }
+    ensures script { are_replay words.now ≡ true → result.status ≡ 2 → RanTold ends.Script (I.left input.old)
+        (seen (O.held output.old) (O.held output.new) (O.faults output.old) (O.faults output.new)) result.journal }
+    ensures write_fault { are_replay words.now ≡ true → result.status ≡ 4 → RanTold ends.WriteFault (I.left input.old)
+        (seen (O.held output.old) (O.held output.new) (O.faults output.old) (O.faults output.new)) result.journal }
+    ensures write_cause { result.status ≡ 4 → HasRisen (O.faults output.old) (O.faults output.new) }
+    ensures no_memory { are_replay words.now ≡ true → result.status ≡ 6 → RanTold ends.NoMemory (I.left input.old)
+        (seen (O.held output.old) (O.held output.new) (O.faults output.old) (O.faults output.new)) result.journal }
+    ensures complete { are_replay words.now ≡ true → IfSome (I.left input.old) (λ bytes.
+        IsComplete result.status (script_of bytes) (I.faults input.old) (I.faults input.new)
+        (seen (O.held output.old) (O.held output.new) (O.faults output.old) (O.faults output.new)) result.journal) }
+    ensures headline { are_replay words.now ≡ true → (end : _) × (result.status ≡ code_of end)
+        × Says end (I.left input.old) (I.faults input.old) (I.faults input.new)
+        (seen (O.held output.old) (O.held output.new) (O.faults output.old) (O.faults output.new)) result.journal }
+    ensures own_text { are_replay words.now ≡ true → (end : _) × (result.status ≡ code_of end) × PutsOwn end
+        (seen (O.held output.old) (O.held output.new) (O.faults output.old) (O.faults output.new)) result.journal }
+    ensures traces { are_trace words.now ≡ true → TraceEnds result.status (I.left input.old) (I.faults input.old) (I.faults input.new)
+        (seen (O.held output.old) (O.held output.new) (O.faults output.old) (O.faults output.new)) result.journal }
+    ensures packs { are_pack words.now ≡ true → PackEnds result.status (I.left input.old) (I.faults input.old) (I.faults input.new)
+        (seen (O.held output.old) (O.held output.new) (O.faults output.old) (O.faults output.new)) result.journal }
+    ensures drills { (rounds : ℕ) → asks_drill words.now ≡ Some rounds → Drilled result.status rounds
+        (seen (O.held output.old) (O.held output.new) (O.faults output.old) (O.faults output.new)) result.journal }
+    ensures drilled { (rounds : ℕ) → asks_drill words.now ≡ Some rounds → IsDrilled result.status rounds
+        (seen (O.held output.old) (O.held output.new) (O.faults output.old) (O.faults output.new)) result.journal }
+    ensures drill_reads_none { (rounds : ℕ) → asks_drill words.now ≡ Some rounds → I.left input.new ≡ I.left input.old }
+    ensures none_served { asks_serve words.now ≡ None → asks_do words.now ≡ None → result.served ≡ [] }
+    ensures serves { (path : List ℕ) (clients : ℕ) → AskServe words.now path clients → (end : _) × (result.status ≡ serve_code end)
+        × SaysServe (outside H.G.name H.G.faults H.G.L.begins H.G.L.faults H.G.L.R.left H.G.L.R.faults H.G.L.W.held H.G.L.W.faults) path clients
+        (given (I.left input.old) (I.faults input.old) (I.faults input.new) (H.faults host.old) (H.faults host.new))
+        (seen (O.held output.old) (O.held output.new) (O.faults output.old) (O.faults output.new))
+        result.journal result.served end }
+    ensures replied { (result.status ≡ 0) ⊎ (result.status ≡ 4) → AllByRecursion
+        (GotAll (outside H.G.name H.G.faults H.G.L.begins H.G.L.faults H.G.L.R.left H.G.L.R.faults H.G.L.W.held H.G.L.W.faults) result.journal)
+        result.served }
+    ensures sound { AllByRecursion
+        (EndsWell (outside H.G.name H.G.faults H.G.L.begins H.G.L.faults H.G.L.R.left H.G.L.R.faults H.G.L.W.held H.G.L.W.faults) result.journal)
+        result.served }
+    ensures serve_complete { (path : List ℕ) (clients : ℕ) → AskServe words.now path clients → IfSome (I.left input.old) (λ bytes. IsServeComplete result.status
+        (outside H.G.name H.G.faults H.G.L.begins H.G.L.faults H.G.L.R.left H.G.L.R.faults H.G.L.W.held H.G.L.W.faults) clients bytes
+        (given (I.left input.old) (I.faults input.old) (I.faults input.new) (H.faults host.old) (H.faults host.new))
+        (seen (O.held output.old) (O.held output.new) (O.faults output.old) (O.faults output.new))
+        result.journal result.served) }
+    ensures does { (path : List ℕ) (tree : Tree) → AskDo words.now path tree → Does result.status
+        (outside H.G.name H.G.faults H.G.L.begins H.G.L.faults H.G.L.R.left H.G.L.R.faults H.G.L.W.held H.G.L.W.faults) (tree_name tree)
+        (given (I.left input.old) (I.faults input.old) (I.faults input.new) (H.faults host.old) (H.faults host.new))
+        (seen (O.held output.old) (O.held output.new) (O.faults output.old) (O.faults output.new)) result.served }
+    ensures untouched { asks_serve words.now ≡ None → asks_do words.now ≡ None → host.new ≡ host.old }
+    ensures played { are_pack words.now ≡ false → IsPlayed enabled result.journal }
+    ensures round_trip { are_pack words.now ≡ false → RoundTrips result.journal }
+{
+    match read_words(alloc, words.as_slice()) {
+        Ok(Some(Asked::Replay)) => replayed(alloc, input, output),
+        Ok(Some(Asked::Trace)) => traced(alloc, input, output),
+        Ok(Some(Asked::Pack)) => packed(alloc, input, output),
+        Ok(Some(Asked::Drill { rounds })) => drilled(alloc, rounds, output),
+        Ok(Some(Asked::Serve { path, clients })) => {
+            serve_main(rt, alloc, &path, clients, input, output, host)
+        }
+        Ok(Some(Asked::Do { path, tree })) => do_main(alloc, &path, tree, input, output, host),
+        Ok(None) => idle(alloc, End::Usage),
+        Err(NoMemory) => idle(alloc, End::NoMemory),
+    }
+}

@@ -1,0 +1,68 @@
+-- A connection past the 64th hasn't ended, and nothing is unsent to it.
+use Rattle.std.proofs.Common.{◌≡◌, ℕ, zero, suc, ◌≤◌, false, List, [], ◌∷◌, length, fold, refl, ap, ◌∙◌, arith}
+use Rattle.std.proofs.lemmas.List.{length-set, length-replicate}
+use Rattle.std.specs.Prelude.{slice_index_or}
+use Rattle.am_journal.specs.declared.event.Event.{Event}
+use Rattle.am_counter.specs.declared.ask.Ask.TheVariants as ask
+use Rattle.core_outputs.specs.declared.reply.Reply.{Reply}
+use Rattle.core_outputs.specs.Unsent.{Unsent, nothing_unsent, unsent_at, with_reply, put_reply, put_replies}
+use Rattle.acme_core.specs.declared.connection.Connection.TheVariants.{Undialed}
+use Rattle.acme_core.specs.declared.kind.Kind.{Kind}
+use Rattle.acme_core.specs.declared.kind.Kind.TheVariants as kind
+use Rattle.acme_core.specs.Asks.{answer_at, is_ended}
+use Rattle.acme_core.specs.Doings.{doing_of}
+use Rattle.acme_core.specs.Kinds.{kind_of}
+use Rattle.acme_core.specs.Replies.{replies_of}
+use Rattle.acme_core.specs.Run.{step, run, output_at}
+use Rattle.acme_core.specs.Stages.{left_unsent, said}
+use Rattle.acme_core.specs.States.{State, present, start}
+use Rattle.acme_core.proofs.Few.{length-connections}
+
+length_put : (us : List Unsent) (xs : List Reply) → length (put_replies us xs) ≡ length us
+length_put us [] = refl
+length_put us (x ∷ xs) = length_put (put_reply us x) xs ∙ length-set us x.conn (with_reply (unsent_at us x.conn) x.bytes)
+
+length_left : (us : List Unsent) (k : Kind) → length (left_unsent us k) ≡ length us
+length_left us (kind.Dials conn) = refl
+length_left us (kind.Asks conn tag) = refl
+length_left us (kind.Ends conn why) = refl
+length_left us (kind.Takes conn) = length-set us conn nothing_unsent
+length_left us kind.Acts = refl
+
+length_step : (s : State) (e : Event) → length (step s e).unsent ≡ length s.unsent
+unfolding step
+length_step s e =
+    let xs : List Reply = replies_of (said (present s) (kind_of e) (doing_of (present s) e)) in
+    length_left (put_replies s.unsent xs) (kind_of e) ∙ length_put s.unsent xs
+
+length_all : (s : State) (journal : List Event) → length (fold step s journal).unsent ≡ length s.unsent
+length_all s [] = refl
+length_all s (e ∷ journal) = length_all (step s e) journal ∙ length_step s e
+
+-- there are 64 connections
+unsents : (journal : List Event) → length (run journal).unsent ≡ 64
+unfolding run
+unsents journal = length_all start journal ∙ length-replicate 64 nothing_unsent
+
+conns_step : (s : State) (e : Event) → length (step s e).connections ≡ length s.connections
+unfolding step
+conns_step s e = length-connections s.connections (kind_of e)
+
+conns_all : (s : State) (journal : List Event) → length (fold step s journal).connections ≡ length s.connections
+conns_all s [] = refl
+conns_all s (e ∷ journal) = conns_all (step s e) journal ∙ conns_step s e
+
+conns : (journal : List Event) → length (run journal).connections ≡ 64
+unfolding run
+conns journal = conns_all start journal ∙ length-replicate 64 Undialed
+
+past : {A : Type 0} (xs : List A) (k : ℕ) (d : A) → length xs ≤ k → slice_index_or xs k d ≡ d
+past [] k d h = refl
+past (x ∷ xs) zero d h = absurd (omega (arith, h))
+past (x ∷ xs) (suc k) d h = past xs k d (omega (arith, h))
+
+pub nothing_past : (journal : List Event) (conn : ℕ) → 64 ≤ conn → output_at journal conn ≡ []
+nothing_past journal conn h = ap (λ (u : Unsent). u.bytes) (past (run journal).unsent conn nothing_unsent (omega (arith, h, unsents journal)))
+
+pub not_ended_past : (journal : List Event) (conn : ℕ) → 64 ≤ conn → answer_at journal (ask.Ended conn) ≡ false
+not_ended_past journal conn h = ap is_ended (past (run journal).connections conn Undialed (omega (arith, h, conns journal)))

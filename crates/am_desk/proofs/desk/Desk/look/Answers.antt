@@ -1,0 +1,8 @@
+use Rattle.turn_lock.specs.Words.{view_of}
+use Rattle.am_desk.specs.Journals.{journal_of}
+use Rattle.am_desk.proofs.Turns.{looked}
+use Rattle.am_desk.proofs.desk.Desk.look.Goals as goal
+
+pub returns-clause-seen : goal.returns-clause-seen
+returns-clause-seen g c =
+    looked (view_of c.args.seat.now.seat) _ _ (journal_of c.enter-held.result.value) c.enter-held.ensures.view c.enter-held.ensures.seen c.leave.ensures.view

@@ -1,0 +1,4 @@
+pub mod Windows
+pub mod Moving
+pub mod Linked
+pub mod Openings

@@ -1,0 +1,13 @@
+pub mod Seen
+pub mod Outcomes
+pub mod Made
+pub mod Errors
+pub mod Paths
+pub mod Files
+pub mod Addressed
+pub mod Opening
+pub mod Looking
+pub mod Editing
+pub mod Deleting
+pub mod Undoing
+pub mod UndoLaws

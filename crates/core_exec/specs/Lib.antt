@@ -1,0 +1,3 @@
+pub mod Clicks
+pub mod Executing
+pub mod Acting

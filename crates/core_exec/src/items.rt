@@ -1,0 +1,107 @@
+//! Items of Exec and Look.
+
+ghost use Rattle.std.specs.Prelude.{◌≡◌, IfOk};
+ghost use Rattle.acme_cmd.specs.Commands.{classified};
+ghost use Rattle.core_exec.specs.Clicks.{exec_sort, look_sort, flag_if, is_builtin, exec_flag, exec_item, target_flag, look_item};
+
+use crate::click::{Clicked, Spot, own_text};
+use acme_cmd::{Command, classify};
+use am_journal::Side;
+use am_text::Runes;
+use core_actions::Target;
+use win_events::{Item, Origin, Sort};
+
+fn exec_sort(side: Side) -> Sort
+    ensures { result ≡ exec_sort side }
+{
+    match side {
+        Side::Body => Sort::BodyExec,
+        Side::Tag => Sort::TagExec,
+    }
+}
+
+fn look_sort(side: Side) -> Sort
+    ensures { result ≡ look_sort side }
+{
+    match side {
+        Side::Body => Sort::BodyLook,
+        Side::Tag => Sort::TagLook,
+    }
+}
+
+// The command is a built-in one, or the look can be done without loading a file.
+const WITHIN: u32 = 1;
+
+// The range is null.
+const NULL: u32 = 2;
+
+// The text names a file or a window.
+const NAMES: u32 = 4;
+
+// The messages of an argument follow.
+const CHORD: u32 = 8;
+
+fn flag_if(holds: bool, flag: u32) -> u32
+    ensures { result ≡ flag_if holds flag }
+{
+    if holds { flag } else { 0 }
+}
+
+fn is_builtin(command: Command) -> bool
+    ensures { result ≡ is_builtin command }
+{
+    match command {
+        Command::Builtin(_, _) => true,
+        Command::Pipe(_, _) => false,
+        Command::External => false,
+    }
+}
+
+fn exec_flag(clicked: &Clicked, chord: bool) -> u32
+    ensures { result ≡ exec_flag clicked.now chord }
+{
+    let command = classify(own_text(&clicked.text, &clicked.expanded));
+    flag_if(is_builtin(command), WITHIN)
+        + flag_if(clicked.expanded.is_some(), NULL)
+        + flag_if(chord, CHORD)
+}
+
+/// The item of an Exec, with the text and the place of its chord's argument, if there is one.
+pub(crate) fn exec_item(at: Spot, clicked: Clicked, argument: Option<(Runes, Runes)>) -> Item
+    ensures { result ≡ exec_item at clicked argument }
+{
+    Item {
+        origin: Origin::M,
+        sort: exec_sort(at.side),
+        range: at.range,
+        flag: exec_flag(&clicked, argument.is_some()),
+        text: clicked.text,
+        expanded: clicked.expanded,
+        argument,
+    }
+}
+
+fn target_flag(target: &Option<Target>) -> u32
+    ensures { result ≡ target_flag target.now }
+{
+    match target {
+        None => WITHIN,
+        Some(Target::Live(_)) => WITHIN + NAMES,
+        Some(Target::New { .. }) => NAMES,
+    }
+}
+
+/// The item of a Look at a text that opens this, if it opens anything.
+pub(crate) fn look_item(at: Spot, clicked: Clicked, target: &Option<Target>) -> Item
+    ensures { result ≡ look_item at clicked target.now }
+{
+    Item {
+        origin: Origin::M,
+        sort: look_sort(at.side),
+        range: at.range,
+        flag: target_flag(target) + flag_if(clicked.expanded.is_some(), NULL),
+        text: clicked.text,
+        expanded: clicked.expanded,
+        argument: None,
+    }
+}

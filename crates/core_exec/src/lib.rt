@@ -1,0 +1,16 @@
+//! Exec and Look: what a click on a window's text stands for, the items that it makes while the window's event file is open, and
+//! what it does where it isn't (acme(1), acme(4)).
+#![tactic(auto)]
+
+mod acting;
+mod builtins;
+mod click;
+mod faults;
+mod items;
+mod requests;
+mod running;
+mod words;
+
+pub use acting::{act_on, exec_at, look_at};
+pub use am_journal::Side;
+pub use click::{Clicked, Spot};

@@ -1,0 +1,7 @@
+pub mod Answers
+pub mod Trails
+pub mod Entries
+pub mod Parted
+pub mod Named
+pub mod Openings
+pub mod Scanned

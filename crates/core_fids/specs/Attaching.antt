@@ -1,0 +1,57 @@
+-- Tversion and Tattach.
+use Rattle.std.specs.Prelude.{[], ℕ, Bool, ◌==◌, ◌||◌, not, nat_eq, nat_lt, min, List, length, codes, Option, Some, None, Result, Ok, Err, if◌then◌else◌}
+use Rattle.std.specs.Str.{bytes_eq}
+use Rattle.std.specs.List.{starts_with}
+use Rattle.ninep_types.specs.declared.message.RBody.TheVariants as r
+use Rattle.acme_tree.specs.declared.node.Node.TheVariants.{Root}
+use Rattle.acme_tree.specs.Trees.{qid_of}
+use Rattle.fid_table.specs.Tables.{Tables}
+use Rattle.core_fids.specs.declared.effect.Effect.TheVariants as effect
+use Rattle.core_fids.specs.declared.effect.Reaction.{Reaction}
+use Rattle.core_fids.specs.Plainly.{does}
+use Rattle.core_fids.specs.declared.refusal.Refusal.{Refusal}
+use Rattle.core_fids.specs.declared.refusal.Refusal.TheVariants as refusal
+use Rattle.core_fids.specs.Fids.{is_used, fids_full, fresh, nofid}
+use Rattle.core_fids.specs.Refusals.{refused_with}
+
+-- ---- Tversion
+
+-- `9P2000`, or that and more after a full stop
+abbrev pub is_version : List ℕ → Bool
+is_version version = bytes_eq version (codes "9P2000") || starts_with nat_eq version (codes "9P2000.")
+
+-- Fids are freed in each case. The msize is at least 256, and at most 65560 is answered; a version that isn't known opens no
+-- session.
+abbrev pub agreed : ℕ → List ℕ → Reaction
+agreed msize version = if is_version version
+    then does (effect.Begins (Some msize)) [] (r.Version msize (codes "9P2000"))
+    else does (effect.Begins None) [] (r.Version msize (codes "unknown"))
+
+abbrev pub version_reaction : ℕ → List ℕ → Reaction
+version_reaction msize version = if nat_lt msize 256
+    then refused_with (effect.Begins None) refusal.MsizeTooSmall
+    else agreed (min msize 65560) version
+
+-- ---- Tattach
+
+-- the editor's tree, of which `acme` is the name, or none
+abbrev pub is_editor : List ℕ → Bool
+is_editor aname = (length aname == 0) || bytes_eq aname (codes "acme")
+
+abbrev pub tree_refusal : List ℕ → Option Refusal
+tree_refusal aname = if is_editor aname then None else
+    (if bytes_eq aname (codes "plumb") then Some refusal.NotServedYet else Some refusal.NoSuchTree)
+
+abbrev pub attach_refusal : Tables → ℕ → ℕ → ℕ → List ℕ → Option Refusal
+attach_refusal tables conn fid afid aname =
+    if fid == nofid then Some refusal.BadFid else
+    (if is_used tables conn fid then Some refusal.FidInUse else
+    (if not (afid == nofid) then Some refusal.AuthenticationNotRequired else
+    (if fids_full tables conn then Some refusal.TooManyFids else tree_refusal aname)))
+
+abbrev pub or_attaches : Option Refusal → ℕ → Result Reaction Refusal
+or_attaches None fid = Ok (does (effect.Puts fid (fresh Root)) [] (r.Attach (qid_of Root)))
+or_attaches (Some refusal) fid = Err refusal
+
+abbrev pub attach_reaction : Tables → ℕ → ℕ → ℕ → List ℕ → Result Reaction Refusal
+attach_reaction tables conn fid afid aname = or_attaches (attach_refusal tables conn fid afid aname) fid

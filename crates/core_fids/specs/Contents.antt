@@ -1,0 +1,33 @@
+-- What a node holds, as far as it is built.
+use Rattle.std.specs.Prelude.{ℕ}
+use Rattle.acme_tree.specs.declared.node.Node.{Node}
+use Rattle.acme_tree.specs.declared.node.Node.TheVariants.{Root, Cons, ConsCtl, Index, Label, NewDir, Window, File, PlumbRoot, Send, Rules, Port}
+use Rattle.acme_tree.specs.declared.node.WinFile.{WinFile}
+use Rattle.acme_tree.specs.declared.node.WinFile.TheVariants.{Addr, Body, Ctl, Data, Errors, Event, Tag, Xdata}
+use Rattle.core_fids.specs.declared.content.Content.{Content}
+use Rattle.core_fids.specs.declared.content.Content.TheVariants as content
+
+abbrev pub file_content : ℕ → WinFile → Content
+file_content w Addr = content.AddrText w
+file_content w Body = content.BodyText w
+file_content w Ctl = content.CtlText w
+file_content w Data = content.DataOf w
+file_content w Errors = content.ErrorsOf w
+file_content w Event = content.EventsOf w
+file_content w Tag = content.TagText w
+file_content w Xdata = content.XdataOf w
+
+-- `cons`, `consctl` and `label` read as empty
+abbrev pub content_of : Node → Content
+content_of Root = content.Directory
+content_of Cons = content.ConsErrors
+content_of ConsCtl = content.Empty
+content_of Index = content.IndexText
+content_of Label = content.Empty
+content_of NewDir = content.Directory
+content_of (Window w) = content.Directory
+content_of (File w file) = file_content w file
+content_of PlumbRoot = content.Directory
+content_of Send = content.Unserved
+content_of Rules = content.Unserved
+content_of (Port k) = content.Unserved

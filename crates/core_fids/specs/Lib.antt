@@ -1,0 +1,10 @@
+pub mod Fids
+pub mod Contents
+pub mod Servers
+pub mod Plainly
+pub mod Refusals
+pub mod Done
+pub mod Attaching
+pub mod Walking
+pub mod Opening
+pub mod Directories

@@ -1,0 +1,179 @@
+-- Topen, and the messages that ask for what isn't given.
+use Rattle.std.specs.Prelude.{ℕ, zero, suc, ◌+◌, Bool, false, ◌==◌, ◌&&◌, ◌||◌, not, nat_lt, List, [], ◌∷◌, Option, Some, None, Result, Ok, Err, if◌then◌else◌}
+use Rattle.std.specs.List.{list_any}
+use Rattle.ninep_types.specs.declared.message.RBody.TheVariants as r
+use Rattle.acme_tree.specs.declared.access.May.{May}
+use Rattle.acme_tree.specs.declared.access.May.TheVariants as may
+use Rattle.acme_tree.specs.Access.{may_open}
+use Rattle.acme_tree.specs.Trees.{qid_of, is_live}
+use Rattle.acme_tree.specs.declared.node.World.{World}
+use Rattle.acme_tree.specs.declared.node.Node.{Node}
+use Rattle.acme_tree.specs.declared.node.Node.TheVariants.{File}
+use Rattle.acme_tree.specs.declared.node.WinFile.{WinFile}
+use Rattle.acme_tree.specs.declared.node.WinFile.TheVariants.{Addr, Ctl}
+use Rattle.fid_table.specs.declared.types.Fid.{Fid}
+use Rattle.fid_table.specs.Tables.{Tables, fid_of, fids_of}
+use Rattle.win_text.specs.Bodies.{null_range}
+use Rattle.core_windows.specs.declared.change.Change.{Change}
+use Rattle.core_windows.specs.declared.change.Change.TheVariants as change
+use Rattle.core_windows.specs.declared.change.Setting.{Setting}
+use Rattle.core_windows.specs.declared.change.Setting.TheVariants as setting
+use Rattle.core_fids.specs.declared.effect.Effect.TheVariants as effect
+use Rattle.core_fids.specs.declared.effect.EventChange.{EventChange}
+use Rattle.core_fids.specs.declared.effect.EventChange.TheVariants as events
+use Rattle.core_fids.specs.declared.effect.Answer.TheVariants.{Says}
+use Rattle.core_fids.specs.declared.effect.Reaction.{Reaction}
+use Rattle.core_fids.specs.Plainly.{does}
+use Rattle.core_fids.specs.declared.refusal.Refusal.{Refusal}
+use Rattle.core_fids.specs.declared.refusal.Refusal.TheVariants as refusal
+use Rattle.core_fids.specs.declared.content.Content.{Content}
+use Rattle.core_fids.specs.declared.content.Content.TheVariants as content
+use Rattle.core_fids.specs.Contents.{content_of}
+use Rattle.core_fids.specs.Fids.{is_open, opened}
+use Rattle.core_fids.specs.Refusals.{refused_with}
+
+-- ---- Topen
+
+abbrev pub mode_refusal : May → Option Refusal
+mode_refusal may.Yes = None
+mode_refusal may.BadMode = Some refusal.BadOpenMode
+mode_refusal may.Denied = Some refusal.PermissionDenied
+
+-- openings of event files are numbered from 1, and 4,294,967,295 is the last number
+abbrev pub opening_refusal : ℕ → Option Refusal
+opening_refusal openings = if nat_lt openings 4294967295 then None else Some refusal.TooManyOpenings
+
+abbrev pub content_refusal : ℕ → Content → Option Refusal
+content_refusal openings content.Directory = None
+content_refusal openings (content.BodyText w) = None
+content_refusal openings (content.TagText w) = None
+content_refusal openings (content.AddrText w) = None
+content_refusal openings (content.DataOf w) = None
+content_refusal openings (content.XdataOf w) = None
+content_refusal openings (content.CtlText w) = None
+content_refusal openings content.IndexText = None
+content_refusal openings (content.ErrorsOf w) = None
+content_refusal openings content.ConsErrors = None
+content_refusal openings content.Empty = None
+content_refusal openings (content.EventsOf w) = opening_refusal openings
+content_refusal openings content.Unserved = Some refusal.NotServedYet
+
+abbrev pub first_refusal : Option Refusal → Option Refusal → Option Refusal
+first_refusal None later = later
+first_refusal (Some refusal) later = Some refusal
+
+abbrev pub open_refusal : World → ℕ → Fid → ℕ → Option Refusal
+open_refusal world openings fid mode =
+    if not (is_live world fid.node) then Some refusal.WindowDeleted else
+    (if is_open fid then Some refusal.FidIsOpen else
+    first_refusal (mode_refusal (may_open fid.node mode)) (content_refusal openings (content_of fid.node)))
+
+-- whether the node is the `ctl`, or the `addr`, of that window; of no other file this is asked
+abbrev pub is_file_of : ℕ → WinFile → Node → Bool
+is_file_of w Ctl (File v Ctl) = v == w
+is_file_of w Addr (File v Addr) = v == w
+is_file_of w file node = false
+
+abbrev pub has_open : ℕ → WinFile → ℕ × Fid → Bool
+has_open w file f = is_open f.1 && is_file_of w file f.1.node
+
+abbrev pub or_false : Option Bool → Bool
+or_false None = false
+or_false (Some b) = b
+
+-- one of the connections below that number has the file of the window open
+unfoldable pub open_below : Tables → ℕ → WinFile → ℕ → Bool
+open_below tables w file zero = false
+open_below tables w file (suc n) = open_below tables w file n || list_any (has_open w file) (fids_of tables n)
+
+-- a setting is made where no fid has the file open
+abbrev pub sets_first : Tables → ℕ → WinFile → Setting → List Change
+sets_first tables w file s = if open_below tables w file 64 then [] else change.Sets w s ∷ []
+
+-- opening `ctl` where no fid has it open clears the limit
+abbrev pub clears_limit : Tables → ℕ → List Change
+clears_limit tables w = sets_first tables w Ctl setting.NoLimit
+
+-- opening `addr` where no fid has it open sets the address to the text's front
+abbrev pub resets_addr : Tables → ℕ → List Change
+resets_addr tables w = sets_first tables w Addr (setting.Addr null_range)
+
+abbrev pub opening_changes : Tables → Content → List Change
+opening_changes tables content.Directory = []
+opening_changes tables (content.BodyText w) = []
+opening_changes tables (content.TagText w) = []
+opening_changes tables (content.AddrText w) = resets_addr tables w
+opening_changes tables (content.DataOf w) = []
+opening_changes tables (content.XdataOf w) = []
+opening_changes tables (content.CtlText w) = clears_limit tables w
+opening_changes tables content.IndexText = []
+opening_changes tables (content.ErrorsOf w) = []
+opening_changes tables content.ConsErrors = []
+opening_changes tables content.Empty = []
+opening_changes tables (content.EventsOf w) = []
+opening_changes tables content.Unserved = []
+
+-- opening an event file adds an opening of it
+abbrev pub opening_events : Content → EventChange
+opening_events content.Directory = events.Nothing
+opening_events (content.BodyText w) = events.Nothing
+opening_events (content.TagText w) = events.Nothing
+opening_events (content.AddrText w) = events.Nothing
+opening_events (content.DataOf w) = events.Nothing
+opening_events (content.XdataOf w) = events.Nothing
+opening_events (content.CtlText w) = events.Nothing
+opening_events content.IndexText = events.Nothing
+opening_events (content.ErrorsOf w) = events.Nothing
+opening_events content.ConsErrors = events.Nothing
+opening_events content.Empty = events.Nothing
+opening_events (content.EventsOf w) = events.Opens w
+opening_events content.Unserved = events.Nothing
+
+-- its number is the next one
+abbrev pub opening_of : ℕ → Content → Option ℕ
+opening_of openings content.Directory = None
+opening_of openings (content.BodyText w) = None
+opening_of openings (content.TagText w) = None
+opening_of openings (content.AddrText w) = None
+opening_of openings (content.DataOf w) = None
+opening_of openings (content.XdataOf w) = None
+opening_of openings (content.CtlText w) = None
+opening_of openings content.IndexText = None
+opening_of openings (content.ErrorsOf w) = None
+opening_of openings content.ConsErrors = None
+opening_of openings content.Empty = None
+opening_of openings (content.EventsOf w) = Some (openings + 1)
+opening_of openings content.Unserved = None
+
+-- an iounit isn't given
+abbrev pub or_opens : Tables → Option Refusal → ℕ → ℕ → Fid → ℕ → Result Reaction Refusal
+or_opens tables None openings number fid mode = Ok (record {
+  effect = effect.Puts number (opened fid mode (opening_of openings (content_of fid.node)));
+  events = opening_events (content_of fid.node);
+  changes = opening_changes tables (content_of fid.node);
+  answer = Says (r.Open (qid_of fid.node) 0);
+})
+or_opens tables (Some refusal) openings number fid mode = Err refusal
+
+abbrev pub open_fid : Tables → World → ℕ → ℕ → ℕ → Option Fid → Result Reaction Refusal
+open_fid tables world openings number mode None = Err refusal.UnknownFid
+open_fid tables world openings number mode (Some fid) = or_opens tables (open_refusal world openings fid mode) openings number fid mode
+
+abbrev pub open_reaction : Tables → World → ℕ → ℕ → ℕ → ℕ → Result Reaction Refusal
+open_reaction tables world openings conn number mode = open_fid tables world openings number mode (fid_of tables conn number)
+
+-- ---- Tcreate and Twstat, which are never done
+
+abbrev pub denied : Option Fid → Result Reaction Refusal
+denied None = Err refusal.UnknownFid
+denied (Some fid) = Err refusal.PermissionDenied
+
+-- ---- Tclunk and Tremove, which free a fid; nothing is removed
+
+abbrev pub clunk_fid : ℕ → Option Fid → Result Reaction Refusal
+clunk_fid number None = Err refusal.UnknownFid
+clunk_fid number (Some fid) = Ok (does (effect.Frees number) [] r.Clunk)
+
+abbrev pub remove_fid : ℕ → Option Fid → Result Reaction Refusal
+remove_fid number None = Err refusal.UnknownFid
+remove_fid number (Some fid) = Ok (refused_with (effect.Frees number) refusal.PermissionDenied)

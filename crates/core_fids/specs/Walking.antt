@@ -1,0 +1,82 @@
+-- Walks: where the names lead, and what a Twalk does.
+use Rattle.std.specs.Prelude.{ℕ, ◌==◌, List, [], ◌∷◌, length, Option, Some, None, Result, Ok, Err, if◌then◌else◌}
+use Rattle.ninep_types.specs.declared.message.Qid.{Qid}
+use Rattle.ninep_types.specs.declared.message.RBody.TheVariants as r
+use Rattle.acme_tree.specs.declared.node.Node.{Node}
+use Rattle.acme_tree.specs.declared.node.Node.TheVariants.{File}
+use Rattle.acme_tree.specs.declared.node.World.{World}
+use Rattle.acme_tree.specs.declared.walk.Step.{Step}
+use Rattle.acme_tree.specs.declared.walk.Step.TheVariants.{Found, Make, NotFound, NotDir, Deleted, Windows}
+use Rattle.acme_tree.specs.Trees.{qid_of}
+use Rattle.acme_tree.specs.Walks.{walk_one}
+use Rattle.fid_table.specs.declared.types.Fid.{Fid}
+use Rattle.core_windows.specs.declared.change.Change.TheVariants as change
+use Rattle.core_fids.specs.declared.effect.Effect.TheVariants as effect
+use Rattle.core_fids.specs.declared.effect.Reaction.{Reaction}
+use Rattle.core_fids.specs.Plainly.{does}
+use Rattle.core_fids.specs.declared.refusal.Refusal.{Refusal}
+use Rattle.core_fids.specs.declared.refusal.Refusal.TheVariants as refusal
+use Rattle.core_fids.specs.declared.walking.Trail.{Trail}
+use Rattle.core_fids.specs.declared.walking.WalkEnd.{WalkEnd}
+use Rattle.core_fids.specs.declared.walking.WalkEnd.TheVariants as end
+use Rattle.fid_table.specs.Tables.{Tables, fid_of}
+use Rattle.core_fids.specs.Fids.{is_used, fids_full, is_open, fresh, nofid}
+
+-- ---- names
+
+abbrev pub then_qid : Qid → Trail → Trail
+then_qid qid trail = record { qids = qid ∷ trail.qids; end = trail.end }
+
+abbrev pub stops : Refusal → Trail
+stops refusal = record { qids = []; end = end.Stops refusal }
+
+-- a step, and the trail from where it leads
+abbrev pub onwards : World → Step → (Node → Trail) → Trail
+onwards world (Found node) rest = then_qid (qid_of node) (rest node)
+onwards world (Make file) rest = record { qids = qid_of (File world.next file) ∷ []; end = end.Makes file }
+onwards world NotFound rest = stops refusal.FileNotFound
+onwards world NotDir rest = stops refusal.NotADirectory
+onwards world Deleted rest = stops refusal.WindowDeleted
+onwards world Windows rest = stops refusal.TooManyWindows
+
+-- where the names lead from a node, with the qid of each that is found
+unfoldable pub trail : World → Node → List (List ℕ) → Trail
+trail world node [] = record { qids = []; end = end.At node }
+trail world node (n ∷ ns) = onwards world (walk_one world node n (length ns == 0)) (λ m. trail world m ns)
+
+-- ---- Twalk
+
+-- the number that the walk's end gets: that of the fid itself, or a new one
+abbrev pub new_refusal : Tables → ℕ → ℕ → Fid → Option Refusal
+new_refusal tables conn newfid fid =
+    if newfid == nofid then Some refusal.BadFid else
+    (if is_used tables conn newfid then Some refusal.FidInUse else
+    (if is_open fid then Some refusal.FidIsOpen else
+    (if fids_full tables conn then Some refusal.TooManyFids else None)))
+
+abbrev pub walk_refusal : Tables → ℕ → ℕ → ℕ → Fid → Option Refusal
+walk_refusal tables conn number newfid fid =
+    if newfid == number then (if is_open fid then Some refusal.FidIsOpen else None) else new_refusal tables conn newfid fid
+
+-- Where all names are found, the number names the last node. Where the first isn't, the walk is refused; where a later one
+-- isn't, the qids before it are answered, and the number is as it was.
+abbrev pub arrives_at : ℕ → World → List Qid → WalkEnd → Result Reaction Refusal
+arrives_at newfid world qids (end.At node) = Ok (does (effect.Puts newfid (fresh node)) [] (r.Walk qids))
+arrives_at newfid world qids (end.Makes file) = Ok (does (effect.Puts newfid (fresh (File world.next file))) (change.Makes [] ∷ []) (r.Walk qids))
+arrives_at newfid world qids (end.Stops refusal) =
+    if length qids == 0 then Err refusal else Ok (does effect.Nothing [] (r.Walk qids))
+
+abbrev pub arrives : ℕ → World → Trail → Result Reaction Refusal
+arrives newfid world trail = arrives_at newfid world trail.qids trail.end
+
+abbrev pub or_walks : Option Refusal → Result Reaction Refusal → Result Reaction Refusal
+or_walks None walked = walked
+or_walks (Some refusal) walked = Err refusal
+
+abbrev pub walk_from : Tables → World → ℕ → ℕ → ℕ → List (List ℕ) → Option Fid → Result Reaction Refusal
+walk_from tables world conn number newfid names None = Err refusal.UnknownFid
+walk_from tables world conn number newfid names (Some fid) =
+    or_walks (walk_refusal tables conn number newfid fid) (arrives newfid world (trail world fid.node names))
+
+abbrev pub walk_reaction : Tables → World → ℕ → ℕ → ℕ → List (List ℕ) → Result Reaction Refusal
+walk_reaction tables world conn number newfid names = walk_from tables world conn number newfid names (fid_of tables conn number)

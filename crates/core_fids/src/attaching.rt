@@ -1,0 +1,126 @@
+//! Sessions and their trees, after version(5) and attach(5).
+
+ghost use Rattle.std.specs.Prelude.{◌≡◌, IfOk, IfErr, Ok};
+ghost use Rattle.core_fids.specs.Refusals.{Gives};
+ghost use Rattle.core_fids.specs.Done.{IsDone, IsStill};
+ghost use Rattle.core_fids.specs.Servers.{tables_in, windows_in};
+ghost use Rattle.core_fids.specs.Attaching.{is_version, agreed, version_reaction, is_editor, tree_refusal, attach_refusal, attach_reaction};
+
+use crate::effect::{Effect, Reaction};
+use crate::fids::{NOFID, fids_full, fresh, is_used};
+use crate::refusal::{Fault, Refusal, refuse};
+use crate::server::Server;
+use acme_tree::{Node, qid_of};
+use am_text::{Items, NoMemory};
+use ninep_types::RBody;
+use std::alloc::Global;
+
+/// The lowest msize.
+const MIN_MSIZE: u32 = 256;
+
+/// The highest msize.
+const MAX_MSIZE: u32 = 65560;
+
+fn is_version(version: &[u8]) -> bool
+    ensures { result ≡ is_version version.now }
+{
+    version == b"9P2000".as_slice() || version.starts_with(b"9P2000.")
+}
+
+#[tactic(auto, using(crate::proofs::Answers::sent))]
+fn agree(alloc: Global, msize: u32, version: &[u8]) -> Result<Reaction, NoMemory>
+    ensures exact { IfOk result (λ d. d ≡ agreed msize version.now) }
+    ensures still { IfOk result IsStill }
+{
+    if !is_version(version) {
+        return Ok(Reaction::plain(
+            Effect::Begins { msize: None },
+            Items::new(alloc),
+            RBody::Version {
+                msize,
+                version: Items::copied(alloc, b"unknown")?,
+            },
+        ));
+    }
+    Ok(Reaction::plain(
+        Effect::Begins { msize: Some(msize) },
+        Items::new(alloc),
+        RBody::Version {
+            msize,
+            version: Items::copied(alloc, b"9P2000")?,
+        },
+    ))
+}
+
+/// What a Tversion does.
+pub fn version(alloc: Global, msize: u32, version: &[u8]) -> Result<Reaction, NoMemory>
+    ensures exact { IfOk result (λ d. d ≡ version_reaction msize version.now) }
+    ensures still { IfOk result IsStill }
+{
+    if msize < MIN_MSIZE {
+        let effect = Effect::Begins { msize: None };
+        return refuse(alloc, effect, Refusal::MsizeTooSmall);
+    }
+    agree(alloc, msize.min(MAX_MSIZE), version)
+}
+
+fn is_editor(aname: &[u8]) -> bool
+    ensures { result ≡ is_editor aname.now }
+{
+    aname.is_empty() || aname == b"acme".as_slice()
+}
+
+fn tree_refusal(aname: &[u8]) -> Option<Refusal>
+    ensures { result ≡ tree_refusal aname.now }
+{
+    if is_editor(aname) {
+        None
+    } else if aname == b"plumb".as_slice() {
+        Some(Refusal::NotServedYet)
+    } else {
+        Some(Refusal::NoSuchTree)
+    }
+}
+
+fn attach_refusal(server: &Server, fid: u32, afid: u32, aname: &[u8]) -> Option<Refusal>
+    ensures { result ≡ attach_refusal (tables_in server.now) server.now.conn fid afid aname.now }
+{
+    if fid == NOFID {
+        Some(Refusal::BadFid)
+    } else if is_used(server, fid) {
+        Some(Refusal::FidInUse)
+    } else if afid != NOFID {
+        Some(Refusal::AuthenticationNotRequired)
+    } else if fids_full(server) {
+        Some(Refusal::TooManyFids)
+    } else {
+        tree_refusal(aname)
+    }
+}
+
+/// What a Tattach does.
+pub fn attach(
+    alloc: Global,
+    server: &Server,
+    fid: u32,
+    afid: u32,
+    aname: &[u8],
+) -> Result<Reaction, Fault>
+    ensures exact { IfOk result (λ d. attach_reaction (tables_in server.now) server.now.conn fid afid aname.now ≡ Ok d) }
+    ensures refused { IfErr result (λ e. Gives e (attach_reaction (tables_in server.now) server.now.conn fid afid aname.now)) }
+    ensures done { IfOk result (IsDone (windows_in server.now)) }
+{
+    if let Some(refusal) = attach_refusal(server, fid, afid, aname) {
+        return Err(Fault::Refused(refusal));
+    }
+    Ok(Reaction::plain(
+        Effect::Puts {
+            number: fid,
+            fid: fresh(alloc, Node::Root),
+        },
+        Items::new(alloc),
+        RBody::Attach {
+            qid: qid_of(Node::Root),
+        },
+    ))
+}

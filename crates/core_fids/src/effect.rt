@@ -1,0 +1,65 @@
+//! What a message does, and what it is answered.
+
+ghost use Rattle.std.specs.Prelude.{◌≡◌};
+ghost use Rattle.core_fids.specs.Plainly.{does};
+
+use core_windows::Changes;
+use fid_table::Fid;
+use ninep_types::RBody;
+
+/// What a message does to the fids and the session of its connection.
+#[derive(Drop)]
+pub enum Effect {
+    /// Nothing.
+    Nothing,
+    /// All fids are freed, and a session with this msize is open, or none.
+    Begins { msize: Option<u32> },
+    /// The number names this fid.
+    Puts { number: u32, fid: Fid },
+    /// The number names no fid.
+    Frees { number: u32 },
+}
+
+/// What a message does to the openings and the waiting reads of event files.
+#[derive(Clone, Copy, Debug, PartialEq, Eq)]
+pub enum EventChange {
+    /// Nothing.
+    Nothing,
+    /// The event file of this window gets an opening more.
+    Opens { window: u32 },
+    /// The read of the connection that has this tag waits no more.
+    Cancels { tag: u16 },
+}
+
+/// How a message is answered.
+#[derive(Drop)]
+pub enum Answer {
+    /// By this, at once.
+    Says(RBody),
+    /// By what is there for this opening of an event file, at most `count` bytes of it: at once, or once something is there. The read is
+    /// one of this fid.
+    Reads { fid: u32, opening: u32, count: u32 },
+}
+
+/// What a message does: to its connection, to event files, and to the windows; and its answer.
+#[derive(Drop)]
+pub struct Reaction {
+    pub effect: Effect,
+    pub events: EventChange,
+    pub changes: Changes,
+    pub answer: Answer,
+}
+
+impl Reaction {
+    /// What a message does that has nothing to do with event files, and is answered at once.
+    pub fn plain(effect: Effect, changes: Changes, body: RBody) -> Reaction
+        ensures { result ≡ does effect changes body }
+    {
+        Reaction {
+            effect,
+            events: EventChange::Nothing,
+            changes,
+            answer: Answer::Says(body),
+        }
+    }
+}

@@ -1,0 +1,139 @@
+//! Fids: which numbers may be given, and what a message makes of a fid.
+
+ghost use Rattle.std.specs.Prelude.{◌≡◌, ◌+◌, ◌≤◌, IfOk, length};
+ghost use Rattle.am_text.specs.Part.{part_bytes};
+ghost use Rattle.core_fids.specs.Servers.{tables_in};
+ghost use Rattle.core_fids.specs.Fids.{is_used, fids_full, fresh, is_open, is_for_reading, is_for_writing, opened, holding, placed};
+
+use crate::directory::DirPart;
+use crate::server::Server;
+use acme_tree::Node;
+use am_text::{Items, NoMemory, Part};
+use fid_table::Fid;
+use std::alloc::Global;
+
+/// The number that is no fid.
+pub(crate) const NOFID: u32 = 0xFFFFFFFF;
+
+/// The most fids that a connection may have.
+const FIDS: usize = 1024;
+
+/// Whether the number is in use.
+pub(crate) fn is_used(server: &Server, number: u32) -> bool
+    ensures { result ≡ is_used (tables_in server.now) server.now.conn number }
+{
+    server.sessions.fid(server.conn, number).is_some()
+}
+
+/// Whether the connection can have no more fids.
+pub(crate) fn fids_full(server: &Server) -> bool
+    ensures { result ≡ fids_full (tables_in server.now) server.now.conn }
+{
+    server.sessions.count(server.conn) >= FIDS
+}
+
+/// A fid of a node, not opened.
+pub(crate) fn fresh(alloc: Global, node: Node) -> Fid
+    ensures { result ≡ fresh node }
+{
+    Fid {
+        node,
+        mode: None,
+        opening: None,
+        given: 0,
+        skip: 0,
+        part: Part::empty(),
+        held: Items::new(alloc),
+    }
+}
+
+/// Whether the fid was opened.
+pub(crate) fn is_open(fid: &Fid) -> bool
+    ensures { result ≡ is_open fid.now }
+{
+    fid.mode.is_some()
+}
+
+/// Whether a file is read with this mode.
+pub fn is_for_reading(mode: u8) -> bool
+    ensures { result ≡ is_for_reading mode }
+{
+    mode & 3 != 1
+}
+
+/// Whether a file is written with this mode.
+pub fn is_for_writing(mode: u8) -> bool
+    ensures { result ≡ is_for_writing mode }
+{
+    mode & 3 != 0
+}
+
+/// A fid that is equal.
+pub fn copy(alloc: Global, fid: &Fid) -> Result<Fid, NoMemory>
+    ensures { IfOk result (λ f. f ≡ fid.now) }
+{
+    Ok(Fid {
+        node: fid.node,
+        mode: fid.mode,
+        opening: fid.opening,
+        given: fid.given,
+        skip: fid.skip,
+        part: fid.part,
+        held: Items::copied(alloc, fid.held.as_slice())?,
+    })
+}
+
+/// The fid, opened with a mode, and with the number of its opening of an event file, where it is one.
+pub(crate) fn opened(
+    alloc: Global,
+    fid: &Fid,
+    mode: u8,
+    opening: Option<u32>,
+) -> Result<Fid, NoMemory>
+    ensures { IfOk result (λ f. f ≡ opened fid.now mode opening) }
+{
+    Ok(Fid {
+        mode: Some(mode),
+        opening,
+        ..copy(alloc, fid)?
+    })
+}
+
+/// The fid with the bytes of a rune that a write left unfinished.
+pub fn holding(alloc: Global, fid: &Fid, part: Part) -> Result<Fid, NoMemory>
+    ensures { IfOk result (λ f. f ≡ holding fid.now part) }
+{
+    Ok(Fid {
+        part,
+        ..copy(alloc, fid)?
+    })
+}
+
+/// The fid after a read of its directory at an offset, behind `skip` records, which gave this part.
+pub(crate) fn placed(
+    alloc: Global,
+    fid: &Fid,
+    offset: u64,
+    skip: usize,
+    part: &DirPart,
+) -> Result<Fid, NoMemory>
+    ensures { IfOk result (λ f. f ≡ placed fid.now (offset + length part.now.bytes) (skip + part.now.count)) }
+{
+    Ok(Fid {
+        given: offset.saturating_add(part.bytes.len() as u64),
+        skip: skip.saturating_add(part.count),
+        ..copy(alloc, fid)?
+    })
+}
+
+/// The part as one of three bytes at most, which holds the same bytes.
+pub fn at_most_three(part: Part) -> Part
+    ensures bytes { part_bytes result ≡ part_bytes part }
+    ensures few { result.count ≤ 3 }
+{
+    if part.count <= 3 {
+        part
+    } else {
+        Part { count: 3, ..part }
+    }
+}

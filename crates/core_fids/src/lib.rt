@@ -1,0 +1,28 @@
+//! What messages do to sessions and fids: versions, attaches, walks, opens, clunks, directories and stat records.
+#![tactic(auto)]
+
+mod attaching;
+mod content;
+mod directory;
+mod effect;
+mod fids;
+mod freeing;
+mod listing;
+mod opening;
+mod refusal;
+mod server;
+mod walking;
+
+pub use am_text::{Bytes, Items, NoMemory};
+pub use attaching::{attach, version};
+pub use content::{Content, content_of};
+pub use core_windows::{Change, Changes, Windows};
+pub use effect::{Answer, Effect, EventChange, Reaction};
+pub use fids::{at_most_three, copy, holding, is_for_reading, is_for_writing};
+pub use freeing::{clunk, deny, remove};
+pub use listing::{Reading, read_dir, stat};
+pub use ninep_types::RBody;
+pub use opening::open;
+pub use refusal::{Fault, Refusal, error, refuse};
+pub use server::Server;
+pub use walking::walk;

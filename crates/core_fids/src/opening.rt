@@ -1,0 +1,276 @@
+//! Opening fids, after open(5).
+
+ghost use Rattle.std.specs.Prelude.{◌≡◌, ◌||◌, IfOk, IfErr, Ok, None};
+ghost use Rattle.std.specs.List.{list_any};
+ghost use Rattle.std.specs.Option.{option_map};
+ghost use Rattle.std.specs.Prelude.{slice_get};
+ghost use Rattle.fid_table.specs.Tables.{fids_of};
+ghost use Rattle.core_fids.specs.Servers.{tables_in, windows_in, world_in};
+ghost use Rattle.core_fids.specs.Refusals.{Gives};
+ghost use Rattle.core_fids.specs.Done.{IsDone};
+ghost use Rattle.core_fids.specs.Opening.{mode_refusal, opening_refusal, content_refusal, opening_events, opening_of, first_refusal, open_refusal, is_file_of, has_open, or_false, open_below, sets_first, clears_limit, resets_addr, opening_changes, open_reaction};
+
+use crate::content::{Content, content_of};
+use crate::effect::{Answer, Effect, EventChange, Reaction};
+use crate::fids::{is_open, opened};
+use crate::refusal::{Fault, Refusal};
+use crate::server::Server;
+use acme_tree::{May, Node, WinFile, World, is_live, may_open, qid_of};
+use am_text::{Items, NoMemory, Range};
+use core_windows::{Change, Changes, Setting};
+use fid_table::{Fid, Sessions};
+use ninep_types::RBody;
+use std::alloc::Global;
+
+/// How many connections there are.
+const CONNS: u32 = 64;
+
+/// The most openings of event files that are ever made.
+const OPENINGS: usize = 4294967295;
+
+fn mode_refusal(may: May) -> Option<Refusal>
+    ensures { result ≡ mode_refusal may }
+{
+    match may {
+        May::Yes => None,
+        May::BadMode => Some(Refusal::BadOpenMode),
+        May::Denied => Some(Refusal::PermissionDenied),
+    }
+}
+
+// Why no more openings of event files can be made.
+fn opening_refusal(openings: usize) -> Option<Refusal>
+    ensures { result ≡ opening_refusal openings }
+{
+    if openings < OPENINGS {
+        None
+    } else {
+        Some(Refusal::TooManyOpenings)
+    }
+}
+
+fn content_refusal(openings: usize, content: Content) -> Option<Refusal>
+    ensures { result ≡ content_refusal openings content }
+{
+    match content {
+        Content::Directory => None,
+        Content::BodyText(_) => None,
+        Content::TagText(_) => None,
+        Content::AddrText(_) => None,
+        Content::DataOf(_) => None,
+        Content::XdataOf(_) => None,
+        Content::CtlText(_) => None,
+        Content::IndexText => None,
+        Content::ErrorsOf(_) => None,
+        Content::ConsErrors => None,
+        Content::Empty => None,
+        Content::EventsOf(_) => opening_refusal(openings),
+        Content::Unserved => Some(Refusal::NotServedYet),
+    }
+}
+
+fn first_refusal(first: Option<Refusal>, later: Option<Refusal>) -> Option<Refusal>
+    ensures { result ≡ first_refusal first later }
+{
+    match first {
+        Some(refusal) => Some(refusal),
+        None => later,
+    }
+}
+
+fn open_refusal(world: &World, openings: usize, fid: &Fid, mode: u8) -> Option<Refusal>
+    ensures { result ≡ open_refusal world.now openings fid.now mode }
+{
+    let node = fid.node;
+    if !is_live(world, node) {
+        Some(Refusal::WindowDeleted)
+    } else if is_open(fid) {
+        Some(Refusal::FidIsOpen)
+    } else {
+        first_refusal(
+            mode_refusal(may_open(node, mode)),
+            content_refusal(openings, content_of(node)),
+        )
+    }
+}
+
+// Whether a node is the `ctl`, or the `addr`, of a window.
+fn is_file_of(window: u32, file: WinFile, node: Node) -> bool
+    ensures { result ≡ is_file_of window file node }
+{
+    match (file, node) {
+        (WinFile::Ctl, Node::File(of, WinFile::Ctl)) => of == window,
+        (WinFile::Addr, Node::File(of, WinFile::Addr)) => of == window,
+        _ => false,
+    }
+}
+
+// Whether the k-th fid of a connection has the file of the window open.
+fn open_at(sessions: &Sessions, conn: u32, window: u32, file: WinFile, k: usize) -> bool
+    ensures { result ≡ or_false (option_map (has_open window file) (slice_get (fids_of sessions.now.present conn) k)) }
+{
+    match sessions.fid_at(conn, k) {
+        Some((_, fid)) => is_open(fid) && is_file_of(window, file, fid.node),
+        None => false,
+    }
+}
+
+fn either(a: bool, b: bool) -> bool
+    ensures { result ≡ (a || b) }
+{
+    a || b
+}
+
+// Whether one of the connection's fids has it open.
+#[tactic(auto, using(crate::proofs::Scanned::scanning))]
+fn has_open(sessions: &Sessions, conn: u32, window: u32, file: WinFile) -> bool
+    ensures { result ≡ list_any (has_open window file) (fids_of sessions.now.present conn) }
+{
+    let count = sessions.count(conn);
+    let mut found = false;
+    let mut k = 0;
+    while k < count {
+        found = either(found, open_at(sessions, conn, window, file, k));
+        k += 1;
+    }
+    found
+}
+
+// Whether one of all connections has a fid that has it open.
+#[tactic(auto, using(crate::proofs::Scanned::connections))]
+fn someone_has_open(sessions: &Sessions, window: u32, file: WinFile) -> bool
+    ensures { result ≡ open_below sessions.now.present window file 64 }
+{
+    let mut found = false;
+    let mut conn = 0;
+    while conn < CONNS {
+        found = either(found, has_open(sessions, conn, window, file));
+        conn += 1;
+    }
+    found
+}
+
+// A setting of a window, which is made where no fid has the file open.
+fn sets_first(
+    alloc: Global,
+    sessions: &Sessions,
+    window: u32,
+    file: WinFile,
+    setting: Setting,
+) -> Result<Changes, NoMemory>
+    ensures { IfOk result (λ changes. changes ≡ sets_first sessions.now.present window file setting) }
+{
+    if someone_has_open(sessions, window, file) {
+        return Ok(Items::new(alloc));
+    }
+    let mut changes = Items::new(alloc);
+    changes.push(Change::Sets { window, setting })?;
+    Ok(changes)
+}
+
+fn clears_limit(alloc: Global, sessions: &Sessions, window: u32) -> Result<Changes, NoMemory>
+    ensures { IfOk result (λ changes. changes ≡ clears_limit sessions.now.present window) }
+{
+    sets_first(alloc, sessions, window, WinFile::Ctl, Setting::NoLimit)
+}
+
+fn resets_addr(alloc: Global, sessions: &Sessions, window: u32) -> Result<Changes, NoMemory>
+    ensures { IfOk result (λ changes. changes ≡ resets_addr sessions.now.present window) }
+{
+    let front = Setting::Addr(Range { q0: 0, q1: 0 });
+    sets_first(alloc, sessions, window, WinFile::Addr, front)
+}
+
+fn opening_changes(
+    alloc: Global,
+    sessions: &Sessions,
+    content: Content,
+) -> Result<Changes, NoMemory>
+    ensures { IfOk result (λ changes. changes ≡ opening_changes sessions.now.present content) }
+{
+    match content {
+        Content::CtlText(window) => clears_limit(alloc, sessions, window),
+        Content::AddrText(window) => resets_addr(alloc, sessions, window),
+        Content::Directory => Ok(Items::new(alloc)),
+        Content::BodyText(_) => Ok(Items::new(alloc)),
+        Content::TagText(_) => Ok(Items::new(alloc)),
+        Content::DataOf(_) => Ok(Items::new(alloc)),
+        Content::XdataOf(_) => Ok(Items::new(alloc)),
+        Content::IndexText => Ok(Items::new(alloc)),
+        Content::ErrorsOf(_) => Ok(Items::new(alloc)),
+        Content::ConsErrors => Ok(Items::new(alloc)),
+        Content::Empty => Ok(Items::new(alloc)),
+        Content::EventsOf(_) => Ok(Items::new(alloc)),
+        Content::Unserved => Ok(Items::new(alloc)),
+    }
+}
+
+fn opening_events(content: Content) -> EventChange
+    ensures { result ≡ opening_events content }
+{
+    match content {
+        Content::EventsOf(window) => EventChange::Opens { window },
+        Content::Directory => EventChange::Nothing,
+        Content::BodyText(_) => EventChange::Nothing,
+        Content::TagText(_) => EventChange::Nothing,
+        Content::AddrText(_) => EventChange::Nothing,
+        Content::DataOf(_) => EventChange::Nothing,
+        Content::XdataOf(_) => EventChange::Nothing,
+        Content::CtlText(_) => EventChange::Nothing,
+        Content::IndexText => EventChange::Nothing,
+        Content::ErrorsOf(_) => EventChange::Nothing,
+        Content::ConsErrors => EventChange::Nothing,
+        Content::Empty => EventChange::Nothing,
+        Content::Unserved => EventChange::Nothing,
+    }
+}
+
+// The number of the opening that an open of this makes.
+fn opening_of(openings: usize, content: Content) -> Option<u32>
+    requires { content_refusal openings content ≡ None }
+    ensures { result ≡ opening_of openings content }
+{
+    match content {
+        Content::EventsOf(_) => Some(openings as u32 + 1),
+        Content::Directory => None,
+        Content::BodyText(_) => None,
+        Content::TagText(_) => None,
+        Content::AddrText(_) => None,
+        Content::DataOf(_) => None,
+        Content::XdataOf(_) => None,
+        Content::CtlText(_) => None,
+        Content::IndexText => None,
+        Content::ErrorsOf(_) => None,
+        Content::ConsErrors => None,
+        Content::Empty => None,
+        Content::Unserved => None,
+    }
+}
+
+/// What a Topen does.
+#[tactic(auto, using(crate::proofs::Openings::opening))]
+pub fn open(alloc: Global, server: &Server, number: u32, mode: u8) -> Result<Reaction, Fault>
+    ensures exact { IfOk result (λ d. open_reaction (tables_in server.now) (world_in server.now) server.now.openings server.now.conn number mode ≡ Ok d) }
+    ensures refused { IfErr result (λ e. Gives e (open_reaction (tables_in server.now) (world_in server.now) server.now.openings server.now.conn number mode)) }
+    ensures done { IfOk result (IsDone (windows_in server.now)) }
+{
+    let Some(fid) = server.sessions.fid(server.conn, number) else {
+        return Err(Fault::Refused(Refusal::UnknownFid));
+    };
+    if let Some(refusal) = open_refusal(server.windows.world(), server.openings, fid, mode) {
+        return Err(Fault::Refused(refusal));
+    }
+    let content = content_of(fid.node);
+    Ok(Reaction {
+        effect: Effect::Puts {
+            number,
+            fid: opened(alloc, fid, mode, opening_of(server.openings, content))?,
+        },
+        events: opening_events(content),
+        changes: opening_changes(alloc, server.sessions, content)?,
+        answer: Answer::Says(RBody::Open {
+            qid: qid_of(fid.node),
+            iounit: 0,
+        }),
+    })
+}

@@ -1,0 +1,167 @@
+//! Walks, after walk(5).
+
+ghost use Rattle.std.specs.Prelude.{◌≡◌, ◌≤◌, [], length, IfOk, IfErr, Ok, Err, ◌∷◌};
+ghost use Rattle.core_fids.specs.Refusals.{Gives};
+ghost use Rattle.core_fids.specs.Servers.{tables_in, windows_in, world_in};
+ghost use Rattle.core_windows.specs.declared.change.Change.TheVariants as Change;
+ghost use Rattle.core_fids.specs.Done.{IsDone, MayEnd};
+ghost use Rattle.core_fids.specs.Walking.{trail, new_refusal, walk_refusal, arrives, walk_from, walk_reaction};
+
+use crate::effect::{Effect, Reaction};
+use crate::fids::{NOFID, fids_full, fresh, is_open, is_used};
+use crate::refusal::{Fault, Refusal};
+use crate::server::Server;
+use acme_tree::{Node, Step, WinFile, World, qid_of, walk_one};
+use am_text::{Bytes, Items, NoMemory};
+use core_windows::{Change, Changes};
+use fid_table::Fid;
+use ninep_types::{Qids, RBody};
+use std::alloc::Global;
+
+/// Where a walk ends.
+#[derive(Clone, Copy, Debug, PartialEq, Eq)]
+pub enum WalkEnd {
+    /// All names are found, and lead to this node.
+    At(Node),
+    /// All names are found, and a window is made for the last one, which is this file of it.
+    Makes(WinFile),
+    /// A name is refused.
+    Stops(Refusal),
+}
+
+/// The qids of the names that are found, and where the walk ends.
+#[derive(Drop)]
+pub struct Trail {
+    pub qids: Qids,
+    pub end: WalkEnd,
+}
+
+/// Where the names lead from a node.
+#[tactic(auto, unfolding(crate::specs::Walking::trail), using(crate::proofs::Trails::trails))]
+fn trail_of(alloc: Global, world: &World, from: Node, names: &[Bytes]) -> Result<Trail, NoMemory>
+    ensures exact { IfOk result (λ t. t ≡ trail world.now from names.now) }
+    ensures few { IfOk result (λ t. length t.qids ≤ length names.now) }
+    ensures may { IfOk result (λ t. MayEnd world.now t.end) }
+{
+    let mut qids = Items::new(alloc);
+    let mut node = from;
+    let mut rest = names;
+    while let [name, after @ ..] = rest {
+        let end = match walk_one(world, node, name.as_slice(), after.is_empty()) {
+            Step::Found(found) => {
+                qids.push(qid_of(found))?;
+                node = found;
+                rest = after;
+                continue;
+            }
+            Step::Make(file) => {
+                qids.push(qid_of(Node::File(world.next, file)))?;
+                WalkEnd::Makes(file)
+            }
+            Step::NotFound => WalkEnd::Stops(Refusal::FileNotFound),
+            Step::NotDir => WalkEnd::Stops(Refusal::NotADirectory),
+            Step::Deleted => WalkEnd::Stops(Refusal::WindowDeleted),
+            Step::Windows => WalkEnd::Stops(Refusal::TooManyWindows),
+        };
+        return Ok(Trail { qids, end });
+    }
+    Ok(Trail {
+        qids,
+        end: WalkEnd::At(node),
+    })
+}
+
+fn new_refusal(server: &Server, newfid: u32, fid: &Fid) -> Option<Refusal>
+    ensures { result ≡ new_refusal (tables_in server.now) server.now.conn newfid fid.now }
+{
+    if newfid == NOFID {
+        Some(Refusal::BadFid)
+    } else if is_used(server, newfid) {
+        Some(Refusal::FidInUse)
+    } else if is_open(fid) {
+        Some(Refusal::FidIsOpen)
+    } else if fids_full(server) {
+        Some(Refusal::TooManyFids)
+    } else {
+        None
+    }
+}
+
+fn walk_refusal(server: &Server, number: u32, newfid: u32, fid: &Fid) -> Option<Refusal>
+    ensures { result ≡ walk_refusal (tables_in server.now) server.now.conn number newfid fid.now }
+{
+    if newfid != number {
+        new_refusal(server, newfid, fid)
+    } else if is_open(fid) {
+        Some(Refusal::FidIsOpen)
+    } else {
+        None
+    }
+}
+
+fn new_window(alloc: Global) -> Result<Changes, NoMemory>
+    ensures { IfOk result (λ changes. changes ≡ Change.Makes [] ∷ []) }
+{
+    let mut changes = Items::new(alloc);
+    changes.push(Change::Makes {
+        name: Items::new(alloc),
+    })?;
+    Ok(changes)
+}
+
+fn arrive(alloc: Global, server: &Server, newfid: u32, trail: Trail) -> Result<Reaction, Fault>
+    requires few { length trail.qids ≤ 16 }
+    requires may { MayEnd (world_in server.now) trail.end }
+    ensures exact { IfOk result (λ d. arrives newfid (world_in server.now) trail ≡ Ok d) }
+    ensures refused { IfErr result (λ e. Gives e (arrives newfid (world_in server.now) trail)) }
+    ensures done { IfOk result (IsDone (windows_in server.now)) }
+{
+    let Trail { qids, end } = trail;
+    match end {
+        WalkEnd::At(node) => Ok(Reaction::plain(
+            Effect::Puts {
+                number: newfid,
+                fid: fresh(alloc, node),
+            },
+            Items::new(alloc),
+            RBody::Walk { qids },
+        )),
+        WalkEnd::Makes(file) => Ok(Reaction::plain(
+            Effect::Puts {
+                number: newfid,
+                fid: fresh(alloc, Node::File(server.windows.world().next, file)),
+            },
+            new_window(alloc)?,
+            RBody::Walk { qids },
+        )),
+        WalkEnd::Stops(refusal) if qids.is_empty() => Err(Fault::Refused(refusal)),
+        WalkEnd::Stops(_) => Ok(Reaction::plain(
+            Effect::Nothing,
+            Items::new(alloc),
+            RBody::Walk { qids },
+        )),
+    }
+}
+
+/// What a Twalk does.
+pub fn walk(
+    alloc: Global,
+    server: &Server,
+    number: u32,
+    newfid: u32,
+    names: &[Bytes],
+) -> Result<Reaction, Fault>
+    requires { length names.now ≤ 16 }
+    ensures exact { IfOk result (λ d. walk_reaction (tables_in server.now) (world_in server.now) server.now.conn number newfid names.now ≡ Ok d) }
+    ensures refused { IfErr result (λ e. Gives e (walk_reaction (tables_in server.now) (world_in server.now) server.now.conn number newfid names.now)) }
+    ensures done { IfOk result (IsDone (windows_in server.now)) }
+{
+    let Some(fid) = server.sessions.fid(server.conn, number) else {
+        return Err(Fault::Refused(Refusal::UnknownFid));
+    };
+    if let Some(refusal) = walk_refusal(server, number, newfid, fid) {
+        return Err(Fault::Refused(refusal));
+    }
+    let trail = trail_of(alloc, server.windows.world(), fid.node, names)?;
+    arrive(alloc, server, newfid, trail)
+}

@@ -1,0 +1,324 @@
+-- What messages do to fids with openings: these are open, and keep their openings until they are freed; a read is one of such a fid.
+use Rattle.std.proofs.Common.{◌≡◌, ℕ, Bool, true, false, cond, eqb, List, [], ◌++◌, length, Option, Some, None, Result, Ok, Err, min, codes, nat_lt, ◌==◌, refl, sym, ap, subst, ◌∙◌}
+use Rattle.std.proofs.lemmas.Bool.{eqb-true}
+use Rattle.am_text.specs.Part.{part_bytes}
+use Rattle.am_text.specs.Pieces.{Decoded, decode_part}
+use Rattle.am_text.specs.declared.range.Range.{Range}
+use Rattle.ninep_types.specs.declared.message.Qid.{Qid}
+use Rattle.ninep_types.specs.declared.message.TBody.{TBody}
+use Rattle.ninep_types.specs.declared.message.TBody.TheVariants as t
+use Rattle.ninep_types.specs.declared.message.RBody.TheVariants as r
+use Rattle.acme_tree.specs.Trees.{is_live}
+use Rattle.acme_tree.specs.declared.node.World.{World}
+use Rattle.fid_table.specs.declared.types.Fid.{Fid}
+use Rattle.fid_table.specs.Tables.{Tables, fid_of, msize_of}
+use Rattle.core_addresses.specs.Data.{data_taken}
+use Rattle.core_addresses.specs.Ranges.{addressed}
+use Rattle.core_addresses.specs.declared.data.Taken.{Taken}
+use Rattle.core_addresses.specs.declared.fault.RangeFault.{RangeFault}
+use Rattle.core_windows.specs.declared.change.Change.TheVariants as change
+use Rattle.core_windows.specs.Windows.{Window, window_at, named, world_of}
+use Rattle.core_fids.specs.declared.content.Content.{Content}
+use Rattle.core_fids.specs.declared.content.Content.TheVariants as content
+use Rattle.core_fids.specs.declared.effect.Answer.{Answer}
+use Rattle.core_fids.specs.declared.effect.Answer.TheVariants.{Says, Reads}
+use Rattle.core_fids.specs.declared.effect.Reaction.{Reaction}
+use Rattle.core_fids.specs.declared.effect.Effect.{Effect}
+use Rattle.core_fids.specs.declared.effect.Effect.TheVariants as effect
+use Rattle.core_fids.specs.declared.refusal.Refusal.{Refusal}
+use Rattle.core_fids.specs.declared.refusal.Refusal.TheVariants as refusal
+use Rattle.core_fids.specs.declared.walking.WalkEnd.{WalkEnd}
+use Rattle.core_fids.specs.declared.walking.WalkEnd.TheVariants as end
+use Rattle.core_answers.specs.Addressing.{data_reaction, xdata_reaction, addr_or_refusal, addr_reaction, data_or_refusal, taking_reaction}
+use Rattle.core_fids.specs.Attaching.{is_version, agreed, version_reaction, attach_refusal, or_attaches}
+use Rattle.core_fids.specs.Contents.{content_of}
+use Rattle.core_answers.specs.Reactions.{served, comes_first, reaction}
+use Rattle.core_answers.specs.Erring.{fits_in, fits_tag, errors_of, root_errors, errors_refusal}
+use Rattle.core_fids.specs.Fids.{is_there, is_used, is_open, is_for_reading, is_for_writing}
+use Rattle.core_fids.specs.Opening.{open_refusal, or_opens, open_fid, denied, clunk_fid, remove_fid}
+use Rattle.core_fids.specs.Plainly.{does}
+use Rattle.core_fids.specs.Directories.{place_at, read_dir, stat_fid}
+use Rattle.core_answers.specs.Reading.{read_opening, read_content, use_refusal, or_reads, most, read_fid}
+use Rattle.core_fids.specs.Refusals.{refused_with, reaction_or_refusal}
+use Rattle.core_answers.specs.Texts.{text_at, right_of}
+use Rattle.core_fids.specs.Walking.{trail, new_refusal, walk_refusal, arrives_at, or_walks, walk_from}
+use Rattle.core_answers.specs.Writing.{if_lives, append_reaction, add_reaction, or_errors, errors_reaction, write_content, write_fid}
+
+-- a fid that isn't open has no opening
+abbrev pub IsModed : Fid → Type 0
+IsModed f = f.mode ≡ None → f.opening ≡ None
+
+-- the fid that is put is such a one, and has the opening of the one in whose place it stands
+pub record IsPut (tables : Tables) (conn number : ℕ) (value : Fid) : Type 0 where
+  pub moded : IsModed value
+  pub keeps : (f : Fid) (o : ℕ) → fid_of tables conn number ≡ Some f → f.opening ≡ Some o → value.opening ≡ Some o
+
+abbrev pub PutsSane : Tables → ℕ → Effect → Type 0
+PutsSane tables conn effect.Nothing = Unit {0}
+PutsSane tables conn (effect.Begins msize) = Unit {0}
+PutsSane tables conn (effect.Puts number value) = IsPut tables conn number value
+PutsSane tables conn (effect.Frees number) = Unit {0}
+
+-- the opening is that of this fid
+pub record HasOpening (tables : Tables) (conn number opening : ℕ) : Type 0 where
+  pub fid : Fid
+  pub is : fid_of tables conn number ≡ Some fid
+  pub opens : fid.opening ≡ Some opening
+
+abbrev pub ReadsSane : Tables → ℕ → Effect → Answer → Type 0
+ReadsSane tables conn e (Says body) = Unit {0}
+ReadsSane tables conn e (Reads number opening count) = (e ≡ effect.Nothing) × HasOpening tables conn number opening
+
+abbrev pub IsSane : Tables → ℕ → Reaction → Type 0
+IsSane tables conn d = PutsSane tables conn d.effect × ReadsSane tables conn d.effect d.answer
+
+-- ---- tests
+
+same_some : {A : Type 0} (o : Option A) (a b : A) → o ≡ Some a → o ≡ Some b → a ≡ b
+same_some o a b g h = let e : Some a ≡ Some b = sym g ∙ h in cc
+
+not_there : {A : Type 0} (o : Option A) (a : A) → is_there o ≡ false → o ≡ Some a → ⊥
+not_there None a e h = absurd cc
+not_there (Some b) a e h = absurd cc
+
+none_there : {A : Type 0} (o : Option A) → is_there o ≡ false → o ≡ None
+none_there None e = refl
+none_there (Some b) e = absurd cc
+
+-- the second test failed where neither refused
+second_false : {A : Type 0} (a b : Bool) (x y : A) (rest : Option A) → cond a (Some x) (cond b (Some y) rest) ≡ None → b ≡ false
+second_false true b x y rest e = absurd cc
+second_false false true x y rest e = absurd cc
+second_false false false x y rest e = refl
+
+first_false : {A : Type 0} (a : Bool) (x : A) (rest : Option A) → cond a (Some x) rest ≡ None → a ≡ false
+first_false true x rest e = absurd cc
+first_false false x rest e = refl
+
+module _ (tables : Tables) (conn : ℕ) (moded : (number : ℕ) (f : Fid) → fid_of tables conn number ≡ Some f → IsModed f) where
+  abbrev Sane : Result Reaction Refusal → Type 0
+  Sane (Ok d) = IsSane tables conn d
+  Sane (Err x) = Unit {0}
+
+  one_of : (b : Bool) (d e : Reaction) → IsSane tables conn d → IsSane tables conn e → IsSane tables conn (cond b d e)
+  one_of true d e g h = g
+  one_of false d e g h = h
+
+  done_or : (b : Bool) (d : Reaction) (x : Refusal) → IsSane tables conn d → Sane (cond b (Ok d) (Err x))
+  done_or true d x h = h
+  done_or false d x h = tt
+
+  or_done : (b : Bool) (x : Refusal) (d : Reaction) → IsSane tables conn d → Sane (cond b (Err x) (Ok d))
+  or_done true x d h = tt
+  or_done false x d h = h
+
+  -- ---- fids that are put
+
+  -- a fid with what the one in its place had
+  put_again : (number : ℕ) (f value : Fid) → fid_of tables conn number ≡ Some f → value.mode ≡ f.mode → value.opening ≡ f.opening → IsPut tables conn number value
+  put_again number f value is mode opening = record {
+    moded = λ e. opening ∙ moded number f is (sym mode ∙ e);
+    keeps = λ g o there opens. opening ∙ ap (λ (x : Fid). x.opening) (same_some (fid_of tables conn number) f g is there) ∙ opens;
+  }
+
+  -- a fid where none with an opening stands
+  put_new : (number : ℕ) (value : Fid) → IsModed value → ((f : Fid) → fid_of tables conn number ≡ Some f → f.opening ≡ None) → IsPut tables conn number value
+  put_new number value own none = record {
+    moded = own;
+    keeps = λ f o there opens. let e : None ≡ Some o = sym (none f there) ∙ opens in absurd cc;
+  }
+
+  -- a number that isn't in use
+  unused : (number : ℕ) → is_used tables conn number ≡ false → (f : Fid) → fid_of tables conn number ≡ Some f → f.opening ≡ None
+  unused number e f is = absurd (not_there (fid_of tables conn number) f e is)
+
+  -- a fid that isn't open
+  closed : (number : ℕ) (f : Fid) → fid_of tables conn number ≡ Some f → is_open f ≡ false → (g : Fid) → fid_of tables conn number ≡ Some g → g.opening ≡ None
+  closed number f is e g there =
+      ap (λ (x : Fid). x.opening) (same_some (fid_of tables conn number) g f there is) ∙ moded number f is (none_there f.mode e)
+
+  -- ---- message by message
+
+  version_sane : (msize : ℕ) (version : List ℕ) → IsSane tables conn (version_reaction msize version)
+  version_sane msize version =
+      one_of (nat_lt msize 256) (refused_with (effect.Begins None) refusal.MsizeTooSmall) (agreed (min msize 65560) version) (tt, tt)
+      (one_of (is_version version) (does (effect.Begins (Some (min msize 65560))) [] (r.Version (min msize 65560) (codes "9P2000")))
+      (does (effect.Begins None) [] (r.Version (min msize 65560) (codes "unknown"))) (tt, tt) (tt, tt))
+
+  attaches : (fid afid : ℕ) (aname : List ℕ) (o : Option Refusal) → attach_refusal tables conn fid afid aname ≡ o → Sane (or_attaches o fid)
+  attaches fid afid aname None e = (put_new fid _ (λ h. refl) (unused fid (second_false _ (is_used tables conn fid) _ _ _ e)), tt)
+  attaches fid afid aname (Some x) e = tt
+
+  arrives_sane : (newfid : ℕ) (world : World) (qids : List Qid) (e : WalkEnd) → ((f : Fid) → fid_of tables conn newfid ≡ Some f → f.opening ≡ None) → Sane (arrives_at newfid world qids e)
+  arrives_sane newfid world qids (end.At node) none = (put_new newfid _ (λ h. refl) none, tt)
+  arrives_sane newfid world qids (end.Makes file) none = (put_new newfid _ (λ h. refl) none, tt)
+  arrives_sane newfid world qids (end.Stops x) none = or_done (length qids == 0) x (does effect.Nothing [] (r.Walk qids)) (tt, tt)
+
+  or_walks_sane : (o : Option Refusal) (x : Result Reaction Refusal) → (o ≡ None → Sane x) → Sane (or_walks o x)
+  or_walks_sane None x h = h refl
+  or_walks_sane (Some y) x h = tt
+
+  walk_free : (number newfid : ℕ) (f : Fid) → fid_of tables conn number ≡ Some f → walk_refusal tables conn number newfid f ≡ None
+      → (g : Fid) → fid_of tables conn newfid ≡ Some g → g.opening ≡ None
+  walk_free number newfid f is =
+      elim (eqb newfid number) as (λ b. eqb newfid number ≡ b
+      → cond b (cond (is_open f) (Some refusal.FidIsOpen) None) (new_refusal tables conn newfid f) ≡ None → (g : Fid) → fid_of tables conn newfid ≡ Some g → g.opening ≡ None) [
+        | true ↦ λ same e. let at : newfid ≡ number = eqb-true newfid number same in
+            subst (λ (k : ℕ). (g : Fid) → fid_of tables conn k ≡ Some g → g.opening ≡ None) (sym at) (closed number f is (first_false (is_open f) _ _ e))
+        | false ↦ λ apart e. unused newfid (second_false _ (is_used tables conn newfid) _ _ _ e)
+      ] refl
+
+  walk_sane : (world : World) (number newfid : ℕ) (names : List (List ℕ)) (o : Option Fid) → fid_of tables conn number ≡ o → Sane (walk_from tables world conn number newfid names o)
+  walk_sane world number newfid names None is = tt
+  walk_sane world number newfid names (Some f) is =
+      or_walks_sane (walk_refusal tables conn number newfid f) _
+      (λ e. arrives_sane newfid world (trail world f.node names).qids (trail world f.node names).end (walk_free number newfid f is e))
+
+  opens_sane : (world : World) (openings number mode : ℕ) (f : Fid) (o : Option Refusal) → fid_of tables conn number ≡ Some f → open_refusal world openings f mode ≡ o
+      → Sane (or_opens tables o openings number f mode)
+  opens_sane world openings number mode f None is e =
+      (put_new number _ (λ h. absurd cc) (closed number f is (second_false _ (is_open f) _ _ _ e)), tt)
+  opens_sane world openings number mode f (Some x) is e = tt
+
+  open_sane : (world : World) (openings number mode : ℕ) (o : Option Fid) → fid_of tables conn number ≡ o → Sane (open_fid tables world openings number mode o)
+  open_sane world openings number mode None is = tt
+  open_sane world openings number mode (Some f) is = opens_sane world openings number mode f (open_refusal world openings f mode) is refl
+
+  denied_sane : (o : Option Fid) → Sane (denied o)
+  denied_sane None = tt
+  denied_sane (Some f) = tt
+
+  or_reads_sane : (o : Option Refusal) (x : Result Reaction Refusal) → Sane x → Sane (or_reads o x)
+  or_reads_sane None x h = h
+  or_reads_sane (Some y) x h = tt
+
+  read_dir_sane : (world : World) (number offset count : ℕ) (f : Fid) (o : Option ℕ) → fid_of tables conn number ≡ Some f → Sane (read_dir world number f offset count o)
+  read_dir_sane world number offset count f None is = tt
+  read_dir_sane world number offset count f (Some skip) is = (put_again number f _ is refl refl, tt)
+
+  read_opening_sane : (number count : ℕ) (f : Fid) (o : Option ℕ) → fid_of tables conn number ≡ Some f → f.opening ≡ o → Sane (read_opening number count o)
+  read_opening_sane number count f None is e = tt
+  read_opening_sane number count f (Some opening) is e = (tt, (refl, record { fid = f; is = is; opens = e }))
+
+  data_sane : (w count : ℕ) (o : Option Window) → IsSane tables conn (data_reaction w count o)
+  data_sane w count None = (tt, tt)
+  data_sane w count (Some window) = (tt, tt)
+
+  xdata_sane : (w count : ℕ) (o : Option Window) → IsSane tables conn (xdata_reaction w count o)
+  xdata_sane w count None = (tt, tt)
+  xdata_sane w count (Some window) = (tt, tt)
+
+  read_content_sane : (world : World) (windows : List (Option Window)) (number offset count : ℕ) (f : Fid) (c : Content) → fid_of tables conn number ≡ Some f
+      → Sane (read_content world windows number f offset count c)
+  read_content_sane world windows number offset count f content.Directory is = read_dir_sane world number offset count f (place_at f offset) is
+  read_content_sane world windows number offset count f (content.BodyText w) is = (tt, tt)
+  read_content_sane world windows number offset count f (content.TagText w) is = (tt, tt)
+  read_content_sane world windows number offset count f (content.CtlText w) is = (tt, tt)
+  read_content_sane world windows number offset count f (content.AddrText w) is = (tt, tt)
+  read_content_sane world windows number offset count f (content.DataOf w) is = data_sane w count (window_at windows w)
+  read_content_sane world windows number offset count f (content.XdataOf w) is = xdata_sane w count (window_at windows w)
+  read_content_sane world windows number offset count f content.IndexText is = (tt, tt)
+  read_content_sane world windows number offset count f (content.ErrorsOf w) is = tt
+  read_content_sane world windows number offset count f content.ConsErrors is = (tt, tt)
+  read_content_sane world windows number offset count f content.Empty is = (tt, tt)
+  read_content_sane world windows number offset count f (content.EventsOf w) is = read_opening_sane number count f f.opening is refl
+  read_content_sane world windows number offset count f content.Unserved is = tt
+
+  read_sane : (world : World) (windows : List (Option Window)) (number offset count : ℕ) (o : Option Fid) → fid_of tables conn number ≡ o → Sane (read_fid world windows number offset count o)
+  read_sane world windows number offset count None is = tt
+  read_sane world windows number offset count (Some f) is =
+      or_reads_sane (use_refusal world f is_for_reading) _ (read_content_sane world windows number offset count f (content_of f.node) is)
+
+  if_lives_sane : (o : Option Window) (x : Result Reaction Refusal) → Sane x → Sane (if_lives o x)
+  if_lives_sane None x h = tt
+  if_lives_sane (Some w) x h = h
+
+  append_sane : (windows : List (Option Window)) (number w count : ℕ) (f : Fid) (decoded : Decoded) → fid_of tables conn number ≡ Some f → Sane (append_reaction windows number f w count decoded)
+  append_sane windows number w count f decoded is =
+      if_lives_sane (window_at windows w) _ (done_or (fits_in (text_at windows w) decoded.text) _ refusal.TextTooLong (put_again number f _ is refl refl, tt))
+
+  add_sane : (windows : List (Option Window)) (number w count : ℕ) (f : Fid) (decoded : Decoded) → fid_of tables conn number ≡ Some f → Sane (add_reaction windows number f w count decoded)
+  add_sane windows number w count f decoded is =
+      if_lives_sane (window_at windows w) _ (done_or (fits_tag (right_of (window_at windows w)) decoded.text) _ refusal.TextTooLong (put_again number f _ is refl refl, tt))
+
+  or_errors_sane : (o : Option Refusal) (d : Reaction) → IsSane tables conn d → Sane (or_errors o d)
+  or_errors_sane None d h = h
+  or_errors_sane (Some x) d h = tt
+
+  errors_sane : (windows : List (Option Window)) (number count : ℕ) (name : List ℕ) (f : Fid) (decoded : Decoded) → fid_of tables conn number ≡ Some f
+      → Sane (errors_reaction windows number f name count decoded)
+  errors_sane windows number count name f decoded is =
+      or_errors_sane (errors_refusal windows (named windows name) decoded.text) _ (put_again number f _ is refl refl, tt)
+
+  addr_set_sane : (w count : ℕ) (x : Result Range RangeFault) → Sane (addr_or_refusal w count x)
+  addr_set_sane w count (Ok range) = (tt, tt)
+  addr_set_sane w count (Err f) = tt
+
+  addr_sane : (w : ℕ) (bytes : List ℕ) (o : Option Window) → Sane (addr_reaction w bytes o)
+  addr_sane w bytes None = tt
+  addr_sane w bytes (Some window) = addr_set_sane w (length bytes) (addressed window.body bytes)
+
+  data_set_sane : (w count : ℕ) (x : Result Taken RangeFault) → Sane (data_or_refusal w count x)
+  data_set_sane w count (Ok taken) = (tt, tt)
+  data_set_sane w count (Err f) = tt
+
+  taking_sane : (w : ℕ) (bytes : List ℕ) (o : Option Window) → Sane (taking_reaction w bytes o)
+  taking_sane w bytes None = tt
+  taking_sane w bytes (Some window) = data_set_sane w (length bytes) (data_taken window.body bytes)
+
+  write_content_sane : (windows : List (Option Window)) (number : ℕ) (f : Fid) (bytes : List ℕ) (c : Content) → fid_of tables conn number ≡ Some f → Sane (write_content windows number f bytes c)
+  write_content_sane windows number f bytes content.Directory is = tt
+  write_content_sane windows number f bytes (content.BodyText w) is = append_sane windows number w (length bytes) f (decode_part (part_bytes f.part ++ bytes)) is
+  write_content_sane windows number f bytes (content.TagText w) is = add_sane windows number w (length bytes) f (decode_part (part_bytes f.part ++ bytes)) is
+  write_content_sane windows number f bytes (content.CtlText w) is = if_lives_sane (window_at windows w) _ (tt, tt)
+  write_content_sane windows number f bytes (content.AddrText w) is = addr_sane w bytes (window_at windows w)
+  write_content_sane windows number f bytes (content.DataOf w) is = taking_sane w bytes (window_at windows w)
+  write_content_sane windows number f bytes (content.XdataOf w) is = taking_sane w bytes (window_at windows w)
+  write_content_sane windows number f bytes content.IndexText is = tt
+  write_content_sane windows number f bytes (content.ErrorsOf w) is =
+      errors_sane windows number (length bytes) (errors_of (window_at windows w)) f (decode_part (part_bytes f.part ++ bytes)) is
+  write_content_sane windows number f bytes content.ConsErrors is = errors_sane windows number (length bytes) root_errors f (decode_part (part_bytes f.part ++ bytes)) is
+  write_content_sane windows number f bytes content.Empty is = (tt, tt)
+  write_content_sane windows number f bytes (content.EventsOf w) is = tt
+  write_content_sane windows number f bytes content.Unserved is = tt
+
+  write_sane : (world : World) (windows : List (Option Window)) (number : ℕ) (bytes : List ℕ) (o : Option Fid) → fid_of tables conn number ≡ o → Sane (write_fid world windows number bytes o)
+  write_sane world windows number bytes None is = tt
+  write_sane world windows number bytes (Some f) is =
+      or_reads_sane (use_refusal world f is_for_writing) _ (write_content_sane windows number f bytes (content_of f.node) is)
+
+  clunk_sane : (number : ℕ) (o : Option Fid) → Sane (clunk_fid number o)
+  clunk_sane number None = tt
+  clunk_sane number (Some f) = (tt, tt)
+
+  remove_sane : (number : ℕ) (o : Option Fid) → Sane (remove_fid number o)
+  remove_sane number None = tt
+  remove_sane number (Some f) = (tt, tt)
+
+  stat_sane : (world : World) (o : Option Fid) → Sane (stat_fid world o)
+  stat_sane world None = tt
+  stat_sane world (Some f) = done_or (is_live world f.node) _ refusal.WindowDeleted (tt, tt)
+
+  served_sane : (world : World) (windows : List (Option Window)) (openings : ℕ) (body : TBody) → Sane (served tables world windows openings conn body)
+  served_sane world windows openings (t.Version msize version) = version_sane msize version
+  served_sane world windows openings (t.Auth afid uname aname) = tt
+  served_sane world windows openings (t.Flush oldtag) = (tt, tt)
+  served_sane world windows openings (t.Attach fid afid uname aname) = attaches fid afid aname (attach_refusal tables conn fid afid aname) refl
+  served_sane world windows openings (t.Walk fid newfid names) = walk_sane world fid newfid names (fid_of tables conn fid) refl
+  served_sane world windows openings (t.Open fid mode) = open_sane world openings fid mode (fid_of tables conn fid) refl
+  served_sane world windows openings (t.Create fid name perm mode) = denied_sane (fid_of tables conn fid)
+  served_sane world windows openings (t.Read fid offset count) = read_sane world windows fid offset (most count (msize_of tables conn)) (fid_of tables conn fid) refl
+  served_sane world windows openings (t.Write fid offset bytes) = write_sane world windows fid bytes (fid_of tables conn fid) refl
+  served_sane world windows openings (t.Clunk fid) = clunk_sane fid (fid_of tables conn fid)
+  served_sane world windows openings (t.Remove fid) = remove_sane fid (fid_of tables conn fid)
+  served_sane world windows openings (t.Stat fid) = stat_sane world (fid_of tables conn fid)
+  served_sane world windows openings (t.Wstat fid stat) = denied_sane (fid_of tables conn fid)
+
+  settled : (x : Result Reaction Refusal) → Sane x → IsSane tables conn (reaction_or_refusal x)
+  settled (Ok d) h = h
+  settled (Err x) h = (tt, tt)
+
+  pub reaction_sane : (windows : List (Option Window)) (openings : ℕ) (body : TBody) → IsSane tables conn (reaction tables windows openings conn body)
+  reaction_sane windows openings body =
+      one_of (comes_first tables conn body) (refused_with effect.Nothing refusal.VersionFirst) _ (tt, tt)
+      (settled (served tables (world_of windows) windows openings conn body) (served_sane (world_of windows) windows openings body))

@@ -1,0 +1,52 @@
+-- Replies, and those of each connection that aren't taken yet.
+use Rattle.std.specs.Prelude.{ℕ, ◌<◌, ◌+◌, List, [], ◌++◌, length, slice_set, slice_index_or, All}
+use Rattle.std.specs.List.{fold}
+use Rattle.am_text.specs.Twice.{Twice}
+use Rattle.core_outputs.specs.declared.reply.Reply.{Reply}
+
+-- the unsent replies of a connection: how many there are, and their bytes, one after another
+pub record Unsent : Type 0 where
+  pub count : ℕ
+  pub bytes : List ℕ
+
+abbrev pub nothing_unsent : Unsent
+nothing_unsent = record { count = 0; bytes = [] }
+
+abbrev pub unsent_at : List Unsent → ℕ → Unsent
+unsent_at unsent conn = slice_index_or unsent conn nothing_unsent
+
+-- a reply more
+abbrev pub with_reply : Unsent → List ℕ → Unsent
+with_reply u reply = record { count = u.count + 1; bytes = u.bytes ++ reply }
+
+-- a reply is put behind those of its connection
+abbrev pub put_reply : List Unsent → Reply → List Unsent
+put_reply unsent reply = slice_set unsent reply.conn (with_reply (unsent_at unsent reply.conn) reply.bytes)
+
+abbrev pub put_replies : List Unsent → List Reply → List Unsent
+put_replies unsent replies = fold put_reply unsent replies
+
+-- without those of a connection, which are taken
+abbrev pub taken : List Unsent → ℕ → List Unsent
+taken unsent conn = slice_set unsent conn nothing_unsent
+
+-- ---- as the editor keeps them, in two states
+
+abbrev pub present_of : Twice Unsent → Unsent
+present_of t = t.present
+
+abbrev pub kept_of : Twice Unsent → Unsent
+kept_of t = t.kept
+
+abbrev pub with_present : Twice Unsent → Twice Unsent
+with_present t = record { present = t.present; kept = t.present }
+
+abbrev pub with_kept : Twice Unsent → Twice Unsent
+with_kept t = record { present = t.kept; kept = t.kept }
+
+-- each reply has bytes
+abbrev pub HasBytes : Reply → Type 0
+HasBytes reply = 0 < length reply.bytes
+
+abbrev pub HaveBytes : List Reply → Type 0
+HaveBytes replies = All HasBytes replies

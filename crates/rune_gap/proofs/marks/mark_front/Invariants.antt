@@ -1,0 +1,9 @@
+use Rattle.std.specs.Prelude.{◌≡◌, ◌≤◌, ◌*◌, ℕ, length, take}
+use Rattle.rune_gap.specs.Marks.{stride, size, noted}
+use Rattle.rune_gap.proofs.marks.mark_front.Given as goal
+
+abbrev pub invariant-loop-k : goal.invariant-loop-k
+invariant-loop-k l = record {
+  len : length l.marks ≡ length l.initial.marks;
+  marked : (m : ℕ) → m ≤ l.k → m * stride ≤ length l.text → noted l.marks m ≡ size (take (m * stride) l.text);
+}

@@ -1,0 +1,17 @@
+use Rattle.std.proofs.Common.{◌*◌, ◌/◌, ◌∙◌, length, arith}
+use Rattle.rune_gap.proofs.Marked.{size_front, size_few}
+use Rattle.rune_gap.proofs.place.bytes_before.Goals as goal
+
+pub overflow_add-result : goal.overflow_add-result
+overflow_add-result c =
+    let side = c.args.side.now in
+    let strides = length side / 256 in
+    let marked = c.noted.ensures ∙ c.requires.marked strides (omega arith) in
+    omega (arith, marked, c.size.ensures.exact, size_front side (strides * 256) (omega arith), size_few side, c.requires.small)
+
+pub returns : goal.returns
+returns c =
+    let side = c.args.side.now in
+    let strides = length side / 256 in
+    let marked = c.noted.ensures ∙ c.requires.marked strides (omega arith) in
+    omega (arith, marked, c.size.ensures.exact, size_front side (strides * 256) (omega arith))
