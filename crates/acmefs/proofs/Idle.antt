@@ -18,9 +18,12 @@ use Rattle.acmefs.specs.declared.replay.End.{End}
 use Rattle.acmefs.specs.declared.replay.End.TheVariants as end
 use Rattle.acmefs.specs.Scripts as scripts
 use Rattle.acmefs.specs.Scripts.{script_of, replied_from, text_of}
-use Rattle.acmefs.specs.Ends.{IsComplete, RanOut, RanTold, Says, Drilled, code_of, serve_code}
+use Rattle.acmefs.specs.Ends.{IsComplete, RanOut, RanTold, Says, Drilled, status_of, serve_status}
 use Rattle.acmefs.specs.Own.{PutsOwn, RoundTrips}
 use Rattle.acmefs.proofs.RoundTrip as round
+use Rattle.acmefs.specs.declared.status.Status.{Status}
+use Rattle.acmefs.specs.declared.status.Status.TheVariants as exit
+use Rattle.acmefs.specs.Statuses.{number_of}
 
 pub trips : (journal : List Event) → journal ≡ [] → RoundTrips journal
 trips journal none = subst RoundTrips (sym none) (round.trips [] tt)
@@ -45,7 +48,7 @@ pub no_memory : (told : Option (List ℕ)) (o : Output) (journal : List Event) �
 no_memory None o journal silent none = tt
 no_memory (Some bytes) o journal silent none = ran_out (script_of bytes) o journal silent none
 
-pub complete : (status : ℕ) (told : Option (List ℕ)) (before now : ℕ) (o : Output) (journal : List Event) → status ≡ 6
+pub complete : (status : Status) (told : Option (List ℕ)) (before now : ℕ) (o : Output) (journal : List Event) → status ≡ exit.NoMemory
     → IfSome told (λ bytes. IsComplete status (script_of bytes) before now o journal)
 complete status None before now o journal is = tt
 complete status (Some bytes) before now o journal is = λ none in_ok out_ok. inr is
@@ -59,20 +62,20 @@ unfolding bytes_in
 are_told None = tt
 are_told (Some bytes) = refl
 
-pub headline : (status : ℕ) (told : Option (List ℕ)) (before now : ℕ) (o : Output) (journal : List Event) → o.held_now ≡ o.held → status ≡ 6 → journal ≡ []
-    → (e : End) × (status ≡ code_of e) × Says e told before now o journal
+pub headline : (status : Status) (told : Option (List ℕ)) (before now : ℕ) (o : Output) (journal : List Event) → o.held_now ≡ o.held → status ≡ exit.NoMemory → journal ≡ []
+    → (e : End) × (status ≡ status_of e) × Says e told before now o journal
 headline status told before now o journal silent is none =
     (end.NoMemory, is, (bytes_in told, are_told told, ran_out (script_of (bytes_in told)) o journal silent none))
 
-pub own_text : (status : ℕ) (o : Output) (journal : List Event) → o.held_now ≡ o.held → status ≡ 6 → (e : End) × (status ≡ code_of e) × PutsOwn e o journal
+pub own_text : (status : Status) (o : Output) (journal : List Event) → o.held_now ≡ o.held → status ≡ exit.NoMemory → (e : End) × (status ≡ status_of e) × PutsOwn e o journal
 own_text status o journal silent is = (end.NoMemory, is, (0, omega arith, silent ∙ nothing_told o.held))
 
-pub drills : (status rounds : ℕ) (o : Output) (journal : List Event) → o.held_now ≡ o.held → o.faults_now ≡ o.faults → status ≡ 6 → journal ≡ [] → Drilled status rounds o journal
+pub drills : (status : Status) (rounds : ℕ) (o : Output) (journal : List Event) → o.held_now ≡ o.held → o.faults_now ≡ o.faults → status ≡ exit.NoMemory → journal ≡ [] → Drilled status rounds o journal
 drills status rounds o journal silent calm is none = (drilling.NoMemory, is, ((events rounds, ap (λ (j : List Event). j ++ events rounds) none), (silent, calm)))
 
 module _ {G L S K : Type 0} where
-  pub serves : (m : Outside G L S K) (path : List ℕ) (clients : ℕ) (i : Given) (o : Output) (journal : List Event) (served : List (Served G L S K)) (status : ℕ)
-      → o.held_now ≡ o.held → status ≡ 6 → journal ≡ [] → served ≡ []
-      → (e : ServeEnd) × (status ≡ serve_code e) × SaysServe m path clients i o journal served e
+  pub serves : (m : Outside G L S K) (path : List ℕ) (clients : ℕ) (i : Given) (o : Output) (journal : List Event) (served : List (Served G L S K)) (status : Status)
+      → o.held_now ≡ o.held → status ≡ exit.NoMemory → journal ≡ [] → served ≡ []
+      → (e : ServeEnd) × (status ≡ serve_status e) × SaysServe m path clients i o journal served e
   serves m path clients i o journal served status silent is none unserved =
       (serving.NoMemory, is, inr (inr (inl (refl, record { silent = silent; empty = none; none = unserved }))))

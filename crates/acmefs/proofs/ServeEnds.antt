@@ -20,84 +20,87 @@ use Rattle.am_base.specs.Written as put
 use Rattle.am_server.specs.declared.served.Served.{Served}
 use Rattle.am_server.specs.declared.writing.ServeEnd.{ServeEnd}
 use Rattle.am_server.specs.declared.writing.ServeEnd.TheVariants as end
-use Rattle.acmefs.specs.Ends.{IsServeComplete, serve_code}
+use Rattle.acmefs.specs.Ends.{IsServeComplete, serve_status}
 use Rattle.am_base.specs.Written.{Output}
+use Rattle.acmefs.specs.declared.status.Status.{Status}
+use Rattle.acmefs.specs.declared.status.Status.TheVariants as exit
+use Rattle.acmefs.specs.Statuses.{number_of}
 
 -- no end of serving has status 1
-pub never_usage : (e : ServeEnd) → serve_code e ≡ 1 → ⊥
-never_usage end.Done h = absurd (omega (arith, h))
-never_usage end.Script h = absurd (omega (arith, h))
-never_usage end.ReadFault h = absurd (omega (arith, h))
-never_usage end.HostFault h = absurd (omega (arith, h))
-never_usage end.NoMemory h = absurd (omega (arith, h))
-never_usage end.WriteFault h = absurd (omega (arith, h))
+pub never_usage : (e : ServeEnd) → serve_status e ≡ exit.Usage → ⊥
+never_usage end.Done h = absurd (omega (arith, ap number_of h))
+never_usage end.Script h = absurd (omega (arith, ap number_of h))
+never_usage end.ReadFault h = absurd (omega (arith, ap number_of h))
+never_usage end.HostFault h = absurd (omega (arith, ap number_of h))
+never_usage end.NoMemory h = absurd (omega (arith, ap number_of h))
+never_usage end.WriteFault h = absurd (omega (arith, ap number_of h))
 
-host_or : (b : Bool) (e : ServeEnd) (n : ℕ) → (5 ≡ n → ⊥) → (serve_code e ≡ n → ⊥) → serve_code (cond b end.HostFault e) ≡ n → ⊥
+host_or : (b : Bool) (e : ServeEnd) (n : Status) → (exit.HostFault ≡ n → ⊥) → (serve_status e ≡ n → ⊥) → serve_status (cond b end.HostFault e) ≡ n → ⊥
 host_or true e n f g h = f h
 host_or false e n f g h = g h
 
-done_or : (untold failed : Bool) → serve_code (end_done untold failed) ≡ 3 → ⊥
-done_or true failed h = absurd (omega (arith, h))
-done_or false true h = absurd (omega (arith, h))
-done_or false false h = absurd (omega (arith, h))
+done_or : (untold failed : Bool) → serve_status (end_done untold failed) ≡ exit.ReadFault → ⊥
+done_or true failed h = absurd (omega (arith, ap number_of h))
+done_or false true h = absurd (omega (arith, ap number_of h))
+done_or false false h = absurd (omega (arith, ap number_of h))
 
-whole_or : (untold : Bool) → serve_code (end_done untold false) ≡ 4 → ⊥
-whole_or true h = absurd (omega (arith, h))
-whole_or false h = absurd (omega (arith, h))
+whole_or : (untold : Bool) → serve_status (end_done untold false) ≡ exit.WriteFault → ⊥
+whole_or true h = absurd (omega (arith, ap number_of h))
+whole_or false h = absurd (omega (arith, ap number_of h))
 
 -- with status 0 and 4 all was done
-all_done : (e : ServeEnd) (status : ℕ) → status ≡ serve_code e → (status ≡ 0) ⊎ (status ≡ 4) → AllDone e
+all_done : (e : ServeEnd) (status : Status) → status ≡ serve_status e → (status ≡ exit.Done) ⊎ (status ≡ exit.WriteFault) → AllDone e
 all_done end.Done status is h = tt
 all_done end.WriteFault status is h = tt
-all_done end.Script status is h = absurd (⊎_elim (λ (x : status ≡ 0). omega (arith, is, x)) (λ (x : status ≡ 4). omega (arith, is, x)) h)
-all_done end.ReadFault status is h = absurd (⊎_elim (λ (x : status ≡ 0). omega (arith, is, x)) (λ (x : status ≡ 4). omega (arith, is, x)) h)
-all_done end.HostFault status is h = absurd (⊎_elim (λ (x : status ≡ 0). omega (arith, is, x)) (λ (x : status ≡ 4). omega (arith, is, x)) h)
-all_done end.NoMemory status is h = absurd (⊎_elim (λ (x : status ≡ 0). omega (arith, is, x)) (λ (x : status ≡ 4). omega (arith, is, x)) h)
+all_done end.Script status is h = absurd (⊎_elim (λ (x : status ≡ exit.Done). omega (arith, ap number_of is, ap number_of x)) (λ (x : status ≡ exit.WriteFault). omega (arith, ap number_of is, ap number_of x)) h)
+all_done end.ReadFault status is h = absurd (⊎_elim (λ (x : status ≡ exit.Done). omega (arith, ap number_of is, ap number_of x)) (λ (x : status ≡ exit.WriteFault). omega (arith, ap number_of is, ap number_of x)) h)
+all_done end.HostFault status is h = absurd (⊎_elim (λ (x : status ≡ exit.Done). omega (arith, ap number_of is, ap number_of x)) (λ (x : status ≡ exit.WriteFault). omega (arith, ap number_of is, ap number_of x)) h)
+all_done end.NoMemory status is h = absurd (⊎_elim (λ (x : status ≡ exit.Done). omega (arith, ap number_of is, ap number_of x)) (λ (x : status ≡ exit.WriteFault). omega (arith, ap number_of is, ap number_of x)) h)
 
 module _ {G L S K : Type 0} where
   -- after a script was done no end tells of the input
-  no_read_fault : (slots : List (Slot G L S K)) (s : ScriptEnd) (failed : Bool) → serve_code (end_at slots s failed) ≡ 3 → ⊥
-  no_read_fault slots (script.Refused line why) failed h = absurd (omega (arith, h))
-  no_read_fault slots script.NoMemory failed h = host_or (list_any has_failed slots) end.NoMemory 3 (λ x. absurd (omega (arith, x))) (λ x. absurd (omega (arith, x))) h
+  no_read_fault : (slots : List (Slot G L S K)) (s : ScriptEnd) (failed : Bool) → serve_status (end_at slots s failed) ≡ exit.ReadFault → ⊥
+  no_read_fault slots (script.Refused line why) failed h = absurd (omega (arith, ap number_of h))
+  no_read_fault slots script.NoMemory failed h = host_or (list_any has_failed slots) end.NoMemory exit.ReadFault (λ x. absurd (omega (arith, ap number_of x))) (λ x. absurd (omega (arith, ap number_of x))) h
   no_read_fault slots script.Done failed h =
-      host_or (list_any has_failed slots) (end_done (list_any wants_untold slots) failed) 3 (λ x. absurd (omega (arith, x))) (done_or (list_any wants_untold slots) failed) h
+      host_or (list_any has_failed slots) (end_done (list_any wants_untold slots) failed) exit.ReadFault (λ x. absurd (omega (arith, ap number_of x))) (done_or (list_any wants_untold slots) failed) h
 
   -- and none of the output, where that has not failed
-  no_write_fault : (slots : List (Slot G L S K)) (s : ScriptEnd) → serve_code (end_at slots s false) ≡ 4 → ⊥
-  no_write_fault slots (script.Refused line why) h = absurd (omega (arith, h))
-  no_write_fault slots script.NoMemory h = host_or (list_any has_failed slots) end.NoMemory 4 (λ x. absurd (omega (arith, x))) (λ x. absurd (omega (arith, x))) h
+  no_write_fault : (slots : List (Slot G L S K)) (s : ScriptEnd) → serve_status (end_at slots s false) ≡ exit.WriteFault → ⊥
+  no_write_fault slots (script.Refused line why) h = absurd (omega (arith, ap number_of h))
+  no_write_fault slots script.NoMemory h = host_or (list_any has_failed slots) end.NoMemory exit.WriteFault (λ x. absurd (omega (arith, ap number_of x))) (λ x. absurd (omega (arith, ap number_of x))) h
   no_write_fault slots script.Done h =
-      host_or (list_any has_failed slots) (end_done (list_any wants_untold slots) false) 4 (λ x. absurd (omega (arith, x))) (whole_or (list_any wants_untold slots)) h
+      host_or (list_any has_failed slots) (end_done (list_any wants_untold slots) false) exit.WriteFault (λ x. absurd (omega (arith, ap number_of x))) (whole_or (list_any wants_untold slots)) h
 
-  writes_read : (slots : List (Slot G L S K)) (s : ScriptEnd) (o : put.Output) (text : List ℕ) (e : ServeEnd) → serve_code e ≡ 3 → Writes slots s o text e → ⊥
-  writes_read slots s o text e h (inl w) = no_read_fault slots s false (ap serve_code (sym w.0) ∙ h)
-  writes_read slots s o text e h (inr (inl w)) = no_read_fault slots s true (ap serve_code (sym w.0) ∙ h)
-  writes_read slots s o text e h (inr (inr w)) = absurd (omega (arith, ap serve_code w.0, h))
+  writes_read : (slots : List (Slot G L S K)) (s : ScriptEnd) (o : put.Output) (text : List ℕ) (e : ServeEnd) → serve_status e ≡ exit.ReadFault → Writes slots s o text e → ⊥
+  writes_read slots s o text e h (inl w) = no_read_fault slots s false (ap serve_status (sym w.0) ∙ h)
+  writes_read slots s o text e h (inr (inl w)) = no_read_fault slots s true (ap serve_status (sym w.0) ∙ h)
+  writes_read slots s o text e h (inr (inr w)) = absurd (omega (arith, ap number_of (ap serve_status w.0), ap number_of h))
 
-  writes_fault : (slots : List (Slot G L S K)) (s : ScriptEnd) (o : put.Output) (text : List ℕ) (e : ServeEnd) → serve_code e ≡ 4 → Writes slots s o text e → HasRisen o.faults o.faults_now
-  writes_fault slots s o text e h (inl w) = absurd (no_write_fault slots s (ap serve_code (sym w.0) ∙ h))
+  writes_fault : (slots : List (Slot G L S K)) (s : ScriptEnd) (o : put.Output) (text : List ℕ) (e : ServeEnd) → serve_status e ≡ exit.WriteFault → Writes slots s o text e → HasRisen o.faults o.faults_now
+  writes_fault slots s o text e h (inl w) = absurd (no_write_fault slots s (ap serve_status (sym w.0) ∙ h))
   writes_fault slots s o text e h (inr (inl w)) = w.1.risen
-  writes_fault slots s o text e h (inr (inr w)) = absurd (omega (arith, ap serve_code w.0, h))
+  writes_fault slots s o text e h (inr (inr w)) = absurd (omega (arith, ap number_of (ap serve_status w.0), ap number_of h))
 
-  too_long_ends : (o : put.Output) (journal : List Event) (served : List (Served G L S K)) (e : ServeEnd) → ends.IsTooLong o journal served e → (serve_code e ≡ 2) ⊎ (serve_code e ≡ 6)
-  too_long_ends o journal served e t = ⊎_elim (λ w. inl (ap serve_code w.0)) (λ w. inr (ap serve_code w.0)) t.put
+  too_long_ends : (o : put.Output) (journal : List Event) (served : List (Served G L S K)) (e : ServeEnd) → ends.IsTooLong o journal served e → (serve_status e ≡ exit.Refused) ⊎ (serve_status e ≡ exit.NoMemory)
+  too_long_ends o journal served e t = ⊎_elim (λ w. inl (ap serve_status w.0)) (λ w. inr (ap serve_status w.0)) t.put
 
   -- status 3 comes only where the input's count has risen
-  pub serve_read_fault : (m : Outside G L S K) (path : List ℕ) (clients : ℕ) (i : Given) (o : put.Output) (journal : List Event) (served : List (Served G L S K)) (status : ℕ) (e : ServeEnd)
-      → status ≡ serve_code e → SaysServe m path clients i o journal served e → status ≡ 3 → HasRisen i.faults i.faults_now × ends.IsIdle o journal served
+  pub serve_read_fault : (m : Outside G L S K) (path : List ℕ) (clients : ℕ) (i : Given) (o : put.Output) (journal : List Event) (served : List (Served G L S K)) (status : Status) (e : ServeEnd)
+      → status ≡ serve_status e → SaysServe m path clients i o journal served e → status ≡ exit.ReadFault → HasRisen i.faults i.faults_now × ends.IsIdle o journal served
   serve_read_fault m path clients i o journal served status e is (inl s) h = (s.1, s.2)
   serve_read_fault m path clients i o journal served status e is (inr (inl (long, t))) h =
-      ⊎_elim (λ (x : serve_code e ≡ 2). absurd (omega (arith, x, is, h))) (λ (x : serve_code e ≡ 6). absurd (omega (arith, x, is, h))) (too_long_ends o journal served e t)
-  serve_read_fault m path clients i o journal served status e is (inr (inr (inl w))) h = absurd (omega (arith, ap serve_code w.0, is, h))
+      ⊎_elim (λ (x : serve_status e ≡ exit.Refused). absurd (omega (arith, ap number_of x, ap number_of is, ap number_of h))) (λ (x : serve_status e ≡ exit.NoMemory). absurd (omega (arith, ap number_of x, ap number_of is, ap number_of h))) (too_long_ends o journal served e t)
+  serve_read_fault m path clients i o journal served status e is (inr (inr (inl w))) h = absurd (omega (arith, ap number_of (ap serve_status w.0), ap number_of is, ap number_of h))
   serve_read_fault m path clients i o journal served status e is (inr (inr (inr (lines, told, fits, s)))) h = absurd (writes_read s.slots s.done o _ e (sym is ∙ h) s.writes)
 
   -- status 4 comes only where the output's count has risen
-  pub serve_write_fault : (m : Outside G L S K) (path : List ℕ) (clients : ℕ) (i : Given) (o : put.Output) (journal : List Event) (served : List (Served G L S K)) (status : ℕ) (e : ServeEnd)
-      → status ≡ serve_code e → SaysServe m path clients i o journal served e → status ≡ 4 → HasRisen o.faults o.faults_now
-  serve_write_fault m path clients i o journal served status e is (inl s) h = absurd (omega (arith, ap serve_code s.0, is, h))
+  pub serve_write_fault : (m : Outside G L S K) (path : List ℕ) (clients : ℕ) (i : Given) (o : put.Output) (journal : List Event) (served : List (Served G L S K)) (status : Status) (e : ServeEnd)
+      → status ≡ serve_status e → SaysServe m path clients i o journal served e → status ≡ exit.WriteFault → HasRisen o.faults o.faults_now
+  serve_write_fault m path clients i o journal served status e is (inl s) h = absurd (omega (arith, ap number_of (ap serve_status s.0), ap number_of is, ap number_of h))
   serve_write_fault m path clients i o journal served status e is (inr (inl (long, t))) h =
-      ⊎_elim (λ (x : serve_code e ≡ 2). absurd (omega (arith, x, is, h))) (λ (x : serve_code e ≡ 6). absurd (omega (arith, x, is, h))) (too_long_ends o journal served e t)
-  serve_write_fault m path clients i o journal served status e is (inr (inr (inl w))) h = absurd (omega (arith, ap serve_code w.0, is, h))
+      ⊎_elim (λ (x : serve_status e ≡ exit.Refused). absurd (omega (arith, ap number_of x, ap number_of is, ap number_of h))) (λ (x : serve_status e ≡ exit.NoMemory). absurd (omega (arith, ap number_of x, ap number_of is, ap number_of h))) (too_long_ends o journal served e t)
+  serve_write_fault m path clients i o journal served status e is (inr (inr (inl w))) h = absurd (omega (arith, ap number_of (ap serve_status w.0), ap number_of is, ap number_of h))
   serve_write_fault m path clients i o journal served status e is (inr (inr (inr (lines, told, fits, s)))) h = writes_fault s.slots s.done o _ e (sym is ∙ h) s.writes
 
   -- where nothing was served, no sink lacks a reply
@@ -105,8 +108,8 @@ module _ {G L S K : Type 0} where
   none_replied m journal served none = subst (λ (l : List (Served G L S K)). AllByRecursion (GotAll m journal) l) (sym none) tt
 
   -- with status 0 and 4 each sink that has not failed got all replies
-  pub serve_replied : (m : Outside G L S K) (path : List ℕ) (clients : ℕ) (i : Given) (o : put.Output) (journal : List Event) (served : List (Served G L S K)) (status : ℕ) (e : ServeEnd)
-      → status ≡ serve_code e → SaysServe m path clients i o journal served e → (status ≡ 0) ⊎ (status ≡ 4) → AllByRecursion (GotAll m journal) served
+  pub serve_replied : (m : Outside G L S K) (path : List ℕ) (clients : ℕ) (i : Given) (o : put.Output) (journal : List Event) (served : List (Served G L S K)) (status : Status) (e : ServeEnd)
+      → status ≡ serve_status e → SaysServe m path clients i o journal served e → (status ≡ exit.Done) ⊎ (status ≡ exit.WriteFault) → AllByRecursion (GotAll m journal) served
   serve_replied m path clients i o journal served status e is (inl s) h = none_replied m journal served s.2.none
   serve_replied m path clients i o journal served status e is (inr (inl (long, t))) h = none_replied m journal served t.none
   serve_replied m path clients i o journal served status e is (inr (inr (inl w))) h = none_replied m journal served w.1.none
@@ -133,34 +136,34 @@ module _ {G L S K : Type 0} where
   serve_done m path clients i o journal served e (inr (inr (inl w))) = none-done journal w.1.empty
   serve_done m path clients i o journal served e (inr (inr (inr (lines, told, fits, s)))) = done-from [] journal s.played s.in_range
 
-  complete_as : (m : Outside G L S K) (clients : ℕ) (lines : List ℕ) (i : Given) (o : put.Output) (journal : List Event) (served : List (Served G L S K)) (status : ℕ) (e : ServeEnd)
-      → status ≡ serve_code e → IsComplete m clients lines i o journal served e → IsServeComplete status m clients lines i o journal served
-  complete_as m clients lines i o journal served status e is h = λ n. ⊎_elim (λ w. inl (is ∙ ap serve_code w.0, w.1)) (λ w. inr (is ∙ ap serve_code w)) (h n)
+  complete_as : (m : Outside G L S K) (clients : ℕ) (lines : List ℕ) (i : Given) (o : put.Output) (journal : List Event) (served : List (Served G L S K)) (status : Status) (e : ServeEnd)
+      → status ≡ serve_status e → IsComplete m clients lines i o journal served e → IsServeComplete status m clients lines i o journal served
+  complete_as m clients lines i o journal served status e is h = λ n. ⊎_elim (λ w. inl (is ∙ ap serve_status w.0, w.1)) (λ w. inr (is ∙ ap serve_status w)) (h n)
 
   -- a script that tells its bytes is done, and its text written, where nothing fails
-  pub serve_complete : (m : Outside G L S K) (path : List ℕ) (clients : ℕ) (i : Given) (o : put.Output) (journal : List Event) (served : List (Served G L S K)) (status : ℕ) (e : ServeEnd)
-      → status ≡ serve_code e → SaysServe m path clients i o journal served e → IfSome i.told (λ bytes. IsServeComplete status m clients bytes i o journal served)
+  pub serve_complete : (m : Outside G L S K) (path : List ℕ) (clients : ℕ) (i : Given) (o : put.Output) (journal : List Event) (served : List (Served G L S K)) (status : Status) (e : ServeEnd)
+      → status ≡ serve_status e → SaysServe m path clients i o journal served e → IfSome i.told (λ bytes. IsServeComplete status m clients bytes i o journal served)
   serve_complete m path clients i o journal served status e is says = by_case i.told refl
     where
       by_case : (t : Option (List ℕ)) → i.told ≡ t → IfSome t (λ bytes. IsServeComplete status m clients bytes i o journal served)
       by_case None told = tt
       by_case (Some bytes) told = complete_as m clients bytes i o journal served status e is (says_complete m path clients bytes i o journal served e told says)
 
-  pub none_complete : (m : Outside G L S K) (clients : ℕ) (told : Option (List ℕ)) (i : Given) (o : put.Output) (journal : List Event) (served : List (Served G L S K)) (status : ℕ)
-      → status ≡ 6 → IfSome told (λ bytes. IsServeComplete status m clients bytes i o journal served)
+  pub none_complete : (m : Outside G L S K) (clients : ℕ) (told : Option (List ℕ)) (i : Given) (o : put.Output) (journal : List Event) (served : List (Served G L S K)) (status : Status)
+      → status ≡ exit.NoMemory → IfSome told (λ bytes. IsServeComplete status m clients bytes i o journal served)
   none_complete m clients None i o journal served status is = tt
   none_complete m clients (Some bytes) i o journal served status is = λ h. inr is
 
-  pub complete_at : (m : Outside G L S K) (a b : ℕ) (told : Option (List ℕ)) (i : Given) (o : put.Output) (journal : List Event) (served : List (Served G L S K)) (status : ℕ)
+  pub complete_at : (m : Outside G L S K) (a b : ℕ) (told : Option (List ℕ)) (i : Given) (o : put.Output) (journal : List Event) (served : List (Served G L S K)) (status : Status)
       → a ≡ b → IfSome told (λ bytes. IsServeComplete status m a bytes i o journal served) → IfSome told (λ bytes. IsServeComplete status m b bytes i o journal served)
   complete_at m a b told i o journal served status same h = subst (λ (n : ℕ). IfSome told (λ bytes. IsServeComplete status m n bytes i o journal served)) same h
 
 module _ {G L S K : Type 0} where
   -- a status of serving, and what it says
-  abbrev pub Said : Outside G L S K → List ℕ → ℕ → Given → put.Output → List Event → List (Served G L S K) → ℕ → Type 0
-  Said m path clients i o journal served status = (e : ServeEnd) × (status ≡ serve_code e) × SaysServe m path clients i o journal served e
+  abbrev pub Said : Outside G L S K → List ℕ → ℕ → Given → put.Output → List Event → List (Served G L S K) → Status → Type 0
+  Said m path clients i o journal served status = (e : ServeEnd) × (status ≡ serve_status e) × SaysServe m path clients i o journal served e
 
-  pub at_path : (m : Outside G L S K) (p q : List ℕ) (a b : ℕ) (i : Given) (o : put.Output) (journal : List Event) (served : List (Served G L S K)) (status : ℕ)
+  pub at_path : (m : Outside G L S K) (p q : List ℕ) (a b : ℕ) (i : Given) (o : put.Output) (journal : List Event) (served : List (Served G L S K)) (status : Status)
       → p ≡ q → a ≡ b → Said m p a i o journal served status → Said m q b i o journal served status
   at_path m p q a b i o journal served status e f s =
       subst (λ (x : List ℕ). Said m x b i o journal served status) e (subst (λ (x : ℕ). Said m p x i o journal served status) f s)

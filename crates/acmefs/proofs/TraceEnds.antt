@@ -9,7 +9,7 @@ use Rattle.acme_core.specs.Run.{enabled}
 use Rattle.acme_core.specs.States.{start}
 use Rattle.acmefs.specs.declared.replay.End.{End}
 use Rattle.acmefs.specs.declared.replay.End.TheVariants.{Done, Usage, Script, ReadFault, WriteFault, NoMemory}
-use Rattle.acmefs.specs.Ends.{IsIdle, code_of}
+use Rattle.acmefs.specs.Ends.{IsIdle, status_of}
 use Rattle.acmefs.specs.Own.{RoundTrips}
 use Rattle.acmefs.specs.Scripts as scripts
 use Rattle.acmefs.specs.Scripts.{script_of}
@@ -17,49 +17,52 @@ use Rattle.acmefs.specs.Traces.{Traces, TracesSome, TraceSays, IsTraced, TraceEn
 use Rattle.acmefs.proofs.PackBack.{packs_back}
 use Rattle.acmefs.proofs.RoundTrip.{AreDone, front-done, none-done, played-done, script-done, trips}
 use Rattle.acmefs.proofs.Traced.{says_none}
+use Rattle.acmefs.specs.declared.status.Status.{Status}
+use Rattle.acmefs.specs.declared.status.Status.TheVariants as exit
+use Rattle.acmefs.specs.Statuses.{number_of}
 
 -- ---- its statuses
 
-pub usage : (end : End) (status : ℕ) (told : Option (List ℕ)) (before now : ℕ) (o : Output) (journal : List Event)
-    → status ≡ code_of end → TraceSays end told before now o journal → status ≡ 1 → ⊥
-usage Done status told before now o journal e p h = absurd (omega (arith, e, h))
+pub usage : (end : End) (status : Status) (told : Option (List ℕ)) (before now : ℕ) (o : Output) (journal : List Event)
+    → status ≡ status_of end → TraceSays end told before now o journal → status ≡ exit.Usage → ⊥
+usage Done status told before now o journal e p h = absurd (omega (arith, ap number_of e, ap number_of h))
 usage Usage status told before now o journal e p h = absurd p
-usage Script status told before now o journal e p h = absurd (omega (arith, e, h))
-usage ReadFault status told before now o journal e p h = absurd (omega (arith, e, h))
-usage WriteFault status told before now o journal e p h = absurd (omega (arith, e, h))
-usage NoMemory status told before now o journal e p h = absurd (omega (arith, e, h))
+usage Script status told before now o journal e p h = absurd (omega (arith, ap number_of e, ap number_of h))
+usage ReadFault status told before now o journal e p h = absurd (omega (arith, ap number_of e, ap number_of h))
+usage WriteFault status told before now o journal e p h = absurd (omega (arith, ap number_of e, ap number_of h))
+usage NoMemory status told before now o journal e p h = absurd (omega (arith, ap number_of e, ap number_of h))
 
-pub read_fault : (end : End) (status : ℕ) (told : Option (List ℕ)) (before now : ℕ) (o : Output) (journal : List Event)
-    → status ≡ code_of end → TraceSays end told before now o journal → status ≡ 3 → IsIdle o journal × HasRisen before now
-read_fault Done status told before now o journal e p h = absurd (omega (arith, e, h))
+pub read_fault : (end : End) (status : Status) (told : Option (List ℕ)) (before now : ℕ) (o : Output) (journal : List Event)
+    → status ≡ status_of end → TraceSays end told before now o journal → status ≡ exit.ReadFault → IsIdle o journal × HasRisen before now
+read_fault Done status told before now o journal e p h = absurd (omega (arith, ap number_of e, ap number_of h))
 read_fault Usage status told before now o journal e p h = absurd p
-read_fault Script status told before now o journal e p h = absurd (omega (arith, e, h))
+read_fault Script status told before now o journal e p h = absurd (omega (arith, ap number_of e, ap number_of h))
 read_fault ReadFault status told before now o journal e p h = p
-read_fault WriteFault status told before now o journal e p h = absurd (omega (arith, e, h))
-read_fault NoMemory status told before now o journal e p h = absurd (omega (arith, e, h))
+read_fault WriteFault status told before now o journal e p h = absurd (omega (arith, ap number_of e, ap number_of h))
+read_fault NoMemory status told before now o journal e p h = absurd (omega (arith, ap number_of e, ap number_of h))
 
-pub write_cause : (end : End) (status : ℕ) (told : Option (List ℕ)) (before now : ℕ) (o : Output) (journal : List Event)
-    → status ≡ code_of end → TraceSays end told before now o journal → status ≡ 4 → HasRisen o.faults o.faults_now
-write_cause Done status told before now o journal e p h = absurd (omega (arith, e, h))
+pub write_cause : (end : End) (status : Status) (told : Option (List ℕ)) (before now : ℕ) (o : Output) (journal : List Event)
+    → status ≡ status_of end → TraceSays end told before now o journal → status ≡ exit.WriteFault → HasRisen o.faults o.faults_now
+write_cause Done status told before now o journal e p h = absurd (omega (arith, ap number_of e, ap number_of h))
 write_cause Usage status told before now o journal e p h = absurd p
-write_cause Script status told before now o journal e p h = absurd (omega (arith, e, h))
-write_cause ReadFault status told before now o journal e p h = absurd (omega (arith, e, h))
+write_cause Script status told before now o journal e p h = absurd (omega (arith, ap number_of e, ap number_of h))
+write_cause ReadFault status told before now o journal e p h = absurd (omega (arith, ap number_of e, ap number_of h))
 write_cause WriteFault status told before now o journal e p h = p.2.2.risen
-write_cause NoMemory status told before now o journal e p h = absurd (omega (arith, e, h))
+write_cause NoMemory status told before now o journal e p h = absurd (omega (arith, ap number_of e, ap number_of h))
 
 -- ---- completeness
 
-told_part : (end : End) (status : ℕ) (told : Option (List ℕ)) (before now : ℕ) (o : Output) (journal : List Event) → TracesSome end told o journal
+told_part : (end : End) (status : Status) (told : Option (List ℕ)) (before now : ℕ) (o : Output) (journal : List Event) → TracesSome end told o journal
     → ((script : scripts.Script) → Traces end script o journal → IsTraced status script before now o journal) → IfSome told (λ bytes. IsTraced status (script_of bytes) before now o journal)
 told_part end status None before now o journal r f = tt
 told_part end status (Some bytes) before now o journal r f = f (script_of bytes) (subst (λ (x : List ℕ). Traces end (script_of x) o journal) (sym r.1) r.2)
 
-risen_in : (told : Option (List ℕ)) (status before now : ℕ) (o : Output) (journal : List Event) → HasRisen before now → IfSome told (λ bytes. IsTraced status (script_of bytes) before now o journal)
+risen_in : (told : Option (List ℕ)) (status : Status) (before now : ℕ) (o : Output) (journal : List Event) → HasRisen before now → IfSome told (λ bytes. IsTraced status (script_of bytes) before now o journal)
 risen_in None status before now o journal r = tt
 risen_in (Some bytes) status before now o journal r = λ none in_ok out_ok. absurd (in_ok r)
 
-complete : (end : End) (status : ℕ) (told : Option (List ℕ)) (before now : ℕ) (o : Output) (journal : List Event)
-    → status ≡ code_of end → TraceSays end told before now o journal → IfSome told (λ bytes. IsTraced status (script_of bytes) before now o journal)
+complete : (end : End) (status : Status) (told : Option (List ℕ)) (before now : ℕ) (o : Output) (journal : List Event)
+    → status ≡ status_of end → TraceSays end told before now o journal → IfSome told (λ bytes. IsTraced status (script_of bytes) before now o journal)
 complete Done status told before now o journal e p = told_part Done status told before now o journal p (λ s r none in_ok out_ok. inl (e, r))
 complete Usage status told before now o journal e p = absurd p
 complete Script status told before now o journal e p = told_part Script status told before now o journal p (λ s r none in_ok out_ok. absurd (let a = r.1.1 in cc))
@@ -91,19 +94,19 @@ says_trips end told before now o journal h = trips journal (says-done end told b
 pub says_played : (end : End) (told : Option (List ℕ)) (before now : ℕ) (o : Output) (journal : List Event) → TraceSays end told before now o journal → IsPlayed enabled journal
 says_played end told before now o journal h = played-done [] journal (says-done end told before now o journal h)
 
-done_back : (end : End) (status : ℕ) (told : Option (List ℕ)) (before now : ℕ) (o : Output) (journal : List Event)
-    → status ≡ code_of end → TraceSays end told before now o journal → status ≡ 0 → PacksBack journal
+done_back : (end : End) (status : Status) (told : Option (List ℕ)) (before now : ℕ) (o : Output) (journal : List Event)
+    → status ≡ status_of end → TraceSays end told before now o journal → status ≡ exit.Done → PacksBack journal
 done_back Done status told before now o journal e p h = packs_back journal (says-done Done told before now o journal p) p.2.3
 done_back Usage status told before now o journal e p h = absurd p
-done_back Script status told before now o journal e p h = absurd (omega (arith, e, h))
-done_back ReadFault status told before now o journal e p h = absurd (omega (arith, e, h))
-done_back WriteFault status told before now o journal e p h = absurd (omega (arith, e, h))
-done_back NoMemory status told before now o journal e p h = absurd (omega (arith, e, h))
+done_back Script status told before now o journal e p h = absurd (omega (arith, ap number_of e, ap number_of h))
+done_back ReadFault status told before now o journal e p h = absurd (omega (arith, ap number_of e, ap number_of h))
+done_back WriteFault status told before now o journal e p h = absurd (omega (arith, ap number_of e, ap number_of h))
+done_back NoMemory status told before now o journal e p h = absurd (omega (arith, ap number_of e, ap number_of h))
 
 -- ---- the whole
 
-pub ends : (end : End) (status : ℕ) (told : Option (List ℕ)) (before now : ℕ) (o : Output) (journal : List Event)
-    → status ≡ code_of end → TraceSays end told before now o journal → TraceEnds status told before now o journal
+pub ends : (end : End) (status : Status) (told : Option (List ℕ)) (before now : ℕ) (o : Output) (journal : List Event)
+    → status ≡ status_of end → TraceSays end told before now o journal → TraceEnds status told before now o journal
 ends end status told before now o journal e p = record {
   says = (end, e, p);
   complete = complete end status told before now o journal e p;
@@ -111,7 +114,7 @@ ends end status told before now o journal e p = record {
 }
 
 -- memory ran out before the words were read
-pub idle : (status : ℕ) (told : Option (List ℕ)) (before now : ℕ) (h : Option (List ℕ)) (f : ℕ) (journal : List Event) → status ≡ 6 → journal ≡ []
+pub idle : (status : Status) (told : Option (List ℕ)) (before now : ℕ) (h : Option (List ℕ)) (f : ℕ) (journal : List Event) → status ≡ exit.NoMemory → journal ≡ []
     → TraceEnds status told before now (record { held = h; held_now = h; faults = f; faults_now = f }) journal
 idle status told before now h f journal e none =
     ends NoMemory status told before now (record { held = h; held_now = h; faults = f; faults_now = f }) journal e

@@ -16,16 +16,18 @@ use Rattle.am_server.specs.Ends.{Given}
 use Rattle.am_server.specs.declared.served.Served.{Served}
 use Rattle.am_server.specs.declared.served.ServedEnd.{ServedEnd}
 use Rattle.am_server.specs.declared.served.ServedEnd.TheVariants as end
+use Rattle.acmefs.specs.declared.status.Status.{Status}
+use Rattle.acmefs.specs.declared.status.Status.TheVariants as exit
 
 -- the exit status
-abbrev pub do_code : DoEnd → ℕ
-do_code doing.Done = 0
-do_code doing.Script = 2
-do_code doing.ReadFault = 3
-do_code doing.HostFault = 5
-do_code doing.Talk = 7
-do_code doing.NoMemory = 6
-do_code doing.WriteFault = 4
+abbrev pub do_status : DoEnd → Status
+do_status doing.Done = exit.Done
+do_status doing.Script = exit.Refused
+do_status doing.ReadFault = exit.ReadFault
+do_status doing.HostFault = exit.HostFault
+do_status doing.Talk = exit.Talk
+do_status doing.NoMemory = exit.NoMemory
+do_status doing.WriteFault = exit.WriteFault
 
 abbrev pub given_of : Given → talks.Given
 given_of i = talks.given i.told i.faults i.faults_now i.host_faults i.host_faults_now
@@ -87,9 +89,9 @@ module _ {G L S K : Type 0} where
 
   -- What doing lines over a tree comes to: the exit status and the entry of the client are those of one doing, which is as the lines and
   -- the replies to them say. Where nothing outside fails and all is answered, all is done and written, or memory runs out.
-  pub record Does (status : ℕ) (m : Outside G L S K) (tree : List ℕ) (i : Given) (o : Output) (served : List (Served G L S K)) : Type 0 where
+  pub record Does (status : Status) (m : Outside G L S K) (tree : List ℕ) (i : Given) (o : Output) (served : List (Served G L S K)) : Type 0 where
     pub doing : Doing L S K
-    pub coded : status ≡ do_code doing.end
+    pub coded : status ≡ do_status doing.end
     pub told : served ≡ listed (entry_of doing)
     pub says : Says (peer_of m) tree (given_of i) o doing
-    pub complete : IfSome i.told (λ bytes. NothingFails (peer_of m) tree bytes (given_of i) o doing → (status ≡ 0) ⊎ (status ≡ 6))
+    pub complete : IfSome i.told (λ bytes. NothingFails (peer_of m) tree bytes (given_of i) o doing → (status ≡ exit.Done) ⊎ (status ≡ exit.NoMemory))

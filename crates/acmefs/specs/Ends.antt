@@ -19,30 +19,32 @@ use Rattle.acmefs.specs.declared.replay.End.TheVariants.{Done, Usage, Script, Re
 use Rattle.acmefs.specs.Scripts as scripts
 use Rattle.acmefs.specs.Scripts.{script_of, text_of}
 use Rattle.acmefs.specs.Written.{IsFront, IsCaughtUp}
+use Rattle.acmefs.specs.declared.status.Status.{Status}
+use Rattle.acmefs.specs.declared.status.Status.TheVariants as exit
 
 -- the exit status
-abbrev pub code_of : End → ℕ
-code_of Done = 0
-code_of Usage = 1
-code_of Script = 2
-code_of ReadFault = 3
-code_of WriteFault = 4
-code_of NoMemory = 6
+abbrev pub status_of : End → Status
+status_of Done = exit.Done
+status_of Usage = exit.Usage
+status_of Script = exit.Refused
+status_of ReadFault = exit.ReadFault
+status_of WriteFault = exit.WriteFault
+status_of NoMemory = exit.NoMemory
 
 -- the exit status where connections were served
-abbrev pub serve_code : ServeEnd → ℕ
-serve_code serving.Done = 0
-serve_code serving.Script = 2
-serve_code serving.ReadFault = 3
-serve_code serving.WriteFault = 4
-serve_code serving.HostFault = 5
-serve_code serving.NoMemory = 6
+abbrev pub serve_status : ServeEnd → Status
+serve_status serving.Done = exit.Done
+serve_status serving.Script = exit.Refused
+serve_status serving.ReadFault = exit.ReadFault
+serve_status serving.WriteFault = exit.WriteFault
+serve_status serving.HostFault = exit.HostFault
+serve_status serving.NoMemory = exit.NoMemory
 
 -- the exit status of a drill
-abbrev pub drill_code : DrillEnd → ℕ
-drill_code drilling.Done = 0
-drill_code drilling.WriteFault = 4
-drill_code drilling.NoMemory = 6
+abbrev pub drill_status : DrillEnd → Status
+drill_status drilling.Done = exit.Done
+drill_status drilling.WriteFault = exit.WriteFault
+drill_status drilling.NoMemory = exit.NoMemory
 
 -- Memory ran out: a front of the events was done, and what was put is the lines of their replies, but perhaps those of the last.
 pub record RanOut (script : scripts.Script) (o : Output) (journal : List Event) : Type 0 where
@@ -85,20 +87,20 @@ abbrev pub RanTold : End → Option (List ℕ) → Output → List Event → Typ
 RanTold end told o journal = IfSome told (λ bytes. Ran end (script_of bytes) o journal)
 
 -- Completeness: where no event is refused and no count of faults rises, the whole text is written, or memory runs out.
-abbrev pub IsComplete : ℕ → scripts.Script → ℕ → ℕ → Output → List Event → Type 0
+abbrev pub IsComplete : Status → scripts.Script → ℕ → ℕ → Output → List Event → Type 0
 IsComplete status script before now o journal = script.refused ≡ None → ¬ HasRisen before now → ¬ HasRisen o.faults o.faults_now
-    → ((status ≡ 0) × Ran Done script o journal) ⊎ (status ≡ 6)
+    → ((status ≡ exit.Done) × Ran Done script o journal) ⊎ (status ≡ exit.NoMemory)
 
 -- what a drill of so many rounds comes to, by its status
-abbrev pub Drilled : ℕ → ℕ → Output → List Event → Type 0
-Drilled status rounds o journal = (end : DrillEnd) × (status ≡ drill_code end) × DrillSays end rounds o journal
+abbrev pub Drilled : Status → ℕ → Output → List Event → Type 0
+Drilled status rounds o journal = (end : DrillEnd) × (status ≡ drill_status end) × DrillSays end rounds o journal
 
 -- Completeness of a drill: where the output's count of faults doesn't rise, the whole summary is written, or memory runs out.
-abbrev pub IsDrilled : ℕ → ℕ → Output → List Event → Type 0
+abbrev pub IsDrilled : Status → ℕ → Output → List Event → Type 0
 IsDrilled status rounds o journal = ¬ HasRisen o.faults o.faults_now
-    → ((status ≡ 0) × (journal ≡ events rounds) × IsWhole o (summary (events rounds))) ⊎ (status ≡ 6)
+    → ((status ≡ exit.Done) × (journal ≡ events rounds) × IsWhole o (summary (events rounds))) ⊎ (status ≡ exit.NoMemory)
 
 -- Completeness of serving: where no line is refused and no count of faults rises, the whole text is written, or memory runs out.
-abbrev pub IsServeComplete : {G L S K : Type 0} → ℕ → Outside G L S K → ℕ → List ℕ → Given → Output → List Event → List (Served G L S K) → Type 0
+abbrev pub IsServeComplete : {G L S K : Type 0} → Status → Outside G L S K → ℕ → List ℕ → Given → Output → List Event → List (Served G L S K) → Type 0
 IsServeComplete status m clients script i o journal served =
-    NothingFails m clients script i o journal served → ((status ≡ 0) × IsWhole o (whole_text journal)) ⊎ (status ≡ 6)
+    NothingFails m clients script i o journal served → ((status ≡ exit.Done) × IsWhole o (whole_text journal)) ⊎ (status ≡ exit.NoMemory)

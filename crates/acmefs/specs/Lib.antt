@@ -1,3 +1,4 @@
+pub mod Statuses
 pub mod Scripts
 pub mod Written
 pub mod Playing

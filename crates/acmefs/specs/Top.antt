@@ -18,17 +18,19 @@ use Rattle.am_server.specs.declared.writing.ServeEnd.{ServeEnd}
 use Rattle.acmefs.specs.declared.replay.End.{End}
 use Rattle.acmefs.specs.declared.replay.End.TheVariants as ends
 use Rattle.acmefs.specs.Scripts.{script_of}
-use Rattle.acmefs.specs.Ends.{Says, IsIdle, RanTold, IsComplete, Drilled, IsDrilled, IsServeComplete, code_of, serve_code}
+use Rattle.acmefs.specs.Ends.{Says, IsIdle, RanTold, IsComplete, Drilled, IsDrilled, IsServeComplete, status_of, serve_status}
 use Rattle.acmefs.specs.Does.{Does}
 use Rattle.acmefs.specs.Own.{PutsOwn, RoundTrips}
 use Rattle.acmefs.specs.Packs.{PackEnds}
 use Rattle.acmefs.specs.Traces.{TraceEnds}
+use Rattle.acmefs.specs.declared.status.Status.{Status}
+use Rattle.acmefs.specs.declared.status.Status.TheVariants as exit
 
 -- All that is seen of a run: the words after the program's name and the exit status, what the outside's objects tell, what was given (the
 -- bytes that the input told, and counts of faults), the bytes that the input tells afterwards, the output, the journal and the connections.
 pub record Run (G L S K : Type 0) : Type 0 where
   pub words : List (List ℕ)
-  pub status : ℕ
+  pub status : Status
   pub objects : Outside G L S K
   pub given : Given
   pub left_now : Option (List ℕ)
@@ -37,22 +39,22 @@ pub record Run (G L S K : Type 0) : Type 0 where
   pub served : List (Served G L S K)
 
 module _ {G L S K : Type 0} where
-  abbrev pub run : List (List ℕ) → ℕ → Outside G L S K → Given → Option (List ℕ) → Output → List Event → List (Served G L S K) → Run G L S K
+  abbrev pub run : List (List ℕ) → Status → Outside G L S K → Given → Option (List ℕ) → Output → List Event → List (Served G L S K) → Run G L S K
   run words status objects given left_now output journal served =
       record { words = words; status = status; objects = objects; given = given; left_now = left_now; output = output; journal = journal; served = served }
 
   -- of all words
   pub record OfWords (r : Run G L S K) : Type 0 where
     -- Status 1 comes exactly where the words ask for nothing that is known; then nothing is read, written or done.
-    pub usage : r.status ≡ 1 → ¬ AreKnown r.words
-    pub other_words : ¬ AreKnown r.words → r.status ≡ 1
-    pub unread : r.status ≡ 1 → r.left_now ≡ r.given.told
-    pub idle_words : r.status ≡ 1 → IsIdle r.output r.journal
+    pub usage : r.status ≡ exit.Usage → ¬ AreKnown r.words
+    pub other_words : ¬ AreKnown r.words → r.status ≡ exit.Usage
+    pub unread : r.status ≡ exit.Usage → r.left_now ≡ r.given.told
+    pub idle_words : r.status ≡ exit.Usage → IsIdle r.output r.journal
     -- Status 3 comes only where the input's count of faults rose; then nothing is written or done.
-    pub read_fault : r.status ≡ 3 → HasRisen r.given.faults r.given.faults_now
-    pub idle_fault : r.status ≡ 3 → IsIdle r.output r.journal
+    pub read_fault : r.status ≡ exit.ReadFault → HasRisen r.given.faults r.given.faults_now
+    pub idle_fault : r.status ≡ exit.ReadFault → IsIdle r.output r.journal
     -- Status 4 comes only where the output's count rose.
-    pub write_cause : r.status ≡ 4 → HasRisen r.output.faults r.output.faults_now
+    pub write_cause : r.status ≡ exit.WriteFault → HasRisen r.output.faults r.output.faults_now
     -- Only words that ask for serving, or for doing lines, tell of connections.
     pub none_served : asks_serve r.words ≡ None → asks_do r.words ≡ None → r.served ≡ []
     -- Each event of the journal is lawful, and was enabled at its place. The events of packing needn't be enabled.
@@ -64,20 +66,20 @@ module _ {G L S K : Type 0} where
   -- of replays, traces and packing
   pub record OfReplay (r : Run G L S K) : Type 0 where
     -- A replay with status 0: no line is refused, the journal is the events of the script, and the whole text is written.
-    pub done : are_replay r.words ≡ true → r.status ≡ 0 → RanTold ends.Done r.given.told r.output r.journal
+    pub done : are_replay r.words ≡ true → r.status ≡ exit.Done → RanTold ends.Done r.given.told r.output r.journal
     -- Status 2: a line, or the whole input, is refused; all events before it are done and written.
-    pub script : are_replay r.words ≡ true → r.status ≡ 2 → RanTold ends.Script r.given.told r.output r.journal
+    pub script : are_replay r.words ≡ true → r.status ≡ exit.Refused → RanTold ends.Script r.given.told r.output r.journal
     -- Status 4: all events are done, a front of the text is written.
-    pub write_fault : are_replay r.words ≡ true → r.status ≡ 4 → RanTold ends.WriteFault r.given.told r.output r.journal
+    pub write_fault : are_replay r.words ≡ true → r.status ≡ exit.WriteFault → RanTold ends.WriteFault r.given.told r.output r.journal
     -- Status 6: a front of the events is done, and the lines of their replies are written.
-    pub no_memory : are_replay r.words ≡ true → r.status ≡ 6 → RanTold ends.NoMemory r.given.told r.output r.journal
+    pub no_memory : are_replay r.words ≡ true → r.status ≡ exit.NoMemory → RanTold ends.NoMemory r.given.told r.output r.journal
     -- No line refused and no fault outside: the whole text, or want of memory.
     pub complete : are_replay r.words ≡ true → IfSome r.given.told (λ bytes. IsComplete r.status (script_of bytes) r.given.faults r.given.faults_now r.output r.journal)
     -- The same of any input, also of one that doesn't tell its bytes: some bytes were replayed so.
-    pub headline : are_replay r.words ≡ true → (end : End) × (r.status ≡ code_of end) × Says end r.given.told r.given.faults r.given.faults_now r.output r.journal
+    pub headline : are_replay r.words ≡ true → (end : End) × (r.status ≡ status_of end) × Says end r.given.told r.given.faults r.given.faults_now r.output r.journal
     -- The output got the lines of the journal's replies, and then the report of its run or a line `refused`: by the status all of it, or a
     -- front.
-    pub own_text : are_replay r.words ≡ true → (end : End) × (r.status ≡ code_of end) × PutsOwn end r.output r.journal
+    pub own_text : are_replay r.words ≡ true → (end : End) × (r.status ≡ status_of end) × PutsOwn end r.output r.journal
     -- A trace: a replay whose text is in words.
     pub traces : are_trace r.words ≡ true → TraceEnds r.status r.given.told r.given.faults r.given.faults_now r.output r.journal
     -- Packing: the events that a text in words spells, and their lines.
@@ -94,11 +96,11 @@ module _ {G L S K : Type 0} where
   pub record OfServing (r : Run G L S K) : Type 0 where
     -- One journal has the entries of all connections and of the script and no others. What each connection was sent, and the text that is
     -- written at the end, are those of that journal.
-    pub serves : (path : List ℕ) (clients : ℕ) → AskServe r.words path clients → (end : ServeEnd) × (r.status ≡ serve_code end)
+    pub serves : (path : List ℕ) (clients : ℕ) → AskServe r.words path clients → (end : ServeEnd) × (r.status ≡ serve_status end)
         × SaysServe r.objects path clients r.given r.output r.journal r.served end
     -- With status 0 or 4 each sink that has not failed holds all replies that were ever made to its connection, unless that ended for want
     -- of memory.
-    pub replied : (r.status ≡ 0) ⊎ (r.status ≡ 4) → AllByRecursion (GotAll r.objects r.journal) r.served
+    pub replied : (r.status ≡ exit.Done) ⊎ (r.status ≡ exit.WriteFault) → AllByRecursion (GotAll r.objects r.journal) r.served
     -- A connection whose source tells whole messages within the limits that may come in their turn ends with the end of its source, or for
     -- want of memory, where neither its source nor its sink has failed.
     pub sound : AllByRecursion (EndsWell r.objects r.journal) r.served

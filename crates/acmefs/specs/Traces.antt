@@ -18,10 +18,12 @@ use Rattle.acmefs.specs.declared.replay.End.{End}
 use Rattle.acmefs.specs.declared.replay.End.TheVariants.{Done, Usage, Script, ReadFault, WriteFault, NoMemory}
 use Rattle.acmefs.specs.declared.script.Stop.{Stop}
 use Rattle.acmefs.specs.declared.script.Stop.TheVariants as stop
-use Rattle.acmefs.specs.Ends.{IsIdle, IsRefused, code_of}
+use Rattle.acmefs.specs.Ends.{IsIdle, IsRefused, status_of}
 use Rattle.acmefs.specs.Scripts as scripts
 use Rattle.acmefs.specs.Scripts.{ended, end_of, script_of}
 use Rattle.acmefs.specs.Written.{Wrote, IsFront}
+use Rattle.acmefs.specs.declared.status.Status.{Status}
+use Rattle.acmefs.specs.declared.status.Status.TheVariants as exit
 
 -- the line of an event in words, with its newline
 abbrev pub event_line : Event → List ℕ
@@ -97,9 +99,9 @@ TraceSays WriteFault told before now o journal = TracesSome WriteFault told o jo
 TraceSays NoMemory told before now o journal = TracesSome NoMemory told o journal
 
 -- Where no event is refused and no count of faults rises, the whole text is written, or memory runs out.
-abbrev pub IsTraced : ℕ → scripts.Script → ℕ → ℕ → Output → List Event → Type 0
+abbrev pub IsTraced : Status → scripts.Script → ℕ → ℕ → Output → List Event → Type 0
 IsTraced status script before now o journal = script.refused ≡ None → ¬ HasRisen before now → ¬ HasRisen o.faults o.faults_now
-    → ((status ≡ 0) × Traces Done script o journal) ⊎ (status ≡ 6)
+    → ((status ≡ exit.Done) × Traces Done script o journal) ⊎ (status ≡ exit.NoMemory)
 
 -- the text of a trace of which nothing is refused
 abbrev pub trace_text : List Event → List ℕ
@@ -112,7 +114,7 @@ pub record PacksBack (journal : List Event) : Type 0 where
 
 -- What a trace comes to, by its status: what it says of the input, the output and the journal; that it is done and written whole unless
 -- something outside it failed; and that its text is packed back.
-pub record TraceEnds (status : ℕ) (told : Option (List ℕ)) (before now : ℕ) (o : Output) (journal : List Event) : Type 0 where
-  pub says : (end : End) × (status ≡ code_of end) × TraceSays end told before now o journal
+pub record TraceEnds (status : Status) (told : Option (List ℕ)) (before now : ℕ) (o : Output) (journal : List Event) : Type 0 where
+  pub says : (end : End) × (status ≡ status_of end) × TraceSays end told before now o journal
   pub complete : IfSome told (λ bytes. IsTraced status (script_of bytes) before now o journal)
-  pub packs_back : status ≡ 0 → PacksBack journal
+  pub packs_back : status ≡ exit.Done → PacksBack journal

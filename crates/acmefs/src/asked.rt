@@ -6,12 +6,13 @@ ghost use Rattle.am_base.specs.Outside.{HasRisen};
 ghost use Rattle.am_base.specs.Written.{seen};
 ghost use Rattle.am_counter.specs.Played.{IsPlayed};
 ghost use Rattle.acme_core.specs.Run.{enabled};
+ghost use Rattle.acmefs.specs.declared.status.Status.TheVariants as exit;
 ghost use Rattle.acmefs.specs.declared.replay.End.TheVariants as ends;
 ghost use Rattle.acmefs.specs.Scripts.{script_of};
-ghost use Rattle.acmefs.specs.Ends.{Says, IsIdle, RanTold, IsComplete, Drilled, IsDrilled, IsServeComplete, code_of, serve_code};
+ghost use Rattle.acmefs.specs.Ends.{Says, IsIdle, RanTold, IsComplete, Drilled, IsDrilled, IsServeComplete, status_of, serve_status};
 ghost use Rattle.acmefs.specs.Does.{Does};
 ghost use Rattle.acmefs.specs.Own.{PutsOwn, RoundTrips};
-ghost use Rattle.acmefs.specs.Packs.{PackEnds, pack_code};
+ghost use Rattle.acmefs.specs.Packs.{PackEnds, pack_status};
 ghost use Rattle.acmefs.specs.Traces.{TraceEnds, TraceSays};
 ghost use Rattle.am_pack.specs.Ends.{PackSays};
 ghost use Rattle.am_journal.specs.Journal.{AreSpelled};
@@ -25,8 +26,9 @@ ghost use Rattle.am_slots.specs.Slots.{outside};
 use crate::doing::do_main;
 use crate::drill::drill_main;
 use crate::outcome::{Outcome, idle};
-use crate::replay::{End, code, replay};
+use crate::replay::{End, replay, status_of};
 use crate::serving::serve_main;
+use crate::status::Status;
 use crate::trace::trace;
 use am_base::{Host, Sink, Source};
 use am_pack::{PackEnd, pack};
@@ -38,7 +40,7 @@ use std::thread::Threads;
 
 // What a replay comes to.
 fn replayed<I: Source, O: Sink, H: Host>(alloc: Global, input: &mut I, output: &mut O) -> Outcome<H>
-    ensures says { (end : _) × (result.status ≡ code_of end)
+    ensures says { (end : _) × (result.status ≡ status_of end)
         × Says end (I.left input.old) (I.faults input.old) (I.faults input.new)
         (seen (O.held output.old) (O.held output.new) (O.faults output.old) (O.faults output.new)) result.journal }
     ensures played { IsPlayed enabled result.journal }
@@ -47,7 +49,7 @@ fn replayed<I: Source, O: Sink, H: Host>(alloc: Global, input: &mut I, output: &
 {
     let ended = replay(alloc, input, output);
     Outcome {
-        status: code(ended.end),
+        status: status_of(ended.end),
         journal: ended.journal,
         served: Items::new(alloc),
     }
@@ -55,7 +57,7 @@ fn replayed<I: Source, O: Sink, H: Host>(alloc: Global, input: &mut I, output: &
 
 // What a trace comes to.
 fn traced<I: Source, O: Sink, H: Host>(alloc: Global, input: &mut I, output: &mut O) -> Outcome<H>
-    ensures says { (end : _) × (result.status ≡ code_of end)
+    ensures says { (end : _) × (result.status ≡ status_of end)
         × TraceSays end (I.left input.old) (I.faults input.old) (I.faults input.new)
         (seen (O.held output.old) (O.held output.new) (O.faults output.old) (O.faults output.new)) result.journal }
     ensures played { IsPlayed enabled result.journal }
@@ -64,28 +66,28 @@ fn traced<I: Source, O: Sink, H: Host>(alloc: Global, input: &mut I, output: &mu
 {
     let ended = trace(alloc, input, output);
     Outcome {
-        status: code(ended.end),
+        status: status_of(ended.end),
         journal: ended.journal,
         served: Items::new(alloc),
     }
 }
 
 // The status of an end of packing.
-fn pack_code(end: PackEnd) -> u8
-    ensures { result ≡ pack_code end }
+fn pack_status(end: PackEnd) -> Status
+    ensures { result ≡ pack_status end }
 {
     match end {
-        PackEnd::Done => 0,
-        PackEnd::Script => 2,
-        PackEnd::ReadFault => 3,
-        PackEnd::WriteFault => 4,
-        PackEnd::NoMemory => 6,
+        PackEnd::Done => Status::Done,
+        PackEnd::Script => Status::Refused,
+        PackEnd::ReadFault => Status::ReadFault,
+        PackEnd::WriteFault => Status::WriteFault,
+        PackEnd::NoMemory => Status::NoMemory,
     }
 }
 
 // What packing comes to.
 fn packed<I: Source, O: Sink, H: Host>(alloc: Global, input: &mut I, output: &mut O) -> Outcome<H>
-    ensures says { (end : _) × (result.status ≡ pack_code end)
+    ensures says { (end : _) × (result.status ≡ pack_status end)
         × PackSays end (I.left input.old) (I.faults input.old) (I.faults input.new)
         (seen (O.held output.old) (O.held output.new) (O.faults output.old) (O.faults output.new)) result.journal }
     ensures spelled { AreSpelled result.journal }
@@ -93,7 +95,7 @@ fn packed<I: Source, O: Sink, H: Host>(alloc: Global, input: &mut I, output: &mu
 {
     let ended = pack(alloc, input, output);
     Outcome {
-        status: pack_code(ended.end),
+        status: pack_status(ended.end),
         journal: ended.journal,
         served: Items::new(alloc),
     }
@@ -125,30 +127,30 @@ pub(crate) fn do_asked<I: Source, O: Sink, H: Host, R: Threads + Wait + Sync>(
     output: &mut O,
     host: &mut H,
 ) -> Outcome<H>
-    ensures usage { result.status ≡ 1 → ¬ AreKnown words.now }
-    ensures other_words { ¬ AreKnown words.now → result.status ≡ 1 }
-    ensures unread { result.status ≡ 1 → I.left input.new ≡ I.left input.old }
-    ensures idle_words { result.status ≡ 1 → IsIdle
+    ensures usage { result.status ≡ exit.Usage → ¬ AreKnown words.now }
+    ensures other_words { ¬ AreKnown words.now → result.status ≡ exit.Usage }
+    ensures unread { result.status ≡ exit.Usage → I.left input.new ≡ I.left input.old }
+    ensures idle_words { result.status ≡ exit.Usage → IsIdle
         (seen (O.held output.old) (O.held output.new) (O.faults output.old) (O.faults output.new)) result.journal }
-    ensures read_fault { result.status ≡ 3 → HasRisen (I.faults input.old) (I.faults input.new) }
-    ensures idle_fault { result.status ≡ 3 → IsIdle
+    ensures read_fault { result.status ≡ exit.ReadFault → HasRisen (I.faults input.old) (I.faults input.new) }
+    ensures idle_fault { result.status ≡ exit.ReadFault → IsIdle
         (seen (O.held output.old) (O.held output.new) (O.faults output.old) (O.faults output.new)) result.journal }
-    ensures done { are_replay words.now ≡ true → result.status ≡ 0 → RanTold ends.Done (I.left input.old)
+    ensures done { are_replay words.now ≡ true → result.status ≡ exit.Done → RanTold ends.Done (I.left input.old)
         (seen (O.held output.old) (O.held output.new) (O.faults output.old) (O.faults output.new)) result.journal }
-    ensures script { are_replay words.now ≡ true → result.status ≡ 2 → RanTold ends.Script (I.left input.old)
+    ensures script { are_replay words.now ≡ true → result.status ≡ exit.Refused → RanTold ends.Script (I.left input.old)
         (seen (O.held output.old) (O.held output.new) (O.faults output.old) (O.faults output.new)) result.journal }
-    ensures write_fault { are_replay words.now ≡ true → result.status ≡ 4 → RanTold ends.WriteFault (I.left input.old)
+    ensures write_fault { are_replay words.now ≡ true → result.status ≡ exit.WriteFault → RanTold ends.WriteFault (I.left input.old)
         (seen (O.held output.old) (O.held output.new) (O.faults output.old) (O.faults output.new)) result.journal }
-    ensures write_cause { result.status ≡ 4 → HasRisen (O.faults output.old) (O.faults output.new) }
-    ensures no_memory { are_replay words.now ≡ true → result.status ≡ 6 → RanTold ends.NoMemory (I.left input.old)
+    ensures write_cause { result.status ≡ exit.WriteFault → HasRisen (O.faults output.old) (O.faults output.new) }
+    ensures no_memory { are_replay words.now ≡ true → result.status ≡ exit.NoMemory → RanTold ends.NoMemory (I.left input.old)
         (seen (O.held output.old) (O.held output.new) (O.faults output.old) (O.faults output.new)) result.journal }
     ensures complete { are_replay words.now ≡ true → IfSome (I.left input.old) (λ bytes.
         IsComplete result.status (script_of bytes) (I.faults input.old) (I.faults input.new)
         (seen (O.held output.old) (O.held output.new) (O.faults output.old) (O.faults output.new)) result.journal) }
-    ensures headline { are_replay words.now ≡ true → (end : _) × (result.status ≡ code_of end)
+    ensures headline { are_replay words.now ≡ true → (end : _) × (result.status ≡ status_of end)
         × Says end (I.left input.old) (I.faults input.old) (I.faults input.new)
         (seen (O.held output.old) (O.held output.new) (O.faults output.old) (O.faults output.new)) result.journal }
-    ensures own_text { are_replay words.now ≡ true → (end : _) × (result.status ≡ code_of end) × PutsOwn end
+    ensures own_text { are_replay words.now ≡ true → (end : _) × (result.status ≡ status_of end) × PutsOwn end
         (seen (O.held output.old) (O.held output.new) (O.faults output.old) (O.faults output.new)) result.journal }
     ensures traces { are_trace words.now ≡ true → TraceEnds result.status (I.left input.old) (I.faults input.old) (I.faults input.new)
         (seen (O.held output.old) (O.held output.new) (O.faults output.old) (O.faults output.new)) result.journal }
@@ -160,12 +162,12 @@ pub(crate) fn do_asked<I: Source, O: Sink, H: Host, R: Threads + Wait + Sync>(
         (seen (O.held output.old) (O.held output.new) (O.faults output.old) (O.faults output.new)) result.journal }
     ensures drill_reads_none { (rounds : ℕ) → asks_drill words.now ≡ Some rounds → I.left input.new ≡ I.left input.old }
     ensures none_served { asks_serve words.now ≡ None → asks_do words.now ≡ None → result.served ≡ [] }
-    ensures serves { (path : List ℕ) (clients : ℕ) → AskServe words.now path clients → (end : _) × (result.status ≡ serve_code end)
+    ensures serves { (path : List ℕ) (clients : ℕ) → AskServe words.now path clients → (end : _) × (result.status ≡ serve_status end)
         × SaysServe (outside H.G.name H.G.faults H.G.L.begins H.G.L.faults H.G.L.R.left H.G.L.R.faults H.G.L.W.held H.G.L.W.faults) path clients
         (given (I.left input.old) (I.faults input.old) (I.faults input.new) (H.faults host.old) (H.faults host.new))
         (seen (O.held output.old) (O.held output.new) (O.faults output.old) (O.faults output.new))
         result.journal result.served end }
-    ensures replied { (result.status ≡ 0) ⊎ (result.status ≡ 4) → AllByRecursion
+    ensures replied { (result.status ≡ exit.Done) ⊎ (result.status ≡ exit.WriteFault) → AllByRecursion
         (GotAll (outside H.G.name H.G.faults H.G.L.begins H.G.L.faults H.G.L.R.left H.G.L.R.faults H.G.L.W.held H.G.L.W.faults) result.journal)
         result.served }
     ensures sound { AllByRecursion

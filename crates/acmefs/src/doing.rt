@@ -6,10 +6,11 @@ ghost use Rattle.ninep_types.specs.Spelling.{IsString};
 ghost use Rattle.am_slots.specs.Slots.{outside};
 ghost use Rattle.am_server.specs.Ends.{given};
 ghost use Rattle.am_words.specs.Words.{tree_name};
-ghost use Rattle.acmefs.specs.Does.{Does, closed_by, do_code, ended_by, entry_of, how_ended, listed, undialled};
+ghost use Rattle.acmefs.specs.Does.{Does, closed_by, do_status, ended_by, entry_of, how_ended, listed, undialled};
 
 use crate::outcome::{Outcome, idle};
 use crate::replay::End;
+use crate::status::Status;
 use am_base::{Host, Sink, Source};
 use am_do::{DoEnd, Doing, Stop, do_path};
 use am_server::{Served, ServedEnd};
@@ -19,17 +20,17 @@ use ninep_client::CallFault;
 use std::alloc::Global;
 
 // The status of an end.
-fn do_code(end: DoEnd) -> u8
-    ensures { result ≡ do_code end }
+fn do_status(end: DoEnd) -> Status
+    ensures { result ≡ do_status end }
 {
     match end {
-        DoEnd::Done => 0,
-        DoEnd::Script => 2,
-        DoEnd::ReadFault => 3,
-        DoEnd::WriteFault => 4,
-        DoEnd::HostFault => 5,
-        DoEnd::NoMemory => 6,
-        DoEnd::Talk => 7,
+        DoEnd::Done => Status::Done,
+        DoEnd::Script => Status::Refused,
+        DoEnd::ReadFault => Status::ReadFault,
+        DoEnd::WriteFault => Status::WriteFault,
+        DoEnd::HostFault => Status::HostFault,
+        DoEnd::NoMemory => Status::NoMemory,
+        DoEnd::Talk => Status::Talk,
     }
 }
 
@@ -155,7 +156,7 @@ pub fn do_main<I: Source, O: Sink, H: Host>(
     };
     let doing = do_path(alloc, path, name_of(tree), input, output, host);
     Outcome {
-        status: do_code(doing.end),
+        status: do_status(doing.end),
         journal: Items::new(alloc),
         served: listed(entry_of(doing), room),
     }

@@ -4,21 +4,22 @@ ghost use Rattle.std.specs.Prelude.{◌≡◌, ◌≤◌};
 ghost use Rattle.am_base.specs.Written.{seen};
 ghost use Rattle.am_counter.specs.Played.{IsPlayed};
 ghost use Rattle.acme_core.specs.Run.{enabled};
-ghost use Rattle.acmefs.specs.Ends.{drill_code, Drilled};
+ghost use Rattle.acmefs.specs.Ends.{drill_status, Drilled};
 ghost use Rattle.acmefs.specs.Own.{RoundTrips};
 
 use crate::replay::ReplayEnd;
+use crate::status::Status;
 use am_base::Sink;
 use am_drill::{DrillEnd, drill, drill_is_played};
 use std::alloc::Global;
 
-fn drill_code(end: DrillEnd) -> u8
-    ensures { result ≡ drill_code end }
+fn drill_status(end: DrillEnd) -> Status
+    ensures { result ≡ drill_status end }
 {
     match end {
-        DrillEnd::Done => 0,
-        DrillEnd::WriteFault => 4,
-        DrillEnd::NoMemory => 6,
+        DrillEnd::Done => Status::Done,
+        DrillEnd::WriteFault => Status::WriteFault,
+        DrillEnd::NoMemory => Status::NoMemory,
     }
 }
 
@@ -37,7 +38,7 @@ pub fn drill_main<O: Sink>(alloc: Global, rounds: u64, output: &mut O) -> Replay
     drill_is_played();
     let drilled = drill(alloc, rounds, output);
     ReplayEnd {
-        status: drill_code(drilled.end),
+        status: drill_status(drilled.end),
         journal: drilled.journal,
     }
 }

@@ -9,11 +9,13 @@ mod program;
 mod replay;
 mod script;
 mod serving;
+mod status;
 mod trace;
 
 use am_base::{InputSource, OutputSink, UnixHost};
 use am_text::{Items, NoMemory, Words};
 use program::acmefs;
+use status::Status;
 use std::alloc::Global;
 use std::env;
 use std::io::{self, ErrorKind};
@@ -39,12 +41,12 @@ fn words_of(rt: &(impl Env + AllocGlobal)) -> Result<Option<Words>, NoMemory> {
 fn main(rt: HostRuntime) -> ExitCode {
     let words = match words_of(&rt) {
         Ok(Some(words)) => words,
-        Ok(None) => return ExitCode::from(1),
-        Err(NoMemory) => return ExitCode::from(6),
+        Ok(None) => return ExitCode::from(Status::Usage.number()),
+        Err(NoMemory) => return ExitCode::from(Status::NoMemory.number()),
     };
     let mut input = InputSource::new(rt.reader());
     let mut output = OutputSink::new(io::writer(&rt));
     let mut host = UnixHost::new(&rt);
     let outcome = acmefs(&rt, rt.alloc(), &words, &mut input, &mut output, &mut host);
-    ExitCode::from(outcome.status)
+    ExitCode::from(outcome.status.number())
 }

@@ -3,10 +3,11 @@
 ghost use Rattle.std.specs.Prelude.{◌≡◌, []};
 ghost use Rattle.am_counter.specs.Played.{IsPlayed};
 ghost use Rattle.acme_core.specs.Run.{enabled};
-ghost use Rattle.acmefs.specs.Ends.{code_of};
+ghost use Rattle.acmefs.specs.Ends.{status_of};
 ghost use Rattle.acmefs.specs.Own.{RoundTrips};
 
-use crate::replay::{End, code};
+use crate::replay::{End, status_of};
+use crate::status::Status;
 use am_base::Host;
 use am_journal::Journal;
 use am_server::ServedList;
@@ -17,21 +18,21 @@ use std::alloc::Global;
 /// connections that were served, or the one that was dialled.
 #[derive(Drop)]
 pub struct Outcome<H: Host> {
-    pub status: u8,
+    pub status: Status,
     pub journal: Journal,
     pub served: ServedList<H>,
 }
 
 /// Nothing is done, for this reason.
 pub(crate) fn idle<H: Host>(alloc: Global, end: End) -> Outcome<H>
-    ensures status { result.status ≡ code_of end }
+    ensures status { result.status ≡ status_of end }
     ensures journal { result.journal ≡ [] }
     ensures played { IsPlayed enabled result.journal }
     ensures round_trip { RoundTrips result.journal }
     ensures none_served { result.served ≡ [] }
 {
     Outcome {
-        status: code(end),
+        status: status_of(end),
         journal: Items::new(alloc),
         served: Items::new(alloc),
     }

@@ -5,7 +5,7 @@ ghost use Rattle.am_base.specs.Written.{seen};
 ghost use Rattle.am_counter.specs.Played.{IsPlayed};
 ghost use Rattle.acme_core.specs.Run.{enabled};
 ghost use Rattle.core_answers.specs.Laws.{EachIsAnswered};
-ghost use Rattle.acmefs.specs.Ends.{Says, code_of};
+ghost use Rattle.acmefs.specs.Ends.{Says, status_of};
 ghost use Rattle.acmefs.specs.Own.{PutsOwn, RoundTrips};
 ghost use Rattle.acmefs.specs.Top.{OfDoing, OfDrill, OfReplay, OfServing, OfWords, run};
 ghost use Rattle.am_words.specs.Words.{asks_do, asks_serve};
@@ -14,7 +14,7 @@ ghost use Rattle.am_slots.specs.Slots.{outside};
 
 use crate::asked::do_asked;
 use crate::outcome::Outcome;
-use crate::replay::{ReplayEnd, code, replay};
+use crate::replay::{ReplayEnd, replay, status_of};
 use acme_core::messages_are_answered;
 use am_base::{Host, Sink, Source};
 use am_text::Words;
@@ -77,13 +77,13 @@ pub fn acmefs<I: Source, O: Sink, H: Host, R: Threads + Wait + Sync>(
 
 /// Replays the transcript that the input gives, and writes a line for each reply and the report.
 pub fn replay_main<I: Source, O: Sink>(alloc: Global, input: &mut I, output: &mut O) -> ReplayEnd
-    ensures headline { (end : _) × (result.status ≡ code_of end)
+    ensures headline { (end : _) × (result.status ≡ status_of end)
         × Says end (I.left input.old) (I.faults input.old) (I.faults input.new)
         (seen (O.held output.old) (O.held output.new) (O.faults output.old) (O.faults output.new))
         result.journal }
     // The output got the lines of the journal's replies, and then the report of its run or a line `refused`: by the
     // status all of it, or a front.
-    ensures own_text { (end : _) × (result.status ≡ code_of end)
+    ensures own_text { (end : _) × (result.status ≡ status_of end)
         × PutsOwn end (seen (O.held output.old) (O.held output.new) (O.faults output.old) (O.faults output.new)) result.journal }
     // Each event of the journal is lawful, and was enabled at its place.
     ensures played { IsPlayed enabled result.journal }
@@ -93,7 +93,7 @@ pub fn replay_main<I: Source, O: Sink>(alloc: Global, input: &mut I, output: &mu
 {
     let ended = replay(alloc, input, output);
     ReplayEnd {
-        status: code(ended.end),
+        status: status_of(ended.end),
         journal: ended.journal,
     }
 }

@@ -5,10 +5,11 @@ ghost use Rattle.am_text.specs.Lines.{lines_of};
 ghost use Rattle.am_base.specs.Written.{seen};
 ghost use Rattle.acme_core.specs.Run.{settled};
 ghost use Rattle.acmefs.specs.Scripts.{play, end_of, refused_at};
-ghost use Rattle.acmefs.specs.Ends.{Ran, Says, code_of};
+ghost use Rattle.acmefs.specs.Ends.{Ran, Says, status_of};
 ghost use Rattle.acmefs.specs.Playing.{EndText, end_at};
 
 use crate::script::{Fault, Played, Stop, fault_word, play, put};
+use crate::status::Status;
 use acme_core::{Core, Journal};
 use am_base::{INPUT_LIMIT, ReadStop, Sink, Source, read_to_end};
 use am_journal::{refused_line, report};
@@ -42,7 +43,7 @@ pub struct Ended {
 /// How a replay ended: the exit status, and the events that were done.
 #[derive(Drop)]
 pub struct ReplayEnd {
-    pub status: u8,
+    pub status: Status,
     pub journal: Journal,
 }
 
@@ -143,15 +144,15 @@ pub(crate) fn replay<I: Source, O: Sink>(alloc: Global, input: &mut I, output: &
 }
 
 /// The exit status of an end.
-pub(crate) fn code(end: End) -> u8
-    ensures { result ≡ code_of end }
+pub(crate) fn status_of(end: End) -> Status
+    ensures { result ≡ status_of end }
 {
     match end {
-        End::Done => 0,
-        End::Usage => 1,
-        End::Script => 2,
-        End::ReadFault => 3,
-        End::WriteFault => 4,
-        End::NoMemory => 6,
+        End::Done => Status::Done,
+        End::Usage => Status::Usage,
+        End::Script => Status::Refused,
+        End::ReadFault => Status::ReadFault,
+        End::WriteFault => Status::WriteFault,
+        End::NoMemory => Status::NoMemory,
     }
 }

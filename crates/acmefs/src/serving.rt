@@ -5,7 +5,8 @@ ghost use Rattle.std.specs.List.{AllByRecursion};
 ghost use Rattle.am_base.specs.Written.{seen};
 ghost use Rattle.am_counter.specs.Played.{IsPlayed};
 ghost use Rattle.acme_core.specs.Run.{enabled};
-ghost use Rattle.acmefs.specs.Ends.{IsServeComplete, serve_code};
+ghost use Rattle.acmefs.specs.declared.status.Status.TheVariants as exit;
+ghost use Rattle.acmefs.specs.Ends.{IsServeComplete, serve_status};
 ghost use Rattle.acmefs.specs.Own.{RoundTrips};
 ghost use Rattle.am_server.specs.Ends.{SaysServe, given};
 ghost use Rattle.am_server.specs.Replied.{GotAll};
@@ -13,6 +14,7 @@ ghost use Rattle.am_server.specs.Sound.{EndsWell};
 ghost use Rattle.am_slots.specs.Slots.{outside};
 
 use crate::outcome::Outcome;
+use crate::status::Status;
 use am_base::{Host, Sink, Source};
 use am_server::{HostServing, ServeEnd, Serving, serve};
 use std::alloc::Global;
@@ -20,21 +22,21 @@ use std::sync::Wait;
 use std::thread::Threads;
 
 // The status of an end of serving.
-fn serve_code(end: ServeEnd) -> u8
-    ensures { result ≡ serve_code end }
+fn serve_status(end: ServeEnd) -> Status
+    ensures { result ≡ serve_status end }
 {
     match end {
-        ServeEnd::Done => 0,
-        ServeEnd::Script => 2,
-        ServeEnd::ReadFault => 3,
-        ServeEnd::WriteFault => 4,
-        ServeEnd::HostFault => 5,
-        ServeEnd::NoMemory => 6,
+        ServeEnd::Done => Status::Done,
+        ServeEnd::Script => Status::Refused,
+        ServeEnd::ReadFault => Status::ReadFault,
+        ServeEnd::WriteFault => Status::WriteFault,
+        ServeEnd::HostFault => Status::HostFault,
+        ServeEnd::NoMemory => Status::NoMemory,
     }
 }
 
 fn outcome_of<H: Host>(serving: HostServing<H>) -> Outcome<H>
-    ensures status { result.status ≡ serve_code serving.end }
+    ensures status { result.status ≡ serve_status serving.end }
     ensures journal { result.journal ≡ serving.journal }
     ensures served { result.served ≡ serving.served }
 {
@@ -44,7 +46,7 @@ fn outcome_of<H: Host>(serving: HostServing<H>) -> Outcome<H>
         served,
     } = serving;
     Outcome {
-        status: serve_code(end),
+        status: serve_status(end),
         journal,
         served,
     }
@@ -61,12 +63,12 @@ pub fn serve_main<I: Source, O: Sink, H: Host, R: Threads + Wait + Sync>(
     host: &mut H,
 ) -> Outcome<H>
     requires clients { (1 ≤ clients) × (clients ≤ 64) }
-    ensures serves { (end : _) × (result.status ≡ serve_code end)
+    ensures serves { (end : _) × (result.status ≡ serve_status end)
         × SaysServe (outside H.G.name H.G.faults H.G.L.begins H.G.L.faults H.G.L.R.left H.G.L.R.faults H.G.L.W.held H.G.L.W.faults) path.now clients
         (given (I.left input.old) (I.faults input.old) (I.faults input.new) (H.faults host.old) (H.faults host.new))
         (seen (O.held output.old) (O.held output.new) (O.faults output.old) (O.faults output.new))
         result.journal result.served end }
-    ensures replied { (result.status ≡ 0) ⊎ (result.status ≡ 4) → AllByRecursion
+    ensures replied { (result.status ≡ exit.Done) ⊎ (result.status ≡ exit.WriteFault) → AllByRecursion
         (GotAll (outside H.G.name H.G.faults H.G.L.begins H.G.L.faults H.G.L.R.left H.G.L.R.faults H.G.L.W.held H.G.L.W.faults) result.journal)
         result.served }
     ensures sound { AllByRecursion
