@@ -1,5 +1,6 @@
 -- Deeds, one list after another.
-use Rattle.std.proofs.Common.{◌≡◌, List, [], ◌∷◌, ◌++◌, Option, refl, sym, ap, subst, ◌∙◌}
+use Rattle.std.proofs.Common.{◌≡◌, List, [], ◌∷◌, ◌++◌, Option, refl, sym, ap, subst, ◌∙◌, append_assoc}
+use Rattle.std.proofs.lemmas.List.{append-nil}
 use Rattle.core_windows.specs.Windows.{Window, all_changed}
 use Rattle.core_windows.specs.Possible.{CanChangeAll}
 use Rattle.core_windows.specs.Stories.{shown_windows}
@@ -7,7 +8,8 @@ use Rattle.core_windows.specs.WindowLaws.{ChangesShow, ChangesAreLawful}
 use Rattle.core_scene.specs.declared.deed.Deed.{Deed}
 use Rattle.core_scene.specs.declared.deed.Deed.TheVariants as deed
 use Rattle.core_scene.specs.declared.deed.Entry.{Entry}
-use Rattle.core_scene.specs.Scenes.{SceneState, done, done_all, CanDoAll, Did}
+use Rattle.core_scene.specs.Told.{deletes}
+use Rattle.core_scene.specs.Scenes.{SceneState, done, done_all, CanDoAll, Did, deleted_by}
 use Rattle.core_scene.specs.SceneLaws.{DeedsJoin, DeedsShow, changes_in}
 
 pub done_all-append : (e : Entry) (s : SceneState) (xs ys : List Deed) → done_all e s (xs ++ ys) ≡ done_all e (done_all e s xs) ys
@@ -72,3 +74,18 @@ deeds_shown shows lawful e stories s ds same are can =
       shown = shows e.at stories (changes_in ds) are can' ∙ ap (λ (ws : List (Option Window)). all_changed e.at ws (changes_in ds)) same ∙ windows_done e s ds;
       lawful = lawful.stays e.at stories (changes_in ds) are can';
     }
+
+-- ---- the windows that they delete
+
+pub deleted_done : (e : Entry) (s : SceneState) (ds : List Deed) → (done_all e s ds).deleted ≡ s.deleted ++ deleted_by ds
+deleted_done e s [] = sym (append-nil s.deleted)
+deleted_done e s (deed.Windows c ∷ ds) = deleted_done e (done e s (deed.Windows c)) ds ∙ append_assoc s.deleted (deletes c) (deleted_by ds)
+deleted_done e s (deed.Item w item ∷ ds) = deleted_done e (done e s (deed.Item w item)) ds
+deleted_done e s (deed.Snarfs text ∷ ds) = deleted_done e (done e s (deed.Snarfs text)) ds
+deleted_done e s (deed.Stores path bytes ∷ ds) = deleted_done e (done e s (deed.Stores path bytes)) ds
+deleted_done e s (deed.MakesDir path ∷ ds) = deleted_done e (done e s (deed.MakesDir path)) ds
+deleted_done e s (deed.Requests job ∷ ds) = deleted_done e (done e s (deed.Requests job)) ds
+deleted_done e s (deed.AddsRules sets vars text ∷ ds) = deleted_done e (done e s (deed.AddsRules sets vars text)) ds
+deleted_done e s (deed.ClearsRules ∷ ds) = deleted_done e (done e s deed.ClearsRules) ds
+deleted_done e s (deed.AddsPort name ∷ ds) = deleted_done e (done e s (deed.AddsPort name)) ds
+deleted_done e s (deed.Delivers port message keep ∷ ds) = deleted_done e (done e s (deed.Delivers port message keep)) ds
