@@ -21,6 +21,8 @@ use Rattle.core_fids.specs.declared.content.Content.{Content}
 use Rattle.core_fids.specs.declared.content.Content.TheVariants as content
 use Rattle.core_fids.specs.declared.effect.Effect.{Effect}
 use Rattle.core_fids.specs.declared.effect.Effect.TheVariants as effect
+use Rattle.core_fids.specs.declared.effect.Demand.{Demand}
+use Rattle.core_fids.specs.declared.effect.Demand.TheVariants as demand
 use Rattle.core_fids.specs.declared.effect.Reaction.{Reaction}
 use Rattle.core_fids.specs.declared.refusal.Refusal.{Refusal}
 use Rattle.core_fids.specs.declared.refusal.Refusal.TheVariants as refusal
@@ -28,7 +30,6 @@ use Rattle.core_fids.specs.declared.walking.WalkEnd.{WalkEnd}
 use Rattle.core_fids.specs.declared.walking.WalkEnd.TheVariants as end
 use Rattle.core_fids.specs.Plainly.{does}
 use Rattle.core_fids.specs.Refusals.{refused_with, reaction_or_refusal}
-use Rattle.core_fids.specs.declared.effect.Answer.TheVariants.{Says}
 use Rattle.core_windows.specs.declared.change.Change.TheVariants as change
 use Rattle.core_windows.specs.Windows.{Window, window_at, named, world_of}
 use Rattle.core_fids.specs.Attaching.{is_version, agreed, version_reaction, attach_refusal, or_attaches}
@@ -36,11 +37,9 @@ use Rattle.core_fids.specs.Walking.{trail, walk_refusal, arrives_at, or_walks, w
 use Rattle.core_fids.specs.Opening.{open_refusal, or_opens, open_fid, denied, clunk_fid, remove_fid}
 use Rattle.core_fids.specs.Directories.{place_at, read_dir, stat_fid}
 use Rattle.core_answers.specs.Reading.{read_opening, read_content, use_refusal, or_reads, most, read_fid}
-use Rattle.core_answers.specs.Writing.{written, if_lives, append_reaction, add_reaction, or_errors, errors_reaction, control_answer, write_content, write_fid}
-use Rattle.am_text.specs.Lines.{lines_of}
-use Rattle.core_answers.specs.Controls.{controls}
+use Rattle.core_answers.specs.Writing.{written, if_lives, append_reaction, add_reaction, or_errors, errors_reaction, asking_reaction, write_content, write_fid}
 use Rattle.core_answers.specs.Erring.{fits_in, fits_tag, appends, errors_of, root_errors, errors_refusal}
-use Rattle.core_answers.specs.Texts.{text_at, right_of, name_of, modified_of}
+use Rattle.core_answers.specs.Texts.{text_at, right_of}
 use Rattle.core_fids.specs.Contents.{content_of}
 use Rattle.core_fids.specs.Fids.{is_for_reading, is_for_writing, holding}
 use Rattle.core_answers.specs.Reactions.{served, comes_first}
@@ -176,9 +175,8 @@ errors_answers : (windows : List (Option Window)) (fid offset : ℕ) (bytes : Li
 errors_answers windows fid offset bytes f name decoded =
     or_errors_answers (t.Write fid offset bytes) (errors_refusal windows (named windows name) decoded.text) _ (inl refl)
 
-control_answers : (fid offset : ℕ) (bytes : List ℕ) (o : Option Refusal) → IsAnswered (t.Write fid offset bytes) (Says (control_answer o (length bytes)))
-control_answers fid offset bytes None = inl refl
-control_answers fid offset bytes (Some x) = inr (x, refl)
+asking_answers : (windows : List (Option Window)) (fid offset w : ℕ) (bytes : List ℕ) (d : Demand) → Answers (t.Write fid offset bytes) (asking_reaction windows w (length bytes) d)
+asking_answers windows fid offset w bytes d = if_lives_answers (t.Write fid offset bytes) (window_at windows w) _ (inl refl)
 
 addr_set_answers : (fid offset w : ℕ) (bytes : List ℕ) (x : Result Range RangeFault) → Answers (t.Write fid offset bytes) (addr_or_refusal w (length bytes) x)
 addr_set_answers fid offset w bytes (Ok range) = inl refl
@@ -200,8 +198,7 @@ write_content_answers : (windows : List (Option Window)) (fid offset : ℕ) (byt
 write_content_answers windows fid offset bytes f content.Directory = tt
 write_content_answers windows fid offset bytes f (content.BodyText w) = append_answers windows fid offset bytes f w (decode_part (part_bytes f.part ++ bytes))
 write_content_answers windows fid offset bytes f (content.TagText w) = add_answers windows fid offset bytes f w (decode_part (part_bytes f.part ++ bytes))
-write_content_answers windows fid offset bytes f (content.CtlText w) =
-    if_lives_answers (t.Write fid offset bytes) (window_at windows w) _ (control_answers fid offset bytes (controls w (lines_of bytes) (name_of (window_at windows w)) (modified_of (window_at windows w))).refusal)
+write_content_answers windows fid offset bytes f (content.CtlText w) = asking_answers windows fid offset w bytes (demand.Controls w bytes)
 write_content_answers windows fid offset bytes f (content.AddrText w) = addr_answers fid offset w bytes (window_at windows w)
 write_content_answers windows fid offset bytes f (content.DataOf w) = taking_answers fid offset w bytes (window_at windows w)
 write_content_answers windows fid offset bytes f (content.XdataOf w) = taking_answers fid offset w bytes (window_at windows w)
@@ -210,7 +207,7 @@ write_content_answers windows fid offset bytes f (content.ErrorsOf w) =
     errors_answers windows fid offset bytes f (errors_of (window_at windows w)) (decode_part (part_bytes f.part ++ bytes))
 write_content_answers windows fid offset bytes f content.ConsErrors = errors_answers windows fid offset bytes f root_errors (decode_part (part_bytes f.part ++ bytes))
 write_content_answers windows fid offset bytes f content.Empty = inl refl
-write_content_answers windows fid offset bytes f (content.EventsOf w) = tt
+write_content_answers windows fid offset bytes f (content.EventsOf w) = asking_answers windows fid offset w bytes (demand.WriteBack w bytes)
 write_content_answers windows fid offset bytes f content.Unserved = tt
 
 write_answers : (world : World) (windows : List (Option Window)) (fid offset : ℕ) (bytes : List ℕ) (o : Option Fid) → Answers (t.Write fid offset bytes) (write_fid world windows fid bytes o)

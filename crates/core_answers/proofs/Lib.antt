@@ -1,4 +1,3 @@
-pub mod Controlled
 pub mod Possibly
 pub mod Indexed
 pub mod Answered

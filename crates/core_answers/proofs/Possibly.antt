@@ -1,5 +1,5 @@
 -- Changes that can be made.
-use Rattle.std.proofs.Common.{◌≡◌, ℕ, ◌+◌, Bool, true, false, cond, List, [], ◌∷◌, ◌++◌, length, Option, Some, None, refl, sym, ap, subst, ◌∙◌, arith}
+use Rattle.std.proofs.Common.{◌≡◌, ℕ, ◌+◌, Bool, true, false, cond, List, [], ◌∷◌, ◌++◌, length, Option, Some, None, refl, sym, ap, subst, ◌∙◌, ◌<◌, ◌^◌, arith}
 use Rattle.std.specs.Prelude.{eqb, not, Result, IsSome}
 use Rattle.acme_tree.specs.Trees.{is_full}
 use Rattle.am_text.specs.declared.range.Range.{Range}
@@ -20,7 +20,10 @@ use Rattle.core_windows.specs.Possible.{CanSet, CanSetIn, CanEdit, text_in}
 use Rattle.core_windows.specs.Windows.{Window, window_at, world_of, named_window}
 use Rattle.core_windows.proofs.Steps.{edits_then_set, made_there}
 use Rattle.core_answers.specs.Addressing.{sets_addr, edits_with_addr, fault_of, addr_or_refusal, addr_reaction, data_or_refusal, taking_reaction}
-use Rattle.core_fids.specs.Done.{CanBeMade}
+use Rattle.core_fids.specs.declared.effect.Demand.{Demand}
+use Rattle.core_fids.specs.declared.effect.Reaction.{Reaction}
+use Rattle.core_fids.specs.Plainly.{demands}
+use Rattle.core_fids.specs.Done.{CanBeMade, IsOfLiving, IsDone}
 use Rattle.core_fids.proofs.Answers.{still_done, made_done}
 use Rattle.core_fids.specs.Refusals.{Gives}
 use Rattle.core_answers.specs.Erring.{edits_at_end, appends, errors_changes}
@@ -89,6 +92,15 @@ addr_refused w bytes o window e there h =
 pub data_refused : (w : ℕ) (bytes : List ℕ) (o : Option Window) (window : Window) (e : RangeFault) → o ≡ Some window → Tells e (data_taken window.body bytes) → Gives (fault_of e) (taking_reaction w bytes o)
 data_refused w bytes o window e there h =
     subst (λ (x : Option Window). Gives (fault_of e) (taking_reaction w bytes x)) (sym there) (tells_data w (length bytes) e (data_taken window.body bytes) h)
+
+-- ---- what is asked of the scene
+
+pub demands_done : (windows : List (Option Window)) (w count : ℕ) (e : Demand) (d : Reaction) → d ≡ demands e count → count < 2 ^ 32 → IsSome (window_at windows w)
+    → (IsSome (window_at windows w) → IsOfLiving windows e) → IsDone windows d
+demands_done windows w count e d is small there own =
+    subst (IsDone windows) (sym is) (record { sent = record { body = omega (arith, small); size = omega arith }; possible = λ at. tt; demand = own there })
+
+pub ruleset asked = (demands_done)
 
 pub ruleset still = (still_done)
 

@@ -1,5 +1,4 @@
 pub mod Texts
-pub mod Controls
 pub mod Erring
 pub mod Addressing
 pub mod Reading

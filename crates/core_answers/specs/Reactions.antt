@@ -7,6 +7,7 @@ use Rattle.acme_tree.specs.declared.node.World.{World}
 use Rattle.fid_table.specs.Tables.{Tables, fid_of, msize_of}
 use Rattle.core_fids.specs.declared.effect.Effect.TheVariants as effect
 use Rattle.core_fids.specs.declared.effect.EventChange.TheVariants as events
+use Rattle.core_fids.specs.declared.effect.Demand.TheVariants as demand
 use Rattle.core_fids.specs.declared.effect.Answer.TheVariants.{Says}
 use Rattle.core_fids.specs.declared.effect.Reaction.{Reaction}
 use Rattle.core_fids.specs.declared.refusal.Refusal.{Refusal}
@@ -23,7 +24,7 @@ use Rattle.core_answers.specs.Writing.{write_reaction}
 
 -- Tflush is never refused: the read of that tag waits no more, if it did
 abbrev pub flush_reaction : ℕ → Reaction
-flush_reaction oldtag = record { effect = effect.Nothing; events = events.Cancels oldtag; changes = []; answer = Says r.Flush }
+flush_reaction oldtag = record { effect = effect.Nothing; events = events.Cancels oldtag; changes = []; demand = demand.Nothing; answer = Says r.Flush }
 
 -- what a message does in a session, where so many openings of event files were made
 abbrev pub served : Tables → World → List (Option Window) → ℕ → ℕ → TBody → Result Reaction Refusal

@@ -7,6 +7,7 @@ use Rattle.fid_table.specs.declared.types.Fid.{Fid}
 use Rattle.fid_table.specs.Tables.{Tables, fid_of, msize_of}
 use Rattle.core_fids.specs.declared.effect.Effect.TheVariants as effect
 use Rattle.core_fids.specs.declared.effect.EventChange.TheVariants as events
+use Rattle.core_fids.specs.declared.effect.Demand.TheVariants as demand
 use Rattle.core_fids.specs.declared.effect.Answer.TheVariants.{Reads}
 use Rattle.core_fids.specs.declared.effect.Reaction.{Reaction}
 use Rattle.core_fids.specs.Plainly.{does}
@@ -31,7 +32,7 @@ shown bytes = does effect.Nothing [] (r.Read bytes)
 abbrev pub read_opening : ℕ → ℕ → Option ℕ → Result Reaction Refusal
 read_opening number count None = Err refusal.FidIsNotOpen
 read_opening number count (Some opening) =
-    Ok (record { effect = effect.Nothing; events = events.Nothing; changes = []; answer = Reads number opening count })
+    Ok (record { effect = effect.Nothing; events = events.Nothing; changes = []; demand = demand.Nothing; answer = Reads number opening count })
 
 -- ---- Tread
 

@@ -1,5 +1,5 @@
 -- The texts that the files of windows show.
-use Rattle.std.specs.Prelude.{ℕ, ◌+◌, ◌==◌, not, Bool, false, List, [], ◌∷◌, ◌++◌, length, take, drop, codes, Option, Some, None}
+use Rattle.std.specs.Prelude.{ℕ, ◌+◌, ◌==◌, not, Bool, List, [], ◌∷◌, ◌++◌, length, take, drop, codes, Option, Some, None}
 use Rattle.std.specs.List.{ends_with}
 use Rattle.std.specs.Prelude.{nat_eq}
 use Rattle.am_text.specs.Utf8.{utf8}
@@ -72,10 +72,6 @@ ctl_if_live w (Some window) = ctl_of w window
 abbrev pub name_of : Option Window → List ℕ
 name_of None = []
 name_of (Some window) = window.name
-
-abbrev pub modified_of : Option Window → Bool
-modified_of None = false
-modified_of (Some window) = window.modified
 
 abbrev pub text_at : List (Option Window) → ℕ → List ℕ
 text_at windows w = text_of (window_at windows w)

@@ -1,9 +1,7 @@
 -- Twrite.
 use Rattle.std.specs.Prelude.{is_some, ℕ, List, [], ◌∷◌, ◌++◌, length, Option, Some, None, Result, Ok, Err, if◌then◌else◌}
-use Rattle.am_text.specs.Lines.{lines_of}
 use Rattle.am_text.specs.Part.{part_bytes, part_of}
 use Rattle.am_text.specs.Pieces.{Decoded, decode_part}
-use Rattle.ninep_types.specs.declared.message.RBody.{RBody}
 use Rattle.ninep_types.specs.declared.message.RBody.TheVariants as r
 use Rattle.acme_tree.specs.declared.node.World.{World}
 use Rattle.fid_table.specs.declared.types.Fid.{Fid}
@@ -12,21 +10,20 @@ use Rattle.core_windows.specs.declared.change.Change.{Change}
 use Rattle.core_windows.specs.declared.change.Change.TheVariants as change
 use Rattle.core_windows.specs.Windows.{Window, window_at, named}
 use Rattle.core_fids.specs.declared.effect.Effect.TheVariants as effect
+use Rattle.core_fids.specs.declared.effect.Demand.{Demand}
+use Rattle.core_fids.specs.declared.effect.Demand.TheVariants as demand
 use Rattle.core_fids.specs.declared.effect.Reaction.{Reaction}
-use Rattle.core_fids.specs.Plainly.{does}
+use Rattle.core_fids.specs.Plainly.{does, demands}
 use Rattle.core_fids.specs.declared.refusal.Refusal.{Refusal}
 use Rattle.core_fids.specs.declared.refusal.Refusal.TheVariants as refusal
 use Rattle.core_fids.specs.declared.content.Content.{Content}
 use Rattle.core_fids.specs.declared.content.Content.TheVariants as content
-use Rattle.core_answers.specs.declared.control.Controls.{Controls}
 use Rattle.core_answers.specs.Addressing.{addr_reaction, taking_reaction}
 use Rattle.core_fids.specs.Contents.{content_of}
-use Rattle.core_answers.specs.Controls.{controls}
 use Rattle.core_answers.specs.Erring.{fits_in, fits_tag, appends, errors_of, root_errors, errors_changes, errors_refusal}
 use Rattle.core_fids.specs.Fids.{is_for_writing, holding}
 use Rattle.core_answers.specs.Reading.{use_refusal, or_reads}
-use Rattle.core_fids.specs.Refusals.{refusal_text}
-use Rattle.core_answers.specs.Texts.{text_at, right_of, name_of, modified_of}
+use Rattle.core_answers.specs.Texts.{text_at, right_of}
 
 -- the whole count is answered
 abbrev pub written : List Change → ℕ → Fid → ℕ → Reaction
@@ -63,18 +60,10 @@ errors_reaction windows number fid name count decoded =
     or_errors (errors_refusal windows (named windows name) decoded.text)
     (written (errors_changes windows name (named windows name) decoded.text) number (holding fid (part_of decoded.rest)) count)
 
--- ---- control messages
+-- ---- control messages, and event messages that are written back: the scene does them, or refuses
 
-abbrev pub control_answer : Option Refusal → ℕ → RBody
-control_answer None count = r.Write count
-control_answer (Some refusal) count = r.Error (refusal_text refusal)
-
--- what was done before a refusal stays done
-abbrev pub control_reaction : ℕ → Controls → Reaction
-control_reaction count controls = does effect.Nothing controls.changes (control_answer controls.refusal count)
-
-abbrev pub ctl_reaction : ℕ → List ℕ → Option Window → Result Reaction Refusal
-ctl_reaction w bytes window = if_lives window (Ok (control_reaction (length bytes) (controls w (lines_of bytes) (name_of window) (modified_of window))))
+abbrev pub asking_reaction : List (Option Window) → ℕ → ℕ → Demand → Result Reaction Refusal
+asking_reaction windows w count d = if_lives (window_at windows w) (Ok (demands d count))
 
 -- ---- all files
 
@@ -83,7 +72,7 @@ abbrev pub write_content : List (Option Window) → ℕ → Fid → List ℕ →
 write_content windows number fid bytes content.Directory = Err refusal.PermissionDenied
 write_content windows number fid bytes (content.BodyText w) = append_reaction windows number fid w (length bytes) (whole_runes fid bytes)
 write_content windows number fid bytes (content.TagText w) = add_reaction windows number fid w (length bytes) (whole_runes fid bytes)
-write_content windows number fid bytes (content.CtlText w) = ctl_reaction w bytes (window_at windows w)
+write_content windows number fid bytes (content.CtlText w) = asking_reaction windows w (length bytes) (demand.Controls w bytes)
 write_content windows number fid bytes (content.AddrText w) = addr_reaction w bytes (window_at windows w)
 write_content windows number fid bytes (content.DataOf w) = taking_reaction w bytes (window_at windows w)
 write_content windows number fid bytes (content.XdataOf w) = taking_reaction w bytes (window_at windows w)
@@ -93,7 +82,7 @@ write_content windows number fid bytes (content.ErrorsOf w) =
 write_content windows number fid bytes content.ConsErrors =
     errors_reaction windows number fid root_errors (length bytes) (whole_runes fid bytes)
 write_content windows number fid bytes content.Empty = Ok (does effect.Nothing [] (r.Write (length bytes)))
-write_content windows number fid bytes (content.EventsOf w) = Err refusal.NotServedYet
+write_content windows number fid bytes (content.EventsOf w) = asking_reaction windows w (length bytes) (demand.WriteBack w bytes)
 write_content windows number fid bytes content.Unserved = Err refusal.NotServedYet
 
 abbrev pub write_fid : World → List (Option Window) → ℕ → List ℕ → Option Fid → Result Reaction Refusal

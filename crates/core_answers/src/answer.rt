@@ -11,7 +11,7 @@ use crate::read::read;
 use crate::write::write;
 use am_text::{Items, NoMemory};
 use core_fids::{
-    Answer, Effect, EventChange, Fault, Reaction, Refusal, Server, attach, clunk, deny, open,
+    Answer, Demand, Effect, EventChange, Fault, Reaction, Refusal, Server, attach, clunk, deny, open,
     refuse, remove, stat, version, walk,
 };
 use ninep_types::{RBody, TBody};
@@ -25,6 +25,7 @@ fn flush(alloc: Global, oldtag: u16) -> Reaction
         effect: Effect::Nothing,
         events: EventChange::Cancels { tag: oldtag },
         changes: Items::new(alloc),
+        demand: Demand::Nothing,
         answer: Answer::Says(RBody::Flush),
     }
 }

@@ -7,13 +7,15 @@ ghost use Rattle.core_windows.specs.Windows.{window_at, world_of};
 ghost use Rattle.core_answers.specs.Erring.{fits_in, fits_tag, edits_at_end, appends, errors_name, errors_of, root_errors, errors_changes, long_refusal, errors_refusal};
 ghost use Rattle.core_answers.specs.Texts.{text_at, right_of, name_of, text_of};
 
-use crate::control::ERRORS;
 use acme_tree::is_full;
 use am_text::{Items, Letters, NoMemory, Rune, Runes};
 use core_fids::Refusal;
 use core_windows::{Change, Changes, Edit, Edits, Windows};
 use std::alloc::Global;
 use win_ctl::directory;
+
+/// The end of the name of an errors window: `+Errors`.
+const ERRORS: [Rune; 7] = [43, 69, 114, 114, 111, 114, 115];
 
 /// The most runes that a body may have.
 const RUNES: usize = 16777216;

@@ -3,7 +3,6 @@
 
 mod addressing;
 mod answer;
-mod control;
 mod erring;
 mod laws;
 mod read;

@@ -15,7 +15,7 @@ use crate::texts::{body_part, ctl_if_live, index_text, part_at, tag_if_live};
 use acme_tree::{World, is_live};
 use am_text::{Bytes, Items, NoMemory, utf8_slice};
 use core_fids::{
-    Answer, Content, Effect, EventChange, Fault, Reaction, Reading, Refusal, Server, content_of,
+    Answer, Content, Demand, Effect, EventChange, Fault, Reaction, Reading, Refusal, Server, content_of,
     is_for_reading, is_for_writing, read_dir,
 };
 use fid_table::Fid;
@@ -54,6 +54,7 @@ fn read_opening(alloc: Global, reading: &Reading) -> Result<Reaction, Fault>
             effect: Effect::Nothing,
             events: EventChange::Nothing,
             changes: Items::new(alloc),
+            demand: Demand::Nothing,
             answer: Answer::Reads {
                 fid: reading.number,
                 opening,

@@ -3,10 +3,9 @@
 ghost use Rattle.std.specs.Prelude.{◌≡◌, ◌+◌, ◌++◌, ◌<◌, ◌≤◌, ◌^◌, ◌==◌, not, IfOk, length, take, drop};
 ghost use Rattle.core_windows.specs.Panes.{window_of, windows_of};
 ghost use Rattle.core_windows.specs.Windows.{window_at};
-ghost use Rattle.core_answers.specs.Texts.{part_at, read_of, tag_of, offered, whole_tag, ctl_of, line_of, index_from, text_at, tag_if_live, ctl_if_live};
+ghost use Rattle.core_answers.specs.Texts.{part_at, read_of, tag_of, offered, whole_tag, ctl_of, line_of, index_from, text_at, tag_if_live, ctl_if_live, is_dir_name};
 
-use crate::control::is_dir_name;
-use am_text::{Bytes, Items, Letters, NoMemory, Runes, utf8_slice};
+use am_text::{Bytes, Items, Letters, NoMemory, Rune, Runes, utf8_slice};
 use core_windows::{Pane, Windows};
 use std::alloc::Global;
 use win_ctl::{Shown, Tag, ctl_text, index_line, tag_text};
@@ -24,6 +23,13 @@ pub(crate) fn part_at(
     let (_, rest) = bytes.split_at(start);
     let (part, _) = rest.split_at(rest.len().min(count));
     Items::copied(alloc, part)
+}
+
+// Whether this is the name of a directory.
+fn is_dir_name(name: &[Rune]) -> bool
+    ensures { result ≡ is_dir_name name.now }
+{
+    name.ends_with(&[47])
 }
 
 fn tag_of(alloc: Global, pane: &Pane) -> Result<Tag, NoMemory>

@@ -1,26 +1,25 @@
 //! Writing, after write(5).
 
-ghost use Rattle.std.specs.Prelude.{◌≡◌, ◌++◌, ◌<◌, ◌^◌, IfOk, IfErr, Ok, length};
+ghost use Rattle.std.specs.Prelude.{◌≡◌, ◌++◌, ◌<◌, ◌^◌, IfOk, IfErr, IsSome, Ok, length};
+ghost use Rattle.core_windows.specs.Windows.{window_at};
 ghost use Rattle.am_text.specs.Part.{part_bytes, part_of};
 ghost use Rattle.am_text.specs.Pieces.{decode_part};
-ghost use Rattle.core_windows.specs.Windows.{window_at};
 ghost use Rattle.core_fids.specs.Contents.{content_of};
-ghost use Rattle.core_fids.specs.Done.{IsSent, HasSpelling, IsDone};
+ghost use Rattle.core_fids.specs.Done.{HasSpelling, IsOfLiving, IsDone};
 ghost use Rattle.core_fids.specs.Fids.{holding};
 ghost use Rattle.core_fids.specs.Refusals.{Gives};
 ghost use Rattle.core_fids.specs.Servers.{tables_in, windows_in, world_in};
-ghost use Rattle.core_answers.specs.Writing.{whole_runes, written, append_reaction, add_reaction, errors_reaction, control_answer, control_reaction, ctl_reaction, write_content, write_reaction};
+ghost use Rattle.core_answers.specs.Writing.{whole_runes, written, append_reaction, add_reaction, errors_reaction, asking_reaction, write_content, write_reaction};
 
 use crate::addressing::{write_addr, write_data};
-use crate::control::{Controls, controls_of};
 use crate::erring::{
     append_changes, errors_changes, errors_of, errors_refusal, fits_body, fits_tag, lives,
     root_errors,
 };
 use crate::read::why_not_written;
-use am_text::{Items, NoMemory, Part, Runes, decode_part};
+use am_text::{Bytes, Items, NoMemory, Part, Runes, decode_part};
 use core_fids::{
-    Content, Effect, Fault, Reaction, Refusal, Server, at_most_three, content_of, error, holding,
+    Content, Demand, Effect, Fault, Reaction, Refusal, Server, at_most_three, content_of, holding,
 };
 use core_windows::{Change, Changes, Windows};
 use fid_table::Fid;
@@ -130,42 +129,25 @@ fn complain(
     Ok(written(alloc, writing, changes, part)?)
 }
 
-fn control_answer(alloc: Global, refusal: Option<Refusal>, bytes: &[u8]) -> Result<RBody, NoMemory>
-    requires { length bytes.now < 2 ^ 32 }
-    ensures exact { IfOk result (λ answer. answer ≡ control_answer refusal (length bytes.now)) }
-    ensures sent { IfOk result IsSent }
-{
-    match refusal {
-        None => Ok(RBody::Write {
-            count: bytes.len() as u32,
-        }),
-        Some(refusal) => error(alloc, refusal),
-    }
-}
-
-fn control_reaction(alloc: Global, bytes: &[u8], controls: Controls) -> Result<Reaction, NoMemory>
-    requires { length bytes.now < 2 ^ 32 }
-    ensures exact { IfOk result (λ r. r ≡ control_reaction (length bytes.now) controls) }
-    ensures sent { IfOk result (λ r. HasSpelling r.answer) }
-{
-    let Controls { changes, refusal } = controls;
-    let answer = control_answer(alloc, refusal, bytes)?;
-    Ok(Reaction::plain(Effect::Nothing, changes, answer))
-}
-
-// What a write to the `ctl` of a window does.
-#[tactic(auto, using(crate::proofs::Possibly::made))]
-fn control(alloc: Global, windows: &Windows, window: u32, bytes: &[u8]) -> Result<Reaction, Fault>
-    requires { length bytes.now < 2 ^ 32 }
-    ensures exact { IfOk result (λ r. ctl_reaction window bytes.now (window_at windows.now.present window) ≡ Ok r) }
-    ensures refused { IfErr result (λ e. Gives e (ctl_reaction window bytes.now (window_at windows.now.present window))) }
+// What a write does that asks this of a window.
+#[tactic(auto, using(crate::proofs::Possibly::asked))]
+fn ask(
+    alloc: Global,
+    windows: &Windows,
+    writing: &Writing,
+    window: u32,
+    demand: Demand,
+) -> Result<Reaction, Fault>
+    requires small { length writing.now.bytes.now < 2 ^ 32 }
+    requires own { IsSome (window_at windows.now.present window) → IsOfLiving windows.now.present demand }
+    ensures exact { IfOk result (λ r. asking_reaction windows.now.present window (length writing.now.bytes.now) demand ≡ Ok r) }
+    ensures refused { IfErr result (λ e. Gives e (asking_reaction windows.now.present window (length writing.now.bytes.now) demand)) }
     ensures done { IfOk result (IsDone windows.now.present) }
 {
-    let Some(pane) = windows.get(window) else {
+    if !lives(windows, window) {
         return Err(Fault::Refused(Refusal::WindowDeleted));
-    };
-    let controls = controls_of(alloc, window, bytes, pane.name.as_slice(), pane.modified)?;
-    Ok(control_reaction(alloc, bytes, controls)?)
+    }
+    Ok(Reaction::asking(alloc, demand, writing.bytes.len() as u32))
 }
 
 #[tactic(auto, using(crate::proofs::Possibly::made))]
@@ -178,7 +160,10 @@ fn write_content(alloc: Global, windows: &Windows, writing: &Writing) -> Result<
     match content_of(writing.fid.node) {
         Content::BodyText(window) => append(alloc, windows, writing, window),
         Content::TagText(window) => add(alloc, windows, writing, window),
-        Content::CtlText(window) => control(alloc, windows, window, writing.bytes),
+        Content::CtlText(window) => {
+            let text = Bytes::copied(alloc, writing.bytes)?;
+            ask(alloc, windows, writing, window, Demand::Controls { window, text })
+        }
         Content::AddrText(window) => write_addr(alloc, windows, window, writing.bytes),
         Content::DataOf(window) => write_data(alloc, windows, window, writing.bytes),
         Content::XdataOf(window) => write_data(alloc, windows, window, writing.bytes),
@@ -199,7 +184,10 @@ fn write_content(alloc: Global, windows: &Windows, writing: &Writing) -> Result<
         )),
         Content::Directory => Err(Fault::Refused(Refusal::PermissionDenied)),
         Content::IndexText => Err(Fault::Refused(Refusal::PermissionDenied)),
-        Content::EventsOf(_) => Err(Fault::Refused(Refusal::NotServedYet)),
+        Content::EventsOf(window) => {
+            let text = Bytes::copied(alloc, writing.bytes)?;
+            ask(alloc, windows, writing, window, Demand::WriteBack { window, text })
+        }
         Content::Unserved => Err(Fault::Refused(Refusal::NotServedYet)),
     }
 }

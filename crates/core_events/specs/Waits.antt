@@ -1,16 +1,12 @@
 -- The waiting reads that a clunk and a deletion end, and those that wait no more.
 use Rattle.std.specs.Prelude.{ℕ, Bool, false, ◌==◌, ◌&&◌, List, [], ◌∷◌, ◌++◌, filter, Option, Some, None, if◌then◌else◌}
 use Rattle.std.specs.List.{fold}
-use Rattle.std.specs.Option.{option_to_list}
 use Rattle.acme_tree.specs.declared.node.Node.{Node}
 use Rattle.acme_tree.specs.declared.node.Node.TheVariants.{File}
 use Rattle.acme_tree.specs.declared.node.WinFile.TheVariants.{Event}
 use Rattle.fid_table.specs.declared.types.Fid.{Fid}
 use Rattle.fid_table.specs.declared.session.Waiting.{Waiting}
 use Rattle.fid_table.specs.Tables.{Tables, fid_of, after_done}
-use Rattle.core_windows.specs.declared.change.Change.TheVariants.{Deletes}
-use Rattle.core_scene.specs.declared.deed.Deed.{Deed}
-use Rattle.core_scene.specs.declared.deed.Deed.TheVariants.{Windows}
 use Rattle.core_fids.specs.declared.effect.Effect.{Effect}
 use Rattle.core_fids.specs.declared.effect.Effect.TheVariants as effect
 use Rattle.core_fids.specs.declared.effect.EventChange.{EventChange}
@@ -52,16 +48,6 @@ reads_event_of w (Some fid) = is_event_of w fid.node
 -- whether the read is one of that window's event file
 abbrev pub is_of_window : Tables → ℕ → Waiting → Bool
 is_of_window tables w r = reads_event_of w (fid_of tables r.conn r.fid)
-
--- the window that a deed deletes
-abbrev pub deletes : Deed → Option ℕ
-deletes (Windows (Deletes w)) = Some w
-deletes d = None
-
--- the windows that the deeds of a step delete, in order
-abbrev pub deleted_by : List Deed → List ℕ
-deleted_by [] = []
-deleted_by (d ∷ ds) = option_to_list (deletes d) ++ deleted_by ds
 
 -- Deleting a window answers each read that waits on its event file, the oldest first; windows are deleted one after another.
 abbrev pub deletions : Tables → List ℕ → List Response

@@ -4,19 +4,15 @@ ghost use Rattle.std.specs.Prelude.{◌≡◌, [], ◌∷◌, ◌++◌, ℕ, sli
 ghost use Rattle.am_text.specs.Twice.{both, IsSteady};
 ghost use Rattle.core_fids.specs.declared.refusal.Refusal.TheVariants.{FidClunked as fid_clunked, WindowDeleted as window_deleted};
 ghost use Rattle.core_events.specs.Responses.{AreSaid, feed_in, feed_at, error, errors};
-ghost use Rattle.core_events.specs.Waits.{is_of_fid, is_of_window, answer_where, clunked, is_event_of, reads_event_of, deletes, deleted_by, deletions, ended, without_cancelled};
+ghost use Rattle.core_events.specs.Waits.{is_of_fid, is_of_window, answer_where, clunked, is_event_of, reads_event_of, deletions, ended, without_cancelled};
 
 use crate::response::{Feed, Response, Responses, feed_in, joined};
 use acme_tree::{Node, WinFile};
 use am_text::{Items, NoMemory};
 use core_fids::{Effect, EventChange, Refusal, error};
-use core_scene::{Change, Deed};
 use fid_table::{Fid, Sessions};
 use ninep_types::RMsg;
 use std::alloc::Global;
-
-/// Numbers of windows, one after another.
-pub type Numbers = Items<u32>;
 
 // Says that a waiting read is refused.
 fn refuse(
@@ -114,29 +110,6 @@ fn reads_event_of(window: u32, fid: Option<&Fid>) -> bool
         Some(fid) => is_event_of(window, fid.node),
         None => false,
     }
-}
-
-fn deletes(deed: &Deed) -> Option<u32>
-    ensures { result ≡ deletes deed.now }
-{
-    match deed {
-        Deed::Windows(Change::Deletes { window }) => Some(*window),
-        _ => None,
-    }
-}
-
-/// The windows that the deeds of a step delete, in order.
-#[tactic(auto, using(crate::proofs::Endings::joined))]
-pub fn deleted_by(alloc: Global, deeds: &[Deed]) -> Result<Numbers, NoMemory>
-    ensures { IfOk result (λ windows. windows ≡ deleted_by deeds.now) }
-{
-    let mut windows = Items::new(alloc);
-    for deed in deeds {
-        if let Some(window) = deletes(deed) {
-            windows.push(window)?;
-        }
-    }
-    Ok(windows)
 }
 
 // Answers the k-th waiting read, where it is one of this window's event file.

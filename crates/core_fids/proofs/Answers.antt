@@ -8,7 +8,8 @@ use Rattle.ninep_types.specs.Spelling.{IsString}
 use Rattle.core_fids.specs.declared.refusal.Refusal.{Refusal}
 use Rattle.core_fids.specs.declared.refusal.Refusal.TheVariants as refusal
 use Rattle.core_fids.specs.Refusals.{refusal_text}
-use Rattle.core_fids.specs.Done.{HasSpelling, IsSent, IsStill, CanBeMade, IsDone}
+use Rattle.core_fids.specs.Done.{HasSpelling, IsSent, IsOfLiving, IsStill, CanBeMade, IsDone}
+use Rattle.core_fids.specs.declared.effect.Demand.TheVariants as demand
 use Rattle.core_windows.specs.Windows.{Window}
 use Rattle.core_windows.specs.declared.change.Change.{Change}
 use Rattle.ninep_types.specs.declared.message.RBody.{RBody}
@@ -55,6 +56,10 @@ text_is refusal.AddressOutOfRange = refl
 text_is refusal.NoMatch = refl
 text_is refusal.AddressOutOfOrder = refl
 text_is refusal.PartialRune = refl
+text_is refusal.NoFileName = refl
+text_is refusal.BadEvent = refl
+text_is refusal.NoSuchEvent = refl
+text_is refusal.EventAlreadyWrittenBack = refl
 text_is refusal.NotServedYet = refl
 
 text_fits : (x : Refusal) → length (refusal_text x) < 100
@@ -87,6 +92,10 @@ text_fits refusal.AddressOutOfRange = omega arith
 text_fits refusal.NoMatch = omega arith
 text_fits refusal.AddressOutOfOrder = omega arith
 text_fits refusal.PartialRune = omega arith
+text_fits refusal.NoFileName = omega arith
+text_fits refusal.BadEvent = omega arith
+text_fits refusal.NoSuchEvent = omega arith
+text_fits refusal.EventAlreadyWrittenBack = omega arith
 text_fits refusal.NotServedYet = omega arith
 
 error_is : (x : Refusal) → IsSent (r.Error (refusal_text x))
@@ -99,22 +108,30 @@ error_sent x text e = subst (λ (t : List ℕ). IsSent (r.Error t)) (sym e) (err
 
 pub plain_done : (windows : List (Option Window)) (f : Effect) (cs : List Change) (body : RBody) (d : Reaction) → d ≡ does f cs body → IsSent body → CanBeMade windows cs
     → IsDone windows d
-plain_done windows f cs body d e sent possible = subst (λ (x : Reaction). IsDone windows x) (sym e) (record { sent = sent; possible = possible })
+plain_done windows f cs body d e sent possible = subst (λ (x : Reaction). IsDone windows x) (sym e) (record { sent = sent; possible = possible; demand = tt })
 
 -- no change can always be made
 pub nothing_made : (windows : List (Option Window)) (cs : List Change) → cs ≡ [] → CanBeMade windows cs
 nothing_made windows cs e = subst (CanBeMade windows) (sym e) (λ at. tt)
 
 pub plain_still : (f : Effect) (cs : List Change) (body : RBody) (d : Reaction) → d ≡ does f cs body → IsSent body → cs ≡ [] → IsStill d
-plain_still f cs body d e sent none = subst IsStill (sym e) (record { sent = sent; changes = none })
+plain_still f cs body d e sent none = subst IsStill (sym e) (record { sent = sent; changes = none; demand = refl })
 
 -- what changes no window can be done whatever the windows are
 pub still_done : (windows : List (Option Window)) (d : Reaction) → IsStill d → IsDone windows d
-still_done windows d h = record { sent = h.sent; possible = nothing_made windows d.changes h.changes }
+still_done windows d h = record {
+  sent = h.sent;
+  possible = nothing_made windows d.changes h.changes;
+  demand = subst (IsOfLiving windows) (sym h.demand) tt;
+}
 
 -- changes that can be made are done with an answer that has a spelling
-pub made_done : (windows : List (Option Window)) (d : Reaction) (cs : List Change) → HasSpelling d.answer → d.changes ≡ cs → CanBeMade windows cs → IsDone windows d
-made_done windows d cs sent e possible = record { sent = sent; possible = subst (CanBeMade windows) (sym e) possible }
+pub made_done : (windows : List (Option Window)) (d : Reaction) (cs : List Change) → HasSpelling d.answer → d.changes ≡ cs → d.demand ≡ demand.Nothing → CanBeMade windows cs → IsDone windows d
+made_done windows d cs sent e none possible = record {
+  sent = sent;
+  possible = subst (CanBeMade windows) (sym e) possible;
+  demand = subst (IsOfLiving windows) (sym none) tt;
+}
 
 -- ---- versions
 

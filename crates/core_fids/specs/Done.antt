@@ -1,4 +1,5 @@
--- What holds of each reaction: what it is answered has a spelling, and its change of the windows can be made.
+-- What holds of each reaction: what it is answered has a spelling, its change of the windows can be made, and what it asks of the scene
+-- is asked of a window that lives.
 use Rattle.std.specs.Prelude.{[], ◌≡◌, ◌<◌, ◌+◌, ◌^◌, ℕ, false, List, Option, IsSome}
 use Rattle.ninep_types.specs.declared.message.RBody.{RBody}
 use Rattle.ninep_types.specs.Spelling.{BodyFits_r, size_r}
@@ -11,6 +12,8 @@ use Rattle.core_fids.specs.declared.content.Content.{Content}
 use Rattle.core_fids.specs.declared.content.Content.TheVariants as content
 use Rattle.core_fids.specs.declared.effect.Answer.{Answer}
 use Rattle.core_fids.specs.declared.effect.Answer.TheVariants.{Says, Reads}
+use Rattle.core_fids.specs.declared.effect.Demand.{Demand}
+use Rattle.core_fids.specs.declared.effect.Demand.TheVariants as demand
 use Rattle.core_fids.specs.declared.effect.Reaction.{Reaction}
 use Rattle.core_fids.specs.declared.walking.WalkEnd.{WalkEnd}
 use Rattle.core_fids.specs.declared.walking.WalkEnd.TheVariants as end
@@ -29,14 +32,22 @@ HasSpelling (Reads fid opening count) = count + 11 < 2 ^ 32
 abbrev pub CanBeMade : List (Option Window) → List Change → Type 0
 CanBeMade windows changes = (at : ℕ) → CanChangeAll at windows changes
 
--- what changes no window, and has an answer with a spelling
+-- what is asked of the scene is asked of a window that lives
+abbrev pub IsOfLiving : List (Option Window) → Demand → Type 0
+IsOfLiving windows demand.Nothing = Unit {0}
+IsOfLiving windows (demand.Controls w text) = IsSome (window_at windows w)
+IsOfLiving windows (demand.WriteBack w text) = IsSome (window_at windows w)
+
+-- what changes no window and asks nothing of the scene, and has an answer with a spelling
 pub record IsStill (reaction : Reaction) : Type 0 where
   pub sent : HasSpelling reaction.answer
   pub changes : reaction.changes ≡ []
+  pub demand : reaction.demand ≡ demand.Nothing
 
 pub record IsDone (windows : List (Option Window)) (reaction : Reaction) : Type 0 where
   pub sent : HasSpelling reaction.answer
   pub possible : CanBeMade windows reaction.changes
+  pub demand : IsOfLiving windows reaction.demand
 
 -- a walk that makes a window ends only where one more may live
 abbrev pub MayEnd : World → WalkEnd → Type 0

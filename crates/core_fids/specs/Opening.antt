@@ -19,6 +19,7 @@ use Rattle.core_windows.specs.declared.change.Change.TheVariants as change
 use Rattle.core_windows.specs.declared.change.Setting.{Setting}
 use Rattle.core_windows.specs.declared.change.Setting.TheVariants as setting
 use Rattle.core_fids.specs.declared.effect.Effect.TheVariants as effect
+use Rattle.core_fids.specs.declared.effect.Demand.TheVariants as demand
 use Rattle.core_fids.specs.declared.effect.EventChange.{EventChange}
 use Rattle.core_fids.specs.declared.effect.EventChange.TheVariants as events
 use Rattle.core_fids.specs.declared.effect.Answer.TheVariants.{Says}
@@ -151,6 +152,7 @@ or_opens tables None openings number fid mode = Ok (record {
   effect = effect.Puts number (opened fid mode (opening_of openings (content_of fid.node)));
   events = opening_events (content_of fid.node);
   changes = opening_changes tables (content_of fid.node);
+  demand = demand.Nothing;
   answer = Says (r.Open (qid_of fid.node) 0);
 })
 or_opens tables (Some refusal) openings number fid mode = Err refusal

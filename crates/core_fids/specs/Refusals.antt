@@ -40,6 +40,10 @@ refusal_text refusal.AddressOutOfRange = codes "address out of range"
 refusal_text refusal.NoMatch = codes "no match"
 refusal_text refusal.AddressOutOfOrder = codes "address out of order"
 refusal_text refusal.PartialRune = codes "partial rune"
+refusal_text refusal.NoFileName = codes "no file name"
+refusal_text refusal.BadEvent = codes "bad event"
+refusal_text refusal.NoSuchEvent = codes "no such event"
+refusal_text refusal.EventAlreadyWrittenBack = codes "event already written back"
 refusal_text refusal.NotServedYet = codes "not served yet"
 
 -- the reaction of a refusal: its text is answered, and nothing changes but what is said here

@@ -1,11 +1,13 @@
 //! What a message does, and what it is answered.
 
 ghost use Rattle.std.specs.Prelude.{◌≡◌};
-ghost use Rattle.core_fids.specs.Plainly.{does};
+ghost use Rattle.core_fids.specs.Plainly.{does, demands};
 
+use am_text::{Bytes, Items};
 use core_windows::Changes;
 use fid_table::Fid;
 use ninep_types::RBody;
+use std::alloc::Global;
 
 /// What a message does to the fids and the session of its connection.
 #[derive(Drop)]
@@ -41,12 +43,25 @@ pub enum Answer {
     Reads { fid: u32, opening: u32, count: u32 },
 }
 
-/// What a message does: to its connection, to event files, and to the windows; and its answer.
+/// What a message asks of the scene beyond changes of the windows.
+#[derive(Drop)]
+pub enum Demand {
+    /// Nothing.
+    Nothing,
+    /// The control messages of this text are done in this window.
+    Controls { window: u32, text: Bytes },
+    /// The item of this window that the text names is written back.
+    WriteBack { window: u32, text: Bytes },
+}
+
+/// What a message does: to its connection, to event files, and to the windows; what it asks of the scene besides; and its answer, which
+/// is given where what it asks isn't refused.
 #[derive(Drop)]
 pub struct Reaction {
     pub effect: Effect,
     pub events: EventChange,
     pub changes: Changes,
+    pub demand: Demand,
     pub answer: Answer,
 }
 
@@ -59,7 +74,21 @@ impl Reaction {
             effect,
             events: EventChange::Nothing,
             changes,
+            demand: Demand::Nothing,
             answer: Answer::Says(body),
+        }
+    }
+
+    /// What a message does that asks this of the scene, and is answered by the number of its bytes.
+    pub fn asking(alloc: Global, demand: Demand, count: u32) -> Reaction
+        ensures { result ≡ demands demand count }
+    {
+        Reaction {
+            effect: Effect::Nothing,
+            events: EventChange::Nothing,
+            changes: Items::new(alloc),
+            demand,
+            answer: Answer::Says(RBody::Write { count }),
         }
     }
 }

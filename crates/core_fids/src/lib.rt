@@ -17,7 +17,7 @@ pub use am_text::{Bytes, Items, NoMemory};
 pub use attaching::{attach, version};
 pub use content::{Content, content_of};
 pub use core_windows::{Change, Changes, Windows};
-pub use effect::{Answer, Effect, EventChange, Reaction};
+pub use effect::{Answer, Demand, Effect, EventChange, Reaction};
 pub use fids::{at_most_three, copy, holding, is_for_reading, is_for_writing};
 pub use freeing::{clunk, deny, remove};
 pub use listing::{Reading, read_dir, stat};

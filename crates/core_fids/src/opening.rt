@@ -11,7 +11,7 @@ ghost use Rattle.core_fids.specs.Done.{IsDone};
 ghost use Rattle.core_fids.specs.Opening.{mode_refusal, opening_refusal, content_refusal, opening_events, opening_of, first_refusal, open_refusal, is_file_of, has_open, or_false, open_below, sets_first, clears_limit, resets_addr, opening_changes, open_reaction};
 
 use crate::content::{Content, content_of};
-use crate::effect::{Answer, Effect, EventChange, Reaction};
+use crate::effect::{Answer, Demand, Effect, EventChange, Reaction};
 use crate::fids::{is_open, opened};
 use crate::refusal::{Fault, Refusal};
 use crate::server::Server;
@@ -268,6 +268,7 @@ pub fn open(alloc: Global, server: &Server, number: u32, mode: u8) -> Result<Rea
         },
         events: opening_events(content),
         changes: opening_changes(alloc, server.sessions, content)?,
+        demand: Demand::Nothing,
         answer: Answer::Says(RBody::Open {
             qid: qid_of(fid.node),
             iounit: 0,

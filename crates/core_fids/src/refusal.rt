@@ -71,6 +71,14 @@ pub enum Refusal {
     AddressOutOfOrder,
     /// What is written to `data` ends in an unfinished rune.
     PartialRune,
+    /// The window has no name, by which its text could be read or stored.
+    NoFileName,
+    /// What is written to an event file is no event message.
+    BadEvent,
+    /// No item that was taken fits what is written back.
+    NoSuchEvent,
+    /// The item that fits what is written back was written back before.
+    EventAlreadyWrittenBack,
     /// What isn't built yet.
     NotServedYet,
 }
@@ -126,6 +134,10 @@ pub(crate) fn refusal_text(refusal: Refusal) -> &'static [u8]
         Refusal::NoMatch => b"no match",
         Refusal::AddressOutOfOrder => b"address out of order",
         Refusal::PartialRune => b"partial rune",
+        Refusal::NoFileName => b"no file name",
+        Refusal::BadEvent => b"bad event",
+        Refusal::NoSuchEvent => b"no such event",
+        Refusal::EventAlreadyWrittenBack => b"event already written back",
         Refusal::NotServedYet => b"not served yet",
     }
 }

@@ -17,10 +17,10 @@ use Rattle.core_scene.specs.declared.deed.Entry.{Entry}
 use Rattle.core_scene.specs.declared.deed.Deed.{Deed}
 use Rattle.core_scene.specs.declared.deed.Deed.TheVariants as deed
 use Rattle.core_scene.specs.declared.scene.Scene.{Scene}
-use Rattle.core_scene.specs.Told.{told_in, told_if_any, teller_of}
+use Rattle.core_scene.specs.Told.{told_in, told_if_any, teller_of, deletes}
 
 -- all windows, the event files, the tree of files, the snarfed text, the requests, the rules and ports of the plumber, and the
--- items that the step has made so far
+-- items that the step has made so far, and the windows that it has deleted
 pub record SceneState : Type 0 where
   pub windows : List (Option Window)
   pub book : BookState
@@ -30,6 +30,7 @@ pub record SceneState : Type 0 where
   pub rules : RuleState
   pub ports : PortsState
   pub items : List WindowItem
+  pub deleted : List ℕ
 
 -- ---- one deed
 
@@ -38,7 +39,8 @@ abbrev pub items_told : Entry → SceneState → Change → List WindowItem
 items_told e s c = told_if_any s.book (teller_of c) (items_of s.windows e.origin c)
 
 abbrev pub done : Entry → SceneState → Deed → SceneState
-done e s (deed.Windows c) = record s { windows = changed e.at s.windows c; items = s.items ++ items_told e s c }
+done e s (deed.Windows c) =
+    record s { windows = changed e.at s.windows c; items = s.items ++ items_told e s c; deleted = s.deleted ++ deletes c }
 done e s (deed.Item w item) = record s { items = s.items ++ told_in s.book w (item ∷ []) }
 done e s (deed.Snarfs text) = record s { snarf = text }
 done e s (deed.Stores path bytes) = record s { files = after_file s.files path bytes }
@@ -87,11 +89,25 @@ pub record Did (e : Entry) (before after : SceneState) (deeds : List Deed) : Typ
 abbrev pub then_ : Entry → (SceneState → List Deed) → (SceneState → List Deed) → SceneState → List Deed
 then_ e f g s = f s ++ g (done_all e s (f s))
 
+-- the windows that deeds delete, in order
+abbrev pub deleted_by : List Deed → List ℕ
+deleted_by [] = []
+deleted_by (deed.Windows c ∷ ds) = deletes c ++ deleted_by ds
+deleted_by (deed.Item w item ∷ ds) = deleted_by ds
+deleted_by (deed.Snarfs text ∷ ds) = deleted_by ds
+deleted_by (deed.Stores path bytes ∷ ds) = deleted_by ds
+deleted_by (deed.MakesDir path ∷ ds) = deleted_by ds
+deleted_by (deed.Requests job ∷ ds) = deleted_by ds
+deleted_by (deed.AddsRules sets vars text ∷ ds) = deleted_by ds
+deleted_by (deed.ClearsRules ∷ ds) = deleted_by ds
+deleted_by (deed.AddsPort name ∷ ds) = deleted_by ds
+deleted_by (deed.Delivers port message keep ∷ ds) = deleted_by ds
+
 -- ---- two states
 
 -- nothing was ever made
 abbrev pub no_scene : SceneState
-no_scene = record { windows = []; book = empty_book; files = []; snarf = []; jobs = []; rules = no_rules; ports = beginning; items = [] }
+no_scene = record { windows = []; book = empty_book; files = []; snarf = []; jobs = []; rules = no_rules; ports = beginning; items = []; deleted = [] }
 
 -- the present state of a scene
 abbrev pub scene_of : Scene → SceneState
@@ -104,9 +120,10 @@ scene_of s = record {
   rules = s.rules.present;
   ports = s.ports.present;
   items = s.items;
+  deleted = s.deleted;
 }
 
--- its kept state, which has no items
+-- its kept state, which has no items and no deleted windows
 abbrev pub kept_of : Scene → SceneState
 kept_of s = record {
   windows = s.windows.kept;
@@ -117,9 +134,10 @@ kept_of s = record {
   rules = s.rules.kept;
   ports = s.ports.kept;
   items = [];
+  deleted = [];
 }
 
--- the scene that has this state as the present one and as the kept one, and no items
+-- the scene that has this state as the present one and as the kept one, with no items and no deleted windows
 abbrev pub scene_in : SceneState → Scene
 scene_in s = record {
   windows = both s.windows;
@@ -130,9 +148,10 @@ scene_in s = record {
   rules = both s.rules;
   ports = both s.ports;
   items = [];
+  deleted = [];
 }
 
--- the present state is the kept one, and there are no items
+-- the present state is the kept one, and there are no items and no deleted windows
 pub record IsSettled (s : Scene) : Type 0 where
   pub windows : IsSteady s.windows
   pub book : IsSteady s.book
@@ -142,3 +161,4 @@ pub record IsSettled (s : Scene) : Type 0 where
   pub rules : IsSteady s.rules
   pub ports : IsSteady s.ports
   pub items : s.items ≡ []
+  pub deleted : s.deleted ≡ []

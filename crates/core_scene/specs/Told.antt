@@ -1,5 +1,5 @@
 -- The items that a deed makes.
-use Rattle.std.specs.Prelude.{ℕ, List, [], map, Option, Some, None, if◌then◌else◌}
+use Rattle.std.specs.Prelude.{ℕ, List, [], ◌∷◌, map, Option, Some, None, if◌then◌else◌}
 use Rattle.win_events.specs.declared.item.Item.{Item}
 use Rattle.event_book.specs.BookState.{BookState, is_open_window}
 use Rattle.core_windows.specs.declared.change.Change.{Change}
@@ -26,3 +26,13 @@ teller_of (change.Adds w text) = Some w
 teller_of (change.Sets w setting) = Some w
 teller_of (change.Undoes w) = Some w
 teller_of (change.Redoes w) = Some w
+
+-- the window that a change deletes, if it deletes one
+abbrev pub deletes : Change → List ℕ
+deletes (change.Makes name) = []
+deletes (change.Deletes w) = w ∷ []
+deletes (change.Edits w edits) = []
+deletes (change.Adds w text) = []
+deletes (change.Sets w setting) = []
+deletes (change.Undoes w) = []
+deletes (change.Redoes w) = []

@@ -8,8 +8,8 @@ ghost use Rattle.core_scene.specs.Scenes.{can_add, no_scene, scene_in, scene_of,
 ghost use Rattle.core_scene.specs.declared.deed.Deed.TheVariants as deed;
 
 use crate::deed::{Deed, Deeds, Entry, WindowItems};
-use crate::told::{tell_change, tell_item};
-use am_text::{Bytes, Items, Job, NoMemory, Runes};
+use crate::told::{tell_change, tell_deletion, tell_item};
+use am_text::{Bytes, Ids, Items, Job, NoMemory, Runes};
 use core_stores::{Requests, RuleStore, Snarf};
 use core_windows::{Change, Windows};
 use event_book::Book;
@@ -19,7 +19,7 @@ use std::alloc::Global;
 use win_events::Item;
 
 /// What deeds are done to: the windows, the event files, the tree of files, the snarfed text, the requests, and the rules and
-/// ports of the plumber, each in two states, and the items that the step has made so far.
+/// ports of the plumber, each in two states, and the items that the step has made so far, and the windows that it has deleted.
 #[derive(Drop)]
 pub struct Scene {
     pub windows: Windows,
@@ -30,6 +30,7 @@ pub struct Scene {
     pub rules: RuleStore,
     pub ports: Ports,
     pub items: WindowItems,
+    pub deleted: Ids,
 }
 
 impl Scene {
@@ -46,6 +47,7 @@ impl Scene {
             rules: RuleStore::new(alloc),
             ports: Ports::new(alloc)?,
             items: Items::new(alloc),
+            deleted: Items::new(alloc),
         })
     }
 
@@ -94,6 +96,7 @@ impl Scene {
             entry.origin,
             &change,
         )?;
+        tell_deletion(&mut self.deleted, &change)?;
         self.windows.change(change, entry.at)
     }
 
@@ -177,7 +180,7 @@ impl Scene {
         Ok(())
     }
 
-    /// The present state becomes the kept one, and the items are let go. It takes no memory.
+    /// The present state becomes the kept one, and the items and the deleted windows are let go. It takes no memory.
     pub fn keep(&mut self, alloc: Global)
         ensures { self.new ≡ scene_in (scene_of self.old) }
     {
@@ -189,9 +192,10 @@ impl Scene {
         self.rules.keep();
         self.ports.keep();
         self.items = Items::new(alloc);
+        self.deleted = Items::new(alloc);
     }
 
-    /// The kept state becomes the present one again, and the items are let go. It takes no memory.
+    /// The kept state becomes the present one again, and the items and the deleted windows are let go. It takes no memory.
     pub fn back(&mut self, alloc: Global)
         ensures { self.new ≡ scene_in (kept_of self.old) }
     {
@@ -203,6 +207,7 @@ impl Scene {
         self.rules.back();
         self.ports.back();
         self.items = Items::new(alloc);
+        self.deleted = Items::new(alloc);
     }
 
     /// The items that the step has made so far, which are here no more. It takes no memory.
@@ -211,5 +216,13 @@ impl Scene {
         ensures scene { self.new ≡ record self.old { items = [] } }
     {
         std::mem::replace(&mut self.items, Items::new(alloc))
+    }
+
+    /// The windows that the step has deleted so far, in order, which are here no more. It takes no memory.
+    pub fn take_deleted(&mut self, alloc: Global) -> Ids
+        ensures taken { result ≡ self.old.deleted }
+        ensures scene { self.new ≡ record self.old { deleted = [] } }
+    {
+        std::mem::replace(&mut self.deleted, Items::new(alloc))
     }
 }

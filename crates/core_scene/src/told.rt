@@ -1,11 +1,12 @@
-//! The items that deeds make.
+//! The items that deeds make, and the windows that they delete.
 
 ghost use Rattle.std.specs.Prelude.{◌≡◌, ◌++◌, ◌∷◌, [], map, OnOk};
+ghost use Rattle.std.specs.Option.{option_to_list};
 ghost use Rattle.core_items.specs.NewItems.{items_of};
-ghost use Rattle.core_scene.specs.Told.{of_window, told_in, told_if_any, teller_of};
+ghost use Rattle.core_scene.specs.Told.{of_window, told_in, told_if_any, teller_of, deletes};
 
 use crate::deed::{WindowItem, WindowItems};
-use am_text::NoMemory;
+use am_text::{Ids, NoMemory};
 use core_items::{NewItems, items_of};
 use core_windows::{Change, Windows};
 use event_book::Book;
@@ -24,6 +25,32 @@ fn teller_of(change: &Change) -> Option<u32>
         Change::Sets { window, .. } => Some(*window),
         Change::Undoes { window } => Some(*window),
         Change::Redoes { window } => Some(*window),
+    }
+}
+
+// The window that a change deletes, if it deletes one.
+fn deleted_of(change: &Change) -> Option<u32>
+    ensures { option_to_list result ≡ deletes change.now }
+{
+    match change {
+        Change::Makes { .. } => None,
+        Change::Deletes { window } => Some(*window),
+        Change::Edits { .. } => None,
+        Change::Adds { .. } => None,
+        Change::Sets { .. } => None,
+        Change::Undoes { .. } => None,
+        Change::Redoes { .. } => None,
+    }
+}
+
+/// Puts the window that a change deletes at the end, if it deletes one.
+#[tactic(auto, using(crate::proofs::Joined::joined))]
+pub(crate) fn tell_deletion(deleted: &mut Ids, change: &Change) -> Result<(), NoMemory>
+    ensures { OnOk result (deleted.new ≡ deleted.old ++ deletes change.now) }
+{
+    match deleted_of(change) {
+        Some(window) => deleted.push(window),
+        None => Ok(()),
     }
 }
 

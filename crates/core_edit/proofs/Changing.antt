@@ -1,0 +1,31 @@
+-- The deeds of a plan can be done.
+use Rattle.std.proofs.Common.{◌≡◌, ℕ, List, [], ◌∷◌, ◌++◌, map, sym, subst}
+use Rattle.std.specs.Prelude.{IsSome}
+use Rattle.am_text.specs.declared.job.Job.{Job}
+use Rattle.edit_run.specs.declared.types.EditPlan.{EditPlan}
+use Rattle.core_windows.specs.Possible.{text_in}
+use Rattle.core_windows.specs.Windows.{window_at}
+use Rattle.core_windows.specs.declared.change.Change.TheVariants as change
+use Rattle.core_windows.specs.declared.change.Setting.TheVariants as setting
+use Rattle.core_windows.proofs.Steps.{edits_then_set}
+use Rattle.core_scene.specs.declared.deed.Deed.{Deed}
+use Rattle.core_scene.specs.declared.deed.Deed.TheVariants as deed
+use Rattle.core_scene.specs.declared.deed.Entry.{Entry}
+use Rattle.core_scene.specs.Scenes.{SceneState, done, CanDoAll}
+use Rattle.core_edit.specs.Plans.{IsPlanOf}
+use Rattle.core_edit.specs.Editing.{request_deeds, change_deeds}
+
+can_request : (e : Entry) (s : SceneState) (jobs : List Job) → CanDoAll e s (request_deeds jobs)
+can_request e s [] = tt
+can_request e s (job ∷ jobs) = (tt, can_request e (done e s (deed.Requests job)) jobs)
+
+can_change : (e : Entry) (w : ℕ) (plan : EditPlan) (s : SceneState) → IsSome (window_at s.windows w) → IsPlanOf (text_in (window_at s.windows w)) plan
+    → CanDoAll e s (change_deeds w plan s)
+can_change e w plan s lives sound =
+    let both = edits_then_set e.at w plan.edits (setting.Dot plan.dot) s.windows (record { lives = lives; range = sound.edits }) sound.dot in
+    let edited = done e s (deed.Windows (change.Edits w plan.edits)) in
+    (both.0, (both.1.0, can_request e (done e edited (deed.Windows (change.Sets w (setting.Dot plan.dot)))) plan.jobs))
+
+pub can_do : (e : Entry) (w : ℕ) (plan : EditPlan) (s : SceneState) (ds : List Deed) → IsSome (window_at s.windows w) → IsPlanOf (text_in (window_at s.windows w)) plan
+    → ds ≡ change_deeds w plan s → CanDoAll e s ds
+can_do e w plan s ds lives sound same = subst (CanDoAll e s) (sym same) (can_change e w plan s lives sound)

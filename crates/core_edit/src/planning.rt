@@ -1,0 +1,112 @@
+//! What a text of Edit is to make of a window's body.
+
+ghost use Rattle.std.specs.Prelude.{◌≡◌, Some, Ok, Err, IsSome, IfOk, IfErr};
+ghost use Rattle.edit_parts.specs.Tree.{command};
+ghost use Rattle.win_text.specs.Bodies.{AreInRange};
+ghost use Rattle.core_windows.specs.Panes.{window_of};
+ghost use Rattle.core_windows.specs.Possible.{text_in};
+ghost use Rattle.core_windows.specs.Windows.{window_at};
+ghost use Rattle.core_edit.specs.Plans.{site_of, fitting, plan_of, edit_plan, IsPlanOf, length_with, length_after};
+
+use crate::fault::{CommandFault, told};
+use am_text::{Letters, NoMemory, Rune, Runes};
+use core_scene::Windows;
+use core_windows::Pane;
+use edit_run::{Cmd, Edit, EditPlan, Site, changes};
+use edit_trees::read_edit;
+use std::alloc::Global;
+use win_text::Body;
+
+/// The most runes that a body may have.
+const RUNES: usize = 16_777_216;
+
+/// A plan, or the fault that is said.
+type Planned = Result<EditPlan, CommandFault>;
+
+// How many runes a text of so many runes has after an edit.
+fn length_with(size: usize, edit: &Edit) -> Result<usize, NoMemory>
+    ensures { IfOk result (λ n. n ≡ length_with size edit.now) }
+{
+    let left = size.saturating_sub(edit.q1.saturating_sub(edit.q0));
+    match left.checked_add(edit.text.len()) {
+        Some(len) => Ok(len),
+        None => Err(NoMemory),
+    }
+}
+
+// How many runes it has after edits.
+fn length_after(size: usize, edits: &[Edit]) -> Result<usize, NoMemory>
+    ensures { IfOk result (λ n. n ≡ length_after size edits.now) }
+{
+    let mut len = size;
+    let mut rest = edits;
+    while let [edit, after @ ..] = rest {
+        len = length_with(len, edit)?;
+        rest = after;
+    }
+    Ok(len)
+}
+
+// A plan of a body, if the body has room for what it makes.
+#[tactic(auto, using(crate::proofs::Lengths::lengths))]
+fn fitting(body: &Body, plan: EditPlan) -> Result<Planned, NoMemory>
+    requires { IsPlanOf body.now.state.text plan }
+    ensures plan { IfOk result (λ planned. IfOk planned (λ p. fitting body.now.state.text (Ok plan) ≡ Ok p)) }
+    ensures fault { IfOk result (λ planned. IfErr planned (λ f. fitting body.now.state.text (Ok plan) ≡ Err (Some f))) }
+    ensures sound { IfOk result (λ planned. IfOk planned (IsPlanOf body.now.state.text)) }
+{
+    let len = length_after(body.len(), plan.edits.as_slice())?;
+    if len <= RUNES {
+        Ok(Ok(plan))
+    } else {
+        Ok(Err(CommandFault::TextTooLong))
+    }
+}
+
+// Where the commands of a window are done.
+fn site_of(alloc: Global, window: u32, pane: &Pane) -> Result<Site, NoMemory>
+    ensures { IfOk result (λ site. site ≡ site_of window (Some (window_of pane.now))) }
+{
+    let name = Runes::copied(alloc, pane.name.as_slice())?;
+    Ok(Site {
+        window,
+        name,
+        dot: pane.body.dot(),
+    })
+}
+
+// What a command makes of a window's body.
+#[tactic(auto, using(crate::proofs::Lengths::ranges))]
+fn plan_of(alloc: Global, window: u32, pane: &Pane, cmd: &Cmd) -> Result<Planned, NoMemory>
+    ensures plan { IfOk result (λ planned. IfOk planned (λ p. plan_of (Some (command cmd.now)) pane.now.body.state.text (site_of window (Some (window_of pane.now))) ≡ Ok p)) }
+    ensures fault { IfOk result (λ planned. IfErr planned (λ f. plan_of (Some (command cmd.now)) pane.now.body.state.text (site_of window (Some (window_of pane.now))) ≡ Err (Some f))) }
+    ensures sound { IfOk result (λ planned. IfOk planned (IsPlanOf pane.now.body.state.text)) }
+{
+    pane.body.is_sound();
+    let site = site_of(alloc, window, pane)?;
+    match changes(alloc, cmd, &pane.body, &site) {
+        Ok(plan) => fitting(&pane.body, plan),
+        Err(fault) => Ok(Err(told(fault)?)),
+    }
+}
+
+/// What a text makes of a window's body as a command of Edit, or the fault that is said.
+pub(crate) fn edit_plan(
+    alloc: Global,
+    windows: &Windows,
+    window: u32,
+    text: &[Rune],
+) -> Result<Planned, NoMemory>
+    requires { IsSome (window_at windows.now.present window) }
+    ensures plan { IfOk result (λ planned. IfOk planned (λ p. edit_plan window (window_at windows.now.present window) text.now ≡ Ok p)) }
+    ensures fault { IfOk result (λ planned. IfErr planned (λ f. edit_plan window (window_at windows.now.present window) text.now ≡ Err (Some f))) }
+    ensures sound { IfOk result (λ planned. IfOk planned (IsPlanOf (text_in (window_at windows.now.present window)))) }
+{
+    let Some(cmd) = read_edit(alloc, text)? else {
+        return Ok(Err(CommandFault::BadCommand));
+    };
+    match windows.get(window) {
+        Some(pane) => plan_of(alloc, window, pane, &cmd),
+        None => unreachable!(),
+    }
+}
