@@ -9,7 +9,7 @@ use Rattle.core_events.specs.declared.response.Response.{Response}
 use Rattle.core_outputs.specs.declared.reply.Reply.{Reply}
 use Rattle.core_outputs.specs.Unsent.{Unsent}
 use Rattle.acme_core.specs.declared.connection.Connection.{Connection}
-use Rattle.acme_core.specs.declared.doing.Doing.{Doing}
+use Rattle.acme_core.specs.Doings.{Doing}
 use Rattle.acme_core.specs.declared.kind.Kind.{Kind}
 use Rattle.acme_core.specs.declared.parts.Parts.{Parts}
 use Rattle.acme_core.specs.declared.prepared.Prepared.{Prepared}

@@ -21,12 +21,11 @@ use Rattle.core_events.specs.Sound.{IsSound, IsIdle}
 use Rattle.core_events.specs.Waits.{deleted_by}
 use Rattle.core_events.proofs.Idles.{AreIdle, IsKept, read_idle, open_idle, living_kept, served_idle, ending_idle, all_freed_idle, freed_idle, cancelled_idle, closed_idle, idle_for, idle_from, empty_idle, idle_end}
 use Rattle.core_events.proofs.Turns.{all_none, book_all_none}
-use Rattle.acme_core.specs.declared.doing.Doing.{Doing}
 use Rattle.acme_core.specs.declared.kind.Kind.{Kind}
 use Rattle.acme_core.specs.declared.kind.Kind.TheVariants as kind
 use Rattle.acme_core.specs.Stages.{asker_of, answer_book, message_book, acted, with_fid, grown_tables, read_book, put_book, grown_book, left_book, book_after}
 use Rattle.acme_core.specs.States.{Present, State, present, start, next_entry}
-use Rattle.acme_core.specs.Doings.{doing_of}
+use Rattle.acme_core.specs.Doings.{Doing, doing_of}
 use Rattle.acme_core.specs.Kinds.{kind_of}
 use Rattle.acme_core.specs.Run.{step, run}
 

@@ -11,8 +11,7 @@ use Rattle.core_scene.specs.Changing.{deeds_of}
 use Rattle.core_scene.specs.Scenes.{SceneState, scene_of, kept_of, IsSettled, CanDoAll}
 use Rattle.core_scene.proofs.Possible.{can_deeds}
 use Rattle.core_scene.proofs.Settled.{settled_is}
-use Rattle.acme_core.specs.declared.doing.Doing.{Doing}
-use Rattle.acme_core.specs.Doings.{changing, CanBeDone}
+use Rattle.acme_core.specs.Doings.{Doing, changing, CanBeDone}
 use Rattle.acme_core.specs.States.{Present, next_entry}
 
 pub can_now : (e : Entry) (x : Scene) (ds : List Deed) → IsSettled x → CanDoAll e (kept_of x) ds → CanDoAll e (scene_of x) ds

@@ -4,22 +4,23 @@
 mod asking;
 mod closing;
 mod connection;
-mod doing;
 mod editor;
 mod enabled;
 mod growing;
+mod intent;
 mod kind;
 mod laws;
 mod origin;
 mod parts;
 mod planning;
 mod prepared;
+mod spot;
 mod typing;
 mod view;
 
 pub use am_counter::Ask;
 pub use am_journal::{
-    ConnView, ConnViews, Event, ItemView, ItemViews, Journal, Refused, Side, View, Why, WindowView,
+    ConnView, ConnViews, Event, ItemView, ItemViews, Journal, Refused, Side, Spot, View, Why, WindowView,
     WindowViews,
 };
 pub use am_text::{Bytes, Items, NoMemory, Range, Rune, Runes};

@@ -13,11 +13,10 @@ use Rattle.core_events.specs.declared.response.Response.{Response}
 use Rattle.core_events.specs.Asking.{read_said}
 use Rattle.core_events.specs.Closing.{freed, cancelled, opening_in}
 use Rattle.core_events.specs.Waits.{deleted_by, ended}
-use Rattle.acme_core.specs.declared.doing.Doing.{Doing}
 use Rattle.acme_core.specs.Connections.{grown_with, ended_with}
 use Rattle.acme_core.specs.declared.kind.Kind.{Kind}
 use Rattle.acme_core.specs.declared.kind.Kind.TheVariants as kind
-use Rattle.acme_core.specs.Doings.{doing_of}
+use Rattle.acme_core.specs.Doings.{Doing, doing_of}
 use Rattle.acme_core.specs.Kinds.{kind_of}
 use Rattle.acme_core.specs.Run.{step, run, enabled}
 use Rattle.acme_core.specs.Stages.{asker_of, answer_book, answer_tables, grown_tables, grown_book, read_book, left_book, ended_tables, book_after, said}

@@ -35,12 +35,11 @@ use Rattle.core_events.specs.Serving.{book_served_all}
 use Rattle.core_events.specs.Waits.{deleted_by, ended, without_cancelled}
 use Rattle.acme_core.specs.declared.connection.Connection.{Connection}
 use Rattle.acme_core.specs.declared.connection.Connection.TheVariants.{Undialed, Live, Ended}
-use Rattle.acme_core.specs.declared.doing.Doing.{Doing}
 use Rattle.acme_core.specs.declared.kind.Kind.{Kind}
 use Rattle.acme_core.specs.declared.kind.Kind.TheVariants as kind
 use Rattle.acme_core.specs.Connections.{connection_at, connections_after, is_live, grown_with, ended_with}
 use Rattle.acme_core.specs.Kinds.{kind_of}
-use Rattle.acme_core.specs.Doings.{enabled_at, reaction_at, doing_of}
+use Rattle.acme_core.specs.Doings.{Doing, enabled_at, reaction_at, doing_of}
 use Rattle.acme_core.specs.Enabled.{first_why, live_refusal}
 use Rattle.acme_core.specs.Run.{step, run, enabled}
 use Rattle.acme_core.specs.Stages.{asker_of, answer_book, answer_tables, acted, grown_tables, read_book, put_book, grown_book, left_book, ended_tables, tables_after, book_after, said}
