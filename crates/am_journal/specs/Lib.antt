@@ -1,3 +1,4 @@
+pub mod Paths
 pub mod Lawful
 pub mod Hexadecimal
 pub mod Parts

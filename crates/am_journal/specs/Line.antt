@@ -15,8 +15,10 @@ use Rattle.am_journal.specs.declared.event.Event.{Event}
 use Rattle.am_journal.specs.declared.event.Event.TheVariants as event
 use Rattle.am_journal.specs.declared.event.Side.{Side}
 use Rattle.am_journal.specs.declared.event.Side.TheVariants as side
+use Rattle.am_journal.specs.declared.event.Spot.{Spot}
 use Rattle.am_journal.specs.Hexadecimal.{hex_of, bytes_of_hex}
 use Rattle.am_journal.specs.Parts.{around}
+use Rattle.am_journal.specs.Paths.{is_path_text}
 use Rattle.am_journal.specs.declared.ending.Ending.{Ending}
 use Rattle.am_journal.specs.Causes.{cause, ending_of}
 
@@ -49,6 +51,26 @@ key_line w on text = around (codes "key ") w (32 ∷ []) ++ (side_word on ++ 32 
 unfoldable pub sel_line : ℕ → Range → List ℕ
 sel_line w range = around (codes "sel ") w (32 ∷ []) ++ (around [] range.q0 (32 ∷ []) ++ decimal range.q1)
 
+-- `W SIDE Q0 Q1`
+unfoldable pub spot_words : Spot → List ℕ
+spot_words at = decimal at.window ++ 32 ∷ (side_word at.side ++ 32 ∷ (decimal at.range.q0 ++ 32 ∷ decimal at.range.q1))
+
+unfoldable pub exec_line : Spot → List ℕ
+exec_line at = codes "exec " ++ spot_words at
+
+unfoldable pub arg_line : Spot → Spot → List ℕ
+arg_line at chord = codes "arg " ++ (spot_words at ++ 32 ∷ spot_words chord)
+
+unfoldable pub look_line : Spot → List ℕ
+look_line at = codes "look " ++ spot_words at
+
+-- `file PATH :TEXT`
+unfoldable pub file_line : List ℕ → List ℕ → List ℕ
+file_line path text = codes "file " ++ (path ++ 32 ∷ 58 ∷ flat_map escaped text)
+
+unfoldable pub dir_line : List ℕ → List ℕ
+dir_line path = codes "dir " ++ path
+
 -- the line of an event, without its newline
 abbrev pub line_text : Event → List ℕ
 line_text (event.Dial c) = dial_line c
@@ -58,6 +80,11 @@ line_text (event.Took c) = took_line c
 line_text event.New = new_line
 line_text (event.Key w on text) = key_line w on text
 line_text (event.Sel w range) = sel_line w range
+line_text (event.Exec at) = exec_line at
+line_text (event.Arg at chord) = arg_line at chord
+line_text (event.Look at) = look_line at
+line_text (event.File path text) = file_line path text
+line_text (event.Dir path) = dir_line path
 
 -- ---- reading
 
@@ -159,6 +186,67 @@ sel_from (Some w) (Some range) = Some (event.Sel w range)
 abbrev pub sel_at : List ℕ → Option Event
 sel_at bs = sel_from (window_at (first_field bs)) (range_at (after_field bs))
 
+-- a range of one of a window's texts
+abbrev pub spot_from : Option ℕ → Option Side → Option Range → Option Spot
+spot_from None on range = None
+spot_from (Some w) None range = None
+spot_from (Some w) (Some on) None = None
+spot_from (Some w) (Some on) (Some range) = Some (record { window = w; side = on; range = range })
+
+-- the one that the bytes spell
+abbrev pub spot_at : List ℕ → Option Spot
+spot_at bs = spot_from (window_at (first_field bs)) (side_of (first_field (after_field bs))) (range_at (after_field (after_field bs)))
+
+-- the one that the first four fields spell, and the bytes after these
+abbrev pub first_spot : List ℕ → Option Spot
+first_spot bs = let ends = after_field (after_field bs) in
+    spot_from (window_at (first_field bs)) (side_of (first_field (after_field bs)))
+    (range_from (number_of (first_field ends)) (number_of (first_field (after_field ends))))
+
+abbrev pub after_spot : List ℕ → List ℕ
+after_spot bs = after_field (after_field (after_field (after_field bs)))
+
+abbrev pub exec_from : Option Spot → Option Event
+exec_from None = None
+exec_from (Some at) = Some (event.Exec at)
+
+abbrev pub exec_at : List ℕ → Option Event
+exec_at bs = exec_from (spot_at bs)
+
+abbrev pub arg_from : Option Spot → Option Spot → Option Event
+arg_from None chord = None
+arg_from (Some at) None = None
+arg_from (Some at) (Some chord) = Some (event.Arg at chord)
+
+abbrev pub arg_at : List ℕ → Option Event
+arg_at bs = arg_from (first_spot bs) (spot_at (after_spot bs))
+
+abbrev pub look_from : Option Spot → Option Event
+look_from None = None
+look_from (Some at) = Some (event.Look at)
+
+abbrev pub look_at : List ℕ → Option Event
+look_at bs = look_from (spot_at bs)
+
+-- the path of a file or a directory below `/`
+abbrev pub path_at : List ℕ → Option (List ℕ)
+path_at bs = if is_path_text bs then Some bs else None
+
+abbrev pub file_from : Option (List ℕ) → Option (List ℕ) → Option Event
+file_from None text = None
+file_from (Some path) None = None
+file_from (Some path) (Some text) = Some (event.File path text)
+
+abbrev pub file_at : List ℕ → Option Event
+file_at bs = file_from (path_at (first_field bs)) (text_of (after_field bs))
+
+abbrev pub dir_from : Option (List ℕ) → Option Event
+dir_from None = None
+dir_from (Some path) = Some (event.Dir path)
+
+abbrev pub dir_at : List ℕ → Option Event
+dir_at bs = dir_from (path_at bs)
+
 -- the bytes after a front, if they begin so
 abbrev pub after_front : List ℕ → List ℕ → Option (List ℕ)
 after_front [] bs = Some bs
@@ -170,12 +258,21 @@ abbrev pub with_front : Option (List ℕ) → (List ℕ → Option Event) → Op
 with_front None read others = others
 with_front (Some rest) read others = read rest
 
-abbrev pub read_by : List (List ℕ × (List ℕ → Option Event)) → List ℕ → Option Event
-read_by [] bs = None
-read_by (r ∷ rs) bs = with_front (after_front r.0 bs) r.1 (read_by rs bs)
+-- with none of the fronts, the others read the bytes
+abbrev pub read_by : List (List ℕ × (List ℕ → Option Event)) → (List ℕ → Option Event) → List ℕ → Option Event
+read_by [] others bs = others bs
+read_by (r ∷ rs) others bs = with_front (after_front r.0 bs) r.1 (read_by rs others bs)
+
+abbrev pub none_at : List ℕ → Option Event
+none_at bs = None
+
+-- the event of a line that acts on a text of a window, or that stores a file or makes a directory
+unfoldable pub action_of : List ℕ → Option Event
+action_of bs =
+    read_by ((codes "exec ", exec_at) ∷ (codes "arg ", arg_at) ∷ (codes "look ", look_at) ∷ (codes "file ", file_at) ∷ (codes "dir ", dir_at) ∷ []) none_at bs
 
 -- the event of a line without its newline, if it is in the grammar
 unfoldable pub event_of : List ℕ → Option Event
 event_of bs =
     read_by ((codes "dial ", dial_at) ∷ (codes "msg ", msg_at) ∷ (codes "hang ", hang_at) ∷ (codes "took ", took_at)
-    ∷ (codes "new", new_at) ∷ (codes "key ", key_at) ∷ (codes "sel ", sel_at) ∷ []) bs
+    ∷ (codes "new", new_at) ∷ (codes "key ", key_at) ∷ (codes "sel ", sel_at) ∷ []) action_of bs

@@ -4,7 +4,7 @@ ghost use Rattle.std.specs.Prelude.{◌≡◌};
 ghost use Rattle.am_journal.specs.declared.event.Refused.TheVariants.{NoMemory};
 
 use crate::ending::Ending;
-use am_text::{Items, Range, Runes};
+use am_text::{Bytes, Items, Range, Runes};
 use ninep_types::TMsg;
 use std::alloc::{AllocError, AllocFailed};
 
@@ -13,6 +13,14 @@ use std::alloc::{AllocError, AllocFailed};
 pub enum Side {
     Tag,
     Body,
+}
+
+/// A range of one of a window's texts.
+#[derive(Clone, Copy, Debug, PartialEq, Eq)]
+pub struct Spot {
+    pub window: u32,
+    pub side: Side,
+    pub range: Range,
 }
 
 /// What the editor takes one at a time. A transcript has a line for each.
@@ -49,6 +57,28 @@ pub enum Event {
         window: u32,
         range: Range,
     },
+    /// A text of a window is executed.
+    Exec {
+        at: Spot,
+    },
+    /// A text of a window is executed with another text, of the same window or of another.
+    Arg {
+        at: Spot,
+        chord: Spot,
+    },
+    /// A text of a window is looked for.
+    Look {
+        at: Spot,
+    },
+    /// A file is stored in the tree of files.
+    File {
+        path: Bytes,
+        text: Runes,
+    },
+    /// A directory is made in the tree of files.
+    Dir {
+        path: Bytes,
+    },
 }
 
 /// All events that were done, in their order. Entries are numbered from 1.
@@ -73,12 +103,14 @@ pub enum Why {
     Nothing,
     /// There is no live window with this number.
     Window,
-    /// The range isn't in the body.
+    /// The range isn't in the text.
     Range,
     /// No more windows can be made.
     Windows,
     /// The text would be too long.
     Length,
+    /// A file stands where a directory is wanted, or a directory where a file is.
+    Tree,
 }
 
 /// Why an event isn't done.

@@ -1,7 +1,8 @@
 //! Fields of a line.
 
 ghost use Rattle.std.specs.Prelude.{◌≡◌, ◌<◌, ◌++◌, OnOk, IfOk, IfSome, option_copied};
-ghost use Rattle.am_journal.specs.Line.{after_front, conn_at, first_field, after_field, window_at, side_word, side_of, text_of, range_at};
+ghost use Rattle.am_journal.specs.Line.{after_front, conn_at, first_field, after_field, window_at, side_word, side_of, text_of, range_from, range_at};
+ghost use Rattle.am_text.specs.Number.{number_of};
 ghost use Rattle.am_journal.specs.Parts.{around};
 
 use crate::event::Side;
@@ -96,11 +97,10 @@ pub(crate) fn text_of(alloc: Global, bytes: &[u8]) -> Result<Option<Runes>, NoMe
     }
 }
 
-/// The range between two numbers, with a blank between them.
-pub(crate) fn range_of(bytes: &[u8]) -> Option<Range>
-    ensures { result ≡ range_at bytes.now }
+/// The range from one number to another, which isn't less.
+pub(crate) fn range_between(first: &[u8], second: &[u8]) -> Option<Range>
+    ensures { result ≡ range_from (number_of first.now) (number_of second.now) }
 {
-    let (first, second) = cut_field(bytes);
     let q0 = read_decimal(first)?;
     let q1 = read_decimal(second)?;
     if q1 < q0 {
@@ -110,6 +110,14 @@ pub(crate) fn range_of(bytes: &[u8]) -> Option<Range>
         q0: q0 as usize,
         q1: q1 as usize,
     })
+}
+
+/// The range between two numbers, with a blank between them.
+pub(crate) fn range_of(bytes: &[u8]) -> Option<Range>
+    ensures { result ≡ range_at bytes.now }
+{
+    let (first, second) = cut_field(bytes);
+    range_between(first, second)
 }
 
 /// Puts a number between two texts at the end.

@@ -1,6 +1,7 @@
 //! The events of the editor, the lines of a transcript, and the report.
 #![tactic(auto)]
 
+mod actions;
 mod causes;
 mod ending;
 mod event;
@@ -8,13 +9,15 @@ mod fields;
 mod hexadecimal;
 mod journal;
 mod lines;
+mod paths;
 mod replies;
 mod reporting;
+mod spots;
 mod view;
 
 pub use am_text::{Bytes, Items, Job, JobKind, Jobs, NoMemory, Range, Runes};
 pub use ending::{Bad, Ending};
-pub use event::{Event, Journal, Refused, Side, Why};
+pub use event::{Event, Journal, Refused, Side, Spot, Why};
 pub use journal::journal_law;
 pub use lines::{line_law, read_line, write_line};
 pub use ninep_types::{TBody, TMsg, WireError, WireFault};

@@ -6,6 +6,7 @@ ghost use Rattle.am_journal.specs.declared.event.Event.{Event};
 ghost use Rattle.am_journal.specs.Lawful.{IsLawful, IsInRange};
 ghost use Rattle.am_journal.specs.Line.{dial_at, dial_line, msg_at, msg_line, hang_at, hang_line, took_at, took_line, new_at, new_line, key_at, key_line, sel_at, sel_line, line_text, event_of};
 
+use crate::actions::{action_in, arg_text, dir_text, exec_text, file_text, look_text};
 use crate::causes::{ending_of, put_cause};
 use crate::ending::Ending;
 use crate::event::{Event, Side};
@@ -128,7 +129,7 @@ fn event_in(alloc: Global, line: &[u8]) -> Result<Option<Event>, NoMemory>
     if let Some(rest) = after_front(b"sel ", line) {
         return Ok(sel_of(rest));
     }
-    Ok(None)
+    action_in(alloc, line)
 }
 
 /// The event that a line without its newline spells. There is none where no lawful event is spelled so.
@@ -226,6 +227,11 @@ fn line_of(alloc: Global, event: &Event) -> Result<Bytes, NoMemory>
         Event::New => new_text(alloc),
         Event::Key { window, side, text } => key_text(alloc, *window, *side, text.as_slice()),
         Event::Sel { window, range } => sel_text(alloc, *window, *range),
+        Event::Exec { at } => exec_text(alloc, *at),
+        Event::Arg { at, chord } => arg_text(alloc, *at, *chord),
+        Event::Look { at } => look_text(alloc, *at),
+        Event::File { path, text } => file_text(alloc, path.as_slice(), text.as_slice()),
+        Event::Dir { path } => dir_text(alloc, path.as_slice()),
     }
 }
 

@@ -50,5 +50,6 @@ pub fn word(why: Why) -> &'static [u8]
         Why::Range => b"range",
         Why::Windows => b"windows",
         Why::Length => b"length",
+        Why::Tree => b"tree",
     }
 }

@@ -24,5 +24,5 @@ pub use files::{Saved, file_text, get, put};
 pub use laws::moves_are_linked;
 pub use looking::{find, look, look_target, search};
 pub use opening::{Target, new_window, open, target_of};
-pub use seen::{dir_at, dot_text_at, name_at};
+pub use seen::{asks, dir_at, dot_text_at, name_at};
 pub use undoing::{Move, move_groups};

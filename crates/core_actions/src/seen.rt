@@ -40,8 +40,9 @@ fn is_guarded(name: &[Rune]) -> bool
     !name.is_empty() && !is_dir_name(name) && !name.ends_with(&ERRORS)
 }
 
-/// Whether a window is modified, and its name is one that Del asks for.
-pub(crate) fn asks(windows: &Windows, window: u32) -> bool
+/// Whether a window is modified, and its name is one that `del` and Del ask of: not an empty one, a directory's, or one of an errors
+/// window.
+pub fn asks(windows: &Windows, window: u32) -> bool
     ensures { result ≡ asks (window_at windows.now.present window) }
 {
     match windows.get(window) {

@@ -10,7 +10,7 @@ use Rattle.core_scene.specs.declared.deed.Deed.{Deed}
 use Rattle.core_scene.specs.declared.deed.Deed.TheVariants as deed
 use Rattle.core_scene.specs.Scenes.{SceneState}
 use Rattle.core_actions.specs.Looking.{look_target, look_deeds}
-use Rattle.core_exec.specs.declared.click.Spot.{Spot}
+use Rattle.am_journal.specs.declared.event.Spot.{Spot}
 use Rattle.core_exec.specs.declared.click.Clicked.{Clicked}
 use Rattle.core_exec.specs.Clicks.{clicked_at, own_text, argument_if_any, text_if_any, exec_item, look_item}
 use Rattle.core_exec.specs.Executing.{exec_deeds}

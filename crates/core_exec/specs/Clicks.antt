@@ -19,7 +19,7 @@ use Rattle.win_events.specs.declared.item.Item.{Item}
 use Rattle.win_events.specs.declared.item.Origin.TheVariants as origin
 use Rattle.win_events.specs.declared.item.Sort.{Sort}
 use Rattle.win_events.specs.declared.item.Sort.TheVariants as sort
-use Rattle.core_exec.specs.declared.click.Spot.{Spot}
+use Rattle.am_journal.specs.declared.event.Spot.{Spot}
 use Rattle.core_exec.specs.declared.click.Clicked.{Clicked}
 
 -- ---- texts of windows

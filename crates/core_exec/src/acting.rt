@@ -8,10 +8,11 @@ ghost use Rattle.core_actions.specs.Looking.{look_target};
 ghost use Rattle.core_exec.specs.Clicks.{IsSpot, own_text, text_if_any, look_item};
 ghost use Rattle.core_exec.specs.Acting.{exec_click, exec_at_deeds, looks, look_click, look_at_deeds, action_of, act_on_deeds};
 
-use crate::click::{Clicked, Spot, argument_if_any, clicked_at, own_text};
+use crate::click::{Clicked, argument_if_any, clicked_at, own_text};
 use crate::items::{exec_item, look_item};
 use crate::running::{Executed, exec};
 use acme_cmd::Click;
+use am_journal::Spot;
 use am_text::{NoMemory, Runes};
 use core_actions::{look, look_target};
 use core_scene::{Deed, Entry, Scene};

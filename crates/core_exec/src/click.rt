@@ -9,7 +9,7 @@ ghost use Rattle.core_exec.specs.Clicks.{side_text, part_of, IsSpot, clicked, cl
 
 use crate::words::put_words;
 use acme_cmd::{Click, expand};
-use am_journal::Side;
+use am_journal::{Side, Spot};
 use am_text::{NoMemory, Range, Rune, Runes, decimal};
 use core_actions::name_at;
 use core_scene::Windows;
@@ -17,14 +17,6 @@ use core_windows::Pane;
 use std::alloc::Global;
 use win_ctl::{Shown, Tag, tag_text};
 use win_text::Body;
-
-/// A range of one of a window's texts.
-#[derive(Clone, Copy, Debug, PartialEq, Eq)]
-pub struct Spot {
-    pub window: u32,
-    pub side: Side,
-    pub range: Range,
-}
 
 /// What a click stands for: the text of its range, and where that is null, the range and the text that it is expanded to.
 #[derive(Drop)]

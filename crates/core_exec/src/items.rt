@@ -4,9 +4,9 @@ ghost use Rattle.std.specs.Prelude.{◌≡◌, IfOk};
 ghost use Rattle.acme_cmd.specs.Commands.{classified};
 ghost use Rattle.core_exec.specs.Clicks.{exec_sort, look_sort, flag_if, is_builtin, exec_flag, exec_item, target_flag, look_item};
 
-use crate::click::{Clicked, Spot, own_text};
+use crate::click::{Clicked, own_text};
 use acme_cmd::{Command, classify};
-use am_journal::Side;
+use am_journal::{Side, Spot};
 use am_text::Runes;
 use core_actions::Target;
 use win_events::{Item, Origin, Sort};

@@ -12,5 +12,5 @@ mod running;
 mod words;
 
 pub use acting::{act_on, exec_at, look_at};
-pub use am_journal::Side;
-pub use click::{Clicked, Spot};
+pub use am_journal::{Side, Spot};
+pub use click::Clicked;

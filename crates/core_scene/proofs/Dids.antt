@@ -1,6 +1,8 @@
 -- Deeds, one list after another.
-use Rattle.std.proofs.Common.{◌≡◌, List, [], ◌∷◌, ◌++◌, Option, refl, sym, ap, subst, ◌∙◌, append_assoc}
+use Rattle.std.proofs.Common.{◌≡◌, List, [], ◌∷◌, ◌++◌, Option, refl, sym, ap, ap₂, subst, ◌∙◌, append_assoc}
 use Rattle.std.proofs.lemmas.List.{append-nil}
+use Rattle.am_text.specs.Twice.{Twice}
+use Rattle.event_book.specs.BookState.{BookState}
 use Rattle.core_windows.specs.Windows.{Window, all_changed}
 use Rattle.core_windows.specs.Possible.{CanChangeAll}
 use Rattle.core_windows.specs.Stories.{shown_windows}
@@ -9,7 +11,8 @@ use Rattle.core_scene.specs.declared.deed.Deed.{Deed}
 use Rattle.core_scene.specs.declared.deed.Deed.TheVariants as deed
 use Rattle.core_scene.specs.declared.deed.Entry.{Entry}
 use Rattle.core_scene.specs.Told.{deletes}
-use Rattle.core_scene.specs.Scenes.{SceneState, done, done_all, CanDoAll, Did, deleted_by}
+use Rattle.core_scene.specs.declared.scene.Scene.{Scene}
+use Rattle.core_scene.specs.Scenes.{SceneState, done, done_all, CanDoAll, Did, deleted_by, scene_of, kept_of}
 use Rattle.core_scene.specs.SceneLaws.{DeedsJoin, DeedsShow, changes_in}
 
 pub done_all-append : (e : Entry) (s : SceneState) (xs ys : List Deed) → done_all e s (xs ++ ys) ≡ done_all e (done_all e s xs) ys
@@ -89,3 +92,25 @@ deleted_done e s (deed.AddsRules sets vars text ∷ ds) = deleted_done e (done e
 deleted_done e s (deed.ClearsRules ∷ ds) = deleted_done e (done e s deed.ClearsRules) ds
 deleted_done e s (deed.AddsPort name ∷ ds) = deleted_done e (done e s (deed.AddsPort name)) ds
 deleted_done e s (deed.Delivers port message keep ∷ ds) = deleted_done e (done e s (deed.Delivers port message keep)) ds
+
+-- ---- the event files, which no deed changes
+
+book_done : (e : Entry) (s : SceneState) (ds : List Deed) → (done_all e s ds).book ≡ s.book
+book_done e s [] = refl
+book_done e s (deed.Windows c ∷ ds) = book_done e (done e s (deed.Windows c)) ds
+book_done e s (deed.Item w item ∷ ds) = book_done e (done e s (deed.Item w item)) ds
+book_done e s (deed.Snarfs text ∷ ds) = book_done e (done e s (deed.Snarfs text)) ds
+book_done e s (deed.Stores path bytes ∷ ds) = book_done e (done e s (deed.Stores path bytes)) ds
+book_done e s (deed.MakesDir path ∷ ds) = book_done e (done e s (deed.MakesDir path)) ds
+book_done e s (deed.Requests job ∷ ds) = book_done e (done e s (deed.Requests job)) ds
+book_done e s (deed.AddsRules sets vars text ∷ ds) = book_done e (done e s (deed.AddsRules sets vars text)) ds
+book_done e s (deed.ClearsRules ∷ ds) = book_done e (done e s deed.ClearsRules) ds
+book_done e s (deed.AddsPort name ∷ ds) = book_done e (done e s (deed.AddsPort name)) ds
+book_done e s (deed.Delivers port message keep ∷ ds) = book_done e (done e s (deed.Delivers port message keep)) ds
+
+twice_same : (a b : Twice BookState) → a.present ≡ b.present → a.kept ≡ b.kept → a ≡ b
+twice_same a b h k = ap₂ (λ (x y : BookState). record { present = x; kept = y }) h k
+
+pub book_stays : {e : Entry} {a b : Scene} {ds : List Deed} → Did e (scene_of a) (scene_of b) ds → kept_of b ≡ kept_of a → b.book ≡ a.book
+book_stays {e} {a} {b} {ds} did kept =
+    twice_same b.book a.book (ap (λ (s : SceneState). s.book) did.made ∙ book_done e (scene_of a) ds) (ap (λ (s : SceneState). s.book) kept)
