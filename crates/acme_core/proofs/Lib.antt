@@ -9,6 +9,8 @@ pub mod Viewed
 pub mod Typed
 pub mod Connected
 pub mod Moved
+pub mod Meant
+pub mod Tagged
 pub mod Kinded
 pub mod Idling
 pub mod Applied

@@ -16,6 +16,7 @@ use Rattle.core_windows.specs.Windows.{window_at, world_of}
 use Rattle.core_fids.specs.declared.effect.Effect.{Effect}
 use Rattle.core_fids.specs.declared.effect.EventChange.{EventChange}
 use Rattle.core_fids.specs.declared.effect.Answer.{Answer}
+use Rattle.core_fids.specs.declared.effect.Reaction.{Reaction}
 use Rattle.core_fids.specs.Done.{HasSpelling}
 use Rattle.core_events.specs.declared.closing.BackItem.{BackItem}
 use Rattle.core_scene.specs.declared.deed.Deed.{Deed}
@@ -25,7 +26,7 @@ use Rattle.core_tasks.specs.Tasks.{task_deeds, task_refusal, CanDoTask}
 use Rattle.acme_core.specs.declared.intent.Intent.{Intent}
 use Rattle.acme_core.specs.Connections.{connection_at}
 use Rattle.acme_core.specs.Enabled.{dial_refusal, live_refusal, msg_refusal, took_refusal, new_refusal, tree_refusal}
-use Rattle.acme_core.specs.Intents.{answer_or, intent_of}
+use Rattle.acme_core.specs.Intents.{answer_or, message_intent, intent_of}
 use Rattle.acme_core.specs.Spots.{spot_refusal, arg_refusal}
 use Rattle.acme_core.specs.States.{Present, unsent_count, next_entry}
 use Rattle.acme_core.specs.Typing.{key_refusal, sel_refusal}
@@ -82,6 +83,10 @@ resolved s i = record {
   answer = answer_or (task_refusal (entry_by s i.origin) i.task s.scene) i.answer;
   back = i.back;
 }
+
+-- a message, by its reaction
+abbrev pub message_doing : Present → Reaction → Origin → Doing
+message_doing s d origin = resolved s (message_intent s.scene.book d origin)
 
 abbrev pub doing_of : Present → Event → Doing
 doing_of s e = resolved s (intent_of s e)

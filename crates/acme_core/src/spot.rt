@@ -34,6 +34,7 @@ fn is_in(place: usize, first: usize, words: usize, last: usize) -> bool
 }
 
 // Whether a place lies in the whole text of the tag, or at its end.
+#[tactic(auto, using(crate::proofs::Tagged::tag_place))]
 fn is_in_tag(pane: &Pane, place: usize) -> bool
     ensures { result ≡ nat_le place (length (side_text (Some (window_of pane.now)) Side.Tag)) }
 {

@@ -95,6 +95,11 @@ still_ended s (event.Took c) conn allowed ended = ended
 still_ended s event.New conn allowed ended = ended
 still_ended s (event.Key w side text) conn allowed ended = ended
 still_ended s (event.Sel w range) conn allowed ended = ended
+still_ended s (event.Exec at) conn allowed ended = ended
+still_ended s (event.Arg at chord) conn allowed ended = ended
+still_ended s (event.Look at) conn allowed ended = ended
+still_ended s (event.File path text) conn allowed ended = ended
+still_ended s (event.Dir path) conn allowed ended = ended
 
 -- ---- an ended connection
 

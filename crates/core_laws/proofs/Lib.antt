@@ -3,6 +3,7 @@ mod Unsents
 mod Fids
 mod Books
 mod Reactions
+mod Answering
 mod Wells
 mod Playing
 mod Tells
