@@ -11,6 +11,7 @@ pub mod Connected
 pub mod Moved
 pub mod Meant
 pub mod Tagged
+pub mod Answered
 pub mod Kinded
 pub mod Idling
 pub mod Applied

@@ -66,3 +66,5 @@ module _ (e : Entry) (old x : Scene) (t : Task) (settled : IsSettled old) (did :
       ∙ both_same x.book old.book (ap (λ (s : SceneState). s.book) did.made ∙ book_done e (scene_of old) (task_deeds e t (scene_of old))) (ap (λ (s : SceneState). s.book) kept)
 
 pub ruleset moving = (can_now)
+
+pub ruleset tasking = (can_now, task_can, task_scene, task_items, task_deleted, task_kept, task_book)

@@ -10,6 +10,7 @@ pub mod Intents
 pub mod Doings
 pub mod Stages
 pub mod Run
+pub mod Laws
 pub mod Parts
 pub mod Kept
 pub mod Addresses

@@ -68,6 +68,7 @@ struct Asks {
 }
 
 // The scene with what the task does to it, and without the items that it makes and the windows that it deletes.
+#[tactic(auto, using(crate::proofs::Moved::tasking))]
 fn act(
     alloc: Global,
     scene: &mut Scene,
@@ -305,7 +306,7 @@ fn in_order(ended: EndedSaid, answered: Responses, served: Responses) -> Result<
 
 impl Parts {
     /// Makes all that an event does ready. What the tables mean stays.
-    #[tactic(auto, using(crate::proofs::Joins::joining, crate::proofs::Moved::moving))]
+    #[tactic(auto, using(crate::proofs::Joins::joining))]
     pub(crate) fn grow(
         &mut self,
         alloc: Global,

@@ -24,8 +24,7 @@ pub use am_journal::{
     WindowViews,
 };
 pub use am_text::{Bytes, Items, NoMemory, Range, Rune, Runes};
-pub use core_answers::messages_are_answered;
 pub use core_outputs::Reply;
 pub use editor::{Core, Plan};
-pub use laws::journals_tell_connections;
+pub use laws::{journals_tell_connections, messages_are_answered};
 pub use ninep_types::{RBody, RMsg, TBody, TMsg};
