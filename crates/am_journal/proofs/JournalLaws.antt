@@ -20,12 +20,15 @@ use Rattle.am_journal.specs.declared.event.Side.TheVariants as side
 use Rattle.am_journal.specs.declared.view.View.{View}
 use Rattle.am_journal.specs.Causes.{cause}
 use Rattle.am_journal.specs.Hexadecimal.{hex_digit, hex_of}
-use Rattle.am_journal.specs.Lawful.{IsLawful, IsInRange}
-use Rattle.am_journal.specs.Line.{side_word, dial_line, msg_line, hang_line, took_line, new_line, key_line, sel_line, line_text}
+use Rattle.am_journal.specs.declared.event.Spot.{Spot}
+use Rattle.am_journal.specs.Lawful.{IsLawful, IsInRange, IsSpotInRange}
+use Rattle.am_journal.specs.Paths.{is_path_text}
+use Rattle.am_journal.specs.Line.{side_word, dial_line, msg_line, hang_line, took_line, new_line, key_line, sel_line, spot_words, exec_line, arg_line, look_line, file_line, dir_line, line_text}
 use Rattle.am_journal.specs.Parts.{around}
 use Rattle.am_journal.specs.Report.{title, report_text}
 use Rattle.am_journal.specs.Journal.{is_report, events_of, journal_text}
 use Rattle.am_journal.proofs.FieldWords.{AreVisible, decimal-visible}
+use Rattle.am_journal.proofs.PathLaws.{path_text-visible}
 use Rattle.am_journal.proofs.LineLaws.{line-again}
 
 -- ---- texts without newlines
@@ -112,14 +115,33 @@ side-one_line side.Body = (refl, (refl, (refl, (refl, tt))))
 field-one_line : (n : ℕ) (end : List ℕ) → n < 2 ^ 64 → AreOneLine end → AreOneLine ((decimal n ++ 32 ∷ []) ++ end)
 field-one_line n end h k = joined-one_line (decimal n ++ 32 ∷ []) end (joined-one_line (decimal n) (32 ∷ []) (decimal-one_line n h) (refl, tt)) k
 
-line-one_line : (e : Event) → IsInRange e → AreOneLine (line_text e)
-unfolding dial_line msg_line hang_line took_line new_line key_line sel_line around
-line-one_line (event.Dial c) k = (refl, (refl, (refl, (refl, (refl, decimal-one_line c (omega (arith, k)))))))
-line-one_line (event.Msg c m) k = (refl, (refl, (refl, (refl, field-one_line c (hex_of (spelling_t m)) (omega (arith, k.0)) (hex-one_line (spelling_t m))))))
-line-one_line (event.Hang c why) k = (refl, (refl, (refl, (refl, (refl, field-one_line c (cause why) (omega (arith, k)) (cause-one_line why))))))
-line-one_line (event.Took c) k = (refl, (refl, (refl, (refl, (refl, decimal-one_line c (omega (arith, k)))))))
-line-one_line event.New k = (refl, (refl, (refl, tt)))
-line-one_line (event.Key w on text) k = (
+spot-one_line : (at : Spot) → IsSpotInRange at → AreOneLine (spot_words at)
+unfolding spot_words
+spot-one_line at k =
+    let q1 = decimal at.range.q1 in
+    let ends = decimal at.range.q0 ++ 32 ∷ q1 in
+    let words = side_word at.side ++ 32 ∷ ends in
+    let ends-one = joined-one_line (decimal at.range.q0) (32 ∷ q1) (decimal-one_line at.range.q0 k.1) (refl, decimal-one_line at.range.q1 k.2) in
+    let words-one = joined-one_line (side_word at.side) (32 ∷ ends) (side-one_line at.side) (refl, ends-one) in
+    joined-one_line (decimal at.window) (32 ∷ words) (decimal-one_line at.window (omega (arith, k.0))) (refl, words-one)
+
+spots-one_line : (at chord : Spot) → IsSpotInRange at → IsSpotInRange chord → AreOneLine (spot_words at ++ 32 ∷ spot_words chord)
+spots-one_line at chord k m = joined-one_line (spot_words at) (32 ∷ spot_words chord) (spot-one_line at k) (refl, spot-one_line chord m)
+
+path-one_line : (path : List ℕ) → is_path_text path ≡ true → AreOneLine path
+path-one_line path h = visible-one_line path (path_text-visible path h)
+
+file-one_line : (path text : List ℕ) → is_path_text path ≡ true → AreOneLine (path ++ 32 ∷ 58 ∷ flat_map escaped text)
+file-one_line path text h = joined-one_line path (32 ∷ 58 ∷ flat_map escaped text) (path-one_line path h) (refl, (refl, escaped-one_line text))
+
+line-one_line : (e : Event) → IsLawful e → IsInRange e → AreOneLine (line_text e)
+unfolding dial_line msg_line hang_line took_line new_line key_line sel_line exec_line arg_line look_line file_line dir_line around
+line-one_line (event.Dial c) h k = (refl, (refl, (refl, (refl, (refl, decimal-one_line c (omega (arith, k)))))))
+line-one_line (event.Msg c m) h k = (refl, (refl, (refl, (refl, field-one_line c (hex_of (spelling_t m)) (omega (arith, k.0)) (hex-one_line (spelling_t m))))))
+line-one_line (event.Hang c why) h k = (refl, (refl, (refl, (refl, (refl, field-one_line c (cause why) (omega (arith, k)) (cause-one_line why))))))
+line-one_line (event.Took c) h k = (refl, (refl, (refl, (refl, (refl, decimal-one_line c (omega (arith, k)))))))
+line-one_line event.New h k = (refl, (refl, (refl, tt)))
+line-one_line (event.Key w on text) h k = (
   refl,
   (
     refl,
@@ -133,7 +155,7 @@ line-one_line (event.Key w on text) k = (
     ),
   ),
 )
-line-one_line (event.Sel w range) k = (
+line-one_line (event.Sel w range) h k = (
   refl,
   (
     refl,
@@ -147,10 +169,15 @@ line-one_line (event.Sel w range) k = (
     ),
   ),
 )
+line-one_line (event.Exec at) h k = (refl, (refl, (refl, (refl, (refl, spot-one_line at k)))))
+line-one_line (event.Arg at chord) h k = (refl, (refl, (refl, (refl, spots-one_line at chord k.0 k.1))))
+line-one_line (event.Look at) h k = (refl, (refl, (refl, (refl, (refl, spot-one_line at k)))))
+line-one_line (event.File path text) h k = (refl, (refl, (refl, (refl, (refl, file-one_line path text h.0)))))
+line-one_line (event.Dir path) h k = (refl, (refl, (refl, (refl, path-one_line path h))))
 
 -- the line of an event is no line `report`
 pub line-no_report : (e : Event) → is_report (line_text e) ≡ false
-unfolding dial_line msg_line hang_line took_line new_line key_line sel_line around
+unfolding dial_line msg_line hang_line took_line new_line key_line sel_line exec_line arg_line look_line file_line dir_line around
 line-no_report (event.Dial c) = refl
 line-no_report (event.Msg c m) = refl
 line-no_report (event.Hang c why) = refl
@@ -158,6 +185,11 @@ line-no_report (event.Took c) = refl
 line-no_report event.New = refl
 line-no_report (event.Key w on text) = refl
 line-no_report (event.Sel w range) = refl
+line-no_report (event.Exec at) = refl
+line-no_report (event.Arg at chord) = refl
+line-no_report (event.Look at) = refl
+line-no_report (event.File path text) = refl
+line-no_report (event.Dir path) = refl
 
 -- ---- lines
 
@@ -166,12 +198,12 @@ lines_of-line [] rest h = refl
 lines_of-line (b ∷ bs) rest h = rw (h.0) (ap (onto_first b) (lines_of-line bs rest h.1))
 
 -- the lines of a journal's text are those of its events
-pub lines_of-journal : (journal : List Event) (rest : List ℕ) → AllByRecursion IsInRange journal → lines_of (journal_text journal ++ rest) ≡ map line_text journal ++ lines_of rest
-lines_of-journal [] rest h = refl
-lines_of-journal (e ∷ es) rest h =
+pub lines_of-journal : (journal : List Event) (rest : List ℕ) → AllByRecursion IsLawful journal → AllByRecursion IsInRange journal → lines_of (journal_text journal ++ rest) ≡ map line_text journal ++ lines_of rest
+lines_of-journal [] rest h k = refl
+lines_of-journal (e ∷ es) rest h k =
     ap lines_of (append_assoc (line_text e ++ 10 ∷ []) (journal_text es) rest ∙ append_assoc (line_text e) (10 ∷ []) (journal_text es ++ rest))
-    ∙ lines_of-line (line_text e) (journal_text es ++ rest) (line-one_line e h.0)
-    ∙ ap (λ (l : List (List ℕ)). line_text e ∷ l) (lines_of-journal es rest h.1)
+    ∙ lines_of-line (line_text e) (journal_text es ++ rest) (line-one_line e h.0 k.0)
+    ∙ ap (λ (l : List (List ℕ)). line_text e ∷ l) (lines_of-journal es rest h.1 k.1)
 
 -- a report begins with a line `report`
 pub lines_of-report : (v : View) → (rest : List (List ℕ)) × (lines_of (report_text v) ≡ codes "report" ∷ rest)
@@ -190,5 +222,5 @@ events-journal (e ∷ es) lines h k end = events-line e (map line_text es ++ lin
 pub reads_journal : (journal : List Event) (v : View) → AllByRecursion IsLawful journal × AllByRecursion IsInRange journal → events_of (lines_of (journal_text journal ++ report_text v)) ≡ Some journal
 reads_journal journal v fits =
     let report = lines_of-report v in
-    ap events_of (lines_of-journal journal (report_text v) fits.1 ∙ ap (λ (l : List (List ℕ)). map line_text journal ++ l) report.1)
+    ap events_of (lines_of-journal journal (report_text v) fits.0 fits.1 ∙ ap (λ (l : List (List ℕ)). map line_text journal ++ l) report.1)
     ∙ events-journal journal (codes "report" ∷ report.0) fits.0 fits.1 refl

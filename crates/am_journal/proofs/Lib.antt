@@ -3,6 +3,10 @@ pub mod Hex
 pub mod HexLaws
 pub mod FieldWords
 pub mod CauseLaws
+pub mod Found
 pub mod WindowLaws
+pub mod PathLaws
+pub mod SpotLaws
+pub mod ActionLaws
 pub mod LineLaws
 pub mod JournalLaws

@@ -19,12 +19,15 @@ use Rattle.am_journal.specs.Lawful.{IsLawful, IsInRange, AreBytes}
 use Rattle.am_journal.specs.declared.ending.Ending.{Ending}
 use Rattle.am_journal.specs.declared.ending.Ending.TheVariants as ending
 use Rattle.am_journal.specs.Causes.{cause, ending_of}
-use Rattle.am_journal.specs.Line.{side_word, dial_line, msg_line, hang_line, took_line, new_line, line_text, first_field, after_field, conn_at, dial_from, dial_at, msg_read, msg_from, msg_at, hang_from, hang_at, took_from, took_at, new_at, key_line, key_at, sel_line, sel_at, after_front, with_front, event_of}
+use Rattle.am_journal.specs.Line.{side_word, dial_line, msg_line, hang_line, took_line, new_line, line_text, first_field, after_field, conn_at, dial_from, dial_at, msg_read, msg_from, msg_at, hang_from, hang_at, took_from, took_at, new_at, key_line, key_at, sel_line, sel_at, exec_from, exec_line, arg_line, look_from, look_line, file_line, dir_line, after_front, with_front, action_of, event_of}
 use Rattle.am_journal.specs.Parts.{around}
 use Rattle.am_journal.proofs.HexLaws.{hex-again, hex-is}
 use Rattle.am_journal.proofs.CauseLaws.{ending-again, ending-is}
 use Rattle.am_journal.proofs.FieldWords.{decimal-visible, first-is, after-is, split-is, conn-again, conn-is, front-is}
 use Rattle.am_journal.proofs.WindowLaws.{key-again, sel-again, typed, selected}
+use Rattle.am_journal.proofs.SpotLaws.{spot-again}
+use Rattle.am_journal.proofs.Found.{Found, event_is}
+use Rattle.am_journal.proofs.ActionLaws.{arg-again, file-again, dir-again, action-is}
 
 -- ---- what is spelled is read
 
@@ -50,7 +53,7 @@ hang-again c why h =
     ∙ ap (hang_from (Some c)) (ending-again why)
 
 pub line-again : (e : Event) → IsLawful e → IsInRange e → event_of (line_text e) ≡ Some e
-unfolding event_of dial_line msg_line hang_line took_line new_line key_line sel_line around
+unfolding event_of action_of dial_line msg_line hang_line took_line new_line key_line sel_line exec_line arg_line look_line file_line dir_line around
 line-again (event.Dial c) h k = ap dial_from (conn-again c h)
 line-again (event.Msg c m) h k = ap msg_at (append_assoc (decimal c) (32 ∷ []) (hex_of (spelling_t m))) ∙ msg-again c m h k
 line-again (event.Hang c why) h k = ap hang_at (append_assoc (decimal c) (32 ∷ []) (cause why)) ∙ hang-again c why h
@@ -60,16 +63,13 @@ line-again (event.Key w on text) h k =
     ap key_at (append_assoc (decimal w) (32 ∷ []) (side_word on ++ 32 ∷ 58 ∷ flat_map escaped text)) ∙ key-again w on text h k
 line-again (event.Sel w range) h k =
     ap sel_at (append_assoc (decimal w) (32 ∷ []) ((decimal range.q0 ++ 32 ∷ []) ++ decimal range.q1)) ∙ sel-again w range h k
+line-again (event.Exec at) h k = ap exec_from (spot-again at h k)
+line-again (event.Arg at chord) h k = arg-again at chord h k
+line-again (event.Look at) h k = ap look_from (spot-again at h k)
+line-again (event.File path text) h k = file-again path text h.0 h.1
+line-again (event.Dir path) h k = dir-again path h
 
 -- ---- what is read is spelled so
-
-pub record Found (bs : List ℕ) (e : Event) : Type 0 where
-  pub lawful : IsLawful e
-  pub in_range : IsInRange e
-  pub spelled : bs ≡ line_text e
-
-event_is : (a b : Event) → Some a ≡ Some b → a ≡ b
-event_is a b e = cc
 
 -- ---- messages
 
@@ -253,12 +253,9 @@ sel-is bs rest e front h =
 
 -- ---- lines
 
-no_event : (e : Event) → None ≡ Some e → ⊥
-no_event e h = cc
-
 -- what the other fronts give of a line
 abbrev after_key : List ℕ → Option Event
-after_key bs = with_front (after_front (codes "sel ") bs) sel_at None
+after_key bs = with_front (after_front (codes "sel ") bs) sel_at (action_of bs)
 
 abbrev after_new : List ℕ → Option Event
 after_new bs = with_front (after_front (codes "key ") bs) key_at (after_key bs)
@@ -275,8 +272,8 @@ after_msg bs = with_front (after_front (codes "hang ") bs) hang_at (after_hang b
 abbrev after_dial : List ℕ → Option Event
 after_dial bs = with_front (after_front (codes "msg ") bs) msg_at (after_msg bs)
 
-sel_case : (bs : List ℕ) (e : Event) (o : Option (List ℕ)) → after_front (codes "sel ") bs ≡ o → with_front o sel_at None ≡ Some e → Found bs e
-sel_case bs e None given h = absurd (no_event e h)
+sel_case : (bs : List ℕ) (e : Event) (o : Option (List ℕ)) → after_front (codes "sel ") bs ≡ o → with_front o sel_at (action_of bs) ≡ Some e → Found bs e
+sel_case bs e None given h = action-is bs e h
 sel_case bs e (Some rest) given h = sel-is bs rest e (front-is (codes "sel ") bs rest given) h
 
 key_case : (bs : List ℕ) (e : Event) (o : Option (List ℕ)) → after_front (codes "key ") bs ≡ o → with_front o key_at (after_key bs) ≡ Some e → Found bs e

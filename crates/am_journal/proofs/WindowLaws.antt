@@ -19,17 +19,18 @@ use Rattle.am_journal.specs.declared.event.Side.{Side}
 use Rattle.am_journal.specs.declared.event.Side.TheVariants as side
 use Rattle.am_journal.specs.Line.{first_field, after_field, side_word, window_from, window_at, side_of, text_of, key_from, key_at, range_from, range_at, sel_from, sel_at}
 use Rattle.am_journal.proofs.FieldWords.{AreVisible, decimal-visible, first-is, after-is, split-is}
+use Rattle.am_journal.proofs.Found.{event_is}
 
 -- ---- what is spelled is read
 
-window-again : (w : ℕ) → w < 2 ^ 32 → window_at (decimal w) ≡ Some w
+pub window-again : (w : ℕ) → w < 2 ^ 32 → window_at (decimal w) ≡ Some w
 window-again w h = ap window_from (number_of-decimal w (omega arith)) ∙ rw (lt-ltb w (2 ^ 32) h) refl
 
-side-again : (on : Side) → side_of (side_word on) ≡ Some on
+pub side-again : (on : Side) → side_of (side_word on) ≡ Some on
 side-again side.Tag = refl
 side-again side.Body = refl
 
-side-visible : (on : Side) → AreVisible (side_word on)
+pub side-visible : (on : Side) → AreVisible (side_word on)
 side-visible side.Tag = (omega arith, (omega arith, (omega arith, tt)))
 side-visible side.Body = (omega arith, (omega arith, (omega arith, (omega arith, tt))))
 
@@ -48,10 +49,10 @@ key-again w on text scalars small =
     (ap (λ (l : List ℕ). side_of (first_field l)) after ∙ ap side_of (first-is (side_word on) end (side-visible on)) ∙ side-again on)
     (ap (λ (l : List ℕ). text_of (after_field l)) after ∙ ap text_of (after-is (side_word on) end (side-visible on)) ∙ reads_again text scalars)
 
-range_same : (a b : Option ℕ) (range : Range) → a ≡ Some range.q0 → b ≡ Some range.q1 → range.q0 ≤ range.q1 → range_from a b ≡ Some range
+pub range_same : (a b : Option ℕ) (range : Range) → a ≡ Some range.q0 → b ≡ Some range.q1 → range.q0 ≤ range.q1 → range_from a b ≡ Some range
 range_same a b range e f ordered = rw (e, f, le-ltb range.q1 range.q0 ordered) refl
 
-range-again : (range : Range) → range.q0 ≤ range.q1 → range.q0 < 2 ^ 64 → range.q1 < 2 ^ 64 → range_at (decimal range.q0 ++ 32 ∷ decimal range.q1) ≡ Some range
+pub range-again : (range : Range) → range.q0 ≤ range.q1 → range.q0 < 2 ^ 64 → range.q1 < 2 ^ 64 → range_at (decimal range.q0 ++ 32 ∷ decimal range.q1) ≡ Some range
 range-again range ordered from to =
     let seen = decimal-visible range.q0 from in
     range_same (number_of (first_field (decimal range.q0 ++ 32 ∷ decimal range.q1))) (number_of (after_field (decimal range.q0 ++ 32 ∷ decimal range.q1))) range
@@ -80,13 +81,13 @@ window_some (Some n) w =
       | false ↦ λ t e. absurd cc
     ] refl
 
-window-is : (bs : List ℕ) (w : ℕ) → window_at bs ≡ Some w → (w < 2 ^ 32) × (bs ≡ decimal w)
+pub window-is : (bs : List ℕ) (w : ℕ) → window_at bs ≡ Some w → (w < 2 ^ 32) × (bs ≡ decimal w)
 window-is bs w e = let s = window_some (number_of bs) w e in (s.0, (number_is bs w s.1).1)
 
 side_unique : (a b : Side) → Some a ≡ Some b → a ≡ b
 side_unique a b e = cc
 
-side-is : (word : List ℕ) (on : Side) → side_of word ≡ Some on → word ≡ side_word on
+pub side-is : (word : List ℕ) (on : Side) → side_of word ≡ Some on → word ≡ side_word on
 side-is word on =
     elim (bytes_eq word (codes "tag")) as (λ t. bytes_eq word (codes "tag") ≡ t
     → cond t (Some side.Tag) (cond (bytes_eq word (codes "body")) (Some side.Body) None) ≡ Some on → word ≡ side_word on) [
@@ -97,7 +98,7 @@ side-is word on =
       ] refl
     ] refl
 
-text-is : (bs text : List ℕ) → text_of bs ≡ Some text → AllByRecursion IsScalar text × (bs ≡ 58 ∷ flat_map escaped text)
+pub text-is : (bs text : List ℕ) → text_of bs ≡ Some text → AllByRecursion IsScalar text × (bs ≡ 58 ∷ flat_map escaped text)
 text-is [] text = λ e. absurd cc
 text-is (b ∷ bs) text =
     elim (eqb b 58) as (λ t. eqb b 58 ≡ t → cond t (unescaped bs) None ≡ Some text → AllByRecursion IsScalar text × (b ∷ bs ≡ 58 ∷ flat_map escaped text)) [
@@ -105,12 +106,9 @@ text-is (b ∷ bs) text =
       | false ↦ λ t e. absurd cc
     ] refl
 
-number_some : (bs : List ℕ) (n : ℕ) → number_of bs ≡ Some n → 0 < length bs
+pub number_some : (bs : List ℕ) (n : ℕ) → number_of bs ≡ Some n → 0 < length bs
 number_some [] n e = absurd cc
 number_some (b ∷ bs) n e = omega arith
-
-event_is : (a b : Event) → Some a ≡ Some b → a ≡ b
-event_is a b e = cc
 
 record Keys (o : Option ℕ) (s : Option Side) (t : Option (List ℕ)) (e : Event) : Type 0 where
   window : ℕ
@@ -138,7 +136,7 @@ pub record Typed (bs : List ℕ) (e : Event) : Type 0 where
   pub spelled : bs ≡ decimal window ++ 32 ∷ (side_word on ++ 32 ∷ 58 ∷ flat_map escaped text)
   pub is : event.Key window on text ≡ e
 
-some_after : (a b : List ℕ) → 0 < length (a ++ 32 ∷ b)
+pub some_after : (a b : List ℕ) → 0 < length (a ++ 32 ∷ b)
 some_after [] b = omega arith
 some_after (x ∷ a) b = omega arith
 
@@ -160,15 +158,15 @@ typed bs e h =
       is = k.is;
     }
 
-record Ends (o p : Option ℕ) (range : Range) : Type 0 where
-  from-is : o ≡ Some range.q0
-  to-is : p ≡ Some range.q1
-  ordered : range.q0 ≤ range.q1
+pub record Ends (o p : Option ℕ) (range : Range) : Type 0 where
+  pub from-is : o ≡ Some range.q0
+  pub to-is : p ≡ Some range.q1
+  pub ordered : range.q0 ≤ range.q1
 
 range_is : (a b : Range) → Some a ≡ Some b → a ≡ b
 range_is a b e = cc
 
-ends_some : (o p : Option ℕ) (range : Range) → range_from o p ≡ Some range → Ends o p range
+pub ends_some : (o p : Option ℕ) (range : Range) → range_from o p ≡ Some range → Ends o p range
 ends_some None p range = λ h. absurd cc
 ends_some (Some a) None range = λ h. absurd cc
 ends_some (Some a) (Some b) range =
