@@ -72,7 +72,7 @@ fold_idle : (s : State) (events : List Event) → AreIdle [] s.entries s.scene.b
 fold_idle s [] idle = idle
 fold_idle s (e ∷ events) idle = fold_idle (step s e) events (step_idle s e idle)
 
-run_idle : (journal : List Event) → AreIdle [] (run journal).entries (run journal).scene.book
+pub run_idle : (journal : List Event) → AreIdle [] (run journal).entries (run journal).scene.book
 unfolding run
 run_idle journal = fold_idle start journal empty_idle
 

@@ -11,3 +11,6 @@ mod Ends
 mod Quiets
 mod Flushes
 mod Sessions
+mod Clicks
+mod Lives
+mod Backs
