@@ -136,12 +136,16 @@ in_range-done : (es before : List Event) → AreDone before es → AllByRecursio
 in_range-done [] before h = tt
 in_range-done (e ∷ es) before h = (h.1, in_range-done es (before ++ e ∷ []) h.3)
 
+lawful-done : (es before : List Event) → AreDone before es → AllByRecursion IsLawful es
+lawful-done [] before h = tt
+lawful-done (e ∷ es) before h = (h.0, lawful-done es (before ++ e ∷ []) h.3)
+
 pub trips : (journal : List Event) → AreDone [] journal → RoundTrips journal
 trips journal d =
     let report : View = view_of journal in
     let begins = lines_of-report report in
     let lines : lines_of (transcript_of journal) ≡ map line_text journal ++ codes "report" ∷ begins.0 =
-    lines_of-journal journal (report_text report) (in_range-done journal [] d) ∙ ap (λ (l : List (List ℕ)). map line_text journal ++ l) begins.1
+    lines_of-journal journal (report_text report) (lawful-done journal [] d) (in_range-done journal [] d) ∙ ap (λ (l : List (List ℕ)). map line_text journal ++ l) begins.1
     in
     let read : play [] 1 (lines_of (transcript_of journal)) ≡ ended journal = ap (play [] 1) lines ∙ play-again journal [] 1 begins.0 d in
     record {

@@ -32,6 +32,11 @@ is_dial_of conn (event.Took c) = false
 is_dial_of conn event.New = false
 is_dial_of conn (event.Key w side text) = false
 is_dial_of conn (event.Sel w range) = false
+is_dial_of conn (event.Exec at) = false
+is_dial_of conn (event.Arg at chord) = false
+is_dial_of conn (event.Look at) = false
+is_dial_of conn (event.File path text) = false
+is_dial_of conn (event.Dir path) = false
 
 abbrev pub is_hang_of : ℕ → Event → Bool
 is_hang_of conn (event.Dial c) = false
@@ -41,6 +46,11 @@ is_hang_of conn (event.Took c) = false
 is_hang_of conn event.New = false
 is_hang_of conn (event.Key w side text) = false
 is_hang_of conn (event.Sel w range) = false
+is_hang_of conn (event.Exec at) = false
+is_hang_of conn (event.Arg at chord) = false
+is_hang_of conn (event.Look at) = false
+is_hang_of conn (event.File path text) = false
+is_hang_of conn (event.Dir path) = false
 
 -- whether the journal has the dialling of a connection, and its hang-up
 abbrev pub has_dial : List Event → ℕ → Bool
@@ -59,6 +69,11 @@ is_hang (event.Took c) = false
 is_hang event.New = false
 is_hang (event.Key w side text) = false
 is_hang (event.Sel w range) = false
+is_hang (event.Exec at) = false
+is_hang (event.Arg at chord) = false
+is_hang (event.Look at) = false
+is_hang (event.File path text) = false
+is_hang (event.Dir path) = false
 
 abbrev pub IsHang : Event → Type 0
 IsHang e = is_hang e ≡ true
@@ -94,3 +109,4 @@ IsMessageWhy journal conn (Some why.Window) = ⊥
 IsMessageWhy journal conn (Some why.Range) = ⊥
 IsMessageWhy journal conn (Some why.Windows) = ⊥
 IsMessageWhy journal conn (Some why.Length) = ⊥
+IsMessageWhy journal conn (Some why.Tree) = ⊥

@@ -11,6 +11,11 @@ sent_by unsent conn before (event.Took c) = if c == conn then unsent before c el
 sent_by unsent conn before event.New = []
 sent_by unsent conn before (event.Key w side text) = []
 sent_by unsent conn before (event.Sel w range) = []
+sent_by unsent conn before (event.Exec at) = []
+sent_by unsent conn before (event.Arg at chord) = []
+sent_by unsent conn before (event.Look at) = []
+sent_by unsent conn before (event.File path text) = []
+sent_by unsent conn before (event.Dir path) = []
 
 -- the bytes that events take of a connection's replies, each after those before it
 unfoldable pub sent_from : (List Event → ℕ → List ℕ) → List Event → List Event → ℕ → List ℕ

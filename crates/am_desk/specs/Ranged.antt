@@ -40,6 +40,11 @@ event-prop (event.Took c) = le_prop
 event-prop event.New = Unit-prop
 event-prop (event.Key w side text) = le_prop
 event-prop (event.Sel w range) = Prim.hlevel props
+event-prop (event.Exec at) = Prim.hlevel props
+event-prop (event.Arg at chord) = Prim.hlevel props
+event-prop (event.Look at) = Prim.hlevel props
+event-prop (event.File path text) = Unit-prop
+event-prop (event.Dir path) = Unit-prop
 
 pub ranged-prop : (journal : List Event) → IsProp (AllByRecursion IsInRange journal)
 ranged-prop [] = Unit-prop

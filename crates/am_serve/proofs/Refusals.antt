@@ -33,3 +33,4 @@ refused_is enabled conn v w m msg reason l played read dialled e law =
     by_cases why.Range e h = absurd h
     by_cases why.Windows e h = absurd h
     by_cases why.Length e h = absurd h
+    by_cases why.Tree e h = absurd h

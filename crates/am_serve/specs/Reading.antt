@@ -38,6 +38,11 @@ spelling_of (event.Took c) = []
 spelling_of event.New = []
 spelling_of (event.Key w side text) = []
 spelling_of (event.Sel w range) = []
+spelling_of (event.Exec at) = []
+spelling_of (event.Arg at chord) = []
+spelling_of (event.Look at) = []
+spelling_of (event.File path text) = []
+spelling_of (event.Dir path) = []
 
 -- the bytes of each message of these entries
 abbrev pub spellings : List (ℕ × Event) → List (List ℕ)
@@ -60,6 +65,11 @@ spelled_on conn (event.Took c) = []
 spelled_on conn event.New = []
 spelled_on conn (event.Key w side text) = []
 spelled_on conn (event.Sel w range) = []
+spelled_on conn (event.Exec at) = []
+spelled_on conn (event.Arg at chord) = []
+spelled_on conn (event.Look at) = []
+spelled_on conn (event.File path text) = []
+spelled_on conn (event.Dir path) = []
 
 -- the bytes of each message that came on the connection
 abbrev pub messages_of : List Event → ℕ → List (List ℕ)

@@ -19,7 +19,7 @@ use Rattle.am_serve.specs.declared.scripting.ScriptEnd.TheVariants as end
 
 -- ---- lines
 
--- the events of windows, and not those of connections, stand in a script
+-- the events of windows and of files, and not those of connections, stand in a script
 abbrev pub is_scripted : Event → Bool
 is_scripted (event.Dial c) = false
 is_scripted (event.Msg c msg) = false
@@ -28,6 +28,11 @@ is_scripted (event.Took c) = false
 is_scripted event.New = true
 is_scripted (event.Key w side text) = true
 is_scripted (event.Sel w range) = true
+is_scripted (event.Exec at) = true
+is_scripted (event.Arg at chord) = true
+is_scripted (event.Look at) = true
+is_scripted (event.File path text) = true
+is_scripted (event.Dir path) = true
 
 abbrev pub asks_event : Option Event → Asked
 asks_event None = Faulty

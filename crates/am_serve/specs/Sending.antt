@@ -82,6 +82,7 @@ sent_for why.Window = sent.Stops stop.Ended
 sent_for why.Range = sent.Stops stop.Ended
 sent_for why.Windows = sent.Stops stop.Ended
 sent_for why.Length = sent.Stops stop.Ended
+sent_for why.Tree = sent.Stops stop.Ended
 
 -- ---- one piece
 

@@ -23,6 +23,11 @@ bytes_of unsent before (event.Took c) = unsent before c
 bytes_of unsent before event.New = []
 bytes_of unsent before (event.Key w side text) = []
 bytes_of unsent before (event.Sel w range) = []
+bytes_of unsent before (event.Exec at) = []
+bytes_of unsent before (event.Arg at chord) = []
+bytes_of unsent before (event.Look at) = []
+bytes_of unsent before (event.File path text) = []
+bytes_of unsent before (event.Dir path) = []
 
 -- the bytes that entries of a journal take, each after the entries before it
 abbrev pub taken_bytes : (List Event → ℕ → List ℕ) → List Event → List (ℕ × Event) → List ℕ

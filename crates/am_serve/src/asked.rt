@@ -39,6 +39,11 @@ fn is_scripted(event: &Event) -> bool
             window: _,
             range: _,
         } => true,
+        Event::Exec { at: _ } => true,
+        Event::Arg { at: _, chord: _ } => true,
+        Event::Look { at: _ } => true,
+        Event::File { path: _, text: _ } => true,
+        Event::Dir { path: _ } => true,
     }
 }
 

@@ -23,6 +23,11 @@ hang_ends conn (event.Took c) h = absurd cc
 hang_ends conn event.New h = absurd cc
 hang_ends conn (event.Key w side text) h = absurd cc
 hang_ends conn (event.Sel w range) h = absurd cc
+hang_ends conn (event.Exec at) h = absurd cc
+hang_ends conn (event.Arg at chord) h = absurd cc
+hang_ends conn (event.Look at) h = absurd cc
+hang_ends conn (event.File path text) h = absurd cc
+hang_ends conn (event.Dir path) h = absurd cc
 
 others_end_nothing : (conn : ℕ) (e : Event) → is_hang_of conn e ≡ false → ended_by conn e ≡ []
 others_end_nothing conn (event.Dial c) h = refl
@@ -32,6 +37,11 @@ others_end_nothing conn (event.Took c) h = refl
 others_end_nothing conn event.New h = refl
 others_end_nothing conn (event.Key w side text) h = refl
 others_end_nothing conn (event.Sel w range) h = refl
+others_end_nothing conn (event.Exec at) h = refl
+others_end_nothing conn (event.Arg at chord) h = refl
+others_end_nothing conn (event.Look at) h = refl
+others_end_nothing conn (event.File path text) h = refl
+others_end_nothing conn (event.Dir path) h = refl
 
 hang_ended : (conn : ℕ) (why : Ending) → ended_by conn (event.Hang conn why) ≡ why ∷ []
 hang_ended conn why = ap (λ b. if b then why ∷ [] else []) (eq-eqb conn conn refl)

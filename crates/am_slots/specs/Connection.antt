@@ -15,6 +15,11 @@ is_of conn (event.Took c) = c == conn
 is_of conn event.New = false
 is_of conn (event.Key w side text) = false
 is_of conn (event.Sel w range) = false
+is_of conn (event.Exec at) = false
+is_of conn (event.Arg at chord) = false
+is_of conn (event.Look at) = false
+is_of conn (event.File path text) = false
+is_of conn (event.Dir path) = false
 
 -- the journal has nothing of the connection
 abbrev pub IsSilent : List Event → ℕ → Type 0
@@ -28,6 +33,11 @@ ended_by conn (event.Took c) = []
 ended_by conn event.New = []
 ended_by conn (event.Key w side text) = []
 ended_by conn (event.Sel w range) = []
+ended_by conn (event.Exec at) = []
+ended_by conn (event.Arg at chord) = []
+ended_by conn (event.Look at) = []
+ended_by conn (event.File path text) = []
+ended_by conn (event.Dir path) = []
 
 -- the causes of the connection's hang-ups
 abbrev pub endings_of : List Event → ℕ → List Ending

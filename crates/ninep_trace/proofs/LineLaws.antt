@@ -6,7 +6,7 @@ use Rattle.ninep_types.specs.declared.message.RMsg.{RMsg}
 use Rattle.am_journal.specs.declared.event.Event.{Event}
 use Rattle.am_journal.specs.declared.event.Event.TheVariants as event
 use Rattle.am_journal.specs.Lawful.{IsLawful, IsInRange}
-use Rattle.am_journal.specs.Line.{dial_line, msg_line, hang_line, took_line, new_line, key_line, sel_line, line_text, after_front, event_of}
+use Rattle.am_journal.specs.Line.{dial_line, msg_line, hang_line, took_line, new_line, key_line, sel_line, exec_line, arg_line, look_line, file_line, dir_line, line_text, after_front, event_of}
 use Rattle.am_journal.specs.Parts.{around}
 use Rattle.am_journal.proofs.FieldWords.{front-is}
 use Rattle.am_journal.proofs.LineLaws.{line-again, line-is}
@@ -32,7 +32,7 @@ r_line_again c m h k =
     rw (small_again 64 c (32 ∷ message_words_r m) h.conn (omega (arith, h.conn)) refl, r_message_again m h.fits k.numbers h.short k.bytes) refl
 
 pub words-again : (l : Line) → IsWorded l → line_of (line_words l) ≡ Some l
-unfolding line_of words_t words_r around dial_line hang_line took_line new_line key_line sel_line
+unfolding line_of words_t words_r around dial_line hang_line took_line new_line key_line sel_line exec_line arg_line look_line file_line dir_line
 words-again (line.Event (event.Dial c)) h = ap event_line (line-again (event.Dial c) h.0 h.1)
 words-again (line.Event (event.Msg c m)) h = ap t_line_at (append_assoc (decimal c) (32 ∷ []) (message_words_t m)) ∙ t_line_again c m h.0 h.1
 words-again (line.Event (event.Hang c why)) h = ap event_line (line-again (event.Hang c why) h.0 h.1)
@@ -40,6 +40,11 @@ words-again (line.Event (event.Took c)) h = ap event_line (line-again (event.Too
 words-again (line.Event event.New) h = ap event_line (line-again event.New h.0 h.1)
 words-again (line.Event (event.Key w on text)) h = ap event_line (line-again (event.Key w on text) h.0 h.1)
 words-again (line.Event (event.Sel w range)) h = ap event_line (line-again (event.Sel w range) h.0 h.1)
+words-again (line.Event (event.Exec at)) h = ap event_line (line-again (event.Exec at) h.0 h.1)
+words-again (line.Event (event.Arg at chord)) h = ap event_line (line-again (event.Arg at chord) h.0 h.1)
+words-again (line.Event (event.Look at)) h = ap event_line (line-again (event.Look at) h.0 h.1)
+words-again (line.Event (event.File path text)) h = ap event_line (line-again (event.File path text) h.0 h.1)
+words-again (line.Event (event.Dir path)) h = ap event_line (line-again (event.Dir path) h.0 h.1)
 words-again (line.Reply c m) h = ap r_line_at (append_assoc (decimal c) (32 ∷ []) (message_words_r m)) ∙ r_line_again c m h.0 h.1
 
 -- ---- what is read is spelled so
@@ -91,6 +96,11 @@ same_line bs (event.Took c) none is = refl
 same_line bs event.New none is = refl
 same_line bs (event.Key w on text) none is = refl
 same_line bs (event.Sel w range) none is = refl
+same_line bs (event.Exec at) none is = refl
+same_line bs (event.Arg at chord) none is = refl
+same_line bs (event.Look at) none is = refl
+same_line bs (event.File path text) none is = refl
+same_line bs (event.Dir path) none is = refl
 
 event-is : (bs : List ℕ) (l : Line) (o : Option Event) → after_front (codes "msg ") bs ≡ None → event_of bs ≡ o → event_line o ≡ Some l → Found bs l
 event-is bs l None none given e = absurd cc

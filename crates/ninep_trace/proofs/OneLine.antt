@@ -18,7 +18,7 @@ use Rattle.am_journal.specs.declared.event.Event.{Event}
 use Rattle.am_journal.specs.declared.event.Event.TheVariants as event
 use Rattle.am_journal.specs.Hexadecimal.{hex_digit, hex_of}
 use Rattle.am_journal.specs.Journal.{is_report}
-use Rattle.am_journal.specs.Lawful.{IsInRange}
+use Rattle.am_journal.specs.Lawful.{IsLawful, IsInRange}
 use Rattle.am_journal.specs.Line.{line_text}
 use Rattle.am_journal.specs.Parts.{around}
 use Rattle.am_journal.proofs.FieldWords.{AreVisible, decimal-visible}
@@ -210,22 +210,27 @@ lines_of-line [] rest h = refl
 lines_of-line (b ∷ bs) rest h = rw (h.0) (ap (onto_first b) (lines_of-line bs rest h.1))
 
 -- the line of an event stands alone in a transcript
-event_line : (e : Event) (rest : List ℕ) → IsInRange e → lines_of (line_text e ++ 10 ∷ rest) ≡ line_text e ∷ lines_of rest
-event_line e rest k =
-    let one = lines_of-journal (e ∷ []) rest (k, tt) in
+event_line : (e : Event) (rest : List ℕ) → IsLawful e → IsInRange e → lines_of (line_text e ++ 10 ∷ rest) ≡ line_text e ∷ lines_of rest
+event_line e rest h k =
+    let one = lines_of-journal (e ∷ []) rest (h, tt) (k, tt) in
     ap lines_of (sym (append_assoc (line_text e) (10 ∷ []) rest)) ∙ ap (λ (l : List ℕ). lines_of (l ++ rest)) (sym (append_nil_line e)) ∙ one
   where
     append_nil_line : (e : Event) → (line_text e ++ 10 ∷ []) ++ [] ≡ line_text e ++ 10 ∷ []
     append_nil_line e = append-nil (line_text e ++ 10 ∷ [])
 
 pub words_in_lines : (l : Line) (rest : List ℕ) → IsWorded l → lines_of (line_words l ++ 10 ∷ rest) ≡ line_words l ∷ lines_of rest
-words_in_lines (line.Event (event.Dial c)) rest h = event_line (event.Dial c) rest h.1
+words_in_lines (line.Event (event.Dial c)) rest h = event_line (event.Dial c) rest h.0 h.1
 words_in_lines (line.Event (event.Msg c m)) rest h = lines_of-line (words_t c m) rest (words_t-line c m h.0.0 h.0.1 h.1.1)
-words_in_lines (line.Event (event.Hang c why)) rest h = event_line (event.Hang c why) rest h.1
-words_in_lines (line.Event (event.Took c)) rest h = event_line (event.Took c) rest h.1
-words_in_lines (line.Event event.New) rest h = event_line event.New rest h.1
-words_in_lines (line.Event (event.Key w on text)) rest h = event_line (event.Key w on text) rest h.1
-words_in_lines (line.Event (event.Sel w range)) rest h = event_line (event.Sel w range) rest h.1
+words_in_lines (line.Event (event.Hang c why)) rest h = event_line (event.Hang c why) rest h.0 h.1
+words_in_lines (line.Event (event.Took c)) rest h = event_line (event.Took c) rest h.0 h.1
+words_in_lines (line.Event event.New) rest h = event_line event.New rest h.0 h.1
+words_in_lines (line.Event (event.Key w on text)) rest h = event_line (event.Key w on text) rest h.0 h.1
+words_in_lines (line.Event (event.Sel w range)) rest h = event_line (event.Sel w range) rest h.0 h.1
+words_in_lines (line.Event (event.Exec at)) rest h = event_line (event.Exec at) rest h.0 h.1
+words_in_lines (line.Event (event.Arg at chord)) rest h = event_line (event.Arg at chord) rest h.0 h.1
+words_in_lines (line.Event (event.Look at)) rest h = event_line (event.Look at) rest h.0 h.1
+words_in_lines (line.Event (event.File path text)) rest h = event_line (event.File path text) rest h.0 h.1
+words_in_lines (line.Event (event.Dir path)) rest h = event_line (event.Dir path) rest h.0 h.1
 words_in_lines (line.Reply c m) rest h = lines_of-line (words_r c m) rest (words_r-line c m h.0.conn h.0.fits h.1.numbers)
 
 pub words_no_report : (l : Line) → is_report (line_words l) ≡ false
@@ -237,4 +242,9 @@ words_no_report (line.Event (event.Took c)) = line-no_report (event.Took c)
 words_no_report (line.Event event.New) = line-no_report event.New
 words_no_report (line.Event (event.Key w on text)) = line-no_report (event.Key w on text)
 words_no_report (line.Event (event.Sel w range)) = line-no_report (event.Sel w range)
+words_no_report (line.Event (event.Exec at)) = line-no_report (event.Exec at)
+words_no_report (line.Event (event.Arg at chord)) = line-no_report (event.Arg at chord)
+words_no_report (line.Event (event.Look at)) = line-no_report (event.Look at)
+words_no_report (line.Event (event.File path text)) = line-no_report (event.File path text)
+words_no_report (line.Event (event.Dir path)) = line-no_report (event.Dir path)
 words_no_report (line.Reply c m) = refl

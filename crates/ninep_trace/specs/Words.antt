@@ -105,6 +105,11 @@ event_words (event.Took c) = line_text (event.Took c)
 event_words event.New = line_text event.New
 event_words (event.Key w on text) = line_text (event.Key w on text)
 event_words (event.Sel w range) = line_text (event.Sel w range)
+event_words (event.Exec at) = line_text (event.Exec at)
+event_words (event.Arg at chord) = line_text (event.Arg at chord)
+event_words (event.Look at) = line_text (event.Look at)
+event_words (event.File path text) = line_text (event.File path text)
+event_words (event.Dir path) = line_text (event.Dir path)
 
 -- the line of an event or a reply, without its newline
 abbrev pub line_words : Line → List ℕ

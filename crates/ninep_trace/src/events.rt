@@ -21,6 +21,11 @@ pub fn words_of(alloc: Global, event: &Event) -> Result<Bytes, NoMemory>
         | Event::Took { .. }
         | Event::New
         | Event::Key { .. }
-        | Event::Sel { .. } => write_line(alloc, event),
+        | Event::Sel { .. }
+        | Event::Exec { .. }
+        | Event::Arg { .. }
+        | Event::Look { .. }
+        | Event::File { .. }
+        | Event::Dir { .. } => write_line(alloc, event),
     }
 }
