@@ -9,7 +9,7 @@ use Rattle.core_events.specs.declared.response.Response.{Response}
 use Rattle.core_outputs.specs.declared.reply.Reply.{Reply}
 use Rattle.core_outputs.specs.Unsent.{Unsent}
 use Rattle.acme_core.specs.declared.connection.Connection.{Connection}
-use Rattle.acme_core.specs.declared.doing.Doing.{Doing}
+use Rattle.acme_core.specs.Doings.{Doing}
 use Rattle.acme_core.specs.declared.kind.Kind.{Kind}
 use Rattle.acme_core.specs.declared.parts.Parts.{Parts}
 use Rattle.acme_core.specs.declared.prepared.Prepared.{Prepared}
@@ -54,8 +54,8 @@ module _ (p : Parts) (x : Prepared) (d : Doing) (h : HasReady p x d) where
       → kept_of (record settled { book = book }) ≡ scene_after s k d
   scene_done kind settled book is kept done =
       ap (λ (y : Scene). record (kept_of y) { book = book.kept }) kept
-      ∙ ap (λ (y : SceneState). record y { book = book.kept; items = [] }) h.scene
-      ∙ ap (λ (b : BookState). record (acted s d) { book = b; items = [] }) (book_done kind settled book is kept done)
+      ∙ ap (λ (y : SceneState). record y { book = book.kept; items = []; deleted = [] }) h.scene
+      ∙ ap (λ (b : BookState). record (acted s d) { book = b; items = []; deleted = [] }) (book_done kind settled book is kept done)
 
   outputs_done : (kind : Kind) (kept outputs : Twice (List Unsent)) → kind ≡ k → kept ≡ both p.outputs.present → outputs ≡ both (left_unsent kept.present kind)
       → outputs.kept ≡ (after s x.event d).unsent

@@ -95,6 +95,11 @@ told_on s (event.Took c) x d h n lawful allowed told = idle (connection_at s.con
 told_on s event.New x d h n lawful allowed told = idle (connection_at s.connections x) d h told
 told_on s (event.Key w side text) x d h n lawful allowed told = idle (connection_at s.connections x) d h told
 told_on s (event.Sel w range) x d h n lawful allowed told = idle (connection_at s.connections x) d h told
+told_on s (event.Exec at) x d h n lawful allowed told = idle (connection_at s.connections x) d h told
+told_on s (event.Arg at chord) x d h n lawful allowed told = idle (connection_at s.connections x) d h told
+told_on s (event.Look at) x d h n lawful allowed told = idle (connection_at s.connections x) d h told
+told_on s (event.File path text) x d h n lawful allowed told = idle (connection_at s.connections x) d h told
+told_on s (event.Dir path) x d h n lawful allowed told = idle (connection_at s.connections x) d h told
 
 -- ---- all events
 

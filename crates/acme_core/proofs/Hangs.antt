@@ -26,7 +26,7 @@ use Rattle.core_outputs.specs.Unsent.{put_replies}
 
 pub hang_ready : (p : Parts) (e : Event) (at : ℕ) (replies : Vec Reply) → is_hang e ≡ true → IsJoinedFor p.sessions.kept (kind_of e) → AreSteady p
     → IsSound (p.entries + 1) p.scene.book.kept → IsIdle p.scene.book.kept → at ≡ p.entries + 1 → replies.items ≡ []
-    → HasReady p (record { event = e; at = at; effect = effect.Nothing; events = events.Nothing; deleted = []; said = []; replies = replies }) (doing_of (present_of p) e)
+    → HasReady p (record { event = e; at = at; effect = effect.Nothing; events = events.Nothing; deleted = []; back = None; said = []; replies = replies }) (doing_of (present_of p) e)
 hang_ready p (event.Hang conn why) at replies h joined steady sound idle numbered none =
     let b : BookState = p.scene.book.kept in
     let silent : served_of b ≡ None = none_served b idle in
@@ -36,6 +36,7 @@ hang_ready p (event.Hang conn why) at replies h joined steady sound idle numbere
       effect = refl;
       events = refl;
       deleted = refl;
+      back = refl;
       answers = sym said;
       replies = none ∙ ap replies_of (sym said);
       joined = subst (λ (t : Tables). IsOfJoined t (kind_of (event.Hang conn why))) (sym steady.sessions) joined;
@@ -50,10 +51,15 @@ hang_ready p (event.Took conn) at replies h joined steady sound idle numbered no
 hang_ready p event.New at replies h joined steady sound idle numbered none = absurd cc
 hang_ready p (event.Key w side text) at replies h joined steady sound idle numbered none = absurd cc
 hang_ready p (event.Sel w range) at replies h joined steady sound idle numbered none = absurd cc
+hang_ready p (event.Exec spot) at replies h joined steady sound idle numbered none = absurd cc
+hang_ready p (event.Arg spot chord) at replies h joined steady sound idle numbered none = absurd cc
+hang_ready p (event.Look spot) at replies h joined steady sound idle numbered none = absurd cc
+hang_ready p (event.File path text) at replies h joined steady sound idle numbered none = absurd cc
+hang_ready p (event.Dir path) at replies h joined steady sound idle numbered none = absurd cc
 
 -- the same, where what is deleted and said is known to be nothing
 pub hanging : (p : Parts) (e : Event) (at : ℕ) (replies : Vec Reply) (deleted : List ℕ) (heard : List Response) → deleted ≡ [] → heard ≡ [] → is_hang e ≡ true
     → IsJoinedFor p.sessions.kept (kind_of e) → AreSteady p → IsSound (p.entries + 1) p.scene.book.kept → IsIdle p.scene.book.kept → at ≡ p.entries + 1 → replies.items ≡ []
-    → HasReady p (record { event = e; at = at; effect = effect.Nothing; events = events.Nothing; deleted = deleted; said = heard; replies = replies }) (doing_of (present_of p) e)
+    → HasReady p (record { event = e; at = at; effect = effect.Nothing; events = events.Nothing; deleted = deleted; back = None; said = heard; replies = replies }) (doing_of (present_of p) e)
 hanging p e at replies deleted heard none silent h joined steady sound idle numbered empty =
     rw (none, silent) (hang_ready p e at replies h joined steady sound idle numbered empty)

@@ -13,20 +13,19 @@ use Rattle.core_fids.specs.declared.effect.EventChange.{EventChange}
 use Rattle.core_fids.specs.declared.effect.Answer.{Answer}
 use Rattle.core_fids.specs.declared.effect.Answer.TheVariants.{Says, Reads}
 use Rattle.core_scene.specs.declared.deed.WindowItem.{WindowItem}
+use Rattle.core_scene.specs.Scenes.{deleted_by}
 use Rattle.core_events.specs.Asking.{opened}
-use Rattle.core_events.specs.Closing.{freed}
+use Rattle.core_events.specs.Closing.{written_back, freed}
 use Rattle.core_events.specs.Putting.{put_living, put_all, ending}
 use Rattle.core_events.specs.Serving.{served_all, book_served_all}
 use Rattle.core_events.specs.Sound.{IsSound, IsIdle}
-use Rattle.core_events.specs.Waits.{deleted_by}
-use Rattle.core_events.proofs.Idles.{AreIdle, IsKept, read_idle, open_idle, living_kept, served_idle, ending_idle, all_freed_idle, freed_idle, cancelled_idle, closed_idle, idle_for, idle_from, empty_idle, idle_end}
+use Rattle.core_events.proofs.Idles.{AreIdle, IsKept, read_idle, open_idle, living_kept, written_idle, served_idle, ending_idle, all_freed_idle, freed_idle, cancelled_idle, closed_idle, idle_for, idle_from, empty_idle, idle_end}
 use Rattle.core_events.proofs.Turns.{all_none, book_all_none}
-use Rattle.acme_core.specs.declared.doing.Doing.{Doing}
 use Rattle.acme_core.specs.declared.kind.Kind.{Kind}
 use Rattle.acme_core.specs.declared.kind.Kind.TheVariants as kind
 use Rattle.acme_core.specs.Stages.{asker_of, answer_book, message_book, acted, with_fid, grown_tables, read_book, put_book, grown_book, left_book, book_after}
 use Rattle.acme_core.specs.States.{Present, State, present, start, next_entry}
-use Rattle.acme_core.specs.Doings.{doing_of}
+use Rattle.acme_core.specs.Doings.{Doing, doing_of}
 use Rattle.acme_core.specs.Kinds.{kind_of}
 use Rattle.acme_core.specs.Run.{step, run}
 
@@ -62,7 +61,8 @@ idle_on s k d idle =
     let put : IsKept at (put_book s k d) = living_kept deleted at asked items (record { lawful = first.lawful; latest = first.latest }) in
     let served : AreIdle deleted at (book_served_all at (put_book s k d)) = served_idle deleted at (put_book s k d) put in
     let grown : AreIdle deleted at (grown_book s k d) = ending_idle deleted at (book_served_all at (put_book s k d)) items served in
-    closed_idle deleted at (left_book at (grown_tables s k d) k d (grown_book s k d)) (left deleted at (grown_tables s k d) (grown_book s k d) k d grown)
+    let back : BookState = written_back at (grown_book s k d) d.back in
+    closed_idle deleted at (left_book at (grown_tables s k d) k d back) (left deleted at (grown_tables s k d) back k d (written_idle deleted at (grown_book s k d) d.back grown))
 
 step_idle : (s : State) (e : Event) → AreIdle [] s.entries s.scene.book → AreIdle [] (step s e).entries (step s e).scene.book
 unfolding step
@@ -72,7 +72,7 @@ fold_idle : (s : State) (events : List Event) → AreIdle [] s.entries s.scene.b
 fold_idle s [] idle = idle
 fold_idle s (e ∷ events) idle = fold_idle (step s e) events (step_idle s e idle)
 
-run_idle : (journal : List Event) → AreIdle [] (run journal).entries (run journal).scene.book
+pub run_idle : (journal : List Event) → AreIdle [] (run journal).entries (run journal).scene.book
 unfolding run
 run_idle journal = fold_idle start journal empty_idle
 

@@ -22,9 +22,8 @@ use Rattle.core_fids.specs.declared.effect.Effect.TheVariants as effect
 use Rattle.acme_core.specs.Connections.{connection_at, connections_after, was_dialed, AreJoined, IsJoinedFor, IsOfJoined, grown, grown_with, ended_with}
 use Rattle.acme_core.specs.Enabled.{dial_refusal, live_refusal}
 use Rattle.acme_core.specs.States.{Present}
-use Rattle.acme_core.specs.Doings.{enabled_at}
 use Rattle.acme_core.specs.Stages.{asker_of, answer_tables, message_tables, said, tables_after}
-use Rattle.acme_core.specs.declared.doing.Doing.{Doing}
+use Rattle.acme_core.specs.Doings.{enabled_at, Doing}
 use Rattle.ninep_types.specs.declared.message.RBody.{RBody}
 use Rattle.event_book.specs.BookState.{BookState}
 use Rattle.core_fids.specs.declared.effect.Answer.{Answer}

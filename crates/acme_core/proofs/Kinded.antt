@@ -30,6 +30,11 @@ numbered (event.Took conn) h = tt
 numbered event.New h = tt
 numbered (event.Key w side text) h = tt
 numbered (event.Sel w range) h = tt
+numbered (event.Exec at) h = tt
+numbered (event.Arg at chord) h = tt
+numbered (event.Look at) h = tt
+numbered (event.File path text) h = tt
+numbered (event.Dir path) h = tt
 
 -- it was never dialled, or it lives
 abbrev pub IsFound : List Connection → Kind → Type 0
@@ -39,9 +44,13 @@ IsFound cs (kind.Ends conn why) = live_refusal (connection_at cs conn) ≡ None
 IsFound cs (kind.Takes conn) = Unit {0}
 IsFound cs kind.Acts = Unit {0}
 
-first_is : (a b : Option Why) → first_why a b ≡ None → a ≡ None
+pub first_is : (a b : Option Why) → first_why a b ≡ None → a ≡ None
 first_is None b e = refl
 first_is (Some w) b e = absurd cc
+
+pub first_then : (a b : Option Why) → first_why a b ≡ None → b ≡ None
+first_then None b e = e
+first_then (Some w) b e = absurd cc
 
 pub found : (s : Present) (e : Event) → enabled_at s e ≡ None → IsFound s.connections (kind_of e)
 found s (event.Dial conn) e = e
@@ -51,3 +60,8 @@ found s (event.Took conn) e = tt
 found s event.New e = tt
 found s (event.Key w side text) e = tt
 found s (event.Sel w range) e = tt
+found s (event.Exec at) e = tt
+found s (event.Arg at chord) e = tt
+found s (event.Look at) e = tt
+found s (event.File path text) e = tt
+found s (event.Dir path) e = tt

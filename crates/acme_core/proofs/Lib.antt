@@ -9,6 +9,9 @@ pub mod Viewed
 pub mod Typed
 pub mod Connected
 pub mod Moved
+pub mod Meant
+pub mod Tagged
+pub mod Answered
 pub mod Kinded
 pub mod Idling
 pub mod Applied

@@ -1,32 +1,70 @@
--- What can be done, where the present state is the kept one.
-use Rattle.std.proofs.Common.{◌≡◌, ℕ, List, Option, Result, Ok, Err, IfOk, sym, ap, subst}
-use Rattle.am_text.specs.declared.memory.NoMemory.{NoMemory}
-use Rattle.win_events.specs.declared.item.Origin.{Origin}
-use Rattle.core_windows.specs.declared.change.Change.{Change}
-use Rattle.core_fids.specs.Done.{CanBeMade}
+-- What a task does to a scene where nothing is ready, and what is then taken of it.
+use Rattle.std.proofs.Common.{◌≡◌, ℕ, List, [], ◌∷◌, refl, sym, ap, subst, ◌∙◌}
+use Rattle.am_text.specs.Twice.{Twice}
+use Rattle.event_book.specs.BookState.{BookState}
 use Rattle.core_scene.specs.declared.deed.Entry.{Entry}
 use Rattle.core_scene.specs.declared.deed.Deed.{Deed}
+use Rattle.core_scene.specs.declared.deed.Deed.TheVariants as deed
+use Rattle.core_scene.specs.declared.deed.WindowItem.{WindowItem}
 use Rattle.core_scene.specs.declared.scene.Scene.{Scene}
-use Rattle.core_scene.specs.Changing.{deeds_of}
-use Rattle.core_scene.specs.Scenes.{SceneState, scene_of, kept_of, IsSettled, CanDoAll}
-use Rattle.core_scene.proofs.Possible.{can_deeds}
+use Rattle.core_scene.specs.Scenes.{SceneState, scene_of, kept_of, IsSettled, done, done_all, deleted_by, CanDoAll, Did}
+use Rattle.core_scene.proofs.Dids.{deleted_done}
 use Rattle.core_scene.proofs.Settled.{settled_is}
-use Rattle.acme_core.specs.declared.doing.Doing.{Doing}
-use Rattle.acme_core.specs.Doings.{changing, CanBeDone}
-use Rattle.acme_core.specs.States.{Present, next_entry}
+use Rattle.core_tasks.specs.declared.task.Task.{Task}
+use Rattle.core_tasks.specs.Tasks.{task_deeds, CanDoTask}
 
-pub can_now : (e : Entry) (x : Scene) (ds : List Deed) → IsSettled x → CanDoAll e (kept_of x) ds → CanDoAll e (scene_of x) ds
-can_now e x ds steady can = subst (λ (s : SceneState). CanDoAll e s ds) (sym (settled_is x steady)) can
+-- what can be done in the kept state can be done in the present one
+pub can_now : (e : Entry) (x : Scene) (t : Task) → IsSettled x → CanDoTask e (kept_of x) t → CanDoTask e (scene_of x) t
+can_now e x t settled can = subst (λ (s : SceneState). CanDoTask e s t) (sym (settled_is x settled)) can
 
--- changes of the windows that can be made can be done, whatever the items come from
-pub can_changes : (s : Present) (origin : Origin) (ds : List Deed) (cs : List Change) → ds ≡ deeds_of cs → CanBeMade s.scene.windows cs
-    → CanDoAll (record { at = next_entry s; origin = origin }) s.scene ds
-can_changes s origin ds cs is can =
-    let e : Entry = record { at = next_entry s; origin = origin } in
-    subst (λ (xs : List Deed). CanDoAll e s.scene xs) (sym is) (can_deeds e s.scene cs (can (next_entry s)))
+-- deeds leave the event files as they are
+book_done : (e : Entry) (s : SceneState) (ds : List Deed) → (done_all e s ds).book ≡ s.book
+book_done e s [] = refl
+book_done e s (deed.Windows c ∷ ds) = book_done e (done e s (deed.Windows c)) ds
+book_done e s (deed.Item w item ∷ ds) = book_done e (done e s (deed.Item w item)) ds
+book_done e s (deed.Snarfs text ∷ ds) = book_done e (done e s (deed.Snarfs text)) ds
+book_done e s (deed.Stores path bytes ∷ ds) = book_done e (done e s (deed.Stores path bytes)) ds
+book_done e s (deed.MakesDir path ∷ ds) = book_done e (done e s (deed.MakesDir path)) ds
+book_done e s (deed.Requests job ∷ ds) = book_done e (done e s (deed.Requests job)) ds
+book_done e s (deed.AddsRules sets vars text ∷ ds) = book_done e (done e s (deed.AddsRules sets vars text)) ds
+book_done e s (deed.ClearsRules ∷ ds) = book_done e (done e s deed.ClearsRules) ds
+book_done e s (deed.AddsPort name ∷ ds) = book_done e (done e s (deed.AddsPort name)) ds
+book_done e s (deed.Delivers port message keep ∷ ds) = book_done e (done e s (deed.Delivers port message keep)) ds
 
-pub if_changing : (s : Present) (cs : List Change) (o : Origin) (r : Result Doing NoMemory) → IfOk r (λ d. d ≡ changing cs o) → CanBeMade s.scene.windows cs → IfOk r (CanBeDone s)
-if_changing s cs o (Ok d) is can = can_changes s d.origin d.deeds cs (ap (λ (x : Doing). x.deeds) is) can
-if_changing s cs o (Err e) is can = tt
+both_same : (a b : Twice BookState) → a.present ≡ b.present → a.kept ≡ b.kept → a ≡ b
+both_same a b p k = rw (p, k) refl
+
+-- old: the scene before the task; x: the scene once it is done
+module _ (e : Entry) (old x : Scene) (t : Task) (settled : IsSettled old) (did : Did e (scene_of old) (scene_of x) (task_deeds e t (scene_of old))) where
+  abbrev deeds : List Deed
+  deeds = task_deeds e t (kept_of old)
+
+  did_kept : Did e (kept_of old) (scene_of x) deeds
+  did_kept = subst (λ (s : SceneState). Did e s (scene_of x) (task_deeds e t s)) (settled_is old settled) did
+
+  pub task_can : CanDoAll e (kept_of old) deeds
+  task_can = did_kept.can
+
+  -- the scene without the items and the windows that are taken of it
+  pub task_scene : (y z : Scene) → y ≡ record x { items = [] } → z ≡ record y { deleted = [] } → scene_of z ≡ record (done_all e (kept_of old) deeds) { items = []; deleted = [] }
+  task_scene y z first second =
+      ap scene_of (second ∙ ap (λ (s : Scene). record s { deleted = [] }) first) ∙ ap (λ (s : SceneState). record s { items = []; deleted = [] }) did_kept.made
+
+  pub task_items : (items : List WindowItem) → items ≡ x.items → items ≡ (done_all e (kept_of old) deeds).items
+  task_items items is = is ∙ ap (λ (s : SceneState). s.items) did_kept.made
+
+  pub task_deleted : (y : Scene) (deleted : List ℕ) → y ≡ record x { items = [] } → deleted ≡ y.deleted → deleted ≡ deleted_by deeds
+  task_deleted y deleted first is =
+      is ∙ ap (λ (s : Scene). s.deleted) first ∙ ap (λ (s : SceneState). s.deleted) did_kept.made ∙ deleted_done e (kept_of old) deeds
+
+  pub task_kept : (y z : Scene) → kept_of x ≡ kept_of old → y ≡ record x { items = [] } → z ≡ record y { deleted = [] } → kept_of z ≡ kept_of old
+  task_kept y z kept first second = ap kept_of (second ∙ ap (λ (s : Scene). record s { deleted = [] }) first) ∙ kept
+
+  pub task_book : (y z : Scene) → kept_of x ≡ kept_of old → y ≡ record x { items = [] } → z ≡ record y { deleted = [] } → z.book ≡ old.book
+  task_book y z kept first second =
+      ap (λ (s : Scene). s.book) (second ∙ ap (λ (s : Scene). record s { deleted = [] }) first)
+      ∙ both_same x.book old.book (ap (λ (s : SceneState). s.book) did.made ∙ book_done e (scene_of old) (task_deeds e t (scene_of old))) (ap (λ (s : SceneState). s.book) kept)
 
 pub ruleset moving = (can_now)
+
+pub ruleset tasking = (can_now, task_can, task_scene, task_items, task_deleted, task_kept, task_book)

@@ -49,3 +49,7 @@ took_refusal (Ended cause) count = if count == 0 then Some why.Nothing else None
 
 abbrev pub new_refusal : Bool → Option Why
 new_refusal full = if full then Some why.Windows else None
+
+-- nothing in the tree of files stands where a file or a directory is to come
+abbrev pub tree_refusal : Bool → Option Why
+tree_refusal clashes = if clashes then Some why.Tree else None

@@ -14,6 +14,11 @@ kind_of (event.Took conn) = kind.Takes conn
 kind_of event.New = kind.Acts
 kind_of (event.Key w side text) = kind.Acts
 kind_of (event.Sel w range) = kind.Acts
+kind_of (event.Exec at) = kind.Acts
+kind_of (event.Arg at chord) = kind.Acts
+kind_of (event.Look at) = kind.Acts
+kind_of (event.File path text) = kind.Acts
+kind_of (event.Dir path) = kind.Acts
 
 -- its connection, 0 where it has none
 abbrev pub conn_of : Kind → ℕ

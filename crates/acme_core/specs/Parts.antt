@@ -1,10 +1,9 @@
 -- The state that the editor's tables stand for, and what is ready in them.
 use Rattle.std.specs.Prelude.{◌≡◌, []}
 use Rattle.am_text.specs.Twice.{IsSteady}
-use Rattle.core_scene.specs.Scenes.{SceneState, scene_of, kept_of, IsSettled}
+use Rattle.core_scene.specs.Scenes.{SceneState, scene_of, kept_of, IsSettled, deleted_by}
 use Rattle.core_events.specs.Sound.{IsSound}
-use Rattle.core_events.specs.Waits.{deleted_by}
-use Rattle.acme_core.specs.declared.doing.Doing.{Doing}
+use Rattle.acme_core.specs.Doings.{Doing}
 use Rattle.acme_core.specs.declared.kind.Kind.{Kind}
 use Rattle.acme_core.specs.declared.parts.Parts.{Parts}
 use Rattle.acme_core.specs.declared.prepared.Prepared.{Prepared}
@@ -34,7 +33,7 @@ pub record AreSteady (p : Parts) : Type 0 where
 
 -- the scene with all that a step makes
 abbrev pub grown_scene : Present → Kind → Doing → SceneState
-grown_scene s k d = record (acted s d) { book = grown_book s k d; items = [] }
+grown_scene s k d = record (acted s d) { book = grown_book s k d; items = []; deleted = [] }
 
 -- All that a step makes is ready, and what it ends is known, where its event does this.
 pub record HasReady (p : Parts) (prepared : Prepared) (d : Doing) : Type 0 where
@@ -42,6 +41,7 @@ pub record HasReady (p : Parts) (prepared : Prepared) (d : Doing) : Type 0 where
   pub effect : prepared.effect ≡ d.effect
   pub events : prepared.events ≡ d.events
   pub deleted : prepared.deleted ≡ deleted_by d.deeds
+  pub back : prepared.back ≡ d.back
   pub answers : prepared.said ≡ said (present_of p) (kind_of prepared.event) d
   pub replies : prepared.replies.items ≡ replies_of (said (present_of p) (kind_of prepared.event) d)
   pub joined : IsOfJoined p.sessions.present (kind_of prepared.event)

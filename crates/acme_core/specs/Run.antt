@@ -45,6 +45,11 @@ is_hang (event.Took conn) = false
 is_hang event.New = false
 is_hang (event.Key w side text) = false
 is_hang (event.Sel w range) = false
+is_hang (event.Exec at) = false
+is_hang (event.Arg at chord) = false
+is_hang (event.Look at) = false
+is_hang (event.File path text) = false
+is_hang (event.Dir path) = false
 
 abbrev pub IsHang : Event → Type 0
 IsHang e = is_hang e ≡ true

@@ -1,5 +1,6 @@
 -- A step, part by part. First comes what it makes: the message is answered, or waits; deeds are done; items come; waiting reads are
--- answered. Then comes what it ends: openings of freed fids and of deleted windows, and reads that wait no more.
+-- answered. Then comes what it ends: the item that is written back, openings of freed fids and of deleted windows, and reads that wait no
+-- more.
 use Rattle.std.specs.Prelude.{ℕ, List, [], ◌∷◌, ◌++◌, Option, Some, None}
 use Rattle.ninep_types.specs.declared.message.RBody.{RBody}
 use Rattle.fid_table.specs.Tables.{Tables, after_hangup}
@@ -7,22 +8,21 @@ use Rattle.wait_queue.specs.declared.types.Asker.{Asker}
 use Rattle.am_journal.specs.declared.event.Event.{Event}
 use Rattle.event_book.specs.BookState.{BookState}
 use Rattle.core_windows.specs.Stories.{all_changed_stories}
-use Rattle.core_scene.specs.Scenes.{SceneState, done_all}
+use Rattle.core_scene.specs.Scenes.{SceneState, done_all, deleted_by}
 use Rattle.core_scene.specs.SceneLaws.{changes_in}
 use Rattle.core_fids.specs.declared.effect.Answer.{Answer}
 use Rattle.core_fids.specs.declared.effect.Answer.TheVariants.{Says, Reads}
 use Rattle.core_events.specs.declared.response.Response.{Response}
 use Rattle.core_events.specs.Asking.{opened, read_said, book_read, tables_read}
-use Rattle.core_events.specs.Closing.{freed, cancelled, closed_with, without_fids}
+use Rattle.core_events.specs.Closing.{written_back, freed, cancelled, closed_with, without_fids}
 use Rattle.core_events.specs.Putting.{put_all, put_living, ending}
 use Rattle.core_events.specs.Responses.{event_feed}
 use Rattle.core_events.specs.Serving.{served_all, book_served_all}
-use Rattle.core_events.specs.Waits.{clunked, deleted_by, deletions, ended, without_cancelled}
-use Rattle.acme_core.specs.declared.doing.Doing.{Doing}
+use Rattle.core_events.specs.Waits.{clunked, deletions, ended, without_cancelled}
 use Rattle.acme_core.specs.declared.kind.Kind.{Kind}
 use Rattle.acme_core.specs.declared.kind.Kind.TheVariants as kind
 use Rattle.acme_core.specs.Connections.{connections_after, grown, ended_with}
-use Rattle.acme_core.specs.Doings.{entry_of}
+use Rattle.acme_core.specs.Doings.{Doing, entry_of}
 use Rattle.acme_core.specs.Kinds.{kind_of, conn_of}
 use Rattle.acme_core.specs.States.{Present, State, next_entry}
 use Rattle.acme_core.specs.Replies.{replies_of}
@@ -125,9 +125,9 @@ left_book at tables (kind.Ends conn why) d book = without_fids at book tables co
 left_book at tables (kind.Takes conn) d book = book
 left_book at tables kind.Acts d book = book
 
--- and the event files of the windows that are deleted
+-- first the item that is written back, and at last the event files of the windows that are deleted
 abbrev pub closed_book : ℕ → Tables → Kind → Doing → BookState → BookState
-closed_book at tables k d book = closed_with at (left_book at tables k d book) (deleted_by d.deeds)
+closed_book at tables k d book = closed_with at (left_book at tables k d (written_back at book d.back)) (deleted_by d.deeds)
 
 -- the sessions without the fids that are freed, and the reads that were answered wait no more
 abbrev pub ended_tables : Tables → Kind → Doing → List Response → Tables
@@ -156,7 +156,7 @@ book_after s k d = closed_book (next_entry s) (grown_tables s k d) k d (grown_bo
 
 -- the scene after it
 abbrev pub scene_after : Present → Kind → Doing → SceneState
-scene_after s k d = record (acted s d) { book = book_after s k d; items = [] }
+scene_after s k d = record (acted s d) { book = book_after s k d; items = []; deleted = [] }
 
 -- the editor as it stands after an event that does this
 abbrev pub after : Present → Event → Doing → Present

@@ -36,9 +36,8 @@ window_views w (Some window ∷ ws) = window_view w window ∷ window_views (w +
 abbrev pub ledger : List Event → List ItemView
 ledger journal = ledger_of (run journal).scene.book.files
 
--- there are no requests yet
 abbrev pub view_at : ℕ → Present → View
-view_at entries s = record { entries = entries; conns = conn_views 0 s.connections; windows = window_views 1 s.scene.windows; items = ledger_of s.scene.book.files; jobs = [] }
+view_at entries s = record { entries = entries; conns = conn_views 0 s.connections; windows = window_views 1 s.scene.windows; items = ledger_of s.scene.book.files; jobs = s.scene.jobs }
 
 unfoldable pub view_of : List Event → View
 view_of journal = view_at (length journal) (present_after journal)

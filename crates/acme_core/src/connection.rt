@@ -5,7 +5,7 @@ ghost use Rattle.am_text.specs.Twice.{both, IsSteady};
 ghost use Rattle.fid_table.specs.Tables.{HasJoined};
 ghost use Rattle.acme_core.specs.Connections.{connection_at, connections_after, live_count, is_live, IsJoinedFor, IsOfJoined, grown, grown_with, ended_with};
 ghost use Rattle.acme_core.specs.Stages.{ended_tables};
-ghost use Rattle.acme_core.specs.declared.doing.Doing.{Doing};
+ghost use Rattle.acme_core.specs.Doings.{Doing};
 
 use crate::kind::Kind;
 use am_journal::Ending;

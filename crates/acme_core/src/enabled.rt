@@ -1,7 +1,7 @@
 //! The reasons for which an event isn't enabled.
 
 ghost use Rattle.std.specs.Prelude.{◌≡◌};
-ghost use Rattle.acme_core.specs.Enabled.{first_why, dial_refusal, live_refusal, size_refusal, tag_refusal, replies_refusal, msg_refusal, took_refusal, new_refusal};
+ghost use Rattle.acme_core.specs.Enabled.{first_why, dial_refusal, live_refusal, size_refusal, tag_refusal, replies_refusal, msg_refusal, took_refusal, new_refusal, tree_refusal};
 
 use crate::connection::Connection;
 use am_journal::Why;
@@ -9,7 +9,8 @@ use am_journal::Why;
 /// The most unsent replies at which a message comes is one less.
 pub(crate) const REPLIES: usize = 256;
 
-fn first_why(first: Option<Why>, later: Option<Why>) -> Option<Why>
+/// The first of two reasons, of which the second counts where there is no first one.
+pub(crate) fn first_why(first: Option<Why>, later: Option<Why>) -> Option<Why>
     ensures { result ≡ first_why first later }
 {
     match first {
@@ -102,4 +103,11 @@ pub(crate) fn new_refusal(full: bool) -> Option<Why>
     ensures { result ≡ new_refusal full }
 {
     if full { Some(Why::Windows) } else { None }
+}
+
+/// Why nothing can be stored or made in the tree of files, where it clashes with what stands there.
+pub(crate) fn tree_refusal(clashes: bool) -> Option<Why>
+    ensures { result ≡ tree_refusal clashes }
+{
+    if clashes { Some(Why::Tree) } else { None }
 }

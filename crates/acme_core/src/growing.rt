@@ -1,10 +1,11 @@
 //! What a step makes, done to the present states, which can be taken back.
 
 ghost use Rattle.std.specs.Prelude.{◌≡◌, ◌++◌, ◌∷◌, [], false, length, IfOk, OnOk};
+ghost use Rattle.core_tasks.specs.Tasks.{task_deeds, task_refusal, CanDoTask};
 ghost use Rattle.core_fids.specs.Done.{IsSent};
 ghost use Rattle.am_text.specs.Twice.{IsSteady};
 ghost use Rattle.fid_table.specs.Tables.{HasJoined};
-ghost use Rattle.core_scene.specs.Scenes.{scene_of, kept_of};
+ghost use Rattle.core_scene.specs.Scenes.{scene_of, kept_of, done_all, deleted_by, CanDoAll, IsSettled};
 ghost use Rattle.core_events.specs.declared.response.Feed.{Feed};
 ghost use Rattle.core_events.specs.Responses.{AreSaid};
 ghost use Rattle.core_events.specs.Asking.{opened};
@@ -15,7 +16,8 @@ ghost use Rattle.core_events.specs.Sound.{IsSound, IsIdle};
 ghost use Rattle.acme_core.specs.Connections.{IsJoinedFor, IsOfJoined, grown};
 ghost use Rattle.acme_core.specs.Kinds.{kind_of, conn_of};
 ghost use Rattle.acme_core.specs.Parts.{present_of, AreSteady, HasReady};
-ghost use Rattle.acme_core.specs.Doings.{IsAnswerable, CanBeDone};
+ghost use Rattle.acme_core.specs.Doings.{IsAnswerable, CanBeDone, CanBeMeant, resolved};
+ghost use Rattle.acme_core.specs.Intents.{answer_or};
 ghost use Rattle.acme_core.specs.Run.{is_hang};
 ghost use Rattle.acme_core.specs.Stages.{response, answer_said, answer_book, answer_tables, message_said, message_book, message_tables};
 ghost use Rattle.acme_core.specs.States.{next_entry};
@@ -23,19 +25,20 @@ ghost use Rattle.acme_core.specs.Replies.{replies_of, reply_of};
 ghost use Rattle.core_outputs.specs.Unsent.{put_replies, HasBytes, HaveBytes};
 
 use crate::connection::grow_sessions;
-use crate::doing::Doing;
+use crate::intent::{Intent, answer_or};
 use crate::kind::{Kind, conn_of, kind_of};
 use crate::parts::Parts;
 use crate::prepared::Prepared;
 use am_journal::Event;
-use am_text::{Items, NoMemory};
+use am_text::{Ids, Items, NoMemory};
 use core_events::{
-    Book, Feed, Response, Responses, clunked, deleted_by, deletions, event_feed, joined,
+    Book, Feed, Response, Responses, clunked, deletions, event_feed, joined,
     open_events, put_all, put_living, read_events, serve_all,
 };
 use core_fids::{Answer, Effect, EventChange};
 use core_outputs::Reply;
-use core_scene::{Entry, WindowItems};
+use core_scene::{Entry, Scene, WindowItems};
+use core_tasks::{Task, do_task};
 use fid_table::Sessions;
 use ninep_types::{RBody, RMsg};
 use ninep_wire::write_r;
@@ -49,11 +52,50 @@ struct EndedSaid {
     deleted: Responses,
 }
 
+// What a task makes: items, and windows that are deleted; and the answer to the message.
+#[derive(Drop)]
+struct Acted {
+    items: WindowItems,
+    deleted: Ids,
+    answer: Option<Answer>,
+}
+
 // What a message asks of event files: its answer, and an opening.
 #[derive(Drop)]
 struct Asks {
     answer: Option<Answer>,
     events: EventChange,
+}
+
+// The scene with what the task does to it, and without the items that it makes and the windows that it deletes.
+#[tactic(auto, using(crate::proofs::Moved::tasking))]
+fn act(
+    alloc: Global,
+    scene: &mut Scene,
+    entry: Entry,
+    task: Task,
+    answer: Option<Answer>,
+) -> Result<Acted, NoMemory>
+    requires settled { IsSettled scene.old }
+    requires can { CanDoTask entry (kept_of scene.old) task }
+    requires answerable { IsAnswerable answer }
+    ensures scene { OnOk result (scene_of scene.new ≡ record (done_all entry (kept_of scene.old) (task_deeds entry task (kept_of scene.old))) { items = []; deleted = [] }) }
+    ensures items { IfOk result (λ a. a.items ≡ (done_all entry (kept_of scene.old) (task_deeds entry task (kept_of scene.old))).items) }
+    ensures deleted { IfOk result (λ a. a.deleted ≡ deleted_by (task_deeds entry task (kept_of scene.old))) }
+    ensures answer { IfOk result (λ a. a.answer ≡ answer_or (task_refusal entry task (kept_of scene.old)) answer) }
+    ensures answerable { IfOk result (λ a. IsAnswerable a.answer) }
+    ensures possible { OnOk result (CanDoAll entry (kept_of scene.old) (task_deeds entry task (kept_of scene.old))) }
+    ensures kept { kept_of scene.new ≡ kept_of scene.old }
+    ensures book { OnOk result (scene.new.book ≡ scene.old.book) }
+{
+    let refusal = do_task(alloc, scene, entry, task)?;
+    let items = scene.take_items(alloc);
+    let deleted = scene.take_deleted(alloc);
+    Ok(Acted {
+        items,
+        deleted,
+        answer: answer_or(alloc, refusal, answer)?,
+    })
 }
 
 // One thing that is said; and what the message read, where it read an event file.
@@ -264,17 +306,17 @@ fn in_order(ended: EndedSaid, answered: Responses, served: Responses) -> Result<
 
 impl Parts {
     /// Makes all that an event does ready. What the tables mean stays.
-    #[tactic(auto, using(crate::proofs::Joins::joining, crate::proofs::Moved::moving))]
+    #[tactic(auto, using(crate::proofs::Joins::joining))]
     pub(crate) fn grow(
         &mut self,
         alloc: Global,
         event: Event,
-        doing: Doing,
+        intent: Intent,
         at: u64,
     ) -> Result<Prepared, NoMemory>
         requires stays { is_hang event ≡ false }
-        requires possible { CanBeDone (present_of self.old) doing }
-        requires answerable { IsAnswerable doing.answer }
+        requires possible { CanBeMeant (present_of self.old) intent }
+        requires answerable { IsAnswerable intent.answer }
         requires joined { IsJoinedFor self.old.sessions.kept (kind_of event) }
         requires steady { AreSteady self.old }
         requires sound { IsSound at self.old.scene.book.kept }
@@ -282,19 +324,23 @@ impl Parts {
         requires at { at ≡ next_entry (present_of self.old) }
         ensures state { present_of self.new ≡ present_of self.old }
         ensures event { IfOk result (λ p. p.event ≡ event) }
-        ensures ready { IfOk result (λ p. HasReady self.new p doing) }
+        ensures possible { OnOk result (CanBeDone (present_of self.old) (resolved (present_of self.old) intent)) }
+        ensures ready { IfOk result (λ p. HasReady self.new p (resolved (present_of self.old) intent)) }
     {
-        let Doing {
+        let Intent {
             effect,
             events,
-            deeds,
+            task,
             origin,
             answer,
-        } = doing;
+            back,
+        } = intent;
         let kind = kind_of(&event);
-        let deleted = deleted_by(alloc, deeds.as_slice())?;
-        self.scene.act_all(alloc, Entry { at, origin }, deeds)?;
-        let items = self.scene.take_items(alloc);
+        let Acted {
+            items,
+            deleted,
+            answer,
+        } = act(alloc, &mut self.scene, Entry { at, origin }, task, answer)?;
         let ended = ended_said(
             alloc,
             &self.sessions,
@@ -321,6 +367,7 @@ impl Parts {
             effect,
             events,
             deleted,
+            back,
             said,
             replies,
         })

@@ -38,6 +38,11 @@ pub(crate) fn kind_of(event: &Event) -> Kind
         Event::New => Kind::Acts,
         Event::Key { .. } => Kind::Acts,
         Event::Sel { .. } => Kind::Acts,
+        Event::Exec { .. } => Kind::Acts,
+        Event::Arg { .. } => Kind::Acts,
+        Event::Look { .. } => Kind::Acts,
+        Event::File { .. } => Kind::Acts,
+        Event::Dir { .. } => Kind::Acts,
     }
 }
 

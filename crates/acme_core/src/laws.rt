@@ -2,10 +2,20 @@
 
 ghost use Rattle.am_counter.specs.Laws.{TellsConnections};
 ghost use Rattle.acme_core.specs.Asks.{answer_at};
+ghost use Rattle.acme_core.specs.Laws.{EachIsAnswered};
 ghost use Rattle.acme_core.specs.Run.{enabled};
+
+use core_answers::reactions_are_answered;
 
 /// Over a journal of enabled events a connection was dialled, or has ended, exactly where the journal has that entry.
 #[tactic(auto, using(crate::proofs::Connected::connected))]
 pub fn journals_tell_connections()
     ensures { TellsConnections enabled answer_at }
 {}
+
+/// A message is answered by its own R message, unless one of the named refusals applies, whose text is answered.
+pub fn messages_are_answered()
+    ensures { EachIsAnswered }
+{
+    reactions_are_answered();
+}

@@ -4,27 +4,27 @@
 mod asking;
 mod closing;
 mod connection;
-mod doing;
 mod editor;
 mod enabled;
 mod growing;
+mod intent;
 mod kind;
 mod laws;
 mod origin;
 mod parts;
 mod planning;
 mod prepared;
+mod spot;
 mod typing;
 mod view;
 
 pub use am_counter::Ask;
 pub use am_journal::{
-    ConnView, ConnViews, Event, ItemView, ItemViews, Journal, Refused, Side, View, Why, WindowView,
+    ConnView, ConnViews, Event, ItemView, ItemViews, Journal, Refused, Side, Spot, View, Why, WindowView,
     WindowViews,
 };
 pub use am_text::{Bytes, Items, NoMemory, Range, Rune, Runes};
-pub use core_answers::messages_are_answered;
 pub use core_outputs::Reply;
 pub use editor::{Core, Plan};
-pub use laws::journals_tell_connections;
+pub use laws::{journals_tell_connections, messages_are_answered};
 pub use ninep_types::{RBody, RMsg, TBody, TMsg};

@@ -7,8 +7,7 @@ ghost use Rattle.am_journal.specs.Lawful.{IsLawful};
 ghost use Rattle.fid_table.specs.Tables.{is_waiting};
 ghost use Rattle.core_scene.specs.Scenes.{kept_of, scene_in};
 ghost use Rattle.core_events.specs.Sound.{IsSound};
-ghost use Rattle.acme_core.specs.declared.doing.Doing.{Doing};
-ghost use Rattle.acme_core.specs.Doings.{enabled_at, is_version, is_tag_used};
+ghost use Rattle.acme_core.specs.Doings.{Doing, enabled_at, is_version, is_tag_used};
 ghost use Rattle.acme_core.specs.Parts.{present_of, AreSteady, HasReady};
 ghost use Rattle.acme_core.specs.Run.{is_hang};
 ghost use Rattle.acme_core.specs.Stages.{after, left_unsent};
@@ -16,9 +15,12 @@ ghost use Rattle.acme_core.specs.States.{start, present};
 
 use crate::closing::change_book;
 use crate::connection::{Connection, change_connections, change_sessions, connection_at};
-use crate::enabled::{dial_refusal, live_refusal, msg_refusal, new_refusal, took_refusal};
+use crate::enabled::{
+    dial_refusal, live_refusal, msg_refusal, new_refusal, took_refusal, tree_refusal,
+};
 use crate::kind::{Kind, kind_of};
 use crate::prepared::Prepared;
+use crate::spot::{arg_refusal, spot_refusal};
 use crate::typing::{key_refusal, sel_refusal};
 use acme_tree::is_full;
 use am_journal::{Event, Why};
@@ -58,6 +60,11 @@ pub(crate) fn is_hang(event: &Event) -> bool
         Event::New => false,
         Event::Key { .. } => false,
         Event::Sel { .. } => false,
+        Event::Exec { .. } => false,
+        Event::Arg { .. } => false,
+        Event::Look { .. } => false,
+        Event::File { .. } => false,
+        Event::Dir { .. } => false,
     }
 }
 
@@ -141,6 +148,11 @@ impl Parts {
                 key_refusal(&self.scene.windows, *window, *side, text.as_slice())
             }
             Event::Sel { window, range } => sel_refusal(&self.scene.windows, *window, *range),
+            Event::Exec { at } => spot_refusal(&self.scene.windows, *at),
+            Event::Arg { at, chord } => arg_refusal(&self.scene.windows, *at, *chord),
+            Event::Look { at } => spot_refusal(&self.scene.windows, *at),
+            Event::File { path, .. } => tree_refusal(self.scene.files.clashes_file(path.as_slice())),
+            Event::Dir { path } => tree_refusal(self.scene.files.clashes_dir(path.as_slice())),
         }
     }
 
@@ -152,27 +164,19 @@ impl Parts {
         ensures sound { IsSound self.new.entries self.new.scene.book.kept }
         ensures steady { AreSteady self.new }
     {
+        let kind = kind_of(&prepared.event);
+        change_connections(self.connections.as_mut_slice(), kind);
+        self.scene.keep(alloc);
+        change_book(&mut self.scene.book, &self.sessions, kind, &prepared);
         let Prepared {
             event,
             at,
             effect,
             events,
-            deleted,
             said,
             replies,
+            ..
         } = prepared;
-        let kind = kind_of(&event);
-        change_connections(self.connections.as_mut_slice(), kind);
-        self.scene.keep(alloc);
-        change_book(
-            &mut self.scene.book,
-            &self.sessions,
-            kind,
-            &effect,
-            events,
-            deleted.as_slice(),
-            at,
-        );
         change_sessions(&mut self.sessions, kind, &effect, events, said.as_slice());
         self.outputs.keep();
         take_replies(alloc, &mut self.outputs, kind);

@@ -11,7 +11,7 @@ ghost use Rattle.acme_core.specs.Parts.{present_of, AreSteady, HasReady};
 ghost use Rattle.acme_core.specs.Run.{Refuses, is_hang, IsHang, IsWhy};
 
 use crate::connection::live_count;
-use crate::doing::doing_of;
+use crate::intent::intent_of;
 use crate::parts::{Parts, is_hang};
 use crate::prepared::Prepared;
 use am_journal::{Event, Refused};
@@ -39,10 +39,10 @@ fn ready(
     ensures event { IfOk result (λ p. p.event ≡ event) }
     ensures prepared { IfOk result (IsPrepared (present_of parts.old) journal.new.spare parts.new) }
 {
-    let doing = doing_of(alloc, parts, &event)?;
+    let intent = intent_of(alloc, parts, &event)?;
     journal.reserve(live_count(&parts.connections) + 2)?;
     let at = parts.entries + 1;
-    parts.grow(alloc, event, doing, at)
+    parts.grow(alloc, event, intent, at)
 }
 
 // A hang-up, whose entry was reserved. It takes no memory.
@@ -62,6 +62,7 @@ fn hanging(alloc: Global, parts: &Parts, event: Event) -> Prepared
         effect: Effect::Nothing,
         events: EventChange::Nothing,
         deleted: Items::new(alloc),
+        back: None,
         said: Items::new(alloc),
         replies: Vec::new(alloc),
     }

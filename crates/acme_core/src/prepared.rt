@@ -1,19 +1,21 @@
 //! What a step will do, made ready beforehand.
 
 use am_journal::Event;
-use core_events::{Numbers, Responses};
+use am_text::Ids;
+use core_events::{BackItem, Responses};
 use core_fids::{Effect, EventChange};
 use core_outputs::Reply;
 
 /// An event with all that its step will do: the number of its entry, what it does to the fids and the session of its connection and to
-/// event files, the windows that it deletes, and what is said to connections.
+/// event files, the windows that it deletes, the item that it writes back, and what is said to connections.
 #[derive(Drop)]
 pub struct Prepared {
     pub event: Event,
     pub at: u64,
     pub effect: Effect,
     pub events: EventChange,
-    pub deleted: Numbers,
+    pub deleted: Ids,
+    pub back: Option<BackItem>,
     pub said: Responses,
     pub replies: Vec<Reply>,
 }

@@ -8,7 +8,7 @@ ghost use Rattle.acme_core.specs.Views.{conn_views, window_views, window_view, v
 use crate::connection::Connection;
 use crate::parts::Parts;
 use am_journal::{ConnView, ConnViews, View, WindowView, WindowViews};
-use am_text::{Items, NoMemory};
+use am_text::{Items, Job, Jobs, NoMemory};
 use core_windows::Pane;
 use std::alloc::Global;
 
@@ -65,6 +65,31 @@ fn window_views(alloc: Global, panes: &[Option<Pane>], next: u32) -> Result<Wind
     Ok(views)
 }
 
+fn copied(alloc: Global, job: &Job) -> Result<Job, NoMemory>
+    ensures { IfOk result (λ copy. copy ≡ job.now) }
+{
+    Ok(Job {
+        kind: job.kind,
+        window: job.window,
+        dir: Items::copied(alloc, job.dir.as_slice())?,
+        command: Items::copied(alloc, job.command.as_slice())?,
+        input: Items::copied(alloc, job.input.as_slice())?,
+    })
+}
+
+#[tactic(auto, using(crate::proofs::Viewed::viewing))]
+fn jobs_of(alloc: Global, jobs: &[Job]) -> Result<Jobs, NoMemory>
+    ensures { IfOk result (λ views. views ≡ jobs.now) }
+{
+    let mut views = Items::new(alloc);
+    let mut rest = jobs;
+    while let [job, after @ ..] = rest {
+        views.push(copied(alloc, job)?)?;
+        rest = after;
+    }
+    Ok(views)
+}
+
 /// The view of the tables after so many entries.
 pub(crate) fn view_of(alloc: Global, entries: u64, parts: &Parts) -> Result<View, NoMemory>
     requires conns { length parts.now.connections.items ≡ 64 }
@@ -80,6 +105,6 @@ pub(crate) fn view_of(alloc: Global, entries: u64, parts: &Parts) -> Result<View
             parts.scene.windows.world().next,
         )?,
         items: parts.scene.book.kept_ledger()?,
-        jobs: Items::new(alloc),
+        jobs: jobs_of(alloc, parts.scene.jobs.all().as_slice())?,
     })
 }

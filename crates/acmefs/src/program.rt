@@ -4,7 +4,7 @@ ghost use Rattle.std.specs.Prelude.{◌≡◌, None};
 ghost use Rattle.am_base.specs.Written.{seen};
 ghost use Rattle.am_counter.specs.Played.{IsPlayed};
 ghost use Rattle.acme_core.specs.Run.{enabled};
-ghost use Rattle.core_answers.specs.Laws.{EachIsAnswered};
+ghost use Rattle.acme_core.specs.Laws.{EachIsAnswered};
 ghost use Rattle.acmefs.specs.Ends.{Says, status_of};
 ghost use Rattle.acmefs.specs.Own.{PutsOwn, RoundTrips};
 ghost use Rattle.acmefs.specs.Top.{OfDoing, OfDrill, OfReplay, OfServing, OfWords, run};

@@ -2,7 +2,7 @@
 
 ghost use Rattle.core_answers.specs.Laws.{EachIsAnswered};
 
-/// A message is answered by its own R message, unless one of the named refusals applies, whose text is answered.
-pub fn messages_are_answered()
+/// A reaction answers its message by its own R message, unless one of the named refusals applies, whose text is answered.
+pub fn reactions_are_answered()
     ensures { EachIsAnswered }
 {}

@@ -12,5 +12,5 @@ mod write;
 pub use am_text::{Bytes, Items, NoMemory, Rune, Runes};
 pub use answer::reaction_of;
 pub use core_fids::{Reaction, Server};
-pub use laws::messages_are_answered;
+pub use laws::reactions_are_answered;
 pub use ninep_types::TBody;

@@ -16,20 +16,21 @@ use Rattle.wait_queue.proofs.LawLemmas.{leaves}
 use Rattle.win_events.specs.declared.item.Life.TheVariants.{Taken}
 use Rattle.event_book.specs.declared.lives.Recorded.{Recorded}
 use Rattle.event_book.specs.Lives.{all_dropped, pending_from}
-use Rattle.event_book.specs.WindowFiles.{EventFile, WindowFile, queue_of, items_after, enlisted, given, left_with, left, deleted, with_item, file_of, with_file}
-use Rattle.event_book.specs.BookState.{BookState, empty_book, window_of, file_on, is_living, is_open_window, is_ready, next_of, served_of, after_next, after_add, after_put, read_waits, asked_of, piece_for, after_answer, after_ask, after_serve, after_cancel, after_leave, after_delete, is_on_window}
+use Rattle.event_book.specs.WindowFiles.{EventFile, WindowFile, queue_of, items_after, enlisted, given, with_written, left_with, left, deleted, with_item, file_of, with_file}
+use Rattle.event_book.specs.BookState.{BookState, empty_book, window_of, file_on, is_living, is_open_window, is_ready, next_of, served_of, after_next, after_add, after_put, read_waits, asked_of, piece_for, after_answer, after_ask, after_serve, is_taken_of, after_written, after_cancel, after_leave, after_delete, is_on_window}
 use Rattle.event_book.specs.Laws.{WindowsRise, IsLawful}
 use Rattle.event_book.proofs.TableLemmas.{eq_from_test}
-use Rattle.event_book.proofs.FileLemmas.{pending-dropped}
+use Rattle.event_book.proofs.FileLemmas.{pending-dropped, pending-written}
 use Rattle.event_book.proofs.BookLemmas.{same_window, other_window, carry-enlisted, carry-without}
-use Rattle.event_book.proofs.LawfulLemmas.{lawful-empty, window-more, lawful-add, lawful-put_in, lawful-waits, lawful-answer, lawful-serve, lawful-cancel, lawful-leave, lawful-delete}
+use Rattle.event_book.proofs.LawfulLemmas.{lawful-empty, window-more, lawful-add, lawful-put_in, lawful-waits, lawful-answer, lawful-serve, lawful-written_back, lawful-cancel, lawful-leave, lawful-delete}
 use Rattle.core_fids.specs.declared.effect.Effect.{Effect}
 use Rattle.core_fids.specs.declared.effect.Effect.TheVariants as effect
 use Rattle.core_fids.specs.declared.effect.EventChange.{EventChange}
 use Rattle.core_fids.specs.declared.effect.EventChange.TheVariants as events
 use Rattle.core_scene.specs.declared.deed.WindowItem.{WindowItem}
 use Rattle.core_events.specs.Asking.{opened, is_full, book_asked, book_read}
-use Rattle.core_events.specs.Closing.{without_opening as without_owned, without_fid, without_fids, opening_in, freed, cancelled, closed_with}
+use Rattle.core_events.specs.declared.closing.BackItem.{BackItem}
+use Rattle.core_events.specs.Closing.{written_back, without_opening as without_owned, without_fid, without_fids, opening_in, freed, cancelled, closed_with}
 use Rattle.core_events.specs.Putting.{put_one, put_all, is_among, is_ending, put_if_lives, put_living, ending}
 use Rattle.core_events.specs.Serving.{book_served_most, book_served_all}
 use Rattle.core_events.specs.Sound.{IsIdle}
@@ -275,6 +276,32 @@ module _ (deleted : List ℕ) (at : ℕ) where
         | true ↦ λ living. asked_idle (is_full t a.conn) (asked_of s a) s a living b
         | false ↦ λ dead. b
       ]) refl
+
+  -- ---- what is written back
+
+  written_waits : (f : EventFile) (number : ℕ) (r : Asker) → must_wait (queue_of f) r ≡ true → must_wait (queue_of (with_written f number at)) r ≡ true
+  written_waits f number r h =
+      let w : Why (pending_from 1 f.items) f.openings r = why f r h in
+      waits (with_written f number at) r (record { asks = w.asks; none = pending-written at number 1 f.items ∙ w.none; carry = w.carry })
+
+  after_written_idle : (s : BookState) (w number : ℕ) → AreIdle deleted at s → AreIdle deleted at (after_written s w number at)
+  after_written_idle s w number b =
+      let f : EventFile = with_written (file_of s.files w) number at in
+      record {
+        lawful = lawful-written_back s w number at b.latest b.lawful;
+        latest = omega arith;
+        idle = all_weaker (λ r. is_living s r.opening) (idles deleted s.files s.owners) (idles deleted (with_file w f s.files) s.owners) s.reads
+            (λ r living h. or_right (is_among (window_of s.owners r.opening) deleted) _ _ (with_waits w (window_of s.owners r.opening) f s.files r b.lawful.rise (written_waits (file_of s.files w) number r)) h)
+            b.lawful.living b.idle;
+      }
+
+  pub written_idle : (s : BookState) (o : Option BackItem) → AreIdle deleted at s → AreIdle deleted at (written_back at s o)
+  written_idle s None b = b
+  written_idle s (Some i) b =
+      elim (is_taken_of s i.window i.number) as (λ t. AreIdle deleted at (cond t (after_written s i.window i.number at) s)) [
+        | true ↦ after_written_idle s i.window i.number b
+        | false ↦ b
+      ]
 
   -- ---- what ends
 

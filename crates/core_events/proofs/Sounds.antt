@@ -6,7 +6,7 @@ use Rattle.am_text.specs.Twice.{Twice, both, IsSteady}
 use Rattle.core_scene.specs.declared.deed.WindowItem.{WindowItem}
 use Rattle.wait_queue.specs.Reads.{is_on, is_read, without_first}
 use Rattle.wait_queue.specs.declared.types.Asker.{Asker}
-use Rattle.event_book.specs.BookState.{BookState, is_open_window, after_put, is_ready, next_of, after_next, after_serve, after_leave, after_delete, is_on_window}
+use Rattle.event_book.specs.BookState.{BookState, is_open_window, after_put, is_ready, next_of, after_next, after_serve, after_written, after_leave, after_delete, is_on_window}
 use Rattle.core_fids.specs.declared.effect.EventChange.{EventChange}
 use Rattle.core_fids.specs.declared.effect.EventChange.TheVariants as events
 use Rattle.core_events.specs.Sound.{is_small, IsSound}
@@ -63,6 +63,9 @@ sound_served at s sound =
       | None ↦ record { latest = omega arith; small = sound.small }
       | Some r ↦ record { latest = omega arith; small = all-without_first is_small (is_ready s.files s.owners) s.reads sound.small }
     ]
+
+pub sound_written : (at : ℕ) (s : BookState) (window number : ℕ) → IsSound at s → IsSound at (after_written s window number at)
+sound_written at s window number sound = record { latest = omega arith; small = sound.small }
 
 pub sound_left : (at : ℕ) (s : BookState) (opening : ℕ) → IsSound at s → IsSound at (after_leave s opening at)
 sound_left at s opening sound = record { latest = omega arith; small = all-filter is_small (λ r. not (is_on opening r)) s.reads sound.small }

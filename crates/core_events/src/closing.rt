@@ -1,14 +1,36 @@
-//! What ends openings and waiting reads without a reply of their own.
+//! What ends openings and waiting reads without a reply of their own, and items that are written back.
 
 ghost use Rattle.std.specs.Prelude.{◌≡◌, ℕ, slice_get, option_copied};
 ghost use Rattle.am_text.specs.Twice.{both, IsSteady};
 ghost use Rattle.fid_table.specs.Tables.{fids_of};
-ghost use Rattle.core_events.specs.Closing.{without_opening, opening_at, without_fids, opening_in, freed, cancelled, closed_with};
+ghost use Rattle.core_events.specs.Closing.{written_back, without_opening, opening_at, without_fids, opening_in, freed, cancelled, closed_with};
 ghost use Rattle.core_events.specs.Sound.{IsSound};
 
 use core_fids::{Effect, EventChange};
 use event_book::Book;
 use fid_table::{Fid, Sessions};
+
+/// An item of a window, by its number there.
+#[derive(Clone, Copy, Debug, PartialEq, Eq)]
+pub struct BackItem {
+    pub window: u32,
+    pub number: u64,
+}
+
+/// An item that was taken, and not written back before, is written back. It takes no memory.
+pub fn write_back(book: &mut Book, back: Option<BackItem>, at: u64)
+    requires steady { IsSteady book.old }
+    requires sound { IsSound at book.old.present }
+    ensures new { book.new ≡ both (written_back at book.old.present back) }
+    ensures sound { IsSound at book.new.present }
+    ensures steady { IsSteady book.new }
+{
+    if let Some(item) = back {
+        if book.is_taken(item.window, item.number) {
+            book.written(item.window, item.number, at);
+        }
+    }
+}
 
 // An opening closes, unless it did with its window.
 fn close_opening(book: &mut Book, opening: Option<u32>, at: u64)

@@ -10,7 +10,7 @@ mod waits;
 
 pub use am_text::{Items, NoMemory};
 pub use asking::{open_events, read_events};
-pub use closing::{cancel_read, close_events, free_fids, free_openings};
+pub use closing::{BackItem, cancel_read, close_events, free_fids, free_openings, write_back};
 pub use core_scene::{WindowItem, WindowItems};
 pub use event_book::Book;
 pub use putting::{put_all, put_living};

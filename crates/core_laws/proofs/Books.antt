@@ -8,13 +8,14 @@ use Rattle.fid_table.specs.declared.types.Fid.{Fid}
 use Rattle.core_scene.specs.declared.deed.WindowItem.{WindowItem}
 use Rattle.wait_queue.specs.Reads.{is_on, is_read, without_first}
 use Rattle.wait_queue.specs.declared.types.Asker.{Asker}
-use Rattle.event_book.specs.BookState.{BookState, is_open_window, is_living, is_ready, next_of, after_next, after_add, after_put, read_waits, after_answer, after_ask, after_serve, after_leave, after_delete, is_on_window}
+use Rattle.event_book.specs.BookState.{BookState, is_open_window, is_living, is_ready, next_of, after_next, after_add, after_put, read_waits, after_answer, after_ask, after_serve, is_taken_of, after_written, after_leave, after_delete, is_on_window}
 use Rattle.event_book.specs.Laws.{IsLawful}
-use Rattle.event_book.proofs.LawfulLemmas.{lawful-add, lawful-put_in, lawful-waits, lawful-answer, lawful-serve, lawful-cancel, lawful-leave, lawful-delete}
+use Rattle.event_book.proofs.LawfulLemmas.{lawful-add, lawful-put_in, lawful-waits, lawful-answer, lawful-serve, lawful-written_back, lawful-cancel, lawful-leave, lawful-delete}
 use Rattle.core_fids.specs.declared.effect.EventChange.{EventChange}
 use Rattle.core_fids.specs.declared.effect.EventChange.TheVariants as events
 use Rattle.core_events.specs.Asking.{opened}
-use Rattle.core_events.specs.Closing.{without_opening, without_fid, cancelled, closed_with}
+use Rattle.core_events.specs.declared.closing.BackItem.{BackItem}
+use Rattle.core_events.specs.Closing.{written_back, without_opening, without_fid, cancelled, closed_with}
 use Rattle.core_events.specs.Putting.{put_one, put_all, is_ending, put_if_lives, put_living, ending}
 use Rattle.core_events.specs.Serving.{book_served_most, book_served_all}
 
@@ -102,6 +103,16 @@ module _ (P : Asker → Type 0) (at : ℕ) where
 
   pub book_serve_all : (s : BookState) → IsBook P at s → IsBook P at (book_served_all at s)
   book_serve_all s b = book_serve_most (length s.reads) s b
+
+  -- ---- what is written back
+
+  pub book_written : (s : BookState) (o : Option BackItem) → IsBook P at s → IsBook P at (written_back at s o)
+  book_written s None b = b
+  book_written s (Some i) b =
+      elim (is_taken_of s i.window i.number) as (λ t. IsBook P at (cond t (after_written s i.window i.number at) s)) [
+        | true ↦ record { lawful = lawful-written_back s i.window i.number at b.latest b.lawful; latest = omega arith; reads = b.reads }
+        | false ↦ b
+      ]
 
   -- ---- what ends
 

@@ -16,10 +16,9 @@ use Rattle.acme_core.specs.declared.connection.Connection.{Connection}
 use Rattle.acme_core.specs.declared.connection.Connection.TheVariants.{Undialed, Live, Ended}
 use Rattle.acme_core.specs.Asks.{is_ended}
 use Rattle.acme_core.specs.Connections.{connection_at, is_live}
-use Rattle.acme_core.specs.declared.doing.Doing.{Doing}
 use Rattle.acme_core.specs.declared.kind.Kind.{Kind}
 use Rattle.acme_core.specs.declared.kind.Kind.TheVariants as kind
-use Rattle.acme_core.specs.Doings.{enabled_at, doing_of}
+use Rattle.acme_core.specs.Doings.{Doing, enabled_at, doing_of}
 use Rattle.acme_core.specs.Enabled.{dial_refusal}
 use Rattle.acme_core.specs.Kinds.{kind_of}
 use Rattle.acme_core.specs.Run.{step, run, enabled, output_at}
@@ -96,6 +95,11 @@ still_ended s (event.Took c) conn allowed ended = ended
 still_ended s event.New conn allowed ended = ended
 still_ended s (event.Key w side text) conn allowed ended = ended
 still_ended s (event.Sel w range) conn allowed ended = ended
+still_ended s (event.Exec at) conn allowed ended = ended
+still_ended s (event.Arg at chord) conn allowed ended = ended
+still_ended s (event.Look at) conn allowed ended = ended
+still_ended s (event.File path text) conn allowed ended = ended
+still_ended s (event.Dir path) conn allowed ended = ended
 
 -- ---- an ended connection
 

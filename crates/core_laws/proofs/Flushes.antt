@@ -74,7 +74,7 @@ unfolding flushes
 first_flushes [] = false
 first_flushes (x ∷ xs) = flushes x.message.body
 
-is_flush : (s : Present) (conn tag oldtag : ℕ) (missing : Bool) → said s (kind.Asks conn tag) (message_doing (flush_or missing oldtag) F) ≡ flushed conn tag ∷ []
+is_flush : (s : Present) (conn tag oldtag : ℕ) (missing : Bool) → said s (kind.Asks conn tag) (message_doing s (flush_or missing oldtag) F) ≡ flushed conn tag ∷ []
     → flush_or missing oldtag ≡ flush_reaction oldtag
 unfolding first_flushes flushes
 is_flush s conn tag oldtag true h = absurd (false≢true (ap first_flushes h))
@@ -82,12 +82,12 @@ is_flush s conn tag oldtag false h = refl
 
 abbrev QuietAfter : Present → ℕ → ℕ → ℕ → Reaction → Type 0
 QuietAfter s conn tag oldtag d =
-    All (IsWaiting (OtherTag conn oldtag)) (tables_after s (kind.Asks conn tag) (message_doing d F)).waiting
-    × All (Reading (OtherTag conn oldtag)) (book_after s (kind.Asks conn tag) (message_doing d F)).reads
+    All (IsWaiting (OtherTag conn oldtag)) (tables_after s (kind.Asks conn tag) (message_doing s d F)).waiting
+    × All (Reading (OtherTag conn oldtag)) (book_after s (kind.Asks conn tag) (message_doing s d F)).reads
 
 quiet_flush : (s : Present) (conn tag oldtag : ℕ) → QuietAfter s conn tag oldtag (flush_reaction oldtag)
 quiet_flush s conn tag oldtag =
-    (none_waiting conn oldtag (ended s.tables (said s (kind.Asks conn tag) (message_doing (flush_reaction oldtag) F))).waiting, none_reading conn oldtag (grown_book s (kind.Asks conn tag) (message_doing (flush_reaction oldtag) F)).reads)
+    (none_waiting conn oldtag (ended s.tables (said s (kind.Asks conn tag) (message_doing s (flush_reaction oldtag) F))).waiting, none_reading conn oldtag (grown_book s (kind.Asks conn tag) (message_doing s (flush_reaction oldtag) F)).reads)
 
 quiet_then : (s : State) (conn tag oldtag : ℕ) → said (present s) (kind.Asks conn tag) (doing_of (present s) (flush_of conn tag oldtag)) ≡ flushed conn tag ∷ []
     → IsQuiet (OtherTag conn oldtag) (step s (flush_of conn tag oldtag))

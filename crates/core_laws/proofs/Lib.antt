@@ -3,6 +3,7 @@ mod Unsents
 mod Fids
 mod Books
 mod Reactions
+mod Answering
 mod Wells
 mod Playing
 mod Tells
@@ -10,3 +11,6 @@ mod Ends
 mod Quiets
 mod Flushes
 mod Sessions
+mod Clicks
+mod Lives
+mod Backs

@@ -11,20 +11,20 @@ use Rattle.core_fids.specs.declared.effect.Effect.{Effect}
 use Rattle.core_fids.specs.declared.effect.Effect.TheVariants as effect
 use Rattle.core_events.specs.declared.response.Response.{Response}
 use Rattle.core_events.specs.Asking.{read_said}
-use Rattle.core_events.specs.Closing.{freed, cancelled, opening_in}
-use Rattle.core_events.specs.Waits.{deleted_by, ended}
-use Rattle.acme_core.specs.declared.doing.Doing.{Doing}
+use Rattle.core_events.specs.Closing.{written_back, freed, cancelled, opening_in}
+use Rattle.core_events.specs.Waits.{ended}
+use Rattle.core_scene.specs.Scenes.{deleted_by}
 use Rattle.acme_core.specs.Connections.{grown_with, ended_with}
 use Rattle.acme_core.specs.declared.kind.Kind.{Kind}
 use Rattle.acme_core.specs.declared.kind.Kind.TheVariants as kind
-use Rattle.acme_core.specs.Doings.{doing_of}
+use Rattle.acme_core.specs.Doings.{Doing, doing_of}
 use Rattle.acme_core.specs.Kinds.{kind_of}
 use Rattle.acme_core.specs.Run.{step, run, enabled}
 use Rattle.acme_core.specs.Stages.{asker_of, answer_book, answer_tables, grown_tables, grown_book, read_book, left_book, ended_tables, book_after, said}
 use Rattle.acme_core.specs.States.{Present, State, present, next_entry}
 use Rattle.acme_core.proofs.Goes.{run-push}
 use Rattle.core_laws.specs.Saying.{said_from}
-use Rattle.core_laws.proofs.Books.{IsBook, book_without, book_without_fids, book_cancelled, book_closed}
+use Rattle.core_laws.proofs.Books.{IsBook, book_without, book_without_fids, book_cancelled, book_written, book_closed}
 use Rattle.core_laws.proofs.Tells.{Tells, Reading, IsWaiting, OfMessage, tells}
 use Rattle.core_laws.proofs.Wells.{IsWell, later, done_waiting, cancelled_waiting, reading_book, waits_waiting, items_book, well_step}
 
@@ -114,8 +114,9 @@ module _ (L : ℕ → ℕ → Type 0) where
       let at : ℕ = s.entries + 1 in
       let t : Tables = grown_tables p k d in
       let items : IsBook (Reading L) at (grown_book p k d) = items_book (Reading L) p k d (quiet_read p k d own (book_of s well quiet)) in
+      let back : BookState = written_back at (grown_book p k d) d.back in
       let closed : IsBook (Reading L) at (book_after p k d) =
-      book_closed (Reading L) at (left_book at t k d (grown_book p k d)) (deleted_by d.deeds) (quiet_left at t (grown_book p k d) k d items)
+      book_closed (Reading L) at (left_book at t k d back) (deleted_by d.deeds) (quiet_left at t back k d (book_written (Reading L) at (grown_book p k d) d.back items))
       in
       (left_waiting t k d (said p k d) (grown_waiting p k d own quiet.0), closed.reads)
 

@@ -279,7 +279,7 @@ module _ (tables : Tables) (conn : ℕ) (moded : (number : ℕ) (f : Fid) → fi
       errors_sane windows number (length bytes) (errors_of (window_at windows w)) f (decode_part (part_bytes f.part ++ bytes)) is
   write_content_sane windows number f bytes content.ConsErrors is = errors_sane windows number (length bytes) root_errors f (decode_part (part_bytes f.part ++ bytes)) is
   write_content_sane windows number f bytes content.Empty is = (tt, tt)
-  write_content_sane windows number f bytes (content.EventsOf w) is = tt
+  write_content_sane windows number f bytes (content.EventsOf w) is = if_lives_sane (window_at windows w) _ (tt, tt)
   write_content_sane windows number f bytes content.Unserved is = tt
 
   write_sane : (world : World) (windows : List (Option Window)) (number : ℕ) (bytes : List ℕ) (o : Option Fid) → fid_of tables conn number ≡ o → Sane (write_fid world windows number bytes o)

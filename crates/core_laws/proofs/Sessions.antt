@@ -40,12 +40,15 @@ use Rattle.acme_core.specs.Connections.{grown_with, ended_with}
 use Rattle.core_events.specs.Putting.{put_living}
 use Rattle.core_events.specs.Serving.{served_all}
 use Rattle.core_laws.proofs.Playing.{silent_after}
-use Rattle.acme_core.specs.Doings.{message_doing, reaction_at, doing_of}
+use Rattle.acme_core.specs.Doings.{message_doing, doing_of}
+use Rattle.acme_core.specs.Intents.{reaction_at}
+use Rattle.acme_core.specs.Origins.{message_origin}
 use Rattle.acme_core.specs.Run.{step, run}
 use Rattle.acme_core.specs.Stages.{asker_of, answer_tables, said}
 use Rattle.acme_core.specs.States.{Present, State, present, start, next_entry}
 use Rattle.core_laws.specs.Laws.{FlushesAreAnswered}
 use Rattle.core_laws.specs.Saying.{flush_of, flushed}
+use Rattle.core_laws.proofs.Answering.{message_reads}
 use Rattle.core_laws.proofs.Flushes.{flush_or}
 use Rattle.core_laws.proofs.Wells.{done_sessions, done_waiting, cancelled_sessions, cancelled_waiting, waits_sessions, waits_waiting}
 
@@ -188,15 +191,15 @@ in_message s conn msg h =
     let p : Present = present s in
     let done : Reaction = reaction_at p conn msg in
     let put : Tables = grown_with s.tables conn done.effect in
-    let read : Tables = answer_tables put s.scene.book conn msg.tag (Some done.answer) in
+    let read : Tables = answer_tables put s.scene.book conn msg.tag (doing_of p (event.Msg conn msg)).answer in
     let left : Tables = ended_with read conn done.effect in
     let xs : List Response = said p (kind.Asks conn msg.tag) (doing_of p (event.Msg conn msg)) in
     in_cancelled (ended left xs) conn done.events
     (in_ended left xs
     (in_freed read conn done.effect
-    (in_answered put s.scene.book conn msg.tag (Some done.answer)
+    (in_answered put s.scene.book conn msg.tag (doing_of p (event.Msg conn msg)).answer
     (λ fid opening count is.
-    let same : done.answer ≡ Reads fid opening count = cc in
+    let same : done.answer ≡ Reads fid opening count = message_reads p done (message_origin s.tables conn msg.body) fid opening count is in
     ap is_there (grown_msize s.tables conn done.effect conn)
     ∙ asked_in s.tables p.scene.windows (length s.scene.book.owners) conn msg.body fid opening count (is_there (msize_of s.tables conn)) same)
     (in_grown s.tables conn done.effect h))))
@@ -213,6 +216,11 @@ in_step s (event.Took conn) h = in_ended s.tables (said (present s) (kind.Takes 
 in_step s event.New h = in_ended s.tables (said (present s) kind.Acts (doing_of (present s) event.New)) h
 in_step s (event.Key w side text) h = in_ended s.tables (said (present s) kind.Acts (doing_of (present s) (event.Key w side text))) h
 in_step s (event.Sel w range) h = in_ended s.tables (said (present s) kind.Acts (doing_of (present s) (event.Sel w range))) h
+in_step s (event.Exec at) h = in_ended s.tables (said (present s) kind.Acts (doing_of (present s) (event.Exec at))) h
+in_step s (event.Arg at chord) h = in_ended s.tables (said (present s) kind.Acts (doing_of (present s) (event.Arg at chord))) h
+in_step s (event.Look at) h = in_ended s.tables (said (present s) kind.Acts (doing_of (present s) (event.Look at))) h
+in_step s (event.File path text) h = in_ended s.tables (said (present s) kind.Acts (doing_of (present s) (event.File path text))) h
+in_step s (event.Dir path) h = in_ended s.tables (said (present s) kind.Acts (doing_of (present s) (event.Dir path))) h
 
 in_fold : (s : State) (events : List Event) → AreInSession s.tables → AreInSession (fold step s events).tables
 in_fold s [] h = h
@@ -233,14 +241,14 @@ any_session t conn tag (w ∷ ws) all h =
     ] refl h
 
 -- nothing is served, since no read that waits can be answered
-flush_says : (s : Present) (conn tag oldtag : ℕ) → served_all (next_entry s) (put_living [] s.scene.book s.scene.items) ≡ [] → said s (kind.Asks conn tag) (message_doing (flush_reaction oldtag) F) ≡ flushed conn tag ∷ []
+flush_says : (s : Present) (conn tag oldtag : ℕ) → served_all (next_entry s) (put_living [] s.scene.book s.scene.items) ≡ [] → said s (kind.Asks conn tag) (message_doing s (flush_reaction oldtag) F) ≡ flushed conn tag ∷ []
 flush_says s conn tag oldtag none = ap (λ (xs : List Response). flushed conn tag ∷ xs) none
 
 pub flushes_answered : FlushesAreAnswered
 flushes_answered before conn tag oldtag waits =
     let s : Present = present (run before) in
     let there : is_there (msize_of s.tables conn) ≡ true = any_session s.tables conn oldtag s.tables.waiting (in_run before) waits in
-    subst (λ (b : Bool). said s (kind.Asks conn tag) (message_doing (flush_or (not b) oldtag) F) ≡ flushed conn tag ∷ []) (sym there)
+    subst (λ (b : Bool). said s (kind.Asks conn tag) (message_doing s (flush_or (not b) oldtag) F) ≡ flushed conn tag ∷ []) (sym there)
     (flush_says s conn tag oldtag (silent_after before (next_entry s)))
 
 pub ruleset answering = (flushes_answered)

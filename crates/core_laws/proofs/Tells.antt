@@ -19,8 +19,9 @@ use Rattle.core_events.specs.declared.response.Response.{Response}
 use Rattle.core_events.specs.Asking.{read_said}
 use Rattle.core_events.specs.Responses.{feed_at, error, errors}
 use Rattle.core_events.specs.Serving.{then_served, served_most, served_all}
-use Rattle.core_events.specs.Waits.{is_of_fid, is_of_window, clunked, deleted_by, deletions}
-use Rattle.acme_core.specs.declared.doing.Doing.{Doing}
+use Rattle.core_events.specs.Waits.{is_of_fid, is_of_window, clunked, deletions}
+use Rattle.core_scene.specs.Scenes.{deleted_by}
+use Rattle.acme_core.specs.Doings.{Doing}
 use Rattle.acme_core.specs.declared.kind.Kind.{Kind}
 use Rattle.acme_core.specs.declared.kind.Kind.TheVariants as kind
 use Rattle.acme_core.specs.Kinds.{conn_of}

@@ -105,6 +105,11 @@ one before (event.Took c) conn inside =
 one before event.New conn inside = sym (put_all (run before).unsent (said_by (run before) event.New) conn inside)
 one before (event.Key w side text) conn inside = sym (put_all (run before).unsent (said_by (run before) (event.Key w side text)) conn inside)
 one before (event.Sel w range) conn inside = sym (put_all (run before).unsent (said_by (run before) (event.Sel w range)) conn inside)
+one before (event.Exec at) conn inside = sym (put_all (run before).unsent (said_by (run before) (event.Exec at)) conn inside)
+one before (event.Arg at chord) conn inside = sym (put_all (run before).unsent (said_by (run before) (event.Arg at chord)) conn inside)
+one before (event.Look at) conn inside = sym (put_all (run before).unsent (said_by (run before) (event.Look at)) conn inside)
+one before (event.File path text) conn inside = sym (put_all (run before).unsent (said_by (run before) (event.File path text)) conn inside)
+one before (event.Dir path) conn inside = sym (put_all (run before).unsent (said_by (run before) (event.Dir path)) conn inside)
 
 entry : (before : List Event) (e : Event) (conn : ℕ) → conn < 64
     → output_at before conn ++ replied_by conn before e ≡ sent_by output_at conn before e ++ output_at (before ++ e ∷ []) conn

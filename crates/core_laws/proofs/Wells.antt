@@ -10,7 +10,10 @@ use Rattle.fid_table.specs.declared.types.Fid.{Fid}
 use Rattle.fid_table.specs.declared.session.Waiting.{Waiting}
 use Rattle.fid_table.specs.Tables.{Tables, nothing, fid_of, fids_of, is_waiting, is_waiting_on, after_join, after_done, after_hangup, after_put, after_take, after_version}
 use Rattle.core_scene.specs.declared.deed.WindowItem.{WindowItem}
+use Rattle.core_scene.specs.Scenes.{deleted_by}
+use Rattle.core_events.specs.declared.closing.BackItem.{BackItem}
 use Rattle.wait_queue.specs.declared.types.Asker.{Asker}
+use Rattle.win_events.specs.declared.item.Origin.{Origin}
 use Rattle.wait_queue.specs.declared.types.Asked.{Asked}
 use Rattle.wait_queue.specs.declared.types.Asked.TheVariants.{Now, Waits}
 use Rattle.event_book.specs.BookState.{BookState, is_living, asked_of}
@@ -29,18 +32,19 @@ use Rattle.core_fids.specs.declared.effect.EventChange.{EventChange}
 use Rattle.core_fids.specs.declared.effect.EventChange.TheVariants as events
 use Rattle.core_events.specs.declared.response.Response.{Response}
 use Rattle.core_events.specs.Asking.{is_full, opened, read_said, book_asked, book_read, waits_unless}
-use Rattle.core_events.specs.Closing.{freed, cancelled, closed_with, opening_in, without_fids, without_opening}
+use Rattle.core_events.specs.Closing.{written_back, freed, cancelled, closed_with, opening_in, without_fids, without_opening}
 use Rattle.core_events.specs.Putting.{put_living, put_all, ending}
 use Rattle.core_events.specs.Serving.{book_served_all}
-use Rattle.core_events.specs.Waits.{deleted_by, ended, without_cancelled}
+use Rattle.core_events.specs.Waits.{ended, without_cancelled}
 use Rattle.acme_core.specs.declared.connection.Connection.{Connection}
 use Rattle.acme_core.specs.declared.connection.Connection.TheVariants.{Undialed, Live, Ended}
-use Rattle.acme_core.specs.declared.doing.Doing.{Doing}
 use Rattle.acme_core.specs.declared.kind.Kind.{Kind}
 use Rattle.acme_core.specs.declared.kind.Kind.TheVariants as kind
 use Rattle.acme_core.specs.Connections.{connection_at, connections_after, is_live, grown_with, ended_with}
 use Rattle.acme_core.specs.Kinds.{kind_of}
-use Rattle.acme_core.specs.Doings.{enabled_at, reaction_at, doing_of}
+use Rattle.acme_core.specs.Doings.{Doing, enabled_at, doing_of, message_doing}
+use Rattle.acme_core.specs.Intents.{reaction_at}
+use Rattle.acme_core.specs.Origins.{message_origin}
 use Rattle.acme_core.specs.Enabled.{first_why, live_refusal}
 use Rattle.acme_core.specs.Run.{step, run, enabled}
 use Rattle.acme_core.specs.Stages.{asker_of, answer_book, answer_tables, acted, grown_tables, read_book, put_book, grown_book, left_book, ended_tables, tables_after, book_after, said}
@@ -48,7 +52,8 @@ use Rattle.acme_core.specs.States.{Present, State, present, start, next_entry}
 use Rattle.acme_core.proofs.Goes.{run-push}
 use Rattle.acme_core.proofs.Joins.{elsewhere}
 use Rattle.core_laws.proofs.Fids.{AllFids, no_fids, fids_weaker, fids_at, IsHeld, fids_join, fids_put, fids_take, fids_version, fids_same, held_join, held_put, held_take, held_version, held_same}
-use Rattle.core_laws.proofs.Books.{IsBook, IsApart, book_weaker, book_later, book_opened, book_put_living, book_put_all, book_ask, book_serve_all, book_without, book_without_fids, book_cancelled, book_closed, without_none, fids_none}
+use Rattle.core_laws.proofs.Answering.{message_reads}
+use Rattle.core_laws.proofs.Books.{IsBook, IsApart, book_weaker, book_later, book_opened, book_put_living, book_put_all, book_ask, book_serve_all, book_without, book_without_fids, book_cancelled, book_written, book_closed, without_none, fids_none}
 use Rattle.core_laws.proofs.Reactions.{IsModed, PutsSane, HasOpening, ReadsSane, IsSane, reaction_sane}
 
 -- ---- connections
@@ -315,22 +320,29 @@ well_left cs t at b (kind.Ends conn why) d xs well =
 well_left cs t at b (kind.Takes conn) d xs well = well_ended cs t at b xs well
 well_left cs t at b kind.Acts d xs well = well_ended cs t at b xs well
 
+well_written : (cs : List Connection) (t : Tables) (at : ℕ) (b : BookState) (o : Option BackItem) → AreWell cs t at b → AreWell cs t at (written_back at b o)
+well_written cs t at b o well = record { fids = well.fids; waiting = well.waiting; book = book_written (IsHeld t) at b o well.book }
+
 well_kind : (s : Present) (k : Kind) (d : Doing) → IsOwn s k d → AreWell s.connections s.tables (next_entry s) s.scene.book
     → AreWell (connections_after s.connections k) (tables_after s k d) (next_entry s) (book_after s k d)
 well_kind s k d own well =
-    well_closed (connections_after s.connections k) (tables_after s k d) (next_entry s) (left_book (next_entry s) (grown_tables s k d) k d (grown_book s k d)) (deleted_by d.deeds)
-    (well_left s.connections (grown_tables s k d) (next_entry s) (grown_book s k d) k d (said s k d)
-    (well_items (begun s.connections k) (grown_tables s k d) s k d (well_read s k d own well)))
+    let back : BookState = written_back (next_entry s) (grown_book s k d) d.back in
+    well_closed (connections_after s.connections k) (tables_after s k d) (next_entry s) (left_book (next_entry s) (grown_tables s k d) k d back) (deleted_by d.deeds)
+    (well_left s.connections (grown_tables s k d) (next_entry s) back k d (said s k d)
+    (well_written (begun s.connections k) (grown_tables s k d) (next_entry s) (grown_book s k d) d.back
+    (well_items (begun s.connections k) (grown_tables s k d) s k d (well_read s k d own well))))
 
 -- what holds of the fids of a connection
 moded : (s : State) (conn : ℕ) → IsWell s → (number : ℕ) (f : Fid) → fid_of s.tables conn number ≡ Some f → IsModed f
 moded s conn well number f e = (fids_at (IsOfLive s.connections) s.tables conn number f well.fids e).1
 
 -- the read of a message is one of an opening that a fid has
-own_held : (t : Tables) (conn tag : ℕ) (e : Effect) (a : Answer) → ReadsSane t conn e a → AsksSane (grown_with t conn e) conn tag (Some a)
+own_held : (s : Present) (t : Tables) (conn tag : ℕ) (d : Reaction) (o : Origin) → ReadsSane t conn d.effect d.answer → AsksSane (grown_with t conn d.effect) conn tag (message_doing s d o).answer
 unfolding AsksSane
-own_held t conn tag e a sane fid opening count is =
-    let same : a ≡ Reads fid opening count = cc in
+own_held s t conn tag d o sane fid opening count is =
+    let e : Effect = d.effect in
+    let a : Answer = d.answer in
+    let same : a ≡ Reads fid opening count = message_reads s d o fid opening count is in
     let reads : (e ≡ effect.Nothing) × HasOpening t conn fid opening = subst (ReadsSane t conn e) same sane in
     let has : HasOpening t conn fid opening = reads.1 in
     subst (λ (x : Effect). IsHeld (grown_with t conn x) (asker_of conn tag opening count)) (sym reads.0)
@@ -343,7 +355,7 @@ own_message s conn msg allowed well =
     let p : Present = present s in
     let done : Reaction = reaction_at p conn msg in
     let sane : IsSane s.tables conn done = reaction_sane s.tables conn (moded s conn well) p.scene.windows (length s.scene.book.owners) msg.body in
-    (message_lives p conn msg allowed, sane.0, own_held s.tables conn msg.tag done.effect done.answer sane.1)
+    (message_lives p conn msg allowed, sane.0, own_held p s.tables conn msg.tag done (message_origin s.tables conn msg.body) sane.1)
 
 pub own : (s : State) (e : Event) → enabled_at (present s) e ≡ None → IsWell s → IsOwn (present s) (kind_of e) (doing_of (present s) e)
 unfolding IsOwn
@@ -354,6 +366,11 @@ own s (event.Took conn) allowed well = tt
 own s event.New allowed well = tt
 own s (event.Key w side text) allowed well = tt
 own s (event.Sel w range) allowed well = tt
+own s (event.Exec at) allowed well = tt
+own s (event.Arg at chord) allowed well = tt
+own s (event.Look at) allowed well = tt
+own s (event.File path text) allowed well = tt
+own s (event.Dir path) allowed well = tt
 
 pub well_step : (s : State) (e : Event) → enabled_at (present s) e ≡ None → IsWell s → IsWell (step s e)
 unfolding step

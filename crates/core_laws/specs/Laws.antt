@@ -1,14 +1,23 @@
 -- Laws of all journals.
-use Rattle.std.specs.Prelude.{◌≡◌, ℕ, ◌<◌, true, false, List, [], ◌∷◌, ◌++◌, All}
+use Rattle.std.specs.Prelude.{◌≡◌, ℕ, ◌+◌, ◌<◌, true, false, List, [], ◌∷◌, ◌++◌, length, All, Option, Some, None}
 use Rattle.std.specs.List.{list_any}
 use Rattle.fid_table.specs.Tables.{is_waiting}
 use Rattle.wait_queue.specs.Reads.{is_read}
+use Rattle.win_events.specs.declared.item.Item.{Item}
+use Rattle.win_events.specs.declared.item.Life.TheVariants.{Back}
+use Rattle.event_book.specs.BookState.{BookState, is_open_window, recorded_of, after_put}
 use Rattle.am_journal.specs.declared.event.Event.{Event}
+use Rattle.am_journal.specs.declared.event.Event.TheVariants as event
 use Rattle.am_counter.specs.Played.{IsPrefix, IsPlayed, has_hang}
 use Rattle.am_counter.specs.Sent.{sent}
+use Rattle.core_events.specs.declared.response.Response.{Response}
+use Rattle.core_events.specs.Serving.{served_all, book_served_all}
 use Rattle.core_events.specs.Sound.{IsIdle}
-use Rattle.acme_core.specs.Run.{run, enabled, output_at}
+use Rattle.core_events.specs.declared.closing.BackItem.{BackItem}
+use Rattle.acme_core.specs.Doings.{doing_of}
+use Rattle.acme_core.specs.Run.{run, present_after, enabled, output_at}
 use Rattle.acme_core.specs.Replies.{replies_of}
+use Rattle.acme_core.specs.States.{State}
 use Rattle.core_laws.specs.Replies.{replies}
 use Rattle.core_laws.specs.Saying.{said_after, said_from, is_told, is_message, flush_of, flushed}
 
@@ -52,6 +61,57 @@ NothingToAFlushedTag =
     → said_after before (flush_of conn tag oldtag) ≡ flushed conn tag ∷ [] → list_any (is_message conn oldtag) behind ≡ false
     → IsFree (before ++ flush_of conn tag oldtag ∷ behind) conn oldtag
     × All (λ x. is_told conn oldtag x ≡ false) (said_from (before ++ flush_of conn tag oldtag ∷ []) behind)
+
+-- ---- Exec and Look while the event file is open
+
+-- the window in which an event executes a text, or looks at one
+abbrev pub clicked_window : Event → Option ℕ
+clicked_window (event.Exec at) = Some at.window
+clicked_window (event.Arg at chord) = Some at.window
+clicked_window (event.Look at) = Some at.window
+clicked_window e = None
+
+abbrev pub with_item : BookState → ℕ → Option Item → BookState
+with_item book w None = book
+with_item book w (Some item) = after_put book w item
+
+-- At most an item comes, in this window, and reads are answered that waited. Nothing else changes, and nothing else is said.
+pub record OnlyTells (old new : State) (heard : List Response) (w : ℕ) : Type 0 where
+  pub item : Option Item
+  pub book : new.scene.book ≡ book_served_all (old.entries + 1) (with_item old.scene.book w item)
+  pub heard : heard ≡ served_all (old.entries + 1) (with_item old.scene.book w item)
+  pub connections : new.connections ≡ old.connections
+  pub sessions : new.tables.sessions ≡ old.tables.sessions
+  pub windows : new.windows ≡ old.windows
+  pub scene : record new.scene { book = old.scene.book } ≡ old.scene
+
+-- An Exec or a Look in a window whose event file is open is told by its item, and does nothing else.
+abbrev pub ClicksAreTold : Type 0
+ClicksAreTold =
+    (before : List Event) (e : Event) (w : ℕ) → clicked_window e ≡ Some w → is_open_window (run before).scene.book w ≡ true
+    → OnlyTells (run before) (run (before ++ e ∷ [])) (said_after before e) w
+
+-- ---- items that are written back
+
+-- the item that an entry writes back, after the entries before it, and whose action it does
+abbrev pub written_by : List Event → Event → Option BackItem
+written_by before e = (doing_of (present_after before) e).back
+
+-- the life of the item names the entry at which it was written back
+pub record IsBackAt (book : BookState) (b : BackItem) (at : ℕ) : Type 0 where
+  pub item : Item
+  pub opening : ℕ
+  pub taken : ℕ
+  pub is : recorded_of book b.window b.number ≡ Some (record { item = item; life = Back opening taken at })
+
+-- Whatever comes behind it, the life of an item names the entry that wrote it back.
+abbrev pub LivesNameTheEntry : Type 0
+LivesNameTheEntry =
+    (before behind : List Event) (e : Event) (b : BackItem) → written_by before e ≡ Some b → IsBackAt (run (before ++ e ∷ behind)).scene.book b (length before + 1)
+
+-- So no later entry writes it back.
+abbrev pub WrittenBackOnce : Type 0
+WrittenBackOnce = (before between : List Event) (e f : Event) (b : BackItem) → written_by before e ≡ Some b → written_by (before ++ e ∷ between) f ≡ Some b → ⊥
 
 -- Between entries no read that waits can be answered: there is nothing for it yet.
 abbrev pub NoReadCanBeAnswered : Type 0

@@ -1,6 +1,6 @@
 //! Laws of all journals.
 
-ghost use Rattle.core_laws.specs.Laws.{RepliesAreSentOrUnsent, NothingAfterTheHangUp, EndedGetAllReplies, RepliesAreSaid, FlushesAreAnswered, NothingToAFlushedTag, NoReadCanBeAnswered};
+ghost use Rattle.core_laws.specs.Laws.{RepliesAreSentOrUnsent, NothingAfterTheHangUp, EndedGetAllReplies, RepliesAreSaid, FlushesAreAnswered, NothingToAFlushedTag, ClicksAreTold, LivesNameTheEntry, WrittenBackOnce, NoReadCanBeAnswered};
 
 /// All that was ever replied to a connection is what was sent to it, and then what is unsent.
 #[tactic(auto, using(crate::proofs::Unsents::sent_or_unsent))]
@@ -23,6 +23,19 @@ pub fn flushed_reads_are_not_answered()
     ensures said { RepliesAreSaid }
     ensures answered { FlushesAreAnswered }
     ensures behind { NothingToAFlushedTag }
+{}
+
+/// An Exec or a Look in a window whose event file is open makes an item at most, which answers reads that wait. Nothing else changes.
+#[tactic(auto, using(crate::proofs::Clicks::clicking))]
+pub fn clicks_are_told_where_the_event_file_is_open()
+    ensures { ClicksAreTold }
+{}
+
+/// The life of an item names the entry that wrote it back, and did its action, whatever comes behind it. So an item is acted on once at most.
+#[tactic(auto, using(crate::proofs::Backs::backing))]
+pub fn items_are_written_back_once()
+    ensures named { LivesNameTheEntry }
+    ensures once { WrittenBackOnce }
 {}
 
 /// Between entries no read that waits can be answered: an entry answers the oldest that can be, until none can.

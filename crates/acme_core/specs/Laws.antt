@@ -1,0 +1,18 @@
+-- Laws of messages.
+use Rattle.std.specs.Prelude.{ℕ, Option, Some, None}
+use Rattle.ninep_types.specs.declared.message.TBody.{TBody}
+use Rattle.ninep_types.specs.declared.message.TMsg.{TMsg}
+use Rattle.am_journal.specs.declared.event.Event.TheVariants as event
+use Rattle.core_fids.specs.declared.effect.Answer.{Answer}
+use Rattle.core_answers.specs.Laws.{IsAnswered}
+use Rattle.acme_core.specs.Doings.{doing_of}
+use Rattle.acme_core.specs.States.{Present}
+
+abbrev pub HasAnswer : TBody → Option Answer → Type 0
+HasAnswer asked None = ⊥
+HasAnswer asked (Some answer) = IsAnswered asked answer
+
+-- In each state each message of each connection is answered: by its own R message, unless a named refusal applies, also one of what it
+-- asks of the scene. A Tread alone may be answered later.
+abbrev pub EachIsAnswered : Type 0
+EachIsAnswered = (s : Present) (conn : ℕ) (msg : TMsg) → HasAnswer msg.body (doing_of s (event.Msg conn msg)).answer

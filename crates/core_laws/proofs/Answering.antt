@@ -1,0 +1,24 @@
+-- What a message is answered: what its reaction says, where nothing is refused.
+use Rattle.std.proofs.Common.{◌≡◌, ℕ, List, Option, Some, None}
+use Rattle.ninep_types.specs.declared.message.RBody.TheVariants as r
+use Rattle.win_events.specs.declared.item.Origin.{Origin}
+use Rattle.core_fids.specs.declared.effect.Answer.{Answer}
+use Rattle.core_fids.specs.declared.effect.Answer.TheVariants.{Says, Reads}
+use Rattle.core_fids.specs.declared.effect.Reaction.{Reaction}
+use Rattle.core_fids.specs.declared.refusal.Refusal.{Refusal}
+use Rattle.core_tasks.specs.Tasks.{task_refusal}
+use Rattle.acme_core.specs.Doings.{entry_by, message_doing}
+use Rattle.acme_core.specs.Intents.{or_refused, demanded_task, demand_refusal}
+use Rattle.acme_core.specs.States.{Present}
+
+-- a refusal reads nothing
+pub refused_reads : (x : Option Refusal) (a : Answer) (fid opening count : ℕ) → or_refused x a ≡ Reads fid opening count → a ≡ Reads fid opening count
+refused_reads None a fid opening count is = is
+refused_reads (Some refusal) a fid opening count is = absurd cc
+
+pub message_reads : (s : Present) (d : Reaction) (o : Origin) (fid opening count : ℕ) → (message_doing s d o).answer ≡ Some (Reads fid opening count) → d.answer ≡ Reads fid opening count
+message_reads s d o fid opening count is =
+    let asked : Answer = or_refused (demand_refusal s.scene.book d.demand) d.answer in
+    let refusal : Option Refusal = task_refusal (entry_by s o) (demanded_task s.scene.book d.changes d.demand) s.scene in
+    let last : or_refused refusal asked ≡ Reads fid opening count = cc in
+    refused_reads (demand_refusal s.scene.book d.demand) d.answer fid opening count (refused_reads refusal asked fid opening count last)

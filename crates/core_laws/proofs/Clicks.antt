@@ -1,0 +1,167 @@
+-- An Exec or a Look in a window whose event file is open does nothing but to make an item.
+use Rattle.std.proofs.Common.{◌≡◌, ℕ, ◌+◌, Bool, true, false, List, [], ◌∷◌, ◌++◌, Option, Some, None, refl, sym, ap, subst, ◌∙◌}
+use Rattle.std.specs.List.{fold}
+use Rattle.win_events.specs.declared.item.Item.{Item}
+use Rattle.win_events.specs.declared.item.Origin.TheVariants.{M}
+use Rattle.acme_cmd.specs.declared.expansion.Click.TheVariants as click
+use Rattle.event_book.specs.BookState.{BookState, is_open_window}
+use Rattle.am_journal.specs.declared.event.Event.{Event}
+use Rattle.am_journal.specs.declared.event.Event.TheVariants as event
+use Rattle.am_journal.specs.declared.event.Spot.{Spot}
+use Rattle.core_fids.specs.declared.effect.Effect.TheVariants as effect
+use Rattle.core_fids.specs.declared.effect.EventChange.TheVariants as events
+use Rattle.core_scene.specs.declared.deed.Entry.{Entry}
+use Rattle.core_scene.specs.declared.deed.Deed.{Deed}
+use Rattle.core_scene.specs.declared.deed.Deed.TheVariants as deed
+use Rattle.core_scene.specs.Scenes.{SceneState}
+use Rattle.core_scene.specs.SceneLaws.{changes_in}
+use Rattle.core_windows.specs.Stories.{all_changed_stories}
+use Rattle.core_outputs.specs.Unsent.{put_replies}
+use Rattle.core_exec.specs.declared.click.Clicked.{Clicked}
+use Rattle.core_actions.specs.Looking.{look_target}
+use Rattle.core_exec.specs.Clicks.{clicked_at, own_text, argument_if_any, exec_item, look_item}
+use Rattle.core_exec.specs.Acting.{exec_click, exec_clicked, exec_at_deeds, look_click, look_clicked, look_at_deeds}
+use Rattle.core_events.specs.declared.response.Response.{Response}
+use Rattle.acme_core.specs.declared.kind.Kind.{Kind}
+use Rattle.acme_core.specs.declared.kind.Kind.TheVariants as kind
+use Rattle.acme_core.specs.Connections.{connections_after}
+use Rattle.acme_core.specs.Doings.{Doing, entry_by, doing_of}
+use Rattle.acme_core.specs.Kinds.{kind_of}
+use Rattle.acme_core.specs.Run.{step, run}
+use Rattle.acme_core.specs.Replies.{replies_of}
+use Rattle.acme_core.specs.Stages.{said, tables_after, scene_after, left_unsent}
+use Rattle.acme_core.specs.States.{Present, State, present, start, next_entry}
+use Rattle.acme_core.proofs.Goes.{run-push}
+use Rattle.core_laws.specs.Laws.{OnlyTells, ClicksAreTold}
+use Rattle.core_laws.specs.Saying.{said_after}
+use Rattle.core_laws.proofs.Wells.{done_sessions}
+
+-- ---- nothing of a step is left in the scene behind it
+
+abbrev tidy : SceneState → SceneState
+tidy x = record x { windows = []; items = []; deleted = [] }
+
+fold_tidy : (s : State) (events : List Event) → s.scene ≡ tidy s.scene → (fold step s events).scene ≡ tidy (fold step s events).scene
+unfolding step
+fold_tidy s [] h = h
+fold_tidy s (e ∷ events) h = fold_tidy (step s e) events refl
+
+run_tidy : (journal : List Event) → (run journal).scene ≡ tidy (run journal).scene
+unfolding run
+run_tidy journal = fold_tidy start journal refl
+
+-- ---- deeds that make an item at most
+
+abbrev item_deeds : ℕ → Option Item → List Deed
+item_deeds w None = []
+item_deeds w (Some item) = deed.Item w item ∷ []
+
+-- what does these deeds alone
+abbrev telling : List Deed → Doing
+telling deeds = record { effect = effect.Nothing; events = events.Nothing; deeds = deeds; origin = M; answer = None; back = None }
+
+-- the story behind an event of this kind
+abbrev after_kind : State → Kind → Doing → State
+after_kind s k d = record {
+  entries = next_entry (present s);
+  connections = connections_after s.connections k;
+  tables = tables_after (present s) k d;
+  windows = all_changed_stories (next_entry (present s)) s.windows (changes_in d.deeds);
+  scene = record (scene_after (present s) k d) { windows = [] };
+  unsent = left_unsent (put_replies s.unsent (replies_of (said (present s) k d))) k;
+  replies = replies_of (said (present s) k d);
+}
+
+abbrev Told : State → Kind → ℕ → Doing → Type 0
+Told s k w d = OnlyTells s (after_kind s k d) (said (present s) k d) w
+
+tells : (s : State) (x : SceneState) (w : ℕ) (o : Option Item) → is_open_window x.book w ≡ true → Told (record s { scene = tidy x }) kind.Acts w (telling (item_deeds w o))
+tells s x w None open = record {
+  item = None;
+  book = refl;
+  heard = refl;
+  connections = refl;
+  sessions = done_sessions s.tables (said (present (record s { scene = tidy x })) kind.Acts (telling []));
+  windows = refl;
+  scene = refl;
+}
+tells s x w (Some item) open = record {
+  item = Some item;
+  book = rw open refl;
+  heard = rw open refl;
+  connections = refl;
+  sessions = done_sessions s.tables (said (present (record s { scene = tidy x })) kind.Acts (telling (deed.Item w item ∷ [])));
+  windows = refl;
+  scene = refl;
+}
+
+-- the same of a story that is tidy, with deeds that are such
+told : (s : State) (w : ℕ) (o : Option Item) (deeds : List Deed) → s.scene ≡ tidy s.scene → is_open_window s.scene.book w ≡ true → deeds ≡ item_deeds w o → Told s kind.Acts w (telling deeds)
+told s w o deeds h open is =
+    subst (λ (ds : List Deed). Told s kind.Acts w (telling ds)) (sym is)
+    (subst (λ (x : SceneState). Told (record s { scene = x }) kind.Acts w (telling (item_deeds w o))) (sym h) (tells s s.scene w o open))
+
+-- ---- what a click does
+
+exec_one : (e : Entry) (at : Spot) (argument : Option (List ℕ × List ℕ)) (c : Option Clicked) (s : SceneState) → is_open_window s.book at.window ≡ true
+    → (o : Option Item) × (exec_clicked e at argument c s ≡ item_deeds at.window o)
+unfolding exec_click
+exec_one e at argument None s open = (None, refl)
+exec_one e at argument (Some c) s open = (Some (exec_item at c argument), rw open refl)
+
+look_one : (e : Entry) (at : Spot) (c : Option Clicked) (s : SceneState) → is_open_window s.book at.window ≡ true → (o : Option Item) × (look_clicked e at c s ≡ item_deeds at.window o)
+unfolding look_click
+look_one e at None s open = (None, refl)
+look_one e at (Some c) s open = (Some (look_item at c (look_target at.window (own_text c.text c.expanded) s)), rw open refl)
+
+told_exec : (s : State) (at : Spot) (chord : Option Spot) → s.scene ≡ tidy s.scene → is_open_window s.scene.book at.window ≡ true
+    → Told s kind.Acts at.window (telling (exec_at_deeds (entry_by (present s) M) at chord (present s).scene))
+told_exec s at chord h open =
+    let x : SceneState = (present s).scene in
+    let one : (o : Option Item) × (exec_at_deeds (entry_by (present s) M) at chord x ≡ item_deeds at.window o) =
+    exec_one (entry_by (present s) M) at (argument_if_any x.windows chord) (clicked_at x.windows at click.Exec) x open
+    in
+    told s at.window one.0 (exec_at_deeds (entry_by (present s) M) at chord x) h open one.1
+
+told_look : (s : State) (at : Spot) → s.scene ≡ tidy s.scene → is_open_window s.scene.book at.window ≡ true
+    → Told s kind.Acts at.window (telling (look_at_deeds (entry_by (present s) M) at (present s).scene))
+told_look s at h open =
+    let x : SceneState = (present s).scene in
+    let one : (o : Option Item) × (look_at_deeds (entry_by (present s) M) at x ≡ item_deeds at.window o) =
+    look_one (entry_by (present s) M) at (clicked_at x.windows at click.Look) x open
+    in
+    told s at.window one.0 (look_at_deeds (entry_by (present s) M) at x) h open one.1
+
+-- ---- every journal
+
+behind : (before : List Event) (e : Event) (w : ℕ) → Told (run before) (kind_of e) w (doing_of (present (run before)) e) → OnlyTells (run before) (run (before ++ e ∷ [])) (said_after before e) w
+unfolding step
+behind before e w h = subst (λ (s : State). OnlyTells (run before) s (said_after before e) w) (sym (run-push before e)) h
+
+pub clicks : ClicksAreTold
+clicks before (event.Exec at) w is open =
+    let same : at.window ≡ w = cc in
+    let mine : is_open_window (run before).scene.book at.window ≡ true = subst (λ (v : ℕ). is_open_window (run before).scene.book v ≡ true) (sym same) open in
+    subst (λ (v : ℕ). OnlyTells (run before) (run (before ++ event.Exec at ∷ [])) (said_after before (event.Exec at)) v) same
+    (behind before (event.Exec at) at.window (told_exec (run before) at None (run_tidy before) mine))
+clicks before (event.Arg at chord) w is open =
+    let same : at.window ≡ w = cc in
+    let mine : is_open_window (run before).scene.book at.window ≡ true = subst (λ (v : ℕ). is_open_window (run before).scene.book v ≡ true) (sym same) open in
+    subst (λ (v : ℕ). OnlyTells (run before) (run (before ++ event.Arg at chord ∷ [])) (said_after before (event.Arg at chord)) v) same
+    (behind before (event.Arg at chord) at.window (told_exec (run before) at (Some chord) (run_tidy before) mine))
+clicks before (event.Look at) w is open =
+    let same : at.window ≡ w = cc in
+    let mine : is_open_window (run before).scene.book at.window ≡ true = subst (λ (v : ℕ). is_open_window (run before).scene.book v ≡ true) (sym same) open in
+    subst (λ (v : ℕ). OnlyTells (run before) (run (before ++ event.Look at ∷ [])) (said_after before (event.Look at)) v) same
+    (behind before (event.Look at) at.window (told_look (run before) at (run_tidy before) mine))
+clicks before (event.Dial conn) w is open = absurd cc
+clicks before (event.Msg conn msg) w is open = absurd cc
+clicks before (event.Hang conn why) w is open = absurd cc
+clicks before (event.Took conn) w is open = absurd cc
+clicks before event.New w is open = absurd cc
+clicks before (event.Key v side text) w is open = absurd cc
+clicks before (event.Sel v range) w is open = absurd cc
+clicks before (event.File path text) w is open = absurd cc
+clicks before (event.Dir path) w is open = absurd cc
+
+pub ruleset clicking = (clicks)
