@@ -1,5 +1,6 @@
 -- Control messages, one line further.
-use Rattle.std.proofs.Common.{◌≡◌, ℕ, Bool, true, false, cond, List, [], ◌∷◌, ◌++◌, length, Option, Some, None, Result, Ok, Err, IsSome, refl, sym, ap, subst, ◌∙◌}
+use Rattle.std.proofs.Common.{◌≡◌, ℕ, Bool, true, false, cond, List, [], ◌∷◌, ◌++◌, length, Option, Some, None, Result, Ok, Err, IsSome, refl, sym, ap, subst, ◌∙◌, arith}
+use Rattle.am_text.specs.Lines.{lines_of}
 use Rattle.am_text.specs.Utf8.{utf8}
 use Rattle.name_tree.specs.Kinds.{file_clashes}
 use Rattle.win_ctl.specs.declared.message.CtlMsg.{CtlMsg}
@@ -142,6 +143,10 @@ module _ (e : Entry) (w : ℕ) (all rest lines : List (List ℕ)) (line : List �
   refused_so r h = sym (ap (λ (c : Controlled). c.refusal) (behind (next.Refused r) h)) ∙ left.refusal
 
 -- ---- nothing is left
+
+pub no_lines : (bytes : List ℕ) → length bytes ≡ 0 → lines_of bytes ≡ []
+no_lines [] h = refl
+no_lines (b ∷ bytes) h = absurd (omega arith)
 
 module _ (e : Entry) (w : ℕ) (all rest : List (List ℕ)) (before now : SceneState) (none : rest ≡ []) (left : AreLeft e w all rest before now) where
   empty : controls e w rest now ≡ no_controls
