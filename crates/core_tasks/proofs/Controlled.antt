@@ -1,5 +1,5 @@
 -- Control messages, one line further.
-use Rattle.std.proofs.Common.{◌≡◌, ℕ, Bool, true, false, cond, List, [], ◌∷◌, ◌++◌, length, Option, Some, None, Result, Ok, Err, IsSome, refl, sym, ap, subst, ◌∙◌, arith}
+use Rattle.std.proofs.Common.{◌≡◌, ℕ, Bool, true, false, cond, List, [], ◌∷◌, length, Some, None, Result, Ok, Err, IsSome, refl, sym, ap, subst, ◌∙◌, arith}
 use Rattle.am_text.specs.Lines.{lines_of}
 use Rattle.am_text.specs.Utf8.{utf8}
 use Rattle.name_tree.specs.Kinds.{file_clashes}
