@@ -1,5 +1,5 @@
 -- What a step does to the scene, before it is known which deeds that takes.
-use Rattle.std.specs.Prelude.{◌≡◌, ℕ, false, List, [], ◌∷◌, Option, None, IsSome, IfSome}
+use Rattle.std.specs.Prelude.{◌≡◌, false, List, [], ◌∷◌, Option, None, IsSome, IfSome}
 use Rattle.am_text.specs.Lines.{lines_of}
 use Rattle.name_tree.specs.Kinds.{file_clashes, directory_clashes}
 use Rattle.core_windows.specs.Windows.{window_at}
