@@ -151,7 +151,7 @@ pub walk_event_step : (b : Begun) → step (begun (Some 8192) opened_fids (Some 
 unfolding step served_most book_served_most
 walk_event_step b =
     let s : State = begun (Some 8192) opened_fids (Some new_story ∷ []) empty_book b in
-    ap (λ (rest : Trail). after_story s (present s) walk_event (message_doing (reaction_or_refusal (arrives 2 world_one rest)) F)) trail_one
+    ap (λ (rest : Trail). after_story s (present s) walk_event (message_doing (present s) (reaction_or_refusal (arrives 2 world_one rest)) F)) trail_one
 
 -- ---- and so the rounds begin
 
