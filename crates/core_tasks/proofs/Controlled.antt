@@ -1,5 +1,6 @@
 -- Control messages, one line further.
-use Rattle.std.proofs.Common.{◌≡◌, ℕ, Bool, true, false, cond, List, [], ◌∷◌, ◌++◌, length, Option, Some, None, Result, Ok, Err, IsSome, refl, sym, ap, subst, ◌∙◌}
+use Rattle.std.proofs.Common.{◌≡◌, ℕ, Bool, true, false, cond, List, [], ◌∷◌, ◌++◌, length, Option, Some, None, Result, Ok, Err, IsSome, refl, sym, ap, subst, ◌∙◌, arith}
+use Rattle.am_text.specs.Lines.{lines_of}
 use Rattle.am_text.specs.Utf8.{utf8}
 use Rattle.name_tree.specs.Kinds.{file_clashes}
 use Rattle.win_ctl.specs.declared.message.CtlMsg.{CtlMsg}
@@ -25,11 +26,12 @@ use Rattle.core_actions.specs.declared.fault.ActionFault.{ActionFault}
 use Rattle.core_actions.specs.declared.fault.ActionFault.TheVariants as fault
 use Rattle.core_actions.specs.Outcomes.{does as does_all, fails}
 use Rattle.core_actions.specs.Seen.{asks, fits}
-use Rattle.core_actions.specs.Files.{whole_of, fill_deeds, filled, file_text, put_deeds, put_at, is_own}
+use Rattle.core_actions.specs.Files.{whole_of, fill_deeds, filled, file_text, store_deeds, put_deeds, put_at, is_own, clean_if}
+use Rattle.core_actions.specs.declared.files.Saved.{Saved}
 use Rattle.core_actions.specs.Paths.{path_of}
 use Rattle.core_tasks.specs.declared.control.Next.{Next}
 use Rattle.core_tasks.specs.declared.control.Next.TheVariants as next
-use Rattle.core_tasks.specs.Controls.{Told, Controlled, refused, deletes, msg_told, line_told, then_rest, controls}
+use Rattle.core_tasks.specs.Controls.{Told, Controlled, refused, deletes, msg_told, line_told, no_controls, then_rest, controls}
 
 -- ---- behind a message the window lives on, but for one that deletes it
 
@@ -57,17 +59,17 @@ get_lives : (e : Entry) (w : ℕ) (r : Result (List ℕ) ActionFault) (s : Scene
 get_lives e w (Err f) s h = h
 get_lives e w (Ok text) s h = fill_if_lives e w text s (fits 0 (length text)) h
 
-save_lives : (e : Entry) (w : ℕ) (path text : List ℕ) (s : SceneState) → IsSome (window_at s.windows w) → LivesAfter e w s (put_deeds w (record { path = path; text = text }) s)
-save_lives e w path text s h =
-    elim (is_own (window_at s.windows w) path) as (λ b. IsSome (window_at (done_all e s (cond b (deed.Windows (change.Sets w setting.Clean) ∷ []) [])).windows w)) [
-      | true ↦ lives_then (set setting.Clean) w s.windows h
-      | false ↦ h
-    ]
+clean_lives : (e : Entry) (w : ℕ) (b : Bool) (s : SceneState) → IsSome (window_at s.windows w) → LivesAfter e w s (clean_if b w)
+clean_lives e w true s h = set_lives e w setting.Clean s h
+clean_lives e w false s h = h
+
+save_lives : (e : Entry) (w : ℕ) (saved : Saved) (s : SceneState) → IsSome (window_at s.windows w) → LivesAfter e w s (put_deeds w saved s)
+save_lives e w saved s h = clean_lives e w (is_own (window_at s.windows w) saved.path) (done_all e s (store_deeds w saved s)) h
 
 save_if_lives : (e : Entry) (w : ℕ) (path text : List ℕ) (s : SceneState) (b : Bool) → IsSome (window_at s.windows w)
     → LivesAfter e w s (cond b (fails fault.FileNotFound) (does_all (put_deeds w (record { path = path; text = text }) s))).deeds
 save_if_lives e w path text s true h = h
-save_if_lives e w path text s false h = save_lives e w path text s h
+save_if_lives e w path text s false h = save_lives e w (record { path = path; text = text }) s h
 
 put_lives : (e : Entry) (w : ℕ) (r : Result (List ℕ) ActionFault) (s : SceneState) → IsSome (window_at s.windows w) → LivesAfter e w s (put_at w r s).deeds
 put_lives e w (Err f) s h = h
@@ -109,40 +111,50 @@ pub record AreLeft (e : Entry) (w : ℕ) (all lines : List (List ℕ)) (before n
 pub left_all : (e : Entry) (w : ℕ) (all : List (List ℕ)) (s : SceneState) → AreLeft e w all all s s
 left_all e w all s = record { did = λ after d. d; refusal = refl }
 
-module _ (e : Entry) (w : ℕ) (all lines : List (List ℕ)) (line : List ℕ) (before now then_ : SceneState) (left : AreLeft e w all (line ∷ lines) before now)
-    (did : Did e now then_ (line_told w (ctl_of line) now).deeds) where
+module _ (e : Entry) (w : ℕ) (all rest lines : List (List ℕ)) (line : List ℕ) (before now now' : SceneState) (split : rest ≡ line ∷ lines) (left : AreLeft e w all rest before now)
+    (did : Did e now now' (line_told w (ctl_of line) now).deeds) where
   abbrev told : Told
   told = line_told w (ctl_of line) now
 
   -- what the first line and those behind it do, where the write goes on like this
-  behind : (n : Next) → told.next ≡ n → controls e w (line ∷ lines) now ≡ then_rest told.deeds n (controls e w lines (done_all e now told.deeds))
+  first : (n : Next) → told.next ≡ n → controls e w (line ∷ lines) now ≡ then_rest told.deeds n (controls e w lines (done_all e now told.deeds))
   unfolding controls
-  behind n h = ap (λ (x : Next). then_rest told.deeds x (controls e w lines (done_all e now told.deeds))) h
+  first n h = ap (λ (x : Next). then_rest told.deeds x (controls e w lines (done_all e now told.deeds))) h
 
-  pub left_behind : told.next ≡ next.GoesOn → AreLeft e w all lines before then_
+  behind : (n : Next) → told.next ≡ n → controls e w rest now ≡ then_rest told.deeds n (controls e w lines (done_all e now told.deeds))
+  behind n h = ap (λ (ls : List (List ℕ)). controls e w ls now) split ∙ first n h
+
+  pub left_behind : told.next ≡ next.GoesOn → AreLeft e w all lines before now'
   left_behind h = record {
     did = λ after d. left.did after (subst (λ (c : Controlled). Did e now after c.deeds) (sym (behind next.GoesOn h)) (did_next (λ (s : SceneState). (controls e w lines s).deeds) did d));
     refusal = ap (λ (s : SceneState). (controls e w lines s).refusal) did.made ∙ sym (ap (λ (c : Controlled). c.refusal) (behind next.GoesOn h)) ∙ left.refusal;
   }
 
-  pub deleted_did : told.next ≡ next.Deleted → Did e before then_ (controls e w all before).deeds
-  deleted_did h = left.did then_ (subst (λ (c : Controlled). Did e now then_ c.deeds) (sym (behind next.Deleted h)) did)
+  pub deleted_did : told.next ≡ next.Deleted → Did e before now' (controls e w all before).deeds
+  deleted_did h = left.did now' (subst (λ (c : Controlled). Did e now now' c.deeds) (sym (behind next.Deleted h)) did)
 
   pub deleted_unrefused : told.next ≡ next.Deleted → None ≡ (controls e w all before).refusal
   deleted_unrefused h = sym (ap (λ (c : Controlled). c.refusal) (behind next.Deleted h)) ∙ left.refusal
 
-  pub refused_did : (r : Refusal) → told.next ≡ next.Refused r → Did e before then_ (controls e w all before).deeds
-  refused_did r h = left.did then_ (subst (λ (c : Controlled). Did e now then_ c.deeds) (sym (behind (next.Refused r) h)) did)
+  pub refused_did : (r : Refusal) → told.next ≡ next.Refused r → Did e before now' (controls e w all before).deeds
+  refused_did r h = left.did now' (subst (λ (c : Controlled). Did e now now' c.deeds) (sym (behind (next.Refused r) h)) did)
 
   pub refused_so : (r : Refusal) → told.next ≡ next.Refused r → Some r ≡ (controls e w all before).refusal
   refused_so r h = sym (ap (λ (c : Controlled). c.refusal) (behind (next.Refused r) h)) ∙ left.refusal
 
 -- ---- nothing is left
 
-pub none_left : (e : Entry) (w : ℕ) (all : List (List ℕ)) (before now : SceneState) → AreLeft e w all [] before now → Did e before now (controls e w all before).deeds
-unfolding controls
-none_left e w all before now left = left.did now (record { made = refl; can = tt })
+pub no_lines : (bytes : List ℕ) → length bytes ≡ 0 → lines_of bytes ≡ []
+no_lines [] h = refl
+no_lines (b ∷ bytes) h = absurd (omega arith)
 
-pub none_refused : (e : Entry) (w : ℕ) (all : List (List ℕ)) (before now : SceneState) → AreLeft e w all [] before now → None ≡ (controls e w all before).refusal
-unfolding controls
-none_refused e w all before now left = left.refusal
+module _ (e : Entry) (w : ℕ) (all rest : List (List ℕ)) (before now : SceneState) (none : rest ≡ []) (left : AreLeft e w all rest before now) where
+  empty : controls e w rest now ≡ no_controls
+  unfolding controls
+  empty = ap (λ (ls : List (List ℕ)). controls e w ls now) none
+
+  pub none_left : Did e before now (controls e w all before).deeds
+  none_left = left.did now (subst (λ (c : Controlled). Did e now now c.deeds) (sym empty) (record { made = refl; can = tt }))
+
+  pub none_refused : None ≡ (controls e w all before).refusal
+  none_refused = sym (ap (λ (c : Controlled). c.refusal) empty) ∙ left.refusal
