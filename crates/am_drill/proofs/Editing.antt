@@ -34,6 +34,7 @@ use Rattle.core_events.specs.Waits.{ended}
 use Rattle.event_book.specs.Lives.{fresh}
 use Rattle.event_book.specs.WindowFiles.{WindowFile}
 use Rattle.core_tasks.specs.declared.task.Task.TheVariants as task
+use Rattle.core_tasks.specs.Tasks.{task_deeds, task_refusal}
 use Rattle.acme_core.specs.Doings.{Doing, resolved, doing_of, message_doing}
 use Rattle.acme_core.specs.Intents.{acting}
 use Rattle.acme_core.specs.Run.{step}
@@ -103,6 +104,7 @@ write_doing f l ascii room =
 
 written_so : (f : Facts) (l : ℕ) → after_story (standing [] [] f) (present (standing [] [] f)) (write l) (written_doing f l)
     ≡ finished f (story_written f l) (response 0 4 (r.Write 1) ∷ []) (told E (end_edit f l))
+unfolding task_deeds task_refusal
 written_so f l = refl
 
 abbrev pub letter_item : Origin → ℕ → ℕ → Item
@@ -131,7 +133,7 @@ finished_with f story first item =
 
 pub write_step : (f : Facts) (l : ℕ) → l < 128 → length (text_of f) < 16777216
     → step (standing [] [] f) (write l) ≡ standing [] [] (with_item (answered f 4 (r.Write 1)) (story_written f l) (letter_item E (length (text_of f)) l))
-unfolding step
+unfolding step task_deeds task_refusal
 write_step f l ascii room =
     let cut : nat_lt (length (text_of f)) (length (text_of f)) ≡ false = grind (arith, nat_tests) in
     ap (λ (d : Doing). after_story (standing [] [] f) (present (standing [] [] f)) (write l) d) (write_doing f l ascii room)
@@ -163,11 +165,12 @@ key_doing f l =
 
 typed_so : (f : Facts) (l : ℕ) → after_story (standing [] [] f) (present (standing [] [] f)) (key l) (typed_doing f l)
     ≡ finished f (story_typed f l) [] (told K (dot_edit f l) ++ [])
+unfolding task_deeds task_refusal
 typed_so f l = refl
 
 pub key_step : (f : Facts) (l : ℕ) → (dot_of f).q0 ≡ (dot_of f).q1
     → step (standing [] [] f) (key l) ≡ standing [] [] (with_item (gone_on f) (story_typed f l) (letter_item K (dot_of f).q0 l))
-unfolding step
+unfolding step task_deeds task_refusal
 key_step f l null =
     let cut : nat_lt (dot_of f).q0 (dot_of f).q1 ≡ false = grind (arith, nat_tests) in
     ap (λ (d : Doing). after_story (standing [] [] f) (present (standing [] [] f)) (key l) d) (key_doing f l)
