@@ -16,17 +16,19 @@ use Rattle.acme_core.proofs.Idling.{none_served}
 use Rattle.acme_core.specs.declared.parts.Parts.{Parts}
 use Rattle.core_outputs.specs.declared.reply.Reply.{Reply}
 use Rattle.acme_core.specs.Connections.{IsOfJoined, IsJoinedFor}
-use Rattle.acme_core.specs.Doings.{doing_of}
+use Rattle.core_tasks.specs.Tasks.{task_deeds}
+use Rattle.acme_core.specs.Doings.{doing_of, CanBeDone}
 use Rattle.acme_core.specs.Kinds.{kind_of}
 use Rattle.acme_core.specs.Parts.{present_of, AreSteady, HasReady}
 use Rattle.acme_core.specs.Run.{is_hang}
-use Rattle.acme_core.specs.States.{next_entry}
+use Rattle.acme_core.specs.States.{Present, next_entry}
 use Rattle.acme_core.specs.Replies.{replies_of}
 use Rattle.core_outputs.specs.Unsent.{put_replies}
 
 pub hang_ready : (p : Parts) (e : Event) (at : ℕ) (replies : Vec Reply) → is_hang e ≡ true → IsJoinedFor p.sessions.kept (kind_of e) → AreSteady p
     → IsSound (p.entries + 1) p.scene.book.kept → IsIdle p.scene.book.kept → at ≡ p.entries + 1 → replies.items ≡ []
     → HasReady p (record { event = e; at = at; effect = effect.Nothing; events = events.Nothing; deleted = []; back = None; said = []; replies = replies }) (doing_of (present_of p) e)
+unfolding task_deeds
 hang_ready p (event.Hang conn why) at replies h joined steady sound idle numbered none =
     let b : BookState = p.scene.book.kept in
     let silent : served_of b ≡ None = none_served b idle in
@@ -56,6 +58,24 @@ hang_ready p (event.Arg spot chord) at replies h joined steady sound idle number
 hang_ready p (event.Look spot) at replies h joined steady sound idle numbered none = absurd cc
 hang_ready p (event.File path text) at replies h joined steady sound idle numbered none = absurd cc
 hang_ready p (event.Dir path) at replies h joined steady sound idle numbered none = absurd cc
+
+-- a hang-up has no deeds
+pub hang_can : (s : Present) (e : Event) → is_hang e ≡ true → CanBeDone s (doing_of s e)
+unfolding task_deeds
+hang_can s (event.Hang conn why) h = tt
+hang_can s (event.Dial conn) h = absurd cc
+hang_can s (event.Msg conn msg) h = absurd cc
+hang_can s (event.Took conn) h = absurd cc
+hang_can s event.New h = absurd cc
+hang_can s (event.Key w side text) h = absurd cc
+hang_can s (event.Sel w range) h = absurd cc
+hang_can s (event.Exec spot) h = absurd cc
+hang_can s (event.Arg spot chord) h = absurd cc
+hang_can s (event.Look spot) h = absurd cc
+hang_can s (event.File path text) h = absurd cc
+hang_can s (event.Dir path) h = absurd cc
+
+pub ruleset hung = (hang_can)
 
 -- the same, where what is deleted and said is known to be nothing
 pub hanging : (p : Parts) (e : Event) (at : ℕ) (replies : Vec Reply) (deleted : List ℕ) (heard : List Response) → deleted ≡ [] → heard ≡ [] → is_hang e ≡ true

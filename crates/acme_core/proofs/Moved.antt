@@ -1,14 +1,11 @@
 -- What a task does to a scene where nothing is ready, and what is then taken of it.
-use Rattle.std.proofs.Common.{◌≡◌, ℕ, List, [], ◌∷◌, refl, sym, ap, subst, ◌∙◌}
-use Rattle.am_text.specs.Twice.{Twice}
-use Rattle.event_book.specs.BookState.{BookState}
+use Rattle.std.proofs.Common.{◌≡◌, ℕ, List, [], sym, ap, subst, ◌∙◌}
 use Rattle.core_scene.specs.declared.deed.Entry.{Entry}
 use Rattle.core_scene.specs.declared.deed.Deed.{Deed}
-use Rattle.core_scene.specs.declared.deed.Deed.TheVariants as deed
 use Rattle.core_scene.specs.declared.deed.WindowItem.{WindowItem}
 use Rattle.core_scene.specs.declared.scene.Scene.{Scene}
-use Rattle.core_scene.specs.Scenes.{SceneState, scene_of, kept_of, IsSettled, done, done_all, deleted_by, CanDoAll, Did}
-use Rattle.core_scene.proofs.Dids.{deleted_done}
+use Rattle.core_scene.specs.Scenes.{SceneState, scene_of, kept_of, IsSettled, done_all, deleted_by, CanDoAll, Did}
+use Rattle.core_scene.proofs.Dids.{deleted_done, book_stays}
 use Rattle.core_scene.proofs.Settled.{settled_is}
 use Rattle.core_tasks.specs.declared.task.Task.{Task}
 use Rattle.core_tasks.specs.Tasks.{task_deeds, CanDoTask}
@@ -16,23 +13,6 @@ use Rattle.core_tasks.specs.Tasks.{task_deeds, CanDoTask}
 -- what can be done in the kept state can be done in the present one
 pub can_now : (e : Entry) (x : Scene) (t : Task) → IsSettled x → CanDoTask e (kept_of x) t → CanDoTask e (scene_of x) t
 can_now e x t settled can = subst (λ (s : SceneState). CanDoTask e s t) (sym (settled_is x settled)) can
-
--- deeds leave the event files as they are
-book_done : (e : Entry) (s : SceneState) (ds : List Deed) → (done_all e s ds).book ≡ s.book
-book_done e s [] = refl
-book_done e s (deed.Windows c ∷ ds) = book_done e (done e s (deed.Windows c)) ds
-book_done e s (deed.Item w item ∷ ds) = book_done e (done e s (deed.Item w item)) ds
-book_done e s (deed.Snarfs text ∷ ds) = book_done e (done e s (deed.Snarfs text)) ds
-book_done e s (deed.Stores path bytes ∷ ds) = book_done e (done e s (deed.Stores path bytes)) ds
-book_done e s (deed.MakesDir path ∷ ds) = book_done e (done e s (deed.MakesDir path)) ds
-book_done e s (deed.Requests job ∷ ds) = book_done e (done e s (deed.Requests job)) ds
-book_done e s (deed.AddsRules sets vars text ∷ ds) = book_done e (done e s (deed.AddsRules sets vars text)) ds
-book_done e s (deed.ClearsRules ∷ ds) = book_done e (done e s deed.ClearsRules) ds
-book_done e s (deed.AddsPort name ∷ ds) = book_done e (done e s (deed.AddsPort name)) ds
-book_done e s (deed.Delivers port message keep ∷ ds) = book_done e (done e s (deed.Delivers port message keep)) ds
-
-both_same : (a b : Twice BookState) → a.present ≡ b.present → a.kept ≡ b.kept → a ≡ b
-both_same a b p k = rw (p, k) refl
 
 -- old: the scene before the task; x: the scene once it is done
 module _ (e : Entry) (old x : Scene) (t : Task) (settled : IsSettled old) (did : Did e (scene_of old) (scene_of x) (task_deeds e t (scene_of old))) where
@@ -61,9 +41,7 @@ module _ (e : Entry) (old x : Scene) (t : Task) (settled : IsSettled old) (did :
   task_kept y z kept first second = ap kept_of (second ∙ ap (λ (s : Scene). record s { deleted = [] }) first) ∙ kept
 
   pub task_book : (y z : Scene) → kept_of x ≡ kept_of old → y ≡ record x { items = [] } → z ≡ record y { deleted = [] } → z.book ≡ old.book
-  task_book y z kept first second =
-      ap (λ (s : Scene). s.book) (second ∙ ap (λ (s : Scene). record s { deleted = [] }) first)
-      ∙ both_same x.book old.book (ap (λ (s : SceneState). s.book) did.made ∙ book_done e (scene_of old) (task_deeds e t (scene_of old))) (ap (λ (s : SceneState). s.book) kept)
+  task_book y z kept first second = ap (λ (s : Scene). s.book) (second ∙ ap (λ (s : Scene). record s { deleted = [] }) first) ∙ book_stays did kept
 
 pub ruleset moving = (can_now)
 

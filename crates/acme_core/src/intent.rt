@@ -99,7 +99,7 @@ fn item_of_text(book: &Book, window: u32, text: &[u8]) -> Result<BackItem, Refus
     }
 }
 
-fn back_demanded(alloc: Global, found: Result<BackItem, Refusal>) -> Demanded
+fn by_item(alloc: Global, found: Result<BackItem, Refusal>) -> Demanded
     ensures { result ≡ record { task = back_task found; back = item_if_any found; refusal = refusal_if_any found } }
 {
     match found {
@@ -122,7 +122,7 @@ fn back_demanded(alloc: Global, found: Result<BackItem, Refusal>) -> Demanded
 // ---- messages
 
 // What a message does to the scene, which makes these changes, or asks for something else.
-fn demanded(alloc: Global, book: &Book, changes: Changes, demand: Demand) -> Demanded
+fn by_demand(alloc: Global, book: &Book, changes: Changes, demand: Demand) -> Demanded
     ensures task { result.task ≡ demanded_task book.now.present changes demand }
     ensures back { result.back ≡ demanded_item book.now.present demand }
     ensures refusal { result.refusal ≡ demand_refusal book.now.present demand }
@@ -139,7 +139,7 @@ fn demanded(alloc: Global, book: &Book, changes: Changes, demand: Demand) -> Dem
             refusal: None,
         },
         Demand::WriteBack { window, text } => {
-            back_demanded(alloc, item_of_text(book, window, text.as_slice()))
+            by_item(alloc, item_of_text(book, window, text.as_slice()))
         }
     }
 }
@@ -174,7 +174,7 @@ fn message_intent(
         task,
         back,
         refusal,
-    } = demanded(alloc, &parts.scene.book, changes, demand);
+    } = by_demand(alloc, &parts.scene.book, changes, demand);
     let answer = or_refused(alloc, refusal, answer)?;
     Ok(Intent {
         effect,

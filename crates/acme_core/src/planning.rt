@@ -69,7 +69,7 @@ fn hanging(alloc: Global, parts: &Parts, event: Event) -> Prepared
 }
 
 /// Decides whether an event is enabled, and makes it ready. What the tables mean stays, and a refusal leaves nothing ready in them.
-#[tactic(auto, using(crate::proofs::Joins::joined))]
+#[tactic(auto, using(crate::proofs::Joins::joined, crate::proofs::Hangs::hung))]
 pub(crate) fn prepare(
     alloc: Global,
     journal: &mut Roomy<Event>,

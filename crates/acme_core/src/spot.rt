@@ -7,7 +7,7 @@ ghost use Rattle.acme_core.specs.Spots.{text_refusal, spot_refusal, arg_refusal,
 
 use crate::enabled::first_why;
 use am_journal::{Side, Spot, Why};
-use am_text::Rune;
+use am_text::{Letters, Rune};
 use core_windows::{Pane, Windows};
 use win_ctl::Shown;
 

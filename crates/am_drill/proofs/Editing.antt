@@ -13,6 +13,7 @@ use Rattle.win_events.specs.declared.item.Origin.{Origin}
 use Rattle.win_events.specs.declared.item.Origin.TheVariants.{E, K}
 use Rattle.win_events.specs.declared.item.Sort.TheVariants.{BodyIns, BodyDel}
 use Rattle.win_text.specs.BodyStories.{story_text, range_now}
+use Rattle.core_windows.specs.declared.change.Change.{Change}
 use Rattle.core_windows.specs.declared.change.Change.TheVariants as change
 use Rattle.core_windows.specs.Windows.{Window}
 use Rattle.core_windows.specs.declared.change.Setting.TheVariants as setting
@@ -32,8 +33,10 @@ use Rattle.core_events.specs.Serving.{served_most, book_served_most, served_all,
 use Rattle.core_events.specs.Waits.{ended}
 use Rattle.event_book.specs.Lives.{fresh}
 use Rattle.event_book.specs.WindowFiles.{WindowFile}
-use Rattle.acme_core.specs.declared.doing.Doing.{Doing}
-use Rattle.acme_core.specs.Doings.{doing_of, message_doing, changing}
+use Rattle.core_tasks.specs.declared.task.Task.TheVariants as task
+use Rattle.core_tasks.specs.Tasks.{task_deeds, task_refusal}
+use Rattle.acme_core.specs.Doings.{Doing, resolved, doing_of, message_doing}
+use Rattle.acme_core.specs.Intents.{acting}
 use Rattle.acme_core.specs.Run.{step}
 use Rattle.acme_core.specs.Stages.{after_story, response}
 use Rattle.acme_core.specs.States.{State, present}
@@ -90,17 +93,18 @@ abbrev pub story_written : Facts → ℕ → WindowStory
 story_written f l = edited_story (end_edit f l ∷ []) (f.entries + 1) f.story
 
 abbrev pub written_doing : Facts → ℕ → Doing
-written_doing f l = message_doing (written (change.Edits 1 (end_edit f l ∷ []) ∷ []) 1 body_fid 1) E
+written_doing f l = message_doing (present (standing [] [] f)) (written (change.Edits 1 (end_edit f l ∷ []) ∷ []) 1 body_fid 1) E
 
 write_doing : (f : Facts) (l : ℕ) → l < 128 → length (text_of f) < 16777216 → doing_of (present (standing [] [] f)) (write l) ≡ written_doing f l
 write_doing f l ascii room =
     let windows : List (Option Window) = shown_windows (Some f.story ∷ []) in
     let fits : fits_in (text_of f) (l ∷ []) ≡ true = grind (arith, nat_tests) in
-    ap (λ (d : Decoded). message_doing (reaction_or_refusal (append_reaction windows 1 body_fid 1 1 d)) E) (letter_decoded l ascii)
-    ∙ ap (λ (b : Bool). message_doing (reaction_or_refusal (if b then Ok (written (appends windows 1 (l ∷ [])) 1 (holding body_fid (part_of [])) 1) else Err refusal.TextTooLong)) E) fits
+    ap (λ (d : Decoded). message_doing (present (standing [] [] f)) (reaction_or_refusal (append_reaction windows 1 body_fid 1 1 d)) E) (letter_decoded l ascii)
+    ∙ ap (λ (b : Bool). message_doing (present (standing [] [] f)) (reaction_or_refusal (if b then Ok (written (appends windows 1 (l ∷ [])) 1 (holding body_fid (part_of [])) 1) else Err refusal.TextTooLong)) E) fits
 
 written_so : (f : Facts) (l : ℕ) → after_story (standing [] [] f) (present (standing [] [] f)) (write l) (written_doing f l)
     ≡ finished f (story_written f l) (response 0 4 (r.Write 1) ∷ []) (told E (end_edit f l))
+unfolding task_deeds task_refusal
 written_so f l = refl
 
 abbrev pub letter_item : Origin → ℕ → ℕ → Item
@@ -129,7 +133,7 @@ finished_with f story first item =
 
 pub write_step : (f : Facts) (l : ℕ) → l < 128 → length (text_of f) < 16777216
     → step (standing [] [] f) (write l) ≡ standing [] [] (with_item (answered f 4 (r.Write 1)) (story_written f l) (letter_item E (length (text_of f)) l))
-unfolding step
+unfolding step task_deeds task_refusal
 write_step f l ascii room =
     let cut : nat_lt (length (text_of f)) (length (text_of f)) ≡ false = grind (arith, nat_tests) in
     ap (λ (d : Doing). after_story (standing [] [] f) (present (standing [] [] f)) (write l) d) (write_doing f l ascii room)
@@ -148,20 +152,25 @@ dot_after f = record { q0 = (dot_of f).q0 + 1; q1 = (dot_of f).q0 + 1 }
 abbrev pub story_typed : Facts → ℕ → WindowStory
 story_typed f l = set_story (setting.Dot (dot_after f)) (edited_story (dot_edit f l ∷ []) (f.entries + 1) f.story)
 
+-- what changes the window alone
+abbrev pub changing : Facts → List Change → Doing
+changing f cs = resolved (present (standing [] [] f)) (acting (task.Changes cs) K)
+
 abbrev pub typed_doing : Facts → ℕ → Doing
-typed_doing f l = changing (edits_with_dot 1 (dot_edit f l ∷ []) (dot_after f)) K
+typed_doing f l = changing f (edits_with_dot 1 (dot_edit f l ∷ []) (dot_after f))
 
 key_doing : (f : Facts) (l : ℕ) → doing_of (present (standing [] [] f)) (key l) ≡ typed_doing f l
 key_doing f l =
-    ap (λ (b : Bool). changing (edits_with_dot 1 (if b then [] else dot_edit f l ∷ []) (dot_after f)) K) (and_false ((dot_of f).q0 == (dot_of f).q1))
+    ap (λ (b : Bool). changing f (edits_with_dot 1 (if b then [] else dot_edit f l ∷ []) (dot_after f))) (and_false ((dot_of f).q0 == (dot_of f).q1))
 
 typed_so : (f : Facts) (l : ℕ) → after_story (standing [] [] f) (present (standing [] [] f)) (key l) (typed_doing f l)
     ≡ finished f (story_typed f l) [] (told K (dot_edit f l) ++ [])
+unfolding task_deeds task_refusal
 typed_so f l = refl
 
 pub key_step : (f : Facts) (l : ℕ) → (dot_of f).q0 ≡ (dot_of f).q1
     → step (standing [] [] f) (key l) ≡ standing [] [] (with_item (gone_on f) (story_typed f l) (letter_item K (dot_of f).q0 l))
-unfolding step
+unfolding step task_deeds task_refusal
 key_step f l null =
     let cut : nat_lt (dot_of f).q0 (dot_of f).q1 ≡ false = grind (arith, nat_tests) in
     ap (λ (d : Doing). after_story (standing [] [] f) (present (standing [] [] f)) (key l) d) (key_doing f l)

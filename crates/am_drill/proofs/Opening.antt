@@ -31,6 +31,7 @@ use Rattle.core_fids.specs.declared.walking.WalkEnd.TheVariants as end
 use Rattle.core_fids.specs.Refusals.{reaction_or_refusal}
 use Rattle.core_fids.specs.Walking.{trail, onwards, then_qid, arrives}
 use Rattle.win_events.specs.declared.item.Origin.TheVariants.{F}
+use Rattle.core_tasks.specs.Tasks.{task_deeds, task_refusal}
 use Rattle.acme_core.specs.Doings.{message_doing}
 use Rattle.acme_core.specs.Stages.{after_story}
 use Rattle.acme_core.specs.declared.connection.Connection.TheVariants.{Undialed, Live}
@@ -93,18 +94,18 @@ abbrev pub dialed : Begun
 dialed = record { entries = 1; unsent = nothing_unsent; replies = [] }
 
 pub dial_step : step start (event.Dial 0) ≡ begun None [] [] empty_book dialed
-unfolding step served_most book_served_most
+unfolding step served_most book_served_most task_deeds task_refusal
 dial_step = refl
 
 pub version_step : (b : Begun) → step (begun None [] [] empty_book b) version ≡ begun (Some 8192) [] [] empty_book (told b notag (r.Version 8192 (codes "9P2000")))
-unfolding step served_most book_served_most
+unfolding step served_most book_served_most task_deeds task_refusal
 version_step b = refl
 
 abbrev pub root_fids : List (ℕ × Fid)
 root_fids = (0, fresh Root) ∷ []
 
 pub attach_step : (b : Begun) → step (begun (Some 8192) [] [] empty_book b) attach ≡ begun (Some 8192) root_fids [] empty_book (told b 1 (r.Attach (qid_of Root)))
-unfolding step served_most book_served_most
+unfolding step served_most book_served_most task_deeds task_refusal
 attach_step b = refl
 
 abbrev pub new_story : WindowStory
@@ -115,7 +116,7 @@ walked_fids = (0, fresh Root) ∷ (1, fresh (File 1 file.Body)) ∷ []
 
 pub walk_body_step : (b : Begun) → step (begun (Some 8192) root_fids [] empty_book b) walk_body
     ≡ begun (Some 8192) walked_fids (Some new_story ∷ []) empty_book (told b 2 (r.Walk (qid_of NewDir ∷ qid_of (File 1 file.Body) ∷ [])))
-unfolding step served_most book_served_most trail walk_one entry_named file_named entries
+unfolding step served_most book_served_most trail walk_one entry_named file_named entries task_deeds task_refusal
 walk_body_step b = refl
 
 abbrev pub opened_fids : List (ℕ × Fid)
@@ -123,7 +124,7 @@ opened_fids = (0, fresh Root) ∷ (1, body_fid) ∷ []
 
 pub open_body_step : (b : Begun) → step (begun (Some 8192) walked_fids (Some new_story ∷ []) empty_book b) open_body
     ≡ begun (Some 8192) opened_fids (Some new_story ∷ []) empty_book (told b 3 (r.Open (qid_of (File 1 file.Body)) 0))
-unfolding step served_most book_served_most may_open
+unfolding step served_most book_served_most may_open task_deeds task_refusal
 open_body_step b = refl
 
 -- ---- the walk to window 1, whose name is a decimal
@@ -148,10 +149,10 @@ trail_one =
 pub walk_event_step : (b : Begun) → step (begun (Some 8192) opened_fids (Some new_story ∷ []) empty_book b) walk_event
     ≡ begun (Some 8192) ((0, fresh Root) ∷ (1, body_fid) ∷ (2, fresh (File 1 file.Event)) ∷ []) (Some new_story ∷ []) empty_book
     (told b 2 (r.Walk (qid_of (Window 1) ∷ qid_of (File 1 file.Event) ∷ [])))
-unfolding step served_most book_served_most
+unfolding step served_most book_served_most task_deeds task_refusal
 walk_event_step b =
     let s : State = begun (Some 8192) opened_fids (Some new_story ∷ []) empty_book b in
-    ap (λ (rest : Trail). after_story s (present s) walk_event (message_doing (reaction_or_refusal (arrives 2 world_one rest)) F)) trail_one
+    ap (λ (rest : Trail). after_story s (present s) walk_event (message_doing (present s) (reaction_or_refusal (arrives 2 world_one rest)) F)) trail_one
 
 -- ---- and so the rounds begin
 
@@ -160,7 +161,7 @@ facts_of b = record { entries = b.entries; story = new_story; items = []; carry 
 
 pub open_event_step : (b : Begun) → step (begun (Some 8192) ((0, fresh Root) ∷ (1, body_fid) ∷ (2, fresh (File 1 file.Event)) ∷ []) (Some new_story ∷ []) empty_book b) open_event
     ≡ standing [] [] (facts_of (told b 3 (r.Open (qid_of (File 1 file.Event)) 0)))
-unfolding step served_most book_served_most may_open
+unfolding step served_most book_served_most may_open task_deeds task_refusal
 open_event_step b = refl
 
 -- ---- lawful

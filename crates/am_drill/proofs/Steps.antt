@@ -8,6 +8,7 @@ use Rattle.am_journal.specs.declared.event.Event.TheVariants as event
 use Rattle.am_text.specs.Utf8.{utf8}
 use Rattle.win_text.specs.BodyStories.{story_text}
 use Rattle.core_outputs.specs.declared.reply.Reply.{Reply}
+use Rattle.core_tasks.specs.Tasks.{task_deeds, task_refusal}
 use Rattle.acme_core.specs.Run.{step}
 use Rattle.core_outputs.specs.Unsent.{nothing_unsent, with_reply}
 use Rattle.am_drill.specs.Drill.{read, flush, poll}
@@ -47,15 +48,15 @@ abbrev pub shown : Facts → RBody
 shown f = r.Read (take 32 (drop 0 (utf8 (story_text f.story.body))))
 
 pub read_step : (f : Facts) → step (standing [] [] f) read ≡ standing [] [] (answered f 5 (shown f))
-unfolding step served_most book_served_most
+unfolding step served_most book_served_most task_deeds task_refusal
 read_step f = refl
 
 pub flush_step : (f : Facts) → step (standing [] [] f) flush ≡ standing [] [] (answered f 11 r.Flush)
-unfolding step served_most book_served_most
+unfolding step served_most book_served_most task_deeds task_refusal
 flush_step f = refl
 
 pub took_step : (f : Facts) → step (standing [] [] f) (event.Took 0) ≡ standing [] [] (record f { entries = f.entries + 1; unsent = nothing_unsent; replies = [] })
-unfolding step served_most book_served_most
+unfolding step served_most book_served_most task_deeds task_refusal
 took_step f = refl
 
 -- ---- the event file
@@ -94,7 +95,7 @@ abbrev pub polled_as : Bool → Facts → State
 polled_as w f = polled_with w f (served_all (f.entries + 1) (book_asked_as w f)) (book_served_all (f.entries + 1) (book_asked_as w f))
 
 polled : (f : Facts) → step (standing [] [] f) poll ≡ polled_as (waits f) f
-unfolding step
+unfolding step task_deeds task_refusal
 polled f = refl
 
 -- the event file after the read, by whether it waits
@@ -118,7 +119,7 @@ flushed_with f served book =
 
 flushed : (f : Facts) → step (standing (reading ∷ []) (reader ∷ []) f) flush
     ≡ flushed_with f (served_all (f.entries + 1) (book_with (reader ∷ []) f)) (book_served_all (f.entries + 1) (book_with (reader ∷ []) f))
-unfolding step
+unfolding step task_deeds task_refusal
 flushed f = refl
 
 -- a read that has to wait isn't served

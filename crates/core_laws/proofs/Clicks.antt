@@ -21,7 +21,7 @@ use Rattle.core_exec.specs.declared.click.Clicked.{Clicked}
 use Rattle.core_actions.specs.Looking.{look_target}
 use Rattle.core_exec.specs.Clicks.{clicked_at, own_text, argument_if_any, exec_item, look_item}
 use Rattle.core_exec.specs.Acting.{exec_click, exec_clicked, exec_at_deeds, look_click, look_clicked, look_at_deeds}
-use Rattle.core_events.specs.declared.response.Response.{Response}
+use Rattle.core_tasks.specs.Tasks.{task_deeds}
 use Rattle.acme_core.specs.declared.kind.Kind.{Kind}
 use Rattle.acme_core.specs.declared.kind.Kind.TheVariants as kind
 use Rattle.acme_core.specs.Connections.{connections_after}
@@ -139,6 +139,7 @@ unfolding step
 behind before e w h = subst (λ (s : State). OnlyTells (run before) s (said_after before e) w) (sym (run-push before e)) h
 
 pub clicks : ClicksAreTold
+unfolding task_deeds
 clicks before (event.Exec at) w is open =
     let same : at.window ≡ w = cc in
     let mine : is_open_window (run before).scene.book at.window ≡ true = subst (λ (v : ℕ). is_open_window (run before).scene.book v ≡ true) (sym same) open in

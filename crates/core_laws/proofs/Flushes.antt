@@ -23,6 +23,7 @@ use Rattle.core_fids.specs.Fids.{is_there}
 use Rattle.core_fids.specs.Refusals.{refused}
 use Rattle.core_events.specs.declared.response.Response.{Response}
 use Rattle.core_events.specs.Waits.{ended}
+use Rattle.core_tasks.specs.Tasks.{task_deeds, task_refusal}
 use Rattle.acme_core.specs.Doings.{message_doing, doing_of}
 use Rattle.acme_core.specs.Run.{step, run, enabled}
 use Rattle.acme_core.specs.Stages.{said, grown_book, tables_after, book_after}
@@ -76,7 +77,7 @@ first_flushes (x ∷ xs) = flushes x.message.body
 
 is_flush : (s : Present) (conn tag oldtag : ℕ) (missing : Bool) → said s (kind.Asks conn tag) (message_doing s (flush_or missing oldtag) F) ≡ flushed conn tag ∷ []
     → flush_or missing oldtag ≡ flush_reaction oldtag
-unfolding first_flushes flushes
+unfolding first_flushes flushes task_deeds task_refusal
 is_flush s conn tag oldtag true h = absurd (false≢true (ap first_flushes h))
 is_flush s conn tag oldtag false h = refl
 
@@ -86,6 +87,7 @@ QuietAfter s conn tag oldtag d =
     × All (Reading (OtherTag conn oldtag)) (book_after s (kind.Asks conn tag) (message_doing s d F)).reads
 
 quiet_flush : (s : Present) (conn tag oldtag : ℕ) → QuietAfter s conn tag oldtag (flush_reaction oldtag)
+unfolding task_deeds task_refusal
 quiet_flush s conn tag oldtag =
     (none_waiting conn oldtag (ended s.tables (said s (kind.Asks conn tag) (message_doing s (flush_reaction oldtag) F))).waiting, none_reading conn oldtag (grown_book s (kind.Asks conn tag) (message_doing s (flush_reaction oldtag) F)).reads)
 

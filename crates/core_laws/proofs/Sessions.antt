@@ -39,6 +39,7 @@ use Rattle.acme_core.specs.declared.kind.Kind.TheVariants as kind
 use Rattle.acme_core.specs.Connections.{grown_with, ended_with}
 use Rattle.core_events.specs.Putting.{put_living}
 use Rattle.core_events.specs.Serving.{served_all}
+use Rattle.core_tasks.specs.Tasks.{task_deeds, task_refusal}
 use Rattle.core_laws.proofs.Playing.{silent_after}
 use Rattle.acme_core.specs.Doings.{message_doing, doing_of}
 use Rattle.acme_core.specs.Intents.{reaction_at}
@@ -242,6 +243,7 @@ any_session t conn tag (w ∷ ws) all h =
 
 -- nothing is served, since no read that waits can be answered
 flush_says : (s : Present) (conn tag oldtag : ℕ) → served_all (next_entry s) (put_living [] s.scene.book s.scene.items) ≡ [] → said s (kind.Asks conn tag) (message_doing s (flush_reaction oldtag) F) ≡ flushed conn tag ∷ []
+unfolding task_deeds task_refusal
 flush_says s conn tag oldtag none = ap (λ (xs : List Response). flushed conn tag ∷ xs) none
 
 pub flushes_answered : FlushesAreAnswered
