@@ -2,7 +2,6 @@
 
 ghost use Rattle.std.specs.Prelude.{◌≡◌, Some, Ok, IsSome, IfOk};
 ghost use Rattle.edit_parts.specs.Tree.{command};
-ghost use Rattle.win_text.specs.Bodies.{AreInRange};
 ghost use Rattle.core_windows.specs.Panes.{window_of};
 ghost use Rattle.core_windows.specs.Possible.{text_in};
 ghost use Rattle.core_windows.specs.Windows.{window_at};
