@@ -33,6 +33,9 @@ are_in_range t (e ∷ es) h =
 pub is_inside : (t : List ℕ) (r : Range) → sam.IsInside t r → IsInside t r
 is_inside t r h = record { order = h.order; bounds = h.bounds }
 
+pub is_inside_too : (t : List ℕ) (r : Range) → IsInside t r → sam.IsInside t r
+is_inside_too t r h = record { order = h.order; bounds = h.bounds }
+
 pub ruleset lengths = (length_of_after)
 
-pub ruleset ranges = (are_in_range, is_inside)
+pub ruleset ranges = (are_in_range, is_inside, is_inside_too)

@@ -1,3 +1,4 @@
 pub mod Joined
 pub mod Lengths
 pub mod Changing
+pub mod Saying

@@ -1,3 +1,4 @@
 pub mod Faults
 pub mod Plans
 pub mod Editing
+pub mod EditLaws

@@ -21,6 +21,11 @@ use Rattle.core_edit.specs.Faults.{told}
 abbrev pub Planned : Type 0
 Planned = Result EditPlan (Option CommandFault)
 
+-- one of these two, where there is memory
+abbrev pub answered : Result EditPlan CommandFault → Planned
+answered (Ok plan) = Ok plan
+answered (Err f) = Err (Some f)
+
 -- where the commands of a window are done
 abbrev pub site_of : ℕ → Option Window → Site
 site_of w window = record { window = w; name = name_of window; dot = dot_of window }

@@ -88,7 +88,6 @@ fn say(
 /// and `>` follow, and then all that was printed is put at the end of the directory's errors window, as one text. Where the
 /// text is no command, where it has a fault over the body, and where the body would have more than 16,777,216 runes, the line
 /// `Edit: FAULT` is put there, and nothing else is done.
-#[tactic(auto, unfolding(crate::specs::Editing::edit_deeds))]
 pub fn edit(
     alloc: Global,
     scene: &mut Scene,

@@ -3,8 +3,10 @@
 
 mod doing;
 mod fault;
+mod laws;
 mod planning;
 mod words;
 
 pub use doing::edit;
 pub use fault::CommandFault;
+pub use laws::faults_are_only_said;

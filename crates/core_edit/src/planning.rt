@@ -1,12 +1,11 @@
 //! What a text of Edit is to make of a window's body.
 
-ghost use Rattle.std.specs.Prelude.{◌≡◌, Some, Ok, Err, IsSome, IfOk, IfErr};
+ghost use Rattle.std.specs.Prelude.{◌≡◌, Some, Ok, IsSome, IfOk};
 ghost use Rattle.edit_parts.specs.Tree.{command};
-ghost use Rattle.win_text.specs.Bodies.{AreInRange};
 ghost use Rattle.core_windows.specs.Panes.{window_of};
 ghost use Rattle.core_windows.specs.Possible.{text_in};
 ghost use Rattle.core_windows.specs.Windows.{window_at};
-ghost use Rattle.core_edit.specs.Plans.{site_of, fitting, plan_of, edit_plan, IsPlanOf, length_with, length_after};
+ghost use Rattle.core_edit.specs.Plans.{answered, site_of, fitting, plan_of, edit_plan, IsPlanOf, length_with, length_after};
 
 use crate::fault::{CommandFault, told};
 use am_text::{Letters, NoMemory, Rune, Runes};
@@ -51,8 +50,7 @@ fn length_after(size: usize, edits: &[Edit]) -> Result<usize, NoMemory>
 #[tactic(auto, using(crate::proofs::Lengths::lengths))]
 fn fitting(body: &Body, plan: EditPlan) -> Result<Planned, NoMemory>
     requires { IsPlanOf body.now.state.text plan }
-    ensures plan { IfOk result (λ planned. IfOk planned (λ p. fitting body.now.state.text (Ok plan) ≡ Ok p)) }
-    ensures fault { IfOk result (λ planned. IfErr planned (λ f. fitting body.now.state.text (Ok plan) ≡ Err (Some f))) }
+    ensures exact { IfOk result (λ planned. answered planned ≡ fitting body.now.state.text (Ok plan)) }
     ensures sound { IfOk result (λ planned. IfOk planned (IsPlanOf body.now.state.text)) }
 {
     let len = length_after(body.len(), plan.edits.as_slice())?;
@@ -78,8 +76,7 @@ fn site_of(alloc: Global, window: u32, pane: &Pane) -> Result<Site, NoMemory>
 // What a command makes of a window's body.
 #[tactic(auto, using(crate::proofs::Lengths::ranges))]
 fn plan_of(alloc: Global, window: u32, pane: &Pane, cmd: &Cmd) -> Result<Planned, NoMemory>
-    ensures plan { IfOk result (λ planned. IfOk planned (λ p. plan_of (Some (command cmd.now)) pane.now.body.state.text (site_of window (Some (window_of pane.now))) ≡ Ok p)) }
-    ensures fault { IfOk result (λ planned. IfErr planned (λ f. plan_of (Some (command cmd.now)) pane.now.body.state.text (site_of window (Some (window_of pane.now))) ≡ Err (Some f))) }
+    ensures exact { IfOk result (λ planned. answered planned ≡ plan_of (Some (command cmd.now)) pane.now.body.state.text (site_of window (Some (window_of pane.now)))) }
     ensures sound { IfOk result (λ planned. IfOk planned (IsPlanOf pane.now.body.state.text)) }
 {
     pane.body.is_sound();
@@ -98,8 +95,7 @@ pub(crate) fn edit_plan(
     text: &[Rune],
 ) -> Result<Planned, NoMemory>
     requires { IsSome (window_at windows.now.present window) }
-    ensures plan { IfOk result (λ planned. IfOk planned (λ p. edit_plan window (window_at windows.now.present window) text.now ≡ Ok p)) }
-    ensures fault { IfOk result (λ planned. IfErr planned (λ f. edit_plan window (window_at windows.now.present window) text.now ≡ Err (Some f))) }
+    ensures exact { IfOk result (λ planned. answered planned ≡ edit_plan window (window_at windows.now.present window) text.now) }
     ensures sound { IfOk result (λ planned. IfOk planned (IsPlanOf (text_in (window_at windows.now.present window)))) }
 {
     let Some(cmd) = read_edit(alloc, text)? else {

@@ -8,6 +8,7 @@ use Rattle.core_actions.specs.declared.fault.ActionFault.{ActionFault}
 use Rattle.core_actions.specs.Outcomes.{Outcome}
 use Rattle.core_actions.specs.Looking.{find_deeds, look_deeds}
 use Rattle.core_actions.specs.Opening.{new_deeds}
+use Rattle.core_edit.specs.Editing.{edit_deeds}
 use Rattle.core_exec.specs.Acting.{looks}
 use Rattle.core_exec.specs.Executing.{said_if_any}
 
@@ -25,6 +26,9 @@ found_too e a b w t t' h did = subst (λ (x : List ℕ). Did e a b (find_deeds w
 
 pub new_too : (e : Entry) (a b : SceneState) (w : ℕ) (t t' : List ℕ) → t ≡ t' → Did e a b (new_deeds e w t a) → Did e a b (new_deeds e w t' a)
 new_too e a b w t t' h did = subst (λ (x : List ℕ). Did e a b (new_deeds e w x a)) h did
+
+pub edited_too : (e : Entry) (a b : SceneState) (w : ℕ) (t t' : List ℕ) → t ≡ t' → Did e a b (edit_deeds e w t a) → Did e a b (edit_deeds e w t' a)
+edited_too e a b w t t' h did = subst (λ (x : List ℕ). Did e a b (edit_deeds e w x a)) h did
 
 pub looked_too : (e : Entry) (a b : SceneState) (w : ℕ) (t t' : List ℕ) → t ≡ t' → Did e a b (look_deeds e w t a) → Did e a b (looks e w t' a)
 unfolding looks

@@ -25,6 +25,7 @@ use Rattle.core_actions.specs.Undoing.{move_deeds}
 use Rattle.core_actions.specs.declared.fault.ActionFault.{ActionFault}
 use Rattle.core_actions.specs.declared.fault.ActionFault.TheVariants as fault
 use Rattle.core_actions.specs.declared.undoing.Move.TheVariants as move
+use Rattle.core_edit.specs.Editing.{edit_deeds}
 
 -- ---- faults are said in the errors window
 
@@ -47,14 +48,11 @@ or_said e window word o s = o.deeds ++ said_if_any e (dir_of window) word o.faul
 
 -- ---- built-in commands
 
-unfoldable pub not_served : List ℕ
-not_served = codes "Edit: not served yet\n"
-
 unfoldable pub builtin_deeds : Entry → ℕ → Builtin → List ℕ → SceneState → List Deed
 builtin_deeds e w builtin.Cut a s = cut_deeds w s
 builtin_deeds e w builtin.Del a s = del_deeds e w s
 builtin_deeds e w builtin.Delete a s = delete_deeds w s
-builtin_deeds e w builtin.Edit a s = errors_deeds e (dir_of (window_at s.windows w)) not_served s
+builtin_deeds e w builtin.Edit a s = edit_deeds e w a s
 builtin_deeds e w builtin.Get a s = or_said e (window_at s.windows w) (codes "Get") (get_outcome w a s) s
 builtin_deeds e w builtin.Look a s = find_deeds w a s
 builtin_deeds e w builtin.New a s = new_deeds e w a s

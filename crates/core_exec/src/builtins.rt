@@ -5,20 +5,18 @@ ghost use Rattle.core_windows.specs.Windows.{window_at};
 ghost use Rattle.core_scene.specs.Scenes.{scene_of, kept_of, Did};
 ghost use Rattle.core_actions.specs.Files.{get_outcome, put_outcome};
 ghost use Rattle.core_actions.specs.Editing.{paste_outcome};
-ghost use Rattle.core_actions.specs.Errors.{errors_deeds};
 ghost use Rattle.core_actions.specs.Looking.{find_deeds};
 ghost use Rattle.core_actions.specs.Opening.{new_deeds};
-ghost use Rattle.core_actions.specs.Seen.{dir_of};
-ghost use Rattle.core_exec.specs.Executing.{or_said, not_served, builtin_deeds};
+ghost use Rattle.core_edit.specs.Editing.{edit_deeds};
+ghost use Rattle.core_exec.specs.Executing.{or_said, builtin_deeds};
 
 use crate::faults::{Speaker, say};
-use crate::words::put_words;
 use acme_cmd::Builtin;
 use am_text::{NoMemory, Runes};
 use core_actions::{
-    Move, append_errors, cut, del, delete, dir_at, find, get, move_groups, new_window, paste, put,
-    snarf,
+    Move, cut, del, delete, dir_at, find, get, move_groups, new_window, paste, put, snarf,
 };
+use core_edit::edit;
 use core_scene::{Entry, Scene};
 use std::alloc::Global;
 
@@ -86,23 +84,19 @@ fn paste_or_say(alloc: Global, scene: &mut Scene, entry: Entry, window: u32) -> 
     )
 }
 
-#[tactic(auto, unfolding(crate::specs::Executing::not_served))]
-fn not_served(alloc: Global) -> Result<Runes, NoMemory>
-    ensures { IfOk result (λ line. line ≡ not_served) }
-{
-    let mut line = Runes::new(alloc);
-    put_words(&mut line, b"Edit: not served yet\n")?;
-    Ok(line)
-}
-
-// Edit isn't served yet, and says so.
-fn edit(alloc: Global, scene: &mut Scene, entry: Entry, window: u32) -> Result<(), NoMemory>
-    ensures ok { OnOk result (Did entry (scene_of scene.old) (scene_of scene.new) (errors_deeds entry (dir_of (window_at scene.old.windows.present window)) not_served (scene_of scene.old))) }
+// Edit.
+fn edit_text(
+    alloc: Global,
+    scene: &mut Scene,
+    entry: Entry,
+    window: u32,
+    text: &Runes,
+) -> Result<(), NoMemory>
+    requires { IsSome (window_at scene.old.windows.present window) }
+    ensures ok { OnOk result (Did entry (scene_of scene.old) (scene_of scene.new) (edit_deeds entry window text.now (scene_of scene.old))) }
     ensures kept { kept_of scene.new ≡ kept_of scene.old }
 {
-    let dir = dir_at(alloc, &scene.windows, window)?;
-    let line = not_served(alloc)?;
-    append_errors(alloc, scene, entry, dir.as_slice(), line)
+    edit(alloc, scene, entry, window, text.as_slice())
 }
 
 // The built-in Look.
@@ -152,7 +146,7 @@ pub(crate) fn do_builtin(
         Builtin::Cut => cut(alloc, scene, entry, window),
         Builtin::Del => del(alloc, scene, entry, window),
         Builtin::Delete => delete(alloc, scene, entry, window),
-        Builtin::Edit => edit(alloc, scene, entry, window),
+        Builtin::Edit => edit_text(alloc, scene, entry, window, &argument),
         Builtin::Get => get_or_say(alloc, scene, entry, window, &argument),
         Builtin::Look => find_text(alloc, scene, entry, window, &argument),
         Builtin::New => new_text(alloc, scene, entry, window, &argument),

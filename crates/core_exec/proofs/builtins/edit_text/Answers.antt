@@ -1,0 +1,8 @@
+use Rattle.std.proofs.lemmas.Result.{on_ok_weaker}
+use Rattle.core_scene.specs.Scenes.{scene_of}
+use Rattle.core_exec.proofs.Saying.{edited_too}
+use Rattle.core_exec.proofs.builtins.edit_text.Goals as goal
+
+pub returns-clause-ok : goal.returns-clause-ok
+returns-clause-ok c =
+    on_ok_weaker c.edit.result (λ did. edited_too c.args.entry (scene_of c.args.scene.now) (scene_of c.edit.new.scene) c.args.window _ _ c.as_slice.ensures did) c.edit.ensures.ok
