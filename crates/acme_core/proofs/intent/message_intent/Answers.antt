@@ -1,0 +1,7 @@
+use Rattle.acme_core.specs.Parts.{present_of}
+use Rattle.acme_core.proofs.Meant.{message_can}
+use Rattle.acme_core.proofs.intent.message_intent.Goals as goal
+
+pub returns-clause-possible : goal.returns-clause-possible
+returns-clause-possible c =
+    message_can (present_of c.args.parts.now) _ _ c.in_ok-effect.field-0 c.message_origin.result _ c.by_demand.ensures.task c.requires.steady.scene.windows c.in_ok-effect.ensures.done
