@@ -35,6 +35,11 @@ pub planned_did : (e : Entry) (a b : SceneState) (w : ℕ) (text : List ℕ) (p 
 unfolding edit_deeds
 planned_did e a b w text p same did = subst (λ (q : Planned). Did e a b (planned_deeds e w (dir_of (window_at a.windows w)) q a)) same did
 
+-- the same text is said in the same directory
+pub said_did : (e : Entry) (a b : SceneState) (d d' d'' t t' : List ℕ) → d ≡ d' → d' ≡ d'' → t ≡ t' → Did e a b (errors_deeds e d t a) → Did e a b (errors_deeds e d'' t' a)
+said_did e a b d d' d'' t t' h k l did =
+    subst (λ (x : List ℕ). Did e a b (errors_deeds e d'' x a)) l (subst (λ (x : List ℕ). Did e a b (errors_deeds e x t a)) (h ∙ k) did)
+
 -- a plan is done, and then its prints are put
 pub plan_did : (e : Entry) (a b c : SceneState) (w : ℕ) (plan : EditPlan) (ds : List Deed) (d d' d'' : List ℕ) → Did e a b ds → ds ≡ change_deeds w plan a → d ≡ d' → d' ≡ d''
     → Did e b c (errors_deeds e d plan.prints b) → Did e a c (plan_deeds e w d'' plan a)

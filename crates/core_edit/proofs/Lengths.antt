@@ -8,7 +8,8 @@ use Rattle.edit_log.specs.Splices as splices
 use Rattle.sam_address.specs.Value as sam
 use Rattle.am_text.specs.declared.range.Range.{Range}
 use Rattle.win_text.specs.Bodies.{IsInside, IsEditOf, AreInRange}
-use Rattle.core_edit.specs.Plans.{length_with, length_after}
+use Rattle.edit_run.specs.declared.types.EditPlan.{EditPlan}
+use Rattle.core_edit.specs.Plans.{IsPlanOf, length_with, length_after}
 
 -- ---- how long a text gets
 
@@ -25,17 +26,21 @@ length_of_after t (e ∷ es) h =
 some_left : (a b n : ℕ) → a ≤ b → (eqb a b && eqb n 0) ≡ false → a < b + n
 some_left a b n h e = grind (arith, nat_tests)
 
-pub are_in_range : (t : List ℕ) (es : List Edit) → splices.AreInRange t es → AreInRange t es
+are_in_range : (t : List ℕ) (es : List Edit) → splices.AreInRange t es → AreInRange t es
 are_in_range t [] h = tt
 are_in_range t (e ∷ es) h =
     (record { order = h.0; bounds = h.1; some = some_left e.q0 e.q1 (length e.text) h.0 h.2 }, are_in_range (after t e) es h.3)
 
-pub is_inside : (t : List ℕ) (r : Range) → sam.IsInside t r → IsInside t r
+is_inside : (t : List ℕ) (r : Range) → sam.IsInside t r → IsInside t r
 is_inside t r h = record { order = h.order; bounds = h.bounds }
 
 pub is_inside_too : (t : List ℕ) (r : Range) → IsInside t r → sam.IsInside t r
 is_inside_too t r h = record { order = h.order; bounds = h.bounds }
 
+-- what is known of a plan of edit_run
+pub is_plan : (t : List ℕ) (plan : EditPlan) → splices.AreInRange t plan.edits → sam.IsInside (text_after t plan.edits) plan.dot → IsPlanOf t plan
+is_plan t plan edits dot = record { edits = are_in_range t plan.edits edits; dot = is_inside (text_after t plan.edits) plan.dot dot }
+
 pub ruleset lengths = (length_of_after)
 
-pub ruleset ranges = (are_in_range, is_inside, is_inside_too)
+pub ruleset ranges = (is_inside_too)
