@@ -32,10 +32,10 @@ are_in_range t (e ∷ es) h =
     (record { order = h.0; bounds = h.1; some = some_left e.q0 e.q1 (length e.text) h.0 h.2 }, are_in_range (after t e) es h.3)
 
 is_inside : (t : List ℕ) (r : Range) → sam.IsInside t r → IsInside t r
-is_inside t r h = record { order = h.order; bounds = h.bounds }
+is_inside t r h = record { order = h.order; bounds = h.within }
 
 pub is_inside_too : (t : List ℕ) (r : Range) → IsInside t r → sam.IsInside t r
-is_inside_too t r h = record { order = h.order; bounds = h.bounds }
+is_inside_too t r h = record { order = h.order; within = h.bounds }
 
 -- what is known of a plan of edit_run
 pub is_plan : (t : List ℕ) (plan : EditPlan) → splices.AreInRange t plan.edits → sam.IsInside (text_after t plan.edits) plan.dot → IsPlanOf t plan
