@@ -32,8 +32,8 @@ use crate::prepared::Prepared;
 use am_journal::Event;
 use am_text::{Ids, Items, NoMemory};
 use core_events::{
-    Book, Feed, Response, Responses, clunked, deletions, event_feed, joined,
-    open_events, put_all, put_living, read_events, serve_all,
+    Book, Feed, Response, Responses, clunked, deletions, event_feed, joined, open_events, put_all,
+    put_living, read_events, serve_all,
 };
 use core_fids::{Answer, Effect, EventChange};
 use core_outputs::Reply;

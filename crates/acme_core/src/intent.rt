@@ -145,12 +145,7 @@ fn by_demand(alloc: Global, book: &Book, changes: Changes, demand: Demand) -> De
 }
 
 #[tactic(auto, using(crate::proofs::Meant::demanding))]
-fn message_intent(
-    alloc: Global,
-    parts: &Parts,
-    conn: u32,
-    msg: &TMsg,
-) -> Result<Intent, NoMemory>
+fn message_intent(alloc: Global, parts: &Parts, conn: u32, msg: &TMsg) -> Result<Intent, NoMemory>
     requires fits { Fits_t msg.now }
     requires steady { AreSteady parts.now }
     ensures exact { IfOk result (λ i. i ≡ message_intent (present_of parts.now).scene.book (reaction_at (present_of parts.now) conn msg.now) (message_origin (present_of parts.now).tables conn msg.now.body)) }

@@ -151,7 +151,9 @@ impl Parts {
             Event::Exec { at } => spot_refusal(&self.scene.windows, *at),
             Event::Arg { at, chord } => arg_refusal(&self.scene.windows, *at, *chord),
             Event::Look { at } => spot_refusal(&self.scene.windows, *at),
-            Event::File { path, .. } => tree_refusal(self.scene.files.clashes_file(path.as_slice())),
+            Event::File { path, .. } => tree_refusal(
+                self.scene.files.clashes_file(path.as_slice()),
+            ),
             Event::Dir { path } => tree_refusal(self.scene.files.clashes_dir(path.as_slice())),
         }
     }

@@ -11,8 +11,8 @@ use crate::read::read;
 use crate::write::write;
 use am_text::{Items, NoMemory};
 use core_fids::{
-    Answer, Demand, Effect, EventChange, Fault, Reaction, Refusal, Server, attach, clunk, deny, open,
-    refuse, remove, stat, version, walk,
+    Answer, Demand, Effect, EventChange, Fault, Reaction, Refusal, Server, attach, clunk, deny,
+    open, refuse, remove, stat, version, walk,
 };
 use ninep_types::{RBody, TBody};
 use std::alloc::Global;

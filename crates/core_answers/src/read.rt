@@ -15,8 +15,8 @@ use crate::texts::{body_part, ctl_if_live, index_text, part_at, tag_if_live};
 use acme_tree::{World, is_live};
 use am_text::{Bytes, Items, NoMemory, utf8_slice};
 use core_fids::{
-    Answer, Content, Demand, Effect, EventChange, Fault, Reaction, Reading, Refusal, Server, content_of,
-    is_for_reading, is_for_writing, read_dir,
+    Answer, Content, Demand, Effect, EventChange, Fault, Reaction, Reading, Refusal, Server,
+    content_of, is_for_reading, is_for_writing, read_dir,
 };
 use fid_table::Fid;
 use ninep_types::RBody;

@@ -162,7 +162,13 @@ fn write_content(alloc: Global, windows: &Windows, writing: &Writing) -> Result<
         Content::TagText(window) => add(alloc, windows, writing, window),
         Content::CtlText(window) => {
             let text = Bytes::copied(alloc, writing.bytes)?;
-            ask(alloc, windows, writing, window, Demand::Controls { window, text })
+            ask(
+                alloc,
+                windows,
+                writing,
+                window,
+                Demand::Controls { window, text },
+            )
         }
         Content::AddrText(window) => write_addr(alloc, windows, window, writing.bytes),
         Content::DataOf(window) => write_data(alloc, windows, window, writing.bytes),
@@ -186,7 +192,13 @@ fn write_content(alloc: Global, windows: &Windows, writing: &Writing) -> Result<
         Content::IndexText => Err(Fault::Refused(Refusal::PermissionDenied)),
         Content::EventsOf(window) => {
             let text = Bytes::copied(alloc, writing.bytes)?;
-            ask(alloc, windows, writing, window, Demand::WriteBack { window, text })
+            ask(
+                alloc,
+                windows,
+                writing,
+                window,
+                Demand::WriteBack { window, text },
+            )
         }
         Content::Unserved => Err(Fault::Refused(Refusal::NotServedYet)),
     }

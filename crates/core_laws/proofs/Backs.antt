@@ -169,4 +169,4 @@ once before between e f b first second =
     let back : IsBackAt (run (before ++ e ∷ between)).scene.book b (length before + 1) = named before between e b first in
     not_taken (recorded_of (run (before ++ e ∷ between)).scene.book b.window b.number) back.item back.opening back.taken (length before + 1) back.is (was_taken (run (before ++ e ∷ between)) f b second)
 
-pub ruleset backing = (named, once)
+pub ruleset backing = (named)

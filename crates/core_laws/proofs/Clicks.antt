@@ -1,10 +1,10 @@
 -- An Exec or a Look in a window whose event file is open does nothing but to make an item.
-use Rattle.std.proofs.Common.{◌≡◌, ℕ, ◌+◌, Bool, true, false, List, [], ◌∷◌, ◌++◌, Option, Some, None, refl, sym, ap, subst, ◌∙◌}
+use Rattle.std.proofs.Common.{◌≡◌, ℕ, ◌+◌, Bool, true, cond, List, [], ◌∷◌, ◌++◌, Option, Some, None, refl, sym, ap, subst, ◌∙◌}
 use Rattle.std.specs.List.{fold}
 use Rattle.win_events.specs.declared.item.Item.{Item}
 use Rattle.win_events.specs.declared.item.Origin.TheVariants.{M}
 use Rattle.acme_cmd.specs.declared.expansion.Click.TheVariants as click
-use Rattle.event_book.specs.BookState.{BookState, is_open_window}
+use Rattle.event_book.specs.BookState.{BookState, is_open_window, after_put}
 use Rattle.am_journal.specs.declared.event.Event.{Event}
 use Rattle.am_journal.specs.declared.event.Event.TheVariants as event
 use Rattle.am_journal.specs.declared.event.Spot.{Spot}
@@ -21,6 +21,8 @@ use Rattle.core_exec.specs.declared.click.Clicked.{Clicked}
 use Rattle.core_actions.specs.Looking.{look_target}
 use Rattle.core_exec.specs.Clicks.{clicked_at, own_text, argument_if_any, exec_item, look_item}
 use Rattle.core_exec.specs.Acting.{exec_click, exec_clicked, exec_at_deeds, look_click, look_clicked, look_at_deeds}
+use Rattle.core_events.specs.Putting.{put_one}
+use Rattle.core_events.specs.Serving.{served_all, book_served_all}
 use Rattle.core_tasks.specs.Tasks.{task_deeds}
 use Rattle.acme_core.specs.declared.kind.Kind.{Kind}
 use Rattle.acme_core.specs.declared.kind.Kind.TheVariants as kind
@@ -75,20 +77,24 @@ after_kind s k d = record {
 abbrev Told : State → Kind → ℕ → Doing → Type 0
 Told s k w d = OnlyTells s (after_kind s k d) (said (present s) k d) w
 
+-- an item comes where the event file is open
+put_is : (b : BookState) (w : ℕ) (item : Item) → is_open_window b w ≡ true → put_one b (record { window = w; item = item }) ≡ after_put b w item
+put_is b w item opened = subst (λ (t : Bool). cond t (after_put b w item) b ≡ after_put b w item) (sym opened) refl
+
 tells : (s : State) (x : SceneState) (w : ℕ) (o : Option Item) → is_open_window x.book w ≡ true → Told (record s { scene = tidy x }) kind.Acts w (telling (item_deeds w o))
-tells s x w None open = record {
+tells s x w None opened = record {
   item = None;
   book = refl;
-  heard = refl;
+  says = refl;
   connections = refl;
   sessions = done_sessions s.tables (said (present (record s { scene = tidy x })) kind.Acts (telling []));
   windows = refl;
   scene = refl;
 }
-tells s x w (Some item) open = record {
+tells s x w (Some item) opened = record {
   item = Some item;
-  book = rw open refl;
-  heard = rw open refl;
+  book = rw opened (ap (λ (b : BookState). book_served_all (s.entries + 1) b) (put_is x.book w item opened));
+  says = rw opened (ap (λ (b : BookState). served_all (s.entries + 1) b) (put_is x.book w item opened));
   connections = refl;
   sessions = done_sessions s.tables (said (present (record s { scene = tidy x })) kind.Acts (telling (deed.Item w item ∷ [])));
   windows = refl;
@@ -97,40 +103,40 @@ tells s x w (Some item) open = record {
 
 -- the same of a story that is tidy, with deeds that are such
 told : (s : State) (w : ℕ) (o : Option Item) (deeds : List Deed) → s.scene ≡ tidy s.scene → is_open_window s.scene.book w ≡ true → deeds ≡ item_deeds w o → Told s kind.Acts w (telling deeds)
-told s w o deeds h open is =
+told s w o deeds h opened is =
     subst (λ (ds : List Deed). Told s kind.Acts w (telling ds)) (sym is)
-    (subst (λ (x : SceneState). Told (record s { scene = x }) kind.Acts w (telling (item_deeds w o))) (sym h) (tells s s.scene w o open))
+    (subst (λ (x : SceneState). Told (record s { scene = x }) kind.Acts w (telling (item_deeds w o))) (sym h) (tells s s.scene w o opened))
 
 -- ---- what a click does
 
 exec_one : (e : Entry) (at : Spot) (argument : Option (List ℕ × List ℕ)) (c : Option Clicked) (s : SceneState) → is_open_window s.book at.window ≡ true
     → (o : Option Item) × (exec_clicked e at argument c s ≡ item_deeds at.window o)
 unfolding exec_click
-exec_one e at argument None s open = (None, refl)
-exec_one e at argument (Some c) s open = (Some (exec_item at c argument), rw open refl)
+exec_one e at argument None s opened = (None, refl)
+exec_one e at argument (Some c) s opened = (Some (exec_item at c argument), rw opened refl)
 
 look_one : (e : Entry) (at : Spot) (c : Option Clicked) (s : SceneState) → is_open_window s.book at.window ≡ true → (o : Option Item) × (look_clicked e at c s ≡ item_deeds at.window o)
 unfolding look_click
-look_one e at None s open = (None, refl)
-look_one e at (Some c) s open = (Some (look_item at c (look_target at.window (own_text c.text c.expanded) s)), rw open refl)
+look_one e at None s opened = (None, refl)
+look_one e at (Some c) s opened = (Some (look_item at c (look_target at.window (own_text c.text c.expanded) s)), rw opened refl)
 
 told_exec : (s : State) (at : Spot) (chord : Option Spot) → s.scene ≡ tidy s.scene → is_open_window s.scene.book at.window ≡ true
     → Told s kind.Acts at.window (telling (exec_at_deeds (entry_by (present s) M) at chord (present s).scene))
-told_exec s at chord h open =
+told_exec s at chord h opened =
     let x : SceneState = (present s).scene in
     let one : (o : Option Item) × (exec_at_deeds (entry_by (present s) M) at chord x ≡ item_deeds at.window o) =
-    exec_one (entry_by (present s) M) at (argument_if_any x.windows chord) (clicked_at x.windows at click.Exec) x open
+    exec_one (entry_by (present s) M) at (argument_if_any x.windows chord) (clicked_at x.windows at click.Exec) x opened
     in
-    told s at.window one.0 (exec_at_deeds (entry_by (present s) M) at chord x) h open one.1
+    told s at.window one.0 (exec_at_deeds (entry_by (present s) M) at chord x) h opened one.1
 
 told_look : (s : State) (at : Spot) → s.scene ≡ tidy s.scene → is_open_window s.scene.book at.window ≡ true
     → Told s kind.Acts at.window (telling (look_at_deeds (entry_by (present s) M) at (present s).scene))
-told_look s at h open =
+told_look s at h opened =
     let x : SceneState = (present s).scene in
     let one : (o : Option Item) × (look_at_deeds (entry_by (present s) M) at x ≡ item_deeds at.window o) =
-    look_one (entry_by (present s) M) at (clicked_at x.windows at click.Look) x open
+    look_one (entry_by (present s) M) at (clicked_at x.windows at click.Look) x opened
     in
-    told s at.window one.0 (look_at_deeds (entry_by (present s) M) at x) h open one.1
+    told s at.window one.0 (look_at_deeds (entry_by (present s) M) at x) h opened one.1
 
 -- ---- every journal
 
@@ -140,29 +146,29 @@ behind before e w h = subst (λ (s : State). OnlyTells (run before) s (said_afte
 
 pub clicks : ClicksAreTold
 unfolding task_deeds
-clicks before (event.Exec at) w is open =
+clicks before (event.Exec at) w is opened =
     let same : at.window ≡ w = cc in
-    let mine : is_open_window (run before).scene.book at.window ≡ true = subst (λ (v : ℕ). is_open_window (run before).scene.book v ≡ true) (sym same) open in
+    let mine : is_open_window (run before).scene.book at.window ≡ true = subst (λ (v : ℕ). is_open_window (run before).scene.book v ≡ true) (sym same) opened in
     subst (λ (v : ℕ). OnlyTells (run before) (run (before ++ event.Exec at ∷ [])) (said_after before (event.Exec at)) v) same
     (behind before (event.Exec at) at.window (told_exec (run before) at None (run_tidy before) mine))
-clicks before (event.Arg at chord) w is open =
+clicks before (event.Arg at chord) w is opened =
     let same : at.window ≡ w = cc in
-    let mine : is_open_window (run before).scene.book at.window ≡ true = subst (λ (v : ℕ). is_open_window (run before).scene.book v ≡ true) (sym same) open in
+    let mine : is_open_window (run before).scene.book at.window ≡ true = subst (λ (v : ℕ). is_open_window (run before).scene.book v ≡ true) (sym same) opened in
     subst (λ (v : ℕ). OnlyTells (run before) (run (before ++ event.Arg at chord ∷ [])) (said_after before (event.Arg at chord)) v) same
     (behind before (event.Arg at chord) at.window (told_exec (run before) at (Some chord) (run_tidy before) mine))
-clicks before (event.Look at) w is open =
+clicks before (event.Look at) w is opened =
     let same : at.window ≡ w = cc in
-    let mine : is_open_window (run before).scene.book at.window ≡ true = subst (λ (v : ℕ). is_open_window (run before).scene.book v ≡ true) (sym same) open in
+    let mine : is_open_window (run before).scene.book at.window ≡ true = subst (λ (v : ℕ). is_open_window (run before).scene.book v ≡ true) (sym same) opened in
     subst (λ (v : ℕ). OnlyTells (run before) (run (before ++ event.Look at ∷ [])) (said_after before (event.Look at)) v) same
     (behind before (event.Look at) at.window (told_look (run before) at (run_tidy before) mine))
-clicks before (event.Dial conn) w is open = absurd cc
-clicks before (event.Msg conn msg) w is open = absurd cc
-clicks before (event.Hang conn why) w is open = absurd cc
-clicks before (event.Took conn) w is open = absurd cc
-clicks before event.New w is open = absurd cc
-clicks before (event.Key v side text) w is open = absurd cc
-clicks before (event.Sel v range) w is open = absurd cc
-clicks before (event.File path text) w is open = absurd cc
-clicks before (event.Dir path) w is open = absurd cc
+clicks before (event.Dial conn) w is opened = absurd cc
+clicks before (event.Msg conn msg) w is opened = absurd cc
+clicks before (event.Hang conn why) w is opened = absurd cc
+clicks before (event.Took conn) w is opened = absurd cc
+clicks before event.New w is opened = absurd cc
+clicks before (event.Key v side text) w is opened = absurd cc
+clicks before (event.Sel v range) w is opened = absurd cc
+clicks before (event.File path text) w is opened = absurd cc
+clicks before (event.Dir path) w is opened = absurd cc
 
 pub ruleset clicking = (clicks)

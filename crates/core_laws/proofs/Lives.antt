@@ -202,6 +202,7 @@ module _ (Q : Life → Bool) (all : AllKeep Q) (first : BookState) (at : ℕ) wh
             | true ↦ lawful-waits s r at k.latest living k.lawful
             | false ↦ lawful-answer s r at k.latest living k.lawful
           ]
+
       latest : (after_ask s r at).latest ≤ at
       latest =
           elim (read_waits s r) as (λ t. (cond t (record s { reads = s.reads ++ r ∷ []; latest = at }) (after_answer s r at)).latest ≤ at) [

@@ -18,6 +18,8 @@ use Rattle.acme_core.specs.Replies.{replies_of}
 use Rattle.core_outputs.specs.Unsent.{Unsent, nothing_unsent, unsent_at, with_reply, put_reply, put_replies}
 use Rattle.core_events.specs.declared.response.Response.{Response}
 use Rattle.acme_core.proofs.Goes.{run-push}
+use Rattle.core_events.specs.Serving.{served_most}
+use Rattle.core_tasks.specs.Tasks.{task_deeds}
 use Rattle.core_laws.proofs.Playing.{silent_after}
 use Rattle.core_laws.specs.Replies.{bytes_to}
 use Rattle.core_laws.proofs.Replying.{replied_by, replied_from, all_replied}
@@ -93,7 +95,7 @@ said_by s e = replies_of (said (present s) (kind_of e) (doing_of (present s) e))
 
 one : (before : List Event) (e : Event) (conn : ℕ) → conn < length (run before).unsent
     → output_at before conn ++ bytes_to conn (step (run before) e).replies ≡ sent_by output_at conn before e ++ bytes_at (step (run before) e).unsent conn
-unfolding step
+unfolding step task_deeds served_most
 one before (event.Dial c) conn inside = sym (put_all (run before).unsent (said_by (run before) (event.Dial c)) conn inside)
 one before (event.Msg c msg) conn inside = sym (put_all (run before).unsent (said_by (run before) (event.Msg c msg)) conn inside)
 one before (event.Hang c why) conn inside = sym (put_all (run before).unsent (said_by (run before) (event.Hang c why)) conn inside)

@@ -79,7 +79,7 @@ with_item book w (Some item) = after_put book w item
 pub record OnlyTells (old new : State) (heard : List Response) (w : ℕ) : Type 0 where
   pub item : Option Item
   pub book : new.scene.book ≡ book_served_all (old.entries + 1) (with_item old.scene.book w item)
-  pub heard : heard ≡ served_all (old.entries + 1) (with_item old.scene.book w item)
+  pub says : heard ≡ served_all (old.entries + 1) (with_item old.scene.book w item)
   pub connections : new.connections ≡ old.connections
   pub sessions : new.tables.sessions ≡ old.tables.sessions
   pub windows : new.windows ≡ old.windows
