@@ -1,8 +1,10 @@
 -- What is ready for a hang-up.
-use Rattle.std.proofs.Common.{◌≡◌, ℕ, ◌+◌, true, List, [], None, Option, refl, sym, ap, subst, ◌∙◌}
+use Rattle.std.proofs.Common.{◌≡◌, ℕ, ◌+◌, true, List, [], length, None, Option, refl, sym, ap, subst, ◌∙◌}
+use Rattle.std.specs.Prelude.{slice_set}
 use Rattle.std.specs.Global.{Vec}
 use Rattle.am_journal.specs.declared.event.Event.{Event}
 use Rattle.am_journal.specs.declared.event.Event.TheVariants as event
+use Rattle.am_journal.specs.Lawful.{IsLawful}
 use Rattle.fid_table.specs.Tables.{Tables}
 use Rattle.event_book.specs.BookState.{BookState, served_of}
 use Rattle.core_scene.specs.Scenes.{SceneState, scene_of, kept_of}
@@ -12,12 +14,18 @@ use Rattle.core_fids.specs.declared.effect.EventChange.TheVariants as events
 use Rattle.core_events.specs.declared.response.Response.{Response}
 use Rattle.core_events.specs.Sound.{IsSound, IsIdle}
 use Rattle.core_events.proofs.Turns.{all_none, book_all_none}
+use Rattle.acme_core.proofs.Few.{lives_less}
 use Rattle.acme_core.proofs.Idling.{none_served}
 use Rattle.acme_core.specs.declared.parts.Parts.{Parts}
 use Rattle.core_outputs.specs.declared.reply.Reply.{Reply}
-use Rattle.acme_core.specs.Connections.{IsOfJoined, IsJoinedFor}
+use Rattle.acme_core.specs.declared.connection.Connection.{Connection}
+use Rattle.acme_core.specs.declared.connection.Connection.TheVariants.{Ended}
+use Rattle.acme_core.specs.declared.prepared.Prepared.{Prepared}
+use Rattle.acme_core.specs.Connections.{connection_at, connections_after, live_count, IsOfJoined, IsJoinedFor}
+use Rattle.acme_core.specs.Enabled.{live_refusal}
+use Rattle.acme_core.specs.Kept.{HasEntries, IsPrepared}
 use Rattle.core_tasks.specs.Tasks.{task_deeds}
-use Rattle.acme_core.specs.Doings.{doing_of, CanBeDone}
+use Rattle.acme_core.specs.Doings.{enabled_at, doing_of, CanBeDone}
 use Rattle.acme_core.specs.Kinds.{kind_of}
 use Rattle.acme_core.specs.Parts.{present_of, AreSteady, HasReady}
 use Rattle.acme_core.specs.Run.{is_hang}
@@ -75,7 +83,34 @@ hang_can s (event.Look spot) h = absurd cc
 hang_can s (event.File path text) h = absurd cc
 hang_can s (event.Dir path) h = absurd cc
 
-pub ruleset hung = (hang_can)
+-- a hang-up that is enabled is prepared where it is ready
+pub hang_prepared : (s : Present) (spare : ℕ) (parts : Parts) (p : Prepared) (e : Event) → is_hang e ≡ true → IsLawful e → enabled_at s e ≡ None → p.event ≡ e → HasReady parts p (doing_of s e)
+    → s.connections ≡ parts.connections.items → length parts.connections.items ≡ 64 → HasEntries s.entries spare (live_count parts.connections.items) → IsPrepared s spare parts p
+hang_prepared s spare parts p (event.Hang conn why) h lawful allowed is ready same few entries =
+    let cs : List Connection = parts.connections.items in
+    let here : live_refusal (connection_at cs conn) ≡ None = subst (λ (x : List Connection). live_refusal (connection_at x conn) ≡ None) same allowed in
+    let less : live_count (slice_set cs conn (Ended why)) + 1 ≡ live_count cs = lives_less cs conn why few lawful here in
+    record {
+      lawful = subst IsLawful (sym is) lawful;
+      allowed = subst (λ (x : Event). enabled_at s x ≡ None) (sym is) allowed;
+      possible = subst (λ (x : Event). CanBeDone s (doing_of s x)) (sym is) (hang_can s (event.Hang conn why) h);
+      ready = subst (λ (x : Event). HasReady parts p (doing_of s x)) (sym is) ready;
+      entries = subst (λ (x : Event). HasEntries s.entries spare (live_count (connections_after cs (kind_of x)) + 1)) (sym is)
+          (subst (λ (n : ℕ). HasEntries s.entries spare n) (sym less) entries);
+    }
+hang_prepared s spare parts p (event.Dial conn) h lawful allowed is ready same few entries = absurd cc
+hang_prepared s spare parts p (event.Msg conn msg) h lawful allowed is ready same few entries = absurd cc
+hang_prepared s spare parts p (event.Took conn) h lawful allowed is ready same few entries = absurd cc
+hang_prepared s spare parts p event.New h lawful allowed is ready same few entries = absurd cc
+hang_prepared s spare parts p (event.Key w side text) h lawful allowed is ready same few entries = absurd cc
+hang_prepared s spare parts p (event.Sel w range) h lawful allowed is ready same few entries = absurd cc
+hang_prepared s spare parts p (event.Exec spot) h lawful allowed is ready same few entries = absurd cc
+hang_prepared s spare parts p (event.Arg spot chord) h lawful allowed is ready same few entries = absurd cc
+hang_prepared s spare parts p (event.Look spot) h lawful allowed is ready same few entries = absurd cc
+hang_prepared s spare parts p (event.File path text) h lawful allowed is ready same few entries = absurd cc
+hang_prepared s spare parts p (event.Dir path) h lawful allowed is ready same few entries = absurd cc
+
+pub ruleset hung = (hang_prepared)
 
 -- the same, where what is deleted and said is known to be nothing
 pub hanging : (p : Parts) (e : Event) (at : ℕ) (replies : Vec Reply) (deleted : List ℕ) (heard : List Response) → deleted ≡ [] → heard ≡ [] → is_hang e ≡ true
