@@ -22,7 +22,7 @@ use Rattle.acme_core.specs.Doings.{doing_of, entry_of, CanBeDone}
 use Rattle.acme_core.specs.Kinds.{kind_of}
 use Rattle.acme_core.specs.Kept.{IsKept, IsReady, IsPrepared, AreSound, planned_of}
 use Rattle.acme_core.specs.Parts.{present_of, AreSteady}
-use Rattle.acme_core.specs.Run.{step, run, present_after, enabled}
+use Rattle.acme_core.specs.Run.{step, run, present_after, enabled, ArePossible, IsPossible}
 use Rattle.acme_core.specs.Stages.{after}
 use Rattle.acme_core.specs.States.{Present, State, present, start, next_entry}
 use Rattle.acme_core.proofs.Few.{length-connections}
@@ -47,6 +47,19 @@ none_played : (allows : List Event → Event → Option Why) → IsPlayed allows
 unfolding ArePlayed
 none_played allows = tt
 
+-- ---- and could be done
+
+possible_more : (before events : List Event) (e : Event) → ArePossible before events → CanBeDone (present_after (before ++ events)) (doing_of (present_after (before ++ events)) e)
+    → ArePossible before (events ++ e ∷ [])
+unfolding ArePossible
+possible_more before [] e all can = (subst (λ (l : List Event). CanBeDone (present_after l) (doing_of (present_after l) e)) (append-nil before) can, tt)
+possible_more before (x ∷ events) e all can =
+    (all.0, possible_more (before ++ x ∷ []) events e all.1 (subst (λ (l : List Event). CanBeDone (present_after l) (doing_of (present_after l) e)) (sym (append_assoc before (x ∷ []) events)) can))
+
+pub none_possible : IsPossible []
+unfolding ArePossible
+none_possible = tt
+
 -- what the deeds of a step make of the windows is what their changes make of the story
 shows : DeedsShow → (s : State) (e : Event) → AreLawful s.windows → CanBeDone (present s) (doing_of (present s) e)
     → AreShown (entry_of (present s) (doing_of (present s) e)) s.windows (present s).scene (doing_of (present s) e).deeds
@@ -60,7 +73,7 @@ stands_on show s e lawful possible =
     ap (λ (ws : List (Option Window)). record (after (present s) e (doing_of (present s) e)) { scene = record (after (present s) e (doing_of (present s) e)).scene { windows = ws } })
     (shows show s e lawful possible).shown
 
-lawful_on : DeedsShow → (s : State) (e : Event) → AreLawful s.windows → CanBeDone (present s) (doing_of (present s) e) → AreLawful (step s e).windows
+pub lawful_on : DeedsShow → (s : State) (e : Event) → AreLawful s.windows → CanBeDone (present s) (doing_of (present s) e) → AreLawful (step s e).windows
 unfolding step
 lawful_on show s e lawful possible = (shows show s e lawful possible).lawful
 
@@ -103,6 +116,7 @@ kept_on show entries next old new p e left was is grown spare changed book stead
     let longer : length next.items ≡ length entries.items + 1 = ap (λ (l : List Event). length l) pushed ∙ length-append entries.items (p.event ∷ []) in
     record {
       played = subst (λ (l : List Event). IsPlayed enabled l) (sym pushed) (played_more enabled [] entries.items p.event was.played ready.lawful ready.allowed);
+      possible = subst IsPossible (sym pushed) (possible_more [] entries.items p.event was.possible ready.possible);
       state = stepped ∙ ap present ran;
       lawful = subst (λ (x : State). AreLawful x.windows) ran (lawful_on show s p.event was.lawful ready.possible);
       counted = omega (arith, numbered, was.counted, longer);
@@ -129,6 +143,7 @@ kept_start laws entries parts empty state steady =
     let first : parts.entries ≡ 0 = ap (λ (x : Present). x.entries) state in
     record {
       played = subst (λ (l : List Event). IsPlayed enabled l) (sym empty) (none_played enabled);
+      possible = subst IsPossible (sym empty) none_possible;
       state = state ∙ ap present_after (sym empty);
       lawful = subst (λ (x : List Event). AreLawful (run x).windows) (sym empty) laws.begins;
       counted = first ∙ ap (λ (l : List Event). length l) (sym empty);

@@ -12,7 +12,7 @@ use Rattle.acme_core.specs.Connections.{connections_after, live_count, AreJoined
 use Rattle.acme_core.specs.Doings.{enabled_at, doing_of, CanBeDone}
 use Rattle.acme_core.specs.Kinds.{kind_of}
 use Rattle.acme_core.specs.Parts.{present_of, AreSteady, HasReady}
-use Rattle.acme_core.specs.Run.{run, present_after, enabled}
+use Rattle.acme_core.specs.Run.{run, present_after, enabled, IsPossible}
 use Rattle.acme_core.specs.States.{Present}
 
 -- the event of a plan that waits
@@ -45,10 +45,11 @@ pub record AreSound (parts : Parts) : Type 0 where
   pub book : IsSound parts.entries parts.scene.book.kept
   pub idle : IsIdle parts.scene.book.kept
 
--- The journal's events were enabled, the tables are as it leads to, its windows are lawful, and there is an entry for the hang-up of
+-- The journal's events were enabled and could be done, the tables are as it leads to, its windows are lawful, and there is an entry for the hang-up of
 -- each connection that lives.
 pub record IsKept (entries : Room Event) (parts : Parts) (prepared : Option Prepared) : Type 0 where
   pub played : IsPlayed enabled entries.items
+  pub possible : IsPossible entries.items
   pub state : present_of parts ≡ present_after entries.items
   pub lawful : AreLawful (run entries.items).windows
   pub counted : parts.entries ≡ length entries.items

@@ -1,5 +1,5 @@
 -- A journal, and the editor that it leads to.
-use Rattle.std.specs.Prelude.{◌≡◌, ℕ, Bool, true, false, List, Option, Some, None}
+use Rattle.std.specs.Prelude.{◌≡◌, ℕ, Bool, true, false, List, [], ◌∷◌, ◌++◌, Option, Some, None}
 use Rattle.std.specs.List.{fold}
 use Rattle.am_journal.specs.declared.event.Event.{Event}
 use Rattle.am_journal.specs.declared.event.Event.TheVariants as event
@@ -7,7 +7,7 @@ use Rattle.am_journal.specs.declared.event.Why.{Why}
 use Rattle.am_journal.specs.declared.event.Refused.{Refused}
 use Rattle.am_journal.specs.declared.event.Refused.TheVariants.{NotEnabled, NoMemory}
 use Rattle.acme_core.specs.States.{Present, State, present, start}
-use Rattle.acme_core.specs.Doings.{enabled_at, doing_of}
+use Rattle.acme_core.specs.Doings.{enabled_at, doing_of, CanBeDone}
 use Rattle.acme_core.specs.Stages.{after_story}
 use Rattle.core_outputs.specs.Unsent.{unsent_at}
 
@@ -30,6 +30,15 @@ enabled journal e = enabled_at (present_after journal) e
 -- the unsent replies of a connection after a journal, as bytes
 abbrev pub output_at : List Event → ℕ → List ℕ
 output_at journal conn = (unsent_at (run journal).unsent conn).bytes
+
+-- what each of these events does could be done, after those before it: what its deeds name was there, and lay in the text
+unfoldable pub ArePossible : List Event → List Event → Type 0
+ArePossible before [] = Unit {0}
+ArePossible before (e ∷ events) = CanBeDone (present_after before) (doing_of (present_after before) e) × ArePossible (before ++ e ∷ []) events
+
+-- what each event of a journal does could be done at its place
+abbrev pub IsPossible : List Event → Type 0
+IsPossible journal = ArePossible [] journal
 
 -- A step is refused for the reason why its event isn't enabled, and for want of memory only where it is.
 abbrev pub Refuses : Refused → Option Why → Type 0

@@ -3,7 +3,7 @@
 ghost use Rattle.std.specs.Prelude.{◌≡◌, ◌<◌, ◌≤◌, ◌+◌, ◌^◌, ◌++◌, ◌∷◌, [], Some, None, length, slice_get, IsSome, OnSome, IfOk, IfSome, OnOk, OnErr, IfErr, MatchOption};
 ghost use Rattle.am_journal.specs.Lawful.{IsLawful};
 ghost use Rattle.am_counter.specs.Played.{IsPlayed};
-ghost use Rattle.acme_core.specs.Run.{enabled, run, output_at, Refuses, IsHang, IsWhy, settled, ready};
+ghost use Rattle.acme_core.specs.Run.{enabled, run, output_at, Refuses, IsHang, IsPossible, IsWhy, settled, ready};
 ghost use Rattle.core_windows.specs.Stories.{AreLawful};
 ghost use Rattle.core_windows.specs.WindowLaws.{AreNumbered};
 ghost use Rattle.win_text.specs.Bodies.{IsInside};
@@ -183,6 +183,14 @@ impl Core {
     /// In each journal of a core each event is lawful, and was enabled after those before it.
     pub fn events_were_enabled(&self)
         ensures { IsPlayed enabled self.now.journal }
+    {
+        let _entries = self.journal.len();
+    }
+
+    /// In each journal of a core what each event does could be done at its place: the windows of its changes lived, and its edits and
+    /// the ranges that it set lay in the text.
+    pub fn events_were_possible(&self)
+        ensures { IsPossible self.now.journal }
     {
         let _entries = self.journal.len();
     }

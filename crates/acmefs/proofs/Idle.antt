@@ -6,7 +6,9 @@ use Rattle.am_base.specs.Outside.{AreTold, told_then}
 use Rattle.am_base.specs.Written.{Output}
 use Rattle.am_journal.specs.declared.event.Event.{Event}
 use Rattle.am_counter.specs.Played.{ArePlayed, IsPlayed}
-use Rattle.acme_core.specs.Run.{enabled}
+use Rattle.acme_core.specs.Run.{enabled, IsPossible}
+use Rattle.acme_core.proofs.Goes.{none_possible}
+use Rattle.core_laws.specs.Journals.{JournalLaws, JournalsAreLawful}
 use Rattle.am_drill.specs.declared.driving.DrillEnd.TheVariants as drilling
 use Rattle.am_drill.specs.Drill.{events}
 use Rattle.am_slots.specs.Slots.{Outside}
@@ -31,6 +33,9 @@ trips journal none = subst RoundTrips (sym none) (round.trips [] tt)
 pub plays : (journal : List Event) → journal ≡ [] → IsPlayed enabled journal
 unfolding ArePlayed
 plays journal none = subst (IsPlayed enabled) (sym none) tt
+
+pub laws : JournalsAreLawful → (journal : List Event) → journal ≡ [] → JournalLaws journal
+laws all journal none = all journal (record { played = plays journal none; possible = subst IsPossible (sym none) none_possible })
 
 nothing_told : (held : Option (List ℕ)) → held ≡ told_then held []
 nothing_told None = refl

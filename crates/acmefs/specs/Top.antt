@@ -9,6 +9,7 @@ use Rattle.am_journal.specs.declared.event.Event.{Event}
 use Rattle.am_words.specs.Words.{are_pack, are_replay, are_trace, asks_do, asks_drill, asks_serve, tree_name, AreKnown, AskDo, AskServe}
 use Rattle.am_words.specs.declared.asked.Tree.{Tree}
 use Rattle.acme_core.specs.Run.{enabled}
+use Rattle.core_laws.specs.Journals.{JournalLaws}
 use Rattle.am_slots.specs.Slots.{Outside}
 use Rattle.am_server.specs.Ends.{Given, SaysServe}
 use Rattle.am_server.specs.Replied.{GotAll}
@@ -62,6 +63,8 @@ module _ {G L S K : Type 0} where
     -- The journal's lines and then its report ask for the journal's events again, and are a transcript, where they aren't too long, that
     -- gives the same report.
     pub round_trip : are_pack r.words ≡ false → RoundTrips r.journal
+    -- All laws of journals hold of it: addresses follow the edits, the text is the fold of its history, and the others.
+    pub laws : are_pack r.words ≡ false → JournalLaws r.journal
 
   -- of replays, traces and packing
   pub record OfReplay (r : Run G L S K) : Type 0 where

@@ -22,6 +22,7 @@ ghost use Rattle.am_server.specs.Ends.{SaysServe, given};
 ghost use Rattle.am_server.specs.Replied.{GotAll};
 ghost use Rattle.am_server.specs.Sound.{EndsWell};
 ghost use Rattle.am_slots.specs.Slots.{outside};
+ghost use Rattle.core_laws.specs.Journals.{JournalLaws};
 
 use crate::doing::do_main;
 use crate::drill::drill_main;
@@ -45,6 +46,7 @@ fn replayed<I: Source, O: Sink, H: Host>(alloc: Global, input: &mut I, output: &
         (seen (O.held output.old) (O.held output.new) (O.faults output.old) (O.faults output.new)) result.journal }
     ensures played { IsPlayed enabled result.journal }
     ensures round_trip { RoundTrips result.journal }
+    ensures laws { JournalLaws result.journal }
     ensures none_served { result.served ≡ [] }
 {
     let ended = replay(alloc, input, output);
@@ -62,6 +64,7 @@ fn traced<I: Source, O: Sink, H: Host>(alloc: Global, input: &mut I, output: &mu
         (seen (O.held output.old) (O.held output.new) (O.faults output.old) (O.faults output.new)) result.journal }
     ensures played { IsPlayed enabled result.journal }
     ensures round_trip { RoundTrips result.journal }
+    ensures laws { JournalLaws result.journal }
     ensures none_served { result.served ≡ [] }
 {
     let ended = trace(alloc, input, output);
@@ -108,6 +111,7 @@ fn drilled<O: Sink, H: Host>(alloc: Global, rounds: u64, output: &mut O) -> Outc
         (seen (O.held output.old) (O.held output.new) (O.faults output.old) (O.faults output.new)) result.journal }
     ensures played { IsPlayed enabled result.journal }
     ensures round_trip { RoundTrips result.journal }
+    ensures laws { JournalLaws result.journal }
     ensures none_served { result.served ≡ [] }
 {
     let ended = drill_main(alloc, rounds, output);
@@ -185,6 +189,7 @@ pub(crate) fn do_asked<I: Source, O: Sink, H: Host, R: Threads + Wait + Sync>(
     ensures untouched { asks_serve words.now ≡ None → asks_do words.now ≡ None → host.new ≡ host.old }
     ensures played { are_pack words.now ≡ false → IsPlayed enabled result.journal }
     ensures round_trip { are_pack words.now ≡ false → RoundTrips result.journal }
+    ensures laws { are_pack words.now ≡ false → JournalLaws result.journal }
 {
     match read_words(alloc, words.as_slice()) {
         Ok(Some(Asked::Replay)) => replayed(alloc, input, output),

@@ -6,6 +6,7 @@ ghost use Rattle.ninep_types.specs.Spelling.{IsString};
 ghost use Rattle.am_slots.specs.Slots.{outside};
 ghost use Rattle.am_server.specs.Ends.{given};
 ghost use Rattle.am_words.specs.Words.{tree_name};
+ghost use Rattle.core_laws.specs.Journals.{JournalLaws};
 ghost use Rattle.acmefs.specs.Does.{Does, closed_by, do_status, ended_by, entry_of, how_ended, listed, undialled};
 
 use crate::outcome::{Outcome, idle};
@@ -16,6 +17,7 @@ use am_do::{DoEnd, Doing, Stop, do_path};
 use am_server::{Served, ServedEnd};
 use am_text::Items;
 use am_words::Tree;
+use core_laws::journals_are_lawful;
 use ninep_client::CallFault;
 use std::alloc::Global;
 
@@ -150,7 +152,9 @@ pub fn do_main<I: Source, O: Sink, H: Host>(
         (given (I.left input.old) (I.faults input.old) (I.faults input.new) (H.faults host.old) (H.faults host.new))
         (seen (O.held output.old) (O.held output.new) (O.faults output.old) (O.faults output.new)) result.served }
     ensures journal { result.journal ≡ [] }
+    ensures laws { JournalLaws result.journal }
 {
+    journals_are_lawful();
     let Ok(room) = Vec::with_capacity(alloc, 1) else {
         return idle(alloc, End::NoMemory);
     };

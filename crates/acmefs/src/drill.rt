@@ -6,11 +6,13 @@ ghost use Rattle.am_counter.specs.Played.{IsPlayed};
 ghost use Rattle.acme_core.specs.Run.{enabled};
 ghost use Rattle.acmefs.specs.Ends.{drill_status, Drilled};
 ghost use Rattle.acmefs.specs.Own.{RoundTrips};
+ghost use Rattle.core_laws.specs.Journals.{JournalLaws};
 
 use crate::replay::ReplayEnd;
 use crate::status::Status;
 use am_base::Sink;
 use am_drill::{DrillEnd, drill, drill_is_played};
+use core_laws::journals_are_lawful;
 use std::alloc::Global;
 
 fn drill_status(end: DrillEnd) -> Status
@@ -34,8 +36,11 @@ pub fn drill_main<O: Sink>(alloc: Global, rounds: u64, output: &mut O) -> Replay
     // The journal's lines and then its report ask for the journal's events again, and are a transcript, where they aren't too long, that
     // gives the same report.
     ensures round_trip { RoundTrips result.journal }
+    // All laws of journals hold of it.
+    ensures laws { JournalLaws result.journal }
 {
     drill_is_played();
+    journals_are_lawful();
     let drilled = drill(alloc, rounds, output);
     ReplayEnd {
         status: drill_status(drilled.end),

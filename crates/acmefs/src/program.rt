@@ -9,6 +9,7 @@ ghost use Rattle.acmefs.specs.Ends.{Says, status_of};
 ghost use Rattle.acmefs.specs.Own.{PutsOwn, RoundTrips};
 ghost use Rattle.acmefs.specs.Top.{OfDoing, OfDrill, OfReplay, OfServing, OfWords, run};
 ghost use Rattle.am_words.specs.Words.{asks_do, asks_serve};
+ghost use Rattle.core_laws.specs.Journals.{JournalLaws};
 ghost use Rattle.am_server.specs.Ends.{given};
 ghost use Rattle.am_slots.specs.Slots.{outside};
 
@@ -90,6 +91,8 @@ pub fn replay_main<I: Source, O: Sink>(alloc: Global, input: &mut I, output: &mu
     // The journal's lines and then its report ask for the journal's events again, and are a transcript, where they aren't too long, that
     // gives the same report.
     ensures round_trip { RoundTrips result.journal }
+    // All laws of journals hold of it.
+    ensures laws { JournalLaws result.journal }
 {
     let ended = replay(alloc, input, output);
     ReplayEnd {

@@ -4,6 +4,7 @@ ghost use Rattle.std.specs.Prelude.{◌≡◌, [], None, codes, IfOk};
 ghost use Rattle.am_text.specs.Lines.{lines_of};
 ghost use Rattle.am_base.specs.Written.{seen};
 ghost use Rattle.acme_core.specs.Run.{settled};
+ghost use Rattle.core_laws.specs.Journals.{JournalLaws};
 ghost use Rattle.acmefs.specs.Scripts.{play, end_of, refused_at};
 ghost use Rattle.acmefs.specs.Ends.{Ran, Says, status_of};
 ghost use Rattle.acmefs.specs.Playing.{EndText, end_at};
@@ -14,6 +15,7 @@ use acme_core::{Core, Journal};
 use am_base::{INPUT_LIMIT, ReadStop, Sink, Source, read_to_end};
 use am_journal::{refused_line, report};
 use am_text::{Bytes, Items, NoMemory};
+use core_laws::journals_are_lawful;
 use std::alloc::Global;
 
 /// How a run ended. Each has an exit status.
@@ -47,10 +49,23 @@ pub struct ReplayEnd {
     pub journal: Journal,
 }
 
+/// The events that were done, at the end.
+pub(crate) fn journal_of(core: Core) -> Journal
+    ensures journal { result ≡ core.journal }
+    ensures laws { JournalLaws result }
+{
+    core.events_were_enabled();
+    core.events_were_possible();
+    journals_are_lawful();
+    core.into_journal()
+}
+
 pub(crate) fn no_events(alloc: Global, end: End) -> Ended
     ensures end { result.end ≡ end }
     ensures journal { result.journal ≡ [] }
+    ensures laws { JournalLaws result.journal }
 {
+    journals_are_lawful();
     Ended {
         end,
         journal: Items::new(alloc),
@@ -91,9 +106,10 @@ pub(crate) fn end_at(stop: Stop, failed: bool) -> End
 
 /// Replays a transcript of lawful length.
 fn replay_lines<O: Sink>(alloc: Global, bytes: &[u8], output: &mut O) -> Ended
-    ensures { Ran result.end (play [] 1 (lines_of bytes.now))
+    ensures ran { Ran result.end (play [] 1 (lines_of bytes.now))
         (seen (O.held output.old) (O.held output.new) (O.faults output.old) (O.faults output.new))
         result.journal }
+    ensures laws { JournalLaws result.journal }
 {
     let Ok(mut core) = Core::new(alloc) else {
         return no_events(alloc, End::NoMemory);
@@ -104,21 +120,22 @@ fn replay_lines<O: Sink>(alloc: Global, bytes: &[u8], output: &mut O) -> Ended
             let failed = put(output, played.failed, text.as_slice());
             Ended {
                 end: end_at(played.stop, failed),
-                journal: core.into_journal(),
+                journal: journal_of(core),
             }
         }
         Err(NoMemory) => Ended {
             end: End::NoMemory,
-            journal: core.into_journal(),
+            journal: journal_of(core),
         },
     }
 }
 
 /// Refuses a transcript that is too long.
 fn refuse_input<O: Sink>(alloc: Global, output: &mut O) -> Ended
-    ensures { Ran result.end (refused_at [] 0 (codes "input"))
+    ensures ran { Ran result.end (refused_at [] 0 (codes "input"))
         (seen (O.held output.old) (O.held output.new) (O.faults output.old) (O.faults output.new))
         result.journal }
+    ensures laws { JournalLaws result.journal }
 {
     match refused_line(alloc, 0, fault_word(Fault::Input)) {
         Ok(text) => {
@@ -131,9 +148,10 @@ fn refuse_input<O: Sink>(alloc: Global, output: &mut O) -> Ended
 
 /// Replays the transcript that the input gives.
 pub(crate) fn replay<I: Source, O: Sink>(alloc: Global, input: &mut I, output: &mut O) -> Ended
-    ensures { Says result.end (I.left input.old) (I.faults input.old) (I.faults input.new)
+    ensures says { Says result.end (I.left input.old) (I.faults input.old) (I.faults input.new)
         (seen (O.held output.old) (O.held output.new) (O.faults output.old) (O.faults output.new))
         result.journal }
+    ensures laws { JournalLaws result.journal }
 {
     match read_to_end(alloc, input, INPUT_LIMIT) {
         Ok(bytes) => replay_lines(alloc, bytes.as_slice(), output),

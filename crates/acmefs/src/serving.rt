@@ -12,11 +12,13 @@ ghost use Rattle.am_server.specs.Ends.{SaysServe, given};
 ghost use Rattle.am_server.specs.Replied.{GotAll};
 ghost use Rattle.am_server.specs.Sound.{EndsWell};
 ghost use Rattle.am_slots.specs.Slots.{outside};
+ghost use Rattle.core_laws.specs.Journals.{JournalLaws};
 
 use crate::outcome::Outcome;
 use crate::status::Status;
 use am_base::{Host, Sink, Source};
 use am_server::{HostServing, ServeEnd, Serving, serve};
+use core_laws::journals_are_lawful;
 use std::alloc::Global;
 use std::sync::Wait;
 use std::thread::Threads;
@@ -81,6 +83,9 @@ pub fn serve_main<I: Source, O: Sink, H: Host, R: Threads + Wait + Sync>(
         result.journal result.served) }
     ensures played { IsPlayed enabled result.journal }
     ensures round_trip { RoundTrips result.journal }
+    // All laws of journals hold of it.
+    ensures laws { JournalLaws result.journal }
 {
+    journals_are_lawful();
     outcome_of(serve(rt, alloc, path, clients, input, output, host))
 }

@@ -7,11 +7,12 @@ ghost use Rattle.am_base.specs.Written.{seen};
 ghost use Rattle.am_journal.specs.declared.event.Event.{Event};
 ghost use Rattle.ninep_types.specs.Reading.{r_of};
 ghost use Rattle.acme_core.specs.Run.{run, settled};
+ghost use Rattle.core_laws.specs.Journals.{JournalLaws};
 ghost use Rattle.acmefs.specs.Playing.{Stops, end_at};
 ghost use Rattle.acmefs.specs.Scripts.{play, refused_at};
 ghost use Rattle.acmefs.specs.Traces.{event_line, message_line, replies_words, HasWords, Shown, Traces, TraceSays};
 
-use crate::replay::{End, Ended, end_at, end_text, no_events};
+use crate::replay::{End, Ended, end_at, end_text, journal_of, no_events};
 use crate::script::{Did, Fault, Played, Stop, do_line, fault_word, put};
 use acme_core::Core;
 use am_base::{INPUT_LIMIT, ReadStop, Sink, Source, read_to_end};
@@ -128,9 +129,10 @@ fn play_words<O: Sink>(alloc: Global, core: &mut Core, output: &mut O, input: &[
 
 /// Traces a transcript of lawful length.
 fn trace_lines<O: Sink>(alloc: Global, bytes: &[u8], output: &mut O) -> Ended
-    ensures { Traces result.end (play [] 1 (lines_of bytes.now))
+    ensures traces { Traces result.end (play [] 1 (lines_of bytes.now))
         (seen (O.held output.old) (O.held output.new) (O.faults output.old) (O.faults output.new))
         result.journal }
+    ensures laws { JournalLaws result.journal }
 {
     let Ok(mut core) = Core::new(alloc) else {
         return no_events(alloc, End::NoMemory);
@@ -141,21 +143,22 @@ fn trace_lines<O: Sink>(alloc: Global, bytes: &[u8], output: &mut O) -> Ended
             let failed = put(output, played.failed, text.as_slice());
             Ended {
                 end: end_at(played.stop, failed),
-                journal: core.into_journal(),
+                journal: journal_of(core),
             }
         }
         Err(NoMemory) => Ended {
             end: End::NoMemory,
-            journal: core.into_journal(),
+            journal: journal_of(core),
         },
     }
 }
 
 /// Refuses a transcript that is too long.
 fn refuse_trace<O: Sink>(alloc: Global, output: &mut O) -> Ended
-    ensures { Traces result.end (refused_at [] 0 (codes "input"))
+    ensures traces { Traces result.end (refused_at [] 0 (codes "input"))
         (seen (O.held output.old) (O.held output.new) (O.faults output.old) (O.faults output.new))
         result.journal }
+    ensures laws { JournalLaws result.journal }
 {
     match refused_line(alloc, 0, fault_word(Fault::Input)) {
         Ok(text) => {
@@ -168,9 +171,10 @@ fn refuse_trace<O: Sink>(alloc: Global, output: &mut O) -> Ended
 
 /// Traces the transcript that the input gives.
 pub(crate) fn trace<I: Source, O: Sink>(alloc: Global, input: &mut I, output: &mut O) -> Ended
-    ensures { TraceSays result.end (I.left input.old) (I.faults input.old) (I.faults input.new)
+    ensures says { TraceSays result.end (I.left input.old) (I.faults input.old) (I.faults input.new)
         (seen (O.held output.old) (O.held output.new) (O.faults output.old) (O.faults output.new))
         result.journal }
+    ensures laws { JournalLaws result.journal }
 {
     match read_to_end(alloc, input, INPUT_LIMIT) {
         Ok(bytes) => trace_lines(alloc, bytes.as_slice(), output),

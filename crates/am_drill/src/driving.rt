@@ -2,6 +2,7 @@
 
 ghost use Rattle.std.specs.Prelude.{◌≡◌, ◌≤◌, ◌<◌, ◌+◌, [], None, IfOk, OnOk, OnErr};
 ghost use Rattle.am_base.specs.Written.{seen};
+ghost use Rattle.acme_core.specs.Run.{IsPossible};
 ghost use Rattle.am_drill.specs.Brief.{IsCounted, IsFront};
 ghost use Rattle.am_drill.specs.Drill.{events, seed_of};
 ghost use Rattle.am_drill.specs.Ends.{Wrote, DrillSays};
@@ -138,6 +139,7 @@ fn run_and_write<O: Sink>(
 fn nothing_done(alloc: Global) -> Drilled
     ensures end { result.end ≡ DrillEnd.NoMemory }
     ensures journal { result.journal ≡ [] }
+    ensures possible { IsPossible result.journal }
 {
     Drilled {
         end: DrillEnd::NoMemory,
@@ -148,15 +150,18 @@ fn nothing_done(alloc: Global) -> Drilled
 /// Does the events of a drill of so many rounds from the empty editor on, and writes the summary of their run.
 pub fn drill<O: Sink>(alloc: Global, rounds: u64, output: &mut O) -> Drilled
     requires { (1 ≤ rounds) × (rounds ≤ 100000) }
-    ensures { DrillSays result.end rounds
+    ensures says { DrillSays result.end rounds
         (seen (O.held output.old) (O.held output.new) (O.faults output.old) (O.faults output.new))
         result.journal }
+    // What each event of the journal does could be done at its place.
+    ensures possible { IsPossible result.journal }
 {
     let Ok(mut runner) = Runner::new(alloc) else {
         return nothing_done(alloc);
     };
     let end = run_and_write(alloc, rounds, &mut runner, output);
     let Runner { core, .. } = runner;
+    core.events_were_possible();
     Drilled {
         end,
         journal: core.into_journal(),

@@ -2,6 +2,7 @@
 
 ghost use Rattle.std.specs.Prelude.{◌≡◌, ◌≤◌};
 ghost use Rattle.am_base.specs.Written.{seen};
+ghost use Rattle.acme_core.specs.Run.{IsPossible};
 ghost use Rattle.am_slots.specs.Slots.{outside};
 ghost use Rattle.am_server.specs.Ends.{ServesLines, IsTooLong, SaysServe, given};
 
@@ -36,10 +37,11 @@ fn serve_lines<O: Sink, H: Host, R: Threads + Wait + Sync>(
     host: &mut H,
 ) -> HostServing<H>
     requires clients { (1 ≤ clients) × (clients ≤ 64) }
-    ensures { ServesLines (outside H.G.name H.G.faults H.G.L.begins H.G.L.faults H.G.L.R.left H.G.L.R.faults H.G.L.W.held H.G.L.W.faults)
+    ensures serves { ServesLines (outside H.G.name H.G.faults H.G.L.begins H.G.L.faults H.G.L.R.left H.G.L.R.faults H.G.L.W.held H.G.L.W.faults)
         path.now clients script.now (H.faults host.old) (H.faults host.new)
         (seen (O.held output.old) (O.held output.new) (O.faults output.old) (O.faults output.new))
         result.journal result.served result.end }
+    ensures possible { IsPossible result.journal }
 {
     let Ok(served) = Vec::with_capacity(alloc, clients as usize) else {
         return idle(alloc, ServeEnd::NoMemory);
@@ -58,8 +60,9 @@ fn serve_lines<O: Sink, H: Host, R: Threads + Wait + Sync>(
 
 // Refuses a script that is too long.
 fn refuse_input<O: Sink, G, L, S, K>(alloc: Global, output: &mut O) -> Serving<G, L, S, K>
-    ensures { IsTooLong
+    ensures long { IsTooLong
         (seen (O.held output.old) (O.held output.new) (O.faults output.old) (O.faults output.new)) result.journal result.served result.end }
+    ensures possible { IsPossible result.journal }
 {
     match refused_line(alloc, 0, b"input") {
         Ok(text) => {
@@ -82,10 +85,12 @@ pub fn serve<I: Source, O: Sink, H: Host, R: Threads + Wait + Sync>(
     host: &mut H,
 ) -> HostServing<H>
     requires clients { (1 ≤ clients) × (clients ≤ 64) }
-    ensures { SaysServe (outside H.G.name H.G.faults H.G.L.begins H.G.L.faults H.G.L.R.left H.G.L.R.faults H.G.L.W.held H.G.L.W.faults)
+    ensures says { SaysServe (outside H.G.name H.G.faults H.G.L.begins H.G.L.faults H.G.L.R.left H.G.L.R.faults H.G.L.W.held H.G.L.W.faults)
         path.now clients (given (I.left input.old) (I.faults input.old) (I.faults input.new) (H.faults host.old) (H.faults host.new))
         (seen (O.held output.old) (O.held output.new) (O.faults output.old) (O.faults output.new))
         result.journal result.served result.end }
+    // What each event of the journal does could be done at its place.
+    ensures possible { IsPossible result.journal }
 {
     match read_to_end(alloc, input, INPUT_LIMIT) {
         Ok(script) => serve_lines(rt, alloc, path, clients, script.as_slice(), output, host),

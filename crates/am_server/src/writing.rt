@@ -4,7 +4,7 @@ ghost use Rattle.std.specs.Prelude.{◌≡◌, ◌<◌, ◌≤◌, ◌^◌, [], 
 ghost use Rattle.std.specs.List.{AllByRecursion, list_any};
 ghost use Rattle.am_base.specs.Written.{seen};
 ghost use Rattle.am_journal.specs.Lawful.{IsLawful};
-ghost use Rattle.acme_core.specs.Run.{settled};
+ghost use Rattle.acme_core.specs.Run.{settled, IsPossible};
 ghost use Rattle.am_server.specs.Ends.{ended_otherwise, wants_untold, end_done, end_at, Writes};
 ghost use Rattle.am_server.specs.Served.{served_from};
 ghost use Rattle.am_server.specs.Texts.{has_failed, served_text};
@@ -148,6 +148,7 @@ fn write_served<G, L, S, K, O: Sink>(
 pub(crate) fn idle<G, L, S, K>(alloc: Global, end: ServeEnd) -> Serving<G, L, S, K>
     ensures end { result.end ≡ end }
     ensures journal { result.journal ≡ [] }
+    ensures possible { IsPossible result.journal }
     ensures served { result.served ≡ [] }
 {
     Serving {
@@ -172,12 +173,14 @@ pub(crate) fn finish<G: Drop, L: Drop, S: Drop, K: Drop, O: Sink>(
     requires room { length slots ≤ vec_capacity served }
     requires empty { served.items ≡ [] }
     ensures journal { result.journal ≡ core.journal }
+    ensures possible { IsPossible result.journal }
     ensures served { result.served ≡ served_from core.journal 0 slots }
     ensures writes { Writes slots script
         (seen (O.held output.old) (O.held output.new) (O.faults output.old) (O.faults output.new))
         (served_text core.journal slots script) result.end }
 {
     let end = write_served(alloc, &core, slots.as_slice(), script, output);
+    core.events_were_possible();
     Serving {
         end,
         served: served_all(core.journal(), slots, served),

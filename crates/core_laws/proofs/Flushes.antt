@@ -2,7 +2,8 @@
 use Rattle.std.proofs.Common.{◌≡◌, ℕ, Bool, true, false, not, cond, eqb, ◌&&◌, List, [], ◌∷◌, ◌++◌, All, None, refl, sym, ap, subst, ◌∙◌, append_assoc}
 use Rattle.std.specs.List.{filter, list_any}
 use Rattle.std.proofs.lemmas.Bool.{false≢true, not-true, or_parts}
-use Rattle.std.proofs.lemmas.List.Elements.{All-weaker, filter_passes}
+use Rattle.std.specs.Prelude.{Contains}
+use Rattle.std.proofs.lemmas.List.Elements.{All-nil, All-cons, All-contains, All-weaker, filter_passes}
 use Rattle.std.proofs.lemmas.List.Folds.{list_any_none}
 use Rattle.ninep_types.specs.declared.message.RBody.{RBody}
 use Rattle.ninep_types.specs.declared.message.RBody.TheVariants as r
@@ -26,14 +27,14 @@ use Rattle.core_events.specs.Waits.{ended}
 use Rattle.core_tasks.specs.Tasks.{task_deeds, task_refusal}
 use Rattle.acme_core.specs.Doings.{message_doing, doing_of}
 use Rattle.acme_core.specs.Run.{step, run, enabled}
-use Rattle.acme_core.specs.Stages.{said, grown_book, tables_after, book_after}
-use Rattle.acme_core.specs.States.{Present, State, present}
+use Rattle.acme_core.specs.Stages.{response, said, grown_book, tables_after, book_after}
+use Rattle.acme_core.specs.States.{Present, State, present, next_entry}
 use Rattle.acme_core.specs.Replies.{replies_of}
 use Rattle.acme_core.proofs.Goes.{run-push}
 use Rattle.acme_core.proofs.Idling.{idle_after}
-use Rattle.core_laws.specs.Laws.{IsFree, RepliesAreSaid, NothingToAFlushedTag, NoReadCanBeAnswered}
-use Rattle.core_laws.specs.Saying.{asks, is_message, flush_of, flushed}
-use Rattle.core_laws.proofs.Playing.{played_parts, played_first}
+use Rattle.core_laws.specs.Laws.{IsFree, RepliesAreSaid, EachFlushIsAnswered, NothingToAFlushedTag, NoReadCanBeAnswered}
+use Rattle.core_laws.specs.Saying.{said_after, asks, is_message, flush_of, flushed, flush_body}
+use Rattle.core_laws.proofs.Playing.{played_parts, played_first, silent_after}
 use Rattle.core_laws.proofs.Quiets.{IsQuiet, OfMessages, quiet_all, quiet_end}
 use Rattle.core_laws.proofs.Tells.{IsWaiting, Reading, OfMessage}
 use Rattle.core_laws.proofs.Wells.{IsWell, well_step, well_after}
@@ -65,6 +66,28 @@ none_reading conn tag rs =
 -- what a Tflush does, by whether a session is missing
 abbrev pub flush_or : Bool → ℕ → Reaction
 flush_or missing oldtag = cond missing (refused refusal.VersionFirst) (flush_reaction oldtag)
+
+-- nothing else is said, since no read that waits can be answered
+flush_said : (before : List Event) (conn tag oldtag : ℕ) (there : Bool)
+    → said (present (run before)) (kind.Asks conn tag) (message_doing (present (run before)) (flush_or (not there) oldtag) F) ≡ response conn tag (flush_body there) ∷ []
+unfolding task_deeds task_refusal
+flush_said before conn tag oldtag true = ap (λ (xs : List Response). response conn tag (flush_body true) ∷ xs) (silent_after before (next_entry (present (run before))))
+flush_said before conn tag oldtag false = ap (λ (xs : List Response). response conn tag (flush_body false) ∷ xs) (silent_after before (next_entry (present (run before))))
+
+pub each_flush : EachFlushIsAnswered
+each_flush before conn tag oldtag = flush_said before conn tag oldtag (is_there (msize_of (run before).tables conn))
+
+-- the member of a list of one
+one_of : (x y : Response) → Contains (x ∷ []) y → x ≡ y
+one_of x y c = All-contains (λ z. x ≡ z) (x ∷ []) y (All-cons (λ z. x ≡ z) x [] refl (All-nil (λ z. x ≡ z))) c
+
+-- so where Rflush is said, it is said alone
+flushed_alone : (before : List Event) (conn tag oldtag : ℕ) → Contains (said_after before (flush_of conn tag oldtag)) (flushed conn tag)
+    → said_after before (flush_of conn tag oldtag) ≡ flushed conn tag ∷ []
+flushed_alone before conn tag oldtag said_one =
+    let only : Response = response conn tag (flush_body (is_there (msize_of (run before).tables conn))) in
+    let is : said_after before (flush_of conn tag oldtag) ≡ only ∷ [] = each_flush before conn tag oldtag in
+    is ∙ ap (λ (x : Response). x ∷ []) (one_of only (flushed conn tag) (subst (λ (xs : List Response). Contains xs (flushed conn tag)) is said_one))
 
 flushes : RBody → Bool
 flushes r.Flush = true
@@ -119,7 +142,8 @@ free_by journal conn tag quiet = record {
 }
 
 pub nothing_to_a_flushed : NothingToAFlushedTag
-nothing_to_a_flushed before behind conn tag oldtag played is none =
+nothing_to_a_flushed before behind conn tag oldtag played said_one none =
+    let is : said_after before (flush_of conn tag oldtag) ≡ flushed conn tag ∷ [] = flushed_alone before conn tag oldtag said_one in
     let e : Event = flush_of conn tag oldtag in
     let next : List Event = before ++ e ∷ [] in
     let parts : ArePlayed enabled [] before × ArePlayed enabled before (e ∷ behind) = played_parts [] before (e ∷ behind) played in
@@ -134,7 +158,7 @@ nothing_to_a_flushed before behind conn tag oldtag played is none =
       quiet_all (OtherTag conn oldtag) next behind first.1 own well quiet,
     )
 
-pub ruleset flushing = (replies_said, nothing_to_a_flushed)
+pub ruleset flushing = (replies_said, each_flush, nothing_to_a_flushed)
 
 -- ---- no read that waits can be answered
 

@@ -14,3 +14,8 @@ mod Sessions
 mod Clicks
 mod Lives
 mod Backs
+mod Windows
+mod Moves
+mod Answered
+mod WriteBacks
+mod Lawful

@@ -25,6 +25,8 @@ use Rattle.core_fids.specs.declared.effect.Answer.TheVariants.{Says, Reads}
 use Rattle.core_fids.specs.declared.effect.Reaction.{Reaction}
 use Rattle.core_fids.specs.declared.effect.Effect.{Effect}
 use Rattle.core_fids.specs.declared.effect.Effect.TheVariants as effect
+use Rattle.core_fids.specs.declared.effect.EventChange.TheVariants as events
+use Rattle.core_fids.specs.declared.effect.Demand.TheVariants as demand
 use Rattle.core_fids.specs.declared.refusal.Refusal.{Refusal}
 use Rattle.core_fids.specs.declared.refusal.Refusal.TheVariants as refusal
 use Rattle.core_fids.specs.declared.walking.WalkEnd.{WalkEnd}
@@ -65,12 +67,14 @@ pub record HasOpening (tables : Tables) (conn number opening : ℕ) : Type 0 whe
   pub is : fid_of tables conn number ≡ Some fid
   pub opens : fid.opening ≡ Some opening
 
-abbrev pub ReadsSane : Tables → ℕ → Effect → Answer → Type 0
-ReadsSane tables conn e (Says body) = Unit {0}
-ReadsSane tables conn e (Reads number opening count) = (e ≡ effect.Nothing) × HasOpening tables conn number opening
+-- what reads does nothing else
+abbrev pub ReadsSane : Tables → ℕ → Reaction → Answer → Type 0
+ReadsSane tables conn d (Says body) = Unit {0}
+ReadsSane tables conn d (Reads number opening count) =
+    (d.effect ≡ effect.Nothing) × HasOpening tables conn number opening × (d.events ≡ events.Nothing) × (d.changes ≡ []) × (d.demand ≡ demand.Nothing)
 
 abbrev pub IsSane : Tables → ℕ → Reaction → Type 0
-IsSane tables conn d = PutsSane tables conn d.effect × ReadsSane tables conn d.effect d.answer
+IsSane tables conn d = PutsSane tables conn d.effect × ReadsSane tables conn d d.answer
 
 -- ---- tests
 
@@ -198,7 +202,7 @@ module _ (tables : Tables) (conn : ℕ) (moded : (number : ℕ) (f : Fid) → fi
 
   read_opening_sane : (number count : ℕ) (f : Fid) (o : Option ℕ) → fid_of tables conn number ≡ Some f → f.opening ≡ o → Sane (read_opening number count o)
   read_opening_sane number count f None is e = tt
-  read_opening_sane number count f (Some opening) is e = (tt, (refl, record { fid = f; is = is; opens = e }))
+  read_opening_sane number count f (Some opening) is e = (tt, (refl, record { fid = f; is = is; opens = e }, refl, refl, refl))
 
   data_sane : (w count : ℕ) (o : Option Window) → IsSane tables conn (data_reaction w count o)
   data_sane w count None = (tt, tt)

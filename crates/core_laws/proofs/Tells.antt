@@ -43,13 +43,13 @@ module _ (L : ℕ → ℕ → Type 0) where
   tell_errors : (x : Refusal) (t : Tables) (test : Waiting → Bool) (ws : List Waiting) → All IsWaiting ws → All Tells (errors x t (filter test ws))
   tell_errors x t test ws h = All-map Tells (λ (w : Waiting). error x (feed_at t w) w.conn w.tag) (filter test ws) (All-filter test IsWaiting ws h)
 
-  tell_clunked : (t : Tables) (conn : ℕ) (e : Effect) → All IsWaiting t.waiting → All Tells (clunked t conn e)
+  pub tell_clunked : (t : Tables) (conn : ℕ) (e : Effect) → All IsWaiting t.waiting → All Tells (clunked t conn e)
   tell_clunked t conn effect.Nothing h = All-nil Tells
   tell_clunked t conn (effect.Begins msize) h = All-nil Tells
   tell_clunked t conn (effect.Puts fid value) h = All-nil Tells
   tell_clunked t conn (effect.Frees fid) h = tell_errors refusal.FidClunked t (is_of_fid conn fid) t.waiting h
 
-  tell_deletions : (t : Tables) (ws : List ℕ) → All IsWaiting t.waiting → All Tells (deletions t ws)
+  pub tell_deletions : (t : Tables) (ws : List ℕ) → All IsWaiting t.waiting → All Tells (deletions t ws)
   tell_deletions t [] h = All-nil Tells
   tell_deletions t (w ∷ ws) h =
       All-append Tells (errors refusal.WindowDeleted t (filter (is_of_window t w) t.waiting)) (deletions t ws) (tell_errors refusal.WindowDeleted t (is_of_window t w) t.waiting h)
@@ -75,7 +75,7 @@ module _ (L : ℕ → ℕ → Type 0) where
       tell_then (served_of b) (served_most n at (after_serve b at)) (λ r piece e. All-contains Reading b.reads r book.reads (served_waited b r piece e))
       (tell_most at n (after_serve b at) (book_serve Reading at b book))
 
-  tell_served : (at : ℕ) (b : BookState) → IsBook Reading at b → All Tells (served_all at b)
+  pub tell_served : (at : ℕ) (b : BookState) → IsBook Reading at b → All Tells (served_all at b)
   tell_served at b book = tell_most at (length b.reads) b book
 
   -- what is true of the message of an event of this kind

@@ -333,17 +333,17 @@ well_kind s k d own well =
     (well_items (begun s.connections k) (grown_tables s k d) s k d (well_read s k d own well))))
 
 -- what holds of the fids of a connection
-moded : (s : State) (conn : ℕ) → IsWell s → (number : ℕ) (f : Fid) → fid_of s.tables conn number ≡ Some f → IsModed f
+pub moded : (s : State) (conn : ℕ) → IsWell s → (number : ℕ) (f : Fid) → fid_of s.tables conn number ≡ Some f → IsModed f
 moded s conn well number f e = (fids_at (IsOfLive s.connections) s.tables conn number f well.fids e).1
 
 -- the read of a message is one of an opening that a fid has
-own_held : (s : Present) (t : Tables) (conn tag : ℕ) (d : Reaction) (o : Origin) → ReadsSane t conn d.effect d.answer → AsksSane (grown_with t conn d.effect) conn tag (message_doing s d o).answer
+own_held : (s : Present) (t : Tables) (conn tag : ℕ) (d : Reaction) (o : Origin) → ReadsSane t conn d d.answer → AsksSane (grown_with t conn d.effect) conn tag (message_doing s d o).answer
 unfolding AsksSane
 own_held s t conn tag d o sane fid opening count is =
     let e : Effect = d.effect in
     let a : Answer = d.answer in
     let same : a ≡ Reads fid opening count = message_reads s d o fid opening count is in
-    let reads : (e ≡ effect.Nothing) × HasOpening t conn fid opening = subst (ReadsSane t conn e) same sane in
+    let reads : ReadsSane t conn d (Reads fid opening count) = subst (ReadsSane t conn d) same sane in
     let has : HasOpening t conn fid opening = reads.1 in
     subst (λ (x : Effect). IsHeld (grown_with t conn x) (asker_of conn tag opening count)) (sym reads.0)
     (record { number = fid; fid = has.fid; is = has.is; opens = has.opens })

@@ -1,7 +1,7 @@
 -- Laws of all journals.
 use Rattle.std.specs.Prelude.{◌≡◌, ℕ, ◌+◌, ◌<◌, true, false, List, [], ◌∷◌, ◌++◌, length, All, Option, Some, None}
-use Rattle.std.specs.List.{list_any}
-use Rattle.fid_table.specs.Tables.{is_waiting}
+use Rattle.std.specs.List.{Contains, list_any}
+use Rattle.fid_table.specs.Tables.{is_waiting, msize_of}
 use Rattle.wait_queue.specs.Reads.{is_read}
 use Rattle.win_events.specs.declared.item.Item.{Item}
 use Rattle.win_events.specs.declared.item.Life.TheVariants.{Back}
@@ -10,6 +10,7 @@ use Rattle.am_journal.specs.declared.event.Event.{Event}
 use Rattle.am_journal.specs.declared.event.Event.TheVariants as event
 use Rattle.am_counter.specs.Played.{IsPrefix, IsPlayed, has_hang}
 use Rattle.am_counter.specs.Sent.{sent}
+use Rattle.core_fids.specs.Fids.{is_there}
 use Rattle.core_events.specs.declared.response.Response.{Response}
 use Rattle.core_events.specs.Serving.{served_all, book_served_all}
 use Rattle.core_events.specs.Sound.{IsIdle}
@@ -17,9 +18,10 @@ use Rattle.core_events.specs.declared.closing.BackItem.{BackItem}
 use Rattle.acme_core.specs.Doings.{doing_of}
 use Rattle.acme_core.specs.Run.{run, present_after, enabled, output_at}
 use Rattle.acme_core.specs.Replies.{replies_of}
+use Rattle.acme_core.specs.Stages.{response}
 use Rattle.acme_core.specs.States.{State}
 use Rattle.core_laws.specs.Replies.{replies}
-use Rattle.core_laws.specs.Saying.{said_after, said_from, is_told, is_message, flush_of, flushed}
+use Rattle.core_laws.specs.Saying.{said_after, said_from, is_told, is_message, flush_of, flushed, flush_body}
 
 -- What was replied to a connection is what was sent to it, and then what is unsent.
 abbrev pub RepliesAreSentOrUnsent : Type 0
@@ -48,17 +50,23 @@ FlushesAreAnswered =
     (before : List Event) (conn tag oldtag : ℕ) → list_any (is_waiting conn oldtag) (run before).tables.waiting ≡ true
     → said_after before (flush_of conn tag oldtag) ≡ flushed conn tag ∷ []
 
+-- A Tflush is answered alone: by Rflush where its connection has a session, whatever stood before, and else by a refusal.
+abbrev pub EachFlushIsAnswered : Type 0
+EachFlushIsAnswered =
+    (before : List Event) (conn tag oldtag : ℕ)
+    → said_after before (flush_of conn tag oldtag) ≡ response conn tag (flush_body (is_there (msize_of (run before).tables conn))) ∷ []
+
 -- no read with this tag on this connection waits after a journal
 pub record IsFree (journal : List Event) (conn tag : ℕ) : Type 0 where
   pub waiting : list_any (is_waiting conn tag) (run journal).tables.waiting ≡ false
   pub reads : list_any (is_read conn tag) (run journal).scene.book.reads ≡ false
 
--- Behind a Tflush that was answered by Rflush alone no read waits with the tag that it names, and nothing is said to that tag, up to the
--- next message of that tag.
+-- Behind a Tflush that was answered by Rflush, whatever stood before it, no read waits with the tag that it names, and nothing is said to
+-- that tag, up to the next message of that tag.
 abbrev pub NothingToAFlushedTag : Type 0
 NothingToAFlushedTag =
     (before behind : List Event) (conn tag oldtag : ℕ) → IsPlayed enabled (before ++ flush_of conn tag oldtag ∷ behind)
-    → said_after before (flush_of conn tag oldtag) ≡ flushed conn tag ∷ [] → list_any (is_message conn oldtag) behind ≡ false
+    → Contains (said_after before (flush_of conn tag oldtag)) (flushed conn tag) → list_any (is_message conn oldtag) behind ≡ false
     → IsFree (before ++ flush_of conn tag oldtag ∷ behind) conn oldtag
     × All (λ x. is_told conn oldtag x ≡ false) (said_from (before ++ flush_of conn tag oldtag ∷ []) behind)
 

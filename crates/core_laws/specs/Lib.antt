@@ -1,3 +1,7 @@
 pub mod Replies
 pub mod Saying
 pub mod Laws
+pub mod Moving
+pub mod Answered
+pub mod WriteBacks
+pub mod Journals

@@ -1,5 +1,6 @@
 -- What entries say to connections, each time to the message of a tag.
-use Rattle.std.specs.Prelude.{ℕ, ◌==◌, ◌&&◌, Bool, false, List, [], ◌∷◌, ◌++◌}
+use Rattle.std.specs.Prelude.{ℕ, ◌==◌, ◌&&◌, Bool, true, false, List, [], ◌∷◌, ◌++◌}
+use Rattle.ninep_types.specs.declared.message.RBody.{RBody}
 use Rattle.ninep_types.specs.declared.message.RBody.TheVariants as r
 use Rattle.ninep_types.specs.declared.message.TBody.TheVariants as t
 use Rattle.am_journal.specs.declared.event.Event.{Event}
@@ -7,6 +8,8 @@ use Rattle.am_journal.specs.declared.event.Event.TheVariants as event
 use Rattle.core_events.specs.declared.response.Response.{Response}
 use Rattle.acme_core.specs.declared.kind.Kind.{Kind}
 use Rattle.acme_core.specs.declared.kind.Kind.TheVariants as kind
+use Rattle.core_fids.specs.declared.refusal.Refusal.TheVariants as refusal
+use Rattle.core_fids.specs.Refusals.{refusal_text}
 use Rattle.acme_core.specs.Doings.{doing_of}
 use Rattle.acme_core.specs.Kinds.{kind_of}
 use Rattle.acme_core.specs.Run.{present_after}
@@ -42,3 +45,8 @@ flush_of conn tag oldtag = event.Msg conn (record { tag = tag; body = t.Flush ol
 
 abbrev pub flushed : ℕ → ℕ → Response
 flushed conn tag = response conn tag r.Flush
+
+-- how a Tflush is answered, by whether its connection has a session
+abbrev pub flush_body : Bool → RBody
+flush_body true = r.Flush
+flush_body false = r.Error (refusal_text refusal.VersionFirst)

@@ -1,6 +1,6 @@
 //! Laws of all journals.
 
-ghost use Rattle.core_laws.specs.Laws.{RepliesAreSentOrUnsent, NothingAfterTheHangUp, EndedGetAllReplies, RepliesAreSaid, FlushesAreAnswered, NothingToAFlushedTag, ClicksAreTold, LivesNameTheEntry, WrittenBackOnce, NoReadCanBeAnswered};
+ghost use Rattle.core_laws.specs.Laws.{RepliesAreSentOrUnsent, NothingAfterTheHangUp, EndedGetAllReplies, RepliesAreSaid, FlushesAreAnswered, EachFlushIsAnswered, NothingToAFlushedTag, ClicksAreTold, LivesNameTheEntry, WrittenBackOnce, NoReadCanBeAnswered};
 
 /// All that was ever replied to a connection is what was sent to it, and then what is unsent.
 #[tactic(auto, using(crate::proofs::Unsents::sent_or_unsent))]
@@ -16,11 +16,13 @@ pub fn ended_connections_get_nothing_more()
     ensures all { EndedGetAllReplies }
 {}
 
-/// What an entry replies is what it says to connections, each time to the message of a tag. A Tflush for the tag of a read that waits is
-/// answered by Rflush. Behind it no read waits with that tag, and nothing is said to it, up to the next message of that tag.
+/// What an entry replies is what it says to connections, each time to the message of a tag. A Tflush in a session is answered by Rflush
+/// alone, as is one for the tag of a read that waits. Behind an Rflush, whatever stood before it, no read waits with the tag that it was
+/// said for, and nothing is said to that tag, up to the next message of that tag.
 #[tactic(auto, using(crate::proofs::Flushes::flushing, crate::proofs::Sessions::answering))]
 pub fn flushed_reads_are_not_answered()
     ensures said { RepliesAreSaid }
+    ensures each { EachFlushIsAnswered }
     ensures answered { FlushesAreAnswered }
     ensures behind { NothingToAFlushedTag }
 {}

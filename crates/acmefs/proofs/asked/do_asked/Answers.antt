@@ -467,6 +467,9 @@ returns-in-Ok-Some-Pack-clause-played g c = λ p. absurd (let a = sym p ∙ (ask
 pub returns-in-Ok-Some-Pack-clause-round_trip : goal.returns-in-Ok-Some-Pack-clause-round_trip
 returns-in-Ok-Some-Pack-clause-round_trip g c = λ p. absurd (let a = sym p ∙ (asked_at c.args.words.now _ c.in-Ok-Some-Pack.field-0 c.in-Ok-Some-Pack.field-0-0 asked.Pack c.in-Ok-Some-Pack.field-0-is c.in-Ok-Some-Pack.field-0-0-is c.as_slice.ensures c.in-Ok-Some-Pack.ensures.asked) in cc)
 
+pub returns-in-Ok-Some-Pack-clause-laws : goal.returns-in-Ok-Some-Pack-clause-laws
+returns-in-Ok-Some-Pack-clause-laws g c = λ p. absurd (let a = sym p ∙ (asked_at c.args.words.now _ c.in-Ok-Some-Pack.field-0 c.in-Ok-Some-Pack.field-0-0 asked.Pack c.in-Ok-Some-Pack.field-0-is c.in-Ok-Some-Pack.field-0-0-is c.as_slice.ensures c.in-Ok-Some-Pack.ensures.asked) in cc)
+
 -- ---- doing lines
 
 pub returns-in-Ok-Some-Do-clause-usage : goal.returns-in-Ok-Some-Do-clause-usage

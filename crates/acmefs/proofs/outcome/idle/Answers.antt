@@ -1,4 +1,4 @@
-use Rattle.acmefs.proofs.Idle.{plays, trips}
+use Rattle.acmefs.proofs.Idle.{plays, trips, laws}
 use Rattle.acmefs.proofs.outcome.idle.Goals as goal
 
 pub returns-clause-played : goal.returns-clause-played
@@ -6,3 +6,6 @@ returns-clause-played g c = plays _ c.new.ensures
 
 pub returns-clause-round_trip : goal.returns-clause-round_trip
 returns-clause-round_trip g c = trips _ c.new.ensures
+
+pub returns-clause-laws : goal.returns-clause-laws
+returns-clause-laws g c = laws c.journals_are_lawful.ensures _ c.new.ensures

@@ -14,6 +14,7 @@ returns-clause-words g c =
       none_served = e.none_served;
       played = e.played;
       round_trip = e.round_trip;
+      laws = e.laws;
     }
 
 pub returns-clause-replay : goal.returns-clause-replay

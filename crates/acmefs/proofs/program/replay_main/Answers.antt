@@ -3,10 +3,10 @@ use Rattle.acmefs.proofs.RoundTrip.{says_played, says_trips}
 use Rattle.acmefs.proofs.program.replay_main.Goals as goal
 
 pub returns-clause-own_text : goal.returns-clause-own_text
-returns-clause-own_text g c = (c.replay-ended.result.end, c.status_of.ensures, says_own c.replay-ended.result.end _ _ _ _ _ c.replay-ended.ensures)
+returns-clause-own_text g c = (c.replay-ended.result.end, c.status_of.ensures, says_own c.replay-ended.result.end _ _ _ _ _ c.replay-ended.ensures.says)
 
 pub returns-clause-round_trip : goal.returns-clause-round_trip
-returns-clause-round_trip g c = says_trips c.replay-ended.result.end _ _ _ _ _ c.replay-ended.ensures
+returns-clause-round_trip g c = says_trips c.replay-ended.result.end _ _ _ _ _ c.replay-ended.ensures.says
 
 pub returns-clause-played : goal.returns-clause-played
-returns-clause-played g c = says_played c.replay-ended.result.end _ _ _ _ _ c.replay-ended.ensures
+returns-clause-played g c = says_played c.replay-ended.result.end _ _ _ _ _ c.replay-ended.ensures.says

@@ -8,8 +8,8 @@ use Rattle.am_server.proofs.serving.serve_lines.Goals as goal
 pub finish-requires-clause-lawful : goal.finish-requires-clause-lawful
 finish-requires-clause-lawful g c = lawful_played (known_of c.serve_slots.new.seat).seen c.close.result.journal (ap (λ (x : Editor). x.journal) c.close.ensures.journal) c.close.ensures.played
 
-pub returns-in-Ok-serve_slots : goal.returns-in-Ok-serve_slots
-returns-in-Ok-serve_slots g c =
+pub returns-in-Ok-serve_slots-clause-serves : goal.returns-in-Ok-serve_slots-clause-serves
+returns-in-Ok-serve_slots-clause-serves g c =
     served_lines {G = g.row.H-G.Denot} {L = g.row.H-G-L.Denot} {S = g.row.H-G-L-R.Denot} {K = g.row.H-G-L-W.Denot} c.ended_connections_get_nothing_more.ensures.all c.pieces_are_joined.ensures.pieces c.pieces_are_joined.ensures.broken
     (outside g.H.G.Gate.name g.H.G.Gate.faults g.H.G.L.Link.begins g.H.G.L.Link.faults g.H.G.L.R.Source.left g.H.G.L.R.Source.faults g.H.G.L.W.Sink.held g.H.G.L.W.Sink.faults)
     c.args.path.now c.args.clients c.args.script.now _ _ _ c.in-Ok-serve_slots.slots c.in-Ok-serve_slots.end (known_of c.serve_slots.new.seat)

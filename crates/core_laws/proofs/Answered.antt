@@ -1,0 +1,247 @@
+-- Each message is answered in its step, or is a read that waits.
+use Rattle.std.proofs.Common.{◌≡◌, inl, inr, ℕ, ◌+◌, ◌≤◌, Bool, true, false, cond, eqb, ◌&&◌, ◌||◌, List, [], ◌∷◌, ◌++◌, length, slice_index_or, Option, Some, None, All, refl, sym, ap, subst, ◌∙◌, append_assoc, append-nil, arith}
+use Rattle.std.specs.List.{list_any}
+use Rattle.std.proofs.lemmas.Bool.{or-true}
+use Rattle.std.proofs.lemmas.Bool.Decides.{nat_tests}
+use Rattle.std.proofs.lemmas.List.Elements.{All-append}
+use Rattle.std.proofs.lemmas.List.Folds.{list_any_at, list_any-append}
+use Rattle.ninep_types.specs.declared.message.RBody.{RBody}
+use Rattle.ninep_types.specs.declared.message.RBody.TheVariants as r
+use Rattle.ninep_types.specs.declared.message.TBody.{TBody}
+use Rattle.ninep_types.specs.declared.message.TMsg.{TMsg}
+use Rattle.ninep_types.specs.Spelling.{kind_t}
+use Rattle.fid_table.specs.declared.session.Waiting.{Waiting}
+use Rattle.fid_table.specs.Tables.{Tables, is_waiting}
+use Rattle.wait_queue.specs.Reads.{is_read}
+use Rattle.wait_queue.specs.declared.types.Asked.{Asked}
+use Rattle.wait_queue.specs.declared.types.Asked.TheVariants.{Now, Waits}
+use Rattle.wait_queue.specs.declared.types.Asker.{Asker}
+use Rattle.win_events.specs.declared.item.Origin.{Origin}
+use Rattle.event_book.specs.BookState.{BookState, is_living, read_waits, asked_of, piece_for}
+use Rattle.am_journal.specs.declared.event.Event.{Event}
+use Rattle.am_journal.specs.declared.event.Event.TheVariants as event
+use Rattle.am_counter.specs.Played.{ArePlayed, IsPlayed}
+use Rattle.core_fids.specs.declared.effect.Answer.{Answer}
+use Rattle.core_fids.specs.declared.effect.Answer.TheVariants.{Says, Reads}
+use Rattle.core_fids.specs.declared.effect.Demand.{Demand}
+use Rattle.core_fids.specs.declared.effect.Demand.TheVariants as demand
+use Rattle.core_fids.specs.declared.effect.Effect.{Effect}
+use Rattle.core_fids.specs.declared.effect.Effect.TheVariants as effect
+use Rattle.core_fids.specs.declared.effect.EventChange.{EventChange}
+use Rattle.core_fids.specs.declared.effect.EventChange.TheVariants as events
+use Rattle.core_fids.specs.declared.effect.Reaction.{Reaction}
+use Rattle.core_fids.specs.declared.refusal.Refusal.TheVariants as refusal
+use Rattle.core_fids.specs.Refusals.{refusal_text}
+use Rattle.core_windows.specs.declared.change.Change.{Change}
+use Rattle.core_scene.specs.Scenes.{deleted_by}
+use Rattle.core_events.specs.declared.response.Response.{Response}
+use Rattle.core_events.specs.Asking.{opened, is_full, said_to, read_said, book_read, waits_unless}
+use Rattle.core_events.specs.Putting.{put_living}
+use Rattle.core_events.specs.Serving.{served_all}
+use Rattle.core_events.specs.Sound.{IsIdle}
+use Rattle.core_events.specs.Waits.{clunked, deletions, ended}
+use Rattle.core_events.proofs.Idles.{AreIdle, read_idle, idle_for, idle_end}
+use Rattle.core_tasks.specs.Tasks.{task_deeds, task_refusal}
+use Rattle.acme_core.specs.declared.kind.Kind.TheVariants as kind
+use Rattle.acme_core.specs.Doings.{Doing, doing_of, message_doing}
+use Rattle.acme_core.specs.Intents.{reaction_at}
+use Rattle.acme_core.specs.Kinds.{kind_of}
+use Rattle.acme_core.specs.Laws.{HasAnswer, EachIsAnswered}
+use Rattle.acme_core.specs.Origins.{message_origin}
+use Rattle.acme_core.specs.Run.{step, run, present_after, enabled}
+use Rattle.acme_core.specs.Stages.{response, read_response, asker_of, if_said, answer_said, answer_book, acted, with_fid, read_book, put_book, said, tables_after}
+use Rattle.acme_core.specs.States.{Present, State, present, next_entry}
+use Rattle.acme_core.proofs.Goes.{run-push}
+use Rattle.acme_core.proofs.Idling.{run_idle, silent}
+use Rattle.core_laws.specs.Answered.{IsAnswerTo, waits_with, TellsAWait, SaysOnce, Waits as MustWait, ReadsOnce, IsAnsweredBy, MessagesAreAnswered}
+use Rattle.core_laws.specs.Saying.{said_after}
+use Rattle.core_laws.proofs.Answering.{message_reads}
+use Rattle.core_laws.proofs.Books.{IsBook, book_opened, book_put_living}
+use Rattle.core_laws.proofs.Playing.{played_parts, no_items}
+use Rattle.core_laws.proofs.Reactions.{ReadsSane, IsSane, reaction_sane}
+use Rattle.core_laws.proofs.Tells.{Reading, tell_clunked, tell_deletions, tell_served}
+use Rattle.core_laws.proofs.Wells.{IsWell, moded, well_after}
+
+-- ---- reads that wait are among those that wait
+
+same_key : (conn tag : ℕ) → (eqb conn conn && eqb tag tag) ≡ true
+same_key conn tag = grind (arith, nat_tests)
+
+or_second : (a b : Bool) → b ≡ true → (a || b) ≡ true
+or_second true b h = refl
+or_second false b h = h
+
+or_first : (a b : Bool) → a ≡ true → (a || b) ≡ true
+or_first true b h = refl
+or_first false b h = absurd cc
+
+abbrev Waited : State → ℕ → ℕ → Type 0
+Waited s conn tag = waits_with s conn tag ≡ true
+
+waiting_waits : (s : State) → All (λ (w : Waiting). Waited s w.conn w.tag) s.tables.waiting
+waiting_waits s k d h =
+    let w : Waiting = slice_index_or s.tables.waiting k d in
+    or_first (list_any (is_waiting w.conn w.tag) s.tables.waiting) (list_any (is_read w.conn w.tag) s.scene.book.reads)
+    (list_any_at (is_waiting w.conn w.tag) s.tables.waiting k d h (same_key w.conn w.tag))
+
+reading_waits : (s : State) → All (λ (x : Asker). Waited s x.conn x.tag) s.scene.book.reads
+reading_waits s k d h =
+    let x : Asker = slice_index_or s.scene.book.reads k d in
+    or_second (list_any (is_waiting x.conn x.tag) s.tables.waiting) (list_any (is_read x.conn x.tag) s.scene.book.reads)
+    (list_any_at (is_read x.conn x.tag) s.scene.book.reads k d h (same_key x.conn x.tag))
+
+-- ---- what is said besides the answer
+
+waited_book : (s : State) → AreIdle [] s.entries s.scene.book → IsBook (Reading (Waited s)) (next_entry (present s)) s.scene.book
+waited_book s idle = record { lawful = idle.lawful; latest = omega (arith, idle.latest); reads = reading_waits s }
+
+waited_put : (s : State) (conn tag : ℕ) (d : Doing) (body : RBody) → d.answer ≡ Some (Says body) → AreIdle [] s.entries s.scene.book
+    → IsBook (Reading (Waited s)) (next_entry (present s)) (put_book (present s) (kind.Asks conn tag) d)
+waited_put s conn tag d body is idle =
+    let p : Present = present s in
+    let read : BookState = read_book p (kind.Asks conn tag) d in
+    let same : read ≡ s.scene.book = ap (λ (a : Option Answer). answer_book (with_fid p (kind.Asks conn tag) d) s.scene.book conn tag a (next_entry p)) is in
+    let book : IsBook (Reading (Waited s)) (next_entry p) read = subst (IsBook (Reading (Waited s)) (next_entry p)) (sym same) (waited_book s idle) in
+    book_put_living (Reading (Waited s)) (next_entry p) (deleted_by d.deeds) (opened read d.events) (acted p d).items (book_opened (Reading (Waited s)) (next_entry p) read d.events book)
+
+says_once : (s : State) (conn tag : ℕ) (d : Doing) (body : RBody) → d.answer ≡ Some (Says body) → AreIdle [] s.entries s.scene.book
+    → SaysOnce s conn tag body (said (present s) (kind.Asks conn tag) d)
+says_once s conn tag d body is idle =
+    let p : Present = present s in
+    let k = kind.Asks conn tag in
+    let front : List Response = clunked s.tables conn d.effect in
+    let gone : List Response = deletions s.tables (deleted_by d.deeds) in
+    let served : List Response = served_all (next_entry p) (put_book p k d) in
+    let told_gone : All (TellsAWait s) gone = tell_deletions (Waited s) s.tables (deleted_by d.deeds) (waiting_waits s) in
+    let told_served : All (TellsAWait s) served = tell_served (Waited s) (next_entry p) (put_book p k d) (waited_put s conn tag d body is idle) in
+    record {
+      front = front;
+      rest = gone ++ served;
+      is = ap (λ (a : Option Answer). front ++ answer_said (with_fid p k d) s.scene.book conn tag a ++ gone ++ served) is;
+      others = All-append (TellsAWait s) front (gone ++ served) (tell_clunked (Waited s) s.tables conn d.effect (waiting_waits s)) (All-append (TellsAWait s) gone served told_gone told_served);
+    }
+
+-- ---- a read of an event file
+
+-- a reaction that reads does nothing else
+reading : (s : Present) (o : Origin) (e : Effect) (v : EventChange) (cs : List Change) (m : Demand) (a : Answer) (fid opening count : ℕ)
+    → e ≡ effect.Nothing → v ≡ events.Nothing → cs ≡ [] → m ≡ demand.Nothing → a ≡ Reads fid opening count
+    → message_doing s (record { effect = e; events = v; changes = cs; demand = m; answer = a }) o
+    ≡ message_doing s (record { effect = effect.Nothing; events = events.Nothing; changes = []; demand = demand.Nothing; answer = Reads fid opening count }) o
+reading s o e v cs m a fid opening count effect events changes demand answer = rw (effect, events, changes, demand, answer) refl
+
+abbrev plain_read : Present → Origin → ℕ → ℕ → ℕ → Doing
+plain_read s o fid opening count =
+    message_doing s (record { effect = effect.Nothing; events = events.Nothing; changes = []; demand = demand.Nothing; answer = Reads fid opening count }) o
+
+read_served : (s : State) (t : Tables) (x : Asker) → AreIdle [] s.entries s.scene.book → s.scene.items ≡ []
+    → served_all (next_entry (present s)) (put_living [] (book_read t s.scene.book x (next_entry (present s))) s.scene.items) ≡ []
+read_served s t x idle none =
+    let at : ℕ = next_entry (present s) in
+    let read : AreIdle [] at (book_read t s.scene.book x at) = read_idle [] at t s.scene.book x (idle_for [] s.entries at s.scene.book (omega arith) idle) in
+    silent at [] (book_read t s.scene.book x at) s.scene.items (idle_end at (book_read t s.scene.book x at) read) none
+
+plain_said : (s : State) (o : Origin) (conn tag fid opening count : ℕ) → AreIdle [] s.entries s.scene.book → s.scene.items ≡ []
+    → said (present s) (kind.Asks conn tag) (plain_read (present s) o fid opening count) ≡ if_said conn tag opening (read_said s.tables s.scene.book (asker_of conn tag opening count))
+unfolding task_deeds task_refusal
+plain_said s o conn tag fid opening count idle none =
+    let own : List Response = if_said conn tag opening (read_said s.tables s.scene.book (asker_of conn tag opening count)) in
+    ap (λ (xs : List Response). own ++ xs) (read_served s s.tables (asker_of conn tag opening count) idle none) ∙ append-nil own
+
+-- nothing is said to one that must wait
+waits_for : (b : BookState) (x : Asker) (full waits : Bool) → said_to full (cond waits Waits (Now (piece_for b x))) ≡ None → waits ≡ true
+waits_for b x full true h = refl
+waits_for b x true false h = absurd cc
+waits_for b x false false h = absurd cc
+
+must_wait_for : (t : Tables) (b : BookState) (x : Asker) (living : Bool)
+    → cond living (said_to (is_full t x.conn) (asked_of b x)) (Some (r.Error (refusal_text refusal.WindowDeleted))) ≡ None → read_waits b x ≡ true
+must_wait_for t b x true h = waits_for b x (is_full t x.conn) (read_waits b x) h
+must_wait_for t b x false h = absurd cc
+
+plain_waits : (s : State) (o : Origin) (conn tag fid opening count : ℕ) → AreIdle [] s.entries s.scene.book → s.scene.items ≡ []
+    → read_said s.tables s.scene.book (asker_of conn tag opening count) ≡ None
+    → list_any (is_waiting conn tag) (tables_after (present s) (kind.Asks conn tag) (plain_read (present s) o fid opening count)).waiting ≡ true
+unfolding task_deeds task_refusal
+plain_waits s o conn tag fid opening count idle none waits =
+    let x : Asker = asker_of conn tag opening count in
+    let d : Doing = plain_read (present s) o fid opening count in
+    let w : Waiting = record { conn = conn; tag = tag; fid = fid } in
+    let quiet : said (present s) (kind.Asks conn tag) d ≡ [] = plain_said s o conn tag fid opening count idle none ∙ ap (if_said conn tag opening) waits in
+    let has : Tables → Type 0 = λ t. list_any (is_waiting conn tag) t.waiting ≡ true in
+    let there : has (waits_unless None s.tables conn tag fid) =
+    list_any-append (is_waiting conn tag) s.tables.waiting (w ∷ [])
+    ∙ or_second (list_any (is_waiting conn tag) s.tables.waiting) ((eqb conn conn && eqb tag tag) || false) (or_first (eqb conn conn && eqb tag tag) false (same_key conn tag))
+    in
+    subst (λ (xs : List Response). has (ended (waits_unless (read_said s.tables s.scene.book x) s.tables conn tag fid) xs)) (sym quiet)
+    (subst (λ (o : Option RBody). has (waits_unless o s.tables conn tag fid)) (sym waits) there)
+
+-- what is said to one at once
+said_answers : (asked : TBody) (b : BookState) (x : Asker) (full waits : Bool) (body : RBody) → kind_t asked ≡ 116
+    → said_to full (cond waits Waits (Now (piece_for b x))) ≡ Some body → IsAnswerTo asked body
+said_answers asked b x true true body kind is = let same : r.Error (refusal_text refusal.TooManyWaitingReads) ≡ body = cc in inr (refusal.TooManyWaitingReads, sym same)
+said_answers asked b x false true body kind is = absurd cc
+said_answers asked b x true false body kind is =
+    let same : r.Read (piece_for b x).bytes ≡ body = cc in subst (IsAnswerTo asked) same (inl (ap (λ (n : ℕ). n + 1) (sym kind)))
+said_answers asked b x false false body kind is =
+    let same : r.Read (piece_for b x).bytes ≡ body = cc in subst (IsAnswerTo asked) same (inl (ap (λ (n : ℕ). n + 1) (sym kind)))
+
+read_answers : (asked : TBody) (t : Tables) (b : BookState) (x : Asker) (living : Bool) (body : RBody) → kind_t asked ≡ 116
+    → cond living (said_to (is_full t x.conn) (asked_of b x)) (Some (r.Error (refusal_text refusal.WindowDeleted))) ≡ Some body → IsAnswerTo asked body
+read_answers asked t b x true body kind is = said_answers asked b x (is_full t x.conn) (read_waits b x) body kind is
+read_answers asked t b x false body kind is = let same : r.Error (refusal_text refusal.WindowDeleted) ≡ body = cc in inr (refusal.WindowDeleted, sym same)
+
+-- ---- each message
+
+stepped_tables : (s : State) (conn : ℕ) (msg : TMsg) → (step s (event.Msg conn msg)).tables ≡ tables_after (present s) (kind.Asks conn msg.tag) (doing_of (present s) (event.Msg conn msg))
+unfolding step
+stepped_tables s conn msg = refl
+
+read_by : (before : List Event) (conn : ℕ) (msg : TMsg) (o : Origin) (fid opening count : ℕ) (said_now : Option RBody) → kind_t msg.body ≡ 116
+    → doing_of (present_after before) (event.Msg conn msg) ≡ plain_read (present_after before) o fid opening count
+    → read_said (run before).tables (run before).scene.book (asker_of conn msg.tag opening count) ≡ said_now → ReadsOnce before conn msg opening count said_now
+read_by before conn msg o fid opening count (Some body) kind does is =
+    let s : State = run before in
+    let all : said_after before (event.Msg conn msg) ≡ if_said conn msg.tag opening (Some body) =
+    ap (said (present s) (kind.Asks conn msg.tag)) does ∙ plain_said s o conn msg.tag fid opening count (run_idle before) (no_items before) ∙ ap (if_said conn msg.tag opening) is
+    in
+    (read_answers msg.body s.tables s.scene.book (asker_of conn msg.tag opening count) (is_living s.scene.book opening) body kind is, all)
+read_by before conn msg o fid opening count None kind does is =
+    let s : State = run before in
+    let e : Event = event.Msg conn msg in
+    let has : Tables → Type 0 = λ t. list_any (is_waiting conn msg.tag) t.waiting ≡ true in
+    let left : has (tables_after (present s) (kind.Asks conn msg.tag) (doing_of (present s) e)) =
+    subst (λ (d : Doing). has (tables_after (present s) (kind.Asks conn msg.tag) d)) (sym does) (plain_waits s o conn msg.tag fid opening count (run_idle before) (no_items before) is)
+    in
+    record {
+      silent = ap (said (present s) (kind.Asks conn msg.tag)) does ∙ plain_said s o conn msg.tag fid opening count (run_idle before) (no_items before) ∙ ap (if_said conn msg.tag opening) is;
+      waits = subst (λ (t : State). has t.tables) (sym (run-push before e)) (subst has (sym (stepped_tables s conn msg)) left);
+      must = must_wait_for s.tables s.scene.book (asker_of conn msg.tag opening count) (is_living s.scene.book opening) is;
+    }
+
+reads_by : (before : List Event) (conn : ℕ) (msg : TMsg) (fid opening count : ℕ) → IsWell (run before) → kind_t msg.body ≡ 116
+    → (doing_of (present_after before) (event.Msg conn msg)).answer ≡ Some (Reads fid opening count)
+    → ReadsOnce before conn msg opening count (read_said (run before).tables (run before).scene.book (asker_of conn msg.tag opening count))
+reads_by before conn msg fid opening count well kind is =
+    let s : State = run before in
+    let p : Present = present s in
+    let d : Reaction = reaction_at p conn msg in
+    let o : Origin = message_origin s.tables conn msg.body in
+    let same : d.answer ≡ Reads fid opening count = message_reads p d o fid opening count is in
+    let sane : IsSane s.tables conn d = reaction_sane s.tables conn (moded s conn well) p.scene.windows (length s.scene.book.owners) msg.body in
+    let reads : ReadsSane s.tables conn d (Reads fid opening count) = subst (ReadsSane s.tables conn d) same sane.1 in
+    read_by before conn msg o fid opening count (read_said s.tables s.scene.book (asker_of conn msg.tag opening count)) kind
+    (reading p o d.effect d.events d.changes d.demand d.answer fid opening count reads.0 reads.2 reads.3 reads.4 same) refl
+
+answered_by : (before : List Event) (conn : ℕ) (msg : TMsg) (a : Option Answer) → IsWell (run before) → (doing_of (present_after before) (event.Msg conn msg)).answer ≡ a
+    → HasAnswer msg.body a → IsAnsweredBy before conn msg a
+answered_by before conn msg None well is has = has
+answered_by before conn msg (Some (Says body)) well is has =
+    (has, says_once (run before) conn msg.tag (doing_of (present_after before) (event.Msg conn msg)) body is (run_idle before))
+answered_by before conn msg (Some (Reads fid opening count)) well is has = reads_by before conn msg fid opening count well has is
+
+pub messages_answered : EachIsAnswered → (journal : List Event) → IsPlayed enabled journal → MessagesAreAnswered journal
+messages_answered law journal played before behind conn msg is =
+    let e : Event = event.Msg conn msg in
+    let parts : ArePlayed enabled [] before × ArePlayed enabled ([] ++ before) (e ∷ behind) = played_parts [] before (e ∷ behind) (subst (IsPlayed enabled) (sym is) played) in
+    answered_by before conn msg (doing_of (present_after before) e).answer (well_after before parts.0) refl (law (present_after before) conn msg)

@@ -1,0 +1,67 @@
+-- Each message is answered in its step, or is a read that waits.
+use Rattle.std.specs.Prelude.{◌≡◌, ◌⊎◌, ℕ, ◌+◌, ◌||◌, Bool, true, List, [], ◌∷◌, ◌++◌, All, Option, Some, None}
+use Rattle.std.specs.List.{list_any}
+use Rattle.ninep_types.specs.declared.message.RBody.{RBody}
+use Rattle.ninep_types.specs.declared.message.TBody.{TBody}
+use Rattle.ninep_types.specs.declared.message.TMsg.{TMsg}
+use Rattle.ninep_types.specs.Spelling.{kind_t, kind_r}
+use Rattle.fid_table.specs.Tables.{is_waiting}
+use Rattle.wait_queue.specs.Reads.{is_read}
+use Rattle.event_book.specs.BookState.{read_waits}
+use Rattle.am_journal.specs.declared.event.Event.{Event}
+use Rattle.am_journal.specs.declared.event.Event.TheVariants as event
+use Rattle.core_fids.specs.declared.effect.Answer.{Answer}
+use Rattle.core_fids.specs.declared.effect.Answer.TheVariants.{Says, Reads}
+use Rattle.core_answers.specs.Laws.{IsRefused}
+use Rattle.core_events.specs.declared.response.Response.{Response}
+use Rattle.core_events.specs.Asking.{read_said}
+use Rattle.acme_core.specs.Doings.{doing_of}
+use Rattle.acme_core.specs.Run.{run, present_after}
+use Rattle.acme_core.specs.Stages.{response, read_response, asker_of}
+use Rattle.acme_core.specs.States.{State}
+use Rattle.core_laws.specs.Saying.{said_after}
+
+-- its own R message, whose type byte is one more, or Rerror with the text of a named refusal
+abbrev pub IsAnswerTo : TBody → RBody → Type 0
+IsAnswerTo asked body = (kind_r body ≡ kind_t asked + 1) ⊎ IsRefused body
+
+-- a read with this tag waits on this connection
+abbrev pub waits_with : State → ℕ → ℕ → Bool
+waits_with s conn tag = list_any (is_waiting conn tag) s.tables.waiting || list_any (is_read conn tag) s.scene.book.reads
+
+-- what is said to a read that waited
+abbrev pub TellsAWait : State → Response → Type 0
+TellsAWait s x = waits_with s x.conn x.message.tag ≡ true
+
+-- The message is answered by this, once. All else that is said answers reads that waited before.
+pub record SaysOnce (s : State) (conn tag : ℕ) (body : RBody) (said : List Response) : Type 0 where
+  pub front : List Response
+  pub rest : List Response
+  pub is : said ≡ front ++ response conn tag body ∷ rest
+  pub others : All (TellsAWait s) (front ++ rest)
+
+-- It waits: nothing is said, and a read with its tag waits from then on. Its count isn't 0, and its opening has no carry, its window no
+-- item that nobody took (`must_wait` of wait_queue).
+pub record Waits (before : List Event) (conn : ℕ) (msg : TMsg) (opening count : ℕ) : Type 0 where
+  pub silent : said_after before (event.Msg conn msg) ≡ []
+  pub waits : list_any (is_waiting conn msg.tag) (run (before ++ event.Msg conn msg ∷ [])).tables.waiting ≡ true
+  pub must : read_waits (run before).scene.book (asker_of conn msg.tag opening count) ≡ true
+
+-- A read of an event file is answered at once and nothing else is said, or it waits.
+abbrev pub ReadsOnce : List Event → ℕ → TMsg → ℕ → ℕ → Option RBody → Type 0
+ReadsOnce before conn msg opening count (Some body) =
+    IsAnswerTo msg.body body × (said_after before (event.Msg conn msg) ≡ read_response conn msg.tag opening body ∷ [])
+ReadsOnce before conn msg opening count None = Waits before conn msg opening count
+
+abbrev pub IsAnsweredBy : List Event → ℕ → TMsg → Option Answer → Type 0
+IsAnsweredBy before conn msg None = ⊥
+IsAnsweredBy before conn msg (Some (Says body)) =
+    IsAnswerTo msg.body body × SaysOnce (run before) conn msg.tag body (said_after before (event.Msg conn msg))
+IsAnsweredBy before conn msg (Some (Reads fid opening count)) =
+    ReadsOnce before conn msg opening count (read_said (run before).tables (run before).scene.book (asker_of conn msg.tag opening count))
+
+-- Each message of the journal is answered by its own R message or by Rerror, in its step and once, or is a read that waits.
+abbrev pub MessagesAreAnswered : List Event → Type 0
+MessagesAreAnswered journal =
+    (before behind : List Event) (conn : ℕ) (msg : TMsg) → before ++ event.Msg conn msg ∷ behind ≡ journal
+    → IsAnsweredBy before conn msg (doing_of (present_after before) (event.Msg conn msg)).answer

@@ -1,0 +1,70 @@
+-- Items that are written back, each acted on once, over journals.
+use Rattle.std.specs.Prelude.{◌≡◌, ℕ, ◌+◌, true, List, [], ◌∷◌, ◌++◌, length, Option, Some, None, Ok}
+use Rattle.ninep_types.specs.declared.message.RBody.TheVariants as r
+use Rattle.ninep_types.specs.declared.message.TBody.TheVariants as t
+use Rattle.acme_tree.specs.declared.node.Node.TheVariants.{File}
+use Rattle.acme_tree.specs.declared.node.WinFile.TheVariants.{Event as EventsFile}
+use Rattle.fid_table.specs.declared.types.Fid.{Fid}
+use Rattle.fid_table.specs.Tables.{fid_of}
+use Rattle.win_events.specs.Back.{is_action, back_of}
+use Rattle.win_events.specs.declared.item.BackMsg.{BackMsg}
+use Rattle.win_events.specs.declared.item.Item.{Item}
+use Rattle.win_events.specs.declared.item.Origin.TheVariants.{F}
+use Rattle.event_book.specs.BookState.{BookState, is_open_window, item_of, found_of}
+use Rattle.event_book.specs.Finding.{fits}
+use Rattle.am_journal.specs.declared.event.Event.{Event}
+use Rattle.am_journal.specs.declared.event.Event.TheVariants as event
+use Rattle.core_fids.specs.declared.effect.Answer.TheVariants.{Says}
+use Rattle.core_events.specs.declared.closing.BackItem.{BackItem}
+use Rattle.core_exec.specs.Acting.{act_on_deeds}
+use Rattle.acme_core.specs.Doings.{Doing, doing_of}
+use Rattle.acme_core.specs.Run.{run, present_after}
+use Rattle.core_laws.specs.Laws.{OnlyTells, IsBackAt, clicked_window, written_by}
+use Rattle.core_laws.specs.Saying.{said_after}
+
+-- The bytes name the item of this number: of the window's items that were taken, and not written back, the last that fits the message.
+-- It is one of a type that can be written back: X, x, L or l.
+pub record IsNamed (book : BookState) (w : ℕ) (bytes : List ℕ) (number : ℕ) : Type 0 where
+  pub message : BackMsg
+  pub is : back_of bytes ≡ Some message
+  pub found : found_of book w message ≡ Ok number
+  pub item : Item
+  pub there : item_of book w number ≡ Some item
+  pub fit : fits message item ≡ true
+  pub action : is_action item.sort ≡ true
+
+abbrev pub numbered : ℕ → ℕ → BackItem
+numbered w number = record { window = w; number = number }
+
+-- An entry writes back the item that the bytes name, and does that item's own text, as from a file; what it does besides is nothing. From
+-- then on the item's life names the entry.
+pub record IsActedOn (before journal : List Event) (e : Event) (w : ℕ) (bytes : List ℕ) : Type 0 where
+  pub number : ℕ
+  pub named : IsNamed (run before).scene.book w bytes number
+  pub writes : written_by before e ≡ Some (numbered w number)
+  pub deeds : (doing_of (present_after before) e).deeds ≡ act_on_deeds (record { at = length before + 1; origin = F }) w number (present_after before).scene
+  pub origin : (doing_of (present_after before) e).origin ≡ F
+  pub life : IsBackAt (run journal).scene.book (numbered w number) (length before + 1)
+
+abbrev pub write_of : ℕ → ℕ → ℕ → ℕ → List ℕ → Event
+write_of conn tag fid offset bytes = event.Msg conn (record { tag = tag; body = t.Write fid offset bytes })
+
+-- Each Twrite to a window's event file that is answered by Rwrite.
+abbrev pub WritesAreActedOn : List Event → Type 0
+WritesAreActedOn journal =
+    (before behind : List Event) (conn tag fid offset count w : ℕ) (bytes : List ℕ) (f : Fid) → before ++ write_of conn tag fid offset bytes ∷ behind ≡ journal
+    → fid_of (run before).tables conn fid ≡ Some f → f.node ≡ File w EventsFile
+    → (doing_of (present_after before) (write_of conn tag fid offset bytes)).answer ≡ Some (Says (r.Write count))
+    → IsActedOn before journal (write_of conn tag fid offset bytes) w bytes
+
+-- Laws of items: each is acted on once.
+pub record ActedOnOnce (journal : List Event) : Type 0 where
+  pub writes : WritesAreActedOn journal
+  -- An item that an entry writes back names that entry from then on,
+  pub named : (before behind : List Event) (e : Event) (b : BackItem) → before ++ e ∷ behind ≡ journal → written_by before e ≡ Some b → IsBackAt (run journal).scene.book b (length before + 1)
+  -- so no later entry writes it back.
+  pub once : (before between behind : List Event) (e f : Event) (b : BackItem) → before ++ e ∷ (between ++ f ∷ behind) ≡ journal → written_by before e ≡ Some b
+      → written_by (before ++ e ∷ between) f ≡ Some b → ⊥
+  -- An Exec or a Look in a window whose event file is open is told by its item, and does nothing else.
+  pub told : (before behind : List Event) (e : Event) (w : ℕ) → before ++ e ∷ behind ≡ journal → clicked_window e ≡ Some w → is_open_window (run before).scene.book w ≡ true
+      → OnlyTells (run before) (run (before ++ e ∷ [])) (said_after before e) w

@@ -1,0 +1,25 @@
+//! All laws of journals together.
+
+ghost use Rattle.core_laws.specs.Journals.{JournalsAreLawful};
+ghost use Rattle.core_laws.specs.Moving.{ExecutedMovesAreMoves};
+
+use acme_core::messages_are_answered;
+use core_scene::deeds_show;
+use core_windows::group_numbers_never_fall;
+use win_text::ranges_are_inside;
+
+/// All laws hold of each journal of the editor, whose events are lawful, were enabled at their places and could be done there.
+pub fn journals_are_lawful()
+    ensures { JournalsAreLawful }
+{
+    deeds_show();
+    ranges_are_inside();
+    group_numbers_never_fall();
+    messages_are_answered();
+}
+
+/// Executing the built-in Undo, or Redo, in a window whose event file isn't open does just that.
+#[tactic(auto, using(crate::proofs::Moves::executing))]
+pub fn executed_moves_are_moves()
+    ensures { ExecutedMovesAreMoves }
+{}
