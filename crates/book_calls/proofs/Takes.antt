@@ -147,7 +147,12 @@ front_get [] ys k v h = absurd (none_some v h)
 front_get (x ∷ xs) ys zero v h = h
 front_get (x ∷ xs) ys (suc k) v h = front_get xs ys k v h
 
-back_get : {A : Type 0} (xs ys : List A) (k : ℕ) → slice_get (xs ++ ys) (length xs + k) ≡ slice_get ys k
+-- the place in the second list, counted from the first
+abbrev behind : {A : Type 0} → List A → ℕ → ℕ
+behind [] k = k
+behind (x ∷ xs) k = suc (behind xs k)
+
+back_get : {A : Type 0} (xs ys : List A) (k : ℕ) → slice_get (xs ++ ys) (behind xs k) ≡ slice_get ys k
 back_get [] ys k = refl
 back_get (x ∷ xs) ys k = back_get xs ys k
 
@@ -165,7 +170,7 @@ has_front g more n item opening h = record {
 
 has_back : (g more : Answers) (n : ℕ) (item : Item) (opening : ℕ) → HasItsAnswer more n item opening → HasItsAnswer (g ++ more) n item opening
 has_back g more n item opening h = record {
-  place = length g + h.place;
+  place = behind g h.place;
   asker = h.asker;
   piece = h.piece;
   is = back_get {A = Asker × Piece} g more h.place ∙ h.is;

@@ -163,7 +163,12 @@ front_get [] ys k v h = absurd (none_some v h)
 front_get (x ∷ xs) ys zero v h = h
 front_get (x ∷ xs) ys (suc k) v h = front_get xs ys k v h
 
-back_get : (xs ys : List Telling) (k : ℕ) → slice_get (xs ++ ys) (length xs + k) ≡ slice_get ys k
+-- the place in the second list, counted from the first
+abbrev behind : List Telling → ℕ → ℕ
+behind [] k = k
+behind (x ∷ xs) k = suc (behind xs k)
+
+back_get : (xs ys : List Telling) (k : ℕ) → slice_get (xs ++ ys) (behind xs k) ≡ slice_get ys k
 back_get [] ys k = refl
 back_get (x ∷ xs) ys k = back_get xs ys k
 
@@ -177,7 +182,7 @@ has_front xs ys w n item o at h =
     record { place = h.place; rread = h.rread; is = front_get xs ys h.place (as_telling h.rread (as_item w n)) h.is; its = h.its }
 
 has_back : (xs ys : List Telling) (w n : ℕ) (item : Item) (o at : ℕ) → HasItsRread ys w n item o at → HasItsRread (xs ++ ys) w n item o at
-has_back xs ys w n item o at h = record { place = length xs + h.place; rread = h.rread; is = back_get xs ys h.place ∙ h.is; its = h.its }
+has_back xs ys w n item o at h = record { place = behind xs h.place; rread = h.rread; is = back_get xs ys h.place ∙ h.is; its = h.its }
 
 -- an answer of this entry is told as the Rread of the item
 told_answer : (at : ℕ) (owners : List ℕ) (g : Answers) (w n o a : ℕ) (item : Item) → a ≡ at → window_of owners o ≡ w → HasItsAnswer g n item o → HasItsRread (map (told_by at owners) g) w n item o a
@@ -227,9 +232,9 @@ own journal = record {
 
 pub lawful : EventsAreLawful
 lawful journal = record {
-  calls = λ before behind e is. entry before e;
+  calls = λ before after e is. entry before e;
   order = in_order (book_after journal) (lawful_after journal);
-  drops = λ before behind e is w n at item there. dropped before e w n at item there;
+  drops = λ before after e is w n at item there. dropped before e w n at item there;
   stays = λ before prefix. subst (λ (l : List Event). KeepsEnded (book_after before) (book_after l)) prefix.1 (stays_from before prefix.0);
   gets = gets journal;
   windows = λ w n o at item h. taken_window (book_after journal) w n o at item (lawful_after journal) h;

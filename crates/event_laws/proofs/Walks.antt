@@ -237,5 +237,4 @@ grown p k d =
     in
     let deletes : Walks at first ((a ++ b) ++ c) put = walk_silent at first (a ++ b) c put puts (no_deletions at p.tables ends) in
     let served : Walks at first (((a ++ b) ++ c) ++ e) (book_served_all at put) = walk_most at first (length put.reads) ((a ++ b) ++ c) put deletes in
-    subst (λ (l : List Response). Walks at first l (grown_book p k d)) (append_assoc (a ++ b) c e ∙ append_assoc a b (c ++ e))
-    (walk_all at first (((a ++ b) ++ c) ++ e) (book_served_all at put) (ending ends items) served)
+    walk_all at first (((a ++ b) ++ c) ++ e) (book_served_all at put) (ending ends items) served

@@ -7,7 +7,6 @@ ghost use Rattle.event_laws.specs.Laws.{EventsAreLawful};
 /// written back or dropped stays so. What an opening was given in Rreads is the joined spelling of the items that it took, but for an end
 /// of the last one's: what it has left while it is open. Each item that was taken has an Rread of its own, at that entry and on that
 /// opening, with a non-empty front of its spelling. And what an entry does to the event files it does by calls of the book alone.
-#[tactic(auto, using(crate::proofs::Journals::lawful))]
 pub fn events_are_lawful()
     ensures { EventsAreLawful }
 {}
