@@ -1,5 +1,5 @@
 -- What is dropped, and what ended, over each call.
-use Rattle.std.proofs.Common.{◌≡◌, ◌≢◌, ℕ, suc, Bool, true, false, nat_lt, List, [], ◌∷◌, length, refl, arith, ◌⊎◌, inl, inr}
+use Rattle.std.proofs.Common.{◌≡◌, ℕ, suc, false, nat_lt, List, [], ◌∷◌, length, refl, arith, inl, inr}
 use Rattle.wait_queue.specs.Carry.{OpenCarry}
 use Rattle.event_book.specs.declared.lives.Recorded.{Recorded}
 use Rattle.event_book.specs.WindowFiles.{EventFile, has_opening, with_written, left, deleted, file_of}
@@ -8,7 +8,7 @@ use Rattle.event_book.specs.Laws.{IsLawful, DropsNone, DropsAt, KeepsEnded}
 use Rattle.event_book.proofs.TableLemmas.{true_false, lt_true}
 use Rattle.event_book.proofs.DropLemmas.{only_closes}
 use Rattle.event_book.proofs.LifeLemmas.{ended_stays}
-use Rattle.book_calls.specs.Calls.{Making, Add, Put, Ask, Serve, Ending, Written, Cancel, Leave, Delete, CanMake, made, Answers, given, ended}
+use Rattle.book_calls.specs.Calls.{Making, Add, Put, Ask, Serve, Ending, Written, Cancel, Leave, Delete, CanMake, made, Answers, ended}
 use Rattle.book_calls.proofs.Items.{with_files}
 use Rattle.book_calls.proofs.Steps.{IsKept}
 

@@ -1,10 +1,10 @@
 -- The laws of the calls of one entry.
-use Rattle.std.proofs.Common.{◌≡◌, ℕ, ◌≤◌, List, [], ◌++◌, sym, subst, arith, append-nil, ◌⊎◌, inl, inr}
+use Rattle.std.proofs.Common.{◌≡◌, ℕ, List, [], ◌++◌, sym, subst, arith, append-nil, ◌⊎◌, inl}
 use Rattle.win_events.specs.declared.item.Item.{Item}
-use Rattle.event_book.specs.BookState.{BookState, file_on, recorded_of}
+use Rattle.event_book.specs.BookState.{BookState, file_on}
 use Rattle.event_book.specs.Laws.{DropsNone, DropsAt, KeepsEnded}
-use Rattle.book_calls.specs.Calls.{Making, Ending, Answers, CanMakeAll, all_made, all_given, bytes_to, CanEndAll, all_ended, IsByCalls}
-use Rattle.book_calls.specs.Laws.{Gets, WasTaken, HasItsAnswer, IsBefore, IsLawfulEntry, CallsAreLawful}
+use Rattle.book_calls.specs.Calls.{Making, Ending, Answers, CanMakeAll, all_made, all_given, bytes_to, CanEndAll, all_ended}
+use Rattle.book_calls.specs.Laws.{Gets, WasTaken, HasItsAnswer, IsLawfulEntry, CallsAreLawful}
 use Rattle.book_calls.proofs.Steps.{IsKept, over_makes, over_ends, kept_makes, kept_ends}
 use Rattle.book_calls.proofs.Openings.{gets_on, gets_ended}
 use Rattle.book_calls.proofs.Drops.{drops_on, drops_ended, stays_on, stays_ended}

@@ -1,18 +1,16 @@
 -- What an opening was given, over each call.
-use Rattle.std.proofs.Common.{◌≡◌, ◌≢◌, ◌==◌, ◌||◌, ℕ, zero, suc, ◌+◌, ◌-◌, ◌≤◌, Bool, true, false, not, cond, List, [], ◌∷◌, ◌++◌, length, slice_get, Option, Some, None, IfSome, refl, sym, ap, ◌∙◌, subst, arith, add-one, append_assoc, append-nil}
+use Rattle.std.proofs.Common.{◌≡◌, ◌≢◌, ◌==◌, ◌||◌, ℕ, zero, suc, ◌+◌, ◌-◌, ◌≤◌, true, false, not, cond, List, [], ◌∷◌, ◌++◌, length, slice_get, Option, Some, None, IfSome, refl, sym, ap, ◌∙◌, subst, arith, add-one, append_assoc, append-nil}
 use Rattle.std.specs.Option.{option_map, unwrap_or}
 use Rattle.std.specs.List.{list_any}
 use Rattle.std.proofs.lemmas.Bool.Decides.{nat_tests}
 use Rattle.win_events.specs.Spelling.{spelling}
 use Rattle.win_events.specs.declared.item.Item.{Item}
-use Rattle.win_events.specs.declared.item.Life.{Life}
 use Rattle.win_events.specs.declared.item.Life.TheVariants.{Pending, Taken, Back, Dropped}
 use Rattle.wait_queue.specs.Carry.{OpenCarry, carry_of, without_opening, is_of}
 use Rattle.wait_queue.specs.WaitState.{piece_of}
 use Rattle.wait_queue.specs.declared.types.Asker.{Asker}
 use Rattle.wait_queue.specs.declared.types.Piece.{Piece}
 use Rattle.wait_queue.proofs.LawLemmas.{leaves}
-use Rattle.event_book.specs.Lives.{take_first}
 use Rattle.event_book.specs.WindowFiles.{EventFile, queue_of, is_enlisted, enlisted, with_item, items_after, given as after_given, with_written, left_with, left, deleted, file_of, with_file}
 use Rattle.event_book.specs.BookState.{BookState, window_of, file_on, is_living, next_opening, read_waits, piece_for, after_add, after_answer, after_ask, next_of, after_next}
 use Rattle.event_book.specs.Laws.{IsOwned, AllNamed, named, took, spelled_in, last_spelled, IsRest, IsLawful}

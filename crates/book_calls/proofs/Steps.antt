@@ -1,10 +1,10 @@
 -- A book stays lawful over the calls of an entry, and what each of them keeps is kept over all.
-use Rattle.std.proofs.Common.{◌≡◌, ℕ, ◌≤◌, Bool, true, false, cond, List, [], ◌∷◌, ◌++◌, Option, Some, None, sym, subst, append_assoc, append-nil, arith}
+use Rattle.std.proofs.Common.{ℕ, ◌≤◌, true, false, cond, List, [], ◌∷◌, ◌++◌, Option, Some, None, sym, subst, append_assoc, append-nil, arith}
 use Rattle.wait_queue.specs.declared.types.Asker.{Asker}
 use Rattle.event_book.specs.BookState.{BookState, read_waits, after_answer, after_ask, next_of, after_next}
 use Rattle.event_book.specs.Laws.{IsLawful}
 use Rattle.event_book.proofs.LawfulLemmas.{lawful-add, lawful-put_in, lawful-ask, lawful-serve, lawful-written_back, lawful-cancel, lawful-leave, lawful-delete}
-use Rattle.book_calls.specs.Calls.{Making, Add, Put, Ask, Serve, Ending, Written, Cancel, Leave, Delete, CanMake, made, Answers, given, CanMakeAll, all_made, all_given, CanEnd, ended, CanEndAll, all_ended}
+use Rattle.book_calls.specs.Calls.{Making, Add, Put, Ask, Serve, Ending, Written, Cancel, Leave, Delete, CanMake, made, Answers, given, CanMakeAll, all_made, all_given, ended, CanEndAll, all_ended}
 
 -- a lawful book up to an entry
 pub record IsKept (at : ℕ) (s : BookState) : Type 0 where

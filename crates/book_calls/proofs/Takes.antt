@@ -1,18 +1,18 @@
 -- Who took an item, over each call.
-use Rattle.std.proofs.Common.{◌≡◌, ◌≢◌, ◌==◌, ℕ, zero, suc, ◌+◌, Bool, true, false, cond, List, [], ◌∷◌, ◌++◌, length, take, slice_get, Option, Some, None, IfSome, refl, sym, ap, ◌∙◌, subst, arith, ◌⊎◌, inl, inr}
+use Rattle.std.proofs.Common.{◌≡◌, ◌≢◌, ◌==◌, ℕ, zero, suc, ◌+◌, true, false, cond, List, [], ◌∷◌, ◌++◌, take, slice_get, Option, Some, None, IfSome, refl, sym, ap, ◌∙◌, subst, arith, ◌⊎◌, inl, inr}
 use Rattle.std.specs.Option.{option_map}
 use Rattle.std.proofs.lemmas.Bool.Decides.{nat_tests}
 use Rattle.win_events.specs.Spelling.{spelling}
 use Rattle.win_events.specs.declared.item.Item.{Item}
 use Rattle.win_events.specs.declared.item.Life.{Life}
 use Rattle.win_events.specs.declared.item.Life.TheVariants.{Pending, Taken, Back, Dropped}
-use Rattle.wait_queue.specs.Carry.{OpenCarry, without_opening}
+use Rattle.wait_queue.specs.Carry.{without_opening}
 use Rattle.wait_queue.specs.declared.types.Asker.{Asker}
 use Rattle.wait_queue.specs.declared.types.Piece.{Piece}
 use Rattle.event_book.specs.declared.lives.Recorded.{Recorded}
 use Rattle.event_book.specs.Lives.{fresh, drop_life, with_drop, back_life, with_back, numbered}
-use Rattle.event_book.specs.WindowFiles.{EventFile, enlisted, with_item, with_written, left, deleted, file_of}
-use Rattle.event_book.specs.BookState.{BookState, window_of, file_on, recorded_of, next_opening, read_waits, piece_for, after_answer, after_ask, next_of, without_next, after_next}
+use Rattle.event_book.specs.WindowFiles.{enlisted, with_item, with_written, left, deleted, file_of}
+use Rattle.event_book.specs.BookState.{BookState, window_of, file_on, recorded_of, next_opening, read_waits, piece_for, after_answer, after_ask, next_of, after_next}
 use Rattle.event_book.specs.Laws.{IsOwned, AllNamed, named, IsLawful, IsTakenBy}
 use Rattle.event_book.proofs.TableLemmas.{eq_from_test}
 use Rattle.event_book.proofs.FidLemmas.{taken_with, none_taken}

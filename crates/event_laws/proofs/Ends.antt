@@ -1,9 +1,9 @@
 -- What an entry ends of the event files is ended by calls of the book.
-use Rattle.std.proofs.Common.{◌≡◌, ℕ, Bool, true, false, cond, List, [], ◌∷◌, fold, Option, Some, None, refl}
+use Rattle.std.proofs.Common.{◌≡◌, ℕ, true, false, cond, List, [], ◌∷◌, fold, Option, Some, None, refl}
 use Rattle.fid_table.specs.declared.types.Fid.{Fid}
 use Rattle.fid_table.specs.Tables.{Tables, fid_of, fids_of}
 use Rattle.event_book.specs.BookState.{BookState, is_living, is_taken_of, after_written, after_leave, after_delete}
-use Rattle.book_calls.specs.Calls.{Ending, Written, Cancel, Leave, Delete}
+use Rattle.book_calls.specs.Calls.{Written, Cancel, Leave, Delete}
 use Rattle.book_calls.proofs.Trails.{IsEnded, none_ended, one_ended}
 use Rattle.core_scene.specs.Scenes.{deleted_by}
 use Rattle.core_fids.specs.declared.effect.Effect.{Effect}

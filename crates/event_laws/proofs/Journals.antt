@@ -1,5 +1,5 @@
 -- The laws of all journals: each entry keeps them.
-use Rattle.std.proofs.Common.{◌≡◌, ℕ, zero, suc, ◌+◌, ◌==◌, ◌&&◌, not, Bool, true, false, cond, List, [], ◌∷◌, ◌++◌, length, map, slice_get, Option, Some, None, refl, sym, ap, subst, ◌∙◌, append_assoc, append-nil, arith, ◌⊎◌, inl, inr}
+use Rattle.std.proofs.Common.{◌≡◌, ℕ, zero, suc, ◌+◌, ◌==◌, not, true, false, cond, List, [], ◌∷◌, ◌++◌, length, map, slice_get, Option, Some, None, refl, sym, ap, subst, ◌∙◌, append_assoc, append-nil, arith, ◌⊎◌, inl, inr}
 use Rattle.std.specs.Option.{option_map}
 use Rattle.std.proofs.lemmas.Bool.{and_parts}
 use Rattle.win_events.specs.declared.item.Item.{Item}
@@ -8,21 +8,20 @@ use Rattle.wait_queue.specs.declared.types.Asker.{Asker}
 use Rattle.wait_queue.specs.declared.types.Piece.{Piece}
 use Rattle.event_book.specs.declared.lives.Recorded.{Recorded}
 use Rattle.event_book.specs.Lives.{pends, numbered}
-use Rattle.event_book.specs.BookState.{BookState, window_of, file_on, is_open_window}
+use Rattle.event_book.specs.BookState.{window_of, file_on, is_open_window}
 use Rattle.event_book.specs.WindowFiles.{file_of}
 use Rattle.event_book.specs.Laws.{IsLawful, IsDropped, KeepsEnded, none_pending}
 use Rattle.event_book.proofs.FidLemmas.{in_order}
 use Rattle.book_calls.specs.Calls.{Answers, bytes_to}
-use Rattle.book_calls.specs.Laws.{Gets, WasTaken, HasItsAnswer, IsLawfulEntry}
+use Rattle.book_calls.specs.Laws.{Gets, WasTaken, HasItsAnswer}
 use Rattle.book_calls.proofs.Rests.{proper_end}
 use Rattle.book_calls.proofs.Takes.{taken_window}
 use Rattle.am_journal.specs.declared.event.Event.{Event}
-use Rattle.core_events.proofs.Idles.{AreIdle}
 use Rattle.acme_core.specs.Run.{run}
 use Rattle.acme_core.proofs.Idling.{run_idle}
 use Rattle.core_laws.specs.Saying.{said_after}
-use Rattle.event_laws.specs.Rreads.{Rread, rreads_of, rreads_from, rreads, data_on, delivered}
-use Rattle.event_laws.specs.Laws.{book_after, rread_to, IsPending, IsDroppedBy, DroppedAtCloses, GetsItsItems, Telling, IsItsRread, HasItsRread, EachHasItsOwn, EventLaws, EventsAreLawful}
+use Rattle.event_laws.specs.Rreads.{Rread, rreads_of, rreads_from, data_on, delivered}
+use Rattle.event_laws.specs.Laws.{book_after, rread_to, IsPending, IsDroppedBy, GetsItsItems, Telling, HasItsRread, EachHasItsOwn, EventsAreLawful}
 use Rattle.event_laws.proofs.Steps.{entry, entry_laws}
 
 lawful_after : (journal : List Event) → IsLawful (book_after journal)

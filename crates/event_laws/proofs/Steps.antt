@@ -1,8 +1,8 @@
 -- Each entry does what it does to event files by calls of the book.
-use Rattle.std.proofs.Common.{◌≡◌, ℕ, ◌+◌, ◌≤◌, List, [], ◌∷◌, ◌++◌, length, map, sym, subst, ap, ◌∙◌, arith}
+use Rattle.std.proofs.Common.{◌≡◌, ℕ, ◌+◌, List, [], ◌∷◌, ◌++◌, length, map, sym, subst, ap, ◌∙◌, arith}
 use Rattle.am_journal.specs.declared.event.Event.{Event}
 use Rattle.event_book.specs.BookState.{BookState}
-use Rattle.book_calls.specs.Calls.{Answers, all_made, all_ended, CanEndAll, IsByCalls}
+use Rattle.book_calls.specs.Calls.{Answers, all_ended, CanEndAll, IsByCalls}
 use Rattle.book_calls.specs.Laws.{IsBefore, IsLawfulEntry}
 use Rattle.book_calls.proofs.Entries.{lawful}
 use Rattle.book_calls.proofs.Trails.{IsEnded}
@@ -12,11 +12,11 @@ use Rattle.acme_core.specs.Doings.{Doing, doing_of}
 use Rattle.acme_core.specs.Kinds.{kind_of}
 use Rattle.acme_core.specs.Run.{step, run}
 use Rattle.acme_core.specs.Stages.{grown_book, book_after as book_of, said}
-use Rattle.acme_core.specs.States.{Present, State, present, next_entry}
+use Rattle.acme_core.specs.States.{Present, State, present}
 use Rattle.acme_core.proofs.Goes.{run-push, entries_counted}
 use Rattle.acme_core.proofs.Idling.{run_idle}
 use Rattle.core_laws.specs.Saying.{said_after}
-use Rattle.event_laws.specs.Rreads.{Rread, rreads_of}
+use Rattle.event_laws.specs.Rreads.{rreads_of}
 use Rattle.event_laws.specs.Laws.{book_after, rread_to, IsByBook}
 use Rattle.event_laws.proofs.Walks.{Walks, grown}
 use Rattle.event_laws.proofs.Ends.{all_end}

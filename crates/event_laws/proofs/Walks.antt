@@ -1,8 +1,5 @@
 -- What an entry makes of the event files is made by calls of the book, which give the Rreads that it says.
-use Rattle.std.proofs.Common.{◌≡◌, ℕ, zero, suc, Bool, true, false, cond, nat_lt, List, [], ◌∷◌, ◌++◌, length, map, filter, Option, Some, None, refl, sym, ap, ◌∙◌, subst, append_assoc, append-nil, arith}
-use Rattle.std.specs.Option.{option_map}
-use Rattle.std.proofs.lemmas.Bool.Decides.{nat_tests}
-use Rattle.ninep_types.specs.declared.message.RBody.{RBody}
+use Rattle.std.proofs.Common.{◌≡◌, ℕ, zero, suc, Bool, true, false, cond, nat_lt, List, [], ◌∷◌, ◌++◌, length, map, filter, Option, Some, None, refl, sym, ap, ◌∙◌, subst, append_assoc, append-nil}
 use Rattle.ninep_types.specs.declared.message.RBody.TheVariants as r
 use Rattle.fid_table.specs.declared.session.Waiting.{Waiting}
 use Rattle.fid_table.specs.Tables.{Tables}
@@ -10,7 +7,7 @@ use Rattle.wait_queue.specs.declared.types.Asker.{Asker}
 use Rattle.wait_queue.specs.declared.types.Asked.{Asked}
 use Rattle.wait_queue.specs.declared.types.Asked.TheVariants.{Now, Waits}
 use Rattle.wait_queue.specs.declared.types.Piece.{Piece}
-use Rattle.event_book.specs.BookState.{BookState, is_open_window, is_living, read_waits, piece_for, next_of, served_of, after_add, after_put, after_ask, after_serve}
+use Rattle.event_book.specs.BookState.{BookState, is_open_window, is_living, read_waits, piece_for, served_of, after_add, after_put, after_serve}
 use Rattle.event_book.proofs.TableLemmas.{lt_from_test}
 use Rattle.book_calls.specs.Calls.{Making, Add, Put, Ask, Serve, CanMake, made, Answers, if_answered, given}
 use Rattle.book_calls.proofs.Trails.{IsMade, none_made, one_made}
@@ -31,7 +28,7 @@ use Rattle.core_events.specs.declared.response.FeedKind.{FeedKind}
 use Rattle.core_events.specs.declared.response.FeedKind.TheVariants.{Events}
 use Rattle.core_events.specs.declared.response.Response.{Response}
 use Rattle.core_events.specs.Putting.{put_one, put_all, is_ending, put_if_lives, put_living, ending}
-use Rattle.core_events.specs.Responses.{feed_at, error, errors}
+use Rattle.core_events.specs.Responses.{feed_at, errors}
 use Rattle.core_events.specs.Serving.{response_to, then_served, served_most, book_served_most, served_all, book_served_all}
 use Rattle.core_events.specs.Waits.{is_of_fid, is_of_window, clunked, deletions}
 use Rattle.core_events.proofs.Turns.{idle, book_none_more}
