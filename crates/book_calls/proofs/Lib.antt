@@ -1,0 +1,8 @@
+mod Steps
+mod Items
+mod Openings
+mod Drops
+pub mod Takes
+pub mod Entries
+pub mod Rests
+pub mod Trails

@@ -1,0 +1,2 @@
+pub mod Rreads
+pub mod Laws
