@@ -7,12 +7,14 @@ ghost use Rattle.acme_core.specs.Run.{enabled};
 ghost use Rattle.acmefs.specs.Ends.{drill_status, Drilled};
 ghost use Rattle.acmefs.specs.Own.{RoundTrips};
 ghost use Rattle.core_laws.specs.Journals.{JournalLaws};
+ghost use Rattle.event_laws.specs.Laws.{EventLaws};
 
 use crate::replay::ReplayEnd;
 use crate::status::Status;
 use am_base::Sink;
 use am_drill::{DrillEnd, drill, drill_is_played};
 use core_laws::journals_are_lawful;
+use event_laws::events_are_lawful;
 use std::alloc::Global;
 
 fn drill_status(end: DrillEnd) -> Status
@@ -38,8 +40,11 @@ pub fn drill_main<O: Sink>(alloc: Global, rounds: u64, output: &mut O) -> Replay
     ensures round_trip { RoundTrips result.journal }
     // All laws of journals hold of it.
     ensures laws { JournalLaws result.journal }
+    // What came of the items of event files.
+    ensures events { EventLaws result.journal }
 {
     drill_is_played();
+    events_are_lawful();
     journals_are_lawful();
     let drilled = drill(alloc, rounds, output);
     ReplayEnd {

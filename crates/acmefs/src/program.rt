@@ -10,6 +10,7 @@ ghost use Rattle.acmefs.specs.Own.{PutsOwn, RoundTrips};
 ghost use Rattle.acmefs.specs.Top.{OfDoing, OfDrill, OfReplay, OfServing, OfWords, run};
 ghost use Rattle.am_words.specs.Words.{asks_do, asks_serve};
 ghost use Rattle.core_laws.specs.Journals.{JournalLaws};
+ghost use Rattle.event_laws.specs.Laws.{EventLaws};
 ghost use Rattle.am_server.specs.Ends.{given};
 ghost use Rattle.am_slots.specs.Slots.{outside};
 
@@ -19,6 +20,7 @@ use crate::replay::{ReplayEnd, replay, status_of};
 use acme_core::messages_are_answered;
 use am_base::{Host, Sink, Source};
 use am_text::Words;
+use event_laws::events_are_lawful;
 use std::alloc::Global;
 use std::sync::Wait;
 use std::thread::Threads;
@@ -71,8 +73,11 @@ pub fn acmefs<I: Source, O: Sink, H: Host, R: Threads + Wait + Sync>(
     // Each message of the journal is answered by its own R message, unless one of the named refusals applies, whose
     // text is answered then.
     ensures answered { EachIsAnswered }
+    // What came of the items of event files: their order, what each opening got of them, and when they were dropped.
+    ensures events { EventLaws result.journal }
 {
     messages_are_answered();
+    events_are_lawful();
     do_asked(rt, alloc, words, input, output, host)
 }
 
@@ -93,7 +98,10 @@ pub fn replay_main<I: Source, O: Sink>(alloc: Global, input: &mut I, output: &mu
     ensures round_trip { RoundTrips result.journal }
     // All laws of journals hold of it.
     ensures laws { JournalLaws result.journal }
+    // What came of the items of event files.
+    ensures events { EventLaws result.journal }
 {
+    events_are_lawful();
     let ended = replay(alloc, input, output);
     ReplayEnd {
         status: status_of(ended.end),

@@ -13,12 +13,14 @@ ghost use Rattle.am_server.specs.Replied.{GotAll};
 ghost use Rattle.am_server.specs.Sound.{EndsWell};
 ghost use Rattle.am_slots.specs.Slots.{outside};
 ghost use Rattle.core_laws.specs.Journals.{JournalLaws};
+ghost use Rattle.event_laws.specs.Laws.{EventLaws};
 
 use crate::outcome::Outcome;
 use crate::status::Status;
 use am_base::{Host, Sink, Source};
 use am_server::{HostServing, ServeEnd, Serving, serve};
 use core_laws::journals_are_lawful;
+use event_laws::events_are_lawful;
 use std::alloc::Global;
 use std::sync::Wait;
 use std::thread::Threads;
@@ -85,7 +87,10 @@ pub fn serve_main<I: Source, O: Sink, H: Host, R: Threads + Wait + Sync>(
     ensures round_trip { RoundTrips result.journal }
     // All laws of journals hold of it.
     ensures laws { JournalLaws result.journal }
+    // What came of the items of event files.
+    ensures events { EventLaws result.journal }
 {
     journals_are_lawful();
+    events_are_lawful();
     outcome_of(serve(rt, alloc, path, clients, input, output, host))
 }
