@@ -1,7 +1,6 @@
 -- Each message is answered in its step, or is a read that waits.
 use Rattle.std.proofs.Common.{◌≡◌, inl, inr, ℕ, ◌+◌, ◌≤◌, Bool, true, false, cond, eqb, ◌&&◌, ◌||◌, List, [], ◌∷◌, ◌++◌, length, slice_index_or, Option, Some, None, All, refl, sym, ap, subst, ◌∙◌, append_assoc, append-nil, arith}
 use Rattle.std.specs.List.{list_any}
-use Rattle.std.proofs.lemmas.Bool.{or-true}
 use Rattle.std.proofs.lemmas.Bool.Decides.{nat_tests}
 use Rattle.std.proofs.lemmas.List.Elements.{All-append}
 use Rattle.std.proofs.lemmas.List.Folds.{list_any_at, list_any-append}
@@ -53,7 +52,7 @@ use Rattle.acme_core.specs.Stages.{response, read_response, asker_of, if_said, a
 use Rattle.acme_core.specs.States.{Present, State, present, next_entry}
 use Rattle.acme_core.proofs.Goes.{run-push}
 use Rattle.acme_core.proofs.Idling.{run_idle, silent}
-use Rattle.core_laws.specs.Answered.{IsAnswerTo, waits_with, TellsAWait, SaysOnce, Waits as MustWait, ReadsOnce, IsAnsweredBy, MessagesAreAnswered}
+use Rattle.core_laws.specs.Answered.{IsAnswerTo, waits_with, TellsAWait, SaysOnce, ReadsOnce, IsAnsweredBy, MessagesAreAnswered}
 use Rattle.core_laws.specs.Saying.{said_after}
 use Rattle.core_laws.proofs.Answering.{message_reads}
 use Rattle.core_laws.proofs.Books.{IsBook, book_opened, book_put_living}
@@ -117,7 +116,9 @@ says_once s conn tag d body is idle =
     record {
       front = front;
       rest = gone ++ served;
-      is = ap (λ (a : Option Answer). front ++ answer_said (with_fid p k d) s.scene.book conn tag a ++ gone ++ served) is;
+      is = ap (λ (a : Option Answer). front ++ answer_said (with_fid p k d) s.scene.book conn tag a ++ gone ++ served) is
+          ∙ append_assoc (front ++ response conn tag body ∷ []) gone served
+          ∙ append_assoc front (response conn tag body ∷ []) (gone ++ served);
       others = All-append (TellsAWait s) front (gone ++ served) (tell_clunked (Waited s) s.tables conn d.effect (waiting_waits s)) (All-append (TellsAWait s) gone served told_gone told_served);
     }
 
@@ -128,7 +129,12 @@ reading : (s : Present) (o : Origin) (e : Effect) (v : EventChange) (cs : List C
     → e ≡ effect.Nothing → v ≡ events.Nothing → cs ≡ [] → m ≡ demand.Nothing → a ≡ Reads fid opening count
     → message_doing s (record { effect = e; events = v; changes = cs; demand = m; answer = a }) o
     ≡ message_doing s (record { effect = effect.Nothing; events = events.Nothing; changes = []; demand = demand.Nothing; answer = Reads fid opening count }) o
-reading s o e v cs m a fid opening count effect events changes demand answer = rw (effect, events, changes, demand, answer) refl
+reading s o e v cs m a fid opening count fe fv fc fm fa =
+    ap (λ (x : Effect). message_doing s (record { effect = x; events = v; changes = cs; demand = m; answer = a }) o) fe
+    ∙ ap (λ (x : EventChange). message_doing s (record { effect = effect.Nothing; events = x; changes = cs; demand = m; answer = a }) o) fv
+    ∙ ap (λ (x : List Change). message_doing s (record { effect = effect.Nothing; events = events.Nothing; changes = x; demand = m; answer = a }) o) fc
+    ∙ ap (λ (x : Demand). message_doing s (record { effect = effect.Nothing; events = events.Nothing; changes = []; demand = x; answer = a }) o) fm
+    ∙ ap (λ (x : Answer). message_doing s (record { effect = effect.Nothing; events = events.Nothing; changes = []; demand = demand.Nothing; answer = x }) o) fa
 
 abbrev plain_read : Present → Origin → ℕ → ℕ → ℕ → Doing
 plain_read s o fid opening count =
@@ -146,7 +152,7 @@ plain_said : (s : State) (o : Origin) (conn tag fid opening count : ℕ) → Are
 unfolding task_deeds task_refusal
 plain_said s o conn tag fid opening count idle none =
     let own : List Response = if_said conn tag opening (read_said s.tables s.scene.book (asker_of conn tag opening count)) in
-    ap (λ (xs : List Response). own ++ xs) (read_served s s.tables (asker_of conn tag opening count) idle none) ∙ append-nil own
+    ap (λ (xs : List Response). own ++ [] ++ xs) (read_served s s.tables (asker_of conn tag opening count) idle none) ∙ append-nil (own ++ []) ∙ append-nil own
 
 -- nothing is said to one that must wait
 waits_for : (b : BookState) (x : Asker) (full waits : Bool) → said_to full (cond waits Waits (Now (piece_for b x))) ≡ None → waits ≡ true
@@ -179,17 +185,17 @@ plain_waits s o conn tag fid opening count idle none waits =
 -- what is said to one at once
 said_answers : (asked : TBody) (b : BookState) (x : Asker) (full waits : Bool) (body : RBody) → kind_t asked ≡ 116
     → said_to full (cond waits Waits (Now (piece_for b x))) ≡ Some body → IsAnswerTo asked body
-said_answers asked b x true true body kind is = let same : r.Error (refusal_text refusal.TooManyWaitingReads) ≡ body = cc in inr (refusal.TooManyWaitingReads, sym same)
-said_answers asked b x false true body kind is = absurd cc
-said_answers asked b x true false body kind is =
-    let same : r.Read (piece_for b x).bytes ≡ body = cc in subst (IsAnswerTo asked) same (inl (ap (λ (n : ℕ). n + 1) (sym kind)))
-said_answers asked b x false false body kind is =
-    let same : r.Read (piece_for b x).bytes ≡ body = cc in subst (IsAnswerTo asked) same (inl (ap (λ (n : ℕ). n + 1) (sym kind)))
+said_answers asked b x true true body tread is = let same : r.Error (refusal_text refusal.TooManyWaitingReads) ≡ body = cc in inr (refusal.TooManyWaitingReads, sym same)
+said_answers asked b x false true body tread is = absurd cc
+said_answers asked b x true false body tread is =
+    let same : r.Read (piece_for b x).bytes ≡ body = cc in subst (IsAnswerTo asked) same (inl (ap (λ (n : ℕ). n + 1) (sym tread)))
+said_answers asked b x false false body tread is =
+    let same : r.Read (piece_for b x).bytes ≡ body = cc in subst (IsAnswerTo asked) same (inl (ap (λ (n : ℕ). n + 1) (sym tread)))
 
 read_answers : (asked : TBody) (t : Tables) (b : BookState) (x : Asker) (living : Bool) (body : RBody) → kind_t asked ≡ 116
     → cond living (said_to (is_full t x.conn) (asked_of b x)) (Some (r.Error (refusal_text refusal.WindowDeleted))) ≡ Some body → IsAnswerTo asked body
-read_answers asked t b x true body kind is = said_answers asked b x (is_full t x.conn) (read_waits b x) body kind is
-read_answers asked t b x false body kind is = let same : r.Error (refusal_text refusal.WindowDeleted) ≡ body = cc in inr (refusal.WindowDeleted, sym same)
+read_answers asked t b x true body tread is = said_answers asked b x (is_full t x.conn) (read_waits b x) body tread is
+read_answers asked t b x false body tread is = let same : r.Error (refusal_text refusal.WindowDeleted) ≡ body = cc in inr (refusal.WindowDeleted, sym same)
 
 -- ---- each message
 
@@ -200,13 +206,13 @@ stepped_tables s conn msg = refl
 read_by : (before : List Event) (conn : ℕ) (msg : TMsg) (o : Origin) (fid opening count : ℕ) (said_now : Option RBody) → kind_t msg.body ≡ 116
     → doing_of (present_after before) (event.Msg conn msg) ≡ plain_read (present_after before) o fid opening count
     → read_said (run before).tables (run before).scene.book (asker_of conn msg.tag opening count) ≡ said_now → ReadsOnce before conn msg opening count said_now
-read_by before conn msg o fid opening count (Some body) kind does is =
+read_by before conn msg o fid opening count (Some body) asks does is =
     let s : State = run before in
     let all : said_after before (event.Msg conn msg) ≡ if_said conn msg.tag opening (Some body) =
     ap (said (present s) (kind.Asks conn msg.tag)) does ∙ plain_said s o conn msg.tag fid opening count (run_idle before) (no_items before) ∙ ap (if_said conn msg.tag opening) is
     in
-    (read_answers msg.body s.tables s.scene.book (asker_of conn msg.tag opening count) (is_living s.scene.book opening) body kind is, all)
-read_by before conn msg o fid opening count None kind does is =
+    (read_answers msg.body s.tables s.scene.book (asker_of conn msg.tag opening count) (is_living s.scene.book opening) body asks is, all)
+read_by before conn msg o fid opening count None asks does is =
     let s : State = run before in
     let e : Event = event.Msg conn msg in
     let has : Tables → Type 0 = λ t. list_any (is_waiting conn msg.tag) t.waiting ≡ true in
@@ -222,7 +228,7 @@ read_by before conn msg o fid opening count None kind does is =
 reads_by : (before : List Event) (conn : ℕ) (msg : TMsg) (fid opening count : ℕ) → IsWell (run before) → kind_t msg.body ≡ 116
     → (doing_of (present_after before) (event.Msg conn msg)).answer ≡ Some (Reads fid opening count)
     → ReadsOnce before conn msg opening count (read_said (run before).tables (run before).scene.book (asker_of conn msg.tag opening count))
-reads_by before conn msg fid opening count well kind is =
+reads_by before conn msg fid opening count well asks is =
     let s : State = run before in
     let p : Present = present s in
     let d : Reaction = reaction_at p conn msg in
@@ -230,7 +236,7 @@ reads_by before conn msg fid opening count well kind is =
     let same : d.answer ≡ Reads fid opening count = message_reads p d o fid opening count is in
     let sane : IsSane s.tables conn d = reaction_sane s.tables conn (moded s conn well) p.scene.windows (length s.scene.book.owners) msg.body in
     let reads : ReadsSane s.tables conn d (Reads fid opening count) = subst (ReadsSane s.tables conn d) same sane.1 in
-    read_by before conn msg o fid opening count (read_said s.tables s.scene.book (asker_of conn msg.tag opening count)) kind
+    read_by before conn msg o fid opening count (read_said s.tables s.scene.book (asker_of conn msg.tag opening count)) asks
     (reading p o d.effect d.events d.changes d.demand d.answer fid opening count reads.0 reads.2 reads.3 reads.4 same) refl
 
 answered_by : (before : List Event) (conn : ℕ) (msg : TMsg) (a : Option Answer) → IsWell (run before) → (doing_of (present_after before) (event.Msg conn msg)).answer ≡ a

@@ -17,5 +17,6 @@ mod Backs
 mod Windows
 mod Moves
 mod Answered
+mod Entries
 mod WriteBacks
 mod Lawful

@@ -1,18 +1,16 @@
 -- Windows along a journal whose events could be done.
-use Rattle.std.proofs.Common.{◌≡◌, ℕ, zero, suc, ◌-◌, ◌==◌, List, [], ◌∷◌, ◌++◌, length, Option, Some, None, refl, sym, ap, subst, append_assoc, append-nil}
-use Rattle.std.specs.Prelude.{slice_get, if◌then◌else◌}
+use Rattle.std.proofs.Common.{◌≡◌, ℕ, List, [], ◌∷◌, ◌++◌, Option, Some, sym, subst, append_assoc, append-nil}
 use Rattle.am_journal.specs.declared.event.Event.{Event}
 use Rattle.am_counter.specs.Played.{IsPrefix}
 use Rattle.win_text.specs.Bodies.{IsSound}
 use Rattle.win_text.specs.BodyStories.{shown}
 use Rattle.win_text.specs.Laws.{RangesAreInside}
-use Rattle.core_windows.specs.Places.{live_at, at_number}
-use Rattle.core_windows.specs.Stories.{WindowStory, story_at, IsLawfulWindow, AreLawful}
-use Rattle.core_windows.specs.WindowLaws.{NumbersStay}
+use Rattle.core_windows.specs.Stories.{WindowStory, story_at, IsLawfulWindow, IsLawfulIfLive, AreLawful}
+use Rattle.core_windows.proofs.Steps.{lawful_at}
 use Rattle.core_scene.specs.SceneLaws.{DeedsShow}
 use Rattle.acme_core.specs.Run.{run, ArePossible, IsPossible}
 use Rattle.acme_core.specs.States.{State}
-use Rattle.acme_core.proofs.Goes.{run-push, lawful_on, groups_numbered}
+use Rattle.acme_core.proofs.Goes.{run-push, lawful_on}
 use Rattle.core_laws.specs.Journals.{IsItsHistory, BodiesAreTheirHistories}
 
 -- ---- a front of a journal could be done, too
@@ -44,15 +42,8 @@ all_lawful show journal all = lawful_all show [] journal all none_lawful
 
 -- ---- one window of them
 
-live_lawful : (ss : List (Option WindowStory)) (k : ℕ) (s : WindowStory) → AreLawful ss → live_at ss k ≡ Some s → IsLawfulWindow s
-live_lawful [] k s all is = absurd cc
-live_lawful (None ∷ ss) zero s all is = absurd cc
-live_lawful (Some x ∷ ss) zero s all is = let same : x ≡ s = cc in subst IsLawfulWindow same all.0
-live_lawful (x ∷ ss) (suc k) s all is = live_lawful ss k s all.1 is
-
 pub one_lawful : (ss : List (Option WindowStory)) (w : ℕ) (s : WindowStory) → AreLawful ss → story_at ss w ≡ Some s → IsLawfulWindow s
-one_lawful ss zero s all is = absurd cc
-one_lawful ss (suc k) s all is = live_lawful ss k s all is
+one_lawful ss w s all is = subst IsLawfulIfLive is (lawful_at ss w all)
 
 pub histories : RangesAreInside → (journal : List Event) → AreLawful (run journal).windows → BodiesAreTheirHistories journal
 histories inside journal all w s is =

@@ -51,6 +51,7 @@ use Rattle.core_laws.specs.Laws.{OnlyTells, IsBackAt, clicked_window, written_by
 use Rattle.core_laws.specs.WriteBacks.{IsNamed, numbered, IsActedOn, write_of, WritesAreActedOn, ActedOnOnce}
 use Rattle.core_laws.proofs.Backs.{named, once}
 use Rattle.core_laws.proofs.Clicks.{clicks}
+use Rattle.core_laws.proofs.Entries.{have_entries, one_item}
 
 -- ---- the item that bytes name
 
@@ -184,5 +185,7 @@ acted_once journal = record {
   writes = writes_acted journal;
   named = λ before behind e b is written. subst (λ (l : List Event). IsBackAt (run l).scene.book b (length before + 1)) is (named before behind e b written);
   once = λ before between behind e f b is first second. once before between e f b first second;
-  told = λ before behind e w is clicked open. clicks before e w clicked open;
+  entries = have_entries journal;
+  one = one_item journal;
+  told = λ before behind e w is clicked opened. clicks before e w clicked opened;
 }

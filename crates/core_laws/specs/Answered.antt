@@ -42,7 +42,7 @@ pub record SaysOnce (s : State) (conn tag : ℕ) (body : RBody) (said : List Res
 
 -- It waits: nothing is said, and a read with its tag waits from then on. Its count isn't 0, and its opening has no carry, its window no
 -- item that nobody took (`must_wait` of wait_queue).
-pub record Waits (before : List Event) (conn : ℕ) (msg : TMsg) (opening count : ℕ) : Type 0 where
+pub record ReadWaits (before : List Event) (conn : ℕ) (msg : TMsg) (opening count : ℕ) : Type 0 where
   pub silent : said_after before (event.Msg conn msg) ≡ []
   pub waits : list_any (is_waiting conn msg.tag) (run (before ++ event.Msg conn msg ∷ [])).tables.waiting ≡ true
   pub must : read_waits (run before).scene.book (asker_of conn msg.tag opening count) ≡ true
@@ -51,7 +51,7 @@ pub record Waits (before : List Event) (conn : ℕ) (msg : TMsg) (opening count 
 abbrev pub ReadsOnce : List Event → ℕ → TMsg → ℕ → ℕ → Option RBody → Type 0
 ReadsOnce before conn msg opening count (Some body) =
     IsAnswerTo msg.body body × (said_after before (event.Msg conn msg) ≡ read_response conn msg.tag opening body ∷ [])
-ReadsOnce before conn msg opening count None = Waits before conn msg opening count
+ReadsOnce before conn msg opening count None = ReadWaits before conn msg opening count
 
 abbrev pub IsAnsweredBy : List Event → ℕ → TMsg → Option Answer → Type 0
 IsAnsweredBy before conn msg None = ⊥

@@ -62,7 +62,7 @@ pub record JournalLaws (journal : List Event) : Type 0 where
   -- Each message is answered by its own R message or by Rerror, in its step and once, or is a read that waits.
   pub answered : MessagesAreAnswered journal
   -- Behind an Rflush nothing is said to the tag that was flushed, up to the next message of that tag.
-  pub flushed : FlushedTagsAreSilent journal
+  pub silent : FlushedTagsAreSilent journal
   -- An item that is written back is acted on once.
   pub acted : ActedOnOnce journal
   -- What was replied to a connection is what was sent to it, and then what is unsent.

@@ -10,7 +10,8 @@ use Rattle.win_events.specs.Back.{is_action, back_of}
 use Rattle.win_events.specs.declared.item.BackMsg.{BackMsg}
 use Rattle.win_events.specs.declared.item.Item.{Item}
 use Rattle.win_events.specs.declared.item.Origin.TheVariants.{F}
-use Rattle.event_book.specs.BookState.{BookState, is_open_window, item_of, found_of}
+use Rattle.win_events.specs.declared.item.Life.TheVariants.{Back}
+use Rattle.event_book.specs.BookState.{BookState, is_open_window, item_of, recorded_of, found_of}
 use Rattle.event_book.specs.Finding.{fits}
 use Rattle.am_journal.specs.declared.event.Event.{Event}
 use Rattle.am_journal.specs.declared.event.Event.TheVariants as event
@@ -57,6 +58,26 @@ WritesAreActedOn journal =
     → (doing_of (present_after before) (write_of conn tag fid offset bytes)).answer ≡ Some (Says (r.Write count))
     → IsActedOn before journal (write_of conn tag fid offset bytes) w bytes
 
+-- The entry of this number wrote back the item.
+pub record HasItsEntry (journal : List Event) (w n at : ℕ) : Type 0 where
+  pub before : List Event
+  pub entry : Event
+  pub behind : List Event
+  pub is : before ++ entry ∷ behind ≡ journal
+  pub number : length before + 1 ≡ at
+  pub writes : written_by before entry ≡ Some (numbered w n)
+
+-- Each item whose life says that it was written back at an entry was so by that entry.
+abbrev pub BacksHaveEntries : List Event → Type 0
+BacksHaveEntries journal =
+    (w n : ℕ) (item : Item) (opening taken at : ℕ) → recorded_of (run journal).scene.book w n ≡ Some (record { item = item; life = Back opening taken at }) → HasItsEntry journal w n at
+
+-- So no two items were written back at one entry.
+abbrev pub OneItemAnEntry : List Event → Type 0
+OneItemAnEntry journal =
+    (v n w m : ℕ) (item other : Item) (opening by taken took at : ℕ) → recorded_of (run journal).scene.book v n ≡ Some (record { item = item; life = Back opening taken at })
+    → recorded_of (run journal).scene.book w m ≡ Some (record { item = other; life = Back by took at }) → numbered v n ≡ numbered w m
+
 -- Laws of items: each is acted on once.
 pub record ActedOnOnce (journal : List Event) : Type 0 where
   pub writes : WritesAreActedOn journal
@@ -65,6 +86,9 @@ pub record ActedOnOnce (journal : List Event) : Type 0 where
   -- so no later entry writes it back.
   pub once : (before between behind : List Event) (e f : Event) (b : BackItem) → before ++ e ∷ (between ++ f ∷ behind) ≡ journal → written_by before e ≡ Some b
       → written_by (before ++ e ∷ between) f ≡ Some b → ⊥
+  -- The other way round, each life that names an entry is that of the item that the entry wrote back; so no two items have one entry.
+  pub entries : BacksHaveEntries journal
+  pub one : OneItemAnEntry journal
   -- An Exec or a Look in a window whose event file is open is told by its item, and does nothing else.
   pub told : (before behind : List Event) (e : Event) (w : ℕ) → before ++ e ∷ behind ≡ journal → clicked_window e ≡ Some w → is_open_window (run before).scene.book w ≡ true
       → OnlyTells (run before) (run (before ++ e ∷ [])) (said_after before e) w
