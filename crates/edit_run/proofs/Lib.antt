@@ -6,3 +6,4 @@ pub mod Lasts
 pub mod Following
 pub mod Blocks
 pub mod LawLemmas
+pub mod Keeping

@@ -11,7 +11,7 @@ ghost use Rattle.edit_run.specs.Ranges.{matches_in, between, chosen, AreMatches,
 ghost use Rattle.edit_run.specs.Meaning.{has_match, ranges_of};
 ghost use Rattle.edit_run.specs.Kept.{IsFor};
 
-use crate::kept::{Kept, SHORT};
+use crate::kept::SHORT;
 use am_text::{Items, Letters, NoMemory, Range, Spans};
 use edit_parts::Loop;
 use re_machine::Machine;
@@ -35,7 +35,7 @@ fn once<T: Letters>(alloc: Global, re: &Re, text: &T, range: Range) -> Result<Sp
 fn all_matches<T: Letters>(
     alloc: Global,
     re: &Re,
-    kept: &Kept,
+    kept: &Option<Machine>,
     text: &T,
     range: Range,
 ) -> Result<Spans, NoMemory>
@@ -55,7 +55,7 @@ fn all_matches<T: Letters>(
 pub fn matches_in<T: Letters>(
     alloc: Global,
     re: &Re,
-    kept: &Kept,
+    kept: &Option<Machine>,
     text: &T,
     range: Range,
 ) -> Result<Spans, NoMemory>
@@ -69,11 +69,28 @@ pub fn matches_in<T: Letters>(
     Ok(all)
 }
 
+// The first match in a range that is short, or for which no machine was made.
+fn first_once<T: Letters>(
+    alloc: Global,
+    re: &Re,
+    text: &T,
+    range: Range,
+) -> Result<Option<Range>, NoMemory>
+    requires { IsInside (T.letters text.now) range }
+    ensures { IfOk result (λ found. found ≡ first_span (tree re.now) (T.letters text.now) range.q0 range.q1 None) }
+{
+    if range.q1 - range.q0 < SHORT {
+        return first_match(alloc, re, text, range.q0, range.q1, None);
+    }
+    let machine = Machine::build(alloc, re)?;
+    machine.forward(alloc, text, range.q0, range.q1, None)
+}
+
 // The first match in a range.
 fn first_in<T: Letters>(
     alloc: Global,
     re: &Re,
-    kept: &Kept,
+    kept: &Option<Machine>,
     text: &T,
     range: Range,
 ) -> Result<Option<Range>, NoMemory>
@@ -83,7 +100,7 @@ fn first_in<T: Letters>(
 {
     match kept {
         Some(machine) => machine.forward(alloc, text, range.q0, range.q1, None),
-        None => first_match(alloc, re, text, range.q0, range.q1, None),
+        None => first_once(alloc, re, text, range),
     }
 }
 
@@ -91,7 +108,7 @@ fn first_in<T: Letters>(
 fn has_match<T: Letters>(
     alloc: Global,
     re: &Re,
-    kept: &Kept,
+    kept: &Option<Machine>,
     text: &T,
     range: Range,
 ) -> Result<bool, NoMemory>
@@ -108,7 +125,7 @@ fn has_match<T: Letters>(
 fn each_match<T: Letters>(
     alloc: Global,
     re: &Re,
-    kept: &Kept,
+    kept: &Option<Machine>,
     text: &T,
     range: Range,
 ) -> Result<Spans, NoMemory>
@@ -148,7 +165,7 @@ fn between(alloc: Global, range: Range, spans: &[Range]) -> Result<Spans, NoMemo
 fn each_between<T: Letters>(
     alloc: Global,
     re: &Re,
-    kept: &Kept,
+    kept: &Option<Machine>,
     text: &T,
     range: Range,
 ) -> Result<Spans, NoMemory>
@@ -176,7 +193,7 @@ fn wanted_or_none(alloc: Global, range: Range, is_wanted: bool) -> Result<Spans,
 fn where_matching<T: Letters>(
     alloc: Global,
     re: &Re,
-    kept: &Kept,
+    kept: &Option<Machine>,
     text: &T,
     range: Range,
 ) -> Result<Spans, NoMemory>
@@ -193,7 +210,7 @@ fn where_matching<T: Letters>(
 fn where_not_matching<T: Letters>(
     alloc: Global,
     re: &Re,
-    kept: &Kept,
+    kept: &Option<Machine>,
     text: &T,
     range: Range,
 ) -> Result<Spans, NoMemory>
@@ -211,7 +228,7 @@ pub fn ranges_of<T: Letters>(
     alloc: Global,
     kind: Loop,
     re: &Re,
-    kept: &Kept,
+    kept: &Option<Machine>,
     text: &T,
     range: Range,
 ) -> Result<Spans, NoMemory>

@@ -12,6 +12,7 @@ ghost use Rattle.edit_run.specs.Plan.{wanted, planned, dot_after, are_in_sequenc
 use crate::doing::{Doing, Over};
 use crate::effects::Effects;
 use crate::fault::EditFault;
+use crate::kept::Kept;
 use crate::line_cursor::LineCursor;
 use crate::running::run;
 use crate::types::{EditPlan, Site};
@@ -77,7 +78,7 @@ pub fn changes<T: Letters>(
         effects: Effects::none(alloc, site.dot),
         cursor: LineCursor::start(),
     };
-    run(cmd, &None, &over, site.dot, &mut doing)?;
+    run(cmd, &Kept::none(), &over, site.dot, &mut doing)?;
     let Effects {
         changes,
         prints,

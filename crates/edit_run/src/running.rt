@@ -7,7 +7,7 @@ ghost use Rattle.edit_parts.specs.Tree.{action, command};
 ghost use Rattle.edit_parts.specs.Kinds.{loop_of};
 ghost use Rattle.sam_address.specs.Value.{IsInside};
 ghost use Rattle.edit_run.specs.Faults.{IsFault};
-ghost use Rattle.edit_run.specs.Kept.{IsFor, IsKept};
+ghost use Rattle.edit_run.specs.Kept.{inner_of, IsFor, OfFirst, IsKept, AreOf};
 ghost use Rattle.edit_run.specs.Ranges.{AreInside};
 ghost use Rattle.edit_run.specs.Lines.{IsCursorOf};
 ghost use Rattle.edit_run.specs.Meaning.{acted, meaning, for_each, list_done, ranges_of};
@@ -19,7 +19,7 @@ use crate::acts::{
 };
 use crate::doing::{Doing, Over};
 use crate::fault::EditFault;
-use crate::kept::{Kept, kept_for};
+use crate::kept::{Kept, behind, made_for};
 use crate::matching::{chosen, matches_in, ranges_of};
 use am_text::{JobKind, Letters, Range};
 use edit_parts::Loop::{ForBetween, ForEach, Where, WhereNot};
@@ -52,15 +52,41 @@ fn run_each<T: Letters>(
     Ok(())
 }
 
-// Does commands one after another, each over the same dot.
+// Does the next command of a block, by the first of these machines.
 #[cycle(command)]
-#[tactic(auto, using(crate::proofs::Blocks::listing))]
-fn run_all<T: Letters>(
-    commands: &[Cmd],
+fn run_next<T: Letters>(
+    cmd: &Cmd,
+    kept: &[Kept],
     over: &Over<T>,
     dot: Range,
     doing: &mut Doing,
 ) -> Result<(), EditFault>
+    requires kept { OfFirst (IsKept (action cmd.now.act)) kept.now }
+    requires dot { IsInside (T.letters over.now.text.now) dot }
+    requires cursor { IsCursorOf (T.letters over.now.text.now) doing.old.cursor }
+    requires within { IsWithin (T.letters over.now.text.now) doing.old.effects }
+    ensures value { OnOk result (meaning (command cmd.now) (T.letters over.now.text.now) over.now.site.now dot doing.old.effects ≡ Ok doing.new.effects) }
+    ensures fault { IfErr result (λ e. IsFault e (meaning (command cmd.now) (T.letters over.now.text.now) over.now.site.now dot doing.old.effects)) }
+    ensures cursor { OnOk result (IsCursorOf (T.letters over.now.text.now) doing.new.cursor) }
+    ensures within { OnOk result (IsWithin (T.letters over.now.text.now) doing.new.effects) }
+{
+    match kept {
+        [first, ..] => run(cmd, first, over, dot, doing),
+        [] => run(cmd, &Kept::none(), over, dot, doing),
+    }
+}
+
+// Does commands one after another, each over the same dot.
+#[cycle(command)]
+#[tactic(auto, using(crate::proofs::Blocks::listing, crate::proofs::Keeping::kept_first, crate::proofs::Keeping::kept_behind))]
+fn run_all<T: Letters>(
+    commands: &[Cmd],
+    kept: &[Kept],
+    over: &Over<T>,
+    dot: Range,
+    doing: &mut Doing,
+) -> Result<(), EditFault>
+    requires kept { AreOf kept.now commands.now }
     requires dot { IsInside (T.letters over.now.text.now) dot }
     requires cursor { IsCursorOf (T.letters over.now.text.now) doing.old.cursor }
     requires within { IsWithin (T.letters over.now.text.now) doing.old.effects }
@@ -69,8 +95,10 @@ fn run_all<T: Letters>(
     ensures cursor { OnOk result (IsCursorOf (T.letters over.now.text.now) doing.new.cursor) }
     ensures within { OnOk result (IsWithin (T.letters over.now.text.now) doing.new.effects) }
 {
+    let mut rest = kept;
     for cmd in commands {
-        run(cmd, &None, over, dot, doing)?;
+        run_next(cmd, rest, over, dot, doing)?;
+        rest = behind(rest);
     }
     Ok(())
 }
@@ -85,7 +113,8 @@ fn repeat<T: Letters>(
     over: &Over<T>,
     doing: &mut Doing,
 ) -> Result<(), EditFault>
-    requires kept { IsFor (tree re.now) kept.now }
+    requires machine { IsFor (tree re.now) kept.now.machine }
+    requires inner { OfFirst (IsKept (action cmd.now.act)) (inner_of kept.now.inner) }
     requires cursor { IsCursorOf (T.letters over.now.text.now) doing.old.cursor }
     requires within { IsWithin (T.letters over.now.text.now) doing.old.effects }
     ensures value { OnOk result (for_each (meaning (command cmd.now) (T.letters over.now.text.now) over.now.site.now) (ranges_of (loop_of kind) (tree re.now) (T.letters over.now.text.now) doing.old.effects.last) doing.old.effects ≡ Ok doing.new.effects) }
@@ -93,9 +122,16 @@ fn repeat<T: Letters>(
     ensures cursor { OnOk result (IsCursorOf (T.letters over.now.text.now) doing.new.cursor) }
     ensures within { OnOk result (IsWithin (T.letters over.now.text.now) doing.new.effects) }
 {
-    let ranges = ranges_of(over.alloc, kind, re, kept, over.text, doing.effects.last)?;
-    let kept = kept_for(over.alloc, &cmd.act, ranges.as_slice())?;
-    run_each(cmd, &kept, over, ranges.as_slice(), doing)
+    let machine = &kept.machine;
+    let ranges = ranges_of(over.alloc, kind, re, machine, over.text, doing.effects.last)?;
+    let ranges = ranges.as_slice();
+    match kept.inner() {
+        [inner, ..] => run_each(cmd, inner, over, ranges, doing),
+        [] => {
+            let made = made_for(over.alloc, &cmd.act, ranges.len(), over.text.len())?;
+            run_each(cmd, &made, over, ranges, doing)
+        }
+    }
 }
 
 // Does what a command does with the range that began last, its own.
@@ -126,7 +162,7 @@ fn act<T: Letters>(
         Act::Insert(put) => put_text(over.alloc, range.q0, range.q0, put, effects),
         Act::Delete => delete(over.alloc, range, effects),
         Act::Subst { nth, re, with, all } => {
-            let spans = matches_in(over.alloc, re, kept, over.text, range)?;
+            let spans = matches_in(over.alloc, re, &kept.machine, over.text, range)?;
             let spans = chosen(spans.as_slice(), *nth, *all);
             replace_all(over, re, with.as_slice(), spans, effects)
         }
@@ -139,14 +175,14 @@ fn act<T: Letters>(
         Act::Between(re, cmd) => repeat(cmd, ForBetween, re, kept, over, doing),
         Act::If(re, cmd) => repeat(cmd, Where, re, kept, over, doing),
         Act::Unless(re, cmd) => repeat(cmd, WhereNot, re, kept, over, doing),
-        Act::Block(all) => run_all(all.as_slice(), over, range, doing),
+        Act::Block(all) => run_all(all.as_slice(), kept.of_commands(all), over, range, doing),
         Act::Pipe(command) => ask_with(over, JobKind::Pipe, command, range, effects),
         Act::From(command) => ask_without(over, command, effects),
         Act::To(command) => ask_with(over, JobKind::To, command, range, effects),
     }
 }
 
-/// Does a command, where dot is this range. The machine is that of its own expression, or none.
+/// Does a command, where dot is this range, by its machines.
 #[cycle(command)]
 pub fn run<T: Letters>(
     cmd: &Cmd,

@@ -4,12 +4,14 @@ use Rattle.edit_run.specs.Ranges.{AreInside}
 use Rattle.edit_run.specs.Lines.{IsCursorOf}
 use Rattle.edit_run.specs.Meaning.{meaning, for_each, list_done}
 use Rattle.edit_run.specs.Within.{IsWithin}
+use Rattle.edit_run.specs.Kept.{AreOf}
 use Rattle.edit_run.proofs.running.+command.Given as goal
 
 abbrev pub invariant-run_all-loop-cmd : goal.invariant-run_all-loop-cmd
 invariant-run_all-loop-cmd g l =
     let t = g.T.Letters.letters l.over.text.now in
     record {
+      kept : AreOf l.rest (drop l.cmd-index l.commands);
       cursor : IsCursorOf t l.doing.cursor;
       within : IsWithin t l.doing.effects;
       same : list_done (drop l.cmd-index l.commands) t l.over.site.now l.dot l.doing.effects ≡ list_done l.commands t l.over.site.now l.dot l.fn.doing.effects;
