@@ -1,17 +1,15 @@
 -- Each message is answered, also where its task is refused.
-use Rattle.std.proofs.Common.{◌≡◌, ℕ, length, Option, Some, None, refl, inr}
+use Rattle.std.proofs.Common.{length, Option, Some, None, refl, inr}
 use Rattle.ninep_types.specs.declared.message.TBody.{TBody}
-use Rattle.ninep_types.specs.declared.message.TMsg.{TMsg}
 use Rattle.core_fids.specs.declared.effect.Answer.{Answer}
 use Rattle.core_fids.specs.declared.effect.Reaction.{Reaction}
 use Rattle.core_fids.specs.declared.refusal.Refusal.{Refusal}
 use Rattle.core_answers.specs.Laws.{IsAnswered, EachIsAnswered as EachReactionAnswers}
 use Rattle.core_tasks.specs.Tasks.{task_refusal}
-use Rattle.acme_core.specs.Doings.{entry_by}
-use Rattle.acme_core.specs.Intents.{or_refused, demanded_task, demand_refusal, reaction_at}
+use Rattle.core_intents.specs.Doings.{entry_by}
+use Rattle.core_intents.specs.Intents.{or_refused, demanded_task, demand_refusal, reaction_at}
 use Rattle.acme_core.specs.Laws.{EachIsAnswered}
-use Rattle.acme_core.specs.Origins.{message_origin}
-use Rattle.acme_core.specs.States.{Present}
+use Rattle.core_intents.specs.Origins.{message_origin}
 
 or_refused_answers : (asked : TBody) (x : Option Refusal) (a : Answer) → IsAnswered asked a → IsAnswered asked (or_refused x a)
 or_refused_answers asked None a h = h

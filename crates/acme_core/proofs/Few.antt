@@ -3,13 +3,13 @@ use Rattle.std.proofs.Common.{◌≡◌, ℕ, ◌+◌, ◌<◌, ◌≤◌, Bool,
 use Rattle.std.specs.Prelude.{slice_set}
 use Rattle.std.proofs.lemmas.List.{length-set}
 use Rattle.std.proofs.lemmas.List.Sums.{sum_by-set}
-use Rattle.acme_core.specs.declared.kind.Kind.{Kind}
-use Rattle.acme_core.specs.declared.kind.Kind.TheVariants as kind
-use Rattle.acme_core.specs.declared.connection.Connection.{Connection}
-use Rattle.acme_core.specs.declared.connection.Connection.TheVariants.{Undialed, Live, Ended}
-use Rattle.acme_core.specs.Connections.{connection_at, connections_after, live_count, is_live}
-use Rattle.acme_core.specs.Enabled.{live_refusal}
-use Rattle.acme_core.proofs.Kinded.{IsNumbered}
+use Rattle.core_intents.specs.declared.kind.Kind.{Kind}
+use Rattle.core_intents.specs.declared.kind.Kind.TheVariants as kind
+use Rattle.core_intents.specs.declared.connection.Connection.{Connection}
+use Rattle.core_intents.specs.declared.connection.Connection.TheVariants.{Undialed, Live, Ended}
+use Rattle.core_intents.specs.Connections.{connection_at, connections_after, live_count, is_live}
+use Rattle.core_intents.specs.Enabled.{live_refusal}
+use Rattle.core_intents.proofs.Kinded.{IsNumbered}
 
 -- ---- connections
 

@@ -14,20 +14,20 @@ use Rattle.core_windows.specs.Stories.{AreLawful}
 use Rattle.core_windows.specs.WindowLaws.{ChangesAreLawful, AreNumbered, NumbersStay}
 use Rattle.core_scene.specs.SceneLaws.{changes_in, AreShown, DeedsShow}
 use Rattle.core_events.specs.Sound.{IsSound, IsIdle}
-use Rattle.acme_core.specs.declared.prepared.Prepared.{Prepared}
-use Rattle.acme_core.specs.declared.parts.Parts.{Parts}
-use Rattle.acme_core.specs.declared.connection.Connection.TheVariants.{Undialed}
-use Rattle.acme_core.specs.Connections.{connection_at, connections_after, live_count, was_dialed, AreJoined}
-use Rattle.acme_core.specs.Doings.{doing_of, entry_of, CanBeDone}
-use Rattle.acme_core.specs.Kinds.{kind_of}
+use Rattle.core_steps.specs.declared.prepared.Prepared.{Prepared}
+use Rattle.core_intents.specs.declared.parts.Parts.{Parts}
+use Rattle.core_intents.specs.declared.connection.Connection.TheVariants.{Undialed}
+use Rattle.core_intents.specs.Connections.{connection_at, connections_after, live_count, was_dialed, AreJoined}
+use Rattle.core_intents.specs.Doings.{doing_of, entry_of, CanBeDone}
+use Rattle.core_intents.specs.Kinds.{kind_of}
 use Rattle.acme_core.specs.Kept.{IsKept, IsReady, IsPrepared, AreSound, planned_of}
-use Rattle.acme_core.specs.Parts.{present_of, AreSteady}
+use Rattle.core_intents.specs.Parts.{present_of, AreSteady}
 use Rattle.acme_core.specs.Run.{step, run, present_after, enabled, ArePossible, IsPossible}
-use Rattle.acme_core.specs.Stages.{after}
-use Rattle.acme_core.specs.States.{Present, State, present, start, next_entry}
+use Rattle.core_steps.specs.Stages.{after}
+use Rattle.core_intents.specs.States.{Present, State, present, start}
 use Rattle.acme_core.proofs.Few.{length-connections}
-use Rattle.acme_core.proofs.Joins.{joins_on}
-use Rattle.acme_core.proofs.Kinded.{numbered, found}
+use Rattle.core_steps.proofs.Joins.{joins_on}
+use Rattle.core_intents.proofs.Kinded.{numbered, found}
 use Rattle.acme_core.proofs.Idling.{idle_after}
 
 pub run-push : (journal : List Event) (e : Event) → run (journal ++ e ∷ []) ≡ step (run journal) e

@@ -1,5 +1,5 @@
 -- What is ready for a hang-up.
-use Rattle.std.proofs.Common.{◌≡◌, ℕ, ◌+◌, true, List, [], length, None, Option, refl, sym, ap, subst, ◌∙◌}
+use Rattle.std.proofs.Common.{◌≡◌, ℕ, ◌+◌, true, List, [], length, None, refl, sym, ap, subst, ◌∙◌}
 use Rattle.std.specs.Prelude.{slice_set}
 use Rattle.std.specs.Global.{Vec}
 use Rattle.am_journal.specs.declared.event.Event.{Event}
@@ -7,7 +7,7 @@ use Rattle.am_journal.specs.declared.event.Event.TheVariants as event
 use Rattle.am_journal.specs.Lawful.{IsLawful}
 use Rattle.fid_table.specs.Tables.{Tables}
 use Rattle.event_book.specs.BookState.{BookState, served_of}
-use Rattle.core_scene.specs.Scenes.{SceneState, scene_of, kept_of}
+use Rattle.core_scene.specs.Scenes.{kept_of}
 use Rattle.core_scene.proofs.Settled.{settled_is}
 use Rattle.core_fids.specs.declared.effect.Effect.TheVariants as effect
 use Rattle.core_fids.specs.declared.effect.EventChange.TheVariants as events
@@ -15,22 +15,22 @@ use Rattle.core_events.specs.declared.response.Response.{Response}
 use Rattle.core_events.specs.Sound.{IsSound, IsIdle}
 use Rattle.core_events.proofs.Turns.{all_none, book_all_none}
 use Rattle.acme_core.proofs.Few.{lives_less}
-use Rattle.acme_core.proofs.Idling.{none_served}
-use Rattle.acme_core.specs.declared.parts.Parts.{Parts}
+use Rattle.core_steps.proofs.Idling.{none_served}
+use Rattle.core_intents.specs.declared.parts.Parts.{Parts}
 use Rattle.core_outputs.specs.declared.reply.Reply.{Reply}
-use Rattle.acme_core.specs.declared.connection.Connection.{Connection}
-use Rattle.acme_core.specs.declared.connection.Connection.TheVariants.{Ended}
-use Rattle.acme_core.specs.declared.prepared.Prepared.{Prepared}
-use Rattle.acme_core.specs.Connections.{connection_at, connections_after, live_count, IsOfJoined, IsJoinedFor}
-use Rattle.acme_core.specs.Enabled.{live_refusal}
+use Rattle.core_intents.specs.declared.connection.Connection.{Connection}
+use Rattle.core_intents.specs.declared.connection.Connection.TheVariants.{Ended}
+use Rattle.core_steps.specs.declared.prepared.Prepared.{Prepared}
+use Rattle.core_intents.specs.Connections.{connection_at, connections_after, live_count, IsOfJoined, IsJoinedFor}
+use Rattle.core_intents.specs.Enabled.{live_refusal}
 use Rattle.acme_core.specs.Kept.{HasEntries, IsPrepared}
 use Rattle.core_tasks.specs.Tasks.{task_deeds}
-use Rattle.acme_core.specs.Doings.{enabled_at, doing_of, CanBeDone}
-use Rattle.acme_core.specs.Kinds.{kind_of}
-use Rattle.acme_core.specs.Parts.{present_of, AreSteady, HasReady}
-use Rattle.acme_core.specs.Run.{is_hang}
-use Rattle.acme_core.specs.States.{Present, next_entry}
-use Rattle.acme_core.specs.Replies.{replies_of}
+use Rattle.core_intents.specs.Doings.{enabled_at, doing_of, CanBeDone}
+use Rattle.core_intents.specs.Kinds.{kind_of, is_hang}
+use Rattle.core_intents.specs.Parts.{present_of, AreSteady}
+use Rattle.core_steps.specs.Ready.{HasReady}
+use Rattle.core_intents.specs.States.{Present}
+use Rattle.core_steps.specs.Replies.{replies_of}
 use Rattle.core_outputs.specs.Unsent.{put_replies}
 
 pub hang_ready : (p : Parts) (e : Event) (at : ℕ) (replies : Vec Reply) → is_hang e ≡ true → IsJoinedFor p.sessions.kept (kind_of e) → AreSteady p

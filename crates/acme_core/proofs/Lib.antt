@@ -3,15 +3,7 @@ pub mod Joins
 pub mod Goes
 pub mod Hangs
 pub mod Ordered
-pub mod Saids
-pub mod Places
 pub mod Viewed
-pub mod Typed
 pub mod Connected
-pub mod Moved
-pub mod Meant
-pub mod Tagged
 pub mod Answered
-pub mod Kinded
 pub mod Idling
-pub mod Applied

@@ -11,10 +11,10 @@ use Rattle.core_windows.proofs.Steps.{window_of_story, lawful_at}
 use Rattle.win_text.proofs.Stories.{all_inside}
 use Rattle.win_text.specs.Bodies.{IsInside}
 use Rattle.acme_core.specs.Addresses.{addr_of, addr_at, body_of, body_at}
-use Rattle.acme_core.specs.Parts.{present_of}
+use Rattle.core_intents.specs.Parts.{present_of}
 use Rattle.acme_core.specs.Run.{run, present_after}
-use Rattle.acme_core.specs.States.{Present}
-use Rattle.acme_core.specs.declared.parts.Parts.{Parts}
+use Rattle.core_intents.specs.States.{Present}
+use Rattle.core_intents.specs.declared.parts.Parts.{Parts}
 
 pub ruleset viewing = (append_assoc, append-nil)
 

@@ -4,11 +4,11 @@ use Rattle.am_journal.specs.declared.event.Event.{Event}
 use Rattle.am_counter.specs.declared.ask.Ask.{Ask}
 use Rattle.am_counter.specs.declared.ask.Ask.TheVariants as ask
 use Rattle.event_book.specs.BookState.{is_open_window}
-use Rattle.acme_core.specs.declared.connection.Connection.{Connection}
-use Rattle.acme_core.specs.declared.connection.Connection.TheVariants.{Undialed, Live, Ended}
-use Rattle.acme_core.specs.Connections.{connection_at}
+use Rattle.core_intents.specs.declared.connection.Connection.{Connection}
+use Rattle.core_intents.specs.declared.connection.Connection.TheVariants.{Undialed, Live, Ended}
+use Rattle.core_intents.specs.Connections.{connection_at}
 use Rattle.acme_core.specs.Run.{present_after}
-use Rattle.acme_core.specs.States.{Present, unsent_count}
+use Rattle.core_intents.specs.States.{Present, unsent_count}
 
 abbrev pub is_ended : Connection → Bool
 is_ended Undialed = false

@@ -6,14 +6,15 @@ use Rattle.am_journal.specs.Lawful.{IsLawful}
 use Rattle.am_counter.specs.Played.{IsPlayed}
 use Rattle.core_windows.specs.Stories.{AreLawful}
 use Rattle.core_events.specs.Sound.{IsSound, IsIdle}
-use Rattle.acme_core.specs.declared.parts.Parts.{Parts}
-use Rattle.acme_core.specs.declared.prepared.Prepared.{Prepared}
-use Rattle.acme_core.specs.Connections.{connections_after, live_count, AreJoined}
-use Rattle.acme_core.specs.Doings.{enabled_at, doing_of, CanBeDone}
-use Rattle.acme_core.specs.Kinds.{kind_of}
-use Rattle.acme_core.specs.Parts.{present_of, AreSteady, HasReady}
+use Rattle.core_intents.specs.declared.parts.Parts.{Parts}
+use Rattle.core_steps.specs.declared.prepared.Prepared.{Prepared}
+use Rattle.core_intents.specs.Connections.{connections_after, live_count, AreJoined}
+use Rattle.core_intents.specs.Doings.{enabled_at, doing_of, CanBeDone}
+use Rattle.core_intents.specs.Kinds.{kind_of}
+use Rattle.core_intents.specs.Parts.{present_of, AreSteady}
+use Rattle.core_steps.specs.Ready.{HasReady}
 use Rattle.acme_core.specs.Run.{run, present_after, enabled, IsPossible}
-use Rattle.acme_core.specs.States.{Present}
+use Rattle.core_intents.specs.States.{Present}
 
 -- the event of a plan that waits
 abbrev pub planned_of : Option Prepared → Option Event

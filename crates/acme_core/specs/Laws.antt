@@ -5,8 +5,8 @@ use Rattle.ninep_types.specs.declared.message.TMsg.{TMsg}
 use Rattle.am_journal.specs.declared.event.Event.TheVariants as event
 use Rattle.core_fids.specs.declared.effect.Answer.{Answer}
 use Rattle.core_answers.specs.Laws.{IsAnswered}
-use Rattle.acme_core.specs.Doings.{doing_of}
-use Rattle.acme_core.specs.States.{Present}
+use Rattle.core_intents.specs.Doings.{doing_of}
+use Rattle.core_intents.specs.States.{Present}
 
 abbrev pub HasAnswer : TBody → Option Answer → Type 0
 HasAnswer asked None = ⊥

@@ -1,17 +1,5 @@
-pub mod Kinds
-pub mod Connections
-pub mod Replies
-pub mod Enabled
-pub mod Typing
-pub mod Origins
-pub mod Spots
-pub mod States
-pub mod Intents
-pub mod Doings
-pub mod Stages
 pub mod Run
 pub mod Laws
-pub mod Parts
 pub mod Kept
 pub mod Addresses
 pub mod Views

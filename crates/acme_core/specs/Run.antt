@@ -1,15 +1,15 @@
 -- A journal, and the editor that it leads to.
-use Rattle.std.specs.Prelude.{◌≡◌, ℕ, Bool, true, false, List, [], ◌∷◌, ◌++◌, Option, Some, None}
+use Rattle.std.specs.Prelude.{◌≡◌, ℕ, true, List, [], ◌∷◌, ◌++◌, Option, Some, None}
 use Rattle.std.specs.List.{fold}
 use Rattle.am_journal.specs.declared.event.Event.{Event}
-use Rattle.am_journal.specs.declared.event.Event.TheVariants as event
 use Rattle.am_journal.specs.declared.event.Why.{Why}
 use Rattle.am_journal.specs.declared.event.Refused.{Refused}
 use Rattle.am_journal.specs.declared.event.Refused.TheVariants.{NotEnabled, NoMemory}
-use Rattle.acme_core.specs.States.{Present, State, present, start}
-use Rattle.acme_core.specs.Doings.{enabled_at, doing_of, CanBeDone}
-use Rattle.acme_core.specs.Stages.{after_story}
+use Rattle.core_intents.specs.States.{Present, State, present, start}
+use Rattle.core_intents.specs.Doings.{enabled_at, doing_of, CanBeDone}
+use Rattle.core_steps.specs.Stages.{after_story}
 use Rattle.core_outputs.specs.Unsent.{unsent_at}
+use Rattle.core_intents.specs.Kinds.{is_hang}
 
 -- one event: what it does is told by the editor as it stands
 unfoldable pub step : State → Event → State
@@ -46,20 +46,6 @@ Refuses (NotEnabled why) enabled = enabled ≡ Some why
 Refuses NoMemory enabled = enabled ≡ None
 
 -- A hang-up takes no memory: its entry was reserved when its connection was dialled.
-abbrev pub is_hang : Event → Bool
-is_hang (event.Dial conn) = false
-is_hang (event.Msg conn msg) = false
-is_hang (event.Hang conn why) = true
-is_hang (event.Took conn) = false
-is_hang event.New = false
-is_hang (event.Key w side text) = false
-is_hang (event.Sel w range) = false
-is_hang (event.Exec at) = false
-is_hang (event.Arg at chord) = false
-is_hang (event.Look at) = false
-is_hang (event.File path text) = false
-is_hang (event.Dir path) = false
-
 abbrev pub IsHang : Event → Type 0
 IsHang e = is_hang e ≡ true
 

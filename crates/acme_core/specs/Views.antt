@@ -7,11 +7,11 @@ use Rattle.am_journal.specs.declared.view.ItemView.{ItemView}
 use Rattle.am_journal.specs.declared.view.View.{View}
 use Rattle.am_journal.specs.declared.ending.Ending.{Ending}
 use Rattle.core_windows.specs.Windows.{Window}
-use Rattle.acme_core.specs.declared.connection.Connection.{Connection}
-use Rattle.acme_core.specs.declared.connection.Connection.TheVariants.{Undialed, Live, Ended}
+use Rattle.core_intents.specs.declared.connection.Connection.{Connection}
+use Rattle.core_intents.specs.declared.connection.Connection.TheVariants.{Undialed, Live, Ended}
 use Rattle.event_book.specs.WindowFiles.{ledger_of}
 use Rattle.acme_core.specs.Run.{run, present_after}
-use Rattle.acme_core.specs.States.{Present}
+use Rattle.core_intents.specs.States.{Present}
 
 abbrev pub conn_view : ℕ → Option Ending → ConnView
 conn_view c ending = record { conn = c; ending = ending }

@@ -2,12 +2,10 @@
 
 ghost use Rattle.std.specs.Prelude.{◌≡◌};
 ghost use Rattle.acme_core.specs.Asks.{is_ended, has_room, answer_in};
-ghost use Rattle.acme_core.specs.Parts.{present_of, AreSteady};
+ghost use Rattle.core_intents.specs.Parts.{present_of, AreSteady};
 
-use crate::connection::{Connection, connection_at};
-use crate::enabled::REPLIES;
-use crate::parts::Parts;
 use am_counter::Ask;
+use core_intents::{Connection, Parts, REPLIES, connection_at};
 
 fn is_ended(connection: Connection) -> bool
     ensures { result ≡ is_ended connection }

@@ -1,6 +1,6 @@
 //! The editor, which contracts see as its journal.
 
-ghost use Rattle.std.specs.Prelude.{◌≡◌, ◌<◌, ◌≤◌, ◌+◌, ◌^◌, ◌++◌, ◌∷◌, [], Some, None, length, slice_get, IsSome, OnSome, IfOk, IfSome, OnOk, OnErr, IfErr, MatchOption};
+ghost use Rattle.std.specs.Prelude.{◌≡◌, ◌<◌, ◌+◌, ◌^◌, ◌++◌, ◌∷◌, [], Some, None, length, slice_get, IsSome, OnSome, IfOk, IfSome, OnOk, OnErr, IfErr, MatchOption};
 ghost use Rattle.am_journal.specs.Lawful.{IsLawful};
 ghost use Rattle.am_counter.specs.Played.{IsPlayed};
 ghost use Rattle.acme_core.specs.Run.{enabled, run, output_at, Refuses, IsHang, IsPossible, IsWhy, settled, ready};
@@ -14,15 +14,15 @@ ghost use Rattle.acme_core.specs.Asks.{answer_at};
 ghost use Rattle.acme_core.specs.Views.{ledger, view_of};
 
 use crate::asking::answer;
-use crate::parts::Parts;
 use crate::planning::prepare;
-use crate::prepared::Prepared;
 use crate::view::view_of;
 use am_counter::Ask;
 use am_journal::{Event, ItemViews, Journal, Refused, View};
 use am_text::{NoMemory, Range, Roomy};
+use core_intents::Parts;
 use core_outputs::reply_at;
 use core_scene::deeds_show;
+use core_steps::{Prepared, apply};
 use core_windows::{changes_are_lawful, group_numbers_never_fall};
 use std::alloc::Global;
 use std::marker::Model;
@@ -109,7 +109,7 @@ impl Core {
             unreachable!()
         };
         deeds_show();
-        let event = self.parts.apply(self.alloc, prepared);
+        let event = apply(self.alloc, &mut self.parts, prepared);
         self.journal.put(event);
         self.journal.len() as u64
     }

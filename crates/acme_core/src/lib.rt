@@ -2,20 +2,9 @@
 #![tactic(auto)]
 
 mod asking;
-mod closing;
-mod connection;
 mod editor;
-mod enabled;
-mod growing;
-mod intent;
-mod kind;
 mod laws;
-mod origin;
-mod parts;
 mod planning;
-mod prepared;
-mod spot;
-mod typing;
 mod view;
 
 pub use am_counter::Ask;

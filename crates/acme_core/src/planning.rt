@@ -1,22 +1,21 @@
 //! Deciding whether an event is enabled, and making its step ready.
 
-ghost use Rattle.std.specs.Prelude.{◌≡◌, ◌+◌, ◌<◌, ◌≤◌, ◌^◌, [], true, false, None, length, IfOk, IfErr, OnErr};
+ghost use Rattle.std.specs.Prelude.{◌≡◌, ◌+◌, ◌<◌, ◌≤◌, ◌^◌, true, false, None, length, IfOk, IfErr, OnErr};
 ghost use Rattle.am_journal.specs.Lawful.{IsLawful};
-ghost use Rattle.acme_core.specs.Connections.{live_count, IsJoinedFor};
+ghost use Rattle.core_intents.specs.Connections.{live_count, IsJoinedFor};
 ghost use Rattle.core_events.specs.Sound.{IsSound, IsIdle};
-ghost use Rattle.acme_core.specs.Kinds.{kind_of};
-ghost use Rattle.acme_core.specs.Doings.{enabled_at, doing_of};
+ghost use Rattle.core_intents.specs.Kinds.{kind_of, is_hang};
+ghost use Rattle.core_intents.specs.Doings.{enabled_at, doing_of};
 ghost use Rattle.acme_core.specs.Kept.{AreSound, IsPrepared, HasEntries};
-ghost use Rattle.acme_core.specs.Parts.{present_of, AreSteady, HasReady};
-ghost use Rattle.acme_core.specs.Run.{Refuses, is_hang, IsHang, IsWhy};
+ghost use Rattle.core_intents.specs.Parts.{present_of, AreSteady};
+ghost use Rattle.core_steps.specs.Ready.{HasReady};
+ghost use Rattle.acme_core.specs.Run.{Refuses, IsHang, IsWhy};
 
-use crate::connection::live_count;
-use crate::intent::intent_of;
-use crate::parts::{Parts, is_hang};
-use crate::prepared::Prepared;
 use am_journal::{Event, Refused};
 use am_text::{Items, NoMemory, Roomy};
 use core_fids::{Effect, EventChange};
+use core_intents::{Parts, intent_of, is_hang, live_count};
+use core_steps::{Prepared, grow};
 use std::alloc::Global;
 
 // Makes an enabled event ready.
@@ -42,7 +41,7 @@ fn ready(
     let intent = intent_of(alloc, parts, &event)?;
     journal.reserve(live_count(&parts.connections) + 2)?;
     let at = parts.entries + 1;
-    parts.grow(alloc, event, intent, at)
+    grow(alloc, parts, event, intent, at)
 }
 
 // A hang-up, whose entry was reserved. It takes no memory.

@@ -1,14 +1,13 @@
 //! What the report tells of the editor.
 
-ghost use Rattle.std.specs.Prelude.{◌≡◌, ◌++◌, ◌<◌, ◌≤◌, ◌+◌, ◌^◌, IfOk, length};
+ghost use Rattle.std.specs.Prelude.{◌≡◌, ◌<◌, ◌+◌, ◌^◌, IfOk, length};
 ghost use Rattle.core_windows.specs.Panes.{windows_of, window_of};
-ghost use Rattle.acme_core.specs.Parts.{present_of, AreSteady};
+ghost use Rattle.core_intents.specs.Parts.{present_of, AreSteady};
 ghost use Rattle.acme_core.specs.Views.{conn_views, window_views, window_view, view_at};
 
-use crate::connection::Connection;
-use crate::parts::Parts;
 use am_journal::{ConnView, ConnViews, View, WindowView, WindowViews};
 use am_text::{Items, Job, Jobs, NoMemory};
+use core_intents::{Connection, Parts};
 use core_windows::Pane;
 use std::alloc::Global;
 

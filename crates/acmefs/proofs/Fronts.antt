@@ -7,7 +7,7 @@ use Rattle.am_journal.specs.declared.event.Why.{Why}
 use Rattle.am_journal.specs.Journal.{is_report}
 use Rattle.am_journal.specs.Line.{event_of}
 use Rattle.acme_core.specs.Run.{step, enabled}
-use Rattle.acme_core.specs.States.{start}
+use Rattle.core_intents.specs.States.{start}
 use Rattle.acmefs.specs.Scripts.{Script, play, play_line, play_event, ended, replied, replied_from, text_of, end_of}
 use Rattle.acmefs.specs.Written.{IsFront, IsCaughtUp}
 use Rattle.acmefs.proofs.Replied.{replied-append}

@@ -22,7 +22,7 @@ use Rattle.am_pack.specs.Packing.{all_of, pack, pack_line, pack_limit, packing_o
 use Rattle.am_pack.proofs.Packings.{short_text}
 use Rattle.core_outputs.specs.declared.reply.Reply.{Reply}
 use Rattle.acme_core.specs.Run.{step}
-use Rattle.acme_core.specs.States.{State, start}
+use Rattle.core_intents.specs.States.{State, start}
 use Rattle.acme_core.specs.Views.{view_of}
 use Rattle.acmefs.specs.Traces.{event_line, message_line, reply_words, replies_words, entry_words, traced_from, traced, trace_text, HasWords, AllHaveWords, PacksBack}
 use Rattle.acmefs.proofs.RoundTrip.{AreDone}

@@ -6,7 +6,7 @@ use Rattle.am_base.specs.Written.{Output}
 use Rattle.am_journal.specs.declared.event.Event.{Event}
 use Rattle.am_counter.specs.Played.{IsPlayed}
 use Rattle.acme_core.specs.Run.{enabled}
-use Rattle.acme_core.specs.States.{start}
+use Rattle.core_intents.specs.States.{start}
 use Rattle.acmefs.specs.declared.replay.End.{End}
 use Rattle.acmefs.specs.declared.replay.End.TheVariants.{Done, Usage, Script, ReadFault, WriteFault, NoMemory}
 use Rattle.acmefs.specs.Ends.{IsIdle, status_of}

@@ -15,7 +15,7 @@ use Rattle.am_journal.specs.Lawful.{IsLawful}
 use Rattle.am_journal.specs.Texts.{refused_text}
 use Rattle.core_outputs.specs.declared.reply.Reply.{Reply}
 use Rattle.acme_core.specs.Run.{step, run, enabled}
-use Rattle.acme_core.specs.States.{State, start}
+use Rattle.core_intents.specs.States.{State, start}
 use Rattle.acmefs.specs.declared.replay.End.{End}
 use Rattle.acmefs.specs.declared.replay.End.TheVariants as ends
 use Rattle.acmefs.specs.declared.script.Stop.{Stop}

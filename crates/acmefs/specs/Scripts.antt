@@ -11,7 +11,7 @@ use Rattle.am_journal.specs.Report.{report_text}
 use Rattle.am_journal.specs.Texts.{reply_text, refused_text, word_of}
 use Rattle.core_outputs.specs.declared.reply.Reply.{Reply}
 use Rattle.acme_core.specs.Run.{step, enabled}
-use Rattle.acme_core.specs.States.{State, start}
+use Rattle.core_intents.specs.States.{State, start}
 use Rattle.acme_core.specs.Views.{view_of}
 
 -- the line that is refused, by its number from 1, and the word for the reason; the number of the input as a whole is 0

@@ -12,7 +12,7 @@ use Rattle.am_journal.specs.Journal.{journal_text}
 use Rattle.ninep_trace.specs.Words.{event_words, words_r, IsReply, IsReplyInRange}
 use Rattle.core_outputs.specs.declared.reply.Reply.{Reply}
 use Rattle.acme_core.specs.Run.{step}
-use Rattle.acme_core.specs.States.{State, start}
+use Rattle.core_intents.specs.States.{State, start}
 use Rattle.am_pack.specs.Packing.{all_of, pack_limit, packed_text, packing_of}
 use Rattle.acmefs.specs.declared.replay.End.{End}
 use Rattle.acmefs.specs.declared.replay.End.TheVariants.{Done, Usage, Script, ReadFault, WriteFault, NoMemory}

@@ -11,9 +11,9 @@ use Rattle.am_journal.specs.Lawful.{IsLawful}
 use Rattle.acme_tree.specs.declared.node.Node.TheVariants.{Root, NewDir, Window, File}
 use Rattle.acme_tree.specs.declared.node.WinFile.TheVariants as file
 use Rattle.acme_tree.specs.Trees.{qid_of}
-use Rattle.acme_core.specs.Doings.{enabled_at}
+use Rattle.core_intents.specs.Doings.{enabled_at}
 use Rattle.acme_core.specs.Run.{step}
-use Rattle.acme_core.specs.States.{State, present, start}
+use Rattle.core_intents.specs.States.{State, present, start}
 use Rattle.am_drill.specs.Brief.{IsBrief}
 use Rattle.am_drill.specs.Drill.{notag, opening}
 use Rattle.am_drill.proofs.Calm.{CanDoAll, room, none_brief, one_brief}

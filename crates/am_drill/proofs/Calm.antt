@@ -13,10 +13,10 @@ use Rattle.am_journal.specs.declared.event.Why.TheVariants as why
 use Rattle.am_journal.specs.Lawful.{IsLawful}
 use Rattle.wait_queue.specs.WaitState.{piece_from}
 use Rattle.wait_queue.specs.declared.pending.Pending.{Pending}
-use Rattle.acme_core.specs.Doings.{enabled_at}
-use Rattle.acme_core.specs.Enabled.{replies_refusal}
+use Rattle.core_intents.specs.Doings.{enabled_at}
+use Rattle.core_intents.specs.Enabled.{replies_refusal}
 use Rattle.acme_core.specs.Run.{step}
-use Rattle.acme_core.specs.States.{State, present}
+use Rattle.core_intents.specs.States.{State, present}
 use Rattle.am_drill.specs.Brief.{IsBrief}
 use Rattle.am_drill.specs.Drill.{write, key, poll, flush, read}
 use Rattle.am_drill.proofs.Editing.{text_of, dot_of}

@@ -35,13 +35,13 @@ use Rattle.event_book.specs.Lives.{fresh}
 use Rattle.event_book.specs.WindowFiles.{WindowFile}
 use Rattle.core_tasks.specs.declared.task.Task.TheVariants as task
 use Rattle.core_tasks.specs.Tasks.{task_deeds, task_refusal}
-use Rattle.acme_core.specs.Doings.{Doing, resolved, doing_of, message_doing}
-use Rattle.acme_core.specs.Intents.{acting}
+use Rattle.core_intents.specs.Doings.{Doing, resolved, doing_of, message_doing}
+use Rattle.core_intents.specs.Intents.{acting}
 use Rattle.acme_core.specs.Run.{step}
-use Rattle.acme_core.specs.Stages.{after_story, response}
-use Rattle.acme_core.specs.States.{State, present}
-use Rattle.acme_core.specs.Typing.{edits_with_dot}
-use Rattle.acme_core.specs.Replies.{replies_of}
+use Rattle.core_steps.specs.Stages.{after_story, response}
+use Rattle.core_intents.specs.States.{State, present}
+use Rattle.core_intents.specs.Typing.{edits_with_dot}
+use Rattle.core_steps.specs.Replies.{replies_of}
 use Rattle.core_outputs.specs.Unsent.{nothing_unsent, put_replies}
 use Rattle.am_drill.specs.Drill.{write, key}
 use Rattle.am_drill.proofs.Letters.{letter_decoded}

@@ -32,12 +32,12 @@ use Rattle.core_fids.specs.Refusals.{reaction_or_refusal}
 use Rattle.core_fids.specs.Walking.{trail, onwards, then_qid, arrives}
 use Rattle.win_events.specs.declared.item.Origin.TheVariants.{F}
 use Rattle.core_tasks.specs.Tasks.{task_deeds, task_refusal}
-use Rattle.acme_core.specs.Doings.{message_doing}
-use Rattle.acme_core.specs.Stages.{after_story}
-use Rattle.acme_core.specs.declared.connection.Connection.TheVariants.{Undialed, Live}
+use Rattle.core_intents.specs.Doings.{message_doing}
+use Rattle.core_steps.specs.Stages.{after_story}
+use Rattle.core_intents.specs.declared.connection.Connection.TheVariants.{Undialed, Live}
 use Rattle.core_outputs.specs.declared.reply.Reply.{Reply}
 use Rattle.acme_core.specs.Run.{step}
-use Rattle.acme_core.specs.States.{State, present, start}
+use Rattle.core_intents.specs.States.{State, present, start}
 use Rattle.core_outputs.specs.Unsent.{Unsent, nothing_unsent, with_reply}
 use Rattle.am_drill.specs.Drill.{message, notag, nofid}
 use Rattle.am_drill.proofs.Standing.{Facts, body_fid, standing}

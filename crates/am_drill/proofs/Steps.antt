@@ -10,7 +10,7 @@ use Rattle.win_text.specs.BodyStories.{story_text}
 use Rattle.core_outputs.specs.declared.reply.Reply.{Reply}
 use Rattle.core_tasks.specs.Tasks.{task_deeds, task_refusal}
 use Rattle.acme_core.specs.Run.{step}
-use Rattle.core_outputs.specs.Unsent.{nothing_unsent, with_reply}
+use Rattle.core_outputs.specs.Unsent.{nothing_unsent, with_reply, put_replies}
 use Rattle.am_drill.specs.Drill.{read, flush, poll}
 use Rattle.fid_table.specs.declared.session.Waiting.{Waiting}
 use Rattle.fid_table.specs.Tables.{after_done}
@@ -24,10 +24,9 @@ use Rattle.core_events.specs.Serving.{served_most, book_served_most, served_all,
 use Rattle.core_events.proofs.Turns.{all_none, book_all_none}
 use Rattle.core_events.specs.Asking.{said_to, waits_unless, book_asked}
 use Rattle.core_events.specs.Waits.{ended}
-use Rattle.acme_core.specs.Stages.{response, if_said}
-use Rattle.acme_core.specs.States.{State}
-use Rattle.acme_core.specs.Replies.{replies_of}
-use Rattle.core_outputs.specs.Unsent.{put_replies}
+use Rattle.core_steps.specs.Stages.{response, if_said}
+use Rattle.core_intents.specs.States.{State}
+use Rattle.core_steps.specs.Replies.{replies_of}
 use Rattle.event_book.specs.BookState.{BookState, read_waits, after_answer, after_cancel, served_of, piece_for}
 use Rattle.am_drill.proofs.Standing.{Facts, tables_with, book_with, standing}
 

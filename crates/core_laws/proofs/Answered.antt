@@ -41,17 +41,18 @@ use Rattle.core_events.specs.Sound.{IsIdle}
 use Rattle.core_events.specs.Waits.{clunked, deletions, ended}
 use Rattle.core_events.proofs.Idles.{AreIdle, read_idle, idle_for, idle_end}
 use Rattle.core_tasks.specs.Tasks.{task_deeds, task_refusal}
-use Rattle.acme_core.specs.declared.kind.Kind.TheVariants as kind
-use Rattle.acme_core.specs.Doings.{Doing, doing_of, message_doing}
-use Rattle.acme_core.specs.Intents.{reaction_at}
-use Rattle.acme_core.specs.Kinds.{kind_of}
+use Rattle.core_intents.specs.declared.kind.Kind.TheVariants as kind
+use Rattle.core_intents.specs.Doings.{Doing, doing_of, message_doing}
+use Rattle.core_intents.specs.Intents.{reaction_at}
+use Rattle.core_intents.specs.Kinds.{kind_of}
 use Rattle.acme_core.specs.Laws.{HasAnswer, EachIsAnswered}
-use Rattle.acme_core.specs.Origins.{message_origin}
+use Rattle.core_intents.specs.Origins.{message_origin}
 use Rattle.acme_core.specs.Run.{step, run, present_after, enabled}
-use Rattle.acme_core.specs.Stages.{response, read_response, asker_of, if_said, answer_said, answer_book, acted, with_fid, read_book, put_book, said, tables_after}
-use Rattle.acme_core.specs.States.{Present, State, present, next_entry}
+use Rattle.core_steps.specs.Stages.{response, read_response, asker_of, if_said, answer_said, answer_book, acted, with_fid, read_book, put_book, said, tables_after}
+use Rattle.core_intents.specs.States.{Present, State, present, next_entry}
 use Rattle.acme_core.proofs.Goes.{run-push}
-use Rattle.acme_core.proofs.Idling.{run_idle, silent}
+use Rattle.acme_core.proofs.Idling.{run_idle}
+use Rattle.core_steps.proofs.Idling.{silent}
 use Rattle.core_laws.specs.Answered.{IsAnswerTo, waits_with, TellsAWait, SaysOnce, ReadsOnce, IsAnsweredBy, MessagesAreAnswered}
 use Rattle.core_laws.specs.Saying.{said_after}
 use Rattle.core_laws.proofs.Answering.{message_reads}

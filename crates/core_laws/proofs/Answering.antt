@@ -7,9 +7,9 @@ use Rattle.core_fids.specs.declared.effect.Answer.TheVariants.{Says, Reads}
 use Rattle.core_fids.specs.declared.effect.Reaction.{Reaction}
 use Rattle.core_fids.specs.declared.refusal.Refusal.{Refusal}
 use Rattle.core_tasks.specs.Tasks.{task_refusal}
-use Rattle.acme_core.specs.Doings.{entry_by, message_doing}
-use Rattle.acme_core.specs.Intents.{or_refused, demanded_task, demand_refusal}
-use Rattle.acme_core.specs.States.{Present}
+use Rattle.core_intents.specs.Doings.{entry_by, message_doing}
+use Rattle.core_intents.specs.Intents.{or_refused, demanded_task, demand_refusal}
+use Rattle.core_intents.specs.States.{Present}
 
 -- a refusal reads nothing
 pub refused_reads : (x : Option Refusal) (a : Answer) (fid opening count : ℕ) → or_refused x a ≡ Reads fid opening count → a ≡ Reads fid opening count

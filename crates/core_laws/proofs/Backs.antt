@@ -20,13 +20,13 @@ use Rattle.core_fids.specs.declared.effect.Demand.TheVariants as demand
 use Rattle.core_events.specs.declared.closing.BackItem.{BackItem}
 use Rattle.core_events.specs.Closing.{written_back}
 use Rattle.core_events.proofs.Idles.{AreIdle}
-use Rattle.acme_core.specs.declared.kind.Kind.{Kind}
-use Rattle.acme_core.specs.Doings.{Doing, doing_of}
-use Rattle.acme_core.specs.Intents.{item_if_any, item_named, item_or_refusal, demanded_item, reaction_at}
-use Rattle.acme_core.specs.Kinds.{kind_of}
+use Rattle.core_intents.specs.declared.kind.Kind.{Kind}
+use Rattle.core_intents.specs.Doings.{Doing, doing_of}
+use Rattle.core_intents.specs.Intents.{item_if_any, item_named, item_or_refusal, demanded_item, reaction_at}
+use Rattle.core_intents.specs.Kinds.{kind_of}
 use Rattle.acme_core.specs.Run.{step, run}
-use Rattle.acme_core.specs.Stages.{grown_book, book_after}
-use Rattle.acme_core.specs.States.{Present, State, present}
+use Rattle.core_steps.specs.Stages.{grown_book, book_after}
+use Rattle.core_intents.specs.States.{Present, State, present}
 use Rattle.acme_core.proofs.Goes.{run-push, entries_counted}
 use Rattle.acme_core.proofs.Idling.{run_idle}
 use Rattle.core_laws.specs.Laws.{written_by, IsBackAt, LivesNameTheEntry, WrittenBackOnce}

@@ -24,15 +24,15 @@ use Rattle.core_exec.specs.Acting.{exec_click, exec_clicked, exec_at_deeds, look
 use Rattle.core_events.specs.Putting.{put_one}
 use Rattle.core_events.specs.Serving.{served_all, book_served_all}
 use Rattle.core_tasks.specs.Tasks.{task_deeds}
-use Rattle.acme_core.specs.declared.kind.Kind.{Kind}
-use Rattle.acme_core.specs.declared.kind.Kind.TheVariants as kind
-use Rattle.acme_core.specs.Connections.{connections_after}
-use Rattle.acme_core.specs.Doings.{Doing, entry_by, doing_of}
-use Rattle.acme_core.specs.Kinds.{kind_of}
+use Rattle.core_intents.specs.declared.kind.Kind.{Kind}
+use Rattle.core_intents.specs.declared.kind.Kind.TheVariants as kind
+use Rattle.core_intents.specs.Connections.{connections_after}
+use Rattle.core_intents.specs.Doings.{Doing, entry_by, doing_of}
+use Rattle.core_intents.specs.Kinds.{kind_of}
 use Rattle.acme_core.specs.Run.{step, run}
-use Rattle.acme_core.specs.Replies.{replies_of}
-use Rattle.acme_core.specs.Stages.{said, tables_after, scene_after, left_unsent}
-use Rattle.acme_core.specs.States.{Present, State, present, start, next_entry}
+use Rattle.core_steps.specs.Replies.{replies_of}
+use Rattle.core_steps.specs.Stages.{said, tables_after, scene_after, left_unsent}
+use Rattle.core_intents.specs.States.{Present, State, present, start, next_entry}
 use Rattle.acme_core.proofs.Goes.{run-push}
 use Rattle.core_laws.specs.Laws.{OnlyTells, ClicksAreTold}
 use Rattle.core_laws.specs.Saying.{said_after}

@@ -7,8 +7,9 @@ use Rattle.am_counter.specs.Played.{ArePlayed}
 use Rattle.core_events.specs.Putting.{put_living}
 use Rattle.core_events.specs.Serving.{served_all}
 use Rattle.acme_core.specs.Run.{step, run, enabled}
-use Rattle.acme_core.specs.States.{State, start}
-use Rattle.acme_core.proofs.Idling.{idle_after, silent}
+use Rattle.core_intents.specs.States.{State, start}
+use Rattle.acme_core.proofs.Idling.{idle_after}
+use Rattle.core_steps.proofs.Idling.{silent}
 
 pub played_more : (before events : List Event) (e : Event) → ArePlayed enabled before events → IsLawful e → enabled (before ++ events) e ≡ None → ArePlayed enabled before (events ++ e ∷ [])
 unfolding ArePlayed

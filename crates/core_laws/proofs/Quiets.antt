@@ -14,14 +14,14 @@ use Rattle.core_events.specs.Asking.{read_said}
 use Rattle.core_events.specs.Closing.{written_back, freed, cancelled, opening_in}
 use Rattle.core_events.specs.Waits.{ended}
 use Rattle.core_scene.specs.Scenes.{deleted_by}
-use Rattle.acme_core.specs.Connections.{grown_with, ended_with}
-use Rattle.acme_core.specs.declared.kind.Kind.{Kind}
-use Rattle.acme_core.specs.declared.kind.Kind.TheVariants as kind
-use Rattle.acme_core.specs.Doings.{Doing, doing_of}
-use Rattle.acme_core.specs.Kinds.{kind_of}
+use Rattle.core_intents.specs.Connections.{grown_with, ended_with}
+use Rattle.core_intents.specs.declared.kind.Kind.{Kind}
+use Rattle.core_intents.specs.declared.kind.Kind.TheVariants as kind
+use Rattle.core_intents.specs.Doings.{Doing, doing_of}
+use Rattle.core_intents.specs.Kinds.{kind_of}
 use Rattle.acme_core.specs.Run.{step, run, enabled}
-use Rattle.acme_core.specs.Stages.{asker_of, answer_book, answer_tables, grown_tables, grown_book, read_book, left_book, ended_tables, book_after, said}
-use Rattle.acme_core.specs.States.{Present, State, present, next_entry}
+use Rattle.core_steps.specs.Stages.{asker_of, answer_book, answer_tables, grown_tables, grown_book, read_book, left_book, ended_tables, book_after, said}
+use Rattle.core_intents.specs.States.{Present, State, present, next_entry}
 use Rattle.acme_core.proofs.Goes.{run-push}
 use Rattle.core_laws.specs.Saying.{said_from}
 use Rattle.core_laws.proofs.Books.{IsBook, book_without, book_without_fids, book_cancelled, book_written, book_closed}

@@ -35,18 +35,18 @@ use Rattle.core_fids.specs.Refusals.{refused, refused_with, reaction_or_refusal}
 use Rattle.core_events.specs.declared.response.Response.{Response}
 use Rattle.core_events.specs.Asking.{read_said, waits_unless}
 use Rattle.core_events.specs.Waits.{ended, without_cancelled}
-use Rattle.acme_core.specs.declared.kind.Kind.TheVariants as kind
-use Rattle.acme_core.specs.Connections.{grown_with, ended_with}
+use Rattle.core_intents.specs.declared.kind.Kind.TheVariants as kind
+use Rattle.core_intents.specs.Connections.{grown_with, ended_with}
 use Rattle.core_events.specs.Putting.{put_living}
 use Rattle.core_events.specs.Serving.{served_all}
 use Rattle.core_tasks.specs.Tasks.{task_deeds, task_refusal}
 use Rattle.core_laws.proofs.Playing.{silent_after}
-use Rattle.acme_core.specs.Doings.{message_doing, doing_of}
-use Rattle.acme_core.specs.Intents.{reaction_at}
-use Rattle.acme_core.specs.Origins.{message_origin}
+use Rattle.core_intents.specs.Doings.{message_doing, doing_of}
+use Rattle.core_intents.specs.Intents.{reaction_at}
+use Rattle.core_intents.specs.Origins.{message_origin}
 use Rattle.acme_core.specs.Run.{step, run}
-use Rattle.acme_core.specs.Stages.{asker_of, answer_tables, said}
-use Rattle.acme_core.specs.States.{Present, State, present, start, next_entry}
+use Rattle.core_steps.specs.Stages.{asker_of, answer_tables, said}
+use Rattle.core_intents.specs.States.{Present, State, present, start, next_entry}
 use Rattle.core_laws.specs.Laws.{FlushesAreAnswered}
 use Rattle.core_laws.specs.Saying.{flush_of, flushed}
 use Rattle.core_laws.proofs.Answering.{message_reads}

@@ -21,12 +21,12 @@ use Rattle.core_events.specs.Responses.{feed_at, error, errors}
 use Rattle.core_events.specs.Serving.{then_served, served_most, served_all}
 use Rattle.core_events.specs.Waits.{is_of_fid, is_of_window, clunked, deletions}
 use Rattle.core_scene.specs.Scenes.{deleted_by}
-use Rattle.acme_core.specs.Doings.{Doing}
-use Rattle.acme_core.specs.declared.kind.Kind.{Kind}
-use Rattle.acme_core.specs.declared.kind.Kind.TheVariants as kind
-use Rattle.acme_core.specs.Kinds.{conn_of}
-use Rattle.acme_core.specs.Stages.{asker_of, if_said, answer_said, message_said, acted, with_fid, read_book, put_book, said}
-use Rattle.acme_core.specs.States.{Present, next_entry}
+use Rattle.core_intents.specs.Doings.{Doing}
+use Rattle.core_intents.specs.declared.kind.Kind.{Kind}
+use Rattle.core_intents.specs.declared.kind.Kind.TheVariants as kind
+use Rattle.core_intents.specs.Kinds.{conn_of}
+use Rattle.core_steps.specs.Stages.{asker_of, if_said, answer_said, message_said, acted, with_fid, read_book, put_book, said}
+use Rattle.core_intents.specs.States.{Present, next_entry}
 use Rattle.core_laws.proofs.Books.{IsBook, book_opened, book_put_living, book_serve}
 
 -- L: what holds of the connection and the tag of the message and of each read that waits

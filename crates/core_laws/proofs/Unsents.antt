@@ -7,14 +7,14 @@ use Rattle.am_journal.specs.declared.event.Event.{Event}
 use Rattle.am_journal.specs.declared.event.Event.TheVariants as event
 use Rattle.am_counter.specs.Sent.{sent_by, sent_from}
 use Rattle.core_outputs.specs.declared.reply.Reply.{Reply}
-use Rattle.acme_core.specs.Kinds.{kind_of}
+use Rattle.core_intents.specs.Kinds.{kind_of}
 use Rattle.acme_core.specs.Run.{step, run, output_at}
-use Rattle.acme_core.specs.declared.kind.Kind.{Kind}
-use Rattle.acme_core.specs.declared.kind.Kind.TheVariants as kind
-use Rattle.acme_core.specs.Stages.{left_unsent, said}
-use Rattle.acme_core.specs.States.{State, present, start}
-use Rattle.acme_core.specs.Doings.{doing_of}
-use Rattle.acme_core.specs.Replies.{replies_of}
+use Rattle.core_intents.specs.declared.kind.Kind.{Kind}
+use Rattle.core_intents.specs.declared.kind.Kind.TheVariants as kind
+use Rattle.core_steps.specs.Stages.{left_unsent, said}
+use Rattle.core_intents.specs.States.{State, present, start}
+use Rattle.core_intents.specs.Doings.{doing_of}
+use Rattle.core_steps.specs.Replies.{replies_of}
 use Rattle.core_outputs.specs.Unsent.{Unsent, nothing_unsent, unsent_at, with_reply, put_reply, put_replies}
 use Rattle.core_events.specs.declared.response.Response.{Response}
 use Rattle.acme_core.proofs.Goes.{run-push}

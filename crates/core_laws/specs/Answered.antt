@@ -15,10 +15,10 @@ use Rattle.core_fids.specs.declared.effect.Answer.TheVariants.{Says, Reads}
 use Rattle.core_answers.specs.Laws.{IsRefused}
 use Rattle.core_events.specs.declared.response.Response.{Response}
 use Rattle.core_events.specs.Asking.{read_said}
-use Rattle.acme_core.specs.Doings.{doing_of}
+use Rattle.core_intents.specs.Doings.{doing_of}
 use Rattle.acme_core.specs.Run.{run, present_after}
-use Rattle.acme_core.specs.Stages.{response, read_response, asker_of}
-use Rattle.acme_core.specs.States.{State}
+use Rattle.core_steps.specs.Stages.{response, read_response, asker_of}
+use Rattle.core_intents.specs.States.{State}
 use Rattle.core_laws.specs.Saying.{said_after}
 
 -- its own R message, whose type byte is one more, or Rerror with the text of a named refusal

@@ -15,11 +15,11 @@ use Rattle.core_events.specs.declared.response.Response.{Response}
 use Rattle.core_events.specs.Serving.{served_all, book_served_all}
 use Rattle.core_events.specs.Sound.{IsIdle}
 use Rattle.core_events.specs.declared.closing.BackItem.{BackItem}
-use Rattle.acme_core.specs.Doings.{doing_of}
+use Rattle.core_intents.specs.Doings.{doing_of}
 use Rattle.acme_core.specs.Run.{run, present_after, enabled, output_at}
-use Rattle.acme_core.specs.Replies.{replies_of}
-use Rattle.acme_core.specs.Stages.{response}
-use Rattle.acme_core.specs.States.{State}
+use Rattle.core_steps.specs.Replies.{replies_of}
+use Rattle.core_steps.specs.Stages.{response}
+use Rattle.core_intents.specs.States.{State}
 use Rattle.core_laws.specs.Replies.{replies}
 use Rattle.core_laws.specs.Saying.{said_after, said_from, is_told, is_message, flush_of, flushed, flush_body}
 

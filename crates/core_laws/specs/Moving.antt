@@ -21,7 +21,7 @@ use Rattle.core_actions.specs.declared.undoing.Move.TheVariants as move
 use Rattle.core_actions.specs.Undoing.{next_group, is_number, move_deeds}
 use Rattle.core_exec.specs.declared.click.Clicked.{Clicked}
 use Rattle.core_exec.specs.Clicks.{clicked_at, own_text}
-use Rattle.acme_core.specs.Doings.{doing_of}
+use Rattle.core_intents.specs.Doings.{doing_of}
 use Rattle.acme_core.specs.Run.{run, present_after}
 
 -- What an entry does, after the entries before it, is Undo, or Redo, in this window.

@@ -6,14 +6,14 @@ use Rattle.ninep_types.specs.declared.message.TBody.TheVariants as t
 use Rattle.am_journal.specs.declared.event.Event.{Event}
 use Rattle.am_journal.specs.declared.event.Event.TheVariants as event
 use Rattle.core_events.specs.declared.response.Response.{Response}
-use Rattle.acme_core.specs.declared.kind.Kind.{Kind}
-use Rattle.acme_core.specs.declared.kind.Kind.TheVariants as kind
+use Rattle.core_intents.specs.declared.kind.Kind.{Kind}
+use Rattle.core_intents.specs.declared.kind.Kind.TheVariants as kind
 use Rattle.core_fids.specs.declared.refusal.Refusal.TheVariants as refusal
 use Rattle.core_fids.specs.Refusals.{refusal_text}
-use Rattle.acme_core.specs.Doings.{doing_of}
-use Rattle.acme_core.specs.Kinds.{kind_of}
+use Rattle.core_intents.specs.Doings.{doing_of}
+use Rattle.core_intents.specs.Kinds.{kind_of}
 use Rattle.acme_core.specs.Run.{present_after}
-use Rattle.acme_core.specs.Stages.{response, said}
+use Rattle.core_steps.specs.Stages.{response, said}
 
 -- what an entry says, after the entries before it
 abbrev pub said_after : List Event → Event → List Response

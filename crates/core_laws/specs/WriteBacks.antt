@@ -18,7 +18,7 @@ use Rattle.am_journal.specs.declared.event.Event.TheVariants as event
 use Rattle.core_fids.specs.declared.effect.Answer.TheVariants.{Says}
 use Rattle.core_events.specs.declared.closing.BackItem.{BackItem}
 use Rattle.core_exec.specs.Acting.{act_on_deeds}
-use Rattle.acme_core.specs.Doings.{Doing, doing_of}
+use Rattle.core_intents.specs.Doings.{Doing, doing_of}
 use Rattle.acme_core.specs.Run.{run, present_after}
 use Rattle.core_laws.specs.Laws.{OnlyTells, IsBackAt, clicked_window, written_by}
 use Rattle.core_laws.specs.Saying.{said_after}

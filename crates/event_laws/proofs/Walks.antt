@@ -32,12 +32,12 @@ use Rattle.core_events.specs.Responses.{feed_at, errors}
 use Rattle.core_events.specs.Serving.{response_to, then_served, served_most, book_served_most, served_all, book_served_all}
 use Rattle.core_events.specs.Waits.{is_of_fid, is_of_window, clunked, deletions}
 use Rattle.core_events.proofs.Turns.{idle, book_none_more}
-use Rattle.acme_core.specs.declared.kind.Kind.{Kind}
-use Rattle.acme_core.specs.declared.kind.Kind.TheVariants as kind
-use Rattle.acme_core.specs.Doings.{Doing}
-use Rattle.acme_core.specs.Kinds.{conn_of}
-use Rattle.acme_core.specs.Stages.{asker_of, if_said, answer_said, answer_book, message_said, message_book, acted, with_fid, read_book, put_book, grown_book, said}
-use Rattle.acme_core.specs.States.{Present, next_entry}
+use Rattle.core_intents.specs.declared.kind.Kind.{Kind}
+use Rattle.core_intents.specs.declared.kind.Kind.TheVariants as kind
+use Rattle.core_intents.specs.Doings.{Doing}
+use Rattle.core_intents.specs.Kinds.{conn_of}
+use Rattle.core_steps.specs.Stages.{asker_of, if_said, answer_said, answer_book, message_said, message_book, acted, with_fid, read_book, put_book, grown_book, said}
+use Rattle.core_intents.specs.States.{Present, next_entry}
 use Rattle.event_laws.specs.Rreads.{Rread, rread_on, rread_in, rreads_of}
 use Rattle.event_laws.specs.Laws.{rread_to}
 

@@ -1,11 +1,12 @@
 use Rattle.std.proofs.Common.{rules, ◌≡◌, ◌∙◌, length, None, List, sym, ap, subst}
-use Rattle.acme_core.specs.declared.connection.Connection.{Connection}
-use Rattle.acme_core.specs.declared.parts.Parts.{Parts}
-use Rattle.acme_core.specs.Connections.{live_count}
-use Rattle.acme_core.specs.Doings.{enabled_at, doing_of}
+use Rattle.core_intents.specs.declared.connection.Connection.{Connection}
+use Rattle.core_intents.specs.declared.parts.Parts.{Parts}
+use Rattle.core_intents.specs.Connections.{live_count}
+use Rattle.core_intents.specs.Doings.{enabled_at, doing_of}
 use Rattle.acme_core.specs.Kept.{HasEntries}
-use Rattle.acme_core.specs.Parts.{present_of, HasReady}
-use Rattle.acme_core.specs.States.{Present}
+use Rattle.core_intents.specs.Parts.{present_of}
+use Rattle.core_steps.specs.Ready.{HasReady}
+use Rattle.core_intents.specs.States.{Present}
 use Rattle.acme_core.proofs.Hangs.{hang_prepared}
 use Rattle.acme_core.proofs.planning.prepare.Goals as goal
 

@@ -1,7 +1,7 @@
 use Rattle.std.proofs.Common.{◌≡◌, ◌≤◌, ◌+◌, [], length}
 use Rattle.am_text.specs.Lines.{lines_of}
 use Rattle.acme_core.specs.Run.{settled}
-use Rattle.acme_core.specs.States.{start}
+use Rattle.core_intents.specs.States.{start}
 use Rattle.acmefs.specs.Scripts.{play}
 use Rattle.acmefs.specs.Traces.{traced, AllHaveWords}
 use Rattle.acmefs.specs.Written.{Wrote}

@@ -1,0 +1,4 @@
+pub mod Kinded
+pub mod Typed
+pub mod Tagged
+pub mod Meant

@@ -1,0 +1,134 @@
+-- What an event is to do, as the editor stands: its task isn't yet told by the deeds that it comes to.
+use Rattle.std.specs.Prelude.{ℕ, List, [], ◌∷◌, length, Option, Some, None, Result, Ok, Err}
+use Rattle.am_text.specs.Utf8.{utf8}
+use Rattle.ninep_types.specs.declared.message.TMsg.{TMsg}
+use Rattle.ninep_types.specs.declared.message.RBody.TheVariants as r
+use Rattle.win_events.specs.Back.{back_of}
+use Rattle.win_events.specs.declared.item.BackMsg.{BackMsg}
+use Rattle.win_events.specs.declared.item.Origin.{Origin}
+use Rattle.win_events.specs.declared.item.Origin.TheVariants.{F, K, M}
+use Rattle.event_book.specs.BookState.{BookState, found_of}
+use Rattle.event_book.specs.declared.finding.BackFault.{BackFault}
+use Rattle.event_book.specs.declared.finding.BackFault.TheVariants.{Already, NoSuch}
+use Rattle.am_journal.specs.declared.event.Event.{Event}
+use Rattle.am_journal.specs.declared.event.Event.TheVariants as event
+use Rattle.core_windows.specs.declared.change.Change.{Change}
+use Rattle.core_windows.specs.declared.change.Change.TheVariants as change
+use Rattle.core_windows.specs.Windows.{window_at}
+use Rattle.core_fids.specs.declared.effect.Effect.TheVariants as effect
+use Rattle.core_fids.specs.declared.effect.EventChange.TheVariants as events
+use Rattle.core_fids.specs.declared.effect.Demand.{Demand}
+use Rattle.core_fids.specs.declared.effect.Demand.TheVariants as demand
+use Rattle.core_fids.specs.declared.effect.Answer.{Answer}
+use Rattle.core_fids.specs.declared.effect.Answer.TheVariants.{Says}
+use Rattle.core_fids.specs.declared.effect.Reaction.{Reaction}
+use Rattle.core_fids.specs.declared.refusal.Refusal.{Refusal}
+use Rattle.core_fids.specs.declared.refusal.Refusal.TheVariants as refusal
+use Rattle.core_fids.specs.Refusals.{refusal_text}
+use Rattle.core_answers.specs.Reactions.{reaction}
+use Rattle.core_events.specs.declared.closing.BackItem.{BackItem}
+use Rattle.core_tasks.specs.declared.task.Task.{Task}
+use Rattle.core_tasks.specs.declared.task.Task.TheVariants as task
+use Rattle.core_intents.specs.declared.intent.Intent.{Intent}
+use Rattle.core_intents.specs.Origins.{message_origin}
+use Rattle.core_intents.specs.States.{Present}
+use Rattle.core_intents.specs.Typing.{key_changes, sel_changes}
+
+-- ---- answers
+
+-- a refusal is answered by its text
+abbrev pub or_refused : Option Refusal → Answer → Answer
+or_refused None answer = answer
+or_refused (Some refusal) answer = Says (r.Error (refusal_text refusal))
+
+-- where there is a message to answer
+abbrev pub answer_or : Option Refusal → Option Answer → Option Answer
+answer_or refusal None = None
+answer_or refusal (Some answer) = Some (or_refused refusal answer)
+
+-- ---- an item that is written back
+
+abbrev pub not_found : BackFault → Refusal
+not_found Already = refusal.EventAlreadyWrittenBack
+not_found NoSuch = refusal.NoSuchEvent
+
+abbrev pub item_or_refusal : ℕ → Result ℕ BackFault → Result BackItem Refusal
+item_or_refusal w (Ok number) = Ok (record { window = w; number = number })
+item_or_refusal w (Err fault) = Err (not_found fault)
+
+abbrev pub item_named : BookState → ℕ → Option BackMsg → Result BackItem Refusal
+item_named book w None = Err refusal.BadEvent
+item_named book w (Some message) = item_or_refusal w (found_of book w message)
+
+-- the item of the window that the text names, or why it names none
+abbrev pub item_of_text : BookState → ℕ → List ℕ → Result BackItem Refusal
+item_of_text book w text = item_named book w (back_of text)
+
+-- ---- messages
+
+-- an item is done with its own text; where none is named nothing is
+abbrev pub back_task : Result BackItem Refusal → Task
+back_task (Ok item) = task.Back item.window item.number
+back_task (Err refusal) = task.Changes []
+
+abbrev pub item_if_any : Result BackItem Refusal → Option BackItem
+item_if_any (Ok item) = Some item
+item_if_any (Err refusal) = None
+
+abbrev pub refusal_if_any : Result BackItem Refusal → Option Refusal
+refusal_if_any (Ok item) = None
+refusal_if_any (Err refusal) = Some refusal
+
+-- what a reaction does to the scene
+abbrev pub demanded_task : BookState → List Change → Demand → Task
+demanded_task book changes demand.Nothing = task.Changes changes
+demanded_task book changes (demand.Controls w text) = task.Controls w text
+demanded_task book changes (demand.WriteBack w text) = back_task (item_of_text book w text)
+
+-- the item that it writes back
+abbrev pub demanded_item : BookState → Demand → Option BackItem
+demanded_item book demand.Nothing = None
+demanded_item book (demand.Controls w text) = None
+demanded_item book (demand.WriteBack w text) = item_if_any (item_of_text book w text)
+
+abbrev pub demand_refusal : BookState → Demand → Option Refusal
+demand_refusal book demand.Nothing = None
+demand_refusal book (demand.Controls w text) = None
+demand_refusal book (demand.WriteBack w text) = refusal_if_any (item_of_text book w text)
+
+-- what a message does here
+abbrev pub reaction_at : Present → ℕ → TMsg → Reaction
+reaction_at s conn msg = reaction s.tables s.scene.windows (length s.scene.book.owners) conn msg.body
+
+abbrev pub message_intent : BookState → Reaction → Origin → Intent
+message_intent book d origin = record {
+  effect = d.effect;
+  events = d.events;
+  task = demanded_task book d.changes d.demand;
+  origin = origin;
+  answer = Some (or_refused (demand_refusal book d.demand) d.answer);
+  back = demanded_item book d.demand;
+}
+
+-- ---- all events
+
+-- what does a task alone
+abbrev pub acting : Task → Origin → Intent
+acting task origin = record { effect = effect.Nothing; events = events.Nothing; task = task; origin = origin; answer = None; back = None }
+
+abbrev pub nothing : Intent
+nothing = acting (task.Changes []) F
+
+abbrev pub intent_of : Present → Event → Intent
+intent_of s (event.Dial conn) = nothing
+intent_of s (event.Msg conn msg) = message_intent s.scene.book (reaction_at s conn msg) (message_origin s.tables conn msg.body)
+intent_of s (event.Hang conn why) = nothing
+intent_of s (event.Took conn) = nothing
+intent_of s event.New = acting (task.Changes (change.Makes [] ∷ [])) F
+intent_of s (event.Key w side text) = acting (task.Changes (key_changes w (window_at s.scene.windows w) side text)) K
+intent_of s (event.Sel w range) = acting (task.Changes (sel_changes w range)) M
+intent_of s (event.Exec at) = acting (task.Exec at None) M
+intent_of s (event.Arg at chord) = acting (task.Exec at (Some chord)) M
+intent_of s (event.Look at) = acting (task.Look at) M
+intent_of s (event.File path text) = acting (task.Stores path (utf8 text)) F
+intent_of s (event.Dir path) = acting (task.MakesDir path) F

@@ -1,0 +1,271 @@
+//! What an event is to do, as the editor stands.
+
+ghost use Rattle.std.specs.Prelude.{◌≡◌, [], ◌∷◌, None, IfOk};
+ghost use Rattle.am_text.specs.Utf8.{utf8};
+ghost use Rattle.ninep_types.specs.Spelling.{Fits_t};
+ghost use Rattle.am_journal.specs.Lawful.{IsLawful};
+ghost use Rattle.core_windows.specs.declared.change.Change.TheVariants as change;
+ghost use Rattle.core_fids.specs.Done.{HasSpelling};
+ghost use Rattle.core_intents.specs.Doings.{enabled_at, IsAnswerable, CanBeMeant};
+ghost use Rattle.core_intents.specs.Intents.{or_refused, answer_or, not_found, item_of_text, back_task, item_if_any, refusal_if_any, demanded_task, demanded_item, demand_refusal, reaction_at, message_intent, acting, nothing, intent_of};
+ghost use Rattle.core_intents.specs.Origins.{message_origin};
+ghost use Rattle.core_intents.specs.Parts.{present_of, AreSteady};
+
+use crate::origin::message_origin;
+use crate::parts::Parts;
+use crate::typing::{key_changes, sel_changes};
+use am_journal::{Event, Spot};
+use am_text::{Bytes, Items, NoMemory, Runes, encode};
+use core_answers::reaction_of;
+use core_events::BackItem;
+use core_fids::{Answer, Demand, Effect, EventChange, Reaction, Refusal, Server, error};
+use core_scene::{Change, Changes};
+use core_tasks::Task;
+use event_book::{BackFault, Book};
+use ninep_types::TMsg;
+use std::alloc::Global;
+use win_events::{Origin, read_back};
+
+/// What an event is to do: to the fids and the session of its connection, to event files, and by a task to the scene; what the items
+/// come from that it makes; how its message is answered, where it is one and its task isn't refused; and the item that it writes back.
+#[derive(Drop)]
+pub struct Intent {
+    pub effect: Effect,
+    pub events: EventChange,
+    pub task: Task,
+    pub origin: Origin,
+    pub answer: Option<Answer>,
+    pub back: Option<BackItem>,
+}
+
+// What a demand comes to: the task, the item that is written back, and why it is refused, if it is.
+#[derive(Drop)]
+struct Demanded {
+    task: Task,
+    back: Option<BackItem>,
+    refusal: Option<Refusal>,
+}
+
+// ---- answers
+
+fn or_refused(alloc: Global, refusal: Option<Refusal>, answer: Answer) -> Result<Answer, NoMemory>
+    requires { HasSpelling answer }
+    ensures exact { IfOk result (λ a. a ≡ or_refused refusal answer) }
+    ensures spelled { IfOk result HasSpelling }
+{
+    match refusal {
+        None => Ok(answer),
+        Some(refusal) => Ok(Answer::Says(error(alloc, refusal)?)),
+    }
+}
+
+/// The answer to a message, where there is one: the text of a refusal in its place. `NoMemory` where there is none for that text.
+pub fn answer_or(
+    alloc: Global,
+    refusal: Option<Refusal>,
+    answer: Option<Answer>,
+) -> Result<Option<Answer>, NoMemory>
+    requires { IsAnswerable answer }
+    ensures exact { IfOk result (λ a. a ≡ answer_or refusal answer) }
+    ensures answerable { IfOk result IsAnswerable }
+{
+    match answer {
+        None => Ok(None),
+        Some(answer) => Ok(Some(or_refused(alloc, refusal, answer)?)),
+    }
+}
+
+// ---- an item that is written back
+
+fn not_found(fault: BackFault) -> Refusal
+    ensures { result ≡ not_found fault }
+{
+    match fault {
+        BackFault::Already => Refusal::EventAlreadyWrittenBack,
+        BackFault::NoSuch => Refusal::NoSuchEvent,
+    }
+}
+
+// The item of the window that a text names.
+fn item_of_text(book: &Book, window: u32, text: &[u8]) -> Result<BackItem, Refusal>
+    ensures { result ≡ item_of_text book.now.present window text.now }
+{
+    let Some(message) = read_back(text) else {
+        return Err(Refusal::BadEvent);
+    };
+    match book.find(window, &message) {
+        Ok(number) => Ok(BackItem { window, number }),
+        Err(fault) => Err(not_found(fault)),
+    }
+}
+
+fn by_item(alloc: Global, found: Result<BackItem, Refusal>) -> Demanded
+    ensures { result ≡ record { task = back_task found; back = item_if_any found; refusal = refusal_if_any found } }
+{
+    match found {
+        Ok(item) => Demanded {
+            task: Task::Back {
+                window: item.window,
+                number: item.number,
+            },
+            back: Some(item),
+            refusal: None,
+        },
+        Err(refusal) => Demanded {
+            task: Task::Changes(Items::new(alloc)),
+            back: None,
+            refusal: Some(refusal),
+        },
+    }
+}
+
+// ---- messages
+
+// What a message does to the scene, which makes these changes, or asks for something else.
+fn by_demand(alloc: Global, book: &Book, changes: Changes, demand: Demand) -> Demanded
+    ensures task { result.task ≡ demanded_task book.now.present changes demand }
+    ensures back { result.back ≡ demanded_item book.now.present demand }
+    ensures refusal { result.refusal ≡ demand_refusal book.now.present demand }
+{
+    match demand {
+        Demand::Nothing => Demanded {
+            task: Task::Changes(changes),
+            back: None,
+            refusal: None,
+        },
+        Demand::Controls { window, text } => Demanded {
+            task: Task::Controls { window, text },
+            back: None,
+            refusal: None,
+        },
+        Demand::WriteBack { window, text } => {
+            by_item(alloc, item_of_text(book, window, text.as_slice()))
+        }
+    }
+}
+
+#[tactic(auto, using(crate::proofs::Meant::demanding))]
+fn message_intent(alloc: Global, parts: &Parts, conn: u32, msg: &TMsg) -> Result<Intent, NoMemory>
+    requires fits { Fits_t msg.now }
+    requires steady { AreSteady parts.now }
+    ensures exact { IfOk result (λ i. i ≡ message_intent (present_of parts.now).scene.book (reaction_at (present_of parts.now) conn msg.now) (message_origin (present_of parts.now).tables conn msg.now.body)) }
+    ensures possible { IfOk result (CanBeMeant (present_of parts.now)) }
+    ensures answerable { IfOk result (λ i. IsAnswerable i.answer) }
+{
+    let server = Server {
+        sessions: &parts.sessions,
+        windows: &parts.scene.windows,
+        openings: parts.scene.book.openings(),
+        conn,
+    };
+    let Reaction {
+        effect,
+        events,
+        changes,
+        demand,
+        answer,
+    } = reaction_of(alloc, &server, &msg.body)?;
+    let Demanded {
+        task,
+        back,
+        refusal,
+    } = by_demand(alloc, &parts.scene.book, changes, demand);
+    let answer = or_refused(alloc, refusal, answer)?;
+    Ok(Intent {
+        effect,
+        events,
+        task,
+        origin: message_origin(&parts.sessions, conn, &msg.body),
+        answer: Some(answer),
+        back,
+    })
+}
+
+// ---- all events
+
+// What does a task alone.
+fn acting(task: Task, origin: Origin) -> Intent
+    ensures { result ≡ acting task origin }
+{
+    Intent {
+        effect: Effect::Nothing,
+        events: EventChange::Nothing,
+        task,
+        origin,
+        answer: None,
+        back: None,
+    }
+}
+
+fn nothing(alloc: Global) -> Intent
+    ensures { result ≡ nothing }
+{
+    acting(Task::Changes(Items::new(alloc)), Origin::F)
+}
+
+fn new_window(alloc: Global) -> Result<Changes, NoMemory>
+    ensures { IfOk result (λ changes. changes ≡ change.Makes [] ∷ []) }
+{
+    let mut changes = Items::new(alloc);
+    changes.push(Change::Makes {
+        name: Items::new(alloc),
+    })?;
+    Ok(changes)
+}
+
+fn exec_task(at: Spot, chord: Option<Spot>) -> Task
+    ensures { result ≡ Task.Exec at chord }
+{
+    Task::Exec { at, chord }
+}
+
+// A file of this text is stored.
+fn stored(alloc: Global, path: &Bytes, text: &Runes) -> Result<Task, NoMemory>
+    ensures { IfOk result (λ stored. stored ≡ Task.Stores path.now (utf8 text.now)) }
+{
+    Ok(Task::Stores {
+        path: Bytes::copied(alloc, path.as_slice())?,
+        bytes: encode(alloc, text)?,
+    })
+}
+
+fn made(alloc: Global, path: &Bytes) -> Result<Task, NoMemory>
+    ensures { IfOk result (λ made. made ≡ Task.MakesDir path.now) }
+{
+    Ok(Task::MakesDir {
+        path: Bytes::copied(alloc, path.as_slice())?,
+    })
+}
+
+/// What an enabled event is to do. Nothing is changed; `NoMemory` where there is none for the answer.
+#[tactic(auto, using(crate::proofs::Meant::meaning))]
+pub fn intent_of(alloc: Global, parts: &Parts, event: &Event) -> Result<Intent, NoMemory>
+    requires lawful { IsLawful event.now }
+    requires steady { AreSteady parts.now }
+    requires allowed { enabled_at (present_of parts.now) event.now ≡ None }
+    ensures exact { IfOk result (λ i. i ≡ intent_of (present_of parts.now) event.now) }
+    ensures possible { IfOk result (CanBeMeant (present_of parts.now)) }
+    ensures answerable { IfOk result (λ i. IsAnswerable i.answer) }
+{
+    let windows = &parts.scene.windows;
+    match event {
+        Event::Msg { conn, msg } => message_intent(alloc, parts, *conn, msg),
+        Event::Dial { .. } => Ok(nothing(alloc)),
+        Event::Hang { .. } => Ok(nothing(alloc)),
+        Event::Took { .. } => Ok(nothing(alloc)),
+        Event::New => Ok(acting(Task::Changes(new_window(alloc)?), Origin::F)),
+        Event::Key { window, side, text } => {
+            let changes = key_changes(alloc, windows, *window, *side, text.as_slice())?;
+            Ok(acting(Task::Changes(changes), Origin::K))
+        }
+        Event::Sel { window, range } => {
+            let changes = sel_changes(alloc, windows, *window, *range)?;
+            Ok(acting(Task::Changes(changes), Origin::M))
+        }
+        Event::Exec { at } => Ok(acting(exec_task(*at, None), Origin::M)),
+        Event::Arg { at, chord } => Ok(acting(exec_task(*at, Some(*chord)), Origin::M)),
+        Event::Look { at } => Ok(acting(Task::Look { at: *at }, Origin::M)),
+        Event::File { path, text } => Ok(acting(stored(alloc, path, text)?, Origin::F)),
+        Event::Dir { path } => Ok(acting(made(alloc, path)?, Origin::F)),
+    }
+}

@@ -1,0 +1,18 @@
+//! The tables of the editor; which events are enabled, and what an event is to do.
+#![tactic(auto)]
+
+mod connection;
+mod enabled;
+mod intent;
+mod kind;
+mod limits;
+mod origin;
+mod parts;
+mod spot;
+mod typing;
+
+pub use connection::{Connection, connection_at, live_count};
+pub use intent::{Intent, answer_or, intent_of};
+pub use kind::{Kind, conn_of, is_hang, kind_of};
+pub use limits::{CONNECTIONS, REPLIES};
+pub use parts::Parts;

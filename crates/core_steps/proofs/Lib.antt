@@ -1,0 +1,6 @@
+pub mod Saids
+pub mod Moved
+pub mod Places
+pub mod Joins
+pub mod Idling
+pub mod Applied

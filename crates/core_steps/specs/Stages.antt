@@ -1,0 +1,182 @@
+-- A step, part by part. First comes what it makes: the message is answered, or waits; deeds are done; items come; waiting reads are
+-- answered. Then comes what it ends: the item that is written back, openings of freed fids and of deleted windows, and reads that wait no
+-- more.
+use Rattle.std.specs.Prelude.{ℕ, List, [], ◌∷◌, ◌++◌, Option, Some, None}
+use Rattle.ninep_types.specs.declared.message.RBody.{RBody}
+use Rattle.fid_table.specs.Tables.{Tables, after_hangup}
+use Rattle.wait_queue.specs.declared.types.Asker.{Asker}
+use Rattle.am_journal.specs.declared.event.Event.{Event}
+use Rattle.event_book.specs.BookState.{BookState}
+use Rattle.core_windows.specs.Stories.{all_changed_stories}
+use Rattle.core_scene.specs.Scenes.{SceneState, done_all, deleted_by}
+use Rattle.core_scene.specs.SceneLaws.{changes_in}
+use Rattle.core_fids.specs.declared.effect.Answer.{Answer}
+use Rattle.core_fids.specs.declared.effect.Answer.TheVariants.{Says, Reads}
+use Rattle.core_events.specs.declared.response.Response.{Response}
+use Rattle.core_events.specs.Asking.{opened, read_said, book_read, tables_read}
+use Rattle.core_events.specs.Closing.{written_back, freed, cancelled, closed_with, without_fids}
+use Rattle.core_events.specs.Putting.{put_all, put_living, ending}
+use Rattle.core_events.specs.Responses.{event_feed}
+use Rattle.core_events.specs.Serving.{served_all, book_served_all}
+use Rattle.core_events.specs.Waits.{clunked, deletions, ended, without_cancelled}
+use Rattle.core_intents.specs.declared.kind.Kind.{Kind}
+use Rattle.core_intents.specs.declared.kind.Kind.TheVariants as kind
+use Rattle.core_intents.specs.Connections.{connections_after, grown, ended_with}
+use Rattle.core_intents.specs.Doings.{Doing, entry_of}
+use Rattle.core_intents.specs.Kinds.{kind_of, conn_of}
+use Rattle.core_intents.specs.States.{Present, State, next_entry}
+use Rattle.core_steps.specs.Replies.{replies_of}
+use Rattle.core_outputs.specs.Unsent.{Unsent, put_replies, taken}
+
+-- ---- the answer to the message
+
+abbrev pub response : ℕ → ℕ → RBody → Response
+response conn tag body = record { conn = conn; message = record { tag = tag; body = body }; feed = None }
+
+-- the answer to a read of an event file
+abbrev pub read_response : ℕ → ℕ → ℕ → RBody → Response
+read_response conn tag opening body = record (response conn tag body) { feed = Some (event_feed opening) }
+
+abbrev pub asker_of : ℕ → ℕ → ℕ → ℕ → Asker
+asker_of conn tag opening count = record { conn = conn; tag = tag; opening = opening; count = count }
+
+abbrev pub if_said : ℕ → ℕ → ℕ → Option RBody → List Response
+if_said conn tag opening None = []
+if_said conn tag opening (Some body) = read_response conn tag opening body ∷ []
+
+abbrev pub answer_said : Tables → BookState → ℕ → ℕ → Option Answer → List Response
+answer_said tables book conn tag None = []
+answer_said tables book conn tag (Some (Says body)) = response conn tag body ∷ []
+answer_said tables book conn tag (Some (Reads fid opening count)) = if_said conn tag opening (read_said tables book (asker_of conn tag opening count))
+
+abbrev pub answer_book : Tables → BookState → ℕ → ℕ → Option Answer → ℕ → BookState
+answer_book tables book conn tag None at = book
+answer_book tables book conn tag (Some (Says body)) at = book
+answer_book tables book conn tag (Some (Reads fid opening count)) at = book_read tables book (asker_of conn tag opening count) at
+
+abbrev pub answer_tables : Tables → BookState → ℕ → ℕ → Option Answer → Tables
+answer_tables tables book conn tag None = tables
+answer_tables tables book conn tag (Some (Says body)) = tables
+answer_tables tables book conn tag (Some (Reads fid opening count)) = tables_read tables book (asker_of conn tag opening count) fid
+
+-- a message alone is answered
+
+abbrev pub message_said : Tables → BookState → Kind → Option Answer → List Response
+message_said tables book (kind.Dials conn) answer = []
+message_said tables book (kind.Asks conn tag) answer = answer_said tables book conn tag answer
+message_said tables book (kind.Ends conn why) answer = []
+message_said tables book (kind.Takes conn) answer = []
+message_said tables book kind.Acts answer = []
+
+abbrev pub message_book : Tables → BookState → Kind → Option Answer → ℕ → BookState
+message_book tables book (kind.Dials conn) answer at = book
+message_book tables book (kind.Asks conn tag) answer at = answer_book tables book conn tag answer at
+message_book tables book (kind.Ends conn why) answer at = book
+message_book tables book (kind.Takes conn) answer at = book
+message_book tables book kind.Acts answer at = book
+
+abbrev pub message_tables : Tables → BookState → Kind → Option Answer → Tables
+message_tables tables book (kind.Dials conn) answer = tables
+message_tables tables book (kind.Asks conn tag) answer = answer_tables tables book conn tag answer
+message_tables tables book (kind.Ends conn why) answer = tables
+message_tables tables book (kind.Takes conn) answer = tables
+message_tables tables book kind.Acts answer = tables
+
+-- ---- what a step makes
+
+-- the scene once the deeds are done, each told by the event files as they stood before the step
+abbrev pub acted : Present → Doing → SceneState
+acted s d = done_all (entry_of s d) s.scene d.deeds
+
+-- the sessions with the fid that a message puts, and with its read, where that waits
+abbrev pub with_fid : Present → Kind → Doing → Tables
+with_fid s k d = grown s.tables k d.effect
+
+abbrev pub grown_tables : Present → Kind → Doing → Tables
+grown_tables s k d = message_tables (with_fid s k d) s.scene.book k d.answer
+
+-- the event files with what a read takes, with an opening more, and with the items that come to windows that live on
+abbrev pub read_book : Present → Kind → Doing → BookState
+read_book s k d = message_book (with_fid s k d) s.scene.book k d.answer (next_entry s)
+
+abbrev pub put_book : Present → Kind → Doing → BookState
+put_book s k d = put_living (deleted_by d.deeds) (opened (read_book s k d) d.events) (acted s d).items
+
+-- waiting reads are answered, and then come the items of the windows that the step deletes
+abbrev pub grown_book : Present → Kind → Doing → BookState
+grown_book s k d = put_all (book_served_all (next_entry s) (put_book s k d)) (ending (deleted_by d.deeds) (acted s d).items)
+
+-- What is said: to the reads of a fid that is freed, to the message, to the reads of windows that are deleted, and to the reads that
+-- can be answered then.
+abbrev pub said : Present → Kind → Doing → List Response
+said s k d =
+    clunked s.tables (conn_of k) d.effect
+    ++ message_said (with_fid s k d) s.scene.book k d.answer
+    ++ deletions s.tables (deleted_by d.deeds)
+    ++ served_all (next_entry s) (put_book s k d)
+
+-- ---- what a step ends
+
+-- the openings of fids that a message frees, and the read that it cancels
+abbrev pub left_book : ℕ → Tables → Kind → Doing → BookState → BookState
+left_book at tables (kind.Dials conn) d book = book
+left_book at tables (kind.Asks conn tag) d book = cancelled (freed at book tables conn d.effect) conn d.events
+left_book at tables (kind.Ends conn why) d book = without_fids at book tables conn
+left_book at tables (kind.Takes conn) d book = book
+left_book at tables kind.Acts d book = book
+
+-- first the item that is written back, and at last the event files of the windows that are deleted
+abbrev pub closed_book : ℕ → Tables → Kind → Doing → BookState → BookState
+closed_book at tables k d book = closed_with at (left_book at tables k d (written_back at book d.back)) (deleted_by d.deeds)
+
+-- the sessions without the fids that are freed, and the reads that were answered wait no more
+abbrev pub ended_tables : Tables → Kind → Doing → List Response → Tables
+ended_tables tables (kind.Dials conn) d responses = ended tables responses
+ended_tables tables (kind.Asks conn tag) d responses = without_cancelled (ended (ended_with tables conn d.effect) responses) conn d.events
+ended_tables tables (kind.Ends conn why) d responses = ended (after_hangup tables conn) responses
+ended_tables tables (kind.Takes conn) d responses = ended tables responses
+ended_tables tables kind.Acts d responses = ended tables responses
+
+-- the unsent replies without those that an event of this kind takes
+abbrev pub left_unsent : List Unsent → Kind → List Unsent
+left_unsent unsent (kind.Dials conn) = unsent
+left_unsent unsent (kind.Asks conn tag) = unsent
+left_unsent unsent (kind.Ends conn why) = unsent
+left_unsent unsent (kind.Takes conn) = taken unsent conn
+left_unsent unsent kind.Acts = unsent
+
+-- ---- the whole
+
+-- the sessions and the event files after an event of this kind
+abbrev pub tables_after : Present → Kind → Doing → Tables
+tables_after s k d = ended_tables (grown_tables s k d) k d (said s k d)
+
+abbrev pub book_after : Present → Kind → Doing → BookState
+book_after s k d = closed_book (next_entry s) (grown_tables s k d) k d (grown_book s k d)
+
+-- the scene after it
+abbrev pub scene_after : Present → Kind → Doing → SceneState
+scene_after s k d = record (acted s d) { book = book_after s k d; items = []; deleted = [] }
+
+-- the editor as it stands after an event that does this
+abbrev pub after : Present → Event → Doing → Present
+after s e d = record {
+  entries = next_entry s;
+  connections = connections_after s.connections (kind_of e);
+  tables = tables_after s (kind_of e) d;
+  scene = scene_after s (kind_of e) d;
+  unsent = left_unsent (put_replies s.unsent (replies_of (said s (kind_of e) d))) (kind_of e);
+  replies = replies_of (said s (kind_of e) d);
+}
+
+-- the same of a story
+abbrev pub after_story : State → Present → Event → Doing → State
+after_story s p e d = record {
+  entries = next_entry p;
+  connections = connections_after s.connections (kind_of e);
+  tables = tables_after p (kind_of e) d;
+  windows = all_changed_stories (next_entry p) s.windows (changes_in d.deeds);
+  scene = record (scene_after p (kind_of e) d) { windows = [] };
+  unsent = left_unsent (put_replies s.unsent (replies_of (said p (kind_of e) d))) (kind_of e);
+  replies = replies_of (said p (kind_of e) d);
+}
