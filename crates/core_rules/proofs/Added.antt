@@ -1,5 +1,5 @@
 -- Ports and sets that are added.
-use Rattle.std.proofs.Common.{◌≡◌, ℕ, ◌+◌, ◌<◌, ◌≤◌, ◌||◌, ◌&&◌, Bool, true, false, cond, List, [], ◌∷◌, ◌++◌, map, length, take, drop, Option, Some, None, Result, Ok, Err, nat_lt, eqb, refl, sym, ap, subst, ◌∙◌, append_assoc, arith}
+use Rattle.std.proofs.Common.{◌≡◌, ℕ, ◌+◌, ◌<◌, ◌≤◌, ◌||◌, Bool, true, false, cond, List, [], ◌∷◌, ◌++◌, length, take, drop, Option, Some, None, Result, Ok, Err, nat_lt, eqb, refl, sym, ap, subst, ◌∙◌, append_assoc, arith}
 use Rattle.std.proofs.lemmas.Bool.Decides.{nat_tests}
 use Rattle.std.proofs.lemmas.List.{length-append, append-nil, take-append-drop}
 use Rattle.am_text.specs.Utf8.{decode}
@@ -17,11 +17,11 @@ use Rattle.core_scene.specs.declared.deed.Deed.TheVariants as deed
 use Rattle.core_scene.specs.Scenes.{SceneState, done, done_all, CanDoAll, can_add}
 use Rattle.core_rules.specs.declared.refusal.RulesRefusal.{RulesRefusal}
 use Rattle.core_rules.specs.NewNames.{new_names}
-use Rattle.core_rules.specs.Adding.{Outcome, does, set_deeds, fits, names_added, sets_added, read_added, adds}
-use Rattle.core_rules.specs.Writing.{rules_outcome, rest_outcome, held_after}
+use Rattle.core_rules.specs.Adding.{does, set_deeds, fits, read_added, adds}
+use Rattle.core_rules.specs.Writing.{rules_outcome}
 use Rattle.core_rules.specs.RulesLaws.{RefusedAddsNothing, WrittenIsKept}
 
-abbrev Read : Type 0
+abbrev pub Read : Type 0
 Read = List (List Rule) × List Var
 
 -- ---- the deeds can be done
@@ -53,9 +53,6 @@ can_add_sets e s names text bytes read ds k h d =
     subst (CanDoAll e s) (sym d) (can_set e s names text read (few_ports names bytes s h) (room_for names bytes (length text) s h k))
 
 -- ---- a refusal adds nothing
-
-none_where_refused : (o : Outcome) → Type 0
-none_where_refused o = (r : RulesRefusal) → o.refusal ≡ Some r → o.deeds ≡ []
 
 names_refused : (b : Bool) (deeds : List Deed) (x r : RulesRefusal) → (cond b (does deeds) (record { deeds = []; refusal = Some x })).refusal ≡ Some r
     → (cond b (does deeds) (record { deeds = []; refusal = Some x })).deeds ≡ []

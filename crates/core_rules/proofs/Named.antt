@@ -1,5 +1,5 @@
 -- Names, each once.
-use Rattle.std.proofs.Common.{◌≡◌, ℕ, Bool, false, ◌||◌, List, [], ◌∷◌, ◌++◌, map, refl, ap, ◌∙◌, append_assoc}
+use Rattle.std.proofs.Common.{◌≡◌, ℕ, Bool, false, cond, ◌||◌, List, [], ◌∷◌, ◌++◌, map, refl, ap, ◌∙◌, append_assoc}
 use Rattle.std.specs.Global.{Vec}
 use Rattle.std.specs.List.{list_any}
 use Rattle.std.specs.Str.{bytes_eq}
@@ -18,8 +18,6 @@ among name (k ∷ ks) = ap (λ (b : Bool). bytes_eq name k.items || b) (among na
 pub put_last : (ks : List (Vec ℕ)) (k : Vec ℕ) → is_among k.items (texts ks) ≡ false → texts (insert_key (λ x y. bytes_eq x.items y.items) ks k) ≡ texts ks ++ k.items ∷ []
 put_last ks k h =
     let e : list_any (λ y. bytes_eq k.items y.items) ks ≡ false = among k.items ks ∙ h in
-    rw e (map-append (λ (x : Vec ℕ). x.items) ks (k ∷ []))
-
-pub ruleset naming = (among, put_last)
+    ap (λ (b : Bool). texts (cond b ks (ks ++ k ∷ []))) e ∙ map-append (λ (x : Vec ℕ). x.items) ks (k ∷ [])
 
 pub ruleset joins = (append_assoc, append-nil)

@@ -1,5 +1,5 @@
 -- Laws of what is written to `rules`.
-use Rattle.std.specs.Prelude.{◌≡◌, ℕ, List, [], ◌++◌, Option, Some, None}
+use Rattle.std.specs.Prelude.{◌≡◌, ℕ, List, [], ◌++◌, Some, None}
 use Rattle.core_scene.specs.declared.deed.Entry.{Entry}
 use Rattle.core_scene.specs.Scenes.{SceneState, done_all}
 use Rattle.core_rules.specs.declared.refusal.RulesRefusal.{RulesRefusal}

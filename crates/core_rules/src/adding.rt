@@ -1,7 +1,6 @@
 //! Sets of rules that are added.
 
 ghost use Rattle.std.specs.Prelude.{◌≡◌, ◌≤◌, length, IfOk, OnOk};
-ghost use Rattle.am_text.specs.Utf8.{decode};
 ghost use Rattle.core_scene.specs.Scenes.{scene_of, kept_of, Did};
 ghost use Rattle.core_rules.specs.NewNames.{new_names};
 ghost use Rattle.core_rules.specs.Adding.{set_deeds, fits, names_added, sets_added, adds};
@@ -57,8 +56,8 @@ fn add_names(
     found: (NewNames, (RuleSets, Vars)),
 ) -> Result<Option<RulesRefusal>, NoMemory>
     requires { length written.text.now ≤ written.bytes }
-    ensures refusal { IfOk result (λ refusal. refusal ≡ (names_added found.0 written.text.now written.bytes found.1 (scene_of scene.old)).refusal) }
-    ensures ok { OnOk result (Did entry (scene_of scene.old) (scene_of scene.new) (names_added found.0 written.text.now written.bytes found.1 (scene_of scene.old)).deeds) }
+    ensures refusal { IfOk result (λ refusal. refusal ≡ (names_added found.0 written.entry.text.now written.entry.bytes found.1 (scene_of scene.old)).refusal) }
+    ensures ok { OnOk result (Did entry (scene_of scene.old) (scene_of scene.new) (names_added found.0 written.entry.text.now written.entry.bytes found.1 (scene_of scene.old)).deeds) }
     ensures kept { kept_of scene.new ≡ kept_of scene.old }
 {
     let (names, read) = found;
@@ -79,8 +78,8 @@ fn add_sets(
     read: (RuleSets, Vars),
 ) -> Result<Option<RulesRefusal>, NoMemory>
     requires { length written.text.now ≤ written.bytes }
-    ensures refusal { IfOk result (λ refusal. refusal ≡ (sets_added written.text.now written.bytes read (scene_of scene.old)).refusal) }
-    ensures ok { OnOk result (Did entry (scene_of scene.old) (scene_of scene.new) (sets_added written.text.now written.bytes read (scene_of scene.old)).deeds) }
+    ensures refusal { IfOk result (λ refusal. refusal ≡ (sets_added written.entry.text.now written.entry.bytes read (scene_of scene.old)).refusal) }
+    ensures ok { OnOk result (Did entry (scene_of scene.old) (scene_of scene.new) (sets_added written.entry.text.now written.entry.bytes read (scene_of scene.old)).deeds) }
     ensures kept { kept_of scene.new ≡ kept_of scene.old }
 {
     let named = ports_of(alloc, read.0.as_slice())?;
@@ -96,8 +95,8 @@ pub(crate) fn add(
     written: Written<'_>,
 ) -> Result<Option<RulesRefusal>, NoMemory>
     requires { length written.text.now ≤ written.bytes }
-    ensures refusal { IfOk result (λ refusal. refusal ≡ (adds written.text.now written.bytes (scene_of scene.old)).refusal) }
-    ensures ok { OnOk result (Did entry (scene_of scene.old) (scene_of scene.new) (adds written.text.now written.bytes (scene_of scene.old)).deeds) }
+    ensures refusal { IfOk result (λ refusal. refusal ≡ (adds written.entry.text.now written.entry.bytes (scene_of scene.old)).refusal) }
+    ensures ok { OnOk result (Did entry (scene_of scene.old) (scene_of scene.new) (adds written.entry.text.now written.entry.bytes (scene_of scene.old)).deeds) }
     ensures kept { kept_of scene.new ≡ kept_of scene.old }
 {
     match scene.rules.read(alloc, written.text) {

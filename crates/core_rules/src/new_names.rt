@@ -1,7 +1,7 @@
 //! Names of ports that rules bring.
 
-ghost use Rattle.std.specs.Prelude.{◌≡◌, ◌++◌, ◌∷◌, [], false, map, length, IfOk, OnOk, if◌then◌else◌};
-ghost use Rattle.core_rules.specs.NewNames.{is_among, is_known, with_name, with_names, new_names};
+ghost use Rattle.std.specs.Prelude.{◌≡◌, ◌++◌, ◌∷◌, [], false, map, length, IfOk, OnOk};
+ghost use Rattle.core_rules.specs.NewNames.{is_among, is_known, with_name, new_names};
 ghost use Rattle.core_scene.specs.declared.deed.Deed.TheVariants as deed;
 
 use am_text::{Bytes, Items, NoMemory};
@@ -42,7 +42,6 @@ impl NewNames {
     }
 
     // Whether the name is one of them.
-    #[tactic(auto, using(crate::proofs::Named::naming))]
     fn has(&self, name: &[u8]) -> bool
         ensures { result ≡ is_among name.now self.now }
     {
@@ -50,7 +49,6 @@ impl NewNames {
     }
 
     // Puts a name that isn't one of them.
-    #[tactic(auto, using(crate::proofs::Named::naming))]
     fn put(&mut self, alloc: Global, name: &[u8]) -> Result<(), NoMemory>
         requires { is_among name.now self.old ≡ false }
         ensures { OnOk result (self.new ≡ self.old ++ name.now ∷ []) }
@@ -83,12 +81,7 @@ fn is_known(ports: &Ports, names: &NewNames, name: &[u8]) -> bool
 }
 
 // Puts a name behind the others, if no port has it and it isn't one of them.
-fn put_name(
-    alloc: Global,
-    ports: &Ports,
-    names: &mut NewNames,
-    name: &[u8],
-) -> Result<(), NoMemory>
+fn put_name(alloc: Global, ports: &Ports, names: &mut NewNames, name: &[u8]) -> Result<(), NoMemory>
     ensures { OnOk result (names.new ≡ with_name ports.now.present.ports names.old name.now) }
 {
     if !is_known(ports, names, name) {
@@ -98,11 +91,7 @@ fn put_name(
 }
 
 /// Those of the names that no port has, each once, in the order in which they are first named.
-pub(crate) fn new_names(
-    alloc: Global,
-    ports: &Ports,
-    names: &[Bytes],
-) -> Result<NewNames, NoMemory>
+pub(crate) fn new_names(alloc: Global, ports: &Ports, names: &[Bytes]) -> Result<NewNames, NoMemory>
     ensures { IfOk result (λ new. new ≡ new_names ports.now.present.ports names.now) }
 {
     let mut new = NewNames::new(alloc);

@@ -1,8 +1,7 @@
 //! What is written to the file `rules`, after plumber(4).
 
-ghost use Rattle.std.specs.Prelude.{◌≡◌, ◌∷◌, [], IfOk, OnOk};
+ghost use Rattle.std.specs.Prelude.{◌≡◌, IfOk, OnOk};
 ghost use Rattle.core_scene.specs.Scenes.{scene_of, kept_of, Did};
-ghost use Rattle.core_scene.specs.declared.deed.Deed.TheVariants as deed;
 ghost use Rattle.core_rules.specs.Writing.{rules_outcome, rest_outcome, clear_deeds, held_after};
 
 use crate::adding::{Written, add};
