@@ -68,11 +68,15 @@ edit_deeds e m s = then_ e (shown_deeds e m) (copies_if_open edit_name m) s
 
 -- ---- other ports
 
--- to a port without openings: the command is started, and the message is kept where the command is to take it
+-- the message waits for an opening of the port, where a command is started that is to take it
+abbrev pub keep_deeds : List ℕ → PlumbMsg → Way → List Deed
+keep_deeds name m way.Port = []
+keep_deeds name m (way.Start command) = []
+keep_deeds name m (way.Client command) = deed.Delivers name (msg_text m) true ∷ []
+
+-- to a port without openings: the command is started
 abbrev pub closed_deeds : List ℕ → PlumbMsg → Way → List Deed
-closed_deeds name m way.Port = []
-closed_deeds name m (way.Start command) = start_deeds m (way.Start command)
-closed_deeds name m (way.Client command) = start_deeds m (way.Client command) ++ deed.Delivers name (msg_text m) true ∷ []
+closed_deeds name m way = start_deeds m way ++ keep_deeds name m way
 
 abbrev pub port_deeds : List ℕ → PlumbMsg → Way → SceneState → List Deed
 port_deeds name m way s = if is_open_named s.ports name then copy_deeds name m else closed_deeds name m way

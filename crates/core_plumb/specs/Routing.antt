@@ -1,5 +1,5 @@
 -- Where a plumb message goes, and why it isn't delivered there (plumb(6), plumber(4)).
-use Rattle.std.specs.Prelude.{ℕ, List, Option, Some, None, if◌then◌else◌}
+use Rattle.std.specs.Prelude.{◌≡◌, ℕ, true, List, Option, Some, None, if◌then◌else◌}
 use Rattle.std.specs.Str.{bytes_eq}
 use Rattle.plumb_msg.specs.Spelling.{can_spell}
 use Rattle.plumb_msg.specs.declared.message.PlumbMsg.{PlumbMsg}
@@ -16,6 +16,10 @@ use Rattle.core_plumb.specs.declared.refusal.PlumbRefusal.TheVariants as refusal
 -- the route of a message by the accepted rules; one that can't be written has none
 abbrev pub route_in : PlumbMsg → SceneState → Option Route
 route_in m s = if can_spell m then route_of s.files s.rules.sets m else None
+
+-- a route whose message can be written
+abbrev pub IsSpelled : Route → Type 0
+IsSpelled route = can_spell route.msg ≡ true
 
 -- ---- why it isn't delivered
 

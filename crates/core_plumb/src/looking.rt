@@ -1,22 +1,98 @@
 //! Look, as it asks the plumber first.
 
-ghost use Rattle.std.specs.Prelude.{◌≡◌, IfOk, OnOk};
+ghost use Rattle.std.specs.Prelude.{◌≡◌, ◌==◌, false, not, is_none, length, IfOk, OnOk};
+ghost use Rattle.am_text.specs.Utf8.{utf8};
 ghost use Rattle.core_scene.specs.Scenes.{scene_of, kept_of, Did};
-ghost use Rattle.core_plumb.specs.Looking.{is_plumbed, plumb_look_deeds};
+ghost use Rattle.core_plumb.specs.Routing.{plumb_refusal};
+ghost use Rattle.core_plumb.specs.Looking.{look_msg, look_msg_at, asked_msg, is_plumbed, plumb_look_deeds};
 
-use am_text::{NoMemory, Runes};
-use core_scene::{Entry, Scene};
+use crate::plumbing::plumb;
+use crate::routing::{route_in, route_refusal};
+use am_text::{Bytes, NoMemory, Runes, encode};
+use core_actions::dir_at;
+use core_scene::{Entry, RuleStore, Scene};
+use plumb_msg::{Attrs, PlumbMsg};
 use std::alloc::Global;
 
-/// Whether the plumber takes a look at a text of a window: it has rules, the text has at most 1,048,576 bytes, and its message,
-/// from `acme` in the window's directory, can be delivered.
+// How many bytes of data a message has at most.
+const MOST: usize = 1_048_576;
+
+// The message of a look at a text in a directory.
+#[tactic(auto, unfolding(crate::specs::Looking::look_msg))]
+fn look_msg(alloc: Global, dir: &Runes, text: &Runes) -> Result<PlumbMsg, NoMemory>
+    ensures exact { IfOk result (λ msg. msg ≡ look_msg dir.now text.now) }
+    ensures body { IfOk result (λ msg. msg.body ≡ utf8 text.now) }
+{
+    Ok(PlumbMsg {
+        src: Bytes::copied(alloc, b"acme")?,
+        dst: Bytes::new(alloc),
+        wdir: encode(alloc, dir)?,
+        sort: Bytes::copied(alloc, b"text")?,
+        attrs: Attrs::new(alloc),
+        body: encode(alloc, text)?,
+    })
+}
+
+// The message of a look in a window.
+fn look_msg_at(
+    alloc: Global,
+    scene: &Scene,
+    window: u32,
+    text: &Runes,
+) -> Result<PlumbMsg, NoMemory>
+    ensures exact { IfOk result (λ msg. msg ≡ look_msg_at window text.now (scene_of scene.now)) }
+    ensures body { IfOk result (λ msg. msg.body ≡ utf8 text.now) }
+{
+    let dir = dir_at(alloc, &scene.windows, window)?;
+    look_msg(alloc, &dir, text)
+}
+
+fn has_rules(rules: &RuleStore) -> bool
+    ensures { result ≡ not (length rules.now.present.sets == 0) }
+{
+    !rules.sets().is_empty()
+}
+
+// The message of which the plumber is asked, if it is: it has rules, and the text isn't longer than the data of a message.
+fn asked_msg(
+    alloc: Global,
+    scene: &Scene,
+    window: u32,
+    text: &Runes,
+) -> Result<Option<PlumbMsg>, NoMemory>
+    ensures { IfOk result (λ msg. msg ≡ asked_msg window text.now (scene_of scene.now)) }
+{
+    if !has_rules(&scene.rules) {
+        return Ok(None);
+    }
+    let msg = look_msg_at(alloc, scene, window, text)?;
+    if msg.body.len() <= MOST {
+        Ok(Some(msg))
+    } else {
+        Ok(None)
+    }
+}
+
+// Whether a message would be delivered.
+fn is_taken(alloc: Global, scene: &Scene, msg: &PlumbMsg) -> Result<bool, NoMemory>
+    ensures { IfOk result (λ taken. taken ≡ is_none (plumb_refusal msg.now (scene_of scene.now))) }
+{
+    let route = route_in(alloc, scene, msg)?;
+    Ok(route_refusal(&route, &scene.ports).is_none())
+}
+
+/// Whether the plumber takes a look at a text of a window: it has rules, the text has at most 1,048,576 bytes, and the message
+/// of the look would be delivered: from `acme`, in the window's directory, of type `text`, to no port of its own.
 pub fn is_plumbed(alloc: Global, scene: &Scene, window: u32, text: &Runes) -> Result<bool, NoMemory>
     ensures { IfOk result (λ plumbed. plumbed ≡ is_plumbed window text.now (scene_of scene.now)) }
 {
-    Err(NoMemory)
+    match asked_msg(alloc, scene, window, text)? {
+        Some(msg) => is_taken(alloc, scene, &msg),
+        None => Ok(false),
+    }
 }
 
-/// Plumbs a look at a text of a window, where the plumber takes it, and answers whether it did. Where it didn't, the scene stays
+/// Plumbs a look at a text of a window, where the plumber takes it, and answers whether it does. Where it doesn't, the scene stays
 /// as it was.
 pub fn plumb_look(
     alloc: Global,
@@ -27,7 +103,11 @@ pub fn plumb_look(
 ) -> Result<bool, NoMemory>
     ensures ok { OnOk result (Did entry (scene_of scene.old) (scene_of scene.new) (plumb_look_deeds entry window text.now (scene_of scene.old))) }
     ensures plumbed { IfOk result (λ plumbed. plumbed ≡ is_plumbed window text.now (scene_of scene.old)) }
+    ensures stays { IfOk result (λ plumbed. plumbed ≡ false → scene_of scene.new ≡ scene_of scene.old) }
     ensures kept { kept_of scene.new ≡ kept_of scene.old }
 {
-    Err(NoMemory)
+    match asked_msg(alloc, scene, window, text)? {
+        Some(msg) => Ok(plumb(alloc, scene, entry, &msg)?.is_none()),
+        None => Ok(false),
+    }
 }
