@@ -1,5 +1,5 @@
 -- Routes of messages that can be written.
-use Rattle.std.proofs.Common.{◌≡◌, true, List, Option, Some, None}
+use Rattle.std.proofs.Common.{◌≡◌, true, List, Option, Some, None, sym}
 use Rattle.std.specs.Prelude.{IfSome}
 use Rattle.plumb_msg.specs.Spelling.{can_spell}
 use Rattle.plumb_msg.specs.declared.message.PlumbMsg.{PlumbMsg}
