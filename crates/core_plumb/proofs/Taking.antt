@@ -1,5 +1,5 @@
 -- Ports that take what is delivered.
-use Rattle.std.proofs.Common.{◌≡◌, ℕ, Bool, true, false, cond, List, Option, Some, None, refl}
+use Rattle.std.proofs.Common.{◌≡◌, ℕ, Bool, true, false, cond, List, Option, Some, None, refl, sym, subst}
 use Rattle.plumb_rules.specs.declared.answer.Way.{Way}
 use Rattle.plumb_rules.specs.declared.answer.Way.TheVariants as way
 use Rattle.plumb_ports.specs.PortList.{number_of}
@@ -7,7 +7,7 @@ use Rattle.plumb_ports.specs.PortsState.{PortsState, is_open, is_full, refusal, 
 use Rattle.plumb_ports.specs.declared.fault.PortFault.TheVariants as port
 use Rattle.core_plumb.specs.declared.refusal.PlumbRefusal.TheVariants as plumb
 use Rattle.core_plumb.specs.Routing.{numbered_refusal}
-use Rattle.core_plumb.specs.Delivering.{is_open_at, is_open_named}
+use Rattle.core_plumb.specs.Delivering.{is_open_at, is_open_named, is_client}
 
 open_on : (n : Option ℕ) (p : PortsState) → is_open_at p n ≡ true → refusal_on n p false ≡ None
 open_on None p h = absurd cc
@@ -23,13 +23,13 @@ closed_with true full h k = absurd cc
 closed_with false true h k = absurd cc
 closed_with false false h k = refl
 
-kept_on : (n : Option ℕ) (p : PortsState) (command : List ℕ) → is_open_at p n ≡ false → numbered_refusal (way.Client command) n p ≡ None → refusal_on n p true ≡ None
-kept_on None p command h k = absurd cc
-kept_on (Some n) p command h k = closed_with (is_open p n) (is_full p n) h k
+kept_on : (n : Option ℕ) (p : PortsState) (w : Way) → is_client w ≡ true → is_open_at p n ≡ false → numbered_refusal w n p ≡ None → refusal_on n p true ≡ None
+kept_on n p way.Port c h k = absurd cc
+kept_on n p (way.Start command) c h k = absurd cc
+kept_on None p (way.Client command) c h k = absurd cc
+kept_on (Some n) p (way.Client command) c h k = closed_with (is_open p n) (is_full p n) h k
 
--- one without openings keeps a message that isn't refused
-pub closed_takes : (p : PortsState) (name command : List ℕ) → is_open_named p name ≡ false
-    → numbered_refusal (way.Client command) (number_of p.ports name) p ≡ None → refusal p name true ≡ None
-closed_takes p name command h k = kept_on (number_of p.ports name) p command h k
-
-pub ruleset taking = (open_takes, closed_takes)
+-- one without openings keeps a message that isn't refused, whatever else was done since, while the ports stayed
+pub closed_takes : (p q : PortsState) (name : List ℕ) (w : Way) → q ≡ p → is_client w ≡ true → is_open_named p name ≡ false
+    → numbered_refusal w (number_of p.ports name) p ≡ None → refusal q name true ≡ None
+closed_takes p q name w same c h k = subst (λ (x : PortsState). refusal x name true ≡ None) (sym same) (kept_on (number_of p.ports name) p w c h k)

@@ -1,5 +1,5 @@
 -- What the delivery of a plumb message does (plumb(6), plumber(4)).
-use Rattle.std.specs.Prelude.{ℕ, Bool, false, List, [], ◌∷◌, ◌++◌, codes, Option, Some, None, option_map, if◌then◌else◌}
+use Rattle.std.specs.Prelude.{ℕ, Bool, true, false, List, [], ◌∷◌, ◌++◌, codes, Option, Some, None, option_map, if◌then◌else◌}
 use Rattle.std.specs.Str.{bytes_eq}
 use Rattle.am_text.specs.Utf8.{decode}
 use Rattle.am_text.specs.declared.job.Job.{Job}
@@ -63,16 +63,20 @@ abbrev pub copies_if_open : List ℕ → PlumbMsg → SceneState → List Deed
 copies_if_open name m s = if is_open_named s.ports name then copy_deeds name m else []
 
 -- the editor opens what the data name, and then each opening gets a copy
-abbrev pub edit_deeds : Entry → PlumbMsg → SceneState → List Deed
-edit_deeds e m s = then_ e (shown_deeds e m) (copies_if_open edit_name m) s
+abbrev pub edit_deeds : Entry → List ℕ → PlumbMsg → SceneState → List Deed
+edit_deeds e name m s = then_ e (shown_deeds e m) (copies_if_open name m) s
 
 -- ---- other ports
 
--- the message waits for an opening of the port, where a command is started that is to take it
+-- whether a command is started that is to take the message
+abbrev pub is_client : Way → Bool
+is_client way.Port = false
+is_client (way.Start command) = false
+is_client (way.Client command) = true
+
+-- the message waits for an opening of the port, where it is to
 abbrev pub keep_deeds : List ℕ → PlumbMsg → Way → List Deed
-keep_deeds name m way.Port = []
-keep_deeds name m (way.Start command) = []
-keep_deeds name m (way.Client command) = deed.Delivers name (msg_text m) true ∷ []
+keep_deeds name m way = if is_client way then deed.Delivers name (msg_text m) true ∷ [] else []
 
 -- to a port without openings: the command is started
 abbrev pub closed_deeds : List ℕ → PlumbMsg → Way → List Deed
@@ -82,7 +86,7 @@ abbrev pub port_deeds : List ℕ → PlumbMsg → Way → SceneState → List De
 port_deeds name m way s = if is_open_named s.ports name then copy_deeds name m else closed_deeds name m way
 
 abbrev pub named_deeds : Entry → List ℕ → PlumbMsg → Way → SceneState → List Deed
-named_deeds e name m way s = if bytes_eq name edit_name then edit_deeds e m s else port_deeds name m way s
+named_deeds e name m way s = if bytes_eq name edit_name then edit_deeds e name m s else port_deeds name m way s
 
 -- ---- a route
 

@@ -2,12 +2,12 @@
 
 ghost use Rattle.std.specs.Prelude.{◌≡◌, ◌∷◌, [], true, false, None, Some, OnOk};
 ghost use Rattle.plumb_msg.specs.Spelling as spelling;
-ghost use Rattle.plumb_ports.specs.PortList.{edit_name, number_of};
+ghost use Rattle.plumb_ports.specs.PortList.{number_of};
 ghost use Rattle.plumb_ports.specs.PortsState.{refusal};
 ghost use Rattle.core_scene.specs.Scenes.{scene_of, kept_of, Did};
 ghost use Rattle.core_scene.specs.declared.deed.Deed.TheVariants as deed;
 ghost use Rattle.core_plumb.specs.Routing.{IsSpelled, numbered_refusal, named_refusal, port_refusal};
-ghost use Rattle.core_plumb.specs.Delivering.{is_open_named, copy_deeds, copies_if_open, edit_deeds, closed_deeds, port_deeds, named_deeds, deliver_deeds};
+ghost use Rattle.core_plumb.specs.Delivering.{is_open_named, copy_deeds, copies_if_open, edit_deeds, is_client, closed_deeds, port_deeds, named_deeds, deliver_deeds};
 
 use crate::editing::show;
 use crate::routing::is_edit;
@@ -19,22 +19,21 @@ use plumb_rules::{Route, Way};
 use std::alloc::Global;
 
 // Whether the port of this name has an opening.
-fn is_open_named(ports: &Ports, name: &[u8]) -> bool
+fn is_open_named(ports: &Ports, name: &Bytes) -> bool
     ensures { result ≡ is_open_named ports.now.present name.now }
 {
-    match ports.number(name) {
+    match ports.number(name.as_slice()) {
         Some(port) => ports.is_open(port),
         None => false,
     }
 }
 
 // Gives each opening of a port that is open a copy of a message.
-#[tactic(auto, using(crate::proofs::Taking::taking))]
 fn copy(
     alloc: Global,
     scene: &mut Scene,
     entry: Entry,
-    name: &[u8],
+    name: &Bytes,
     msg: &PlumbMsg,
 ) -> Result<(), NoMemory>
     requires opened { is_open_named scene.old.ports.present name.now ≡ true }
@@ -42,7 +41,7 @@ fn copy(
     ensures ok { OnOk result (Did entry (scene_of scene.old) (scene_of scene.new) (copy_deeds name.now msg.now)) }
     ensures kept { kept_of scene.new ≡ kept_of scene.old }
 {
-    let port = Bytes::copied(alloc, name)?;
+    let port = Bytes::copied(alloc, name.as_slice())?;
     let message = write_msg(alloc, msg)?;
     scene.act(
         alloc,
@@ -56,12 +55,11 @@ fn copy(
 }
 
 // Has a port without openings keep a message, which it has room for.
-#[tactic(auto, using(crate::proofs::Taking::taking))]
 fn keep(
     alloc: Global,
     scene: &mut Scene,
     entry: Entry,
-    name: &[u8],
+    name: &Bytes,
     msg: &PlumbMsg,
 ) -> Result<(), NoMemory>
     requires takes { refusal scene.old.ports.present name.now true ≡ None }
@@ -69,7 +67,7 @@ fn keep(
     ensures ok { OnOk result (Did entry (scene_of scene.old) (scene_of scene.new) (deed.Delivers name.now (spelling.msg_text msg.now) true ∷ [])) }
     ensures kept { kept_of scene.new ≡ kept_of scene.old }
 {
-    let port = Bytes::copied(alloc, name)?;
+    let port = Bytes::copied(alloc, name.as_slice())?;
     let message = write_msg(alloc, msg)?;
     scene.act(
         alloc,
@@ -87,7 +85,7 @@ fn copy_if_open(
     alloc: Global,
     scene: &mut Scene,
     entry: Entry,
-    name: &[u8],
+    name: &Bytes,
     msg: &PlumbMsg,
 ) -> Result<(), NoMemory>
     requires { spelling.can_spell msg.now ≡ true }
@@ -101,44 +99,42 @@ fn copy_if_open(
     }
 }
 
-// Gives each opening of port `edit` a copy of a message, if it has any.
-#[tactic(auto, unfolding(plumb_ports::specs::PortList::edit_name))]
-fn copy_to_edit(
-    alloc: Global,
-    scene: &mut Scene,
-    entry: Entry,
-    msg: &PlumbMsg,
-) -> Result<(), NoMemory>
-    requires { spelling.can_spell msg.now ≡ true }
-    ensures ok { OnOk result (Did entry (scene_of scene.old) (scene_of scene.new) (copies_if_open edit_name msg.now (scene_of scene.old))) }
-    ensures kept { kept_of scene.new ≡ kept_of scene.old }
-{
-    copy_if_open(alloc, scene, entry, b"edit", msg)
-}
-
-// Delivers a message to port `edit`: the editor opens what the data name, and then each opening gets a copy.
+// Delivers a message to port `edit`, which has this name: the editor opens what the data name, and then each opening gets a
+// copy.
 #[tactic(auto, using(crate::proofs::Joined::joins))]
 fn deliver_to_edit(
     alloc: Global,
     scene: &mut Scene,
     entry: Entry,
+    name: &Bytes,
     msg: &PlumbMsg,
 ) -> Result<(), NoMemory>
     requires { spelling.can_spell msg.now ≡ true }
-    ensures ok { OnOk result (Did entry (scene_of scene.old) (scene_of scene.new) (edit_deeds entry msg.now (scene_of scene.old))) }
+    ensures ok { OnOk result (Did entry (scene_of scene.old) (scene_of scene.new) (edit_deeds entry name.now msg.now (scene_of scene.old))) }
     ensures kept { kept_of scene.new ≡ kept_of scene.old }
 {
     show(alloc, scene, entry, msg)?;
-    copy_to_edit(alloc, scene, entry, msg)
+    copy_if_open(alloc, scene, entry, name, msg)
+}
+
+// Whether a command is started that is to take the message.
+fn is_client(way: &Way) -> bool
+    ensures { result ≡ is_client way.now }
+{
+    match way {
+        Way::Port => false,
+        Way::Start(_) => false,
+        Way::Client(_) => true,
+    }
 }
 
 // Delivers a message to a port without openings, which doesn't refuse it.
-#[tactic(auto, using(crate::proofs::Taking::taking, crate::proofs::Joined::joins))]
+#[tactic(auto, using(crate::proofs::Joined::joins))]
 fn deliver_to_closed(
     alloc: Global,
     scene: &mut Scene,
     entry: Entry,
-    name: &[u8],
+    name: &Bytes,
     route: &Route,
 ) -> Result<(), NoMemory>
     requires takes { numbered_refusal route.now.way (number_of scene.old.ports.present.ports name.now) scene.old.ports.present ≡ None }
@@ -148,10 +144,11 @@ fn deliver_to_closed(
     ensures kept { kept_of scene.new ≡ kept_of scene.old }
 {
     start(alloc, scene, entry, &route.msg, &route.way)?;
-    match &route.way {
-        Way::Port => Ok(()),
-        Way::Start(_) => Ok(()),
-        Way::Client(_) => keep(alloc, scene, entry, name, &route.msg),
+    let client = is_client(&route.way);
+    if client {
+        keep(alloc, scene, entry, name, &route.msg)
+    } else {
+        Ok(())
     }
 }
 
@@ -160,7 +157,7 @@ fn deliver_to_port(
     alloc: Global,
     scene: &mut Scene,
     entry: Entry,
-    name: &[u8],
+    name: &Bytes,
     route: &Route,
 ) -> Result<(), NoMemory>
     requires takes { numbered_refusal route.now.way (number_of scene.old.ports.present.ports name.now) scene.old.ports.present ≡ None }
@@ -180,7 +177,7 @@ fn deliver_to_named(
     alloc: Global,
     scene: &mut Scene,
     entry: Entry,
-    name: &[u8],
+    name: &Bytes,
     route: &Route,
 ) -> Result<(), NoMemory>
     requires takes { named_refusal route.now.way name.now scene.old.ports.present ≡ None }
@@ -188,8 +185,8 @@ fn deliver_to_named(
     ensures ok { OnOk result (Did entry (scene_of scene.old) (scene_of scene.new) (named_deeds entry name.now route.now.msg route.now.way (scene_of scene.old))) }
     ensures kept { kept_of scene.new ≡ kept_of scene.old }
 {
-    if is_edit(name) {
-        deliver_to_edit(alloc, scene, entry, &route.msg)
+    if is_edit(name.as_slice()) {
+        deliver_to_edit(alloc, scene, entry, name, &route.msg)
     } else {
         deliver_to_port(alloc, scene, entry, name, route)
     }
@@ -208,7 +205,7 @@ pub(crate) fn deliver(
     ensures kept { kept_of scene.new ≡ kept_of scene.old }
 {
     match &route.port {
-        Some(name) => deliver_to_named(alloc, scene, entry, name.as_slice(), route),
+        Some(name) => deliver_to_named(alloc, scene, entry, name, route),
         None => start(alloc, scene, entry, &route.msg, &route.way),
     }
 }

@@ -4,7 +4,7 @@ ghost use Rattle.std.specs.Prelude.{◌≡◌, ◌==◌, false, not, is_none, le
 ghost use Rattle.am_text.specs.Utf8.{utf8};
 ghost use Rattle.core_scene.specs.Scenes.{scene_of, kept_of, Did};
 ghost use Rattle.core_plumb.specs.Routing.{plumb_refusal};
-ghost use Rattle.core_plumb.specs.Looking.{look_msg, look_msg_at, asked_msg, is_plumbed, plumb_look_deeds};
+ghost use Rattle.core_plumb.specs.Looking.{look_msg, look_msg_at, asked_msg, is_taken, is_plumbed, plumbed_if_any, plumb_look_deeds};
 
 use crate::plumbing::plumb;
 use crate::routing::{route_in, route_refusal};
@@ -74,11 +74,42 @@ fn asked_msg(
 }
 
 // Whether a message would be delivered.
-fn is_taken(alloc: Global, scene: &Scene, msg: &PlumbMsg) -> Result<bool, NoMemory>
-    ensures { IfOk result (λ taken. taken ≡ is_none (plumb_refusal msg.now (scene_of scene.now))) }
+fn is_delivered(alloc: Global, scene: &Scene, msg: &PlumbMsg) -> Result<bool, NoMemory>
+    ensures { IfOk result (λ delivered. delivered ≡ is_none (plumb_refusal msg.now (scene_of scene.now))) }
 {
     let route = route_in(alloc, scene, msg)?;
     Ok(route_refusal(&route, &scene.ports).is_none())
+}
+
+// Whether there is a message, and it would be delivered.
+fn is_taken(alloc: Global, scene: &Scene, asked: &Option<PlumbMsg>) -> Result<bool, NoMemory>
+    ensures { IfOk result (λ taken. taken ≡ is_taken asked.now (scene_of scene.now)) }
+{
+    match asked {
+        Some(msg) => is_delivered(alloc, scene, msg),
+        None => Ok(false),
+    }
+}
+
+// Delivers a message, if there is one, and answers whether it is delivered.
+fn plumb_if_any(
+    alloc: Global,
+    scene: &mut Scene,
+    entry: Entry,
+    asked: &Option<PlumbMsg>,
+) -> Result<bool, NoMemory>
+    ensures ok { OnOk result (Did entry (scene_of scene.old) (scene_of scene.new) (plumbed_if_any entry asked.now (scene_of scene.old))) }
+    ensures taken { IfOk result (λ taken. taken ≡ is_taken asked.now (scene_of scene.old)) }
+    ensures stays { IfOk result (λ taken. taken ≡ false → scene_of scene.new ≡ scene_of scene.old) }
+    ensures kept { kept_of scene.new ≡ kept_of scene.old }
+{
+    match asked {
+        Some(msg) => {
+            let refusal = plumb(alloc, scene, entry, msg)?;
+            Ok(refusal.is_none())
+        }
+        None => Ok(false),
+    }
 }
 
 /// Whether the plumber takes a look at a text of a window: it has rules, the text has at most 1,048,576 bytes, and the message
@@ -86,10 +117,8 @@ fn is_taken(alloc: Global, scene: &Scene, msg: &PlumbMsg) -> Result<bool, NoMemo
 pub fn is_plumbed(alloc: Global, scene: &Scene, window: u32, text: &Runes) -> Result<bool, NoMemory>
     ensures { IfOk result (λ plumbed. plumbed ≡ is_plumbed window text.now (scene_of scene.now)) }
 {
-    match asked_msg(alloc, scene, window, text)? {
-        Some(msg) => is_taken(alloc, scene, &msg),
-        None => Ok(false),
-    }
+    let asked = asked_msg(alloc, scene, window, text)?;
+    is_taken(alloc, scene, &asked)
 }
 
 /// Plumbs a look at a text of a window, where the plumber takes it, and answers whether it does. Where it doesn't, the scene stays
@@ -106,8 +135,6 @@ pub fn plumb_look(
     ensures stays { IfOk result (λ plumbed. plumbed ≡ false → scene_of scene.new ≡ scene_of scene.old) }
     ensures kept { kept_of scene.new ≡ kept_of scene.old }
 {
-    match asked_msg(alloc, scene, window, text)? {
-        Some(msg) => Ok(plumb(alloc, scene, entry, &msg)?.is_none()),
-        None => Ok(false),
-    }
+    let asked = asked_msg(alloc, scene, window, text)?;
+    plumb_if_any(alloc, scene, entry, &asked)
 }

@@ -50,9 +50,11 @@ pub fn plumb(
     ensures kept { kept_of scene.new ≡ kept_of scene.old }
 {
     let route = route_in(alloc, scene, msg)?;
-    if let Some(refusal) = route_refusal(&route, &scene.ports) {
-        return Ok(Some(refusal));
+    match route_refusal(&route, &scene.ports) {
+        Some(refusal) => Ok(Some(refusal)),
+        None => {
+            deliver_if_any(alloc, scene, entry, &route)?;
+            Ok(None)
+        }
     }
-    deliver_if_any(alloc, scene, entry, &route)?;
-    Ok(None)
 }
