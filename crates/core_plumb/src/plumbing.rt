@@ -3,7 +3,7 @@
 ghost use Rattle.std.specs.Prelude.{◌≡◌, None, IsSome, IfSome, IfOk, OnOk};
 ghost use Rattle.core_scene.specs.Scenes.{scene_of, kept_of, Did};
 ghost use Rattle.core_plumb.specs.Routing.{IsSpelled, route_refusal, plumb_refusal};
-ghost use Rattle.core_plumb.specs.Plumbing.{delivered_if_any, plumb_deeds};
+ghost use Rattle.core_plumb.specs.Plumbing.{delivered_if_any, routed_deeds, plumb_deeds};
 
 use crate::delivering::deliver;
 use crate::refusal::PlumbRefusal;
@@ -32,6 +32,28 @@ fn deliver_if_any(
     }
 }
 
+// Delivers a message by its route, or says why it isn't delivered.
+fn plumb_by(
+    alloc: Global,
+    scene: &mut Scene,
+    entry: Entry,
+    route: &Option<Route>,
+) -> Result<Option<PlumbRefusal>, NoMemory>
+    requires { IfSome route.now IsSpelled }
+    ensures ok { OnOk result (Did entry (scene_of scene.old) (scene_of scene.new) (routed_deeds entry route.now (scene_of scene.old))) }
+    ensures refusal { IfOk result (λ refusal. refusal ≡ route_refusal route.now scene.old.ports.present) }
+    ensures stays { IfOk result (λ refusal. IsSome refusal → scene_of scene.new ≡ scene_of scene.old) }
+    ensures kept { kept_of scene.new ≡ kept_of scene.old }
+{
+    match route_refusal(route, &scene.ports) {
+        Some(refusal) => Ok(Some(refusal)),
+        None => {
+            deliver_if_any(alloc, scene, entry, route)?;
+            Ok(None)
+        }
+    }
+}
+
 /// Delivers a plumb message, or says why it isn't delivered, and then the scene stays as it was.
 ///
 /// The message goes by the accepted rules, or else to the port that it names, as the rules leave it. An open port gives each of
@@ -50,11 +72,5 @@ pub fn plumb(
     ensures kept { kept_of scene.new ≡ kept_of scene.old }
 {
     let route = route_in(alloc, scene, msg)?;
-    match route_refusal(&route, &scene.ports) {
-        Some(refusal) => Ok(Some(refusal)),
-        None => {
-            deliver_if_any(alloc, scene, entry, &route)?;
-            Ok(None)
-        }
-    }
+    plumb_by(alloc, scene, entry, &route)
 }
