@@ -1,0 +1,4 @@
+pub mod Joined
+pub mod Taking
+pub mod Spelled
+pub mod Same

@@ -1,0 +1,4 @@
+pub mod Routing
+pub mod Delivering
+pub mod Plumbing
+pub mod Looking

@@ -1,0 +1,4 @@
+pub mod NewNames
+pub mod Adding
+pub mod Writing
+pub mod RulesLaws
