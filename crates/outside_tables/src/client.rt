@@ -141,26 +141,84 @@ pub(crate) fn bytes_of(alloc: Global, field: &str) -> Result<Bytes, Fault> {
     }
 }
 
-/// The answer to the fields behind the word `client`.
-pub(crate) fn client_line(alloc: Global, fields: &str) -> Result<Bytes, Fault> {
+// The fields of a case.
+#[derive(Clone, Copy)]
+struct Case<'a> {
+    piece: &'a str,
+    reads: &'a str,
+    writes: &'a str,
+    room: &'a str,
+    calls: &'a str,
+    digits: &'a str,
+}
+
+fn case_of(fields: &str) -> Result<Case<'_>, Fault> {
     let (piece, fields) = cut(fields)?;
     let (reads, fields) = cut(fields)?;
     let (writes, fields) = cut(fields)?;
     let (room, fields) = cut(fields)?;
     let (calls, digits) = cut(fields)?;
-    let source = source_of(
-        alloc,
+    Ok(Case {
         piece,
-        numbers_of(alloc, reads)?,
-        bytes_of(alloc, digits)?,
-    )?;
-    let sink = sink_of(alloc, piece, numbers_of(alloc, writes)?, room)?;
-    let mut client = Client::new(alloc, source, sink);
-    let mut line = Bytes::new(alloc);
+        reads,
+        writes,
+        room,
+        calls,
+        digits,
+    })
+}
+
+// A source that fails at these calls, and gives the bytes that these digits spell.
+pub(crate) fn told_source(
+    alloc: Global,
+    piece: &str,
+    fails: &str,
+    digits: &str,
+) -> Result<MemSource, Fault> {
+    let bytes = bytes_of(alloc, digits)?;
+    source_of(alloc, piece, numbers_of(alloc, fails)?, bytes)
+}
+
+// A sink that fails at these calls.
+pub(crate) fn told_sink(
+    alloc: Global,
+    piece: &str,
+    fails: &str,
+    room: &str,
+) -> Result<MemSink, Fault> {
+    sink_of(alloc, piece, numbers_of(alloc, fails)?, room)
+}
+
+fn client_of(alloc: Global, case: Case) -> Result<MemClient, Fault> {
+    let source = told_source(alloc, case.piece, case.reads, case.digits)?;
+    let sink = told_sink(alloc, case.piece, case.writes, case.room)?;
+    Ok(Client::new(alloc, source, sink))
+}
+
+fn put_calls(
+    alloc: Global,
+    line: &mut Bytes,
+    client: &mut MemClient,
+    calls: &str,
+) -> Result<(), Fault> {
     for call in calls.split(',') {
-        put_call(alloc, &mut line, &mut client, call)?;
+        put_call(alloc, line, client, call)?;
     }
+    Ok(())
+}
+
+// What a sink holds, in hexadecimal digits.
+pub(crate) fn put_held(alloc: Global, line: &mut Bytes, sink: &MemSink) -> Result<(), Fault> {
+    put(line, hex::encode(alloc, sink.held())?.as_bytes())
+}
+
+/// The answer to the fields behind the word `client`.
+pub(crate) fn client_line(alloc: Global, fields: &str) -> Result<Bytes, Fault> {
+    let case = case_of(fields)?;
+    let mut client = client_of(alloc, case)?;
+    let mut line = Bytes::new(alloc);
+    put_calls(alloc, &mut line, &mut client, case.calls)?;
     let (_, sink) = client.parts();
-    put(&mut line, hex::encode(alloc, sink.held())?.as_bytes())?;
+    put_held(alloc, &mut line, &sink)?;
     Ok(line)
 }

@@ -13,9 +13,9 @@ ghost use Rattle.ninep_types.specs.Spelling.{IsString};
 ghost use Rattle.ninep_client.specs.Asking.{begun};
 ghost use Rattle.do_lines.specs.Lawful.{AreLawful};
 
-use crate::client::{MemClient, bytes_of, fault_word};
+use crate::client::{MemClient, fault_word, put_held, told_sink, told_source};
 use crate::fault::Fault;
-use crate::outside::{cut, numbers_of, put, sink_of, source_of};
+use crate::outside::{cut, put};
 use am_base::MemSink;
 use am_do::{Done, Stop, do_lines};
 use am_text::{Bytes, decimal};
@@ -60,6 +60,19 @@ fn end_word(stop: &Option<Stop>) -> &'static [u8] {
     }
 }
 
+// How a talk ended, and what its output and its sink hold.
+fn told(alloc: Global, done: &Done, output: &MemSink, sink: &MemSink) -> Result<Bytes, Fault> {
+    let mut line = Bytes::new(alloc);
+    put(&mut line, end_word(&done.stop))?;
+    if done.failed {
+        put(&mut line, b"cut")?;
+    }
+    put(&mut line, b"")?;
+    put_exchanged(&mut line, output.held(), NEWLINE, MARK)?;
+    put_held(alloc, &mut line, sink)?;
+    Ok(line)
+}
+
 fn talk(
     alloc: Global,
     client: MemClient,
@@ -73,17 +86,9 @@ fn talk(
 {
     let mut client = client;
     let mut output = output;
-    let Done { stop, failed } = do_lines(alloc, &mut client, tree, lines, &mut output);
-    let mut line = Bytes::new(alloc);
-    put(&mut line, end_word(&stop))?;
-    if failed {
-        put(&mut line, b"cut")?;
-    }
-    put(&mut line, b"")?;
-    put_exchanged(&mut line, output.held(), NEWLINE, MARK)?;
+    let done = do_lines(alloc, &mut client, tree, lines, &mut output);
     let (_, sink) = client.parts();
-    put(&mut line, hex::encode(alloc, sink.held())?.as_bytes())?;
-    Ok(line)
+    told(alloc, &done, &output, &sink)
 }
 
 fn refused(alloc: Global, number: u64) -> Result<Bytes, Fault> {
@@ -93,27 +98,68 @@ fn refused(alloc: Global, number: u64) -> Result<Bytes, Fault> {
     Ok(line)
 }
 
-/// The answer to the fields behind the word `do`.
-pub(crate) fn do_line(alloc: Global, fields: &str) -> Result<Bytes, Fault> {
+// The fields of a case.
+#[derive(Clone, Copy)]
+struct Case<'a> {
+    reads: &'a str,
+    writes: &'a str,
+    fails: &'a str,
+    tree: &'a str,
+    lines: &'a str,
+    digits: &'a str,
+}
+
+fn case_of(fields: &str) -> Result<Case<'_>, Fault> {
     let (reads, fields) = cut(fields)?;
     let (writes, fields) = cut(fields)?;
     let (fails, fields) = cut(fields)?;
     let (tree, fields) = cut(fields)?;
     let (lines, digits) = cut(fields)?;
-    let source = source_of(
-        alloc,
-        PIECE,
-        numbers_of(alloc, reads)?,
-        bytes_of(alloc, digits)?,
-    )?;
-    let sink = sink_of(alloc, PIECE, numbers_of(alloc, writes)?, ROOM)?;
-    let output = sink_of(alloc, PIECE, numbers_of(alloc, fails)?, ROOM)?;
+    Ok(Case {
+        reads,
+        writes,
+        fails,
+        tree,
+        lines,
+        digits,
+    })
+}
+
+fn client_of(alloc: Global, case: Case) -> Result<MemClient, Fault>
+    ensures { IfOk result (λ client. client.talk ≡ begun) }
+{
+    let source = told_source(alloc, PIECE, case.reads, case.digits)?;
+    let sink = told_sink(alloc, PIECE, case.writes, ROOM)?;
+    Ok(Client::new(alloc, source, sink))
+}
+
+// The lines of a case, or the first that is refused.
+fn lines_of(alloc: Global, lines: &str) -> Result<Result<DoLines, u64>, Fault>
+    ensures { IfOk result (λ read. IfOk read AreLawful) }
+{
     let mut input = Bytes::new(alloc);
     put_exchanged(&mut input, lines.as_bytes(), MARK, NEWLINE)?;
-    let tree = tree_of(tree)?;
     match read_do_lines(alloc, input.as_slice()) {
-        Ok(lines) => talk(alloc, Client::new(alloc, source, sink), output, tree, lines),
-        Err(LinesFault::Line(k)) => refused(alloc, k),
+        Ok(lines) => Ok(Ok(lines)),
+        Err(LinesFault::Line(number)) => Ok(Err(number)),
         Err(LinesFault::NoMemory) => Err(Fault::NoMemory),
+    }
+}
+
+fn talked(alloc: Global, case: Case, lines: DoLines) -> Result<Bytes, Fault>
+    requires { AreLawful lines }
+{
+    let tree = tree_of(case.tree)?;
+    let client = client_of(alloc, case)?;
+    let output = told_sink(alloc, PIECE, case.fails, ROOM)?;
+    talk(alloc, client, output, tree, lines)
+}
+
+/// The answer to the fields behind the word `do`.
+pub(crate) fn do_line(alloc: Global, fields: &str) -> Result<Bytes, Fault> {
+    let case = case_of(fields)?;
+    match lines_of(alloc, case.lines)? {
+        Ok(lines) => talked(alloc, case, lines),
+        Err(number) => refused(alloc, number),
     }
 }

@@ -1,4 +1,4 @@
-use Rattle.std.proofs.Common.{List, sym, subst, rules, ◌≡◌, [], true}
+use Rattle.std.proofs.Common.{List, sym, subst, rules, ◌≡◌, true}
 use Rattle.ninep_client.specs.declared.asked.Asked.{Asked}
 use Rattle.ninep_client.specs.Asking.{MaySend}
 use Rattle.outside_tables.proofs.client.version_word.Goals as goal
