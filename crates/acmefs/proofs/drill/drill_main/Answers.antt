@@ -15,3 +15,6 @@ returns-clause-laws g c = c.journals_are_lawful.ensures _ (record {
   played = drill_played c.drill-drilled.result.end c.args.rounds _ _ (c.drill_is_played.ensures.played c.args.rounds c.requires.rounds.1) (c.drill_is_played.ensures.in_range c.args.rounds) c.drill-drilled.ensures.says;
   possible = c.drill-drilled.ensures.possible;
 })
+
+pub returns-clause-events : goal.returns-clause-events
+returns-clause-events g c = c.events_are_lawful.ensures _

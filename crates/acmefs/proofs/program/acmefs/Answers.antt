@@ -57,3 +57,6 @@ returns-clause-doing g c =
     record {
       does = e.does;
     }
+
+pub returns-clause-events : goal.returns-clause-events
+returns-clause-events g c = c.events_are_lawful.ensures _

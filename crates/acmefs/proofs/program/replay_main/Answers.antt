@@ -10,3 +10,6 @@ returns-clause-round_trip g c = says_trips c.replay-ended.result.end _ _ _ _ _ c
 
 pub returns-clause-played : goal.returns-clause-played
 returns-clause-played g c = says_played c.replay-ended.result.end _ _ _ _ _ c.replay-ended.ensures.says
+
+pub returns-clause-events : goal.returns-clause-events
+returns-clause-events g c = c.events_are_lawful.ensures _

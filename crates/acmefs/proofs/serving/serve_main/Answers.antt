@@ -51,3 +51,6 @@ returns-clause-laws g c =
           _ _ _ _ _ _ c.serve.result.end c.serve.ensures.says);
       possible = c.serve.ensures.possible;
     }))
+
+pub returns-clause-events : goal.returns-clause-events
+returns-clause-events g c = c.events_are_lawful.ensures _
