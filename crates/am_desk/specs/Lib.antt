@@ -3,3 +3,4 @@ pub mod Journals
 pub mod Desks
 pub mod Replies
 pub mod Ranged
+pub mod Staying

@@ -2,26 +2,29 @@
 
 ghost use Rattle.std.specs.Prelude.{◌≡◌, ◌<◌, ◌≤◌, false, true, [], IfOk, OnOk, OnErr, IfErr, Ok};
 ghost use Rattle.std.specs.List.{AllByRecursion};
-ghost use Rattle.turn_lock.specs.Words.{view_of};
+ghost use Rattle.turn_lock.specs.Words.{view_of, lock_of, value_of};
+ghost use Rattle.turn_lock.specs.Views.{with_turn, after_leave};
 ghost use Rattle.turn_lock.specs.Journal.{AllStand};
 ghost use Rattle.turn_lock.specs.Kinds.{KeepsOrder};
 ghost use Rattle.am_journal.specs.Lawful.{IsLawful, IsInRange};
 ghost use Rattle.am_counter.specs.declared.ask.Ask.TheVariants as ask;
 ghost use Rattle.am_counter.specs.declared.ask.Taken.TheVariants as taken;
 ghost use Rattle.am_counter.specs.Known.{Looks, Submits, TakesBytes, without_parts, new_known, lists_of, TakesIn};
-ghost use Rattle.am_counter.specs.Played.{IsPlayed, IsHang, IsWhy, Refuses};
+ghost use Rattle.am_counter.specs.Played.{IsPlayed, IsPrefix, IsHang, IsWhy, Refuses};
 ghost use Rattle.am_counter.specs.Telling.{with_told};
 ghost use Rattle.acme_core.specs.Asks.{answer_at};
 ghost use Rattle.acme_core.specs.Run.{enabled, output_at, settled};
+ghost use Rattle.am_desk.specs.Journals.{journal_of};
 ghost use Rattle.am_desk.specs.Knowing.{first_known, joined, EachOnce};
 ghost use Rattle.am_desk.specs.Replies.{told_by};
+ghost use Rattle.am_desk.specs.Staying.{Stays, stays-prop};
 
 use crate::settled::Settled;
 use acme_core::{Ask, Bytes, Core, Event, NoMemory, Refused};
 use am_counter::{Taken, Told};
 use std::alloc::Global;
 use std::sync::Wait;
-use turn_lock::{Seat, Turn};
+use turn_lock::{Held, Seat, Stay, Turn};
 
 /// One editor that threads share.
 #[derive(Drop)]
@@ -29,15 +32,24 @@ pub struct Desk {
     turn: Turn<Settled>,
 }
 
-/// The right to take turns at a desk. Each caller has one of its own.
+/// The right to take turns at a desk. Each caller has one of its own. Behind a message that was done the seat keeps its turn for the next
+/// call, so that messages which come together take one turn. Any other call gives the turn up, and so does a message that is refused: who
+/// submits messages has to make such a call before it waits for anything.
 #[derive(Drop)]
 pub struct DeskSeat {
     seat: Seat<Settled>,
-    ghost idle: { (view_of seat).turn ≡ false },
+    // The editor, while the seat keeps its turn.
+    stay: Option<Stay<Settled>>,
+    ghost stays: { Stays stay (view_of seat) } by { stays-prop stay (view_of seat) },
+}
+
+// Behind a message the seat keeps its turn.
+fn is_message(event: &Event) -> bool {
+    matches!(event, Event::Msg { .. })
 }
 
 impl Desk {
-    ghost use Rattle.am_desk.specs.Desks.{desk_id, desk_parts, seat_lock, known_of};
+    ghost use Rattle.am_desk.specs.Desks.{desk_id, desk_parts, seat_lock, known_in, known_of};
 
     /// A desk with the empty editor, and its first seat, which has all parts. Only want of memory refuses it.
     pub fn new(alloc: Global, parts: u64) -> Result<(Desk, DeskSeat), NoMemory>
@@ -47,11 +59,82 @@ impl Desk {
         ensures known { IfOk result (λ made. known_of made.1 ≡ first_known parts) }
     {
         let (turn, seat) = Turn::new(alloc, Settled::new(alloc)?, parts)?;
-        Ok((Desk { turn }, DeskSeat { seat }))
+        Ok((Desk { turn }, DeskSeat { seat, stay: None }))
+    }
+
+    // The turn that the seat keeps, or else a new one.
+    fn enter<R: Wait>(
+        &self,
+        rt: &R,
+        place: &mut Seat<Settled>,
+        stay: &mut Option<Stay<Settled>>,
+    ) -> Held<Settled>
+        requires lock { lock_of place.old ≡ desk_id self.now }
+        requires stays { Stays stay.old (view_of place.old) }
+        ensures lock { lock_of place.new ≡ lock_of place.old }
+        ensures none { stay.new ≡ None }
+        ensures view { view_of place.new ≡ with_turn (view_of place.old) (journal_of (value_of result)) }
+        ensures seen { IsPrefix (view_of place.old).seen (journal_of (value_of result)) }
+    {
+        match stay.take() {
+            Some(stay) => stay.resume(),
+            None => self.turn.enter(rt, place),
+        }
+    }
+
+    // The turn's end, or the value set aside where the seat keeps it.
+    fn end(
+        &self,
+        place: &mut Seat<Settled>,
+        stay: &mut Option<Stay<Settled>>,
+        held: Held<Settled>,
+        keeps: bool,
+    )
+        requires lock { lock_of place.old ≡ desk_id self.now }
+        requires turn { (view_of place.old).turn ≡ true }
+        requires none { stay.old ≡ None }
+        requires noted { journal_of (value_of held) ≡ (view_of place.old).seen }
+        ensures lock { lock_of place.new ≡ lock_of place.old }
+        ensures known { known_in (view_of place.new) ≡ known_in (view_of place.old) }
+        ensures stays { Stays stay.new (view_of place.new) }
+    {
+        if keeps {
+            *stay = Some(held.stay());
+        } else {
+            self.turn.leave(place, held);
+        }
+    }
+
+    // Gives up the turn that the seat keeps, if it does.
+    fn give_up(&self, place: &mut Seat<Settled>, stay: &mut Option<Stay<Settled>>)
+        requires lock { lock_of place.old ≡ desk_id self.now }
+        requires stays { Stays stay.old (view_of place.old) }
+        ensures lock { lock_of place.new ≡ lock_of place.old }
+        ensures none { stay.new ≡ None }
+        ensures view { view_of place.new ≡ after_leave (view_of place.old) }
+    {
+        if let Some(stay) = stay.take() {
+            self.turn.leave(place, stay.resume());
+        }
+    }
+
+    // A seat without the turn that it keeps, if it does.
+    fn idle(&self, seat: DeskSeat) -> Seat<Settled>
+        requires lock { seat_lock seat ≡ desk_id self.now }
+        ensures lock { lock_of result ≡ seat_lock seat }
+        ensures known { known_in (view_of result) ≡ known_of seat }
+        ensures idle { (view_of result).turn ≡ false }
+    {
+        let DeskSeat {
+            seat: mut place,
+            mut stay,
+        } = seat;
+        self.give_up(&mut place, &mut stay);
+        place
     }
 
     /// Does an event in one turn, if it is enabled then, and answers the number of its entry. The connections that it replied to are
-    /// added to `told`. A refusal changes nothing but what the seat has seen.
+    /// added to `told`. A refusal changes nothing but what the seat has seen. Behind a message that was done the seat keeps the turn.
     pub fn submit<R: Wait>(
         &self,
         rt: &R,
@@ -72,16 +155,16 @@ impl Desk {
         // A hang-up is never refused for memory.
         ensures hang { IsHang event → IfErr result IsWhy }
     {
-        let place = &mut seat.seat;
-        let mut held = self.turn.enter(rt, place);
+        let keeps = is_message(&event);
+        let mut held = self.enter(rt, &mut seat.seat, &mut seat.stay);
         match held.value().step(event, told) {
             Ok(number) => {
-                self.turn.note(place, &mut held);
-                self.turn.leave(place, held);
+                self.turn.note(&mut seat.seat, &mut held);
+                self.end(&mut seat.seat, &mut seat.stay, held, keeps);
                 Ok(number)
             }
             Err(refused) => {
-                self.turn.leave(place, held);
+                self.end(&mut seat.seat, &mut seat.stay, held, false);
                 Err(refused)
             }
         }
@@ -106,24 +189,23 @@ impl Desk {
             × (answer_at (known_of seat.new).seen (ask.Ended conn) ≡ true) × (output_at (known_of seat.new).seen conn ≡ []) }
         ensures err { OnErr result (Looks (known_of seat.old) (known_of seat.new) × (into.new ≡ into.old)) }
     {
-        let place = &mut seat.seat;
-        let mut held = self.turn.enter(rt, place);
+        let mut held = self.enter(rt, &mut seat.seat, &mut seat.stay);
         match held.value().take(conn, into) {
             Ok(Taken::Bytes) => {
-                self.turn.note(place, &mut held);
-                self.turn.leave(place, held);
+                self.turn.note(&mut seat.seat, &mut held);
+                self.end(&mut seat.seat, &mut seat.stay, held, false);
                 Ok(Taken::Bytes)
             }
             Ok(Taken::NothingYet) => {
-                self.turn.leave(place, held);
+                self.end(&mut seat.seat, &mut seat.stay, held, false);
                 Ok(Taken::NothingYet)
             }
             Ok(Taken::Ended) => {
-                self.turn.leave(place, held);
+                self.end(&mut seat.seat, &mut seat.stay, held, false);
                 Ok(Taken::Ended)
             }
             Err(NoMemory) => {
-                self.turn.leave(place, held);
+                self.end(&mut seat.seat, &mut seat.stay, held, false);
                 Err(NoMemory)
             }
         }
@@ -137,10 +219,9 @@ impl Desk {
         ensures seen { Looks (known_of seat.old) (known_of seat.new) }
         ensures answer { result ≡ answer_at (known_of seat.new).seen ask }
     {
-        let place = &mut seat.seat;
-        let mut held = self.turn.enter(rt, place);
+        let mut held = self.enter(rt, &mut seat.seat, &mut seat.stay);
         let answer = held.value().look(ask);
-        self.turn.leave(place, held);
+        self.end(&mut seat.seat, &mut seat.stay, held, false);
         answer
     }
 
@@ -153,8 +234,9 @@ impl Desk {
         ensures known { known_of seat.new ≡ without_parts parts (known_of seat.old) }
         ensures new { known_of result ≡ new_known parts (known_of seat.old) }
     {
+        self.give_up(&mut seat.seat, &mut seat.stay);
         let seat = self.turn.split(&mut seat.seat, parts);
-        DeskSeat { seat }
+        DeskSeat { seat, stay: None }
     }
 
     /// Takes in a seat that has ended: its parts, and its own entries. The longer `seen` stays.
@@ -163,7 +245,8 @@ impl Desk {
         ensures lock { seat_lock seat.new ≡ seat_lock seat.old }
         ensures known { known_of seat.new ≡ joined (known_of seat.old) (known_of other) }
     {
-        let DeskSeat { seat: other } = other;
+        let other = self.idle(other);
+        self.give_up(&mut seat.seat, &mut seat.stay);
         self.turn.join(&mut seat.seat, other);
     }
 
@@ -175,7 +258,8 @@ impl Desk {
         ensures played { IsPlayed enabled (known_of seat.new).seen }
         ensures known { TakesIn (known_of seat.old) (known_of other) (known_of seat.new) }
     {
-        let DeskSeat { seat: other } = other;
+        let other = self.idle(other);
+        self.give_up(&mut seat.seat, &mut seat.stay);
         let place = &mut seat.seat;
         self.turn.join(place, other);
         let mut held = self.turn.enter(rt, place);
@@ -195,8 +279,8 @@ impl Desk {
         ensures once { EachOnce (known_of seat) }
         ensures order { KeepsOrder (known_of seat).seen (lists_of (known_of seat)) }
     {
+        let seat = self.idle(seat);
         let Desk { turn } = self;
-        let DeskSeat { seat } = seat;
         let core = turn.close(seat).into_core();
         core.events_were_enabled();
         core

@@ -7,10 +7,12 @@ ghost use Rattle.am_journal.specs.Lawful.{IsLawful, IsInRange};
 ghost use Rattle.am_counter.specs.declared.ask.Ask.TheVariants as ask;
 ghost use Rattle.am_counter.specs.declared.ask.Taken.TheVariants as taken;
 ghost use Rattle.am_counter.specs.Played.{IsPlayed};
+ghost use Rattle.am_counter.specs.Telling.{with_told};
 ghost use Rattle.acme_core.specs.Asks.{answer_at};
 ghost use Rattle.acme_core.specs.Run.{enabled, output_at, settled, Refuses, IsHang, IsWhy};
 ghost use Rattle.am_desk.specs.Knowing.{nothing_taken};
 ghost use Rattle.am_desk.specs.Ranged.{ranged-prop};
+ghost use Rattle.am_desk.specs.Replies.{told_by};
 
 use acme_core::{Ask, Bytes, Core, Event, Items, NoMemory, Refused};
 use am_counter::{Taken, Told};
@@ -20,14 +22,15 @@ use turn_lock::Kept;
 /// How many connections there are.
 const CONNECTIONS: u32 = 64;
 
-/// A core without a plan that waits, with fewer than 2^64 entries, each number of which fits its field.
+/// A core without a plan that waits, with fewer than 2^64 entries, each number of which fits its field. It stands in a box: each turn
+/// moves it out of the lock and back.
 #[derive(Drop)]
 pub struct Settled {
     alloc: Global,
-    core: Core,
-    ghost few: { length core.journal < 2 ^ 64 },
-    ghost idle: { core.planned ≡ None },
-    ghost in_range: { AllByRecursion IsInRange core.journal } by { ranged-prop core.journal },
+    core: Box<Core>,
+    ghost few: { length core.value.journal < 2 ^ 64 },
+    ghost idle: { core.value.planned ≡ None },
+    ghost in_range: { AllByRecursion IsInRange core.value.journal } by { ranged-prop core.value.journal },
 }
 
 // What came of a take where there is nothing to take.
@@ -38,6 +41,17 @@ fn nothing_taken(ended: bool) -> Taken
         Taken::Ended
     } else {
         Taken::NothingYet
+    }
+}
+
+// Adds the connections that the last entry of a core replied to.
+fn tell(core: &Core, told: &mut Told)
+    ensures { told.new.are ≡ with_told told.old.are (told_by core.now.journal) }
+{
+    let mut k = 0;
+    while let Some((conn, _)) = core.last_reply(k) {
+        told.add(conn);
+        k += 1;
     }
 }
 
@@ -52,16 +66,14 @@ impl Kept for Settled {
 }
 
 impl Settled {
-    ghost use Rattle.am_counter.specs.Telling.{with_told};
     ghost use Rattle.am_desk.specs.Journals.{journal_of};
-    ghost use Rattle.am_desk.specs.Replies.{told_by};
 
     /// The empty editor.
     #[tactic(auto, using(crate::proofs::Ranges::ranges))]
     pub fn new(alloc: Global) -> Result<Settled, NoMemory>
         ensures { IfOk result (λ settled. journal_of settled ≡ []) }
     {
-        let core = Core::new(alloc)?;
+        let core = Box::new(alloc, Core::new(alloc)?)?;
         Ok(Settled { alloc, core })
     }
 
@@ -83,17 +95,6 @@ impl Settled {
         answer
     }
 
-    // Adds the connections that the last entry replied to.
-    fn tell(&self, told: &mut Told)
-        ensures { told.new.are ≡ with_told told.old.are (told_by (journal_of self.now)) }
-    {
-        let mut k = 0;
-        while let Some((conn, _)) = self.core.last_reply(k) {
-            told.add(conn);
-            k += 1;
-        }
-    }
-
     /// One step of the core. The connections that it replied to are added to `told`.
     pub fn step(&mut self, event: Event, told: &mut Told) -> Result<u64, Refused>
         requires lawful { IsLawful event }
@@ -109,7 +110,7 @@ impl Settled {
     {
         match self.step_alone(event) {
             Ok(number) => {
-                self.tell(told);
+                tell(self.core.as_ref(), told);
                 Ok(number)
             }
             Err(refused) => Err(refused),
@@ -184,6 +185,6 @@ impl Settled {
         ensures in_range { AllByRecursion IsInRange (journal_of self) }
     {
         let Settled { alloc: _, core } = self;
-        core
+        Box::into_inner(core)
     }
 }

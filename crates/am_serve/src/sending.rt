@@ -7,7 +7,6 @@ ghost use Rattle.am_counter.specs.Known.{Looks};
 ghost use Rattle.am_counter.specs.Played.{has_dial};
 ghost use Rattle.am_serve.specs.Sending.{HasEnded, Sends, Keeps, Tries, sent_for, EndsIn, IsFed, StopsIn, source_with};
 
-use crate::bells::Bells;
 use crate::due::Due;
 use am_base::Source;
 use am_counter::{Ask, Counter};
@@ -36,12 +35,13 @@ pub(crate) enum Sent {
     Stops(Stop),
 }
 
-/// Waits until a message may come on a connection, and answers whether one may, or the connection has ended.
+/// Waits until a message may come on a connection, and answers whether one may, or the connection has ended. Each question gives up the
+/// turn that the seat may have kept behind messages. Only then does it ring for what is due, so that who wakes finds the turn free.
 pub(crate) fn wait_for_room<C: Counter, R: Wait>(
     rt: &R,
     desk: &C,
     seat: &mut C::Seat,
-    bells: &Bells,
+    due: &mut Due<'_>,
     conn: u32,
 ) -> bool
     requires fits { C.fits desk.now seat.old }
@@ -53,13 +53,15 @@ pub(crate) fn wait_for_room<C: Counter, R: Wait>(
 {
     let mut rung = 0;
     for _ in rt.forever() {
-        if bells.is_over(conn) && desk.look(rt, seat, Ask::Ended(conn)) {
+        if due.bells().is_over(conn) && desk.look(rt, seat, Ask::Ended(conn)) {
             return false;
         }
-        if desk.look(rt, seat, Ask::Room(conn)) {
+        let has_room = desk.look(rt, seat, Ask::Room(conn));
+        due.ring();
+        if has_room {
             return true;
         }
-        rung = bells.wait_for_room(rt, conn, rung);
+        rung = due.bells().wait_for_room(rt, conn, rung);
     }
     unreachable!()
 }
@@ -110,7 +112,7 @@ fn try_message<C: Counter, R: Wait>(
     }
 }
 
-/// Submits the message that the bytes spell, once there is room for its reply. It rings for what is due before it waits for that.
+/// Submits the message that the bytes spell, once there is room for its reply.
 pub(crate) fn send_message<C: Counter, R: Wait>(
     rt: &R,
     alloc: Global,
@@ -135,8 +137,7 @@ pub(crate) fn send_message<C: Counter, R: Wait>(
             Sent::Waits => {}
         }
         // The event was dropped, and is read anew.
-        due.ring();
-        if !wait_for_room(rt, desk, seat, due.bells(), conn) {
+        if !wait_for_room(rt, desk, seat, due, conn) {
             return Err(Stop::Ended);
         }
     }
@@ -169,7 +170,7 @@ fn read_piece<S: Source>(source: &mut S, cutter: &mut Cutter) -> Result<(), Endi
     }
 }
 
-/// Rings for what is due, and reads a piece, once there is room for a reply.
+/// Reads a piece, once there is room for a reply.
 pub(crate) fn read_more<C: Counter, S: Source, R: Wait>(
     rt: &R,
     desk: &C,
@@ -189,8 +190,7 @@ pub(crate) fn read_more<C: Counter, S: Source, R: Wait>(
         (source_with (S.left source.old) (S.left source.new) (S.faults source.old) (S.faults source.new) cutter.old)) }
     ensures later { S.faults source.old ≤ S.faults source.new }
 {
-    due.ring();
-    if !wait_for_room(rt, desk, seat, due.bells(), conn) {
+    if !wait_for_room(rt, desk, seat, due, conn) {
         return Err(Stop::Ended);
     }
     match read_piece(source, cutter) {

@@ -8,6 +8,7 @@ use Rattle.turn_lock.specs.declared.view.View.{View}
 use Rattle.turn_lock.specs.declared.turn.Turn.{Turn}
 use Rattle.turn_lock.specs.declared.turn.Seat.{Seat}
 use Rattle.turn_lock.specs.declared.turn.Held.{Held}
+use Rattle.turn_lock.specs.declared.turn.Stay.{Stay}
 use Rattle.turn_lock.specs.contracts.turn.Held.{the_row}
 
 -- which lock it is
@@ -34,6 +35,10 @@ module _ {V E : Type 0} where
 -- the value that is out
 abbrev pub value_of : {V : Type 0} → Held V → V
 value_of held = held.value
+
+-- the value that was set aside
+abbrev pub value_aside : {V : Type 0} → Stay V → V
+value_aside stay = stay.value
 
 -- the value that is out ends as the last one written through r
 abbrev pub LendsValue : (V : RattleType) → MutBor (the_row V).Denot → MutBor V.Denot → Fml

@@ -46,8 +46,15 @@ pub struct Seat<V: Kept> {
 }
 
 /// The value, which is out with the seat that has the turn. It can't be dropped, so it ends in
-/// `leave`.
+/// `leave`, or is set aside by `stay`.
 pub struct Held<V> {
+    value: V,
+}
+
+/// The value, set aside by who keeps the turn from one call to another. It can be dropped, as a seat
+/// can: then nobody gets the turn any more.
+#[derive(Drop)]
+pub struct Stay<V> {
     value: V,
 }
 
@@ -291,7 +298,7 @@ impl<V: Kept> Turn<V> {
 
 impl<V> Held<V> {
     ghost use Rattle.std.specs.Borrow.{sem};
-    ghost use Rattle.turn_lock.specs.Words.{LendsValue, value_of};
+    ghost use Rattle.turn_lock.specs.Words.{LendsValue, value_of, value_aside};
 
     /// The value, for writing.
     pub fn value(&mut self) -> &mut V
@@ -299,5 +306,25 @@ impl<V> Held<V> {
         ensures value { result.now ≡ value_of self.old }
     {
         &mut self.value
+    }
+
+    /// Sets the value aside. Its seat keeps the turn.
+    pub fn stay(self) -> Stay<V>
+        ensures { value_aside result ≡ value_of self }
+    {
+        let Held { value } = self;
+        Stay { value }
+    }
+}
+
+impl<V> Stay<V> {
+    ghost use Rattle.turn_lock.specs.Words.{value_of, value_aside};
+
+    /// The value, out again.
+    pub fn resume(self) -> Held<V>
+        ensures { value_of result ≡ value_aside self }
+    {
+        let Stay { value } = self;
+        Held { value }
     }
 }
