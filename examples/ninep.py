@@ -1,19 +1,18 @@
-"""A client of 9P2000 for one slot of `acmefs serve`, in the standard library alone.
+"""A client of 9P2000 for one slot of `acmefs serve`, in the standard library alone. A refusal raises Refused.
 
-    acme = Client("/tmp/acme.0")    a connection with a session, attached to the editor's tree
-    body = acme.open("new/body")    walks and opens; "r" to read, "w" to write, "rw" (if none is given) for both
+    acme = Client("/tmp/acme.0")    a connection with a session, attached to the editor's tree (tree="plumb": the plumber's)
+    body = acme.open("new/body")    walks and opens; "r" to read, "w" to write, "rw" (if none is given) for both,
+                                    "t" to write from nothing on
     body.write("hello\n")           one Twrite; its offset is 0, since no file of the editor looks at it
     body.read()                     one Tread, from where the last one ended; of an event file it waits for an event
     body.close(); acme.close()      a clunk; the end of the connection
-
-What the server refuses raises Refused, with its text.
 """
 
 import socket
 import time
 
 VERSION, ATTACH, ERROR, WALK, OPEN, READ, WRITE, CLUNK = 100, 104, 107, 110, 112, 116, 118, 120
-NO_FID, NO_TAG, MODES = 0xFFFFFFFF, 0xFFFF, {"r": 0, "w": 1, "rw": 2}
+NO_FID, NO_TAG, MODES = 0xFFFFFFFF, 0xFFFF, {"r": 0, "w": 1, "rw": 2, "t": 17}
 
 
 class Refused(Exception):
@@ -29,28 +28,22 @@ def text(value):
 
 
 class Client:
-    def __init__(self, path, seconds=300):
+    def __init__(self, path, seconds=300, tree=""):
         self.socket, self.last, end = socket.socket(socket.AF_UNIX), 0, time.monotonic() + seconds
         while fault := self.socket.connect_ex(path):  # the server isn't there yet
             if time.monotonic() > end:
                 raise OSError(fault, "no server", path)
             time.sleep(0.05)
+        self.replies = self.socket.makefile("rb")
         self.ask(VERSION, number(4, 8192) + text("9P2000"), NO_TAG)
-        self.ask(ATTACH, number(4, 0) + number(4, NO_FID) + text("glenda") + text(""))
-
-    def exactly(self, count):
-        held = b""
-        while len(held) < count:
-            piece = self.socket.recv(count - len(held))
-            if not piece:
-                raise ConnectionError("the server ended the connection")
-            held += piece
-        return held
+        self.ask(ATTACH, number(4, 0) + number(4, NO_FID) + text("glenda") + text(tree))
 
     def ask(self, kind, fields, tag=1):
         """Sends a message, and answers the fields of its reply."""
         self.socket.sendall(number(4, 7 + len(fields)) + number(1, kind) + number(2, tag) + fields)
-        reply = self.exactly(int.from_bytes(self.exactly(4), "little") - 4)
+        reply = self.replies.read(max(0, int.from_bytes(self.replies.read(4), "little") - 4))
+        if not reply:
+            raise ConnectionError("the server ended the connection")
         if reply[0] == ERROR:
             raise Refused(reply[5:].decode())
         return reply[3:]
@@ -65,6 +58,7 @@ class Client:
         return File(self, self.last)
 
     def close(self):
+        self.replies.close()
         self.socket.close()
 
 

@@ -14,6 +14,8 @@ use Rattle.core_windows.specs.Stories.{AreLawful}
 use Rattle.core_windows.specs.WindowLaws.{ChangesAreLawful, AreNumbered, NumbersStay}
 use Rattle.core_scene.specs.SceneLaws.{changes_in, AreShown, DeedsShow}
 use Rattle.core_events.specs.Sound.{IsSound, IsIdle}
+use Rattle.core_ports.specs.Sound.{ArePortsSound, ArePortsIdle}
+use Rattle.core_ports.proofs.Sounds.{sound_beginning}
 use Rattle.core_steps.specs.declared.prepared.Prepared.{Prepared}
 use Rattle.core_intents.specs.declared.parts.Parts.{Parts}
 use Rattle.core_intents.specs.declared.connection.Connection.TheVariants.{Undialed}
@@ -28,7 +30,7 @@ use Rattle.core_intents.specs.States.{Present, State, present, start}
 use Rattle.acme_core.proofs.Few.{length-connections}
 use Rattle.core_steps.proofs.Joins.{joins_on}
 use Rattle.core_intents.proofs.Kinded.{numbered, found}
-use Rattle.acme_core.proofs.Idling.{idle_after}
+use Rattle.acme_core.proofs.Idling.{idle_after, ports_idle_after}
 
 pub run-push : (journal : List Event) (e : Event) → run (journal ++ e ∷ []) ≡ step (run journal) e
 unfolding run
@@ -80,8 +82,8 @@ lawful_on show s e lawful possible = (shows show s e lawful possible).lawful
 -- the tables stay sound
 sound_on : (old new : Parts) (spare : ℕ) (p : Prepared) → AreSound old → IsPrepared (present_of old) spare old p
     → present_of new ≡ after (present_of old) p.event (doing_of (present_of old) p.event) → IsSound new.entries new.scene.book.kept → IsIdle new.scene.book.kept
-    → AreSound new
-sound_on old new spare p was ready changed book idle =
+    → ArePortsSound new.scene.ports.kept → ArePortsIdle new.scene.ports.kept → AreSound new
+sound_on old new spare p was ready changed book idle ports ports_idle =
     let s : Present = present_of old in
     record {
       conns = ap (λ (x : Present). length x.connections) changed ∙ length-connections old.connections.items (kind_of p.event) ∙ was.conns;
@@ -89,14 +91,16 @@ sound_on old new spare p was ready changed book idle =
           (joins_on s (kind_of p.event) (doing_of s p.event) was.conns (numbered p.event ready.lawful) (found s p.event ready.allowed) was.joined);
       book = book;
       idle = idle;
+      ports = ports;
+      ports_idle = ports_idle;
     }
 
 -- what is kept goes on with a step
 pub kept_on : DeedsShow → (entries next : Room Event) (old new : Parts) (p : Prepared) (e : Event) (left : Option Prepared)
     → IsKept entries old (Some p) → e ≡ p.event → next.items ≡ entries.items ++ e ∷ [] → next.spare ≡ entries.spare - 1
-    → present_of new ≡ after (present_of old) p.event (doing_of (present_after entries.items) p.event) → IsSound new.entries new.scene.book.kept → AreSteady new → left ≡ None
+    → present_of new ≡ after (present_of old) p.event (doing_of (present_after entries.items) p.event) → IsSound new.entries new.scene.book.kept → ArePortsSound new.scene.ports.kept → AreSteady new → left ≡ None
     → IsKept next new left
-kept_on show entries next old new p e left was is grown spare changed book steady none =
+kept_on show entries next old new p e left was is grown spare changed book ports steady none =
     let s : State = run entries.items in
     let ready : IsPrepared (present s) entries.spare old p = was.ready in
     let pushed : next.items ≡ entries.items ++ p.event ∷ [] = grown ∙ ap (λ (x : Event). entries.items ++ x ∷ []) is in
@@ -120,7 +124,8 @@ kept_on show entries next old new p e left was is grown spare changed book stead
       state = stepped ∙ ap present ran;
       lawful = subst (λ (x : State). AreLawful x.windows) ran (lawful_on show s p.event was.lawful ready.possible);
       counted = omega (arith, numbered, was.counted, longer);
-      sound = sound_on old new entries.spare p was.sound readied same book (subst (λ (x : Present). IsIdle x.scene.book) (sym (stepped ∙ ap present ran)) (idle_after next.items));
+      sound = sound_on old new entries.spare p was.sound readied same book (subst (λ (x : Present). IsIdle x.scene.book) (sym (stepped ∙ ap present ran)) (idle_after next.items))
+          ports (subst (λ (x : Present). ArePortsIdle x.scene.ports) (sym (stepped ∙ ap present ran)) (ports_idle_after next.items));
       hangs = record { room = omega (arith, count, spare, ready.entries.room); numbers = omega (arith, count, numbered, had, ready.entries.numbers) };
       ready = subst (λ (x : Option Prepared). IsReady (present_after next.items) next.spare new x) (sym none) steady;
     }
@@ -152,6 +157,8 @@ kept_start laws entries parts empty state steady =
         joined = subst (λ (x : Present). AreJoined x.connections x.tables) (sym state) (undialed_at 64);
         book = subst (λ (x : Present). IsSound x.entries x.scene.book) (sym state) (record { latest = omega arith; small = refl });
         idle = subst (λ (x : Present). IsIdle x.scene.book) (sym state) refl;
+        ports = subst (λ (x : Present). ArePortsSound x.scene.ports) (sym state) sound_beginning;
+        ports_idle = subst (λ (x : Present). ArePortsIdle x.scene.ports) (sym state) refl;
       };
       hangs = record { room = omega (arith, none); numbers = omega (arith, none, first) };
       ready = steady;

@@ -1,5 +1,5 @@
 -- What is ready for a hang-up.
-use Rattle.std.proofs.Common.{◌≡◌, ℕ, ◌+◌, true, List, [], length, None, refl, sym, ap, subst, ◌∙◌}
+use Rattle.std.proofs.Common.{◌≡◌, ℕ, ◌+◌, true, List, [], ◌++◌, length, None, refl, sym, ap, subst, ◌∙◌}
 use Rattle.std.specs.Prelude.{slice_set}
 use Rattle.std.specs.Global.{Vec}
 use Rattle.am_journal.specs.declared.event.Event.{Event}
@@ -12,7 +12,12 @@ use Rattle.core_scene.proofs.Settled.{settled_is}
 use Rattle.core_fids.specs.declared.effect.Effect.TheVariants as effect
 use Rattle.core_fids.specs.declared.effect.EventChange.TheVariants as events
 use Rattle.core_events.specs.declared.response.Response.{Response}
+use Rattle.core_events.specs.Serving.{served_all, book_served_all}
 use Rattle.core_events.specs.Sound.{IsSound, IsIdle}
+use Rattle.plumb_ports.specs.PortsState.{PortsState}
+use Rattle.core_ports.specs.Serving.{ports_served}
+use Rattle.core_ports.specs.Sound.{ArePortsSound, ArePortsIdle}
+use Rattle.core_ports.proofs.Idles.{none_said, none_taken}
 use Rattle.core_events.proofs.Turns.{all_none, book_all_none}
 use Rattle.acme_core.proofs.Few.{lives_less}
 use Rattle.core_steps.proofs.Idling.{none_served}
@@ -24,7 +29,7 @@ use Rattle.core_steps.specs.declared.prepared.Prepared.{Prepared}
 use Rattle.core_intents.specs.Connections.{connection_at, connections_after, live_count, IsOfJoined, IsJoinedFor}
 use Rattle.core_intents.specs.Enabled.{live_refusal}
 use Rattle.acme_core.specs.Kept.{HasEntries, IsPrepared}
-use Rattle.core_tasks.specs.Tasks.{task_deeds}
+use Rattle.core_tasks.specs.Tasks.{task_deeds, task_held}
 use Rattle.core_intents.specs.Doings.{enabled_at, doing_of, CanBeDone}
 use Rattle.core_intents.specs.Kinds.{kind_of, is_hang}
 use Rattle.core_intents.specs.Parts.{present_of, AreSteady}
@@ -34,13 +39,14 @@ use Rattle.core_steps.specs.Replies.{replies_of}
 use Rattle.core_outputs.specs.Unsent.{put_replies}
 
 pub hang_ready : (p : Parts) (e : Event) (at : ℕ) (replies : Vec Reply) → is_hang e ≡ true → IsJoinedFor p.sessions.kept (kind_of e) → AreSteady p
-    → IsSound (p.entries + 1) p.scene.book.kept → IsIdle p.scene.book.kept → at ≡ p.entries + 1 → replies.items ≡ []
+    → IsSound (p.entries + 1) p.scene.book.kept → IsIdle p.scene.book.kept → ArePortsSound p.scene.ports.kept → ArePortsIdle p.scene.ports.kept → at ≡ p.entries + 1 → replies.items ≡ []
     → HasReady p (record { event = e; at = at; effect = effect.Nothing; events = events.Nothing; deleted = []; back = None; said = []; replies = replies }) (doing_of (present_of p) e)
-unfolding task_deeds
-hang_ready p (event.Hang conn why) at replies h joined steady sound idle numbered none =
+unfolding task_deeds task_held
+hang_ready p (event.Hang conn why) at replies h joined steady sound idle ports ports_idle numbered none =
     let b : BookState = p.scene.book.kept in
     let silent : served_of b ≡ None = none_served b idle in
-    let said = all_none (p.entries + 1) b silent in
+    let q : PortsState = p.scene.ports.kept in
+    let said : served_all (p.entries + 1) b ++ ports_served q ≡ [] = ap (λ (xs : List Response). xs ++ ports_served q) (all_none (p.entries + 1) b silent) ∙ none_said q ports_idle in
     record {
       at = numbered;
       effect = refl;
@@ -51,21 +57,23 @@ hang_ready p (event.Hang conn why) at replies h joined steady sound idle numbere
       replies = none ∙ ap replies_of (sym said);
       joined = subst (λ (t : Tables). IsOfJoined t (kind_of (event.Hang conn why))) (sym steady.sessions) joined;
       sessions = steady.sessions;
-      scene = settled_is p.scene steady.scene ∙ ap (λ (x : BookState). record (kept_of p.scene) { book = x }) (sym (book_all_none (p.entries + 1) b silent));
+      scene = settled_is p.scene steady.scene ∙ ap (λ (x : BookState). record (kept_of p.scene) { book = x }) (sym (book_all_none (p.entries + 1) b silent))
+          ∙ ap (λ (x : PortsState). record (kept_of p.scene) { book = book_served_all (p.entries + 1) b; ports = x }) (sym (none_taken q ports_idle));
+      ports = subst ArePortsSound (sym steady.scene.ports) ports;
       sound = subst (λ (n : ℕ). IsSound n p.scene.book.present) (sym numbered) (subst (λ (x : BookState). IsSound (p.entries + 1) x) (sym steady.scene.book) sound);
       outputs = steady.outputs ∙ ap (λ (xs : List Response). put_replies p.outputs.kept (replies_of xs)) (sym said);
     }
-hang_ready p (event.Dial conn) at replies h joined steady sound idle numbered none = absurd cc
-hang_ready p (event.Msg conn msg) at replies h joined steady sound idle numbered none = absurd cc
-hang_ready p (event.Took conn) at replies h joined steady sound idle numbered none = absurd cc
-hang_ready p event.New at replies h joined steady sound idle numbered none = absurd cc
-hang_ready p (event.Key w side text) at replies h joined steady sound idle numbered none = absurd cc
-hang_ready p (event.Sel w range) at replies h joined steady sound idle numbered none = absurd cc
-hang_ready p (event.Exec spot) at replies h joined steady sound idle numbered none = absurd cc
-hang_ready p (event.Arg spot chord) at replies h joined steady sound idle numbered none = absurd cc
-hang_ready p (event.Look spot) at replies h joined steady sound idle numbered none = absurd cc
-hang_ready p (event.File path text) at replies h joined steady sound idle numbered none = absurd cc
-hang_ready p (event.Dir path) at replies h joined steady sound idle numbered none = absurd cc
+hang_ready p (event.Dial conn) at replies h joined steady sound idle ports ports_idle numbered none = absurd cc
+hang_ready p (event.Msg conn msg) at replies h joined steady sound idle ports ports_idle numbered none = absurd cc
+hang_ready p (event.Took conn) at replies h joined steady sound idle ports ports_idle numbered none = absurd cc
+hang_ready p event.New at replies h joined steady sound idle ports ports_idle numbered none = absurd cc
+hang_ready p (event.Key w side text) at replies h joined steady sound idle ports ports_idle numbered none = absurd cc
+hang_ready p (event.Sel w range) at replies h joined steady sound idle ports ports_idle numbered none = absurd cc
+hang_ready p (event.Exec spot) at replies h joined steady sound idle ports ports_idle numbered none = absurd cc
+hang_ready p (event.Arg spot chord) at replies h joined steady sound idle ports ports_idle numbered none = absurd cc
+hang_ready p (event.Look spot) at replies h joined steady sound idle ports ports_idle numbered none = absurd cc
+hang_ready p (event.File path text) at replies h joined steady sound idle ports ports_idle numbered none = absurd cc
+hang_ready p (event.Dir path) at replies h joined steady sound idle ports ports_idle numbered none = absurd cc
 
 -- a hang-up has no deeds
 pub hang_can : (s : Present) (e : Event) → is_hang e ≡ true → CanBeDone s (doing_of s e)
@@ -114,7 +122,8 @@ pub ruleset hung = (hang_prepared)
 
 -- the same, where what is deleted and said is known to be nothing
 pub hanging : (p : Parts) (e : Event) (at : ℕ) (replies : Vec Reply) (deleted : List ℕ) (heard : List Response) → deleted ≡ [] → heard ≡ [] → is_hang e ≡ true
-    → IsJoinedFor p.sessions.kept (kind_of e) → AreSteady p → IsSound (p.entries + 1) p.scene.book.kept → IsIdle p.scene.book.kept → at ≡ p.entries + 1 → replies.items ≡ []
+    → IsJoinedFor p.sessions.kept (kind_of e) → AreSteady p → IsSound (p.entries + 1) p.scene.book.kept → IsIdle p.scene.book.kept → ArePortsSound p.scene.ports.kept
+    → ArePortsIdle p.scene.ports.kept → at ≡ p.entries + 1 → replies.items ≡ []
     → HasReady p (record { event = e; at = at; effect = effect.Nothing; events = events.Nothing; deleted = deleted; back = None; said = heard; replies = replies }) (doing_of (present_of p) e)
-hanging p e at replies deleted heard none silent h joined steady sound idle numbered empty =
-    rw (none, silent) (hang_ready p e at replies h joined steady sound idle numbered empty)
+hanging p e at replies deleted heard none silent h joined steady sound idle ports ports_idle numbered empty =
+    rw (none, silent) (hang_ready p e at replies h joined steady sound idle ports ports_idle numbered empty)

@@ -1,14 +1,15 @@
 -- After no journal can a waiting read be answered.
-use Rattle.std.proofs.Common.{List, [], ◌∷◌}
+use Rattle.std.proofs.Common.{List, [], ◌∷◌, refl}
 use Rattle.std.specs.List.{fold}
 use Rattle.am_journal.specs.declared.event.Event.{Event}
 use Rattle.core_events.specs.Sound.{IsIdle}
+use Rattle.core_ports.specs.Sound.{ArePortsIdle}
 use Rattle.core_events.proofs.Idles.{AreIdle, empty_idle, idle_end}
 use Rattle.core_intents.specs.States.{State, present, start}
 use Rattle.core_intents.specs.Doings.{doing_of}
 use Rattle.core_intents.specs.Kinds.{kind_of}
 use Rattle.acme_core.specs.Run.{step, run}
-use Rattle.core_steps.proofs.Idling.{idle_on}
+use Rattle.core_steps.proofs.Idling.{idle_on, ports_idle_on}
 
 step_idle : (s : State) (e : Event) → AreIdle [] s.entries s.scene.book → AreIdle [] (step s e).entries (step s e).scene.book
 unfolding step
@@ -25,4 +26,17 @@ run_idle journal = fold_idle start journal empty_idle
 pub idle_after : (journal : List Event) → IsIdle (run journal).scene.book
 idle_after journal = idle_end (run journal).entries (run journal).scene.book (run_idle journal)
 
-pub ruleset idling = (idle_after)
+-- the same of ports
+step_ports : (s : State) (e : Event) → ArePortsIdle (step s e).scene.ports
+unfolding step
+step_ports s e = ports_idle_on (present s) (kind_of e) (doing_of (present s) e)
+
+fold_ports : (s : State) (events : List Event) → ArePortsIdle s.scene.ports → ArePortsIdle (fold step s events).scene.ports
+fold_ports s [] idle = idle
+fold_ports s (e ∷ events) idle = fold_ports (step s e) events (step_ports s e)
+
+pub ports_idle_after : (journal : List Event) → ArePortsIdle (run journal).scene.ports
+unfolding run
+ports_idle_after journal = fold_ports start journal refl
+
+pub ruleset idling = (idle_after, ports_idle_after)

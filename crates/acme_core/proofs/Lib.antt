@@ -2,6 +2,7 @@ pub mod Few
 pub mod Joins
 pub mod Goes
 pub mod Hangs
+pub mod Readied
 pub mod Ordered
 pub mod Viewed
 pub mod Connected

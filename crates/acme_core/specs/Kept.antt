@@ -6,6 +6,7 @@ use Rattle.am_journal.specs.Lawful.{IsLawful}
 use Rattle.am_counter.specs.Played.{IsPlayed}
 use Rattle.core_windows.specs.Stories.{AreLawful}
 use Rattle.core_events.specs.Sound.{IsSound, IsIdle}
+use Rattle.core_ports.specs.Sound.{ArePortsSound, ArePortsIdle}
 use Rattle.core_intents.specs.declared.parts.Parts.{Parts}
 use Rattle.core_steps.specs.declared.prepared.Prepared.{Prepared}
 use Rattle.core_intents.specs.Connections.{connections_after, live_count, AreJoined}
@@ -45,6 +46,8 @@ pub record AreSound (parts : Parts) : Type 0 where
   pub joined : AreJoined parts.connections.items parts.sessions.kept
   pub book : IsSound parts.entries parts.scene.book.kept
   pub idle : IsIdle parts.scene.book.kept
+  pub ports : ArePortsSound parts.scene.ports.kept
+  pub ports_idle : ArePortsIdle parts.scene.ports.kept
 
 -- The journal's events were enabled and could be done, the tables are as it leads to, its windows are lawful, and there is an entry for the hang-up of
 -- each connection that lives.

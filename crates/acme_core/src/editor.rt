@@ -10,6 +10,7 @@ ghost use Rattle.win_text.specs.Bodies.{IsInside};
 ghost use Rattle.acme_core.specs.Addresses.{addr_at, body_at};
 ghost use Rattle.event_book.specs.Laws.{WindowOrder, WhatAFidGets};
 ghost use Rattle.core_events.specs.Sound.{IsIdle};
+ghost use Rattle.core_ports.specs.Sound.{ArePortsIdle};
 ghost use Rattle.acme_core.specs.Asks.{answer_at};
 ghost use Rattle.acme_core.specs.Views.{ledger, view_of};
 
@@ -230,10 +231,11 @@ impl Core {
         self.parts.scene.book.is_lawful();
     }
 
-    /// In each journal of a core no read of an event file waits that could be answered: what each waits for hasn't come yet.
+    /// In each journal of a core no read of an event file or of a port waits that could be answered: what each waits for hasn't come yet.
     #[tactic(auto, using(crate::proofs::Idling::idling))]
     pub fn no_waiting_read_can_be_answered(&self)
-        ensures { IsIdle (run self.now.journal).scene.book }
+        ensures events { IsIdle (run self.now.journal).scene.book }
+        ensures ports { ArePortsIdle (run self.now.journal).scene.ports }
     {
         let _entries = self.journal.len();
     }

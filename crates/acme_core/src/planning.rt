@@ -4,6 +4,7 @@ ghost use Rattle.std.specs.Prelude.{◌≡◌, ◌+◌, ◌<◌, ◌≤◌, ◌^
 ghost use Rattle.am_journal.specs.Lawful.{IsLawful};
 ghost use Rattle.core_intents.specs.Connections.{live_count, IsJoinedFor};
 ghost use Rattle.core_events.specs.Sound.{IsSound, IsIdle};
+ghost use Rattle.core_ports.specs.Sound.{ArePortsSound, ArePortsIdle};
 ghost use Rattle.core_intents.specs.Kinds.{kind_of, is_hang};
 ghost use Rattle.core_intents.specs.Doings.{enabled_at, doing_of};
 ghost use Rattle.acme_core.specs.Kept.{AreSound, IsPrepared, HasEntries};
@@ -51,6 +52,8 @@ fn hanging(alloc: Global, parts: &Parts, event: Event) -> Prepared
     requires steady { AreSteady parts.now }
     requires sound { IsSound parts.now.entries parts.now.scene.book.kept }
     requires idle { IsIdle parts.now.scene.book.kept }
+    requires ports { ArePortsSound parts.now.scene.ports.kept }
+    requires ports_idle { ArePortsIdle parts.now.scene.ports.kept }
     requires numbers { parts.now.entries + 1 < 2 ^ 64 }
     ensures event { result.event ≡ event }
     ensures ready { HasReady parts.now result (doing_of (present_of parts.now) event) }

@@ -13,10 +13,10 @@ use Rattle.std.proofs.lemmas.List.Elements.{All-head, All-tail}
 use Rattle.std.proofs.lemmas.List.Sums.{position_or_len_is}
 use Rattle.std.proofs.lemmas.Slice.Eq.{bytes_eq-Decides}
 use Rattle.acme_tree.specs.declared.node.Node.{Node}
-use Rattle.acme_tree.specs.declared.node.Node.TheVariants.{Root, PlumbRoot, Window, Port}
+use Rattle.acme_tree.specs.declared.node.Node.TheVariants.{Root, Cons, ConsCtl, Index, Label, NewDir, Window, Port}
 use Rattle.acme_tree.specs.declared.node.World.{World}
-use Rattle.acme_tree.specs.Trees.{name_of, ports_from, entries}
-use Rattle.acme_tree.specs.Walks.{entry_named}
+use Rattle.acme_tree.specs.Trees.{name_of, ports_from, root_entries, plumber_entries, entries}
+use Rattle.acme_tree.specs.Walks.{named_in, entry_named}
 
 -- ---- windows
 
@@ -90,45 +90,54 @@ shifted k None = refl
 shifted k (Some i) = let e : k + 1 + i ≡ k + (1 + i) = omega arith in ap (λ (n : ℕ). Some (Port n)) e
 
 -- a port, and those behind it
-port_step : (world : World) (name port : List ℕ) (k : ℕ) (names : List (List ℕ)) (b : Bool) → bytes_eq name port ≡ b
-    → find (λ node. bytes_eq name (name_of world node)) (ports_from (k + 1) names) ≡ option_map (Port_after (k + 1)) (position (λ p. bytes_eq name p) names)
-    → cond b (Some (Port k)) (find (λ node. bytes_eq name (name_of world node)) (ports_from (k + 1) names)) ≡ option_map (Port_after k) (position (λ p. bytes_eq name p) (port ∷ names))
-port_step world name port k names true e later =
+port_step : (ports : List (List ℕ)) (name port : List ℕ) (k : ℕ) (names : List (List ℕ)) (b : Bool) → bytes_eq name port ≡ b
+    → find (λ node. bytes_eq name (name_of ports node)) (ports_from (k + 1) names) ≡ option_map (Port_after (k + 1)) (position (λ p. bytes_eq name p) names)
+    → cond b (Some (Port k)) (find (λ node. bytes_eq name (name_of ports node)) (ports_from (k + 1) names)) ≡ option_map (Port_after k) (position (λ p. bytes_eq name p) (port ∷ names))
+port_step ports name port k names true e later =
     let zero-add : k + 0 ≡ k = omega arith in
     ap (λ (n : ℕ). Some (Port n)) (sym zero-add) ∙ sym (ap (option_map (Port_after k)) (first_passes (λ p. bytes_eq name p) port names e))
-port_step world name port k names false e later =
+port_step ports name port k names false e later =
     later ∙ shifted k (position (λ p. bytes_eq name p) names) ∙ sym (ap (option_map (Port_after k)) (first_fails (λ p. bytes_eq name p) port names e))
 
-pub ports_named : (world : World) (name : List ℕ) (k : ℕ) (names : List (List ℕ)) → ((i : ℕ) → i < length names → get_or world.ports (k + i) [] ≡ get_or names i [])
-    → find (λ node. bytes_eq name (name_of world node)) (ports_from k names) ≡ option_map (Port_after k) (position (λ port. bytes_eq name port) names)
-ports_named world name k [] same = refl
-ports_named world name k (port ∷ names) same =
+pub ports_named : (ports : List (List ℕ)) (name : List ℕ) (k : ℕ) (names : List (List ℕ)) → ((i : ℕ) → i < length names → get_or ports (k + i) [] ≡ get_or names i [])
+    → find (λ node. bytes_eq name (name_of ports node)) (ports_from k names) ≡ option_map (Port_after k) (position (λ port. bytes_eq name port) names)
+ports_named ports name k [] same = refl
+ports_named ports name k (port ∷ names) same =
     let zero-add : k + 0 ≡ k = omega arith in
-    let here : get_or world.ports k [] ≡ port = ap (λ (n : ℕ). get_or world.ports n []) (sym zero-add) ∙ same 0 (omega arith) in
-    let later = ports_named world name (k + 1) names (λ i lt. let e : k + 1 + i ≡ k + suc i = omega arith in ap (λ (n : ℕ). get_or world.ports n []) e ∙ same (suc i) (omega arith)) in
-    ap (λ (l : List ℕ). cond (bytes_eq name l) (Some (Port k)) (find (λ node. bytes_eq name (name_of world node)) (ports_from (k + 1) names))) here ∙ port_step world name port k names (bytes_eq name port) refl later
+    let here : get_or ports k [] ≡ port = ap (λ (n : ℕ). get_or ports n []) (sym zero-add) ∙ same 0 (omega arith) in
+    let later = ports_named ports name (k + 1) names (λ i lt. let e : k + 1 + i ≡ k + suc i = omega arith in ap (λ (n : ℕ). get_or ports n []) e ∙ same (suc i) (omega arith)) in
+    ap (λ (l : List ℕ). cond (bytes_eq name l) (Some (Port k)) (find (λ node. bytes_eq name (name_of ports node)) (ports_from (k + 1) names))) here ∙ port_step ports name port k names (bytes_eq name port) refl later
 
 -- ---- the entries of the two roots
 
-pub in_root_rest : (world : World) (name : List ℕ) (found : Option Node) → bytes_eq name (codes "cons") ≡ false → bytes_eq name (codes "consctl") ≡ false → bytes_eq name (codes "index") ≡ false → bytes_eq name (codes "label") ≡ false → bytes_eq name (codes "new") ≡ false
-    → found ≡ option_map Window (find (λ w. bytes_eq name (decimal w)) world.windows) → found ≡ entry_named world Root name
+-- no entry of the root is a port
+root_named : (world : World) (ports : List (List ℕ)) (name : List ℕ) → named_in [] (root_entries world) name ≡ named_in ports (root_entries world) name
+root_named world ports name =
+    let none = find-map (λ node. bytes_eq name (name_of [] node)) Window world.windows in
+    let some = find-map (λ node. bytes_eq name (name_of ports node)) Window world.windows in
+    ap (λ (rest : Option Node). cond (bytes_eq name (codes "cons")) (Some Cons) (cond (bytes_eq name (codes "consctl")) (Some ConsCtl) (cond (bytes_eq name (codes "index")) (Some Index) (cond (bytes_eq name (codes "label")) (Some Label) (cond (bytes_eq name (codes "new")) (Some NewDir) rest))))) (none ∙ sym some)
+
+pub in_root : (world : World) (ports : List (List ℕ)) (name : List ℕ) (found : Option Node) → found ≡ named_in [] (root_entries world) name → found ≡ entry_named world ports Root name
 unfolding entry_named entries
-in_root_rest world name found a b c d e is = rw (a, b, c, d, e) (is ∙ sym (find-map (λ node. bytes_eq name (name_of world node)) Window world.windows))
+in_root world ports name found is = is ∙ root_named world ports name
+
+pub in_root_rest : (world : World) (name : List ℕ) (found : Option Node) → bytes_eq name (codes "cons") ≡ false → bytes_eq name (codes "consctl") ≡ false → bytes_eq name (codes "index") ≡ false → bytes_eq name (codes "label") ≡ false → bytes_eq name (codes "new") ≡ false
+    → found ≡ option_map Window (find (λ w. bytes_eq name (decimal w)) world.windows) → found ≡ named_in [] (root_entries world) name
+in_root_rest world name found a b c d e is = rw (a, b, c, d, e) (is ∙ sym (find-map (λ node. bytes_eq name (name_of [] node)) Window world.windows))
 
 -- a port that has a number keeps its name
-numbered_same : (world : World) (i : ℕ) → i < length (take (2 ^ 32) world.ports) → get_or world.ports (0 + i) [] ≡ get_or (take (2 ^ 32) world.ports) i []
-numbered_same world i lt =
-    let within : i < 2 ^ 32 = omega (arith, length-take (2 ^ 32) world.ports) in
+numbered_same : (ports : List (List ℕ)) (i : ℕ) → i < length (take (2 ^ 32) ports) → get_or ports (0 + i) [] ≡ get_or (take (2 ^ 32) ports) i []
+numbered_same ports i lt =
+    let within : i < 2 ^ 32 = omega (arith, length-take (2 ^ 32) ports) in
     let same : 0 + i ≡ i = omega arith in
-    ap (λ (n : ℕ). get_or world.ports n []) same ∙ sym (get_or-take (2 ^ 32) world.ports i [] within)
+    ap (λ (n : ℕ). get_or ports n []) same ∙ sym (get_or-take (2 ^ 32) ports i [] within)
 
 from_zero : (o : Option ℕ) → option_map (Port_after 0) o ≡ option_map Port o
 from_zero None = refl
 from_zero (Some i) = let same : 0 + i ≡ i = omega arith in ap (λ (n : ℕ). Some (Port n)) same
 
-pub in_plumber_rest : (world : World) (name : List ℕ) (found : Option Node) → bytes_eq name (codes "send") ≡ false → bytes_eq name (codes "rules") ≡ false
-    → found ≡ option_map Port (position (λ port. bytes_eq name port) (take (2 ^ 32) world.ports)) → found ≡ entry_named world PlumbRoot name
-unfolding entry_named entries
-in_plumber_rest world name found a b is =
-    let all = ports_named world name 0 (take (2 ^ 32) world.ports) (numbered_same world) in
-    rw (a, b) (is ∙ sym (from_zero (position (λ port. bytes_eq name port) (take (2 ^ 32) world.ports))) ∙ sym all)
+pub in_plumber_rest : (ports : List (List ℕ)) (name : List ℕ) (found : Option Node) → bytes_eq name (codes "send") ≡ false → bytes_eq name (codes "rules") ≡ false
+    → found ≡ option_map Port (position (λ port. bytes_eq name port) (take (2 ^ 32) ports)) → found ≡ named_in ports (plumber_entries ports) name
+in_plumber_rest ports name found a b is =
+    let all = ports_named ports name 0 (take (2 ^ 32) ports) (numbered_same ports) in
+    rw (a, b) (is ∙ sym (from_zero (position (λ port. bytes_eq name port) (take (2 ^ 32) ports))) ∙ sym all)

@@ -1,5 +1,5 @@
 -- The nodes of the trees: what each is, its path, mode and name, and what a directory lists.
-use Rattle.std.specs.Prelude.{ℕ, ◌+◌, ◌*◌, ◌^◌, Bool, true, false, ◌||◌, ◌==◌, nat_le, nat_lt, List, [], ◌∷◌, length, map, take, codes, slice_index_or}
+use Rattle.std.specs.Prelude.{ℕ, ◌<◌, ◌+◌, ◌*◌, ◌^◌, Bool, true, false, ◌||◌, ◌==◌, nat_le, nat_lt, List, [], ◌∷◌, length, map, take, codes, slice_index_or}
 use Rattle.std.specs.Fmt.{decimal}
 use Rattle.std.specs.List.{list_any}
 use Rattle.ninep_types.specs.declared.message.Qid.{Qid}
@@ -15,12 +15,12 @@ use Rattle.acme_tree.specs.declared.node.World.{World}
 abbrev pub is_window : World → ℕ → Bool
 is_window world w = list_any (λ v. v == w) world.windows
 
--- The window of the node is live, or the node is one of the ports; all else is always there.
-abbrev pub is_live : World → Node → Bool
-is_live world (Window w) = is_window world w
-is_live world (File w file) = is_window world w
-is_live world (Port k) = nat_lt k (length world.ports)
-is_live world node = true
+-- The window of the node is live, or the node is one of the ports, whose names these are; all else is always there.
+abbrev pub is_live : World → List (List ℕ) → Node → Bool
+is_live world ports (Window w) = is_window world w
+is_live world ports (File w file) = is_window world w
+is_live world ports (Port k) = nat_lt k (length ports)
+is_live world ports node = true
 
 -- No window can be made: 4,096 are live, or the next number is the one that is never given.
 abbrev pub is_full : World → Bool
@@ -111,23 +111,28 @@ file_name Event = codes "event"
 file_name Tag = codes "tag"
 file_name Xdata = codes "xdata"
 
-abbrev pub name_of : World → Node → List ℕ
-name_of world Root = codes "acme"
-name_of world Cons = codes "cons"
-name_of world ConsCtl = codes "consctl"
-name_of world Index = codes "index"
-name_of world Label = codes "label"
-name_of world NewDir = codes "new"
-name_of world (Window w) = decimal w
-name_of world (File w file) = file_name file
-name_of world PlumbRoot = codes "plumb"
-name_of world Send = codes "send"
-name_of world Rules = codes "rules"
-name_of world (Port k) = slice_index_or world.ports k []
+-- a port has a name where its number is below their count, and every other node has one
+abbrev pub IsNamed : List (List ℕ) → Node → Type 0
+IsNamed ports (Port k) = k < length ports
+IsNamed ports node = Unit {0}
+
+abbrev pub name_of : List (List ℕ) → Node → List ℕ
+name_of ports Root = codes "acme"
+name_of ports Cons = codes "cons"
+name_of ports ConsCtl = codes "consctl"
+name_of ports Index = codes "index"
+name_of ports Label = codes "label"
+name_of ports NewDir = codes "new"
+name_of ports (Window w) = decimal w
+name_of ports (File w file) = file_name file
+name_of ports PlumbRoot = codes "plumb"
+name_of ports Send = codes "send"
+name_of ports Rules = codes "rules"
+name_of ports (Port k) = slice_index_or ports k []
 
 -- lengths are 0
-unfoldable pub stat_of : World → Node → Stat
-stat_of world node = record { qid = qid_of node; mode = mode_of node; length = 0; name = name_of world node }
+unfoldable pub stat_of : List (List ℕ) → Node → Stat
+stat_of ports node = record { qid = qid_of node; mode = mode_of node; length = 0; name = name_of ports node }
 
 -- ---- what directories list, in order
 
@@ -139,9 +144,16 @@ abbrev pub ports_from : ℕ → List (List ℕ) → List Node
 ports_from k [] = []
 ports_from k (name ∷ names) = Port k ∷ ports_from (k + 1) names
 
--- `new` lists nothing; a port's number is below 2 ^ 32
-unfoldable pub entries : World → Node → List Node
-entries world Root = Cons ∷ ConsCtl ∷ Index ∷ Label ∷ NewDir ∷ map Window world.windows
-entries world (Window w) = map (File w) files
-entries world PlumbRoot = Send ∷ Rules ∷ ports_from 0 (take (2 ^ 32) world.ports)
-entries world node = []
+abbrev pub root_entries : World → List Node
+root_entries world = Cons ∷ ConsCtl ∷ Index ∷ Label ∷ NewDir ∷ map Window world.windows
+
+-- a port's number is below 2 ^ 32
+abbrev pub plumber_entries : List (List ℕ) → List Node
+plumber_entries ports = Send ∷ Rules ∷ ports_from 0 (take (2 ^ 32) ports)
+
+-- `new` lists nothing
+unfoldable pub entries : World → List (List ℕ) → Node → List Node
+entries world ports Root = root_entries world
+entries world ports (Window w) = map (File w) files
+entries world ports PlumbRoot = plumber_entries ports
+entries world ports node = []

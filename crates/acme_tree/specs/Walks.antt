@@ -9,9 +9,13 @@ use Rattle.acme_tree.specs.declared.walk.Step.{Step}
 use Rattle.acme_tree.specs.declared.walk.Step.TheVariants.{Found, Make, NotFound, NotDir, Deleted, Windows}
 use Rattle.acme_tree.specs.Trees.{is_dir, is_live, is_full, name_of, file_name, files, entries}
 
+-- the first of these nodes that has this name
+abbrev pub named_in : List (List ℕ) → List Node → List ℕ → Option Node
+named_in ports nodes name = find (λ node. bytes_eq name (name_of ports node)) nodes
+
 -- the entry of a directory that has this name, and the file of a window that has it
-unfoldable pub entry_named : World → Node → List ℕ → Option Node
-entry_named world dir name = find (λ node. bytes_eq name (name_of world node)) (entries world dir)
+unfoldable pub entry_named : World → List (List ℕ) → Node → List ℕ → Option Node
+entry_named world ports dir name = named_in ports (entries world ports dir) name
 
 unfoldable pub file_named : List ℕ → Option WinFile
 file_named name = find (λ file. bytes_eq name (file_name file)) files
@@ -31,14 +35,14 @@ above PlumbRoot = PlumbRoot
 above dir = Root
 
 -- what is below a directory under a name
-abbrev pub below : World → Node → List ℕ → Bool → Step
-below world NewDir name last = to_new world last (file_named name)
-below world dir name last = to_entry (entry_named world dir name)
+abbrev pub below : World → List (List ℕ) → Node → List ℕ → Bool → Step
+below world ports NewDir name last = to_new world last (file_named name)
+below world ports dir name last = to_entry (entry_named world ports dir name)
 
 -- Where a name leads: from the directory of a deleted window no name leads, from a file none does, and `..` leads to the
 -- directory above.
-unfoldable pub walk_one : World → Node → List ℕ → Bool → Step
-walk_one world from name last =
+unfoldable pub walk_one : World → List (List ℕ) → Node → List ℕ → Bool → Step
+walk_one world ports from name last =
     if not (is_dir from) then NotDir
-    else (if not (is_live world from) then Deleted
-    else (if bytes_eq name (codes "..") then Found (above from) else below world from name last))
+    else (if not (is_live world ports from) then Deleted
+    else (if bytes_eq name (codes "..") then Found (above from) else below world ports from name last))

@@ -37,7 +37,8 @@ fn is_open_mode(mode: u8) -> bool
     mode & (HOW | TRUNCATE | REMOVE) == mode
 }
 
-fn truncates(mode: u8) -> bool
+/// Whether a mode has the bit 0x10, which empties the file.
+pub fn truncates(mode: u8) -> bool
     ensures { result ≡ truncates mode }
 {
     mode & TRUNCATE != 0

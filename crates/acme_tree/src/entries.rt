@@ -1,7 +1,7 @@
 //! The nodes that a directory lists.
 
 ghost use Rattle.std.specs.Prelude.{◌≡◌, ◌≤◌, ◌^◌, ◌++◌, IfOk, OnOk, length, map, take};
-ghost use Rattle.acme_tree.specs.Trees.{entries, files, ports_from};
+ghost use Rattle.acme_tree.specs.Trees.{entries, files, plumber_entries, ports_from, root_entries};
 
 use crate::node::{Node, WinFile, World};
 use am_text::{Bytes, Items, NoMemory};
@@ -40,9 +40,8 @@ pub(crate) fn numbered_ports(ports: &[Bytes]) -> &[Bytes]
     numbered
 }
 
-#[tactic(auto, unfolding(crate::specs::Trees::entries))]
 fn of_root(alloc: Global, world: &World) -> Result<Items<Node>, NoMemory>
-    ensures { IfOk result (λ nodes. nodes ≡ entries world.now Node.Root) }
+    ensures { IfOk result (λ nodes. nodes ≡ root_entries world.now) }
 {
     let fixed = [
         Node::Cons,
@@ -72,24 +71,28 @@ fn of_window(alloc: Global, window: u32) -> Result<Items<Node>, NoMemory>
     Items::copied(alloc, &fixed)
 }
 
-#[tactic(auto, unfolding(crate::specs::Trees::entries))]
-fn of_plumber(alloc: Global, world: &World) -> Result<Items<Node>, NoMemory>
-    ensures { IfOk result (λ nodes. nodes ≡ entries world.now Node.PlumbRoot) }
+fn of_plumber(alloc: Global, ports: &[Bytes]) -> Result<Items<Node>, NoMemory>
+    ensures { IfOk result (λ nodes. nodes ≡ plumber_entries ports.now) }
 {
     let mut nodes = Items::copied(alloc, &[Node::Send, Node::Rules])?;
-    put_ports(&mut nodes, numbered_ports(world.ports.as_slice()))?;
+    put_ports(&mut nodes, numbered_ports(ports))?;
     Ok(nodes)
 }
 
 /// The nodes that a directory lists, in order.
 #[tactic(auto, unfolding(crate::specs::Trees::entries))]
-pub(crate) fn entries(alloc: Global, world: &World, dir: Node) -> Result<Items<Node>, NoMemory>
-    ensures { IfOk result (λ nodes. nodes ≡ entries world.now dir) }
+pub(crate) fn entries(
+    alloc: Global,
+    world: &World,
+    ports: &[Bytes],
+    dir: Node,
+) -> Result<Items<Node>, NoMemory>
+    ensures { IfOk result (λ nodes. nodes ≡ entries world.now ports.now dir) }
 {
     match dir {
         Node::Root => of_root(alloc, world),
         Node::Window(window) => of_window(alloc, window),
-        Node::PlumbRoot => of_plumber(alloc, world),
+        Node::PlumbRoot => of_plumber(alloc, ports),
         _ => Ok(Items::new(alloc)),
     }
 }

@@ -10,8 +10,8 @@ mod names;
 mod node;
 mod walk;
 
-pub use access::{May, may_open};
-pub use am_text::{Bytes, Ids, Items, Names, NoMemory};
+pub use access::{May, may_open, truncates};
+pub use am_text::{Bytes, Ids, Items, NoMemory};
 pub use listing::{children, qid_of, stat_of};
 pub use ninep_frame::{Stat, Stats};
 pub use ninep_types::Qid;

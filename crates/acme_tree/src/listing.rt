@@ -2,12 +2,12 @@
 
 ghost use Rattle.std.specs.Prelude.{◌≡◌, All, IfOk, map, true};
 ghost use Rattle.ninep_frame.specs.Records.{HasName, IsName};
-ghost use Rattle.acme_tree.specs.Trees.{entries, file_kind, file_mode, file_number, is_dir, is_live, kind_of, mode_of, path_of, qid_of, stat_of};
+ghost use Rattle.acme_tree.specs.Trees.{IsNamed, entries, file_kind, file_mode, file_number, is_dir, is_live, kind_of, mode_of, path_of, qid_of, stat_of};
 
 use crate::entries::entries;
 use crate::names::name_of;
 use crate::node::{Node, WinFile, World};
-use am_text::{Items, NoMemory};
+use am_text::{Bytes, Items, NoMemory};
 use ninep_frame::{Stat, Stats};
 use ninep_types::Qid;
 use std::alloc::Global;
@@ -114,43 +114,48 @@ pub fn qid_of(node: Node) -> Qid
     }
 }
 
-/// The stat of a live node.
+/// The stat of a node. The ports are their names, in the order in which they were first seen.
 #[tactic(auto, unfolding(crate::specs::Trees::stat_of))]
-pub fn stat_of(alloc: Global, world: &World, node: Node) -> Result<Stat, NoMemory>
-    requires { is_live world.now node ≡ true }
-    ensures exact { IfOk result (λ stat. stat ≡ stat_of world.now node) }
+pub fn stat_of(alloc: Global, ports: &[Bytes], node: Node) -> Result<Stat, NoMemory>
+    requires { IsNamed ports.now node }
+    ensures exact { IfOk result (λ stat. stat ≡ stat_of ports.now node) }
     // It has a record.
-    ensures named { All IsName world.now.ports → IfOk result HasName }
+    ensures named { All IsName ports.now → IfOk result HasName }
 {
     Ok(Stat {
         qid: qid_of(node),
         mode: mode_of(node),
         length: 0,
-        name: name_of(alloc, world, node)?,
+        name: name_of(alloc, ports, node)?,
     })
 }
 
-fn stats_of(alloc: Global, world: &World, nodes: &[Node]) -> Result<Stats, NoMemory>
-    requires { All (λ node. is_live world.now node ≡ true) nodes.now }
-    ensures exact { IfOk result (λ stats. stats ≡ map (stat_of world.now) nodes.now) }
-    ensures named { All IsName world.now.ports → IfOk result (All HasName) }
+fn stats_of(alloc: Global, ports: &[Bytes], nodes: &[Node]) -> Result<Stats, NoMemory>
+    requires { All (IsNamed ports.now) nodes.now }
+    ensures exact { IfOk result (λ stats. stats ≡ map (stat_of ports.now) nodes.now) }
+    ensures named { All IsName ports.now → IfOk result (All HasName) }
 {
     let mut stats = Items::new(alloc);
     for node in nodes {
-        stats.push(stat_of(alloc, world, *node)?)?;
+        stats.push(stat_of(alloc, ports, *node)?)?;
     }
     Ok(stats)
 }
 
 /// The stats of what a live directory lists, in order.
-#[tactic(auto, using(crate::proofs::Live::entries_live))]
-pub fn children(alloc: Global, world: &World, node: Node) -> Result<Stats, NoMemory>
-    requires live { is_live world.now node ≡ true }
+#[tactic(auto, using(crate::proofs::Live::entries_named))]
+pub fn children(
+    alloc: Global,
+    world: &World,
+    ports: &[Bytes],
+    node: Node,
+) -> Result<Stats, NoMemory>
+    requires live { is_live world.now ports.now node ≡ true }
     requires dir { is_dir node ≡ true }
-    ensures exact { IfOk result (λ stats. stats ≡ map (stat_of world.now) (entries world.now node)) }
+    ensures exact { IfOk result (λ stats. stats ≡ map (stat_of ports.now) (entries world.now ports.now node)) }
     // Each has a record.
-    ensures named { All IsName world.now.ports → IfOk result (All HasName) }
+    ensures named { All IsName ports.now → IfOk result (All HasName) }
 {
-    let nodes = entries(alloc, world, node)?;
-    stats_of(alloc, world, nodes.as_slice())
+    let nodes = entries(alloc, world, ports, node)?;
+    stats_of(alloc, ports, nodes.as_slice())
 }

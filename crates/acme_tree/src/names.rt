@@ -1,10 +1,10 @@
 //! The names of nodes.
 
-ghost use Rattle.std.specs.Prelude.{◌≡◌, ◌<◌, [], All, IfOk, length, slice_index_or, true};
+ghost use Rattle.std.specs.Prelude.{◌≡◌, ◌<◌, [], All, IfOk, length, slice_index_or};
 ghost use Rattle.ninep_frame.specs.Records.{IsName};
-ghost use Rattle.acme_tree.specs.Trees.{file_name, name_of, is_live};
+ghost use Rattle.acme_tree.specs.Trees.{file_name, name_of, IsNamed};
 
-use crate::node::{Node, WinFile, World};
+use crate::node::{Node, WinFile};
 use am_text::{Bytes, Items, NoMemory, decimal};
 use std::alloc::Global;
 
@@ -24,20 +24,20 @@ pub(crate) fn file_name(file: WinFile) -> &'static [u8]
 }
 
 #[tactic(auto, using(crate::proofs::Spelled::spelled))]
-fn port_name(alloc: Global, world: &World, port: u32) -> Result<Bytes, NoMemory>
-    requires { port < length world.now.ports }
-    ensures exact { IfOk result (λ name. name ≡ slice_index_or world.now.ports port []) }
-    ensures named { All IsName world.now.ports → IfOk result IsName }
+fn port_name(alloc: Global, ports: &[Bytes], port: u32) -> Result<Bytes, NoMemory>
+    requires { port < length ports.now }
+    ensures exact { IfOk result (λ name. name ≡ slice_index_or ports.now port []) }
+    ensures named { All IsName ports.now → IfOk result IsName }
 {
-    Items::copied(alloc, world.ports.as_slice()[port as usize].as_slice())
+    Items::copied(alloc, ports[port as usize].as_slice())
 }
 
-/// The name of a live node. Where those of the ports have records, it has one.
+/// The name of a node. Where those of the ports have records, it has one.
 #[tactic(auto, using(crate::proofs::Spelled::spelled))]
-pub(crate) fn name_of(alloc: Global, world: &World, node: Node) -> Result<Bytes, NoMemory>
-    requires { is_live world.now node ≡ true }
-    ensures exact { IfOk result (λ name. name ≡ name_of world.now node) }
-    ensures named { All IsName world.now.ports → IfOk result IsName }
+pub(crate) fn name_of(alloc: Global, ports: &[Bytes], node: Node) -> Result<Bytes, NoMemory>
+    requires { IsNamed ports.now node }
+    ensures exact { IfOk result (λ name. name ≡ name_of ports.now node) }
+    ensures named { All IsName ports.now → IfOk result IsName }
 {
     match node {
         Node::Root => Items::copied(alloc, b"acme"),
@@ -51,6 +51,6 @@ pub(crate) fn name_of(alloc: Global, world: &World, node: Node) -> Result<Bytes,
         Node::PlumbRoot => Items::copied(alloc, b"plumb"),
         Node::Send => Items::copied(alloc, b"send"),
         Node::Rules => Items::copied(alloc, b"rules"),
-        Node::Port(port) => port_name(alloc, world, port),
+        Node::Port(port) => port_name(alloc, ports, port),
     }
 }

@@ -3,7 +3,7 @@
 ghost use Rattle.std.specs.Prelude.{◌≡◌};
 ghost use Rattle.acme_tree.specs.Trees.{is_dir, is_full, is_live, is_window};
 
-use am_text::{Ids, Names};
+use am_text::{Bytes, Ids};
 
 /// The most windows that may be live.
 const WINDOWS: usize = 4096;
@@ -45,13 +45,11 @@ pub enum Node {
     Port(u32),
 }
 
-/// What the trees have at a moment.
+/// What the editor's tree has at a moment.
 #[derive(Drop)]
 pub struct World {
     /// The numbers of the live windows, rising.
     pub windows: Ids,
-    /// The names of the ports, in the order in which they were first seen.
-    pub ports: Names,
     /// The number that the next window gets.
     pub next: u32,
 }
@@ -72,14 +70,15 @@ fn is_window(world: &World, window: u32) -> bool
     world.windows.as_slice().contains(&window)
 }
 
-/// Whether the node is there: its window is live, or it is one of the ports. All else is always there.
-pub fn is_live(world: &World, node: Node) -> bool
-    ensures { result ≡ is_live world.now node }
+/// Whether the node is there: its window is live, or it is one of the ports, whose names these are, in the order in which they were
+/// first seen. All else is always there.
+pub fn is_live(world: &World, ports: &[Bytes], node: Node) -> bool
+    ensures { result ≡ is_live world.now ports.now node }
 {
     match node {
         Node::Window(window) => is_window(world, window),
         Node::File(window, _) => is_window(world, window),
-        Node::Port(port) => (port as usize) < world.ports.len(),
+        Node::Port(port) => (port as usize) < ports.len(),
         _ => true,
     }
 }

@@ -1,10 +1,11 @@
 //! Walks.
 
-ghost use Rattle.std.specs.Prelude.{◌≡◌, ◌==◌, ◌≤◌, ◌^◌, find, length, position};
+ghost use Rattle.std.specs.Prelude.{◌≡◌, ◌==◌, ◌≤◌, ◌^◌, [], find, length, position};
 ghost use Rattle.std.specs.Fmt.{decimal};
 ghost use Rattle.std.specs.Option.{option_map};
 ghost use Rattle.std.specs.Str.{bytes_eq};
-ghost use Rattle.acme_tree.specs.Walks.{above, below, entry_named, file_named, to_entry, to_new, walk_one};
+ghost use Rattle.acme_tree.specs.Trees.{plumber_entries, root_entries};
+ghost use Rattle.acme_tree.specs.Walks.{above, below, entry_named, file_named, named_in, to_entry, to_new, walk_one};
 
 use crate::entries::numbered_ports;
 use crate::node::{Node, WinFile, World, is_dir, is_full, is_live};
@@ -95,9 +96,8 @@ fn to_port(found: Option<u32>) -> Option<Node>
     found.map(Node::Port)
 }
 
-#[tactic(auto, unfolding(crate::specs::Trees::entries, crate::specs::Walks::entry_named))]
 fn in_root(world: &World, name: &[u8]) -> Option<Node>
-    ensures { result ≡ entry_named world.now Node.Root name.now }
+    ensures { result ≡ named_in [] (root_entries world.now) name.now }
 {
     if name == b"cons".as_slice() {
         Some(Node::Cons)
@@ -114,27 +114,26 @@ fn in_root(world: &World, name: &[u8]) -> Option<Node>
     }
 }
 
-#[tactic(auto, unfolding(crate::specs::Trees::entries, crate::specs::Walks::entry_named))]
-fn in_plumber(world: &World, name: &[u8]) -> Option<Node>
-    ensures { result ≡ entry_named world.now Node.PlumbRoot name.now }
+fn in_plumber(ports: &[Bytes], name: &[u8]) -> Option<Node>
+    ensures { result ≡ named_in ports.now (plumber_entries ports.now) name.now }
 {
     if name == b"send".as_slice() {
         Some(Node::Send)
     } else if name == b"rules".as_slice() {
         Some(Node::Rules)
     } else {
-        to_port(port_named(numbered_ports(world.ports.as_slice()), name))
+        to_port(port_named(numbered_ports(ports), name))
     }
 }
 
 #[tactic(auto, unfolding(crate::specs::Trees::entries, crate::specs::Walks::entry_named, crate::specs::Walks::file_named))]
-fn entry_named(world: &World, dir: Node, name: &[u8]) -> Option<Node>
-    ensures { result ≡ entry_named world.now dir name.now }
+fn entry_named(world: &World, ports: &[Bytes], dir: Node, name: &[u8]) -> Option<Node>
+    ensures { result ≡ entry_named world.now ports.now dir name.now }
 {
     match dir {
         Node::Root => in_root(world, name),
         Node::Window(window) => file_named(name).map(|file| Node::File(window, file)),
-        Node::PlumbRoot => in_plumber(world, name),
+        Node::PlumbRoot => in_plumber(ports, name),
         _ => None,
     }
 }
@@ -172,31 +171,31 @@ fn above(dir: Node) -> Node
     }
 }
 
-fn below(world: &World, dir: Node, name: &[u8], last: bool) -> Step
-    ensures { result ≡ below world.now dir name.now last }
+fn below(world: &World, ports: &[Bytes], dir: Node, name: &[u8], last: bool) -> Step
+    ensures { result ≡ below world.now ports.now dir name.now last }
 {
     match dir {
         Node::NewDir => to_new(world, last, file_named(name)),
-        _ => to_entry(entry_named(world, dir, name)),
+        _ => to_entry(entry_named(world, ports, dir, name)),
     }
 }
 
-/// Where a name leads from a node. `last` says whether it is the last name of its walk: only as such a window's
+/// Where a name leads from a node. The ports are their names, in the order in which they were first seen. `last` says whether it is the last name of its walk: only as such a window's
 /// file is found in `new`.
 ///
 /// It takes no memory.
 #[tactic(auto, unfolding(crate::specs::Walks::walk_one))]
-pub fn walk_one(world: &World, from: Node, name: &[u8], last: bool) -> Step
-    ensures { result ≡ walk_one world.now from name.now last }
+pub fn walk_one(world: &World, ports: &[Bytes], from: Node, name: &[u8], last: bool) -> Step
+    ensures { result ≡ walk_one world.now ports.now from name.now last }
 {
     if !is_dir(from) {
         return Step::NotDir;
     }
-    if !is_live(world, from) {
+    if !is_live(world, ports, from) {
         return Step::Deleted;
     }
     if name == b"..".as_slice() {
         return Step::Found(above(from));
     }
-    below(world, from, name, last)
+    below(world, ports, from, name, last)
 }

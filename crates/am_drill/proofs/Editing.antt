@@ -29,12 +29,13 @@ use Rattle.core_scene.specs.declared.deed.WindowItem.{WindowItem}
 use Rattle.core_scene.specs.Scenes.{no_scene}
 use Rattle.core_scene.specs.Told.{of_window}
 use Rattle.core_events.specs.Putting.{put_all, put_living, ending}
+use Rattle.core_ports.specs.Serving.{served_most as port_served_most, after_serving_most}
 use Rattle.core_events.specs.Serving.{served_most, book_served_most, served_all, book_served_all}
 use Rattle.core_events.specs.Waits.{ended}
 use Rattle.event_book.specs.Lives.{fresh}
 use Rattle.event_book.specs.WindowFiles.{WindowFile}
 use Rattle.core_tasks.specs.declared.task.Task.TheVariants as task
-use Rattle.core_tasks.specs.Tasks.{task_deeds, task_refusal}
+use Rattle.core_tasks.specs.Tasks.{task_deeds, task_refusal, task_held}
 use Rattle.core_intents.specs.Doings.{Doing, resolved, doing_of, message_doing}
 use Rattle.core_intents.specs.Intents.{acting}
 use Rattle.acme_core.specs.Run.{step}
@@ -55,7 +56,7 @@ abbrev pub finished : Facts → WindowStory → List Response → List WindowIte
 finished f story first items =
     let at = f.entries + 1 in
     let put = put_living [] (book_with [] f) items in
-    let said = first ++ served_all at put in
+    let said = first ++ served_all at put ++ [] in
     record (standing [] [] f) {
       entries = at;
       tables = ended (tables_with []) said;
@@ -104,7 +105,7 @@ write_doing f l ascii room =
 
 written_so : (f : Facts) (l : ℕ) → after_story (standing [] [] f) (present (standing [] [] f)) (write l) (written_doing f l)
     ≡ finished f (story_written f l) (response 0 4 (r.Write 1) ∷ []) (told E (end_edit f l))
-unfolding task_deeds task_refusal
+unfolding port_served_most after_serving_most task_deeds task_refusal task_held
 written_so f l = refl
 
 abbrev pub letter_item : Origin → ℕ → ℕ → Item
@@ -118,22 +119,22 @@ one_item origin q0 q1 l none =
 -- and the event file then has it
 finished_with : (f : Facts) (story : WindowStory) (first : List Response) (item : Item) → finished f story first (of_window 1 item ∷ [])
     ≡ record (standing [] [] (with_item (gone_on f) story item)) {
-      tables = ended (tables_with []) (first ++ []);
-      unsent = put_replies (f.unsent ∷ replicate 63 nothing_unsent) (replies_of (first ++ []));
-      replies = replies_of (first ++ []);
+      tables = ended (tables_with []) (first ++ [] ++ []);
+      unsent = put_replies (f.unsent ∷ replicate 63 nothing_unsent) (replies_of (first ++ [] ++ []));
+      replies = replies_of (first ++ [] ++ []);
     }
-unfolding served_most book_served_most
+unfolding served_most book_served_most port_served_most after_serving_most
 finished_with f story first item =
     ap (λ (files : List WindowFile). record (standing [] [] (with_item (gone_on f) story item)) {
-      tables = ended (tables_with []) (first ++ []);
+      tables = ended (tables_with []) (first ++ [] ++ []);
       scene = record no_scene { book = record { files = files; owners = 1 ∷ []; reads = []; latest = f.latest } };
-      unsent = put_replies (f.unsent ∷ replicate 63 nothing_unsent) (replies_of (first ++ []));
-      replies = replies_of (first ++ []);
+      unsent = put_replies (f.unsent ∷ replicate 63 nothing_unsent) (replies_of (first ++ [] ++ []));
+      replies = replies_of (first ++ [] ++ []);
     }) (stays_listed (file_with f.items f.carry) (f.items ++ fresh item ∷ []) f.carry)
 
 pub write_step : (f : Facts) (l : ℕ) → l < 128 → length (text_of f) < 16777216
     → step (standing [] [] f) (write l) ≡ standing [] [] (with_item (answered f 4 (r.Write 1)) (story_written f l) (letter_item E (length (text_of f)) l))
-unfolding step task_deeds task_refusal
+unfolding step task_deeds task_refusal task_held
 write_step f l ascii room =
     let cut : nat_lt (length (text_of f)) (length (text_of f)) ≡ false = grind (arith, nat_tests) in
     ap (λ (d : Doing). after_story (standing [] [] f) (present (standing [] [] f)) (write l) d) (write_doing f l ascii room)
@@ -165,12 +166,12 @@ key_doing f l =
 
 typed_so : (f : Facts) (l : ℕ) → after_story (standing [] [] f) (present (standing [] [] f)) (key l) (typed_doing f l)
     ≡ finished f (story_typed f l) [] (told K (dot_edit f l) ++ [])
-unfolding task_deeds task_refusal
+unfolding port_served_most after_serving_most task_deeds task_refusal task_held
 typed_so f l = refl
 
 pub key_step : (f : Facts) (l : ℕ) → (dot_of f).q0 ≡ (dot_of f).q1
     → step (standing [] [] f) (key l) ≡ standing [] [] (with_item (gone_on f) (story_typed f l) (letter_item K (dot_of f).q0 l))
-unfolding step task_deeds task_refusal
+unfolding step task_deeds task_refusal task_held
 key_step f l null =
     let cut : nat_lt (dot_of f).q0 (dot_of f).q1 ≡ false = grind (arith, nat_tests) in
     ap (λ (d : Doing). after_story (standing [] [] f) (present (standing [] [] f)) (key l) d) (key_doing f l)

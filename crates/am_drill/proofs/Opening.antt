@@ -22,6 +22,9 @@ use Rattle.acme_tree.specs.Walks.{walk_one, entry_named, file_named, to_entry}
 use Rattle.fid_table.specs.declared.types.Fid.{Fid}
 use Rattle.event_book.specs.BookState.{BookState, empty_book}
 use Rattle.core_scene.specs.Scenes.{no_scene}
+use Rattle.plumb_ports.specs.PortList.{names_of}
+use Rattle.plumb_ports.specs.PortsState.{beginning}
+use Rattle.core_ports.specs.Serving.{served_most as port_served_most, after_serving_most}
 use Rattle.core_events.specs.Serving.{served_most, book_served_most}
 use Rattle.core_windows.specs.Stories.{WindowStory, named_story, shown_windows}
 use Rattle.core_windows.specs.Windows.{world_of}
@@ -31,7 +34,7 @@ use Rattle.core_fids.specs.declared.walking.WalkEnd.TheVariants as end
 use Rattle.core_fids.specs.Refusals.{reaction_or_refusal}
 use Rattle.core_fids.specs.Walking.{trail, onwards, then_qid, arrives}
 use Rattle.win_events.specs.declared.item.Origin.TheVariants.{F}
-use Rattle.core_tasks.specs.Tasks.{task_deeds, task_refusal}
+use Rattle.core_tasks.specs.Tasks.{task_deeds, task_refusal, task_held}
 use Rattle.core_intents.specs.Doings.{message_doing}
 use Rattle.core_steps.specs.Stages.{after_story}
 use Rattle.core_intents.specs.declared.connection.Connection.TheVariants.{Undialed, Live}
@@ -94,18 +97,18 @@ abbrev pub dialed : Begun
 dialed = record { entries = 1; unsent = nothing_unsent; replies = [] }
 
 pub dial_step : step start (event.Dial 0) ≡ begun None [] [] empty_book dialed
-unfolding step served_most book_served_most task_deeds task_refusal
+unfolding step served_most book_served_most port_served_most after_serving_most task_deeds task_refusal task_held
 dial_step = refl
 
 pub version_step : (b : Begun) → step (begun None [] [] empty_book b) version ≡ begun (Some 8192) [] [] empty_book (told b notag (r.Version 8192 (codes "9P2000")))
-unfolding step served_most book_served_most task_deeds task_refusal
+unfolding step served_most book_served_most port_served_most after_serving_most task_deeds task_refusal task_held
 version_step b = refl
 
 abbrev pub root_fids : List (ℕ × Fid)
 root_fids = (0, fresh Root) ∷ []
 
 pub attach_step : (b : Begun) → step (begun (Some 8192) [] [] empty_book b) attach ≡ begun (Some 8192) root_fids [] empty_book (told b 1 (r.Attach (qid_of Root)))
-unfolding step served_most book_served_most task_deeds task_refusal
+unfolding step served_most book_served_most port_served_most after_serving_most task_deeds task_refusal task_held
 attach_step b = refl
 
 abbrev pub new_story : WindowStory
@@ -116,7 +119,7 @@ walked_fids = (0, fresh Root) ∷ (1, fresh (File 1 file.Body)) ∷ []
 
 pub walk_body_step : (b : Begun) → step (begun (Some 8192) root_fids [] empty_book b) walk_body
     ≡ begun (Some 8192) walked_fids (Some new_story ∷ []) empty_book (told b 2 (r.Walk (qid_of NewDir ∷ qid_of (File 1 file.Body) ∷ [])))
-unfolding step served_most book_served_most trail walk_one entry_named file_named entries task_deeds task_refusal
+unfolding step served_most book_served_most port_served_most after_serving_most trail walk_one entry_named file_named entries task_deeds task_refusal task_held
 walk_body_step b = refl
 
 abbrev pub opened_fids : List (ℕ × Fid)
@@ -124,7 +127,7 @@ opened_fids = (0, fresh Root) ∷ (1, body_fid) ∷ []
 
 pub open_body_step : (b : Begun) → step (begun (Some 8192) walked_fids (Some new_story ∷ []) empty_book b) open_body
     ≡ begun (Some 8192) opened_fids (Some new_story ∷ []) empty_book (told b 3 (r.Open (qid_of (File 1 file.Body)) 0))
-unfolding step served_most book_served_most may_open task_deeds task_refusal
+unfolding step served_most book_served_most port_served_most after_serving_most may_open task_deeds task_refusal task_held
 open_body_step b = refl
 
 -- ---- the walk to window 1, whose name is a decimal
@@ -132,24 +135,28 @@ open_body_step b = refl
 abbrev pub world_one : World
 world_one = world_of (shown_windows (Some new_story ∷ []))
 
-named_one : entry_named world_one Root (codes "1") ≡ Some (Window 1)
+-- the names of the ports, of which there is one from the start
+abbrev pub ports_one : List (List ℕ)
+ports_one = names_of beginning.ports
+
+named_one : entry_named world_one ports_one Root (codes "1") ≡ Some (Window 1)
 unfolding entry_named entries
 named_one = ap (λ (name : List ℕ). if bytes_eq (codes "1") name then Some (Window 1) else None) (decimal_digit 1 (omega arith))
 
-event_trail : trail world_one (Window 1) (codes "event" ∷ []) ≡ record { qids = qid_of (File 1 file.Event) ∷ []; end = end.At (File 1 file.Event) }
+event_trail : trail world_one ports_one (Window 1) (codes "event" ∷ []) ≡ record { qids = qid_of (File 1 file.Event) ∷ []; end = end.At (File 1 file.Event) }
 unfolding trail walk_one entry_named entries
 event_trail = refl
 
-trail_one : trail world_one Root (codes "1" ∷ codes "event" ∷ []) ≡ record { qids = qid_of (Window 1) ∷ qid_of (File 1 file.Event) ∷ []; end = end.At (File 1 file.Event) }
+trail_one : trail world_one ports_one Root (codes "1" ∷ codes "event" ∷ []) ≡ record { qids = qid_of (Window 1) ∷ qid_of (File 1 file.Event) ∷ []; end = end.At (File 1 file.Event) }
 unfolding trail walk_one
 trail_one =
-    ap (λ (found : Option Node). onwards world_one (to_entry found) (λ m. trail world_one m (codes "event" ∷ []))) named_one
+    ap (λ (found : Option Node). onwards world_one (to_entry found) (λ m. trail world_one ports_one m (codes "event" ∷ []))) named_one
     ∙ ap (λ (rest : Trail). then_qid (qid_of (Window 1)) rest) event_trail
 
 pub walk_event_step : (b : Begun) → step (begun (Some 8192) opened_fids (Some new_story ∷ []) empty_book b) walk_event
     ≡ begun (Some 8192) ((0, fresh Root) ∷ (1, body_fid) ∷ (2, fresh (File 1 file.Event)) ∷ []) (Some new_story ∷ []) empty_book
     (told b 2 (r.Walk (qid_of (Window 1) ∷ qid_of (File 1 file.Event) ∷ [])))
-unfolding step served_most book_served_most task_deeds task_refusal
+unfolding step served_most book_served_most port_served_most after_serving_most task_deeds task_refusal task_held
 walk_event_step b =
     let s : State = begun (Some 8192) opened_fids (Some new_story ∷ []) empty_book b in
     ap (λ (rest : Trail). after_story s (present s) walk_event (message_doing (present s) (reaction_or_refusal (arrives 2 world_one rest)) F)) trail_one
@@ -161,7 +168,7 @@ facts_of b = record { entries = b.entries; story = new_story; items = []; carry 
 
 pub open_event_step : (b : Begun) → step (begun (Some 8192) ((0, fresh Root) ∷ (1, body_fid) ∷ (2, fresh (File 1 file.Event)) ∷ []) (Some new_story ∷ []) empty_book b) open_event
     ≡ standing [] [] (facts_of (told b 3 (r.Open (qid_of (File 1 file.Event)) 0)))
-unfolding step served_most book_served_most may_open task_deeds task_refusal
+unfolding step served_most book_served_most port_served_most after_serving_most may_open task_deeds task_refusal task_held
 open_event_step b = refl
 
 -- ---- lawful

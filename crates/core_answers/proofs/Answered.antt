@@ -8,6 +8,7 @@ use Rattle.ninep_types.specs.declared.message.Qid.{Qid}
 use Rattle.ninep_types.specs.declared.message.TBody.{TBody}
 use Rattle.ninep_types.specs.declared.message.TBody.TheVariants as t
 use Rattle.ninep_types.specs.declared.message.RBody.TheVariants as r
+use Rattle.acme_tree.specs.declared.node.Node.{Node}
 use Rattle.acme_tree.specs.declared.node.World.{World}
 use Rattle.fid_table.specs.declared.types.Fid.{Fid}
 use Rattle.fid_table.specs.Tables.{Tables, fid_of, msize_of}
@@ -32,16 +33,17 @@ use Rattle.core_fids.specs.Plainly.{does}
 use Rattle.core_fids.specs.Refusals.{refused_with, reaction_or_refusal}
 use Rattle.core_windows.specs.declared.change.Change.TheVariants as change
 use Rattle.core_windows.specs.Windows.{Window, window_at, named, world_of}
-use Rattle.core_fids.specs.Attaching.{is_version, agreed, version_reaction, attach_refusal, or_attaches}
+use Rattle.core_fids.specs.Attaching.{is_version, agreed, version_reaction, attached, attach_refusal, attach_to, or_attaches}
+use Rattle.core_fids.specs.Plumbers.{Plumber}
 use Rattle.core_fids.specs.Walking.{trail, walk_refusal, arrives_at, or_walks, walk_from}
 use Rattle.core_fids.specs.Opening.{open_refusal, or_opens, open_fid, denied, clunk_fid, remove_fid}
 use Rattle.core_fids.specs.Directories.{place_at, read_dir, stat_fid}
-use Rattle.core_answers.specs.Reading.{read_opening, read_content, use_refusal, or_reads, most, read_fid}
+use Rattle.core_answers.specs.Reading.{read_opening, read_port, read_content, use_refusal, or_reads, most, read_fid}
 use Rattle.core_answers.specs.Writing.{written, if_lives, append_reaction, add_reaction, or_errors, errors_reaction, asking_reaction, write_content, write_fid}
 use Rattle.core_answers.specs.Erring.{fits_in, fits_tag, appends, errors_of, root_errors, errors_refusal}
 use Rattle.core_answers.specs.Texts.{text_at, right_of}
 use Rattle.core_fids.specs.Contents.{content_of}
-use Rattle.core_fids.specs.Fids.{is_for_reading, is_for_writing, holding}
+use Rattle.core_fids.specs.Fids.{is_for_reading, is_for_writing, event_opening, port_opening, holding}
 use Rattle.core_answers.specs.Reactions.{served, comes_first}
 use Rattle.core_answers.specs.Laws.{IsAnswered, EachIsAnswered}
 
@@ -80,8 +82,12 @@ version_answers : (msize : ℕ) (version : List ℕ) → IsAnswered (t.Version m
 version_answers msize version =
     refused_or (t.Version msize version) (nat_lt msize 256) (effect.Begins None) refusal.MsizeTooSmall (agreed (min msize 65560) version) (known_answers msize (min msize 65560) version (is_version version))
 
-attach_answers : (fid afid : ℕ) (uname aname : List ℕ) (o : Option Refusal) → Answers (t.Attach fid afid uname aname) (or_attaches o fid)
-attach_answers fid afid uname aname None = inl refl
+root_answers : (fid afid : ℕ) (uname aname : List ℕ) (o : Option Node) → Answers (t.Attach fid afid uname aname) (attach_to fid o)
+root_answers fid afid uname aname None = tt
+root_answers fid afid uname aname (Some node) = inl refl
+
+attach_answers : (fid afid : ℕ) (uname aname : List ℕ) (o : Option Refusal) → Answers (t.Attach fid afid uname aname) (or_attaches o fid aname)
+attach_answers fid afid uname aname None = root_answers fid afid uname aname (attached aname)
 attach_answers fid afid uname aname (Some x) = tt
 
 arrives_answers : (fid newfid : ℕ) (names : List (List ℕ)) (world : World) (qids : List Qid) (e : WalkEnd) → Answers (t.Walk fid newfid names) (arrives_at newfid world qids e)
@@ -93,19 +99,19 @@ or_walks_answers : (body : TBody) (o : Option Refusal) (x : Result Reaction Refu
 or_walks_answers body None x h = h
 or_walks_answers body (Some y) x h = tt
 
-walk_answers : (tables : Tables) (world : World) (conn fid newfid : ℕ) (names : List (List ℕ)) (o : Option Fid) → Answers (t.Walk fid newfid names) (walk_from tables world conn fid newfid names o)
-walk_answers tables world conn fid newfid names None = tt
-walk_answers tables world conn fid newfid names (Some f) =
+walk_answers : (tables : Tables) (world : World) (ports : List (List ℕ)) (conn fid newfid : ℕ) (names : List (List ℕ)) (o : Option Fid) → Answers (t.Walk fid newfid names) (walk_from tables world ports conn fid newfid names o)
+walk_answers tables world ports conn fid newfid names None = tt
+walk_answers tables world ports conn fid newfid names (Some f) =
     or_walks_answers (t.Walk fid newfid names) (walk_refusal tables conn fid newfid f) _
-    (arrives_answers fid newfid names world (trail world f.node names).qids (trail world f.node names).end)
+    (arrives_answers fid newfid names world (trail world ports f.node names).qids (trail world ports f.node names).end)
 
-opens_answers : (tables : Tables) (openings fid mode : ℕ) (f : Fid) (o : Option Refusal) → Answers (t.Open fid mode) (or_opens tables o openings fid f mode)
-opens_answers tables openings fid mode f None = inl refl
-opens_answers tables openings fid mode f (Some x) = tt
+opens_answers : (tables : Tables) (plumber : Plumber) (openings fid mode : ℕ) (f : Fid) (o : Option Refusal) → Answers (t.Open fid mode) (or_opens tables plumber o openings fid f mode)
+opens_answers tables plumber openings fid mode f None = inl refl
+opens_answers tables plumber openings fid mode f (Some x) = tt
 
-open_answers : (tables : Tables) (world : World) (openings fid mode : ℕ) (o : Option Fid) → Answers (t.Open fid mode) (open_fid tables world openings fid mode o)
-open_answers tables world openings fid mode None = tt
-open_answers tables world openings fid mode (Some f) = opens_answers tables openings fid mode f (open_refusal world openings f mode)
+open_answers : (tables : Tables) (world : World) (plumber : Plumber) (openings fid mode : ℕ) (o : Option Fid) → Answers (t.Open fid mode) (open_fid tables world plumber openings fid mode o)
+open_answers tables world plumber openings fid mode None = tt
+open_answers tables world plumber openings fid mode (Some f) = opens_answers tables plumber openings fid mode f (open_refusal world plumber openings f mode)
 
 denied_answers : (body : TBody) (o : Option Fid) → Answers body (denied o)
 denied_answers body None = tt
@@ -115,13 +121,17 @@ or_reads_answers : (body : TBody) (o : Option Refusal) (x : Result Reaction Refu
 or_reads_answers body None x h = h
 or_reads_answers body (Some y) x h = tt
 
-read_dir_answers : (world : World) (fid offset asked count : ℕ) (f : Fid) (o : Option ℕ) → Answers (t.Read fid offset asked) (read_dir world fid f offset count o)
-read_dir_answers world fid offset asked count f None = tt
-read_dir_answers world fid offset asked count f (Some skip) = inl refl
+read_dir_answers : (world : World) (ports : List (List ℕ)) (fid offset asked count : ℕ) (f : Fid) (o : Option ℕ) → Answers (t.Read fid offset asked) (read_dir world ports fid f offset count o)
+read_dir_answers world ports fid offset asked count f None = tt
+read_dir_answers world ports fid offset asked count f (Some skip) = inl refl
 
 read_opening_answers : (fid offset asked count : ℕ) (o : Option ℕ) → Answers (t.Read fid offset asked) (read_opening fid count o)
 read_opening_answers fid offset asked count None = tt
 read_opening_answers fid offset asked count (Some opening) = refl
+
+read_port_answers : (fid offset asked count : ℕ) (o : Option ℕ) → Answers (t.Read fid offset asked) (read_port fid count o)
+read_port_answers fid offset asked count None = tt
+read_port_answers fid offset asked count (Some opening) = refl
 
 data_answers : (fid offset asked count w : ℕ) (o : Option Window) → IsAnswered (t.Read fid offset asked) (data_reaction w count o).answer
 data_answers fid offset asked count w None = inl refl
@@ -131,25 +141,27 @@ xdata_answers : (fid offset asked count w : ℕ) (o : Option Window) → IsAnswe
 xdata_answers fid offset asked count w None = inl refl
 xdata_answers fid offset asked count w (Some window) = inl refl
 
-read_content_answers : (world : World) (windows : List (Option Window)) (fid offset asked count : ℕ) (f : Fid) (c : Content) → Answers (t.Read fid offset asked) (read_content world windows fid f offset count c)
-read_content_answers world windows fid offset asked count f content.Directory = read_dir_answers world fid offset asked count f (place_at f offset)
-read_content_answers world windows fid offset asked count f (content.BodyText w) = inl refl
-read_content_answers world windows fid offset asked count f (content.TagText w) = inl refl
-read_content_answers world windows fid offset asked count f (content.CtlText w) = inl refl
-read_content_answers world windows fid offset asked count f (content.AddrText w) = inl refl
-read_content_answers world windows fid offset asked count f (content.DataOf w) = data_answers fid offset asked count w (window_at windows w)
-read_content_answers world windows fid offset asked count f (content.XdataOf w) = xdata_answers fid offset asked count w (window_at windows w)
-read_content_answers world windows fid offset asked count f content.IndexText = inl refl
-read_content_answers world windows fid offset asked count f (content.ErrorsOf w) = tt
-read_content_answers world windows fid offset asked count f content.ConsErrors = inl refl
-read_content_answers world windows fid offset asked count f content.Empty = inl refl
-read_content_answers world windows fid offset asked count f (content.EventsOf w) = read_opening_answers fid offset asked count f.opening
-read_content_answers world windows fid offset asked count f content.Unserved = tt
+read_content_answers : (world : World) (windows : List (Option Window)) (plumber : Plumber) (fid offset asked count : ℕ) (f : Fid) (c : Content) → Answers (t.Read fid offset asked) (read_content world windows plumber fid f offset count c)
+read_content_answers world windows plumber fid offset asked count f content.Directory = read_dir_answers world plumber.names fid offset asked count f (place_at f offset)
+read_content_answers world windows plumber fid offset asked count f (content.BodyText w) = inl refl
+read_content_answers world windows plumber fid offset asked count f (content.TagText w) = inl refl
+read_content_answers world windows plumber fid offset asked count f (content.CtlText w) = inl refl
+read_content_answers world windows plumber fid offset asked count f (content.AddrText w) = inl refl
+read_content_answers world windows plumber fid offset asked count f (content.DataOf w) = data_answers fid offset asked count w (window_at windows w)
+read_content_answers world windows plumber fid offset asked count f (content.XdataOf w) = xdata_answers fid offset asked count w (window_at windows w)
+read_content_answers world windows plumber fid offset asked count f content.IndexText = inl refl
+read_content_answers world windows plumber fid offset asked count f (content.ErrorsOf w) = tt
+read_content_answers world windows plumber fid offset asked count f content.ConsErrors = inl refl
+read_content_answers world windows plumber fid offset asked count f content.Empty = inl refl
+read_content_answers world windows plumber fid offset asked count f (content.EventsOf w) = read_opening_answers fid offset asked count (event_opening f)
+read_content_answers world windows plumber fid offset asked count f content.SendText = tt
+read_content_answers world windows plumber fid offset asked count f content.RulesText = inl refl
+read_content_answers world windows plumber fid offset asked count f (content.PortOf k) = read_port_answers fid offset asked count (port_opening f)
 
-read_answers : (world : World) (windows : List (Option Window)) (fid offset asked count : ℕ) (o : Option Fid) → Answers (t.Read fid offset asked) (read_fid world windows fid offset count o)
-read_answers world windows fid offset asked count None = tt
-read_answers world windows fid offset asked count (Some f) =
-    or_reads_answers (t.Read fid offset asked) (use_refusal world f is_for_reading) _ (read_content_answers world windows fid offset asked count f (content_of f.node))
+read_answers : (world : World) (windows : List (Option Window)) (plumber : Plumber) (fid offset asked count : ℕ) (o : Option Fid) → Answers (t.Read fid offset asked) (read_fid world windows plumber fid offset count o)
+read_answers world windows plumber fid offset asked count None = tt
+read_answers world windows plumber fid offset asked count (Some f) =
+    or_reads_answers (t.Read fid offset asked) (use_refusal world plumber.names f is_for_reading) _ (read_content_answers world windows plumber fid offset asked count f (content_of f.node))
 
 if_lives_answers : (body : TBody) (o : Option Window) (x : Result Reaction Refusal) → Answers body x → Answers body (if_lives o x)
 if_lives_answers body None x h = tt
@@ -208,12 +220,14 @@ write_content_answers windows fid offset bytes f (content.ErrorsOf w) =
 write_content_answers windows fid offset bytes f content.ConsErrors = errors_answers windows fid offset bytes f root_errors (decode_part (part_bytes f.part ++ bytes))
 write_content_answers windows fid offset bytes f content.Empty = inl refl
 write_content_answers windows fid offset bytes f (content.EventsOf w) = asking_answers windows fid offset w bytes (demand.WriteBack w bytes)
-write_content_answers windows fid offset bytes f content.Unserved = tt
+write_content_answers windows fid offset bytes f content.SendText = inl refl
+write_content_answers windows fid offset bytes f content.RulesText = inl refl
+write_content_answers windows fid offset bytes f (content.PortOf k) = tt
 
-write_answers : (world : World) (windows : List (Option Window)) (fid offset : ℕ) (bytes : List ℕ) (o : Option Fid) → Answers (t.Write fid offset bytes) (write_fid world windows fid bytes o)
-write_answers world windows fid offset bytes None = tt
-write_answers world windows fid offset bytes (Some f) =
-    or_reads_answers (t.Write fid offset bytes) (use_refusal world f is_for_writing) _ (write_content_answers windows fid offset bytes f (content_of f.node))
+write_answers : (world : World) (windows : List (Option Window)) (ports : List (List ℕ)) (fid offset : ℕ) (bytes : List ℕ) (o : Option Fid) → Answers (t.Write fid offset bytes) (write_fid world windows ports fid bytes o)
+write_answers world windows ports fid offset bytes None = tt
+write_answers world windows ports fid offset bytes (Some f) =
+    or_reads_answers (t.Write fid offset bytes) (use_refusal world ports f is_for_writing) _ (write_content_answers windows fid offset bytes f (content_of f.node))
 
 clunk_answers : (fid : ℕ) (o : Option Fid) → Answers (t.Clunk fid) (clunk_fid fid o)
 clunk_answers fid None = tt
@@ -223,29 +237,29 @@ remove_answers : (fid : ℕ) (o : Option Fid) → Answers (t.Remove fid) (remove
 remove_answers fid None = tt
 remove_answers fid (Some f) = inr (refusal.PermissionDenied, refl)
 
-stat_answers : (world : World) (fid : ℕ) (o : Option Fid) → Answers (t.Stat fid) (stat_fid world o)
-stat_answers world fid None = tt
-stat_answers world fid (Some f) =
-    done_or (t.Stat fid) (is_live world f.node) _ refusal.WindowDeleted (inl refl)
+stat_answers : (world : World) (ports : List (List ℕ)) (fid : ℕ) (o : Option Fid) → Answers (t.Stat fid) (stat_fid world ports o)
+stat_answers world ports fid None = tt
+stat_answers world ports fid (Some f) =
+    done_or (t.Stat fid) (is_live world ports f.node) _ refusal.WindowDeleted (inl refl)
 
-served_answers : (tables : Tables) (world : World) (windows : List (Option Window)) (openings conn : ℕ) (body : TBody) → Answers body (served tables world windows openings conn body)
-served_answers tables world windows openings conn (t.Version msize version) = version_answers msize version
-served_answers tables world windows openings conn (t.Auth afid uname aname) = tt
-served_answers tables world windows openings conn (t.Flush oldtag) = inl refl
-served_answers tables world windows openings conn (t.Attach fid afid uname aname) = attach_answers fid afid uname aname (attach_refusal tables conn fid afid aname)
-served_answers tables world windows openings conn (t.Walk fid newfid names) = walk_answers tables world conn fid newfid names (fid_of tables conn fid)
-served_answers tables world windows openings conn (t.Open fid mode) = open_answers tables world openings fid mode (fid_of tables conn fid)
-served_answers tables world windows openings conn (t.Create fid name perm mode) = denied_answers (t.Create fid name perm mode) (fid_of tables conn fid)
-served_answers tables world windows openings conn (t.Read fid offset count) = read_answers world windows fid offset count (most count (msize_of tables conn)) (fid_of tables conn fid)
-served_answers tables world windows openings conn (t.Write fid offset bytes) = write_answers world windows fid offset bytes (fid_of tables conn fid)
-served_answers tables world windows openings conn (t.Clunk fid) = clunk_answers fid (fid_of tables conn fid)
-served_answers tables world windows openings conn (t.Remove fid) = remove_answers fid (fid_of tables conn fid)
-served_answers tables world windows openings conn (t.Stat fid) = stat_answers world fid (fid_of tables conn fid)
-served_answers tables world windows openings conn (t.Wstat fid stat) = denied_answers (t.Wstat fid stat) (fid_of tables conn fid)
+served_answers : (tables : Tables) (world : World) (windows : List (Option Window)) (plumber : Plumber) (openings conn : ℕ) (body : TBody) → Answers body (served tables world windows plumber openings conn body)
+served_answers tables world windows plumber openings conn (t.Version msize version) = version_answers msize version
+served_answers tables world windows plumber openings conn (t.Auth afid uname aname) = tt
+served_answers tables world windows plumber openings conn (t.Flush oldtag) = inl refl
+served_answers tables world windows plumber openings conn (t.Attach fid afid uname aname) = attach_answers fid afid uname aname (attach_refusal tables conn fid afid)
+served_answers tables world windows plumber openings conn (t.Walk fid newfid names) = walk_answers tables world plumber.names conn fid newfid names (fid_of tables conn fid)
+served_answers tables world windows plumber openings conn (t.Open fid mode) = open_answers tables world plumber openings fid mode (fid_of tables conn fid)
+served_answers tables world windows plumber openings conn (t.Create fid name perm mode) = denied_answers (t.Create fid name perm mode) (fid_of tables conn fid)
+served_answers tables world windows plumber openings conn (t.Read fid offset count) = read_answers world windows plumber fid offset count (most count (msize_of tables conn)) (fid_of tables conn fid)
+served_answers tables world windows plumber openings conn (t.Write fid offset bytes) = write_answers world windows plumber.names fid offset bytes (fid_of tables conn fid)
+served_answers tables world windows plumber openings conn (t.Clunk fid) = clunk_answers fid (fid_of tables conn fid)
+served_answers tables world windows plumber openings conn (t.Remove fid) = remove_answers fid (fid_of tables conn fid)
+served_answers tables world windows plumber openings conn (t.Stat fid) = stat_answers world plumber.names fid (fid_of tables conn fid)
+served_answers tables world windows plumber openings conn (t.Wstat fid stat) = denied_answers (t.Wstat fid stat) (fid_of tables conn fid)
 
 -- ---- all messages
 
 pub each_is_answered : EachIsAnswered
-each_is_answered tables windows openings conn body =
+each_is_answered tables windows plumber openings conn body =
     refused_or body (comes_first tables conn body) effect.Nothing refusal.VersionFirst _
-    (settled body (served tables (world_of windows) windows openings conn body) (served_answers tables (world_of windows) windows openings conn body))
+    (settled body (served tables (world_of windows) windows plumber openings conn body) (served_answers tables (world_of windows) windows plumber openings conn body))

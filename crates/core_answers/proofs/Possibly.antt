@@ -1,6 +1,6 @@
 -- Changes that can be made.
-use Rattle.std.proofs.Common.{◌≡◌, ℕ, ◌+◌, Bool, true, false, cond, List, [], ◌∷◌, ◌++◌, length, Option, Some, None, refl, sym, ap, subst, ◌∙◌, ◌<◌, ◌^◌, arith}
-use Rattle.std.specs.Prelude.{eqb, not, Result, IsSome}
+use Rattle.std.proofs.Common.{◌≡◌, ℕ, ◌+◌, Bool, true, false, cond, List, [], ◌∷◌, ◌++◌, length, Option, Some, None, refl, sym, ap, subst, ◌<◌, ◌^◌, arith}
+use Rattle.std.specs.Prelude.{eqb, Result, IsSome}
 use Rattle.acme_tree.specs.Trees.{is_full}
 use Rattle.am_text.specs.declared.range.Range.{Range}
 use Rattle.core_addresses.specs.Data.{data_taken, Tells}
@@ -13,10 +13,8 @@ use Rattle.edit_log.specs.declared.types.Edit.{Edit}
 use Rattle.win_text.specs.Bodies.{AreInRange, IsInside}
 use Rattle.win_text.specs.BodyStories.{IsChangeOf}
 use Rattle.core_windows.specs.declared.change.Change.{Change}
-use Rattle.core_windows.specs.declared.change.Change.TheVariants as change
-use Rattle.core_windows.specs.declared.change.Setting.{Setting}
 use Rattle.core_windows.specs.declared.change.Setting.TheVariants as setting
-use Rattle.core_windows.specs.Possible.{CanSet, CanSetIn, CanEdit, text_in}
+use Rattle.core_windows.specs.Possible.{CanSetIn, CanEdit, text_in}
 use Rattle.core_windows.specs.Windows.{Window, window_at, world_of, named_window}
 use Rattle.core_windows.proofs.Steps.{edits_then_set, made_there}
 use Rattle.core_answers.specs.Addressing.{sets_addr, edits_with_addr, fault_of, addr_or_refusal, addr_reaction, data_or_refusal, taking_reaction}

@@ -1,5 +1,5 @@
 -- What is read and written by a window's address: the files `addr`, `data` and `xdata`, after acme(4).
-use Rattle.std.specs.Prelude.{ℕ, false, List, [], ◌∷◌, length, Option, Some, None, Result, Ok, Err}
+use Rattle.std.specs.Prelude.{ℕ, List, [], ◌∷◌, length, Option, Some, None, Result, Ok, Err}
 use Rattle.am_text.specs.declared.range.Range.{Range}
 use Rattle.ninep_types.specs.declared.message.RBody.TheVariants as r
 use Rattle.core_addresses.specs.Data.{data_given, xdata_given, data_taken}

@@ -7,8 +7,9 @@ use Rattle.ninep_types.specs.Spelling.{kind_t, kind_r}
 use Rattle.fid_table.specs.Tables.{Tables}
 use Rattle.core_windows.specs.Windows.{Window}
 use Rattle.core_fids.specs.declared.effect.Answer.{Answer}
-use Rattle.core_fids.specs.declared.effect.Answer.TheVariants.{Says, Reads}
+use Rattle.core_fids.specs.declared.effect.Answer.TheVariants.{Says, Reads, ReadsPort}
 use Rattle.core_fids.specs.declared.refusal.Refusal.{Refusal}
+use Rattle.core_fids.specs.Plumbers.{Plumber}
 use Rattle.core_answers.specs.Reactions.{reaction}
 use Rattle.core_fids.specs.Refusals.{refusal_text}
 
@@ -20,8 +21,10 @@ IsRefused answer = (refusal : Refusal) × (answer ≡ r.Error (refusal_text refu
 abbrev pub IsAnswered : TBody → Answer → Type 0
 IsAnswered asked (Says answer) = (kind_r answer ≡ kind_t asked + 1) ⊎ IsRefused answer
 IsAnswered asked (Reads fid opening count) = kind_t asked ≡ 116
+IsAnswered asked (ReadsPort fid opening count) = kind_t asked ≡ 116
 
 -- In each state each message of each connection is answered.
 abbrev pub EachIsAnswered : Type 0
 EachIsAnswered =
-    (tables : Tables) (windows : List (Option Window)) (openings conn : ℕ) (body : TBody) → IsAnswered body (reaction tables windows openings conn body).answer
+    (tables : Tables) (windows : List (Option Window)) (plumber : Plumber) (openings conn : ℕ) (body : TBody)
+    → IsAnswered body (reaction tables windows plumber openings conn body).answer

@@ -14,6 +14,7 @@ use Rattle.core_fids.specs.declared.refusal.Refusal.{Refusal}
 use Rattle.core_fids.specs.declared.refusal.Refusal.TheVariants as refusal
 use Rattle.core_fids.specs.Refusals.{refused, reaction_or_refusal}
 use Rattle.core_fids.specs.Fids.{is_there}
+use Rattle.core_fids.specs.Plumbers.{Plumber}
 use Rattle.core_windows.specs.Windows.{Window, world_of}
 use Rattle.core_fids.specs.Attaching.{version_reaction, attach_reaction}
 use Rattle.core_fids.specs.Walking.{walk_reaction}
@@ -27,20 +28,20 @@ abbrev pub flush_reaction : ℕ → Reaction
 flush_reaction oldtag = record { effect = effect.Nothing; events = events.Cancels oldtag; changes = []; demand = demand.Nothing; answer = Says r.Flush }
 
 -- what a message does in a session, where so many openings of event files were made
-abbrev pub served : Tables → World → List (Option Window) → ℕ → ℕ → TBody → Result Reaction Refusal
-served tables world windows openings conn (t.Version msize version) = Ok (version_reaction msize version)
-served tables world windows openings conn (t.Auth afid uname aname) = Err refusal.AuthenticationNotRequired
-served tables world windows openings conn (t.Flush oldtag) = Ok (flush_reaction oldtag)
-served tables world windows openings conn (t.Attach fid afid uname aname) = attach_reaction tables conn fid afid aname
-served tables world windows openings conn (t.Walk fid newfid names) = walk_reaction tables world conn fid newfid names
-served tables world windows openings conn (t.Open fid mode) = open_reaction tables world openings conn fid mode
-served tables world windows openings conn (t.Create fid name perm mode) = denied (fid_of tables conn fid)
-served tables world windows openings conn (t.Read fid offset count) = read_reaction tables world windows conn fid offset count
-served tables world windows openings conn (t.Write fid offset bytes) = write_reaction tables world windows conn fid bytes
-served tables world windows openings conn (t.Clunk fid) = clunk_fid fid (fid_of tables conn fid)
-served tables world windows openings conn (t.Remove fid) = remove_fid fid (fid_of tables conn fid)
-served tables world windows openings conn (t.Stat fid) = stat_fid world (fid_of tables conn fid)
-served tables world windows openings conn (t.Wstat fid stat) = denied (fid_of tables conn fid)
+abbrev pub served : Tables → World → List (Option Window) → Plumber → ℕ → ℕ → TBody → Result Reaction Refusal
+served tables world windows plumber openings conn (t.Version msize version) = Ok (version_reaction msize version)
+served tables world windows plumber openings conn (t.Auth afid uname aname) = Err refusal.AuthenticationNotRequired
+served tables world windows plumber openings conn (t.Flush oldtag) = Ok (flush_reaction oldtag)
+served tables world windows plumber openings conn (t.Attach fid afid uname aname) = attach_reaction tables conn fid afid aname
+served tables world windows plumber openings conn (t.Walk fid newfid names) = walk_reaction tables world plumber.names conn fid newfid names
+served tables world windows plumber openings conn (t.Open fid mode) = open_reaction tables world plumber openings conn fid mode
+served tables world windows plumber openings conn (t.Create fid name perm mode) = denied (fid_of tables conn fid)
+served tables world windows plumber openings conn (t.Read fid offset count) = read_reaction tables world windows plumber conn fid offset count
+served tables world windows plumber openings conn (t.Write fid offset bytes) = write_reaction tables world windows plumber.names conn fid bytes
+served tables world windows plumber openings conn (t.Clunk fid) = clunk_fid fid (fid_of tables conn fid)
+served tables world windows plumber openings conn (t.Remove fid) = remove_fid fid (fid_of tables conn fid)
+served tables world windows plumber openings conn (t.Stat fid) = stat_fid world plumber.names (fid_of tables conn fid)
+served tables world windows plumber openings conn (t.Wstat fid stat) = denied (fid_of tables conn fid)
 
 -- a Tversion alone needs no session
 abbrev pub needs_session : TBody → Bool
@@ -62,6 +63,7 @@ abbrev pub comes_first : Tables → ℕ → TBody → Bool
 comes_first tables conn body = needs_session body && not (is_there (msize_of tables conn))
 
 -- what a message of a connection does, and its answer, where so many openings of event files were made
-abbrev pub reaction : Tables → List (Option Window) → ℕ → ℕ → TBody → Reaction
-reaction tables windows openings conn body =
-    if comes_first tables conn body then refused refusal.VersionFirst else reaction_or_refusal (served tables (world_of windows) windows openings conn body)
+abbrev pub reaction : Tables → List (Option Window) → Plumber → ℕ → ℕ → TBody → Reaction
+reaction tables windows plumber openings conn body =
+    if comes_first tables conn body then refused refusal.VersionFirst
+    else reaction_or_refusal (served tables (world_of windows) windows plumber openings conn body)

@@ -10,6 +10,8 @@ use Rattle.core_windows.specs.declared.change.Change.{Change}
 use Rattle.core_windows.specs.declared.change.Change.TheVariants as change
 use Rattle.core_windows.specs.Windows.{Window, window_at, named}
 use Rattle.core_fids.specs.declared.effect.Effect.TheVariants as effect
+use Rattle.core_fids.specs.declared.effect.EventChange.TheVariants as events
+use Rattle.core_fids.specs.declared.effect.Answer.TheVariants.{Says}
 use Rattle.core_fids.specs.declared.effect.Demand.{Demand}
 use Rattle.core_fids.specs.declared.effect.Demand.TheVariants as demand
 use Rattle.core_fids.specs.declared.effect.Reaction.{Reaction}
@@ -21,7 +23,7 @@ use Rattle.core_fids.specs.declared.content.Content.TheVariants as content
 use Rattle.core_answers.specs.Addressing.{addr_reaction, taking_reaction}
 use Rattle.core_fids.specs.Contents.{content_of}
 use Rattle.core_answers.specs.Erring.{fits_in, fits_tag, appends, errors_of, root_errors, errors_changes, errors_refusal}
-use Rattle.core_fids.specs.Fids.{is_for_writing, holding}
+use Rattle.core_fids.specs.Fids.{is_for_writing, holding, held_with, emptied}
 use Rattle.core_answers.specs.Reading.{use_refusal, or_reads}
 use Rattle.core_answers.specs.Texts.{text_at, right_of}
 
@@ -65,6 +67,18 @@ errors_reaction windows number fid name count decoded =
 abbrev pub asking_reaction : List (Option Window) → ℕ → ℕ → Demand → Result Reaction Refusal
 asking_reaction windows w count d = if_lives (window_at windows w) (Ok (demands d count))
 
+-- ---- rules and plumb messages: the scene takes what is whole, and the fid holds the rest
+
+-- the fid is emptied here; what the scene leaves of the text is put into it where the scene is known
+abbrev pub handing : ℕ → Fid → ℕ → Demand → Reaction
+handing number fid count d = record {
+  effect = effect.Puts number (emptied fid);
+  events = events.Nothing;
+  changes = [];
+  demand = d;
+  answer = Says (r.Write count);
+}
+
 -- ---- all files
 
 -- what is written to a file that holds nothing is dropped
@@ -83,12 +97,14 @@ write_content windows number fid bytes content.ConsErrors =
     errors_reaction windows number fid root_errors (length bytes) (whole_runes fid bytes)
 write_content windows number fid bytes content.Empty = Ok (does effect.Nothing [] (r.Write (length bytes)))
 write_content windows number fid bytes (content.EventsOf w) = asking_reaction windows w (length bytes) (demand.WriteBack w bytes)
-write_content windows number fid bytes content.Unserved = Err refusal.NotServedYet
+write_content windows number fid bytes content.SendText = Ok (handing number fid (length bytes) (demand.Sends (held_with fid bytes)))
+write_content windows number fid bytes content.RulesText = Ok (handing number fid (length bytes) (demand.AddsRules (held_with fid bytes)))
+write_content windows number fid bytes (content.PortOf k) = Err refusal.PermissionDenied
 
-abbrev pub write_fid : World → List (Option Window) → ℕ → List ℕ → Option Fid → Result Reaction Refusal
-write_fid world windows number bytes None = Err refusal.UnknownFid
-write_fid world windows number bytes (Some fid) =
-    or_reads (use_refusal world fid is_for_writing) (write_content windows number fid bytes (content_of fid.node))
+abbrev pub write_fid : World → List (Option Window) → List (List ℕ) → ℕ → List ℕ → Option Fid → Result Reaction Refusal
+write_fid world windows ports number bytes None = Err refusal.UnknownFid
+write_fid world windows ports number bytes (Some fid) =
+    or_reads (use_refusal world ports fid is_for_writing) (write_content windows number fid bytes (content_of fid.node))
 
-abbrev pub write_reaction : Tables → World → List (Option Window) → ℕ → ℕ → List ℕ → Result Reaction Refusal
-write_reaction tables world windows conn number bytes = write_fid world windows number bytes (fid_of tables conn number)
+abbrev pub write_reaction : Tables → World → List (Option Window) → List (List ℕ) → ℕ → ℕ → List ℕ → Result Reaction Refusal
+write_reaction tables world windows ports conn number bytes = write_fid world windows ports number bytes (fid_of tables conn number)

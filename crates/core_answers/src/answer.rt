@@ -4,7 +4,7 @@ ghost use Rattle.std.specs.Prelude.{◌≡◌, IfOk, IfErr, Ok};
 ghost use Rattle.ninep_types.specs.Spelling.{BodyFits_t};
 ghost use Rattle.core_fids.specs.Done.{IsDone, IsStill};
 ghost use Rattle.core_fids.specs.Refusals.{Gives};
-ghost use Rattle.core_fids.specs.Servers.{tables_in, windows_in, world_in};
+ghost use Rattle.core_fids.specs.Servers.{plumber_in, tables_in, windows_in, world_in};
 ghost use Rattle.core_answers.specs.Reactions.{flush_reaction, served, needs_session, comes_first, reaction};
 
 use crate::read::read;
@@ -33,8 +33,8 @@ fn flush(alloc: Global, oldtag: u16) -> Reaction
 #[tactic(auto, using(crate::proofs::Possibly::still))]
 fn served(alloc: Global, server: &Server, body: &TBody) -> Result<Reaction, Fault>
     requires { BodyFits_t body.now }
-    ensures exact { IfOk result (λ r. served (tables_in server.now) (world_in server.now) (windows_in server.now) server.now.openings server.now.conn body.now ≡ Ok r) }
-    ensures refused { IfErr result (λ e. Gives e (served (tables_in server.now) (world_in server.now) (windows_in server.now) server.now.openings server.now.conn body.now)) }
+    ensures exact { IfOk result (λ r. served (tables_in server.now) (world_in server.now) (windows_in server.now) (plumber_in server.now) server.now.openings server.now.conn body.now ≡ Ok r) }
+    ensures refused { IfErr result (λ e. Gives e (served (tables_in server.now) (world_in server.now) (windows_in server.now) (plumber_in server.now) server.now.openings server.now.conn body.now)) }
     ensures done { IfOk result (IsDone (windows_in server.now)) }
 {
     match body {
@@ -92,7 +92,7 @@ fn comes_first(server: &Server, body: &TBody) -> bool
 #[tactic(auto, using(crate::proofs::Possibly::still))]
 pub fn reaction_of(alloc: Global, server: &Server, body: &TBody) -> Result<Reaction, NoMemory>
     requires { BodyFits_t body.now }
-    ensures exact { IfOk result (λ r. r ≡ reaction (tables_in server.now) (windows_in server.now) server.now.openings server.now.conn body.now) }
+    ensures exact { IfOk result (λ r. r ≡ reaction (tables_in server.now) (windows_in server.now) (plumber_in server.now) server.now.openings server.now.conn body.now) }
     // Its answer has a spelling, and its change of the windows can be made.
     ensures done { IfOk result (IsDone (windows_in server.now)) }
 {

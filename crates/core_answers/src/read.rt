@@ -1,13 +1,12 @@
 //! Reading, after read(5).
 
-ghost use Rattle.std.specs.Prelude.{◌≡◌, ◌+◌, ◌<◌, ◌^◌, IfOk, IfErr, Ok, true, length};
-ghost use Rattle.acme_tree.specs.Trees.{is_live};
+ghost use Rattle.std.specs.Prelude.{◌≡◌, ◌+◌, ◌<◌, ◌^◌, IfOk, IfErr, Ok, length};
 ghost use Rattle.core_fids.specs.Contents.{content_of};
 ghost use Rattle.core_fids.specs.Done.{IsDone, IsStill};
-ghost use Rattle.core_fids.specs.Fids.{is_for_reading, is_for_writing};
+ghost use Rattle.core_fids.specs.Fids.{event_opening, is_for_reading, is_for_writing, port_opening};
 ghost use Rattle.core_fids.specs.Refusals.{Gives};
-ghost use Rattle.core_fids.specs.Servers.{tables_in, windows_in, world_in};
-ghost use Rattle.core_answers.specs.Reading.{shown, read_opening, read_content, use_refusal, most, read_reaction};
+ghost use Rattle.core_fids.specs.Servers.{plumber_in, tables_in, windows_in, world_in};
+ghost use Rattle.core_answers.specs.Reading.{shown, read_content, read_opening, read_port, use_refusal, most, read_reaction};
 ghost use Rattle.core_answers.specs.Texts.{part_at};
 
 use crate::addressing::{addr_text, read_data, read_xdata};
@@ -16,7 +15,7 @@ use acme_tree::{World, is_live};
 use am_text::{Bytes, Items, NoMemory, utf8_slice};
 use core_fids::{
     Answer, Content, Demand, Effect, EventChange, Fault, Reaction, Reading, Refusal, Server,
-    content_of, is_for_reading, is_for_writing, read_dir,
+    content_of, event_opening, is_for_reading, is_for_writing, port_names, port_opening, read_dir,
 };
 use fid_table::Fid;
 use ninep_types::RBody;
@@ -44,32 +43,54 @@ fn show_part(alloc: Global, bytes: &[u8], reading: &Reading) -> Result<Reaction,
 // A read of an event file, which gets what is there for its opening, or waits.
 fn read_opening(alloc: Global, reading: &Reading) -> Result<Reaction, Fault>
     requires { reading.now.count + 11 < 2 ^ 32 }
-    ensures exact { IfOk result (λ r. read_opening reading.now.number reading.now.count reading.now.fid.now.opening ≡ Ok r) }
-    ensures refused { IfErr result (λ e. Gives e (read_opening reading.now.number reading.now.count reading.now.fid.now.opening)) }
+    ensures exact { IfOk result (λ r. read_opening reading.now.number reading.now.count (event_opening reading.now.fid.now) ≡ Ok r) }
+    ensures refused { IfErr result (λ e. Gives e (read_opening reading.now.number reading.now.count (event_opening reading.now.fid.now))) }
     ensures still { IfOk result IsStill }
 {
-    match reading.fid.opening {
-        None => Err(Fault::Refused(Refusal::FidIsNotOpen)),
-        Some(opening) => Ok(Reaction {
-            effect: Effect::Nothing,
-            events: EventChange::Nothing,
-            changes: Items::new(alloc),
-            demand: Demand::Nothing,
-            answer: Answer::Reads {
-                fid: reading.number,
-                opening,
-                count: reading.count,
-            },
-        }),
-    }
+    let Some(opening) = event_opening(reading.fid) else {
+        return Err(Fault::Refused(Refusal::FidIsNotOpen));
+    };
+    Ok(Reaction {
+        effect: Effect::Nothing,
+        events: EventChange::Nothing,
+        changes: Items::new(alloc),
+        demand: Demand::Nothing,
+        answer: Answer::Reads {
+            fid: reading.number,
+            opening,
+            count: reading.count,
+        },
+    })
+}
+
+// A read of a port, which gets what is there for its opening, or waits.
+fn read_port(alloc: Global, reading: &Reading) -> Result<Reaction, Fault>
+    requires { reading.now.count + 11 < 2 ^ 32 }
+    ensures exact { IfOk result (λ r. read_port reading.now.number reading.now.count (port_opening reading.now.fid.now) ≡ Ok r) }
+    ensures refused { IfErr result (λ e. Gives e (read_port reading.now.number reading.now.count (port_opening reading.now.fid.now))) }
+    ensures still { IfOk result IsStill }
+{
+    let Some(opening) = port_opening(reading.fid) else {
+        return Err(Fault::Refused(Refusal::FidIsNotOpen));
+    };
+    Ok(Reaction {
+        effect: Effect::Nothing,
+        events: EventChange::Nothing,
+        changes: Items::new(alloc),
+        demand: Demand::Nothing,
+        answer: Answer::ReadsPort {
+            fid: reading.number,
+            opening,
+            count: reading.count,
+        },
+    })
 }
 
 #[tactic(auto, using(crate::proofs::Possibly::still))]
 fn read_content(alloc: Global, server: &Server, reading: &Reading) -> Result<Reaction, Fault>
-    requires live { is_live (world_in server.now) reading.now.fid.now.node ≡ true }
-    requires small { reading.now.count + 11 < 2 ^ 32 }
-    ensures exact { IfOk result (λ r. read_content (world_in server.now) (windows_in server.now) reading.now.number reading.now.fid.now reading.now.offset reading.now.count (content_of reading.now.fid.now.node) ≡ Ok r) }
-    ensures refused { IfErr result (λ e. Gives e (read_content (world_in server.now) (windows_in server.now) reading.now.number reading.now.fid.now reading.now.offset reading.now.count (content_of reading.now.fid.now.node))) }
+    requires { reading.now.count + 11 < 2 ^ 32 }
+    ensures exact { IfOk result (λ r. read_content (world_in server.now) (windows_in server.now) (plumber_in server.now) reading.now.number reading.now.fid.now reading.now.offset reading.now.count (content_of reading.now.fid.now.node) ≡ Ok r) }
+    ensures refused { IfErr result (λ e. Gives e (read_content (world_in server.now) (windows_in server.now) (plumber_in server.now) reading.now.number reading.now.fid.now reading.now.offset reading.now.count (content_of reading.now.fid.now.node))) }
     ensures done { IfOk result (IsDone (windows_in server.now)) }
 {
     let windows = server.windows;
@@ -103,15 +124,17 @@ fn read_content(alloc: Global, server: &Server, reading: &Reading) -> Result<Rea
         Content::ErrorsOf(_) => Err(Fault::Refused(Refusal::PermissionDenied)),
         Content::ConsErrors => Ok(show(alloc, Items::new(alloc))),
         Content::Empty => Ok(show(alloc, Items::new(alloc))),
-        Content::Unserved => Err(Fault::Refused(Refusal::NotServedYet)),
+        Content::SendText => Err(Fault::Refused(Refusal::PermissionDenied)),
+        Content::RulesText => Ok(show_part(alloc, server.rules.text(), reading)?),
+        Content::PortOf(_) => read_port(alloc, reading),
     }
 }
 
-/// Why a fid isn't read.
-pub(crate) fn why_not_read(world: &World, fid: &Fid) -> Option<Refusal>
-    ensures { result ≡ use_refusal world.now fid.now is_for_reading }
+/// Why a fid isn't read. The ports are their names.
+pub(crate) fn why_not_read(world: &World, ports: &[Bytes], fid: &Fid) -> Option<Refusal>
+    ensures { result ≡ use_refusal world.now ports.now fid.now is_for_reading }
 {
-    if !is_live(world, fid.node) {
+    if !is_live(world, ports, fid.node) {
         return Some(Refusal::WindowDeleted);
     }
     match fid.mode {
@@ -121,11 +144,11 @@ pub(crate) fn why_not_read(world: &World, fid: &Fid) -> Option<Refusal>
     }
 }
 
-/// Why a fid isn't written.
-pub(crate) fn why_not_written(world: &World, fid: &Fid) -> Option<Refusal>
-    ensures { result ≡ use_refusal world.now fid.now is_for_writing }
+/// Why a fid isn't written. The ports are their names.
+pub(crate) fn why_not_written(world: &World, ports: &[Bytes], fid: &Fid) -> Option<Refusal>
+    ensures { result ≡ use_refusal world.now ports.now fid.now is_for_writing }
 {
-    if !is_live(world, fid.node) {
+    if !is_live(world, ports, fid.node) {
         return Some(Refusal::WindowDeleted);
     }
     match fid.mode {
@@ -153,14 +176,14 @@ pub(crate) fn read(
     offset: u64,
     count: u32,
 ) -> Result<Reaction, Fault>
-    ensures exact { IfOk result (λ r. read_reaction (tables_in server.now) (world_in server.now) (windows_in server.now) server.now.conn number offset count ≡ Ok r) }
-    ensures refused { IfErr result (λ e. Gives e (read_reaction (tables_in server.now) (world_in server.now) (windows_in server.now) server.now.conn number offset count)) }
+    ensures exact { IfOk result (λ r. read_reaction (tables_in server.now) (world_in server.now) (windows_in server.now) (plumber_in server.now) server.now.conn number offset count ≡ Ok r) }
+    ensures refused { IfErr result (λ e. Gives e (read_reaction (tables_in server.now) (world_in server.now) (windows_in server.now) (plumber_in server.now) server.now.conn number offset count)) }
     ensures done { IfOk result (IsDone (windows_in server.now)) }
 {
     let Some(fid) = server.sessions.fid(server.conn, number) else {
         return Err(Fault::Refused(Refusal::UnknownFid));
     };
-    if let Some(refusal) = why_not_read(server.windows.world(), fid) {
+    if let Some(refusal) = why_not_read(server.windows.world(), port_names(server), fid) {
         return Err(Fault::Refused(refusal));
     }
     let reading = Reading {

@@ -1,15 +1,15 @@
 //! Writing, after write(5).
 
-ghost use Rattle.std.specs.Prelude.{◌≡◌, ◌++◌, ◌<◌, ◌^◌, IfOk, IfErr, IsSome, Ok, length};
-ghost use Rattle.core_windows.specs.Windows.{window_at};
+ghost use Rattle.std.specs.Prelude.{◌≡◌, ◌++◌, ◌<◌, ◌^◌, IfOk, IfErr, IsSome, List, Ok, Option, length};
+ghost use Rattle.core_windows.specs.Windows.{Window, window_at};
 ghost use Rattle.am_text.specs.Part.{part_bytes, part_of};
 ghost use Rattle.am_text.specs.Pieces.{decode_part};
 ghost use Rattle.core_fids.specs.Contents.{content_of};
 ghost use Rattle.core_fids.specs.Done.{HasSpelling, IsOfLiving, IsDone};
 ghost use Rattle.core_fids.specs.Fids.{holding};
 ghost use Rattle.core_fids.specs.Refusals.{Gives};
-ghost use Rattle.core_fids.specs.Servers.{tables_in, windows_in, world_in};
-ghost use Rattle.core_answers.specs.Writing.{whole_runes, written, append_reaction, add_reaction, errors_reaction, asking_reaction, write_content, write_reaction};
+ghost use Rattle.core_fids.specs.Servers.{plumber_in, tables_in, windows_in, world_in};
+ghost use Rattle.core_answers.specs.Writing.{handing, whole_runes, written, append_reaction, add_reaction, errors_reaction, asking_reaction, write_content, write_reaction};
 
 use crate::addressing::{write_addr, write_data};
 use crate::erring::{
@@ -19,7 +19,8 @@ use crate::erring::{
 use crate::read::why_not_written;
 use am_text::{Bytes, Items, NoMemory, Part, Runes, decode_part};
 use core_fids::{
-    Content, Demand, Effect, Fault, Reaction, Refusal, Server, at_most_three, content_of, holding,
+    Answer, Content, Demand, Effect, EventChange, Fault, Reaction, Refusal, Server, at_most_three,
+    content_of, emptied, held_with, holding, port_names,
 };
 use core_windows::{Change, Changes, Windows};
 use fid_table::Fid;
@@ -150,6 +151,27 @@ fn ask(
     Ok(Reaction::asking(alloc, demand, writing.bytes.len() as u32))
 }
 
+// What a write does whose text the scene takes; the fid holds nothing but what the scene leaves.
+fn hand(alloc: Global, writing: &Writing, demand: Demand) -> Reaction
+    requires small { length writing.now.bytes.now < 2 ^ 32 }
+    requires own { (windows : List (Option Window)) → IsOfLiving windows demand }
+    ensures exact { result ≡ handing writing.now.number writing.now.fid.now (length writing.now.bytes.now) demand }
+    ensures done { (windows : List (Option Window)) → IsDone windows result }
+{
+    Reaction {
+        effect: Effect::Puts {
+            number: writing.number,
+            fid: emptied(alloc, writing.fid),
+        },
+        events: EventChange::Nothing,
+        changes: Items::new(alloc),
+        demand,
+        answer: Answer::Says(RBody::Write {
+            count: writing.bytes.len() as u32,
+        }),
+    }
+}
+
 #[tactic(auto, using(crate::proofs::Possibly::made))]
 fn write_content(alloc: Global, windows: &Windows, writing: &Writing) -> Result<Reaction, Fault>
     requires { length writing.now.bytes.now < 2 ^ 32 }
@@ -200,7 +222,15 @@ fn write_content(alloc: Global, windows: &Windows, writing: &Writing) -> Result<
                 Demand::WriteBack { window, text },
             )
         }
-        Content::Unserved => Err(Fault::Refused(Refusal::NotServedYet)),
+        Content::SendText => {
+            let text = held_with(alloc, writing.fid, writing.bytes)?;
+            Ok(hand(alloc, writing, Demand::Sends { text }))
+        }
+        Content::RulesText => {
+            let text = held_with(alloc, writing.fid, writing.bytes)?;
+            Ok(hand(alloc, writing, Demand::AddsRules { text }))
+        }
+        Content::PortOf(_) => Err(Fault::Refused(Refusal::PermissionDenied)),
     }
 }
 
@@ -212,14 +242,14 @@ pub(crate) fn write(
     bytes: &[u8],
 ) -> Result<Reaction, Fault>
     requires { length bytes.now < 2 ^ 32 }
-    ensures exact { IfOk result (λ r. write_reaction (tables_in server.now) (world_in server.now) (windows_in server.now) server.now.conn number bytes.now ≡ Ok r) }
-    ensures refused { IfErr result (λ e. Gives e (write_reaction (tables_in server.now) (world_in server.now) (windows_in server.now) server.now.conn number bytes.now)) }
+    ensures exact { IfOk result (λ r. write_reaction (tables_in server.now) (world_in server.now) (windows_in server.now) (plumber_in server.now).names server.now.conn number bytes.now ≡ Ok r) }
+    ensures refused { IfErr result (λ e. Gives e (write_reaction (tables_in server.now) (world_in server.now) (windows_in server.now) (plumber_in server.now).names server.now.conn number bytes.now)) }
     ensures done { IfOk result (IsDone (windows_in server.now)) }
 {
     let Some(fid) = server.sessions.fid(server.conn, number) else {
         return Err(Fault::Refused(Refusal::UnknownFid));
     };
-    if let Some(refusal) = why_not_written(server.windows.world(), fid) {
+    if let Some(refusal) = why_not_written(server.windows.world(), port_names(server), fid) {
         return Err(Fault::Refused(refusal));
     }
     let writing = Writing { number, fid, bytes };

@@ -23,6 +23,7 @@ use Rattle.event_book.proofs.TableLemmas.{eq_from_test}
 use Rattle.event_book.proofs.FileLemmas.{pending-dropped, pending-written}
 use Rattle.event_book.proofs.BookLemmas.{same_window, other_window, carry-enlisted, carry-without}
 use Rattle.event_book.proofs.LawfulLemmas.{lawful-empty, window-more, lawful-add, lawful-put_in, lawful-waits, lawful-answer, lawful-serve, lawful-written_back, lawful-cancel, lawful-leave, lawful-delete}
+use Rattle.core_fids.specs.Fids.{event_opening}
 use Rattle.core_fids.specs.declared.effect.Effect.{Effect}
 use Rattle.core_fids.specs.declared.effect.Effect.TheVariants as effect
 use Rattle.core_fids.specs.declared.effect.EventChange.{EventChange}
@@ -48,7 +49,7 @@ pub record AreIdle (deleted : List ℕ) (at : ℕ) (s : BookState) : Type 0 wher
   pub latest : s.latest ≤ at
   pub idle : list_all (idles deleted s.files s.owners) s.reads ≡ true
 
-all_weaker : (p q u : Asker → Bool) (rs : List Asker) → ((r : Asker) → p r ≡ true → q r ≡ true → u r ≡ true) → list_all p rs ≡ true → list_all q rs ≡ true → list_all u rs ≡ true
+pub all_weaker : (p q u : Asker → Bool) (rs : List Asker) → ((r : Asker) → p r ≡ true → q r ≡ true → u r ≡ true) → list_all p rs ≡ true → list_all q rs ≡ true → list_all u rs ≡ true
 all_weaker p q u [] h a b = refl
 all_weaker p q u (r ∷ rs) h a b =
     (elim (p r) as (λ t. p r ≡ t → (t && list_all p rs) ≡ true → (u r && list_all u rs) ≡ true) [
@@ -60,7 +61,7 @@ all_weaker p q u (r ∷ rs) h a b =
       | false ↦ λ e k. cc
     ]) refl a
 
-all_filter : (p u t : Asker → Bool) (rs : List Asker) → ((r : Asker) → t r ≡ true → p r ≡ true → u r ≡ true) → list_all p rs ≡ true → list_all u (filter t rs) ≡ true
+pub all_filter : (p u t : Asker → Bool) (rs : List Asker) → ((r : Asker) → t r ≡ true → p r ≡ true → u r ≡ true) → list_all p rs ≡ true → list_all u (filter t rs) ≡ true
 all_filter p u t [] h a = refl
 all_filter p u t (r ∷ rs) h a =
     (elim (p r) as (λ b. p r ≡ b → (b && list_all p rs) ≡ true → list_all u (filter t (r ∷ rs)) ≡ true) [
@@ -72,7 +73,7 @@ all_filter p u t (r ∷ rs) h a =
       | false ↦ λ e k. cc
     ]) refl a
 
-all_push : (p : Asker → Bool) (rs : List Asker) (r : Asker) → p r ≡ true → list_all p rs ≡ true → list_all p (rs ++ r ∷ []) ≡ true
+pub all_push : (p : Asker → Bool) (rs : List Asker) (r : Asker) → p r ≡ true → list_all p rs ≡ true → list_all p (rs ++ r ∷ []) ≡ true
 all_push p [] r h a = rw h refl
 all_push p (x ∷ rs) r h a =
     (elim (p x) as (λ b. (b && list_all p rs) ≡ true → (b && list_all p (rs ++ r ∷ [])) ≡ true) [
@@ -81,7 +82,7 @@ all_push p (x ∷ rs) r h a =
     ]) a
 
 -- where a search finds none, each fails; and the other way round
-none_found : (t u : Asker → Bool) (rs : List Asker) → ((r : Asker) → t r ≡ false → u r ≡ true) → find t rs ≡ None → list_all u rs ≡ true
+pub none_found : (t u : Asker → Bool) (rs : List Asker) → ((r : Asker) → t r ≡ false → u r ≡ true) → find t rs ≡ None → list_all u rs ≡ true
 none_found t u [] h e = refl
 none_found t u (r ∷ rs) h e =
     (elim (t r) as (λ b. t r ≡ b → cond b (Some r) (find t rs) ≡ None → (u r && list_all u rs) ≡ true) [
@@ -89,7 +90,7 @@ none_found t u (r ∷ rs) h e =
       | false ↦ λ f k. rw (h r f) (none_found t u rs h k)
     ]) refl e
 
-find_none : (t u : Asker → Bool) (rs : List Asker) → ((r : Asker) → u r ≡ true → t r ≡ false) → list_all u rs ≡ true → find t rs ≡ None
+pub find_none : (t u : Asker → Bool) (rs : List Asker) → ((r : Asker) → u r ≡ true → t r ≡ false) → list_all u rs ≡ true → find t rs ≡ None
 find_none t u [] h a = refl
 find_none t u (r ∷ rs) h a =
     (elim (u r) as (λ b. u r ≡ b → (b && list_all u rs) ≡ true → cond (t r) (Some r) (find t rs) ≡ None) [
@@ -124,11 +125,11 @@ record Why (items : List Pending) (openings : List OpenCarry) (r : Asker) : Type
   none : items ≡ []
   carry : carry_of openings r.opening ≡ []
 
-no_length : {A : Type 0} (xs : List A) → nat_lt 0 (length xs) ≡ false → xs ≡ []
+pub no_length : {A : Type 0} (xs : List A) → nat_lt 0 (length xs) ≡ false → xs ≡ []
 no_length [] h = refl
 no_length (x ∷ xs) h = let e : nat_lt 0 (length (x ∷ xs)) ≡ true = grind (arith, nat_tests) in absurd cc
 
-parts : (c a b : Bool) → (not c && not (a || b)) ≡ true → (c ≡ false) × (a ≡ false) × (b ≡ false)
+pub parts : (c a b : Bool) → (not c && not (a || b)) ≡ true → (c ≡ false) × (a ≡ false) × (b ≡ false)
 parts true a b h = absurd cc
 parts false true b h = absurd cc
 parts false false true h = absurd cc
@@ -237,6 +238,7 @@ module _ (deleted : List ℕ) (at : ℕ) where
         | true ↦ add_idle s w b
         | false ↦ b
       ]
+  open_idle s (events.Joins port) b = b
   open_idle s (events.Cancels tag) b = b
 
   answer_idle : (s : BookState) (a : Asker) → is_living s a.opening ≡ true → AreIdle deleted at s → AreIdle deleted at (after_answer s a at)
@@ -328,7 +330,7 @@ module _ (deleted : List ℕ) (at : ℕ) where
 
   fids_idle : (s : BookState) (fs : List (ℕ × Fid)) → AreIdle deleted at s → AreIdle deleted at (fold (without_fid at) s fs)
   fids_idle s [] b = b
-  fids_idle s (f ∷ fs) b = fids_idle (without_fid at s f) fs (without_idle s f.1.opening b)
+  fids_idle s (f ∷ fs) b = fids_idle (without_fid at s f) fs (without_idle s (event_opening f.1) b)
 
   pub all_freed_idle : (s : BookState) (t : Tables) (conn : ℕ) → AreIdle deleted at s → AreIdle deleted at (without_fids at s t conn)
   all_freed_idle s t conn b = fids_idle s (fids_of t conn) b
@@ -342,6 +344,7 @@ module _ (deleted : List ℕ) (at : ℕ) where
   pub cancelled_idle : (s : BookState) (conn : ℕ) (e : EventChange) → AreIdle deleted at s → AreIdle deleted at (cancelled s conn e)
   cancelled_idle s conn events.Nothing b = b
   cancelled_idle s conn (events.Opens w) b = b
+  cancelled_idle s conn (events.Joins port) b = b
   cancelled_idle s conn (events.Cancels tag) b = record {
     lawful = lawful-cancel s conn tag b.lawful;
     latest = b.latest;
@@ -450,7 +453,7 @@ serve_more n at s None e h b rest =
     subst (IsServed at) (sym (ap (λ (t : BookState). book_served_most n at t) (idle at s none) ∙ book_none_more n at s none)) (record { kept = b; none = e })
 serve_more n at s (Some r) e h b rest = rest (omega (arith, next_less at s r e, h))
 
-no_reads : (t : Asker → Bool) (rs : List Asker) → length rs ≤ 0 → find t rs ≡ None
+pub no_reads : (t : Asker → Bool) (rs : List Asker) → length rs ≤ 0 → find t rs ≡ None
 no_reads t [] l = refl
 no_reads t (r ∷ rs) l = absurd (omega arith)
 

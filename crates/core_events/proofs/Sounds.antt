@@ -15,7 +15,7 @@ use Rattle.core_events.specs.Putting.{put_one, is_ending, put_if_lives}
 
 -- ---- lists of reads
 
-all-filter : (p t : Asker → Bool) (rs : List Asker) → list_all p rs ≡ true → list_all p (filter t rs) ≡ true
+pub all-filter : (p t : Asker → Bool) (rs : List Asker) → list_all p rs ≡ true → list_all p (filter t rs) ≡ true
 all-filter p t [] a = refl
 all-filter p t (r ∷ rs) a =
     (elim (p r) as (λ b. p r ≡ b → (b && list_all p rs) ≡ true → list_all p (filter t (r ∷ rs)) ≡ true) [
@@ -27,7 +27,7 @@ all-filter p t (r ∷ rs) a =
       | false ↦ λ e k. cc
     ]) refl a
 
-all-without_first : (p t : Asker → Bool) (rs : List Asker) → list_all p rs ≡ true → list_all p (without_first t rs) ≡ true
+pub all-without_first : (p t : Asker → Bool) (rs : List Asker) → list_all p rs ≡ true → list_all p (without_first t rs) ≡ true
 all-without_first p t [] a = refl
 all-without_first p t (r ∷ rs) a =
     (elim (p r) as (λ b. p r ≡ b → (b && list_all p rs) ≡ true → list_all p (cond (t r) rs (r ∷ without_first t rs)) ≡ true) [
@@ -39,7 +39,7 @@ all-without_first p t (r ∷ rs) a =
       | false ↦ λ e k. cc
     ]) refl a
 
-found-all : (t p : Asker → Bool) (rs : List Asker) (r : Asker) → list_all p rs ≡ true → find t rs ≡ Some r → p r ≡ true
+pub found-all : (t p : Asker → Bool) (rs : List Asker) (r : Asker) → list_all p rs ≡ true → find t rs ≡ Some r → p r ≡ true
 found-all t p [] r a h = cc
 found-all t p (x ∷ rs) r a h =
     (elim (p x) as (λ b. p x ≡ b → (b && list_all p rs) ≡ true → p r ≡ true) [
@@ -73,6 +73,7 @@ sound_left at s opening sound = record { latest = omega arith; small = all-filte
 pub sound_cancelled : (at : ℕ) (s : BookState) (conn : ℕ) (e : EventChange) → IsSound at s → IsSound at (cancelled s conn e)
 sound_cancelled at s conn events.Nothing sound = sound
 sound_cancelled at s conn (events.Opens w) sound = sound
+sound_cancelled at s conn (events.Joins port) sound = sound
 sound_cancelled at s conn (events.Cancels tag) sound =
     record { latest = sound.latest; small = all-filter is_small (λ r. not (is_read conn tag r)) s.reads sound.small }
 

@@ -21,7 +21,7 @@ use Rattle.core_events.proofs.Sounds.{next_small, sound_served}
 
 -- ---- at most as many bytes as a read asks for
 
-cut : (n : ℕ) (bytes : List ℕ) → length (take n bytes) ≤ n
+pub cut : (n : ℕ) (bytes : List ℕ) → length (take n bytes) ≤ n
 cut n bytes = omega (arith, length-take n bytes)
 
 from_small : (carry : List ℕ) (items : List Pending) (count : ℕ) → length (piece_from carry items count).bytes ≤ count
@@ -36,7 +36,7 @@ piece_small q a =
       | false ↦ from_small (carry_of q.openings a.opening) q.items a.count
     ]
 
-read_sent : (bytes : List ℕ) (count : ℕ) → length bytes ≤ count → count + 11 < 2 ^ 32 → IsSent (r.Read bytes)
+pub read_sent : (bytes : List ℕ) (count : ℕ) → length bytes ≤ count → count + 11 < 2 ^ 32 → IsSent (r.Read bytes)
 read_sent bytes count h small = record { body = omega arith; size = omega arith }
 
 abbrev with_piece : BookState → Option Asker → Option (Asker × Piece)
@@ -60,7 +60,7 @@ served_sent at s a p sound h =
 
 -- ---- each answer leaves a read less
 
-found_less : (t : Asker → Bool) (rs : List Asker) (a : Asker) → find t rs ≡ Some a → length rs ≡ suc (length (without_first t rs))
+pub found_less : (t : Asker → Bool) (rs : List Asker) (a : Asker) → find t rs ≡ Some a → length rs ≡ suc (length (without_first t rs))
 found_less t [] a h = cc
 found_less t (x ∷ rs) a h =
     (elim (t x) as (λ b. cond b (Some x) (find t rs) ≡ Some a → suc (length rs) ≡ suc (length (cond b rs (x ∷ without_first t rs)))) [

@@ -17,6 +17,7 @@ use Rattle.std.specs.Prelude.{length}
 abbrev pub opened : BookState → EventChange → BookState
 opened book events.Nothing = book
 opened book (events.Opens w) = if nat_lt (length book.owners) 4294967295 then after_add book w else book
+opened book (events.Joins port) = book
 opened book (events.Cancels tag) = book
 
 -- a connection has 64 waiting reads at most

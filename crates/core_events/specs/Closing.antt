@@ -4,6 +4,7 @@ use Rattle.std.specs.List.{fold}
 use Rattle.fid_table.specs.declared.types.Fid.{Fid}
 use Rattle.fid_table.specs.Tables.{Tables, fid_of, fids_of}
 use Rattle.event_book.specs.BookState.{BookState, is_living, is_taken_of, after_leave, after_written, after_cancel, after_delete}
+use Rattle.core_fids.specs.Fids.{event_opening}
 use Rattle.core_fids.specs.declared.effect.Effect.{Effect}
 use Rattle.core_fids.specs.declared.effect.Effect.TheVariants as effect
 use Rattle.core_fids.specs.declared.effect.EventChange.{EventChange}
@@ -20,14 +21,14 @@ abbrev pub without_opening : ℕ → BookState → Option ℕ → BookState
 without_opening at book None = book
 without_opening at book (Some opening) = if is_living book opening then after_leave book opening at else book
 
--- a fid that is freed closes its opening
+-- a fid that is freed closes its opening of an event file
 abbrev pub without_fid : ℕ → BookState → ℕ × Fid → BookState
-without_fid at book f = without_opening at book f.1.opening
+without_fid at book f = without_opening at book (event_opening f.1)
 
--- the opening of a fid that was looked up by its place
+-- the opening of an event file of a fid that was looked up by its place
 abbrev pub opening_at : Option (ℕ × Fid) → Option ℕ
 opening_at None = None
-opening_at (Some f) = f.1.opening
+opening_at (Some f) = event_opening f.1
 
 -- all fids of a connection are freed
 abbrev pub without_fids : ℕ → BookState → Tables → ℕ → BookState
@@ -35,7 +36,7 @@ without_fids at book tables conn = fold (without_fid at) book (fids_of tables co
 
 abbrev pub opening_in : Option Fid → Option ℕ
 opening_in None = None
-opening_in (Some fid) = fid.opening
+opening_in (Some fid) = event_opening fid
 
 abbrev pub freed : ℕ → BookState → Tables → ℕ → Effect → BookState
 freed at book tables conn effect.Nothing = book
@@ -47,6 +48,7 @@ freed at book tables conn (effect.Frees fid) = without_opening at book (opening_
 abbrev pub cancelled : BookState → ℕ → EventChange → BookState
 cancelled book conn events.Nothing = book
 cancelled book conn (events.Opens w) = book
+cancelled book conn (events.Joins port) = book
 cancelled book conn (events.Cancels tag) = after_cancel book conn tag
 
 -- the event files of windows that are deleted close, one after another

@@ -6,19 +6,29 @@ use Rattle.fid_table.specs.declared.session.Waiting.{Waiting}
 use Rattle.fid_table.specs.Tables.{Tables, fid_of}
 use Rattle.core_fids.specs.declared.refusal.Refusal.{Refusal}
 use Rattle.core_fids.specs.Done.{IsSent}
+use Rattle.core_fids.specs.Fids.{event_opening, port_opening}
 use Rattle.core_fids.specs.Refusals.{refusal_text}
 use Rattle.core_events.specs.declared.response.Feed.{Feed}
-use Rattle.core_events.specs.declared.response.FeedKind.TheVariants.{Events}
+use Rattle.core_events.specs.declared.response.FeedKind.TheVariants.{Events, Port}
 use Rattle.core_events.specs.declared.response.Response.{Response}
 
 -- an opening of an event file
 abbrev pub event_feed : ℕ → Feed
 event_feed opening = record { kind = Events; opening = opening }
 
+-- an opening of a port
+abbrev pub port_feed : ℕ → Feed
+port_feed opening = record { kind = Port; opening = opening }
+
+-- the opening is one of an event file, or one of a port
+abbrev pub feed_of : Option ℕ → Option ℕ → Option Feed
+feed_of (Some opening) port = Some (event_feed opening)
+feed_of None port = option_map port_feed port
+
 -- what reads of a fid read, where they may wait
 abbrev pub feed_in : Option Fid → Option Feed
 feed_in None = None
-feed_in (Some fid) = option_map event_feed fid.opening
+feed_in (Some fid) = feed_of (event_opening fid) (port_opening fid)
 
 abbrev pub feed_at : Tables → Waiting → Option Feed
 feed_at tables w = feed_in (fid_of tables w.conn w.fid)

@@ -62,4 +62,5 @@ ended tables responses = fold (λ t r. after_done t r.conn r.message.tag) tables
 abbrev pub without_cancelled : Tables → ℕ → EventChange → Tables
 without_cancelled tables conn events.Nothing = tables
 without_cancelled tables conn (events.Opens w) = tables
+without_cancelled tables conn (events.Joins port) = tables
 without_cancelled tables conn (events.Cancels tag) = after_done tables conn tag

@@ -34,11 +34,13 @@ pub fn open_events(book: &mut Book, events: EventChange) -> Result<(), NoMemory>
             Ok(())
         }
         EventChange::Nothing => Ok(()),
+        EventChange::Joins { .. } => Ok(()),
         EventChange::Cancels { .. } => Ok(()),
     }
 }
 
-fn is_full(sessions: &Sessions, conn: u32) -> bool
+/// Whether as many reads of a connection wait as may.
+pub fn is_full(sessions: &Sessions, conn: u32) -> bool
     ensures { result ≡ is_full sessions.now.present conn }
 {
     sessions.waiting(conn) >= READS

@@ -6,7 +6,7 @@ ghost use Rattle.fid_table.specs.Tables.{fids_of};
 ghost use Rattle.core_events.specs.Closing.{written_back, without_opening, opening_at, without_fids, opening_in, freed, cancelled, closed_with};
 ghost use Rattle.core_events.specs.Sound.{IsSound};
 
-use core_fids::{Effect, EventChange};
+use core_fids::{Effect, EventChange, event_opening};
 use event_book::Book;
 use fid_table::{Fid, Sessions};
 
@@ -46,17 +46,17 @@ fn close_opening(book: &mut Book, opening: Option<u32>, at: u64)
     }
 }
 
-// The opening of a connection's k-th fid.
+// The opening of an event file of a connection's k-th fid.
 fn opening_at(sessions: &Sessions, conn: u32, k: usize) -> Option<u32>
     ensures { result ≡ opening_at (slice_get (fids_of sessions.now.present conn) k) }
 {
     match sessions.fid_at(conn, k) {
-        Some((_, fid)) => fid.opening,
+        Some((_, fid)) => event_opening(fid),
         None => None,
     }
 }
 
-/// The openings of all fids of a connection close. It takes no memory.
+/// The openings of event files of all fids of a connection close. It takes no memory.
 #[tactic(auto, using(crate::proofs::Sounds::steady_both))]
 pub fn free_fids(book: &mut Book, sessions: &Sessions, conn: u32, at: u64)
     requires steady { IsSteady book.old }
@@ -73,12 +73,12 @@ fn opening_in(fid: Option<&Fid>) -> Option<u32>
     ensures { result ≡ opening_in (option_copied fid.entry) }
 {
     match fid {
-        Some(fid) => fid.opening,
+        Some(fid) => event_opening(fid),
         None => None,
     }
 }
 
-/// The openings of the fids that a message frees close. It takes no memory.
+/// The openings of event files of the fids that a message frees close. It takes no memory.
 #[tactic(auto, using(crate::proofs::Sounds::steady_both))]
 pub fn free_openings(book: &mut Book, sessions: &Sessions, conn: u32, effect: &Effect, at: u64)
     requires steady { IsSteady book.old }
@@ -108,6 +108,7 @@ pub fn cancel_read(book: &mut Book, conn: u32, events: EventChange)
         }
         EventChange::Nothing => {}
         EventChange::Opens { .. } => {}
+        EventChange::Joins { .. } => {}
     }
 }
 

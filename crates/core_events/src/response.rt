@@ -1,9 +1,10 @@
 //! What is said to connections.
 
 ghost use Rattle.std.specs.Prelude.{◌≡◌, ◌++◌, option_copied, IfOk};
-ghost use Rattle.core_events.specs.Responses.{AreSaid, event_feed, feed_in};
+ghost use Rattle.core_events.specs.Responses.{AreSaid, event_feed, port_feed, feed_in};
 
 use am_text::{Items, NoMemory};
+use core_fids::{event_opening, port_opening};
 use fid_table::Fid;
 use ninep_types::RMsg;
 
@@ -12,6 +13,8 @@ use ninep_types::RMsg;
 pub enum FeedKind {
     /// The items of a window's event file.
     Events,
+    /// The messages that are delivered to a port.
+    Port,
 }
 
 /// What a read that may wait reads: one opening of a file of this kind.
@@ -21,7 +24,8 @@ pub struct Feed {
     pub opening: u32,
 }
 
-/// What is said to a connection in answer to the message that has the same tag; and where that message read an event file, what it read.
+/// What is said to a connection in answer to the message that has the same tag; and where that message read an event file or a
+/// port, what it read.
 #[derive(Drop)]
 pub struct Response {
     pub conn: u32,
@@ -42,12 +46,26 @@ pub fn event_feed(opening: u32) -> Feed
     }
 }
 
+/// An opening of a port.
+pub fn port_feed(opening: u32) -> Feed
+    ensures { result ≡ port_feed opening }
+{
+    Feed {
+        kind: FeedKind::Port,
+        opening,
+    }
+}
+
 /// What reads of a fid read, where they may wait.
 pub(crate) fn feed_in(fid: Option<&Fid>) -> Option<Feed>
     ensures { result ≡ feed_in (option_copied fid.entry) }
 {
-    match fid?.opening {
-        Some(opening) => Some(event_feed(opening)),
+    let fid = fid?;
+    if let Some(opening) = event_opening(fid) {
+        return Some(event_feed(opening));
+    }
+    match port_opening(fid) {
+        Some(opening) => Some(port_feed(opening)),
         None => None,
     }
 }

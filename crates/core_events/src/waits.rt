@@ -186,5 +186,6 @@ pub fn forget_cancelled(sessions: &mut Sessions, conn: u32, events: EventChange)
         EventChange::Cancels { tag } => sessions.done(conn, tag),
         EventChange::Nothing => {}
         EventChange::Opens { .. } => {}
+        EventChange::Joins { .. } => {}
     }
 }

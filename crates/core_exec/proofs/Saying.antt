@@ -1,5 +1,5 @@
 -- A fault that is said behind the deeds of an action.
-use Rattle.std.proofs.Common.{◌≡◌, ℕ, List, ◌++◌, Option, subst}
+use Rattle.std.proofs.Common.{◌≡◌, ℕ, false, List, ◌++◌, Option, sym, subst}
 use Rattle.core_scene.specs.declared.deed.Deed.{Deed}
 use Rattle.core_scene.specs.declared.deed.Entry.{Entry}
 use Rattle.core_scene.specs.Scenes.{SceneState, done_all, Did}
@@ -9,7 +9,8 @@ use Rattle.core_actions.specs.Outcomes.{Outcome}
 use Rattle.core_actions.specs.Looking.{find_deeds, look_deeds}
 use Rattle.core_actions.specs.Opening.{new_deeds}
 use Rattle.core_edit.specs.Editing.{edit_deeds}
-use Rattle.core_exec.specs.Acting.{looks}
+use Rattle.core_plumb.specs.Looking.{is_plumbed}
+use Rattle.core_exec.specs.Looking.{looks}
 use Rattle.core_exec.specs.Executing.{said_if_any}
 
 pub said_after : (e : Entry) (a b c : SceneState) (xs : List Deed) (d d' word : List ℕ) (f f' : Option ActionFault) → Did e a b xs → d ≡ d' → f ≡ f'
@@ -30,9 +31,14 @@ new_too e a b w t t' h did = subst (λ (x : List ℕ). Did e a b (new_deeds e w 
 pub edited_too : (e : Entry) (a b : SceneState) (w : ℕ) (t t' : List ℕ) → t ≡ t' → Did e a b (edit_deeds e w t a) → Did e a b (edit_deeds e w t' a)
 edited_too e a b w t t' h did = subst (λ (x : List ℕ). Did e a b (edit_deeds e w x a)) h did
 
-pub looked_too : (e : Entry) (a b : SceneState) (w : ℕ) (t t' : List ℕ) → t ≡ t' → Did e a b (look_deeds e w t a) → Did e a b (looks e w t' a)
+-- ---- a look
+
+-- the plumber leaves it, and the scene as it was
+pub other_look : (e : Entry) (a m b : SceneState) (w : ℕ) (t t' : List ℕ) → false ≡ is_plumbed w t' a → m ≡ a → t ≡ t' → Did e m b (look_deeds e w t m) → Did e a b (looks e w t' a)
 unfolding looks
-looked_too e a b w t t' h did = subst (λ (x : List ℕ). Did e a b (look_deeds e w x a)) h did
+other_look e a m b w t t' h same k did =
+    let here : Did e a b (look_deeds e w t' a) = subst (λ (x : SceneState). Did e x b (look_deeds e w t' x)) same (subst (λ (x : List ℕ). Did e m b (look_deeds e w x m)) k did) in
+    rw (sym h) here
 
 -- the deeds of an outcome, and its fault said behind them
 pub said_of : (e : Entry) (a b c : SceneState) (o o' : Outcome) (d d' word : List ℕ) (f : Option ActionFault) → o ≡ o' → Did e a b o.deeds → d ≡ d' → f ≡ o.fault

@@ -9,11 +9,11 @@ use Rattle.core_scene.specs.declared.deed.Entry.{Entry}
 use Rattle.core_scene.specs.declared.deed.Deed.{Deed}
 use Rattle.core_scene.specs.declared.deed.Deed.TheVariants as deed
 use Rattle.core_scene.specs.Scenes.{SceneState}
-use Rattle.core_actions.specs.Looking.{look_target, look_deeds}
 use Rattle.am_journal.specs.declared.event.Spot.{Spot}
 use Rattle.core_exec.specs.declared.click.Clicked.{Clicked}
 use Rattle.core_exec.specs.Clicks.{clicked_at, own_text, argument_if_any, text_if_any, exec_item, look_item}
 use Rattle.core_exec.specs.Executing.{exec_deeds}
+use Rattle.core_exec.specs.Looking.{look_step, looks}
 
 -- ---- clicks
 
@@ -30,13 +30,9 @@ exec_clicked e at argument (Some c) s = exec_click e at argument c s
 abbrev pub exec_at_deeds : Entry → Spot → Option Spot → SceneState → List Deed
 exec_at_deeds e at chord s = exec_clicked e at (argument_if_any s.windows chord) (clicked_at s.windows at click.Exec) s
 
--- a look at a text, in a window
-unfoldable pub looks : Entry → ℕ → List ℕ → SceneState → List Deed
-looks e w text s = look_deeds e w text s
-
 unfoldable pub look_click : Entry → Spot → Clicked → SceneState → List Deed
 look_click e at c s =
-    if is_open_window s.book at.window then deed.Item at.window (look_item at c (look_target at.window (own_text c.text c.expanded) s)) ∷ []
+    if is_open_window s.book at.window then deed.Item at.window (look_item at c (look_step at.window (own_text c.text c.expanded) s)) ∷ []
     else looks e at.window (own_text c.text c.expanded) s
 
 abbrev pub look_clicked : Entry → Spot → Option Clicked → SceneState → List Deed

@@ -12,8 +12,6 @@ use Rattle.am_text.specs.declared.range.Range.{Range}
 use Rattle.core_items.specs.NewItems.{tag_with}
 use Rattle.core_windows.specs.Windows.{Window, window_at}
 use Rattle.core_actions.specs.Seen.{name_of}
-use Rattle.core_actions.specs.declared.opening.Target.{Target}
-use Rattle.core_actions.specs.declared.opening.Target.TheVariants as target
 use Rattle.win_text.specs.Bodies.{IsInside}
 use Rattle.win_events.specs.declared.item.Item.{Item}
 use Rattle.win_events.specs.declared.item.Origin.TheVariants as origin
@@ -21,6 +19,8 @@ use Rattle.win_events.specs.declared.item.Sort.{Sort}
 use Rattle.win_events.specs.declared.item.Sort.TheVariants as sort
 use Rattle.am_journal.specs.declared.event.Spot.{Spot}
 use Rattle.core_exec.specs.declared.click.Clicked.{Clicked}
+use Rattle.core_exec.specs.declared.looking.LookStep.{LookStep}
+use Rattle.core_exec.specs.declared.looking.LookStep.TheVariants as step
 
 -- ---- texts of windows
 
@@ -111,18 +111,20 @@ exec_item at c argument = record {
   argument = argument;
 }
 
--- 1: it can be done without loading a file; 4: the text names a file or a window
-abbrev pub target_flag : Option Target → ℕ
-target_flag None = 1
-target_flag (Some (target.Live w)) = 5
-target_flag (Some (target.New name text)) = 4
+-- 1: it can be done without loading a file; 4: the text names a file or a window; neither where the plumber takes it
+abbrev pub step_flag : LookStep → ℕ
+step_flag step.Plumbs = 0
+step_flag step.Takes = 5
+step_flag step.Opens = 4
+step_flag step.Searches = 1
 
-abbrev pub look_item : Spot → Clicked → Option Target → Item
-look_item at c opened = record {
+-- a look whose first step that can be done is this one
+abbrev pub look_item : Spot → Clicked → LookStep → Item
+look_item at c first = record {
   origin = origin.M;
   sort = look_sort at.side;
   range = at.range;
-  flag = target_flag opened + flag_if (is_some c.expanded) 2;
+  flag = step_flag first + flag_if (is_some c.expanded) 2;
   text = c.text;
   expanded = c.expanded;
   argument = None;

@@ -1,3 +1,4 @@
 pub mod Clicks
 pub mod Executing
+pub mod Looking
 pub mod Acting

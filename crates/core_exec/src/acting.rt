@@ -4,17 +4,17 @@ ghost use Rattle.std.specs.Prelude.{◌≡◌, IsSome, IfSome, IfOk, OnOk};
 ghost use Rattle.event_book.specs.BookState.{item_of};
 ghost use Rattle.core_windows.specs.Windows.{window_at};
 ghost use Rattle.core_scene.specs.Scenes.{scene_of, kept_of, Did};
-ghost use Rattle.core_actions.specs.Looking.{look_target};
 ghost use Rattle.core_exec.specs.Clicks.{IsSpot, own_text, text_if_any, look_item};
-ghost use Rattle.core_exec.specs.Acting.{exec_click, exec_at_deeds, looks, look_click, look_at_deeds, action_of, act_on_deeds};
+ghost use Rattle.core_exec.specs.Looking.{look_step};
+ghost use Rattle.core_exec.specs.Acting.{exec_click, exec_at_deeds, look_click, look_at_deeds, action_of, act_on_deeds};
 
 use crate::click::{Clicked, argument_if_any, clicked_at, own_text};
 use crate::items::{exec_item, look_item};
+use crate::looking::{look_at_text, look_step};
 use crate::running::{Executed, exec};
 use acme_cmd::Click;
 use am_journal::Spot;
 use am_text::{NoMemory, Runes};
-use core_actions::{look, look_target};
 use core_scene::{Deed, Entry, Scene};
 use std::alloc::Global;
 use win_events::{Item, Sort};
@@ -102,27 +102,11 @@ fn text_of(alloc: Global, clicked: &Clicked) -> Result<Runes, NoMemory>
 
 // The item of a click with Look.
 fn item_at(alloc: Global, scene: &Scene, at: Spot, clicked: Clicked) -> Result<Item, NoMemory>
-    ensures { IfOk result (λ item. item ≡ look_item at clicked (look_target at.window (own_text clicked.text clicked.expanded) (scene_of scene.now))) }
+    ensures { IfOk result (λ item. item ≡ look_item at clicked (look_step at.window (own_text clicked.text clicked.expanded) (scene_of scene.now))) }
 {
     let text = text_of(alloc, &clicked)?;
-    let target = look_target(alloc, scene, at.window, text.as_slice())?;
-    Ok(look_item(at, clicked, &target))
-}
-
-// Looks at a text.
-#[tactic(auto, unfolding(crate::specs::Acting::looks))]
-fn look_at_text(
-    alloc: Global,
-    scene: &mut Scene,
-    entry: Entry,
-    window: u32,
-    text: &Runes,
-) -> Result<(), NoMemory>
-    requires { IsSome (window_at scene.old.windows.present window) }
-    ensures ok { OnOk result (Did entry (scene_of scene.old) (scene_of scene.new) (looks entry window text.now (scene_of scene.old))) }
-    ensures kept { kept_of scene.new ≡ kept_of scene.old }
-{
-    look(alloc, scene, entry, window, text.as_slice())
+    let step = look_step(alloc, scene, at.window, &text)?;
+    Ok(look_item(at, clicked, step))
 }
 
 // An item, or what it stands for is looked at.
@@ -150,7 +134,8 @@ fn look_clicked(
 /// Look at a range of a window's text.
 ///
 /// While the window's event file is open it makes an item and does nothing else. Where it isn't, what the range stands for is
-/// looked at, and a null range that stands for nothing does nothing.
+/// looked at: the plumber takes it, or else it is opened as a name or searched for. A null range that stands for nothing does
+/// nothing.
 #[tactic(auto, using(crate::proofs::Joined::joins))]
 pub fn look_at(alloc: Global, scene: &mut Scene, entry: Entry, at: Spot) -> Result<(), NoMemory>
     requires { IsSpot scene.old.windows.present at }

@@ -2,13 +2,13 @@
 
 ghost use Rattle.std.specs.Prelude.{◌≡◌, IfOk};
 ghost use Rattle.acme_cmd.specs.Commands.{classified};
-ghost use Rattle.core_exec.specs.Clicks.{exec_sort, look_sort, flag_if, is_builtin, exec_flag, exec_item, target_flag, look_item};
+ghost use Rattle.core_exec.specs.Clicks.{exec_sort, look_sort, flag_if, is_builtin, exec_flag, exec_item, step_flag, look_item};
 
 use crate::click::{Clicked, own_text};
+use crate::looking::LookStep;
 use acme_cmd::{Command, classify};
 use am_journal::{Side, Spot};
 use am_text::Runes;
-use core_actions::Target;
 use win_events::{Item, Origin, Sort};
 
 fn exec_sort(side: Side) -> Sort
@@ -81,25 +81,26 @@ pub(crate) fn exec_item(at: Spot, clicked: Clicked, argument: Option<(Runes, Run
     }
 }
 
-fn target_flag(target: &Option<Target>) -> u32
-    ensures { result ≡ target_flag target.now }
+fn step_flag(step: LookStep) -> u32
+    ensures { result ≡ step_flag step }
 {
-    match target {
-        None => WITHIN,
-        Some(Target::Live(_)) => WITHIN + NAMES,
-        Some(Target::New { .. }) => NAMES,
+    match step {
+        LookStep::Plumbs => 0,
+        LookStep::Takes => WITHIN + NAMES,
+        LookStep::Opens => NAMES,
+        LookStep::Searches => WITHIN,
     }
 }
 
-/// The item of a Look at a text that opens this, if it opens anything.
-pub(crate) fn look_item(at: Spot, clicked: Clicked, target: &Option<Target>) -> Item
-    ensures { result ≡ look_item at clicked target.now }
+/// The item of a Look whose first step that can be done is this one.
+pub(crate) fn look_item(at: Spot, clicked: Clicked, step: LookStep) -> Item
+    ensures { result ≡ look_item at clicked step }
 {
     Item {
         origin: Origin::M,
         sort: look_sort(at.side),
         range: at.range,
-        flag: target_flag(target) + flag_if(clicked.expanded.is_some(), NULL),
+        flag: step_flag(step) + flag_if(clicked.expanded.is_some(), NULL),
         text: clicked.text,
         expanded: clicked.expanded,
         argument: None,

@@ -7,6 +7,7 @@ mod builtins;
 mod click;
 mod faults;
 mod items;
+mod looking;
 mod requests;
 mod running;
 mod words;

@@ -1,5 +1,5 @@
 -- Answers have spellings.
-use Rattle.std.proofs.Common.{[], ◌≡◌, ℕ, ◌+◌, ◌<◌, ◌≤◌, true, List, Option, codes, length, refl, ap, sym, ◌∙◌, subst, arith}
+use Rattle.std.proofs.Common.{[], ◌≡◌, ℕ, ◌+◌, ◌<◌, ◌≤◌, Bool, true, false, cond, List, Option, codes, length, refl, ap, sym, ◌∙◌, subst, arith}
 use Rattle.std.specs.Str.{is_utf8, chars}
 use Rattle.std.specs.Char.{encode_utf8}
 use Rattle.ninep_types.specs.declared.message.RBody.TheVariants as r
@@ -9,6 +9,7 @@ use Rattle.core_fids.specs.declared.refusal.Refusal.{Refusal}
 use Rattle.core_fids.specs.declared.refusal.Refusal.TheVariants as refusal
 use Rattle.core_fids.specs.Refusals.{refusal_text}
 use Rattle.core_fids.specs.Done.{HasSpelling, IsSent, IsOfLiving, IsStill, CanBeMade, IsDone}
+use Rattle.core_fids.specs.declared.effect.Demand.{Demand}
 use Rattle.core_fids.specs.declared.effect.Demand.TheVariants as demand
 use Rattle.core_windows.specs.Windows.{Window}
 use Rattle.core_windows.specs.declared.change.Change.{Change}
@@ -21,7 +22,10 @@ use Rattle.ninep_frame.proofs.Longest.{longest}
 use Rattle.ninep_frame.proofs.Sizes.{record_len}
 use Rattle.core_fids.specs.declared.effect.Effect.{Effect}
 use Rattle.core_fids.specs.declared.effect.Effect.TheVariants as effect
-use Rattle.core_fids.specs.Plainly.{does}
+use Rattle.core_fids.specs.Plainly.{does, frees}
+use Rattle.core_fids.specs.Opening.{rest_demand}
+use Rattle.core_fids.specs.Fids.{holds_rules}
+use Rattle.fid_table.specs.declared.types.Fid.{Fid}
 
 -- ---- refusals
 
@@ -60,7 +64,13 @@ text_is refusal.NoFileName = refl
 text_is refusal.BadEvent = refl
 text_is refusal.NoSuchEvent = refl
 text_is refusal.EventAlreadyWrittenBack = refl
-text_is refusal.NotServedYet = refl
+text_is refusal.BadPlumbMessage = refl
+text_is refusal.NoMatchingRule = refl
+text_is refusal.PortNotOpen = refl
+text_is refusal.PortQueueFull = refl
+text_is refusal.BadRule = refl
+text_is refusal.BadExpressionSize = refl
+text_is refusal.TooManyRules = refl
 
 text_fits : (x : Refusal) → length (refusal_text x) < 100
 text_fits refusal.VersionFirst = omega arith
@@ -96,7 +106,13 @@ text_fits refusal.NoFileName = omega arith
 text_fits refusal.BadEvent = omega arith
 text_fits refusal.NoSuchEvent = omega arith
 text_fits refusal.EventAlreadyWrittenBack = omega arith
-text_fits refusal.NotServedYet = omega arith
+text_fits refusal.BadPlumbMessage = omega arith
+text_fits refusal.NoMatchingRule = omega arith
+text_fits refusal.PortNotOpen = omega arith
+text_fits refusal.PortQueueFull = omega arith
+text_fits refusal.BadRule = omega arith
+text_fits refusal.BadExpressionSize = omega arith
+text_fits refusal.TooManyRules = omega arith
 
 error_is : (x : Refusal) → IsSent (r.Error (refusal_text x))
 error_is x = record { body = record { text = text_is x; len = omega (arith, text_fits x) }; size = omega (arith, text_fits x) }
@@ -159,6 +175,23 @@ pub unknown_still : (f : Effect) (msize : ℕ) (text : List ℕ) (cs : List Chan
 unknown_still f msize text cs d e none is =
     plain_still f cs (r.Version msize text) d is (subst (λ (t : List ℕ). IsSent (r.Version msize t)) (sym e) (unknown_sent msize)) none
 
+-- ---- fids that are freed
+
+-- what frees a fid asks nothing of a window
+rest_asks : (windows : List (Option Window)) (fid : Fid) (holds : Bool) → IsOfLiving windows (cond holds (demand.AddsRest fid.held) demand.Nothing)
+rest_asks windows fid true = tt
+rest_asks windows fid false = tt
+
+pub freed_done : (windows : List (Option Window)) (number : ℕ) (fid : Fid) (asked : Demand) (body : RBody) (d : Reaction) → d ≡ frees number asked body → asked ≡ rest_demand fid → IsSent body → IsDone windows d
+freed_done windows number fid asked body d e is sent = subst (IsDone windows) (sym e) (record {
+  sent = sent;
+  possible = λ at. tt;
+  demand = subst (IsOfLiving windows) (sym is) (rest_asks windows fid (holds_rules fid));
+})
+
+pub clunk_sent : IsSent r.Clunk
+clunk_sent = record { body = tt; size = omega arith }
+
 -- ---- stats
 
 pub stat_done : (windows : List (Option Window)) (s : Stat) (bytes : List ℕ) (cs : List Change) (d : Reaction) → bytes ≡ record_of s → HasName s → cs ≡ []
@@ -174,5 +207,7 @@ part_fits room stats bytes e = subst (λ (l : List ℕ). length l ≤ room) (sym
 pub ruleset sent = (error_sent, known_still, unknown_still, stat_done, part_fits)
 
 pub ruleset still = (still_done)
+
+pub ruleset freed = (freed_done, clunk_sent)
 
 pub ruleset made = (still_done, made_done)

@@ -1,12 +1,11 @@
 -- What opening a file changes can be done.
-use Rattle.std.proofs.Common.{◌≡◌, ℕ, Bool, true, false, cond, List, [], ◌∷◌, Option, Some, None, refl, sym, ap, subst, ◌∙◌, arith}
+use Rattle.std.proofs.Common.{◌≡◌, ℕ, Bool, true, false, cond, List, [], ◌∷◌, Option, Some, None, refl, sym, subst, arith}
 use Rattle.std.specs.Prelude.{not, IsSome}
 use Rattle.acme_tree.specs.Trees.{is_live}
 use Rattle.acme_tree.specs.declared.node.Node.{Node}
 use Rattle.acme_tree.specs.declared.node.Node.TheVariants as node
 use Rattle.acme_tree.specs.declared.node.WinFile.{WinFile}
 use Rattle.acme_tree.specs.declared.node.WinFile.TheVariants as file
-use Rattle.acme_tree.specs.declared.node.World.{World}
 use Rattle.fid_table.specs.Tables.{Tables}
 use Rattle.fid_table.specs.declared.types.Fid.{Fid}
 use Rattle.win_text.specs.Bodies.{null_range}
@@ -22,8 +21,10 @@ use Rattle.core_fids.specs.declared.content.Content.TheVariants as content
 use Rattle.core_fids.specs.declared.refusal.Refusal.{Refusal}
 use Rattle.core_fids.specs.declared.refusal.Refusal.TheVariants as refusal
 use Rattle.core_fids.specs.Contents.{content_of}
-use Rattle.core_fids.specs.Done.{CanBeMade, LivesIn}
-use Rattle.core_fids.specs.Opening.{sets_first, open_below, opening_changes, open_refusal}
+use Rattle.core_fids.specs.Done.{CanBeMade, IsOfLiving, LivesIn}
+use Rattle.core_fids.specs.declared.effect.Demand.{Demand}
+use Rattle.core_fids.specs.Plumbers.{Plumber}
+use Rattle.core_fids.specs.Opening.{sets_first, open_below, opening_changes, opening_demand, open_refusal}
 
 first_can : (windows : List (Option Window)) (w : ℕ) (s : Setting) (b : Bool) → IsSome (window_at windows w) → CanSet (text_in (window_at windows w)) s → CanBeMade windows (cond b [] (change.Sets w s ∷ []))
 first_can windows w s true h k at = tt
@@ -45,7 +46,9 @@ opens windows tables (content.ErrorsOf w) h at = tt
 opens windows tables content.ConsErrors h at = tt
 opens windows tables content.Empty h at = tt
 opens windows tables (content.EventsOf w) h at = tt
-opens windows tables content.Unserved h at = tt
+opens windows tables content.SendText h at = tt
+opens windows tables content.RulesText h at = tt
+opens windows tables (content.PortOf k) h at = tt
 
 file_lives : (windows : List (Option Window)) (w : ℕ) (f : WinFile) → IsSome (window_at windows w) → LivesIn windows (content_of (node.File w f))
 file_lives windows w file.Addr h = h
@@ -57,29 +60,49 @@ file_lives windows w file.Event h = h
 file_lives windows w file.Tag h = h
 file_lives windows w file.Xdata h = h
 
-node_lives : (windows : List (Option Window)) (n : Node) → is_live (world_of windows) n ≡ true → LivesIn windows (content_of n)
-node_lives windows node.Root h = tt
-node_lives windows node.Cons h = tt
-node_lives windows node.ConsCtl h = tt
-node_lives windows node.Index h = tt
-node_lives windows node.Label h = tt
-node_lives windows node.NewDir h = tt
-node_lives windows (node.Window w) h = tt
-node_lives windows (node.File w f) h = file_lives windows w f (listed_lives windows w h)
-node_lives windows node.PlumbRoot h = tt
-node_lives windows node.Send h = tt
-node_lives windows node.Rules h = tt
-node_lives windows (node.Port k) h = tt
+node_lives : (windows : List (Option Window)) (ports : List (List ℕ)) (n : Node) → is_live (world_of windows) ports n ≡ true → LivesIn windows (content_of n)
+node_lives windows ports node.Root h = tt
+node_lives windows ports node.Cons h = tt
+node_lives windows ports node.ConsCtl h = tt
+node_lives windows ports node.Index h = tt
+node_lives windows ports node.Label h = tt
+node_lives windows ports node.NewDir h = tt
+node_lives windows ports (node.Window w) h = tt
+node_lives windows ports (node.File w f) h = file_lives windows w f (listed_lives windows w h)
+node_lives windows ports node.PlumbRoot h = tt
+node_lives windows ports node.Send h = tt
+node_lives windows ports node.Rules h = tt
+node_lives windows ports (node.Port k) h = tt
 
 not_dead : (b : Bool) (later : Option Refusal) → cond (not b) (Some refusal.WindowDeleted) later ≡ None → b ≡ true
 not_dead true later e = refl
 not_dead false later e = absurd cc
 
 -- what a Topen that isn't refused does
-pub opens_possible : (windows : List (Option Window)) (world : World) (tables : Tables) (openings mode : ℕ) (fid : Fid) (cs : List Change) → world ≡ world_of windows
-    → open_refusal world openings fid mode ≡ None → cs ≡ opening_changes tables (content_of fid.node) → CanBeMade windows cs
-opens_possible windows world tables openings mode fid cs is h e =
+pub opens_possible : (windows : List (Option Window)) (plumber : Plumber) (tables : Tables) (openings mode : ℕ) (fid : Fid) (cs : List Change)
+    → open_refusal (world_of windows) plumber openings fid mode ≡ None → cs ≡ opening_changes tables (content_of fid.node) → CanBeMade windows cs
+opens_possible windows plumber tables openings mode fid cs h e =
     subst (CanBeMade windows) (sym e)
-    (opens windows tables (content_of fid.node) (node_lives windows fid.node (sym (ap (λ (v : World). is_live v fid.node) is) ∙ not_dead (is_live world fid.node) _ h)))
+    (opens windows tables (content_of fid.node) (node_lives windows plumber.names fid.node (not_dead (is_live (world_of windows) plumber.names fid.node) _ h)))
 
-pub ruleset opening = (opens_possible)
+-- what it asks of the scene it asks of no window
+asks_none : (windows : List (Option Window)) (empties : Bool) (c : Content) → IsOfLiving windows (opening_demand empties c)
+asks_none windows true content.Directory = tt
+asks_none windows true (content.BodyText w) = tt
+asks_none windows true (content.TagText w) = tt
+asks_none windows true (content.AddrText w) = tt
+asks_none windows true (content.DataOf w) = tt
+asks_none windows true (content.XdataOf w) = tt
+asks_none windows true (content.CtlText w) = tt
+asks_none windows true content.IndexText = tt
+asks_none windows true (content.ErrorsOf w) = tt
+asks_none windows true content.ConsErrors = tt
+asks_none windows true content.Empty = tt
+asks_none windows true (content.EventsOf w) = tt
+asks_none windows true content.SendText = tt
+asks_none windows true content.RulesText = tt
+asks_none windows true (content.PortOf k) = tt
+asks_none windows false c = tt
+
+pub opening_asks : (windows : List (Option Window)) (empties : Bool) (c : Content) (d : Demand) → d ≡ opening_demand empties c → IsOfLiving windows d
+opening_asks windows empties c d e = subst (IsOfLiving windows) (sym e) (asks_none windows empties c)

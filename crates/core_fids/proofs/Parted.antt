@@ -7,8 +7,8 @@ use Rattle.std.proofs.lemmas.Option.{slice_get_within, get_or_from_slice_get, sl
 use Rattle.std.proofs.lemmas.Bool.{leb-true, leb-false}
 use Rattle.acme_tree.specs.declared.node.Node.{Node}
 use Rattle.acme_tree.specs.declared.node.World.{World}
-use Rattle.acme_tree.specs.Trees.{is_live, entries}
-use Rattle.acme_tree.proofs.Live.{entries_live}
+use Rattle.acme_tree.specs.Trees.{IsNamed, entries}
+use Rattle.acme_tree.proofs.Live.{entries_named}
 use Rattle.core_fids.specs.Directories.{first_record}
 use Rattle.ninep_frame.specs.declared.stat.Stat.{Stat}
 use Rattle.ninep_frame.specs.Records.{record_of}
@@ -88,12 +88,12 @@ next_full f nodes at room node s bytes e s-is bytes-is gt =
     let more : room < length (record_of s) = subst (λ (l : List ℕ). room < length l) bytes-is gt in
     sym (ap first_record (fitting-full all at room s (slice_get_within all at s there) (sym (get_or_from_slice_get all at s s there)) (omega (arith, more, record_len s))))
 
-pub node_live : (world : World) (dir : Node) (at : ℕ) (node : Node) → Some node ≡ slice_get (entries world dir) at → is_live world dir ≡ true → is_live world node ≡ true
-node_live world dir at node e h =
-    let there : slice_get (entries world dir) at ≡ Some node = sym e in
-    ap (is_live world) (sym (get_or_from_slice_get (entries world dir) at node node there)) ∙ entries_live world dir h at node (slice_get_within (entries world dir) at node there)
+pub node_named : (world : World) (ports : List (List ℕ)) (dir : Node) (at : ℕ) (node : Node) → Some node ≡ slice_get (entries world ports dir) at → IsNamed ports node
+node_named world ports dir at node e =
+    let there : slice_get (entries world ports dir) at ≡ Some node = sym e in
+    subst (IsNamed ports) (get_or_from_slice_get (entries world ports dir) at node node there) (entries_named world ports dir at node (slice_get_within (entries world ports dir) at node there))
 
-pub ruleset next = (next_none, next_some, next_full, node_live)
+pub ruleset next = (next_none, next_some, next_full, node_named)
 
 -- ---- one record further, and the end
 

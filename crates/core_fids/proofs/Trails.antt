@@ -49,30 +49,30 @@ may_new : (world : World) (last : Bool) (o : Option WinFile) → MayStep world (
 may_new world last None = tt
 may_new world last (Some file) = may_if_last world file (is_full world) refl last
 
-may_below : (world : World) (n : Node) (name : List ℕ) (last : Bool) → MayStep world (below world n name last)
-may_below world node.Root name last = may_entry world (entry_named world node.Root name)
-may_below world node.Cons name last = may_entry world (entry_named world node.Cons name)
-may_below world node.ConsCtl name last = may_entry world (entry_named world node.ConsCtl name)
-may_below world node.Index name last = may_entry world (entry_named world node.Index name)
-may_below world node.Label name last = may_entry world (entry_named world node.Label name)
-may_below world node.NewDir name last = may_new world last (file_named name)
-may_below world (node.Window w) name last = may_entry world (entry_named world (node.Window w) name)
-may_below world (node.File w file) name last = may_entry world (entry_named world (node.File w file) name)
-may_below world node.PlumbRoot name last = may_entry world (entry_named world node.PlumbRoot name)
-may_below world node.Send name last = may_entry world (entry_named world node.Send name)
-may_below world node.Rules name last = may_entry world (entry_named world node.Rules name)
-may_below world (node.Port k) name last = may_entry world (entry_named world (node.Port k) name)
+may_below : (world : World) (ports : List (List ℕ)) (n : Node) (name : List ℕ) (last : Bool) → MayStep world (below world ports n name last)
+may_below world ports node.Root name last = may_entry world (entry_named world ports node.Root name)
+may_below world ports node.Cons name last = may_entry world (entry_named world ports node.Cons name)
+may_below world ports node.ConsCtl name last = may_entry world (entry_named world ports node.ConsCtl name)
+may_below world ports node.Index name last = may_entry world (entry_named world ports node.Index name)
+may_below world ports node.Label name last = may_entry world (entry_named world ports node.Label name)
+may_below world ports node.NewDir name last = may_new world last (file_named name)
+may_below world ports (node.Window w) name last = may_entry world (entry_named world ports (node.Window w) name)
+may_below world ports (node.File w file) name last = may_entry world (entry_named world ports (node.File w file) name)
+may_below world ports node.PlumbRoot name last = may_entry world (entry_named world ports node.PlumbRoot name)
+may_below world ports node.Send name last = may_entry world (entry_named world ports node.Send name)
+may_below world ports node.Rules name last = may_entry world (entry_named world ports node.Rules name)
+may_below world ports (node.Port k) name last = may_entry world (entry_named world ports (node.Port k) name)
 
 may_either : (world : World) (t : Bool) (a b : Step) → MayStep world a → MayStep world b → MayStep world (cond t a b)
 may_either world true a b h k = h
 may_either world false a b h k = k
 
-may_walk : (world : World) (n : Node) (name : List ℕ) (last : Bool) → MayStep world (walk_one world n name last)
+may_walk : (world : World) (ports : List (List ℕ)) (n : Node) (name : List ℕ) (last : Bool) → MayStep world (walk_one world ports n name last)
 unfolding walk_one
-may_walk world n name last =
+may_walk world ports n name last =
     may_either world (not (is_dir n)) step.NotDir _ tt
-    (may_either world (not (is_live world n)) step.Deleted _ tt
-    (may_either world (bytes_eq name (codes "..")) (step.Found (above n)) _ tt (may_below world n name last)))
+    (may_either world (not (is_live world ports n)) step.Deleted _ tt
+    (may_either world (bytes_eq name (codes "..")) (step.Found (above n)) _ tt (may_below world ports n name last)))
 
 may_made : (world : World) (s : Step) (file : WinFile) → s ≡ step.Make file → MayStep world s → is_full world ≡ false
 may_made world (step.Found n) file e h = absurd cc
@@ -82,7 +82,7 @@ may_made world step.NotDir file e h = absurd cc
 may_made world step.Deleted file e h = absurd cc
 may_made world step.Windows file e h = absurd cc
 
-pub makes_in_room : (world : World) (n : Node) (name : List ℕ) (last : Bool) (file : WinFile) → walk_one world n name last ≡ step.Make file → is_full world ≡ false
-makes_in_room world n name last file e = may_made world (walk_one world n name last) file e (may_walk world n name last)
+pub makes_in_room : (world : World) (ports : List (List ℕ)) (n : Node) (name : List ℕ) (last : Bool) (file : WinFile) → walk_one world ports n name last ≡ step.Make file → is_full world ≡ false
+makes_in_room world ports n name last file e = may_made world (walk_one world ports n name last) file e (may_walk world ports n name last)
 
 pub ruleset trails = (one_more, no_more, append_assoc, append-nil, makes_in_room)

@@ -3,7 +3,8 @@ use Rattle.std.specs.Prelude.{[], ℕ, Bool, ◌==◌, ◌||◌, not, nat_eq, na
 use Rattle.std.specs.Str.{bytes_eq}
 use Rattle.std.specs.List.{starts_with}
 use Rattle.ninep_types.specs.declared.message.RBody.TheVariants as r
-use Rattle.acme_tree.specs.declared.node.Node.TheVariants.{Root}
+use Rattle.acme_tree.specs.declared.node.Node.{Node}
+use Rattle.acme_tree.specs.declared.node.Node.TheVariants.{Root, PlumbRoot}
 use Rattle.acme_tree.specs.Trees.{qid_of}
 use Rattle.fid_table.specs.Tables.{Tables}
 use Rattle.core_fids.specs.declared.effect.Effect.TheVariants as effect
@@ -38,20 +39,24 @@ version_reaction msize version = if nat_lt msize 256
 abbrev pub is_editor : List ℕ → Bool
 is_editor aname = (length aname == 0) || bytes_eq aname (codes "acme")
 
-abbrev pub tree_refusal : List ℕ → Option Refusal
-tree_refusal aname = if is_editor aname then None else
-    (if bytes_eq aname (codes "plumb") then Some refusal.NotServedYet else Some refusal.NoSuchTree)
+-- the root of the tree of that name
+abbrev pub attached : List ℕ → Option Node
+attached aname = if is_editor aname then Some Root else (if bytes_eq aname (codes "plumb") then Some PlumbRoot else None)
 
-abbrev pub attach_refusal : Tables → ℕ → ℕ → ℕ → List ℕ → Option Refusal
-attach_refusal tables conn fid afid aname =
+abbrev pub attach_refusal : Tables → ℕ → ℕ → ℕ → Option Refusal
+attach_refusal tables conn fid afid =
     if fid == nofid then Some refusal.BadFid else
     (if is_used tables conn fid then Some refusal.FidInUse else
     (if not (afid == nofid) then Some refusal.AuthenticationNotRequired else
-    (if fids_full tables conn then Some refusal.TooManyFids else tree_refusal aname)))
+    (if fids_full tables conn then Some refusal.TooManyFids else None)))
 
-abbrev pub or_attaches : Option Refusal → ℕ → Result Reaction Refusal
-or_attaches None fid = Ok (does (effect.Puts fid (fresh Root)) [] (r.Attach (qid_of Root)))
-or_attaches (Some refusal) fid = Err refusal
+abbrev pub attach_to : ℕ → Option Node → Result Reaction Refusal
+attach_to fid None = Err refusal.NoSuchTree
+attach_to fid (Some root) = Ok (does (effect.Puts fid (fresh root)) [] (r.Attach (qid_of root)))
+
+abbrev pub or_attaches : Option Refusal → ℕ → List ℕ → Result Reaction Refusal
+or_attaches None fid aname = attach_to fid (attached aname)
+or_attaches (Some refusal) fid aname = Err refusal
 
 abbrev pub attach_reaction : Tables → ℕ → ℕ → ℕ → List ℕ → Result Reaction Refusal
-attach_reaction tables conn fid afid aname = or_attaches (attach_refusal tables conn fid afid aname) fid
+attach_reaction tables conn fid afid aname = or_attaches (attach_refusal tables conn fid afid) fid aname

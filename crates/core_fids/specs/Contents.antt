@@ -1,4 +1,4 @@
--- What a node holds, as far as it is built.
+-- What a node holds.
 use Rattle.std.specs.Prelude.{ℕ}
 use Rattle.acme_tree.specs.declared.node.Node.{Node}
 use Rattle.acme_tree.specs.declared.node.Node.TheVariants.{Root, Cons, ConsCtl, Index, Label, NewDir, Window, File, PlumbRoot, Send, Rules, Port}
@@ -28,6 +28,6 @@ content_of NewDir = content.Directory
 content_of (Window w) = content.Directory
 content_of (File w file) = file_content w file
 content_of PlumbRoot = content.Directory
-content_of Send = content.Unserved
-content_of Rules = content.Unserved
-content_of (Port k) = content.Unserved
+content_of Send = content.SendText
+content_of Rules = content.RulesText
+content_of (Port k) = content.PortOf k

@@ -28,8 +28,8 @@ abbrev pub plumber_front : List Node
 plumber_front = Send ∷ Rules ∷ []
 
 -- the records after those, as many whole ones as fit
-abbrev pub dir_part : World → Node → ℕ → ℕ → List Stat
-dir_part world node skip count = fitting count (drop skip (map (stat_of world) (entries world node)))
+abbrev pub dir_part : World → List (List ℕ) → Node → ℕ → ℕ → List Stat
+dir_part world ports node skip count = fitting count (drop skip (map (stat_of ports) (entries world ports node)))
 
 abbrev pub first_record : List Stat → Option (List ℕ)
 first_record [] = None
@@ -39,13 +39,13 @@ abbrev pub goes_on : ℕ → Fid → ℕ → ℕ → List Stat → Reaction
 goes_on number fid offset skip part =
     does (effect.Puts number (placed fid (offset + length (records part)) (skip + length part))) [] (r.Read (records part))
 
-abbrev pub read_dir : World → ℕ → Fid → ℕ → ℕ → Option ℕ → Result Reaction Refusal
-read_dir world number fid offset count None = Err refusal.BadDirectoryOffset
-read_dir world number fid offset count (Some skip) = Ok (goes_on number fid offset skip (dir_part world fid.node skip count))
+abbrev pub read_dir : World → List (List ℕ) → ℕ → Fid → ℕ → ℕ → Option ℕ → Result Reaction Refusal
+read_dir world ports number fid offset count None = Err refusal.BadDirectoryOffset
+read_dir world ports number fid offset count (Some skip) = Ok (goes_on number fid offset skip (dir_part world ports fid.node skip count))
 
 -- ---- Tstat
 
-abbrev pub stat_fid : World → Option Fid → Result Reaction Refusal
-stat_fid world None = Err refusal.UnknownFid
-stat_fid world (Some fid) =
-    if is_live world fid.node then Ok (does effect.Nothing [] (r.Stat (record_of (stat_of world fid.node)))) else Err refusal.WindowDeleted
+abbrev pub stat_fid : World → List (List ℕ) → Option Fid → Result Reaction Refusal
+stat_fid world ports None = Err refusal.UnknownFid
+stat_fid world ports (Some fid) =
+    if is_live world ports fid.node then Ok (does effect.Nothing [] (r.Stat (record_of (stat_of ports fid.node)))) else Err refusal.WindowDeleted

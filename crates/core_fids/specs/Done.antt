@@ -1,5 +1,5 @@
--- What holds of each reaction: what it is answered has a spelling, its change of the windows can be made, and what it asks of the scene
--- is asked of a window that lives.
+-- What holds of each reaction: what it is answered has a spelling, its change of the windows can be made, and what it asks of a
+-- window is asked of one that lives.
 use Rattle.std.specs.Prelude.{[], ◌≡◌, ◌<◌, ◌+◌, ◌^◌, ℕ, false, List, Option, IsSome}
 use Rattle.ninep_types.specs.declared.message.RBody.{RBody}
 use Rattle.ninep_types.specs.Spelling.{BodyFits_r, size_r}
@@ -11,7 +11,7 @@ use Rattle.core_windows.specs.Windows.{Window, window_at}
 use Rattle.core_fids.specs.declared.content.Content.{Content}
 use Rattle.core_fids.specs.declared.content.Content.TheVariants as content
 use Rattle.core_fids.specs.declared.effect.Answer.{Answer}
-use Rattle.core_fids.specs.declared.effect.Answer.TheVariants.{Says, Reads}
+use Rattle.core_fids.specs.declared.effect.Answer.TheVariants.{Says, Reads, ReadsPort}
 use Rattle.core_fids.specs.declared.effect.Demand.{Demand}
 use Rattle.core_fids.specs.declared.effect.Demand.TheVariants as demand
 use Rattle.core_fids.specs.declared.effect.Reaction.{Reaction}
@@ -27,16 +27,21 @@ pub record IsSent (answer : RBody) : Type 0 where
 abbrev pub HasSpelling : Answer → Type 0
 HasSpelling (Says body) = IsSent body
 HasSpelling (Reads fid opening count) = count + 11 < 2 ^ 32
+HasSpelling (ReadsPort fid opening count) = count + 11 < 2 ^ 32
 
 -- these changes can be made one after the other, by whichever step
 abbrev pub CanBeMade : List (Option Window) → List Change → Type 0
 CanBeMade windows changes = (at : ℕ) → CanChangeAll at windows changes
 
--- what is asked of the scene is asked of a window that lives
+-- what is asked of a window is asked of one that lives; what is asked of the plumber may always be
 abbrev pub IsOfLiving : List (Option Window) → Demand → Type 0
 IsOfLiving windows demand.Nothing = Unit {0}
 IsOfLiving windows (demand.Controls w text) = IsSome (window_at windows w)
 IsOfLiving windows (demand.WriteBack w text) = IsSome (window_at windows w)
+IsOfLiving windows demand.ClearsRules = Unit {0}
+IsOfLiving windows (demand.AddsRules text) = Unit {0}
+IsOfLiving windows (demand.AddsRest text) = Unit {0}
+IsOfLiving windows (demand.Sends text) = Unit {0}
 
 -- what changes no window and asks nothing of the scene, and has an answer with a spelling
 pub record IsStill (reaction : Reaction) : Type 0 where
@@ -69,4 +74,6 @@ LivesIn windows (content.ErrorsOf w) = IsSome (window_at windows w)
 LivesIn windows content.ConsErrors = Unit {0}
 LivesIn windows content.Empty = Unit {0}
 LivesIn windows (content.EventsOf w) = IsSome (window_at windows w)
-LivesIn windows content.Unserved = Unit {0}
+LivesIn windows content.SendText = Unit {0}
+LivesIn windows content.RulesText = Unit {0}
+LivesIn windows (content.PortOf k) = Unit {0}

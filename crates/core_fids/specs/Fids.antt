@@ -1,8 +1,10 @@
 -- Fids: which numbers may be given, and what a message makes of a fid.
-use Rattle.std.specs.Prelude.{ℕ, ◌-◌, ◌^◌, Bool, true, false, ◌==◌, not, nat_le, min, [], length, Option, Some, None}
+use Rattle.std.specs.Prelude.{ℕ, ◌-◌, ◌^◌, Bool, true, false, ◌&&◌, ◌==◌, not, nat_le, min, List, [], ◌++◌, length, Option, Some, None}
 use Rattle.am_text.specs.Part.{part_of}
 use Rattle.am_text.specs.declared.part.Part.{Part}
 use Rattle.acme_tree.specs.declared.node.Node.{Node}
+use Rattle.acme_tree.specs.declared.node.Node.TheVariants.{File, Rules, Port}
+use Rattle.acme_tree.specs.declared.node.WinFile.TheVariants.{Event}
 use Rattle.acme_tree.specs.Access.{how}
 use Rattle.fid_table.specs.declared.types.Fid.{Fid}
 use Rattle.fid_table.specs.Tables.{Tables, fids_of, fid_of}
@@ -36,13 +38,45 @@ is_for_reading mode = not (how mode == 1)
 abbrev pub is_for_writing : ℕ → Bool
 is_for_writing mode = not (how mode == 0)
 
--- opened with a mode, and where it is an opening of an event file, with its number
+-- An opening is of an event file or of a port: the node says which.
+abbrev pub at_event : Node → Option ℕ → Option ℕ
+at_event (File w Event) opening = opening
+at_event node opening = None
+
+abbrev pub at_port : Node → Option ℕ → Option ℕ
+at_port (Port k) opening = opening
+at_port node opening = None
+
+-- the opening of an event file that the fid is
+abbrev pub event_opening : Fid → Option ℕ
+event_opening fid = at_event fid.node fid.opening
+
+-- the opening of a port that the fid is
+abbrev pub port_opening : Fid → Option ℕ
+port_opening fid = at_port fid.node fid.opening
+
+-- opened with a mode, and where it is an opening of an event file or of a port, with its number
 abbrev pub opened : Fid → ℕ → Option ℕ → Fid
 opened fid mode opening = record fid { mode = Some mode; opening = opening }
 
 -- the bytes of a rune that a write left unfinished
 abbrev pub holding : Fid → Part → Fid
 holding fid part = record fid { part = part }
+
+-- what was written and isn't whole yet, with these bytes behind it, and the fid without it
+abbrev pub held_with : Fid → List ℕ → List ℕ
+held_with fid bytes = fid.held ++ bytes
+
+abbrev pub emptied : Fid → Fid
+emptied fid = record fid { held = [] }
+
+-- it is one of `rules`, and what was written to it last isn't added yet
+abbrev pub is_rules : Node → Bool
+is_rules Rules = true
+is_rules node = false
+
+abbrev pub holds_rules : Fid → Bool
+holds_rules fid = is_rules fid.node && not (length fid.held == 0)
 
 -- the place in a directory at which the next read goes on; numbers end at 2^64 - 1
 abbrev pub capped : ℕ → ℕ

@@ -1,5 +1,6 @@
 pub mod Fids
 pub mod Contents
+pub mod Plumbers
 pub mod Servers
 pub mod Plainly
 pub mod Refusals

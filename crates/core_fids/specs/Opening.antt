@@ -1,10 +1,10 @@
 -- Topen, and the messages that ask for what isn't given.
-use Rattle.std.specs.Prelude.{ℕ, zero, suc, ◌+◌, Bool, false, ◌==◌, ◌&&◌, ◌||◌, not, nat_lt, List, [], ◌∷◌, Option, Some, None, Result, Ok, Err, if◌then◌else◌}
+use Rattle.std.specs.Prelude.{ℕ, zero, suc, ◌+◌, Bool, true, false, ◌==◌, ◌&&◌, ◌||◌, not, nat_lt, List, [], ◌∷◌, Option, Some, None, Result, Ok, Err, if◌then◌else◌}
 use Rattle.std.specs.List.{list_any}
 use Rattle.ninep_types.specs.declared.message.RBody.TheVariants as r
 use Rattle.acme_tree.specs.declared.access.May.{May}
 use Rattle.acme_tree.specs.declared.access.May.TheVariants as may
-use Rattle.acme_tree.specs.Access.{may_open}
+use Rattle.acme_tree.specs.Access.{may_open, truncates}
 use Rattle.acme_tree.specs.Trees.{qid_of, is_live}
 use Rattle.acme_tree.specs.declared.node.World.{World}
 use Rattle.acme_tree.specs.declared.node.Node.{Node}
@@ -19,19 +19,21 @@ use Rattle.core_windows.specs.declared.change.Change.TheVariants as change
 use Rattle.core_windows.specs.declared.change.Setting.{Setting}
 use Rattle.core_windows.specs.declared.change.Setting.TheVariants as setting
 use Rattle.core_fids.specs.declared.effect.Effect.TheVariants as effect
+use Rattle.core_fids.specs.declared.effect.Demand.{Demand}
 use Rattle.core_fids.specs.declared.effect.Demand.TheVariants as demand
 use Rattle.core_fids.specs.declared.effect.EventChange.{EventChange}
 use Rattle.core_fids.specs.declared.effect.EventChange.TheVariants as events
 use Rattle.core_fids.specs.declared.effect.Answer.TheVariants.{Says}
 use Rattle.core_fids.specs.declared.effect.Reaction.{Reaction}
-use Rattle.core_fids.specs.Plainly.{does}
+use Rattle.core_fids.specs.Plainly.{frees}
 use Rattle.core_fids.specs.declared.refusal.Refusal.{Refusal}
 use Rattle.core_fids.specs.declared.refusal.Refusal.TheVariants as refusal
 use Rattle.core_fids.specs.declared.content.Content.{Content}
 use Rattle.core_fids.specs.declared.content.Content.TheVariants as content
 use Rattle.core_fids.specs.Contents.{content_of}
-use Rattle.core_fids.specs.Fids.{is_open, opened}
-use Rattle.core_fids.specs.Refusals.{refused_with}
+use Rattle.core_fids.specs.Fids.{is_open, opened, holds_rules}
+use Rattle.core_fids.specs.Plumbers.{Plumber}
+use Rattle.core_fids.specs.Refusals.{refusal_text}
 
 -- ---- Topen
 
@@ -40,34 +42,36 @@ mode_refusal may.Yes = None
 mode_refusal may.BadMode = Some refusal.BadOpenMode
 mode_refusal may.Denied = Some refusal.PermissionDenied
 
--- openings of event files are numbered from 1, and 4,294,967,295 is the last number
+-- openings of event files are numbered from 1, and those of ports likewise; 4,294,967,295 is the last number of both
 abbrev pub opening_refusal : ℕ → Option Refusal
 opening_refusal openings = if nat_lt openings 4294967295 then None else Some refusal.TooManyOpenings
 
-abbrev pub content_refusal : ℕ → Content → Option Refusal
-content_refusal openings content.Directory = None
-content_refusal openings (content.BodyText w) = None
-content_refusal openings (content.TagText w) = None
-content_refusal openings (content.AddrText w) = None
-content_refusal openings (content.DataOf w) = None
-content_refusal openings (content.XdataOf w) = None
-content_refusal openings (content.CtlText w) = None
-content_refusal openings content.IndexText = None
-content_refusal openings (content.ErrorsOf w) = None
-content_refusal openings content.ConsErrors = None
-content_refusal openings content.Empty = None
-content_refusal openings (content.EventsOf w) = opening_refusal openings
-content_refusal openings content.Unserved = Some refusal.NotServedYet
+abbrev pub content_refusal : Plumber → ℕ → Content → Option Refusal
+content_refusal plumber openings content.Directory = None
+content_refusal plumber openings (content.BodyText w) = None
+content_refusal plumber openings (content.TagText w) = None
+content_refusal plumber openings (content.AddrText w) = None
+content_refusal plumber openings (content.DataOf w) = None
+content_refusal plumber openings (content.XdataOf w) = None
+content_refusal plumber openings (content.CtlText w) = None
+content_refusal plumber openings content.IndexText = None
+content_refusal plumber openings (content.ErrorsOf w) = None
+content_refusal plumber openings content.ConsErrors = None
+content_refusal plumber openings content.Empty = None
+content_refusal plumber openings (content.EventsOf w) = opening_refusal openings
+content_refusal plumber openings content.SendText = None
+content_refusal plumber openings content.RulesText = None
+content_refusal plumber openings (content.PortOf k) = opening_refusal plumber.joined
 
 abbrev pub first_refusal : Option Refusal → Option Refusal → Option Refusal
 first_refusal None later = later
 first_refusal (Some refusal) later = Some refusal
 
-abbrev pub open_refusal : World → ℕ → Fid → ℕ → Option Refusal
-open_refusal world openings fid mode =
-    if not (is_live world fid.node) then Some refusal.WindowDeleted else
+abbrev pub open_refusal : World → Plumber → ℕ → Fid → ℕ → Option Refusal
+open_refusal world plumber openings fid mode =
+    if not (is_live world plumber.names fid.node) then Some refusal.WindowDeleted else
     (if is_open fid then Some refusal.FidIsOpen else
-    first_refusal (mode_refusal (may_open fid.node mode)) (content_refusal openings (content_of fid.node)))
+    first_refusal (mode_refusal (may_open fid.node mode)) (content_refusal plumber openings (content_of fid.node)))
 
 -- whether the node is the `ctl`, or the `addr`, of that window; of no other file this is asked
 abbrev pub is_file_of : ℕ → WinFile → Node → Bool
@@ -112,9 +116,11 @@ opening_changes tables (content.ErrorsOf w) = []
 opening_changes tables content.ConsErrors = []
 opening_changes tables content.Empty = []
 opening_changes tables (content.EventsOf w) = []
-opening_changes tables content.Unserved = []
+opening_changes tables content.SendText = []
+opening_changes tables content.RulesText = []
+opening_changes tables (content.PortOf k) = []
 
--- opening an event file adds an opening of it
+-- opening an event file or a port adds an opening of it
 abbrev pub opening_events : Content → EventChange
 opening_events content.Directory = events.Nothing
 opening_events (content.BodyText w) = events.Nothing
@@ -128,41 +134,53 @@ opening_events (content.ErrorsOf w) = events.Nothing
 opening_events content.ConsErrors = events.Nothing
 opening_events content.Empty = events.Nothing
 opening_events (content.EventsOf w) = events.Opens w
-opening_events content.Unserved = events.Nothing
+opening_events content.SendText = events.Nothing
+opening_events content.RulesText = events.Nothing
+opening_events (content.PortOf k) = events.Joins k
 
 -- its number is the next one
-abbrev pub opening_of : ℕ → Content → Option ℕ
-opening_of openings content.Directory = None
-opening_of openings (content.BodyText w) = None
-opening_of openings (content.TagText w) = None
-opening_of openings (content.AddrText w) = None
-opening_of openings (content.DataOf w) = None
-opening_of openings (content.XdataOf w) = None
-opening_of openings (content.CtlText w) = None
-opening_of openings content.IndexText = None
-opening_of openings (content.ErrorsOf w) = None
-opening_of openings content.ConsErrors = None
-opening_of openings content.Empty = None
-opening_of openings (content.EventsOf w) = Some (openings + 1)
-opening_of openings content.Unserved = None
+abbrev pub opening_of : Plumber → ℕ → Content → Option ℕ
+opening_of plumber openings content.Directory = None
+opening_of plumber openings (content.BodyText w) = None
+opening_of plumber openings (content.TagText w) = None
+opening_of plumber openings (content.AddrText w) = None
+opening_of plumber openings (content.DataOf w) = None
+opening_of plumber openings (content.XdataOf w) = None
+opening_of plumber openings (content.CtlText w) = None
+opening_of plumber openings content.IndexText = None
+opening_of plumber openings (content.ErrorsOf w) = None
+opening_of plumber openings content.ConsErrors = None
+opening_of plumber openings content.Empty = None
+opening_of plumber openings (content.EventsOf w) = Some (openings + 1)
+opening_of plumber openings content.SendText = None
+opening_of plumber openings content.RulesText = None
+opening_of plumber openings (content.PortOf k) = Some (plumber.joined + 1)
+
+-- opening `rules` to truncate it empties the rules
+abbrev pub opening_demand : Bool → Content → Demand
+opening_demand false c = demand.Nothing
+opening_demand true content.RulesText = demand.ClearsRules
+opening_demand true c = demand.Nothing
 
 -- an iounit isn't given
-abbrev pub or_opens : Tables → Option Refusal → ℕ → ℕ → Fid → ℕ → Result Reaction Refusal
-or_opens tables None openings number fid mode = Ok (record {
-  effect = effect.Puts number (opened fid mode (opening_of openings (content_of fid.node)));
+abbrev pub or_opens : Tables → Plumber → Option Refusal → ℕ → ℕ → Fid → ℕ → Result Reaction Refusal
+or_opens tables plumber None openings number fid mode = Ok (record {
+  effect = effect.Puts number (opened fid mode (opening_of plumber openings (content_of fid.node)));
   events = opening_events (content_of fid.node);
   changes = opening_changes tables (content_of fid.node);
-  demand = demand.Nothing;
+  demand = opening_demand (truncates mode) (content_of fid.node);
   answer = Says (r.Open (qid_of fid.node) 0);
 })
-or_opens tables (Some refusal) openings number fid mode = Err refusal
+or_opens tables plumber (Some refusal) openings number fid mode = Err refusal
 
-abbrev pub open_fid : Tables → World → ℕ → ℕ → ℕ → Option Fid → Result Reaction Refusal
-open_fid tables world openings number mode None = Err refusal.UnknownFid
-open_fid tables world openings number mode (Some fid) = or_opens tables (open_refusal world openings fid mode) openings number fid mode
+abbrev pub open_fid : Tables → World → Plumber → ℕ → ℕ → ℕ → Option Fid → Result Reaction Refusal
+open_fid tables world plumber openings number mode None = Err refusal.UnknownFid
+open_fid tables world plumber openings number mode (Some fid) =
+    or_opens tables plumber (open_refusal world plumber openings fid mode) openings number fid mode
 
-abbrev pub open_reaction : Tables → World → ℕ → ℕ → ℕ → ℕ → Result Reaction Refusal
-open_reaction tables world openings conn number mode = open_fid tables world openings number mode (fid_of tables conn number)
+abbrev pub open_reaction : Tables → World → Plumber → ℕ → ℕ → ℕ → ℕ → Result Reaction Refusal
+open_reaction tables world plumber openings conn number mode =
+    open_fid tables world plumber openings number mode (fid_of tables conn number)
 
 -- ---- Tcreate and Twstat, which are never done
 
@@ -172,10 +190,14 @@ denied (Some fid) = Err refusal.PermissionDenied
 
 -- ---- Tclunk and Tremove, which free a fid; nothing is removed
 
+-- the rest of a set that a fid of `rules` holds is added
+abbrev pub rest_demand : Fid → Demand
+rest_demand fid = if holds_rules fid then demand.AddsRest fid.held else demand.Nothing
+
 abbrev pub clunk_fid : ℕ → Option Fid → Result Reaction Refusal
 clunk_fid number None = Err refusal.UnknownFid
-clunk_fid number (Some fid) = Ok (does (effect.Frees number) [] r.Clunk)
+clunk_fid number (Some fid) = Ok (frees number (rest_demand fid) r.Clunk)
 
 abbrev pub remove_fid : ℕ → Option Fid → Result Reaction Refusal
 remove_fid number None = Err refusal.UnknownFid
-remove_fid number (Some fid) = Ok (refused_with (effect.Frees number) refusal.PermissionDenied)
+remove_fid number (Some fid) = Ok (frees number (rest_demand fid) (r.Error (refusal_text refusal.PermissionDenied)))

@@ -44,7 +44,13 @@ refusal_text refusal.NoFileName = codes "no file name"
 refusal_text refusal.BadEvent = codes "bad event"
 refusal_text refusal.NoSuchEvent = codes "no such event"
 refusal_text refusal.EventAlreadyWrittenBack = codes "event already written back"
-refusal_text refusal.NotServedYet = codes "not served yet"
+refusal_text refusal.BadPlumbMessage = codes "bad plumb message"
+refusal_text refusal.NoMatchingRule = codes "no matching rule"
+refusal_text refusal.PortNotOpen = codes "port not open"
+refusal_text refusal.PortQueueFull = codes "port queue full"
+refusal_text refusal.BadRule = codes "bad rule"
+refusal_text refusal.BadExpressionSize = codes "bad regular expression size"
+refusal_text refusal.TooManyRules = codes "too many rules"
 
 -- the reaction of a refusal: its text is answered, and nothing changes but what is said here
 abbrev pub refused_with : Effect → Refusal → Reaction

@@ -39,10 +39,10 @@ onwards world NotDir rest = stops refusal.NotADirectory
 onwards world Deleted rest = stops refusal.WindowDeleted
 onwards world Windows rest = stops refusal.TooManyWindows
 
--- where the names lead from a node, with the qid of each that is found
-unfoldable pub trail : World → Node → List (List ℕ) → Trail
-trail world node [] = record { qids = []; end = end.At node }
-trail world node (n ∷ ns) = onwards world (walk_one world node n (length ns == 0)) (λ m. trail world m ns)
+-- where the names lead from a node, with the qid of each that is found; the ports have these names
+unfoldable pub trail : World → List (List ℕ) → Node → List (List ℕ) → Trail
+trail world ports node [] = record { qids = []; end = end.At node }
+trail world ports node (n ∷ ns) = onwards world (walk_one world ports node n (length ns == 0)) (λ m. trail world ports m ns)
 
 -- ---- Twalk
 
@@ -73,10 +73,10 @@ abbrev pub or_walks : Option Refusal → Result Reaction Refusal → Result Reac
 or_walks None walked = walked
 or_walks (Some refusal) walked = Err refusal
 
-abbrev pub walk_from : Tables → World → ℕ → ℕ → ℕ → List (List ℕ) → Option Fid → Result Reaction Refusal
-walk_from tables world conn number newfid names None = Err refusal.UnknownFid
-walk_from tables world conn number newfid names (Some fid) =
-    or_walks (walk_refusal tables conn number newfid fid) (arrives newfid world (trail world fid.node names))
+abbrev pub walk_from : Tables → World → List (List ℕ) → ℕ → ℕ → ℕ → List (List ℕ) → Option Fid → Result Reaction Refusal
+walk_from tables world ports conn number newfid names None = Err refusal.UnknownFid
+walk_from tables world ports conn number newfid names (Some fid) =
+    or_walks (walk_refusal tables conn number newfid fid) (arrives newfid world (trail world ports fid.node names))
 
-abbrev pub walk_reaction : Tables → World → ℕ → ℕ → ℕ → List (List ℕ) → Result Reaction Refusal
-walk_reaction tables world conn number newfid names = walk_from tables world conn number newfid names (fid_of tables conn number)
+abbrev pub walk_reaction : Tables → World → List (List ℕ) → ℕ → ℕ → ℕ → List (List ℕ) → Result Reaction Refusal
+walk_reaction tables world ports conn number newfid names = walk_from tables world ports conn number newfid names (fid_of tables conn number)

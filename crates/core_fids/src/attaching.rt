@@ -4,7 +4,7 @@ ghost use Rattle.std.specs.Prelude.{◌≡◌, IfOk, IfErr, Ok};
 ghost use Rattle.core_fids.specs.Refusals.{Gives};
 ghost use Rattle.core_fids.specs.Done.{IsDone, IsStill};
 ghost use Rattle.core_fids.specs.Servers.{tables_in, windows_in};
-ghost use Rattle.core_fids.specs.Attaching.{is_version, agreed, version_reaction, is_editor, tree_refusal, attach_refusal, attach_reaction};
+ghost use Rattle.core_fids.specs.Attaching.{is_version, agreed, version_reaction, attached, is_editor, attach_refusal, attach_reaction};
 
 use crate::effect::{Effect, Reaction};
 use crate::fids::{NOFID, fids_full, fresh, is_used};
@@ -70,20 +70,21 @@ fn is_editor(aname: &[u8]) -> bool
     aname.is_empty() || aname == b"acme".as_slice()
 }
 
-fn tree_refusal(aname: &[u8]) -> Option<Refusal>
-    ensures { result ≡ tree_refusal aname.now }
+// The root of the tree of that name.
+fn attached(aname: &[u8]) -> Option<Node>
+    ensures { result ≡ attached aname.now }
 {
     if is_editor(aname) {
-        None
+        Some(Node::Root)
     } else if aname == b"plumb".as_slice() {
-        Some(Refusal::NotServedYet)
+        Some(Node::PlumbRoot)
     } else {
-        Some(Refusal::NoSuchTree)
+        None
     }
 }
 
-fn attach_refusal(server: &Server, fid: u32, afid: u32, aname: &[u8]) -> Option<Refusal>
-    ensures { result ≡ attach_refusal (tables_in server.now) server.now.conn fid afid aname.now }
+fn attach_refusal(server: &Server, fid: u32, afid: u32) -> Option<Refusal>
+    ensures { result ≡ attach_refusal (tables_in server.now) server.now.conn fid afid }
 {
     if fid == NOFID {
         Some(Refusal::BadFid)
@@ -94,7 +95,7 @@ fn attach_refusal(server: &Server, fid: u32, afid: u32, aname: &[u8]) -> Option<
     } else if fids_full(server) {
         Some(Refusal::TooManyFids)
     } else {
-        tree_refusal(aname)
+        None
     }
 }
 
@@ -110,17 +111,18 @@ pub fn attach(
     ensures refused { IfErr result (λ e. Gives e (attach_reaction (tables_in server.now) server.now.conn fid afid aname.now)) }
     ensures done { IfOk result (IsDone (windows_in server.now)) }
 {
-    if let Some(refusal) = attach_refusal(server, fid, afid, aname) {
+    if let Some(refusal) = attach_refusal(server, fid, afid) {
         return Err(Fault::Refused(refusal));
     }
+    let Some(root) = attached(aname) else {
+        return Err(Fault::Refused(Refusal::NoSuchTree));
+    };
     Ok(Reaction::plain(
         Effect::Puts {
             number: fid,
-            fid: fresh(alloc, Node::Root),
+            fid: fresh(alloc, root),
         },
         Items::new(alloc),
-        RBody::Attach {
-            qid: qid_of(Node::Root),
-        },
+        RBody::Attach { qid: qid_of(root) },
     ))
 }

@@ -1,4 +1,4 @@
-//! What a node holds, as far as it is built.
+//! What a node holds.
 
 ghost use Rattle.std.specs.Prelude.{◌≡◌};
 ghost use Rattle.core_fids.specs.Contents.{content_of, file_content};
@@ -32,8 +32,12 @@ pub enum Content {
     EventsOf(u32),
     /// No bytes; what is written is dropped.
     Empty,
-    /// What isn't built yet.
-    Unserved,
+    /// Plumb messages, which are written one after another.
+    SendText,
+    /// The accepted rules of the plumber; what is written is added to them.
+    RulesText,
+    /// The messages of this port, one after another.
+    PortOf(u32),
 }
 
 fn file_content(window: u32, file: WinFile) -> Content
@@ -65,8 +69,8 @@ pub fn content_of(node: Node) -> Content
         Node::Cons => Content::ConsErrors,
         Node::Index => Content::IndexText,
         Node::File(window, file) => file_content(window, file),
-        Node::Send => Content::Unserved,
-        Node::Rules => Content::Unserved,
-        Node::Port(_) => Content::Unserved,
+        Node::Send => Content::SendText,
+        Node::Rules => Content::RulesText,
+        Node::Port(port) => Content::PortOf(port),
     }
 }

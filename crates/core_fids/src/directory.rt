@@ -1,9 +1,9 @@
 //! The records of directories.
 
-ghost use Rattle.std.specs.Prelude.{◌≡◌, ◌+◌, ◌<◌, ◌≤◌, ◌^◌, All, IfOk, IfSome, true, length, slice_get, map, drop, take};
+ghost use Rattle.std.specs.Prelude.{◌≡◌, ◌+◌, ◌<◌, ◌≤◌, ◌^◌, All, IfOk, IfSome, length, slice_get, map, drop, take};
 ghost use Rattle.ninep_frame.specs.Records.{IsName};
 ghost use Rattle.ninep_frame.specs.Directories.{records};
-ghost use Rattle.acme_tree.specs.Trees.{is_live, entries, files, ports_from};
+ghost use Rattle.acme_tree.specs.Trees.{entries, files, plumber_entries, ports_from, root_entries};
 ghost use Rattle.core_fids.specs.Directories.{dir_part, first_record, root_front, plumber_front};
 
 use acme_tree::{Node, WinFile, World, stat_of};
@@ -65,9 +65,9 @@ fn window_at(windows: &[u32], k: usize) -> Option<Node>
     }
 }
 
-#[tactic(auto, using(crate::proofs::Entries::placed), unfolding(acme_tree::specs::Trees::entries))]
+#[tactic(auto, using(crate::proofs::Entries::placed))]
 fn in_root(world: &World, k: usize) -> Option<Node>
-    ensures exact { result ≡ slice_get (entries world.now Node.Root) k }
+    ensures exact { result ≡ slice_get (root_entries world.now) k }
     ensures within { IfSome result (λ n. k + 1 < 2 ^ 64) }
 {
     if k < 5 {
@@ -100,28 +100,28 @@ fn port_at(ports: &[Bytes], k: usize) -> Option<Node>
     }
 }
 
-#[tactic(auto, using(crate::proofs::Entries::placed), unfolding(acme_tree::specs::Trees::entries))]
-fn in_plumber(world: &World, k: usize) -> Option<Node>
-    ensures exact { result ≡ slice_get (entries world.now Node.PlumbRoot) k }
+#[tactic(auto, using(crate::proofs::Entries::placed))]
+fn in_plumber(ports: &[Bytes], k: usize) -> Option<Node>
+    ensures exact { result ≡ slice_get (plumber_entries ports.now) k }
     ensures within { IfSome result (λ n. k + 1 < 2 ^ 64) }
 {
     if k < 2 {
         fixed_in_plumber(k)
     } else {
-        port_at(world.ports.as_slice(), k - 2)
+        port_at(ports, k - 2)
     }
 }
 
 /// The entry of a directory at a place, from 0.
 #[tactic(auto, using(crate::proofs::Entries::placed), unfolding(acme_tree::specs::Trees::entries))]
-fn entry_at(world: &World, dir: Node, k: usize) -> Option<Node>
-    ensures exact { result ≡ slice_get (entries world.now dir) k }
+fn entry_at(world: &World, ports: &[Bytes], dir: Node, k: usize) -> Option<Node>
+    ensures exact { result ≡ slice_get (entries world.now ports.now dir) k }
     ensures within { IfSome result (λ n. k + 1 < 2 ^ 64) }
 {
     match dir {
         Node::Root => in_root(world, k),
         Node::Window(window) => file_at(window, k),
-        Node::PlumbRoot => in_plumber(world, k),
+        Node::PlumbRoot => in_plumber(ports, k),
         _ => None,
     }
 }
@@ -131,19 +131,19 @@ fn entry_at(world: &World, dir: Node, k: usize) -> Option<Node>
 fn next_record(
     alloc: Global,
     world: &World,
+    ports: &[Bytes],
     dir: Node,
     at: usize,
     room: usize,
 ) -> Result<Option<Bytes>, NoMemory>
-    requires named { All IsName world.now.ports }
-    requires live { is_live world.now dir ≡ true }
-    ensures exact { IfOk result (λ r. r ≡ first_record (dir_part world.now dir at room)) }
+    requires { All IsName ports.now }
+    ensures exact { IfOk result (λ r. r ≡ first_record (dir_part world.now ports.now dir at room)) }
     ensures within { IfOk result (λ r. IfSome r (λ bytes. at + 1 < 2 ^ 64)) }
 {
-    let Some(node) = entry_at(world, dir, at) else {
+    let Some(node) = entry_at(world, ports, dir, at) else {
         return Ok(None);
     };
-    let stat = stat_of(alloc, world, node)?;
+    let stat = stat_of(alloc, ports, node)?;
     let record = stat_write(alloc, &stat)?;
     if record.len() > room {
         return Ok(None);
@@ -157,19 +157,26 @@ fn next_record(
 pub(crate) fn dir_part(
     alloc: Global,
     world: &World,
+    ports: &[Bytes],
     dir: Node,
     skip: usize,
     count: u32,
 ) -> Result<DirPart, NoMemory>
-    requires named { All IsName world.now.ports }
-    requires live { is_live world.now dir ≡ true }
-    ensures bytes { IfOk result (λ part. part.bytes ≡ records (dir_part world.now dir skip count)) }
-    ensures given { IfOk result (λ part. part.count ≡ length (dir_part world.now dir skip count)) }
+    requires { All IsName ports.now }
+    ensures bytes { IfOk result (λ part. part.bytes ≡ records (dir_part world.now ports.now dir skip count)) }
+    ensures given { IfOk result (λ part. part.count ≡ length (dir_part world.now ports.now dir skip count)) }
     ensures few { IfOk result (λ part. length part.bytes ≤ count) }
 {
     let mut bytes = Items::new(alloc);
     let mut at = skip;
-    while let Some(record) = next_record(alloc, world, dir, at, count as usize - bytes.len())? {
+    while let Some(record) = next_record(
+        alloc,
+        world,
+        ports,
+        dir,
+        at,
+        count as usize - bytes.len(),
+    )? {
         bytes.append(record.as_slice())?;
         at += 1;
     }

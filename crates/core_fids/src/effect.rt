@@ -1,7 +1,7 @@
 //! What a message does, and what it is answered.
 
 ghost use Rattle.std.specs.Prelude.{◌≡◌};
-ghost use Rattle.core_fids.specs.Plainly.{does, demands};
+ghost use Rattle.core_fids.specs.Plainly.{demands, does, frees};
 
 use am_text::{Bytes, Items};
 use core_windows::Changes;
@@ -22,13 +22,15 @@ pub enum Effect {
     Frees { number: u32 },
 }
 
-/// What a message does to the openings and the waiting reads of event files.
+/// What a message does to the openings and the waiting reads of event files and ports.
 #[derive(Clone, Copy, Debug, PartialEq, Eq)]
 pub enum EventChange {
     /// Nothing.
     Nothing,
     /// The event file of this window gets an opening more.
     Opens { window: u32 },
+    /// The port of this number gets an opening more.
+    Joins { port: u32 },
     /// The read of the connection that has this tag waits no more.
     Cancels { tag: u16 },
 }
@@ -41,6 +43,8 @@ pub enum Answer {
     /// By what is there for this opening of an event file, at most `count` bytes of it: at once, or once something is there. The read is
     /// one of this fid.
     Reads { fid: u32, opening: u32, count: u32 },
+    /// The same, for this opening of a port.
+    ReadsPort { fid: u32, opening: u32, count: u32 },
 }
 
 /// What a message asks of the scene beyond changes of the windows.
@@ -52,9 +56,17 @@ pub enum Demand {
     Controls { window: u32, text: Bytes },
     /// The item of this window that the text names is written back.
     WriteBack { window: u32, text: Bytes },
+    /// The rules of the plumber are forgotten.
+    ClearsRules,
+    /// The sets of rules that are whole in this text are added; the fid that is put holds what is left of it.
+    AddsRules { text: Bytes },
+    /// This text is added as rules, all of it.
+    AddsRest { text: Bytes },
+    /// The plumb messages that are whole in this text are sent; the fid that is put holds what is left of it.
+    Sends { text: Bytes },
 }
 
-/// What a message does: to its connection, to event files, and to the windows; what it asks of the scene besides; and its answer, which
+/// What a message does: to its connection, to event files and ports, and to the windows; what it asks of the scene besides; and its answer, which
 /// is given where what it asks isn't refused.
 #[derive(Drop)]
 pub struct Reaction {
@@ -66,7 +78,7 @@ pub struct Reaction {
 }
 
 impl Reaction {
-    /// What a message does that has nothing to do with event files, and is answered at once.
+    /// What a message does that has nothing to do with event files and ports, and is answered at once.
     pub fn plain(effect: Effect, changes: Changes, body: RBody) -> Reaction
         ensures { result ≡ does effect changes body }
     {
@@ -75,6 +87,19 @@ impl Reaction {
             events: EventChange::Nothing,
             changes,
             demand: Demand::Nothing,
+            answer: Answer::Says(body),
+        }
+    }
+
+    /// What a message does that frees a fid, asks this of the scene, and is answered at once.
+    pub fn freeing(alloc: Global, number: u32, demand: Demand, body: RBody) -> Reaction
+        ensures { result ≡ frees number demand body }
+    {
+        Reaction {
+            effect: Effect::Frees { number },
+            events: EventChange::Nothing,
+            changes: Items::new(alloc),
+            demand,
             answer: Answer::Says(body),
         }
     }

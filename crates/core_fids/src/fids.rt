@@ -3,12 +3,12 @@
 ghost use Rattle.std.specs.Prelude.{◌≡◌, ◌+◌, ◌≤◌, IfOk, length};
 ghost use Rattle.am_text.specs.Part.{part_bytes};
 ghost use Rattle.core_fids.specs.Servers.{tables_in};
-ghost use Rattle.core_fids.specs.Fids.{is_used, fids_full, fresh, is_open, is_for_reading, is_for_writing, opened, holding, placed};
+ghost use Rattle.core_fids.specs.Fids.{is_used, fids_full, fresh, is_open, is_for_reading, is_for_writing, event_opening, port_opening, opened, holding, held_with, emptied, is_rules, holds_rules, placed};
 
 use crate::directory::DirPart;
 use crate::server::Server;
-use acme_tree::Node;
-use am_text::{Items, NoMemory, Part};
+use acme_tree::{Node, WinFile};
+use am_text::{Bytes, Items, NoMemory, Part};
 use fid_table::Fid;
 use std::alloc::Global;
 
@@ -68,6 +68,42 @@ pub fn is_for_writing(mode: u8) -> bool
     mode & 3 != 0
 }
 
+fn is_rules(node: Node) -> bool
+    ensures { result ≡ is_rules node }
+{
+    match node {
+        Node::Rules => true,
+        _ => false,
+    }
+}
+
+/// The opening of an event file that the fid is.
+pub fn event_opening(fid: &Fid) -> Option<u32>
+    ensures { result ≡ event_opening fid.now }
+{
+    match fid.node {
+        Node::File(_, WinFile::Event) => fid.opening,
+        _ => None,
+    }
+}
+
+/// The opening of a port that the fid is.
+pub fn port_opening(fid: &Fid) -> Option<u32>
+    ensures { result ≡ port_opening fid.now }
+{
+    match fid.node {
+        Node::Port(_) => fid.opening,
+        _ => None,
+    }
+}
+
+/// Whether the fid is one of `rules`, and what was written to it last isn't added yet.
+pub(crate) fn holds_rules(fid: &Fid) -> bool
+    ensures { result ≡ holds_rules fid.now }
+{
+    is_rules(fid.node) && !fid.held.is_empty()
+}
+
 /// A fid that is equal.
 pub fn copy(alloc: Global, fid: &Fid) -> Result<Fid, NoMemory>
     ensures { IfOk result (λ f. f ≡ fid.now) }
@@ -83,7 +119,7 @@ pub fn copy(alloc: Global, fid: &Fid) -> Result<Fid, NoMemory>
     })
 }
 
-/// The fid, opened with a mode, and with the number of its opening of an event file, where it is one.
+/// The fid, opened with a mode, and with the number of its opening of an event file or of a port, where it is one.
 pub(crate) fn opened(
     alloc: Global,
     fid: &Fid,
@@ -107,6 +143,30 @@ pub fn holding(alloc: Global, fid: &Fid, part: Part) -> Result<Fid, NoMemory>
         part,
         ..copy(alloc, fid)?
     })
+}
+
+/// What the fid holds, with these bytes behind it.
+pub fn held_with(alloc: Global, fid: &Fid, bytes: &[u8]) -> Result<Bytes, NoMemory>
+    ensures { IfOk result (λ text. text ≡ held_with fid.now bytes.now) }
+{
+    let mut text = Items::copied(alloc, fid.held.as_slice())?;
+    text.append(bytes)?;
+    Ok(text)
+}
+
+/// The fid that holds nothing.
+pub fn emptied(alloc: Global, fid: &Fid) -> Fid
+    ensures { result ≡ emptied fid.now }
+{
+    Fid {
+        node: fid.node,
+        mode: fid.mode,
+        opening: fid.opening,
+        given: fid.given,
+        skip: fid.skip,
+        part: fid.part,
+        held: Items::new(alloc),
+    }
 }
 
 /// The fid after a read of its directory at an offset, behind `skip` records, which gave this part.

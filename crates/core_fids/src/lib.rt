@@ -16,13 +16,18 @@ mod walking;
 pub use am_text::{Bytes, Items, NoMemory};
 pub use attaching::{attach, version};
 pub use content::{Content, content_of};
+pub use core_stores::RuleStore;
 pub use core_windows::{Change, Changes, Windows};
 pub use effect::{Answer, Demand, Effect, EventChange, Reaction};
-pub use fids::{at_most_three, copy, holding, is_for_reading, is_for_writing};
+pub use fids::{
+    at_most_three, copy, emptied, event_opening, held_with, holding, is_for_reading,
+    is_for_writing, port_opening,
+};
 pub use freeing::{clunk, deny, remove};
 pub use listing::{Reading, read_dir, stat};
 pub use ninep_types::RBody;
 pub use opening::open;
+pub use plumb_ports::Ports;
 pub use refusal::{Fault, Refusal, error, refuse};
-pub use server::Server;
+pub use server::{Server, port_names};
 pub use walking::walk;

@@ -1,9 +1,8 @@
 //! Directory reads, after read(5), and stat(5).
 
-ghost use Rattle.std.specs.Prelude.{◌≡◌, ◌+◌, ◌<◌, ◌≤◌, ◌^◌, IfOk, IfErr, Ok, true, length};
+ghost use Rattle.std.specs.Prelude.{◌≡◌, ◌+◌, ◌<◌, ◌≤◌, ◌^◌, IfOk, IfErr, Ok, length};
 ghost use Rattle.fid_table.specs.Tables.{fid_of};
-ghost use Rattle.acme_tree.specs.Trees.{is_live};
-ghost use Rattle.core_fids.specs.Servers.{tables_in, windows_in, world_in};
+ghost use Rattle.core_fids.specs.Servers.{plumber_in, tables_in, windows_in, world_in};
 ghost use Rattle.core_fids.specs.Refusals.{Gives};
 ghost use Rattle.core_fids.specs.Done.{IsDone};
 ghost use Rattle.core_fids.specs.Directories.{place_at, read_dir, stat_fid};
@@ -12,7 +11,7 @@ use crate::directory::dir_part;
 use crate::effect::{Effect, Reaction};
 use crate::fids::placed;
 use crate::refusal::{Fault, Refusal};
-use crate::server::Server;
+use crate::server::{Server, port_names};
 use acme_tree::{is_live, stat_of};
 use am_text::Items;
 use fid_table::Fid;
@@ -42,19 +41,24 @@ fn place_at(fid: &Fid, offset: u64) -> Option<usize>
 }
 
 /// What a read of a directory does.
-#[tactic(auto, using(crate::proofs::Named::naming))]
 pub fn read_dir(alloc: Global, server: &Server, reading: &Reading) -> Result<Reaction, Fault>
-    requires live { is_live (world_in server.now) reading.now.fid.now.node ≡ true }
-    requires small { reading.now.count + 11 < 2 ^ 32 }
-    ensures exact { IfOk result (λ d. read_dir (world_in server.now) reading.now.number reading.now.fid.now reading.now.offset reading.now.count (place_at reading.now.fid.now reading.now.offset) ≡ Ok d) }
-    ensures refused { IfErr result (λ e. Gives e (read_dir (world_in server.now) reading.now.number reading.now.fid.now reading.now.offset reading.now.count (place_at reading.now.fid.now reading.now.offset))) }
+    requires { reading.now.count + 11 < 2 ^ 32 }
+    ensures exact { IfOk result (λ d. read_dir (world_in server.now) (plumber_in server.now).names reading.now.number reading.now.fid.now reading.now.offset reading.now.count (place_at reading.now.fid.now reading.now.offset) ≡ Ok d) }
+    ensures refused { IfErr result (λ e. Gives e (read_dir (world_in server.now) (plumber_in server.now).names reading.now.number reading.now.fid.now reading.now.offset reading.now.count (place_at reading.now.fid.now reading.now.offset))) }
     ensures done { IfOk result (IsDone (windows_in server.now)) }
 {
     let fid = reading.fid;
     let Some(skip) = place_at(fid, reading.offset) else {
         return Err(Fault::Refused(Refusal::BadDirectoryOffset));
     };
-    let part = dir_part(alloc, server.windows.world(), fid.node, skip, reading.count)?;
+    let part = dir_part(
+        alloc,
+        server.windows.world(),
+        port_names(server),
+        fid.node,
+        skip,
+        reading.count,
+    )?;
     Ok(Reaction::plain(
         Effect::Puts {
             number: reading.number,
@@ -66,20 +70,20 @@ pub fn read_dir(alloc: Global, server: &Server, reading: &Reading) -> Result<Rea
 }
 
 /// What a Tstat does.
-#[tactic(auto, using(crate::proofs::Answers::sent, crate::proofs::Named::naming))]
+#[tactic(auto, using(crate::proofs::Answers::sent))]
 pub fn stat(alloc: Global, server: &Server, number: u32) -> Result<Reaction, Fault>
-    ensures exact { IfOk result (λ d. stat_fid (world_in server.now) (fid_of (tables_in server.now) server.now.conn number) ≡ Ok d) }
-    ensures refused { IfErr result (λ e. Gives e (stat_fid (world_in server.now) (fid_of (tables_in server.now) server.now.conn number))) }
+    ensures exact { IfOk result (λ d. stat_fid (world_in server.now) (plumber_in server.now).names (fid_of (tables_in server.now) server.now.conn number) ≡ Ok d) }
+    ensures refused { IfErr result (λ e. Gives e (stat_fid (world_in server.now) (plumber_in server.now).names (fid_of (tables_in server.now) server.now.conn number))) }
     ensures done { IfOk result (IsDone (windows_in server.now)) }
 {
     let Some(fid) = server.sessions.fid(server.conn, number) else {
         return Err(Fault::Refused(Refusal::UnknownFid));
     };
-    let world = server.windows.world();
-    if !is_live(world, fid.node) {
+    let ports = port_names(server);
+    if !is_live(server.windows.world(), ports, fid.node) {
         return Err(Fault::Refused(Refusal::WindowDeleted));
     }
-    let stat = stat_of(alloc, world, fid.node)?;
+    let stat = stat_of(alloc, ports, fid.node)?;
     Ok(Reaction::plain(
         Effect::Nothing,
         Items::new(alloc),

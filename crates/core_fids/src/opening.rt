@@ -5,17 +5,17 @@ ghost use Rattle.std.specs.List.{list_any};
 ghost use Rattle.std.specs.Option.{option_map};
 ghost use Rattle.std.specs.Prelude.{slice_get};
 ghost use Rattle.fid_table.specs.Tables.{fids_of};
-ghost use Rattle.core_fids.specs.Servers.{tables_in, windows_in, world_in};
+ghost use Rattle.core_fids.specs.Servers.{plumber_in, tables_in, windows_in, world_in};
 ghost use Rattle.core_fids.specs.Refusals.{Gives};
 ghost use Rattle.core_fids.specs.Done.{IsDone};
-ghost use Rattle.core_fids.specs.Opening.{mode_refusal, opening_refusal, content_refusal, opening_events, opening_of, first_refusal, open_refusal, is_file_of, has_open, or_false, open_below, sets_first, clears_limit, resets_addr, opening_changes, open_reaction};
+ghost use Rattle.core_fids.specs.Opening.{mode_refusal, opening_refusal, content_refusal, opening_events, opening_of, first_refusal, open_refusal, is_file_of, has_open, or_false, open_below, sets_first, clears_limit, resets_addr, opening_changes, opening_demand, open_reaction};
 
 use crate::content::{Content, content_of};
 use crate::effect::{Answer, Demand, Effect, EventChange, Reaction};
 use crate::fids::{is_open, opened};
 use crate::refusal::{Fault, Refusal};
-use crate::server::Server;
-use acme_tree::{May, Node, WinFile, World, is_live, may_open, qid_of};
+use crate::server::{Server, port_names};
+use acme_tree::{May, Node, WinFile, is_live, may_open, qid_of, truncates};
 use am_text::{Items, NoMemory, Range};
 use core_windows::{Change, Changes, Setting};
 use fid_table::{Fid, Sessions};
@@ -25,7 +25,7 @@ use std::alloc::Global;
 /// How many connections there are.
 const CONNS: u32 = 64;
 
-/// The most openings of event files that are ever made.
+/// The most openings of event files that are ever made, and the most of ports.
 const OPENINGS: usize = 4294967295;
 
 fn mode_refusal(may: May) -> Option<Refusal>
@@ -38,7 +38,7 @@ fn mode_refusal(may: May) -> Option<Refusal>
     }
 }
 
-// Why no more openings of event files can be made.
+// Why no more openings can be made, of which there were so many.
 fn opening_refusal(openings: usize) -> Option<Refusal>
     ensures { result ≡ opening_refusal openings }
 {
@@ -49,8 +49,8 @@ fn opening_refusal(openings: usize) -> Option<Refusal>
     }
 }
 
-fn content_refusal(openings: usize, content: Content) -> Option<Refusal>
-    ensures { result ≡ content_refusal openings content }
+fn content_refusal(server: &Server, content: Content) -> Option<Refusal>
+    ensures { result ≡ content_refusal (plumber_in server.now) server.now.openings content }
 {
     match content {
         Content::Directory => None,
@@ -64,8 +64,10 @@ fn content_refusal(openings: usize, content: Content) -> Option<Refusal>
         Content::ErrorsOf(_) => None,
         Content::ConsErrors => None,
         Content::Empty => None,
-        Content::EventsOf(_) => opening_refusal(openings),
-        Content::Unserved => Some(Refusal::NotServedYet),
+        Content::SendText => None,
+        Content::RulesText => None,
+        Content::EventsOf(_) => opening_refusal(server.openings),
+        Content::PortOf(_) => opening_refusal(server.ports.joined() as usize),
     }
 }
 
@@ -78,18 +80,18 @@ fn first_refusal(first: Option<Refusal>, later: Option<Refusal>) -> Option<Refus
     }
 }
 
-fn open_refusal(world: &World, openings: usize, fid: &Fid, mode: u8) -> Option<Refusal>
-    ensures { result ≡ open_refusal world.now openings fid.now mode }
+fn open_refusal(server: &Server, fid: &Fid, mode: u8) -> Option<Refusal>
+    ensures { result ≡ open_refusal (world_in server.now) (plumber_in server.now) server.now.openings fid.now mode }
 {
     let node = fid.node;
-    if !is_live(world, node) {
+    if !is_live(server.windows.world(), port_names(server), node) {
         Some(Refusal::WindowDeleted)
     } else if is_open(fid) {
         Some(Refusal::FidIsOpen)
     } else {
         first_refusal(
             mode_refusal(may_open(node, mode)),
-            content_refusal(openings, content_of(node)),
+            content_refusal(server, content_of(node)),
         )
     }
 }
@@ -201,7 +203,9 @@ fn opening_changes(
         Content::ConsErrors => Ok(Items::new(alloc)),
         Content::Empty => Ok(Items::new(alloc)),
         Content::EventsOf(_) => Ok(Items::new(alloc)),
-        Content::Unserved => Ok(Items::new(alloc)),
+        Content::SendText => Ok(Items::new(alloc)),
+        Content::RulesText => Ok(Items::new(alloc)),
+        Content::PortOf(_) => Ok(Items::new(alloc)),
     }
 }
 
@@ -210,6 +214,7 @@ fn opening_events(content: Content) -> EventChange
 {
     match content {
         Content::EventsOf(window) => EventChange::Opens { window },
+        Content::PortOf(port) => EventChange::Joins { port },
         Content::Directory => EventChange::Nothing,
         Content::BodyText(_) => EventChange::Nothing,
         Content::TagText(_) => EventChange::Nothing,
@@ -221,17 +226,19 @@ fn opening_events(content: Content) -> EventChange
         Content::ErrorsOf(_) => EventChange::Nothing,
         Content::ConsErrors => EventChange::Nothing,
         Content::Empty => EventChange::Nothing,
-        Content::Unserved => EventChange::Nothing,
+        Content::SendText => EventChange::Nothing,
+        Content::RulesText => EventChange::Nothing,
     }
 }
 
 // The number of the opening that an open of this makes.
-fn opening_of(openings: usize, content: Content) -> Option<u32>
-    requires { content_refusal openings content ≡ None }
-    ensures { result ≡ opening_of openings content }
+fn opening_of(server: &Server, content: Content) -> Option<u32>
+    requires { content_refusal (plumber_in server.now) server.now.openings content ≡ None }
+    ensures { result ≡ opening_of (plumber_in server.now) server.now.openings content }
 {
     match content {
-        Content::EventsOf(_) => Some(openings as u32 + 1),
+        Content::EventsOf(_) => Some(server.openings as u32 + 1),
+        Content::PortOf(_) => Some(server.ports.joined() + 1),
         Content::Directory => None,
         Content::BodyText(_) => None,
         Content::TagText(_) => None,
@@ -243,32 +250,42 @@ fn opening_of(openings: usize, content: Content) -> Option<u32>
         Content::ErrorsOf(_) => None,
         Content::ConsErrors => None,
         Content::Empty => None,
-        Content::Unserved => None,
+        Content::SendText => None,
+        Content::RulesText => None,
+    }
+}
+
+// What an open that empties the file, or doesn't, asks of the scene.
+fn opening_demand(empties: bool, content: Content) -> Demand
+    ensures { result ≡ opening_demand empties content }
+{
+    match content {
+        Content::RulesText if empties => Demand::ClearsRules,
+        _ => Demand::Nothing,
     }
 }
 
 /// What a Topen does.
-#[tactic(auto, using(crate::proofs::Openings::opening))]
 pub fn open(alloc: Global, server: &Server, number: u32, mode: u8) -> Result<Reaction, Fault>
-    ensures exact { IfOk result (λ d. open_reaction (tables_in server.now) (world_in server.now) server.now.openings server.now.conn number mode ≡ Ok d) }
-    ensures refused { IfErr result (λ e. Gives e (open_reaction (tables_in server.now) (world_in server.now) server.now.openings server.now.conn number mode)) }
+    ensures exact { IfOk result (λ d. open_reaction (tables_in server.now) (world_in server.now) (plumber_in server.now) server.now.openings server.now.conn number mode ≡ Ok d) }
+    ensures refused { IfErr result (λ e. Gives e (open_reaction (tables_in server.now) (world_in server.now) (plumber_in server.now) server.now.openings server.now.conn number mode)) }
     ensures done { IfOk result (IsDone (windows_in server.now)) }
 {
     let Some(fid) = server.sessions.fid(server.conn, number) else {
         return Err(Fault::Refused(Refusal::UnknownFid));
     };
-    if let Some(refusal) = open_refusal(server.windows.world(), server.openings, fid, mode) {
+    if let Some(refusal) = open_refusal(server, fid, mode) {
         return Err(Fault::Refused(refusal));
     }
     let content = content_of(fid.node);
     Ok(Reaction {
         effect: Effect::Puts {
             number,
-            fid: opened(alloc, fid, mode, opening_of(server.openings, content))?,
+            fid: opened(alloc, fid, mode, opening_of(server, content))?,
         },
         events: opening_events(content),
         changes: opening_changes(alloc, server.sessions, content)?,
-        demand: Demand::Nothing,
+        demand: opening_demand(truncates(mode), content),
         answer: Answer::Says(RBody::Open {
             qid: qid_of(fid.node),
             iounit: 0,

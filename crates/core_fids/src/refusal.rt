@@ -41,7 +41,7 @@ pub enum Refusal {
     FileNotFound,
     /// No more windows can be made.
     TooManyWindows,
-    /// No more openings of event files can be made.
+    /// No more openings of event files, or of ports, can be made.
     TooManyOpenings,
     /// The mode has bits that mean nothing.
     BadOpenMode,
@@ -79,8 +79,20 @@ pub enum Refusal {
     NoSuchEvent,
     /// The item that fits what is written back was written back before.
     EventAlreadyWrittenBack,
-    /// What isn't built yet.
-    NotServedYet,
+    /// What is written to `send` is no plumb message.
+    BadPlumbMessage,
+    /// No set of rules takes the message, and it names no port.
+    NoMatchingRule,
+    /// The port of the message has no opening, or there is no such port.
+    PortNotOpen,
+    /// The port keeps as many messages as it may.
+    PortQueueFull,
+    /// What is written to `rules` has a line that is no rule, or a set that is none.
+    BadRule,
+    /// An expression of a rule has more than 2,048 nodes.
+    BadExpressionSize,
+    /// There would be more than 65,536 ports, or more than 262,144 bytes of rules.
+    TooManyRules,
 }
 
 /// Why a message isn't done.
@@ -138,7 +150,13 @@ pub(crate) fn refusal_text(refusal: Refusal) -> &'static [u8]
         Refusal::BadEvent => b"bad event",
         Refusal::NoSuchEvent => b"no such event",
         Refusal::EventAlreadyWrittenBack => b"event already written back",
-        Refusal::NotServedYet => b"not served yet",
+        Refusal::BadPlumbMessage => b"bad plumb message",
+        Refusal::NoMatchingRule => b"no matching rule",
+        Refusal::PortNotOpen => b"port not open",
+        Refusal::PortQueueFull => b"port queue full",
+        Refusal::BadRule => b"bad rule",
+        Refusal::BadExpressionSize => b"bad regular expression size",
+        Refusal::TooManyRules => b"too many rules",
     }
 }
 

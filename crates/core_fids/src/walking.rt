@@ -2,7 +2,7 @@
 
 ghost use Rattle.std.specs.Prelude.{◌≡◌, ◌≤◌, [], length, IfOk, IfErr, Ok, Err, ◌∷◌};
 ghost use Rattle.core_fids.specs.Refusals.{Gives};
-ghost use Rattle.core_fids.specs.Servers.{tables_in, windows_in, world_in};
+ghost use Rattle.core_fids.specs.Servers.{plumber_in, tables_in, windows_in, world_in};
 ghost use Rattle.core_windows.specs.declared.change.Change.TheVariants as Change;
 ghost use Rattle.core_fids.specs.Done.{IsDone, MayEnd};
 ghost use Rattle.core_fids.specs.Walking.{trail, new_refusal, walk_refusal, arrives, walk_from, walk_reaction};
@@ -10,7 +10,7 @@ ghost use Rattle.core_fids.specs.Walking.{trail, new_refusal, walk_refusal, arri
 use crate::effect::{Effect, Reaction};
 use crate::fids::{NOFID, fids_full, fresh, is_open, is_used};
 use crate::refusal::{Fault, Refusal};
-use crate::server::Server;
+use crate::server::{Server, port_names};
 use acme_tree::{Node, Step, WinFile, World, qid_of, walk_one};
 use am_text::{Bytes, Items, NoMemory};
 use core_windows::{Change, Changes};
@@ -36,10 +36,16 @@ pub struct Trail {
     pub end: WalkEnd,
 }
 
-/// Where the names lead from a node.
+/// Where the names lead from a node, where the ports have these names.
 #[tactic(auto, unfolding(crate::specs::Walking::trail), using(crate::proofs::Trails::trails))]
-fn trail_of(alloc: Global, world: &World, from: Node, names: &[Bytes]) -> Result<Trail, NoMemory>
-    ensures exact { IfOk result (λ t. t ≡ trail world.now from names.now) }
+fn trail_of(
+    alloc: Global,
+    world: &World,
+    ports: &[Bytes],
+    from: Node,
+    names: &[Bytes],
+) -> Result<Trail, NoMemory>
+    ensures exact { IfOk result (λ t. t ≡ trail world.now ports.now from names.now) }
     ensures few { IfOk result (λ t. length t.qids ≤ length names.now) }
     ensures may { IfOk result (λ t. MayEnd world.now t.end) }
 {
@@ -47,7 +53,7 @@ fn trail_of(alloc: Global, world: &World, from: Node, names: &[Bytes]) -> Result
     let mut node = from;
     let mut rest = names;
     while let [name, after @ ..] = rest {
-        let end = match walk_one(world, node, name.as_slice(), after.is_empty()) {
+        let end = match walk_one(world, ports, node, name.as_slice(), after.is_empty()) {
             Step::Found(found) => {
                 qids.push(qid_of(found))?;
                 node = found;
@@ -152,8 +158,8 @@ pub fn walk(
     names: &[Bytes],
 ) -> Result<Reaction, Fault>
     requires { length names.now ≤ 16 }
-    ensures exact { IfOk result (λ d. walk_reaction (tables_in server.now) (world_in server.now) server.now.conn number newfid names.now ≡ Ok d) }
-    ensures refused { IfErr result (λ e. Gives e (walk_reaction (tables_in server.now) (world_in server.now) server.now.conn number newfid names.now)) }
+    ensures exact { IfOk result (λ d. walk_reaction (tables_in server.now) (world_in server.now) (plumber_in server.now).names server.now.conn number newfid names.now ≡ Ok d) }
+    ensures refused { IfErr result (λ e. Gives e (walk_reaction (tables_in server.now) (world_in server.now) (plumber_in server.now).names server.now.conn number newfid names.now)) }
     ensures done { IfOk result (IsDone (windows_in server.now)) }
 {
     let Some(fid) = server.sessions.fid(server.conn, number) else {
@@ -162,6 +168,7 @@ pub fn walk(
     if let Some(refusal) = walk_refusal(server, number, newfid, fid) {
         return Err(Fault::Refused(refusal));
     }
-    let trail = trail_of(alloc, server.windows.world(), fid.node, names)?;
+    let ports = port_names(server);
+    let trail = trail_of(alloc, server.windows.world(), ports, fid.node, names)?;
     arrive(alloc, server, newfid, trail)
 }

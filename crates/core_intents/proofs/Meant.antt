@@ -50,6 +50,10 @@ demand_can : (e : Entry) (s : SceneState) (book : BookState) (cs : List Change) 
 demand_can e s book cs demand.Nothing can own = can e.at
 demand_can e s book cs (demand.Controls w text) can own = own
 demand_can e s book cs (demand.WriteBack w text) can own = back_can e s book w (back_of text) own
+demand_can e s book cs demand.ClearsRules can own = tt
+demand_can e s book cs (demand.AddsRules text) can own = tt
+demand_can e s book cs (demand.AddsRest text) can own = tt
+demand_can e s book cs (demand.Sends text) can own = tt
 
 -- what a message does can be done, by the windows as they stand
 pub message_can : (s : Present) (ws : List (Option Window)) (book : BookState) (d : Reaction) (o : Origin) (t : Task) → t ≡ demanded_task book d.changes d.demand → ws ≡ s.scene.windows

@@ -22,11 +22,11 @@ use Rattle.core_events.specs.declared.closing.BackItem.{BackItem}
 use Rattle.core_scene.specs.declared.deed.Deed.{Deed}
 use Rattle.core_scene.specs.declared.deed.Entry.{Entry}
 use Rattle.core_scene.specs.Scenes.{CanDoAll}
-use Rattle.core_tasks.specs.Tasks.{task_deeds, task_refusal, CanDoTask}
+use Rattle.core_tasks.specs.Tasks.{task_deeds, task_refusal, task_held, CanDoTask}
 use Rattle.core_intents.specs.declared.intent.Intent.{Intent}
 use Rattle.core_intents.specs.Connections.{connection_at}
 use Rattle.core_intents.specs.Enabled.{dial_refusal, live_refusal, msg_refusal, took_refusal, new_refusal, tree_refusal}
-use Rattle.core_intents.specs.Intents.{answer_or, message_intent, intent_of}
+use Rattle.core_intents.specs.Intents.{answer_or, with_held, message_intent, intent_of}
 use Rattle.core_intents.specs.Spots.{spot_refusal, arg_refusal}
 use Rattle.core_intents.specs.States.{Present, unsent_count, next_entry}
 use Rattle.core_intents.specs.Typing.{key_refusal, sel_refusal}
@@ -59,7 +59,7 @@ enabled_at s (event.Dir path) = tree_refusal (directory_clashes s.scene.files pa
 
 -- ---- what it does
 
--- To the fids and the session of its connection, to event files, and by deeds to the scene; what the items come from that it makes; how
+-- To the fids and the session of its connection, to event files and ports, and by deeds to the scene; what the items come from that it makes; how
 -- its message is answered, where it is one; and the item that it writes back.
 pub record Doing : Type 0 where
   pub effect : Effect
@@ -73,10 +73,10 @@ pub record Doing : Type 0 where
 abbrev pub entry_by : Present → Origin → Entry
 entry_by s origin = record { at = next_entry s; origin = origin }
 
--- what is to be done, over the scene as it stands: where its task is refused, that is answered
+-- what is to be done, over the scene as it stands: where its task is refused, that is answered, and what it leaves to be held is
 abbrev pub resolved : Present → Intent → Doing
 resolved s i = record {
-  effect = i.effect;
+  effect = with_held i.effect (task_held (entry_by s i.origin) i.task s.scene);
   events = i.events;
   deeds = task_deeds (entry_by s i.origin) i.task s.scene;
   origin = i.origin;

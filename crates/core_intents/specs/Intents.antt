@@ -1,5 +1,5 @@
 -- What an event is to do, as the editor stands: its task isn't yet told by the deeds that it comes to.
-use Rattle.std.specs.Prelude.{ℕ, List, [], ◌∷◌, length, Option, Some, None, Result, Ok, Err}
+use Rattle.std.specs.Prelude.{ℕ, Bool, true, false, List, [], ◌∷◌, length, Option, Some, None, Result, Ok, Err, if◌then◌else◌}
 use Rattle.am_text.specs.Utf8.{utf8}
 use Rattle.ninep_types.specs.declared.message.TMsg.{TMsg}
 use Rattle.ninep_types.specs.declared.message.RBody.TheVariants as r
@@ -15,6 +15,7 @@ use Rattle.am_journal.specs.declared.event.Event.TheVariants as event
 use Rattle.core_windows.specs.declared.change.Change.{Change}
 use Rattle.core_windows.specs.declared.change.Change.TheVariants as change
 use Rattle.core_windows.specs.Windows.{window_at}
+use Rattle.core_fids.specs.declared.effect.Effect.{Effect}
 use Rattle.core_fids.specs.declared.effect.Effect.TheVariants as effect
 use Rattle.core_fids.specs.declared.effect.EventChange.TheVariants as events
 use Rattle.core_fids.specs.declared.effect.Demand.{Demand}
@@ -24,6 +25,7 @@ use Rattle.core_fids.specs.declared.effect.Answer.TheVariants.{Says}
 use Rattle.core_fids.specs.declared.effect.Reaction.{Reaction}
 use Rattle.core_fids.specs.declared.refusal.Refusal.{Refusal}
 use Rattle.core_fids.specs.declared.refusal.Refusal.TheVariants as refusal
+use Rattle.core_fids.specs.Plumbers.{plumber_of}
 use Rattle.core_fids.specs.Refusals.{refusal_text}
 use Rattle.core_answers.specs.Reactions.{reaction}
 use Rattle.core_events.specs.declared.closing.BackItem.{BackItem}
@@ -36,15 +38,32 @@ use Rattle.core_intents.specs.Typing.{key_changes, sel_changes}
 
 -- ---- answers
 
--- a refusal is answered by its text
+abbrev pub is_refusal : Answer → Bool
+is_refusal (Says (r.Error text)) = true
+is_refusal answer = false
+
+-- a refusal is answered by its text, unless another one is answered already
 abbrev pub or_refused : Option Refusal → Answer → Answer
 or_refused None answer = answer
-or_refused (Some refusal) answer = Says (r.Error (refusal_text refusal))
+or_refused (Some refusal) answer = if is_refusal answer then answer else Says (r.Error (refusal_text refusal))
 
 -- where there is a message to answer
 abbrev pub answer_or : Option Refusal → Option Answer → Option Answer
 answer_or refusal None = None
 answer_or refusal (Some answer) = Some (or_refused refusal answer)
+
+-- ---- what a fid holds
+
+abbrev pub held_or : List ℕ → Option (List ℕ) → List ℕ
+held_or text None = text
+held_or text (Some new) = new
+
+-- the fid that a message puts holds this text, where there is one
+abbrev pub with_held : Effect → Option (List ℕ) → Effect
+with_held effect.Nothing held = effect.Nothing
+with_held (effect.Begins msize) held = effect.Begins msize
+with_held (effect.Puts number fid) held = effect.Puts number (record fid { held = held_or fid.held held })
+with_held (effect.Frees number) held = effect.Frees number
 
 -- ---- an item that is written back
 
@@ -84,21 +103,33 @@ abbrev pub demanded_task : BookState → List Change → Demand → Task
 demanded_task book changes demand.Nothing = task.Changes changes
 demanded_task book changes (demand.Controls w text) = task.Controls w text
 demanded_task book changes (demand.WriteBack w text) = back_task (item_of_text book w text)
+demanded_task book changes demand.ClearsRules = task.ClearsRules
+demanded_task book changes (demand.AddsRules text) = task.AddsRules text
+demanded_task book changes (demand.AddsRest text) = task.AddsRest text
+demanded_task book changes (demand.Sends text) = task.Sends text
 
 -- the item that it writes back
 abbrev pub demanded_item : BookState → Demand → Option BackItem
 demanded_item book demand.Nothing = None
 demanded_item book (demand.Controls w text) = None
 demanded_item book (demand.WriteBack w text) = item_if_any (item_of_text book w text)
+demanded_item book demand.ClearsRules = None
+demanded_item book (demand.AddsRules text) = None
+demanded_item book (demand.AddsRest text) = None
+demanded_item book (demand.Sends text) = None
 
 abbrev pub demand_refusal : BookState → Demand → Option Refusal
 demand_refusal book demand.Nothing = None
 demand_refusal book (demand.Controls w text) = None
 demand_refusal book (demand.WriteBack w text) = refusal_if_any (item_of_text book w text)
+demand_refusal book demand.ClearsRules = None
+demand_refusal book (demand.AddsRules text) = None
+demand_refusal book (demand.AddsRest text) = None
+demand_refusal book (demand.Sends text) = None
 
 -- what a message does here
 abbrev pub reaction_at : Present → ℕ → TMsg → Reaction
-reaction_at s conn msg = reaction s.tables s.scene.windows (length s.scene.book.owners) conn msg.body
+reaction_at s conn msg = reaction s.tables s.scene.windows (plumber_of s.scene.rules s.scene.ports) (length s.scene.book.owners) conn msg.body
 
 abbrev pub message_intent : BookState → Reaction → Origin → Intent
 message_intent book d origin = record {

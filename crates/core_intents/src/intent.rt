@@ -7,7 +7,7 @@ ghost use Rattle.am_journal.specs.Lawful.{IsLawful};
 ghost use Rattle.core_windows.specs.declared.change.Change.TheVariants as change;
 ghost use Rattle.core_fids.specs.Done.{HasSpelling};
 ghost use Rattle.core_intents.specs.Doings.{enabled_at, IsAnswerable, CanBeMeant};
-ghost use Rattle.core_intents.specs.Intents.{or_refused, answer_or, not_found, item_of_text, back_task, item_if_any, refusal_if_any, demanded_task, demanded_item, demand_refusal, reaction_at, message_intent, acting, nothing, intent_of};
+ghost use Rattle.core_intents.specs.Intents.{is_refusal, or_refused, answer_or, held_or, with_held, not_found, item_of_text, back_task, item_if_any, refusal_if_any, demanded_task, demanded_item, demand_refusal, reaction_at, message_intent, acting, nothing, intent_of};
 ghost use Rattle.core_intents.specs.Origins.{message_origin};
 ghost use Rattle.core_intents.specs.Parts.{present_of, AreSteady};
 
@@ -22,12 +22,14 @@ use core_fids::{Answer, Demand, Effect, EventChange, Reaction, Refusal, Server, 
 use core_scene::{Change, Changes};
 use core_tasks::Task;
 use event_book::{BackFault, Book};
-use ninep_types::TMsg;
+use fid_table::Fid;
+use ninep_types::{RBody, TMsg};
 use std::alloc::Global;
 use win_events::{Origin, read_back};
 
-/// What an event is to do: to the fids and the session of its connection, to event files, and by a task to the scene; what the items
-/// come from that it makes; how its message is answered, where it is one and its task isn't refused; and the item that it writes back.
+/// What an event is to do: to the fids and the session of its connection, to event files and ports, and by a task to the scene; what the
+/// items come from that it makes; how its message is answered, where it is one and its task isn't refused; and the item that it writes
+/// back.
 #[derive(Drop)]
 pub struct Intent {
     pub effect: Effect,
@@ -48,14 +50,24 @@ struct Demanded {
 
 // ---- answers
 
+fn is_refusal(answer: &Answer) -> bool
+    ensures { result ≡ is_refusal answer.now }
+{
+    match answer {
+        Answer::Says(RBody::Error { .. }) => true,
+        _ => false,
+    }
+}
+
 fn or_refused(alloc: Global, refusal: Option<Refusal>, answer: Answer) -> Result<Answer, NoMemory>
     requires { HasSpelling answer }
     ensures exact { IfOk result (λ a. a ≡ or_refused refusal answer) }
     ensures spelled { IfOk result HasSpelling }
 {
     match refusal {
+        Some(refusal) if !is_refusal(&answer) => Ok(Answer::Says(error(alloc, refusal)?)),
+        Some(_) => Ok(answer),
         None => Ok(answer),
-        Some(refusal) => Ok(Answer::Says(error(alloc, refusal)?)),
     }
 }
 
@@ -72,6 +84,32 @@ pub fn answer_or(
     match answer {
         None => Ok(None),
         Some(answer) => Ok(Some(or_refused(alloc, refusal, answer)?)),
+    }
+}
+
+// ---- what a fid holds
+
+fn holding(fid: Fid, held: Option<Bytes>) -> Fid
+    ensures { result ≡ record fid { held = held_or fid.held held } }
+{
+    match held {
+        None => fid,
+        Some(held) => Fid { held, ..fid },
+    }
+}
+
+/// The effect, where the fid that it puts holds this text, if there is one.
+pub fn with_held(effect: Effect, held: Option<Bytes>) -> Effect
+    ensures { result ≡ with_held effect held }
+{
+    match effect {
+        Effect::Puts { number, fid } => Effect::Puts {
+            number,
+            fid: holding(fid, held),
+        },
+        Effect::Nothing => Effect::Nothing,
+        Effect::Begins { msize } => Effect::Begins { msize },
+        Effect::Frees { number } => Effect::Frees { number },
     }
 }
 
@@ -121,6 +159,17 @@ fn by_item(alloc: Global, found: Result<BackItem, Refusal>) -> Demanded
 
 // ---- messages
 
+// A task alone.
+fn by_task(task: Task) -> Demanded
+    ensures { result ≡ record { task = task; back = None; refusal = None } }
+{
+    Demanded {
+        task,
+        back: None,
+        refusal: None,
+    }
+}
+
 // What a message does to the scene, which makes these changes, or asks for something else.
 fn by_demand(alloc: Global, book: &Book, changes: Changes, demand: Demand) -> Demanded
     ensures task { result.task ≡ demanded_task book.now.present changes demand }
@@ -128,19 +177,15 @@ fn by_demand(alloc: Global, book: &Book, changes: Changes, demand: Demand) -> De
     ensures refusal { result.refusal ≡ demand_refusal book.now.present demand }
 {
     match demand {
-        Demand::Nothing => Demanded {
-            task: Task::Changes(changes),
-            back: None,
-            refusal: None,
-        },
-        Demand::Controls { window, text } => Demanded {
-            task: Task::Controls { window, text },
-            back: None,
-            refusal: None,
-        },
+        Demand::Nothing => by_task(Task::Changes(changes)),
+        Demand::Controls { window, text } => by_task(Task::Controls { window, text }),
         Demand::WriteBack { window, text } => {
             by_item(alloc, item_of_text(book, window, text.as_slice()))
         }
+        Demand::ClearsRules => by_task(Task::ClearsRules),
+        Demand::AddsRules { text } => by_task(Task::AddsRules { text }),
+        Demand::AddsRest { text } => by_task(Task::AddsRest { text }),
+        Demand::Sends { text } => by_task(Task::Sends { text }),
     }
 }
 
@@ -155,6 +200,8 @@ fn message_intent(alloc: Global, parts: &Parts, conn: u32, msg: &TMsg) -> Result
     let server = Server {
         sessions: &parts.sessions,
         windows: &parts.scene.windows,
+        rules: &parts.scene.rules,
+        ports: &parts.scene.ports,
         openings: parts.scene.book.openings(),
         conn,
     };

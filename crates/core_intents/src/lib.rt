@@ -12,7 +12,7 @@ mod spot;
 mod typing;
 
 pub use connection::{Connection, connection_at, live_count};
-pub use intent::{Intent, answer_or, intent_of};
+pub use intent::{Intent, answer_or, intent_of, with_held};
 pub use kind::{Kind, conn_of, is_hang, kind_of};
 pub use limits::{CONNECTIONS, REPLIES};
 pub use parts::Parts;

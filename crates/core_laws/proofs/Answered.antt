@@ -1,5 +1,5 @@
 -- Each message is answered in its step, or is a read that waits.
-use Rattle.std.proofs.Common.{◌≡◌, inl, inr, ℕ, ◌+◌, ◌≤◌, Bool, true, false, cond, eqb, ◌&&◌, ◌||◌, List, [], ◌∷◌, ◌++◌, length, slice_index_or, Option, Some, None, All, refl, sym, ap, subst, ◌∙◌, append_assoc, append-nil, arith}
+use Rattle.std.proofs.Common.{◌≡◌, inl, inr, ℕ, ◌+◌, Bool, true, false, cond, eqb, ◌&&◌, ◌||◌, List, [], ◌∷◌, ◌++◌, length, slice_index_or, Option, Some, None, All, refl, sym, ap, subst, ◌∙◌, append_assoc, append-nil, arith}
 use Rattle.std.specs.List.{list_any}
 use Rattle.std.proofs.lemmas.Bool.Decides.{nat_tests}
 use Rattle.std.proofs.lemmas.List.Elements.{All-append}
@@ -12,7 +12,6 @@ use Rattle.ninep_types.specs.Spelling.{kind_t}
 use Rattle.fid_table.specs.declared.session.Waiting.{Waiting}
 use Rattle.fid_table.specs.Tables.{Tables, is_waiting}
 use Rattle.wait_queue.specs.Reads.{is_read}
-use Rattle.wait_queue.specs.declared.types.Asked.{Asked}
 use Rattle.wait_queue.specs.declared.types.Asked.TheVariants.{Now, Waits}
 use Rattle.wait_queue.specs.declared.types.Asker.{Asker}
 use Rattle.win_events.specs.declared.item.Origin.{Origin}
@@ -21,7 +20,7 @@ use Rattle.am_journal.specs.declared.event.Event.{Event}
 use Rattle.am_journal.specs.declared.event.Event.TheVariants as event
 use Rattle.am_counter.specs.Played.{ArePlayed, IsPlayed}
 use Rattle.core_fids.specs.declared.effect.Answer.{Answer}
-use Rattle.core_fids.specs.declared.effect.Answer.TheVariants.{Says, Reads}
+use Rattle.core_fids.specs.declared.effect.Answer.TheVariants.{Says, Reads, ReadsPort}
 use Rattle.core_fids.specs.declared.effect.Demand.{Demand}
 use Rattle.core_fids.specs.declared.effect.Demand.TheVariants as demand
 use Rattle.core_fids.specs.declared.effect.Effect.{Effect}
@@ -29,6 +28,7 @@ use Rattle.core_fids.specs.declared.effect.Effect.TheVariants as effect
 use Rattle.core_fids.specs.declared.effect.EventChange.{EventChange}
 use Rattle.core_fids.specs.declared.effect.EventChange.TheVariants as events
 use Rattle.core_fids.specs.declared.effect.Reaction.{Reaction}
+use Rattle.core_fids.specs.declared.refusal.Refusal.{Refusal}
 use Rattle.core_fids.specs.declared.refusal.Refusal.TheVariants as refusal
 use Rattle.core_fids.specs.Refusals.{refusal_text}
 use Rattle.core_windows.specs.declared.change.Change.{Change}
@@ -37,29 +37,36 @@ use Rattle.core_events.specs.declared.response.Response.{Response}
 use Rattle.core_events.specs.Asking.{opened, is_full, said_to, read_said, book_read, waits_unless}
 use Rattle.core_events.specs.Putting.{put_living}
 use Rattle.core_events.specs.Serving.{served_all}
-use Rattle.core_events.specs.Sound.{IsIdle}
+use Rattle.core_events.specs.Responses.{event_feed, port_feed}
+use Rattle.plumb_ports.specs.PortsState.{PortsState, read_waits as port_waits, piece_for as port_piece}
+use Rattle.core_ports.specs.Asking.{read_refusal, said_unless, port_said, ports_read}
+use Rattle.core_ports.specs.Serving.{ports_served}
+use Rattle.core_ports.specs.Sound.{ArePortsIdle}
+use Rattle.core_ports.proofs.Idles.{none_said, idle_read}
 use Rattle.core_events.specs.Waits.{clunked, deletions, ended}
 use Rattle.core_events.proofs.Idles.{AreIdle, read_idle, idle_for, idle_end}
 use Rattle.core_tasks.specs.Tasks.{task_deeds, task_refusal}
 use Rattle.core_intents.specs.declared.kind.Kind.TheVariants as kind
-use Rattle.core_intents.specs.Doings.{Doing, doing_of, message_doing}
+use Rattle.core_fids.specs.Plumbers.{plumber_of}
+use Rattle.core_intents.specs.Doings.{Doing, doing_of, entry_of, message_doing}
 use Rattle.core_intents.specs.Intents.{reaction_at}
-use Rattle.core_intents.specs.Kinds.{kind_of}
 use Rattle.acme_core.specs.Laws.{HasAnswer, EachIsAnswered}
 use Rattle.core_intents.specs.Origins.{message_origin}
 use Rattle.acme_core.specs.Run.{step, run, present_after, enabled}
-use Rattle.core_steps.specs.Stages.{response, read_response, asker_of, if_said, answer_said, answer_book, acted, with_fid, read_book, put_book, said, tables_after}
+use Rattle.core_steps.specs.PortReads.{port_read_in, if_port_said, asked_said, asked_ports}
+use Rattle.core_steps.specs.Stages.{response, asker_of, if_said, answer_said, answer_book, acted, with_fid, read_tables, read_book, put_book, open_ports, said, tables_after}
 use Rattle.core_intents.specs.States.{Present, State, present, next_entry}
 use Rattle.acme_core.proofs.Goes.{run-push}
-use Rattle.acme_core.proofs.Idling.{run_idle}
+use Rattle.acme_core.proofs.Idling.{run_idle, ports_idle_after}
 use Rattle.core_steps.proofs.Idling.{silent}
 use Rattle.core_laws.specs.Answered.{IsAnswerTo, waits_with, TellsAWait, SaysOnce, ReadsOnce, IsAnsweredBy, MessagesAreAnswered}
 use Rattle.core_laws.specs.Saying.{said_after}
-use Rattle.core_laws.proofs.Answering.{message_reads}
+use Rattle.core_laws.proofs.Answering.{message_reads, message_reads_port}
 use Rattle.core_laws.proofs.Books.{IsBook, book_opened, book_put_living}
+use Rattle.core_laws.proofs.Ports.{joined_reads, acted_reads}
 use Rattle.core_laws.proofs.Playing.{played_parts, no_items}
 use Rattle.core_laws.proofs.Reactions.{ReadsSane, IsSane, reaction_sane}
-use Rattle.core_laws.proofs.Tells.{Reading, tell_clunked, tell_deletions, tell_served}
+use Rattle.core_laws.proofs.Tells.{Reading, tell_clunked, tell_deletions, tell_served, tell_ports}
 use Rattle.core_laws.proofs.Wells.{IsWell, moded, well_after}
 
 -- ---- reads that wait are among those that wait
@@ -81,14 +88,22 @@ Waited s conn tag = waits_with s conn tag ≡ true
 waiting_waits : (s : State) → All (λ (w : Waiting). Waited s w.conn w.tag) s.tables.waiting
 waiting_waits s k d h =
     let w : Waiting = slice_index_or s.tables.waiting k d in
-    or_first (list_any (is_waiting w.conn w.tag) s.tables.waiting) (list_any (is_read w.conn w.tag) s.scene.book.reads)
+    or_first (list_any (is_waiting w.conn w.tag) s.tables.waiting) (list_any (is_read w.conn w.tag) s.scene.book.reads || list_any (is_read w.conn w.tag) s.scene.ports.reads)
     (list_any_at (is_waiting w.conn w.tag) s.tables.waiting k d h (same_key w.conn w.tag))
 
 reading_waits : (s : State) → All (λ (x : Asker). Waited s x.conn x.tag) s.scene.book.reads
 reading_waits s k d h =
     let x : Asker = slice_index_or s.scene.book.reads k d in
-    or_second (list_any (is_waiting x.conn x.tag) s.tables.waiting) (list_any (is_read x.conn x.tag) s.scene.book.reads)
-    (list_any_at (is_read x.conn x.tag) s.scene.book.reads k d h (same_key x.conn x.tag))
+    or_second (list_any (is_waiting x.conn x.tag) s.tables.waiting) (list_any (is_read x.conn x.tag) s.scene.book.reads || list_any (is_read x.conn x.tag) s.scene.ports.reads)
+    (or_first (list_any (is_read x.conn x.tag) s.scene.book.reads) (list_any (is_read x.conn x.tag) s.scene.ports.reads)
+    (list_any_at (is_read x.conn x.tag) s.scene.book.reads k d h (same_key x.conn x.tag)))
+
+porting_waits : (s : State) → All (λ (x : Asker). Waited s x.conn x.tag) s.scene.ports.reads
+porting_waits s k d h =
+    let x : Asker = slice_index_or s.scene.ports.reads k d in
+    or_second (list_any (is_waiting x.conn x.tag) s.tables.waiting) (list_any (is_read x.conn x.tag) s.scene.book.reads || list_any (is_read x.conn x.tag) s.scene.ports.reads)
+    (or_second (list_any (is_read x.conn x.tag) s.scene.book.reads) (list_any (is_read x.conn x.tag) s.scene.ports.reads)
+    (list_any_at (is_read x.conn x.tag) s.scene.ports.reads k d h (same_key x.conn x.tag)))
 
 -- ---- what is said besides the answer
 
@@ -104,6 +119,15 @@ waited_put s conn tag d body is idle =
     let book : IsBook (Reading (Waited s)) (next_entry p) read = subst (IsBook (Reading (Waited s)) (next_entry p)) (sym same) (waited_book s idle) in
     book_put_living (Reading (Waited s)) (next_entry p) (deleted_by d.deeds) (opened read d.events) (acted p d).items (book_opened (Reading (Waited s)) (next_entry p) read d.events book)
 
+waited_open : (s : State) (conn tag : ℕ) (d : Doing) (body : RBody) → d.answer ≡ Some (Says body) → All (Reading (Waited s)) (open_ports (present s) (kind.Asks conn tag) d).reads
+waited_open s conn tag d body is =
+    let p : Present = present s in
+    let k = kind.Asks conn tag in
+    let own : Asker → Type 0 = Reading (Waited s) in
+    joined_reads own (asked_ports (read_tables p k d) (acted p d).ports (port_read_in conn tag d.answer)) d.events
+    (subst (λ (a : Option Answer). All own (asked_ports (read_tables p k d) (acted p d).ports (port_read_in conn tag a)).reads) (sym is)
+    (acted_reads own (entry_of p d) p.scene d.deeds (porting_waits s)))
+
 says_once : (s : State) (conn tag : ℕ) (d : Doing) (body : RBody) → d.answer ≡ Some (Says body) → AreIdle [] s.entries s.scene.book
     → SaysOnce s conn tag body (said (present s) (kind.Asks conn tag) d)
 says_once s conn tag d body is idle =
@@ -112,34 +136,43 @@ says_once s conn tag d body is idle =
     let front : List Response = clunked s.tables conn d.effect in
     let gone : List Response = deletions s.tables (deleted_by d.deeds) in
     let served : List Response = served_all (next_entry p) (put_book p k d) in
+    let later : List Response = ports_served (open_ports p k d) in
+    let one : List Response = front ++ response conn tag body ∷ [] in
     let told_gone : All (TellsAWait s) gone = tell_deletions (Waited s) s.tables (deleted_by d.deeds) (waiting_waits s) in
     let told_served : All (TellsAWait s) served = tell_served (Waited s) (next_entry p) (put_book p k d) (waited_put s conn tag d body is idle) in
+    let told_later : All (TellsAWait s) later = tell_ports (Waited s) (open_ports p k d) (waited_open s conn tag d body is) in
     record {
       front = front;
-      rest = gone ++ served;
-      is = ap (λ (a : Option Answer). front ++ answer_said (with_fid p k d) s.scene.book conn tag a ++ gone ++ served) is
-          ∙ append_assoc (front ++ response conn tag body ∷ []) gone served
-          ∙ append_assoc front (response conn tag body ∷ []) (gone ++ served);
-      others = All-append (TellsAWait s) front (gone ++ served) (tell_clunked (Waited s) s.tables conn d.effect (waiting_waits s)) (All-append (TellsAWait s) gone served told_gone told_served);
+      rest = gone ++ served ++ later;
+      is = ap (λ (a : Option Answer). front ++ answer_said (with_fid p k d) s.scene.book conn tag a ++ asked_said (read_tables p k d) (acted p d).ports (port_read_in conn tag a) ++ gone ++ served ++ later) is
+          ∙ ap (λ (xs : List Response). xs ++ gone ++ served ++ later) (append-nil one)
+          ∙ ap (λ (xs : List Response). xs ++ later) (append_assoc one gone served)
+          ∙ append_assoc one (gone ++ served) later
+          ∙ append_assoc front (response conn tag body ∷ []) (gone ++ served ++ later);
+      others = All-append (TellsAWait s) front (gone ++ served ++ later) (tell_clunked (Waited s) s.tables conn d.effect (waiting_waits s))
+          (All-append (TellsAWait s) (gone ++ served) later (All-append (TellsAWait s) gone served told_gone told_served) told_later);
     }
 
 -- ---- a read of an event file
 
 -- a reaction that reads does nothing else
-reading : (s : Present) (o : Origin) (e : Effect) (v : EventChange) (cs : List Change) (m : Demand) (a : Answer) (fid opening count : ℕ)
-    → e ≡ effect.Nothing → v ≡ events.Nothing → cs ≡ [] → m ≡ demand.Nothing → a ≡ Reads fid opening count
+reading : (s : Present) (o : Origin) (e : Effect) (v : EventChange) (cs : List Change) (m : Demand) (a read : Answer)
+    → e ≡ effect.Nothing → v ≡ events.Nothing → cs ≡ [] → m ≡ demand.Nothing → a ≡ read
     → message_doing s (record { effect = e; events = v; changes = cs; demand = m; answer = a }) o
-    ≡ message_doing s (record { effect = effect.Nothing; events = events.Nothing; changes = []; demand = demand.Nothing; answer = Reads fid opening count }) o
-reading s o e v cs m a fid opening count fe fv fc fm fa =
+    ≡ message_doing s (record { effect = effect.Nothing; events = events.Nothing; changes = []; demand = demand.Nothing; answer = read }) o
+reading s o e v cs m a read fe fv fc fm fa =
     ap (λ (x : Effect). message_doing s (record { effect = x; events = v; changes = cs; demand = m; answer = a }) o) fe
     ∙ ap (λ (x : EventChange). message_doing s (record { effect = effect.Nothing; events = x; changes = cs; demand = m; answer = a }) o) fv
     ∙ ap (λ (x : List Change). message_doing s (record { effect = effect.Nothing; events = events.Nothing; changes = x; demand = m; answer = a }) o) fc
     ∙ ap (λ (x : Demand). message_doing s (record { effect = effect.Nothing; events = events.Nothing; changes = []; demand = x; answer = a }) o) fm
     ∙ ap (λ (x : Answer). message_doing s (record { effect = effect.Nothing; events = events.Nothing; changes = []; demand = demand.Nothing; answer = x }) o) fa
 
+-- what such a reaction does
+abbrev plainly : Present → Origin → Answer → Doing
+plainly s o read = message_doing s (record { effect = effect.Nothing; events = events.Nothing; changes = []; demand = demand.Nothing; answer = read }) o
+
 abbrev plain_read : Present → Origin → ℕ → ℕ → ℕ → Doing
-plain_read s o fid opening count =
-    message_doing s (record { effect = effect.Nothing; events = events.Nothing; changes = []; demand = demand.Nothing; answer = Reads fid opening count }) o
+plain_read s o fid opening count = plainly s o (Reads fid opening count)
 
 read_served : (s : State) (t : Tables) (x : Asker) → AreIdle [] s.entries s.scene.book → s.scene.items ≡ []
     → served_all (next_entry (present s)) (put_living [] (book_read t s.scene.book x (next_entry (present s))) s.scene.items) ≡ []
@@ -148,12 +181,20 @@ read_served s t x idle none =
     let read : AreIdle [] at (book_read t s.scene.book x at) = read_idle [] at t s.scene.book x (idle_for [] s.entries at s.scene.book (omega arith) idle) in
     silent at [] (book_read t s.scene.book x at) s.scene.items (idle_end at (book_read t s.scene.book x at) read) none
 
-plain_said : (s : State) (o : Origin) (conn tag fid opening count : ℕ) → AreIdle [] s.entries s.scene.book → s.scene.items ≡ []
+plain_said : (s : State) (o : Origin) (conn tag fid opening count : ℕ) → AreIdle [] s.entries s.scene.book → ArePortsIdle s.scene.ports → s.scene.items ≡ []
     → said (present s) (kind.Asks conn tag) (plain_read (present s) o fid opening count) ≡ if_said conn tag opening (read_said s.tables s.scene.book (asker_of conn tag opening count))
 unfolding task_deeds task_refusal
-plain_said s o conn tag fid opening count idle none =
+plain_said s o conn tag fid opening count idle ports none =
     let own : List Response = if_said conn tag opening (read_said s.tables s.scene.book (asker_of conn tag opening count)) in
-    ap (λ (xs : List Response). own ++ [] ++ xs) (read_served s s.tables (asker_of conn tag opening count) idle none) ∙ append-nil (own ++ []) ∙ append-nil own
+    ap (λ (xs : List Response). own ++ [] ++ [] ++ xs ++ ports_served s.scene.ports) (read_served s s.tables (asker_of conn tag opening count) idle none)
+    ∙ ap (λ (xs : List Response). own ++ [] ++ [] ++ [] ++ xs) (none_said s.scene.ports ports)
+    ∙ append-nil (own ++ [] ++ [] ++ []) ∙ append-nil (own ++ [] ++ []) ∙ append-nil (own ++ []) ∙ append-nil own
+
+-- one that waits is among those that do
+one_waits : (t : Tables) (conn tag fid : ℕ) → list_any (is_waiting conn tag) (waits_unless None t conn tag fid).waiting ≡ true
+one_waits t conn tag fid =
+    list_any-append (is_waiting conn tag) t.waiting (record { conn = conn; tag = tag; fid = fid } ∷ [])
+    ∙ or_second (list_any (is_waiting conn tag) t.waiting) ((eqb conn conn && eqb tag tag) || false) (or_first (eqb conn conn && eqb tag tag) false (same_key conn tag))
 
 -- nothing is said to one that must wait
 waits_for : (b : BookState) (x : Asker) (full waits : Bool) → said_to full (cond waits Waits (Now (piece_for b x))) ≡ None → waits ≡ true
@@ -166,20 +207,16 @@ must_wait_for : (t : Tables) (b : BookState) (x : Asker) (living : Bool)
 must_wait_for t b x true h = waits_for b x (is_full t x.conn) (read_waits b x) h
 must_wait_for t b x false h = absurd cc
 
-plain_waits : (s : State) (o : Origin) (conn tag fid opening count : ℕ) → AreIdle [] s.entries s.scene.book → s.scene.items ≡ []
+plain_waits : (s : State) (o : Origin) (conn tag fid opening count : ℕ) → AreIdle [] s.entries s.scene.book → ArePortsIdle s.scene.ports → s.scene.items ≡ []
     → read_said s.tables s.scene.book (asker_of conn tag opening count) ≡ None
     → list_any (is_waiting conn tag) (tables_after (present s) (kind.Asks conn tag) (plain_read (present s) o fid opening count)).waiting ≡ true
 unfolding task_deeds task_refusal
-plain_waits s o conn tag fid opening count idle none waits =
+plain_waits s o conn tag fid opening count idle ports none waits =
     let x : Asker = asker_of conn tag opening count in
     let d : Doing = plain_read (present s) o fid opening count in
-    let w : Waiting = record { conn = conn; tag = tag; fid = fid } in
-    let quiet : said (present s) (kind.Asks conn tag) d ≡ [] = plain_said s o conn tag fid opening count idle none ∙ ap (if_said conn tag opening) waits in
+    let quiet : said (present s) (kind.Asks conn tag) d ≡ [] = plain_said s o conn tag fid opening count idle ports none ∙ ap (if_said conn tag opening) waits in
     let has : Tables → Type 0 = λ t. list_any (is_waiting conn tag) t.waiting ≡ true in
-    let there : has (waits_unless None s.tables conn tag fid) =
-    list_any-append (is_waiting conn tag) s.tables.waiting (w ∷ [])
-    ∙ or_second (list_any (is_waiting conn tag) s.tables.waiting) ((eqb conn conn && eqb tag tag) || false) (or_first (eqb conn conn && eqb tag tag) false (same_key conn tag))
-    in
+    let there : has (waits_unless None s.tables conn tag fid) = one_waits s.tables conn tag fid in
     subst (λ (xs : List Response). has (ended (waits_unless (read_said s.tables s.scene.book x) s.tables conn tag fid) xs)) (sym quiet)
     (subst (λ (o : Option RBody). has (waits_unless o s.tables conn tag fid)) (sym waits) there)
 
@@ -206,11 +243,12 @@ stepped_tables s conn msg = refl
 
 read_by : (before : List Event) (conn : ℕ) (msg : TMsg) (o : Origin) (fid opening count : ℕ) (said_now : Option RBody) → kind_t msg.body ≡ 116
     → doing_of (present_after before) (event.Msg conn msg) ≡ plain_read (present_after before) o fid opening count
-    → read_said (run before).tables (run before).scene.book (asker_of conn msg.tag opening count) ≡ said_now → ReadsOnce before conn msg opening count said_now
+    → read_said (run before).tables (run before).scene.book (asker_of conn msg.tag opening count) ≡ said_now
+    → ReadsOnce before conn msg (event_feed opening) (read_waits (run before).scene.book (asker_of conn msg.tag opening count)) said_now
 read_by before conn msg o fid opening count (Some body) asks does is =
     let s : State = run before in
     let all : said_after before (event.Msg conn msg) ≡ if_said conn msg.tag opening (Some body) =
-    ap (said (present s) (kind.Asks conn msg.tag)) does ∙ plain_said s o conn msg.tag fid opening count (run_idle before) (no_items before) ∙ ap (if_said conn msg.tag opening) is
+    ap (said (present s) (kind.Asks conn msg.tag)) does ∙ plain_said s o conn msg.tag fid opening count (run_idle before) (ports_idle_after before) (no_items before) ∙ ap (if_said conn msg.tag opening) is
     in
     (read_answers msg.body s.tables s.scene.book (asker_of conn msg.tag opening count) (is_living s.scene.book opening) body asks is, all)
 read_by before conn msg o fid opening count None asks does is =
@@ -218,27 +256,115 @@ read_by before conn msg o fid opening count None asks does is =
     let e : Event = event.Msg conn msg in
     let has : Tables → Type 0 = λ t. list_any (is_waiting conn msg.tag) t.waiting ≡ true in
     let left : has (tables_after (present s) (kind.Asks conn msg.tag) (doing_of (present s) e)) =
-    subst (λ (d : Doing). has (tables_after (present s) (kind.Asks conn msg.tag) d)) (sym does) (plain_waits s o conn msg.tag fid opening count (run_idle before) (no_items before) is)
+    subst (λ (d : Doing). has (tables_after (present s) (kind.Asks conn msg.tag) d)) (sym does) (plain_waits s o conn msg.tag fid opening count (run_idle before) (ports_idle_after before) (no_items before) is)
     in
     record {
-      silent = ap (said (present s) (kind.Asks conn msg.tag)) does ∙ plain_said s o conn msg.tag fid opening count (run_idle before) (no_items before) ∙ ap (if_said conn msg.tag opening) is;
+      silent = ap (said (present s) (kind.Asks conn msg.tag)) does ∙ plain_said s o conn msg.tag fid opening count (run_idle before) (ports_idle_after before) (no_items before) ∙ ap (if_said conn msg.tag opening) is;
       waits = subst (λ (t : State). has t.tables) (sym (run-push before e)) (subst has (sym (stepped_tables s conn msg)) left);
       must = must_wait_for s.tables s.scene.book (asker_of conn msg.tag opening count) (is_living s.scene.book opening) is;
     }
 
 reads_by : (before : List Event) (conn : ℕ) (msg : TMsg) (fid opening count : ℕ) → IsWell (run before) → kind_t msg.body ≡ 116
     → (doing_of (present_after before) (event.Msg conn msg)).answer ≡ Some (Reads fid opening count)
-    → ReadsOnce before conn msg opening count (read_said (run before).tables (run before).scene.book (asker_of conn msg.tag opening count))
+    → ReadsOnce before conn msg (event_feed opening) (read_waits (run before).scene.book (asker_of conn msg.tag opening count))
+    (read_said (run before).tables (run before).scene.book (asker_of conn msg.tag opening count))
 reads_by before conn msg fid opening count well asks is =
     let s : State = run before in
     let p : Present = present s in
     let d : Reaction = reaction_at p conn msg in
     let o : Origin = message_origin s.tables conn msg.body in
     let same : d.answer ≡ Reads fid opening count = message_reads p d o fid opening count is in
-    let sane : IsSane s.tables conn d = reaction_sane s.tables conn (moded s conn well) p.scene.windows (length s.scene.book.owners) msg.body in
+    let sane : IsSane s.tables conn d = reaction_sane s.tables conn (moded s conn well) p.scene.windows (plumber_of p.scene.rules p.scene.ports) (length s.scene.book.owners) msg.body in
     let reads : ReadsSane s.tables conn d (Reads fid opening count) = subst (ReadsSane s.tables conn d) same sane.1 in
     read_by before conn msg o fid opening count (read_said s.tables s.scene.book (asker_of conn msg.tag opening count)) asks
-    (reading p o d.effect d.events d.changes d.demand d.answer fid opening count reads.0 reads.2 reads.3 reads.4 same) refl
+    (reading p o d.effect d.events d.changes d.demand d.answer (Reads fid opening count) reads.0 reads.2 reads.3 reads.4 same) refl
+
+-- ---- a read of a port
+
+abbrev plain_port : Present → Origin → ℕ → ℕ → ℕ → Doing
+plain_port s o fid opening count = plainly s o (ReadsPort fid opening count)
+
+port_said_now : (s : State) (o : Origin) (conn tag fid opening count : ℕ) → AreIdle [] s.entries s.scene.book → ArePortsIdle s.scene.ports → s.scene.items ≡ []
+    → said (present s) (kind.Asks conn tag) (plain_port (present s) o fid opening count)
+    ≡ if_port_said (asker_of conn tag opening count) (port_said s.tables s.scene.ports (asker_of conn tag opening count))
+unfolding task_deeds task_refusal
+port_said_now s o conn tag fid opening count idle ports none =
+    let x : Asker = asker_of conn tag opening count in
+    let own : List Response = if_port_said x (port_said s.tables s.scene.ports x) in
+    let after : PortsState = ports_read s.tables s.scene.ports x in
+    let at : ℕ = next_entry (present s) in
+    ap (λ (xs : List Response). own ++ [] ++ xs ++ ports_served after)
+    (silent at [] s.scene.book s.scene.items (idle_end s.entries s.scene.book idle) none)
+    ∙ ap (λ (xs : List Response). own ++ [] ++ [] ++ xs) (none_said after (idle_read s.tables s.scene.ports x ports))
+    ∙ append-nil (own ++ [] ++ []) ∙ append-nil (own ++ []) ∙ append-nil own
+
+-- one to which nothing is said must wait
+port_must : (s : PortsState) (x : Asker) (refusal : Option Refusal) (waits : Bool) → said_unless refusal (cond waits Waits (Now (port_piece s x))) ≡ None → waits ≡ true
+port_must s x (Some refusal) waits h = absurd cc
+port_must s x None true h = refl
+port_must s x None false h = absurd cc
+
+port_waits_on : (s : State) (o : Origin) (conn tag fid opening count : ℕ) → AreIdle [] s.entries s.scene.book → ArePortsIdle s.scene.ports → s.scene.items ≡ []
+    → port_said s.tables s.scene.ports (asker_of conn tag opening count) ≡ None
+    → list_any (is_waiting conn tag) (tables_after (present s) (kind.Asks conn tag) (plain_port (present s) o fid opening count)).waiting ≡ true
+unfolding task_deeds task_refusal
+port_waits_on s o conn tag fid opening count idle ports none waits =
+    let x : Asker = asker_of conn tag opening count in
+    let d : Doing = plain_port (present s) o fid opening count in
+    let quiet : said (present s) (kind.Asks conn tag) d ≡ [] = port_said_now s o conn tag fid opening count idle ports none ∙ ap (if_port_said x) waits in
+    let has : Tables → Type 0 = λ t. list_any (is_waiting conn tag) t.waiting ≡ true in
+    subst (λ (xs : List Response). has (ended (waits_unless (port_said s.tables s.scene.ports x) s.tables conn tag fid) xs)) (sym quiet)
+    (subst (λ (o : Option RBody). has (waits_unless o s.tables conn tag fid)) (sym waits) (one_waits s.tables conn tag fid))
+
+port_answers : (asked : TBody) (s : PortsState) (x : Asker) (refusal : Option Refusal) (waits : Bool) (body : RBody) → kind_t asked ≡ 116
+    → said_unless refusal (cond waits Waits (Now (port_piece s x))) ≡ Some body → IsAnswerTo asked body
+port_answers asked s x (Some refusal) waits body tread is = let same : r.Error (refusal_text refusal) ≡ body = cc in inr (refusal, sym same)
+port_answers asked s x None true body tread is = absurd cc
+port_answers asked s x None false body tread is =
+    let same : r.Read (port_piece s x).bytes ≡ body = cc in subst (IsAnswerTo asked) same (inl (ap (λ (n : ℕ). n + 1) (sym tread)))
+
+port_by : (before : List Event) (conn : ℕ) (msg : TMsg) (o : Origin) (fid opening count : ℕ) (said_now : Option RBody) → kind_t msg.body ≡ 116
+    → doing_of (present_after before) (event.Msg conn msg) ≡ plain_port (present_after before) o fid opening count
+    → port_said (run before).tables (run before).scene.ports (asker_of conn msg.tag opening count) ≡ said_now
+    → ReadsOnce before conn msg (port_feed opening) (port_waits (run before).scene.ports (asker_of conn msg.tag opening count)) said_now
+port_by before conn msg o fid opening count (Some body) asks does is =
+    let s : State = run before in
+    let x : Asker = asker_of conn msg.tag opening count in
+    let all : said_after before (event.Msg conn msg) ≡ if_port_said x (Some body) =
+    ap (said (present s) (kind.Asks conn msg.tag)) does ∙ port_said_now s o conn msg.tag fid opening count (run_idle before) (ports_idle_after before) (no_items before) ∙ ap (if_port_said x) is
+    in
+    (port_answers msg.body s.scene.ports x (read_refusal s.tables s.scene.ports x) (port_waits s.scene.ports x) body asks is, all)
+port_by before conn msg o fid opening count None asks does is =
+    let s : State = run before in
+    let e : Event = event.Msg conn msg in
+    let x : Asker = asker_of conn msg.tag opening count in
+    let has : Tables → Type 0 = λ t. list_any (is_waiting conn msg.tag) t.waiting ≡ true in
+    let left : has (tables_after (present s) (kind.Asks conn msg.tag) (doing_of (present s) e)) =
+    subst (λ (d : Doing). has (tables_after (present s) (kind.Asks conn msg.tag) d)) (sym does)
+    (port_waits_on s o conn msg.tag fid opening count (run_idle before) (ports_idle_after before) (no_items before) is)
+    in
+    record {
+      silent = ap (said (present s) (kind.Asks conn msg.tag)) does ∙ port_said_now s o conn msg.tag fid opening count (run_idle before) (ports_idle_after before) (no_items before) ∙ ap (if_port_said x) is;
+      waits = subst (λ (t : State). has t.tables) (sym (run-push before e)) (subst has (sym (stepped_tables s conn msg)) left);
+      must = port_must s.scene.ports x (read_refusal s.tables s.scene.ports x) (port_waits s.scene.ports x) is;
+    }
+
+reads_port_by : (before : List Event) (conn : ℕ) (msg : TMsg) (fid opening count : ℕ) → IsWell (run before) → kind_t msg.body ≡ 116
+    → (doing_of (present_after before) (event.Msg conn msg)).answer ≡ Some (ReadsPort fid opening count)
+    → ReadsOnce before conn msg (port_feed opening) (port_waits (run before).scene.ports (asker_of conn msg.tag opening count))
+    (port_said (run before).tables (run before).scene.ports (asker_of conn msg.tag opening count))
+reads_port_by before conn msg fid opening count well asks is =
+    let s : State = run before in
+    let p : Present = present s in
+    let d : Reaction = reaction_at p conn msg in
+    let o : Origin = message_origin s.tables conn msg.body in
+    let same : d.answer ≡ ReadsPort fid opening count = message_reads_port p d o fid opening count is in
+    let sane : IsSane s.tables conn d = reaction_sane s.tables conn (moded s conn well) p.scene.windows (plumber_of p.scene.rules p.scene.ports) (length s.scene.book.owners) msg.body in
+    let reads : ReadsSane s.tables conn d (ReadsPort fid opening count) = subst (ReadsSane s.tables conn d) same sane.1 in
+    port_by before conn msg o fid opening count (port_said s.tables s.scene.ports (asker_of conn msg.tag opening count)) asks
+    (reading p o d.effect d.events d.changes d.demand d.answer (ReadsPort fid opening count) reads.0 reads.2 reads.3 reads.4 same) refl
+
+-- ---- all messages
 
 answered_by : (before : List Event) (conn : ℕ) (msg : TMsg) (a : Option Answer) → IsWell (run before) → (doing_of (present_after before) (event.Msg conn msg)).answer ≡ a
     → HasAnswer msg.body a → IsAnsweredBy before conn msg a
@@ -246,6 +372,7 @@ answered_by before conn msg None well is has = has
 answered_by before conn msg (Some (Says body)) well is has =
     (has, says_once (run before) conn msg.tag (doing_of (present_after before) (event.Msg conn msg)) body is (run_idle before))
 answered_by before conn msg (Some (Reads fid opening count)) well is has = reads_by before conn msg fid opening count well has is
+answered_by before conn msg (Some (ReadsPort fid opening count)) well is has = reads_port_by before conn msg fid opening count well has is
 
 pub messages_answered : EachIsAnswered → (journal : List Event) → IsPlayed enabled journal → MessagesAreAnswered journal
 messages_answered law journal played before behind conn msg is =

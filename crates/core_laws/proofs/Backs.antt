@@ -1,5 +1,5 @@
 -- An item is written back once, and its life names the entry.
-use Rattle.std.proofs.Common.{◌≡◌, ℕ, zero, suc, ◌+◌, ◌≤◌, Bool, true, false, cond, List, [], ◌∷◌, ◌++◌, length, slice_get, Option, Some, None, Result, Ok, Err, refl, sym, ap, subst, ◌∙◌, append_assoc, append-nil, arith}
+use Rattle.std.proofs.Common.{◌≡◌, ℕ, zero, suc, ◌+◌, ◌≤◌, Bool, true, false, cond, List, [], ◌∷◌, ◌++◌, length, Option, Some, None, Result, Ok, Err, refl, sym, ap, subst, ◌∙◌, append_assoc, append-nil, arith}
 use Rattle.win_events.specs.Back.{back_of}
 use Rattle.win_events.specs.declared.item.BackMsg.{BackMsg}
 use Rattle.win_events.specs.declared.item.Item.{Item}
@@ -8,7 +8,7 @@ use Rattle.win_events.specs.declared.item.Life.TheVariants.{Pending, Taken, Back
 use Rattle.event_book.specs.declared.finding.BackFault.{BackFault}
 use Rattle.event_book.specs.declared.lives.Recorded.{Recorded}
 use Rattle.event_book.specs.Lives.{has_taken, is_taken, with_back, written_back as back_in, numbered}
-use Rattle.event_book.specs.WindowFiles.{EventFile, with_written, file_of, with_file}
+use Rattle.event_book.specs.WindowFiles.{EventFile, with_written, file_of}
 use Rattle.event_book.specs.BookState.{BookState, IsTaken, is_taken_of, recorded_of, found_of, after_written}
 use Rattle.event_book.specs.Laws.{IsLawful, is_ended, KeepsEnded}
 use Rattle.event_book.proofs.BookLemmas.{same_window}
@@ -29,8 +29,8 @@ use Rattle.core_steps.specs.Stages.{grown_book, book_after}
 use Rattle.core_intents.specs.States.{Present, State, present}
 use Rattle.acme_core.proofs.Goes.{run-push, entries_counted}
 use Rattle.acme_core.proofs.Idling.{run_idle}
-use Rattle.core_laws.specs.Laws.{written_by, IsBackAt, LivesNameTheEntry, WrittenBackOnce}
-use Rattle.core_laws.proofs.Lives.{Keeps, ended_keep, is_settled, settled_keep, IsKeptTo, kept_first, keep_grown, end_written, end_after}
+use Rattle.core_laws.specs.Laws.{IsBackAt, LivesNameTheEntry, WrittenBackOnce}
+use Rattle.core_laws.proofs.Lives.{ended_keep, is_settled, settled_keep, IsKeptTo, kept_first, keep_grown, end_written, end_after}
 
 -- ---- what ended stays so, whatever comes
 
@@ -72,6 +72,10 @@ demanded : (book : BookState) (b : BackItem) (d : Demand) → demanded_item book
 demanded book b demand.Nothing is = absurd cc
 demanded book b (demand.Controls w text) is = absurd cc
 demanded book b (demand.WriteBack w text) is = named_item book w b (back_of text) is
+demanded book b demand.ClearsRules is = absurd cc
+demanded book b (demand.AddsRules text) is = absurd cc
+demanded book b (demand.AddsRest text) is = absurd cc
+demanded book b (demand.Sends text) is = absurd cc
 
 was_taken : (s : State) (e : Event) (b : BackItem) → (doing_of (present s) e).back ≡ Some b → IsTaken s.scene.book b.window b.number
 was_taken s (event.Dial conn) b is = absurd cc

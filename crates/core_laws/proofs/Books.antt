@@ -13,10 +13,11 @@ use Rattle.event_book.specs.Laws.{IsLawful}
 use Rattle.event_book.proofs.LawfulLemmas.{lawful-add, lawful-put_in, lawful-waits, lawful-answer, lawful-serve, lawful-written_back, lawful-cancel, lawful-leave, lawful-delete}
 use Rattle.core_fids.specs.declared.effect.EventChange.{EventChange}
 use Rattle.core_fids.specs.declared.effect.EventChange.TheVariants as events
+use Rattle.core_fids.specs.Fids.{event_opening}
 use Rattle.core_events.specs.Asking.{opened}
 use Rattle.core_events.specs.declared.closing.BackItem.{BackItem}
 use Rattle.core_events.specs.Closing.{written_back, without_opening, without_fid, cancelled, closed_with}
-use Rattle.core_events.specs.Putting.{put_one, put_all, is_ending, put_if_lives, put_living, ending}
+use Rattle.core_events.specs.Putting.{put_one, put_all, is_ending, put_if_lives, put_living}
 use Rattle.core_events.specs.Serving.{book_served_most, book_served_all}
 
 -- a lawful book up to an entry, each of whose waiting reads is such a one
@@ -32,7 +33,7 @@ pub book_later : (P : Asker → Type 0) (at next : ℕ) (s : BookState) → at �
 book_later P at next s h b = record { lawful = b.lawful; latest = omega (arith, h, b.latest); reads = b.reads }
 
 module _ (P : Asker → Type 0) (at : ℕ) where
-  all_without_first : (t : Asker → Bool) (rs : List Asker) → All P rs → All P (without_first t rs)
+  pub all_without_first : (t : Asker → Bool) (rs : List Asker) → All P rs → All P (without_first t rs)
   all_without_first t [] a = a
   all_without_first t (r ∷ rs) a =
       elim (t r) as (λ b. All P (cond b rs (r ∷ without_first t rs))) [
@@ -53,6 +54,7 @@ module _ (P : Asker → Type 0) (at : ℕ) where
         | false ↦ b
       ]
   book_opened s (events.Cancels tag) b = b
+  book_opened s (events.Joins port) b = b
 
   book_put : (s : BookState) (i : WindowItem) → IsBook P at s → IsBook P at (put_one s i)
   book_put s i b =
@@ -133,11 +135,12 @@ module _ (P : Asker → Type 0) (at : ℕ) where
 
   pub book_without_fids : (s : BookState) (fs : List (ℕ × Fid)) → IsBook P at s → IsBook P at (fold (without_fid at) s fs)
   book_without_fids s [] b = b
-  book_without_fids s (f ∷ fs) b = book_without_fids (without_fid at s f) fs (book_without s f.1.opening b)
+  book_without_fids s (f ∷ fs) b = book_without_fids (without_fid at s f) fs (book_without s (event_opening f.1) b)
 
   pub book_cancelled : (s : BookState) (conn : ℕ) (e : EventChange) → IsBook P at s → IsBook P at (cancelled s conn e)
   book_cancelled s conn events.Nothing b = b
   book_cancelled s conn (events.Opens w) b = b
+  book_cancelled s conn (events.Joins port) b = b
   book_cancelled s conn (events.Cancels tag) b = record {
     lawful = lawful-cancel s conn tag b.lawful;
     latest = b.latest;
@@ -183,12 +186,12 @@ without_none at s (Some o) lawful =
 
 -- no read is on an opening of these fids
 abbrev pub IsApart : List (ℕ × Fid) → Asker → Type 0
-IsApart fs r = (number : ℕ) (f : Fid) → lookup (nat_eq number) fs ≡ Some f → f.opening ≡ Some r.opening → ⊥
+IsApart fs r = (number : ℕ) (f : Fid) → lookup (nat_eq number) fs ≡ Some f → event_opening f ≡ Some r.opening → ⊥
 
-apart_more : (f : ℕ × Fid) (fs : List (ℕ × Fid)) (r : Asker) → (f.1.opening ≡ Some r.opening → ⊥) → IsApart fs r → IsApart (f ∷ fs) r
+apart_more : (f : ℕ × Fid) (fs : List (ℕ × Fid)) (r : Asker) → (event_opening f.1 ≡ Some r.opening → ⊥) → IsApart fs r → IsApart (f ∷ fs) r
 apart_more f fs r none rest number g e opens =
     elim (nat_eq number f.0) as (λ b. cond b (Some f.1) (lookup (nat_eq number) fs) ≡ Some g → ⊥) [
-      | true ↦ λ h. let same : f.1 ≡ g = cc in none (ap (λ (x : Fid). x.opening) same ∙ opens)
+      | true ↦ λ h. let same : f.1 ≡ g = cc in none (ap event_opening same ∙ opens)
       | false ↦ λ h. rest number g h opens
     ] e
 
@@ -198,13 +201,13 @@ apart_none r number f e opens = absurd cc
 pub fids_none : (P : Asker → Type 0) (at : ℕ) (s : BookState) (fs : List (ℕ × Fid)) → IsBook P at s → All (IsApart fs) (fold (without_fid at) s fs).reads
 fids_none P at s [] b = λ k d h. apart_none (slice_index_or s.reads k d)
 fids_none P at s (f ∷ fs) b =
-    let kept : IsBook P at (without_fid at s f) = book_without P at s f.1.opening b in
-    let next : IsBook (λ r. f.1.opening ≡ Some r.opening → ⊥) at (without_fid at s f) =
-    record { lawful = kept.lawful; latest = kept.latest; reads = without_none at s f.1.opening b.lawful }
+    let kept : IsBook P at (without_fid at s f) = book_without P at s (event_opening f.1) b in
+    let next : IsBook (λ r. event_opening f.1 ≡ Some r.opening → ⊥) at (without_fid at s f) =
+    record { lawful = kept.lawful; latest = kept.latest; reads = without_none at s (event_opening f.1) b.lawful }
     in
     let end : BookState = fold (without_fid at) s (f ∷ fs) in
-    let first : IsBook (λ r. f.1.opening ≡ Some r.opening → ⊥) at end =
-    book_without_fids (λ r. f.1.opening ≡ Some r.opening → ⊥) at (without_fid at s f) fs next
+    let first : IsBook (λ r. event_opening f.1 ≡ Some r.opening → ⊥) at end =
+    book_without_fids (λ r. event_opening f.1 ≡ Some r.opening → ⊥) at (without_fid at s f) fs next
     in
-    let later : All (IsApart fs) end.reads = fids_none (λ r. f.1.opening ≡ Some r.opening → ⊥) at (without_fid at s f) fs next in
+    let later : All (IsApart fs) end.reads = fids_none (λ r. event_opening f.1 ≡ Some r.opening → ⊥) at (without_fid at s f) fs next in
     λ k d h. apart_more f fs (slice_index_or end.reads k d) (first.reads k d h) (later k d h)

@@ -1,5 +1,5 @@
 -- An Exec or a Look in a window whose event file is open does nothing but to make an item.
-use Rattle.std.proofs.Common.{◌≡◌, ℕ, ◌+◌, Bool, true, cond, List, [], ◌∷◌, ◌++◌, Option, Some, None, refl, sym, ap, subst, ◌∙◌}
+use Rattle.std.proofs.Common.{◌≡◌, ℕ, ◌+◌, Bool, true, cond, List, [], ◌∷◌, ◌++◌, Option, Some, None, refl, sym, ap, subst, ◌∙◌, append-nil}
 use Rattle.std.specs.List.{fold}
 use Rattle.win_events.specs.declared.item.Item.{Item}
 use Rattle.win_events.specs.declared.item.Origin.TheVariants.{M}
@@ -18,7 +18,7 @@ use Rattle.core_scene.specs.SceneLaws.{changes_in}
 use Rattle.core_windows.specs.Stories.{all_changed_stories}
 use Rattle.core_outputs.specs.Unsent.{put_replies}
 use Rattle.core_exec.specs.declared.click.Clicked.{Clicked}
-use Rattle.core_actions.specs.Looking.{look_target}
+use Rattle.core_exec.specs.Looking.{look_step}
 use Rattle.core_exec.specs.Clicks.{clicked_at, own_text, argument_if_any, exec_item, look_item}
 use Rattle.core_exec.specs.Acting.{exec_click, exec_clicked, exec_at_deeds, look_click, look_clicked, look_at_deeds}
 use Rattle.core_events.specs.Putting.{put_one}
@@ -32,8 +32,14 @@ use Rattle.core_intents.specs.Kinds.{kind_of}
 use Rattle.acme_core.specs.Run.{step, run}
 use Rattle.core_steps.specs.Replies.{replies_of}
 use Rattle.core_steps.specs.Stages.{said, tables_after, scene_after, left_unsent}
-use Rattle.core_intents.specs.States.{Present, State, present, start, next_entry}
+use Rattle.core_intents.specs.States.{State, present, start, next_entry}
+use Rattle.plumb_ports.specs.PortsState.{PortsState}
+use Rattle.core_events.specs.declared.response.Response.{Response}
+use Rattle.core_ports.specs.Serving.{ports_served, ports_after_serving}
+use Rattle.core_ports.specs.Sound.{ArePortsIdle}
+use Rattle.core_ports.proofs.Idles.{none_said, none_taken}
 use Rattle.acme_core.proofs.Goes.{run-push}
+use Rattle.acme_core.proofs.Idling.{ports_idle_after}
 use Rattle.core_laws.specs.Laws.{OnlyTells, ClicksAreTold}
 use Rattle.core_laws.specs.Saying.{said_after}
 use Rattle.core_laws.proofs.Wells.{done_sessions}
@@ -77,35 +83,44 @@ after_kind s k d = record {
 abbrev Told : State → Kind → ℕ → Doing → Type 0
 Told s k w d = OnlyTells s (after_kind s k d) (said (present s) k d) w
 
+-- nothing is said to reads of ports
+quiet : (x : SceneState) (heard : List Response) → ArePortsIdle x.ports → heard ++ ports_served x.ports ≡ heard
+quiet x heard idle = ap (λ (xs : List Response). heard ++ xs) (none_said x.ports idle) ∙ append-nil heard
+
+-- and they stay
+stays : (x : SceneState) → ArePortsIdle x.ports → record x { ports = ports_after_serving x.ports } ≡ x
+stays x idle = ap (λ (p : PortsState). record x { ports = p }) (none_taken x.ports idle)
+
 -- an item comes where the event file is open
 put_is : (b : BookState) (w : ℕ) (item : Item) → is_open_window b w ≡ true → put_one b (record { window = w; item = item }) ≡ after_put b w item
 put_is b w item opened = subst (λ (t : Bool). cond t (after_put b w item) b ≡ after_put b w item) (sym opened) refl
 
-tells : (s : State) (x : SceneState) (w : ℕ) (o : Option Item) → is_open_window x.book w ≡ true → Told (record s { scene = tidy x }) kind.Acts w (telling (item_deeds w o))
-tells s x w None opened = record {
+tells : (s : State) (x : SceneState) (w : ℕ) (o : Option Item) → ArePortsIdle x.ports → is_open_window x.book w ≡ true → Told (record s { scene = tidy x }) kind.Acts w (telling (item_deeds w o))
+tells s x w None idle opened = record {
   item = None;
   book = refl;
-  says = refl;
+  says = quiet x (served_all (s.entries + 1) x.book) idle;
   connections = refl;
   sessions = done_sessions s.tables (said (present (record s { scene = tidy x })) kind.Acts (telling []));
   windows = refl;
-  scene = refl;
+  scene = stays (tidy x) idle;
 }
-tells s x w (Some item) opened = record {
+tells s x w (Some item) idle opened = record {
   item = Some item;
   book = rw opened (ap (λ (b : BookState). book_served_all (s.entries + 1) b) (put_is x.book w item opened));
-  says = rw opened (ap (λ (b : BookState). served_all (s.entries + 1) b) (put_is x.book w item opened));
+  says = rw opened (quiet x (served_all (s.entries + 1) (put_one x.book (record { window = w; item = item }))) idle
+      ∙ ap (λ (b : BookState). served_all (s.entries + 1) b) (put_is x.book w item opened));
   connections = refl;
   sessions = done_sessions s.tables (said (present (record s { scene = tidy x })) kind.Acts (telling (deed.Item w item ∷ [])));
   windows = refl;
-  scene = refl;
+  scene = stays (tidy x) idle;
 }
 
 -- the same of a story that is tidy, with deeds that are such
-told : (s : State) (w : ℕ) (o : Option Item) (deeds : List Deed) → s.scene ≡ tidy s.scene → is_open_window s.scene.book w ≡ true → deeds ≡ item_deeds w o → Told s kind.Acts w (telling deeds)
-told s w o deeds h opened is =
+told : (s : State) (w : ℕ) (o : Option Item) (deeds : List Deed) → s.scene ≡ tidy s.scene → ArePortsIdle s.scene.ports → is_open_window s.scene.book w ≡ true → deeds ≡ item_deeds w o → Told s kind.Acts w (telling deeds)
+told s w o deeds h idle opened is =
     subst (λ (ds : List Deed). Told s kind.Acts w (telling ds)) (sym is)
-    (subst (λ (x : SceneState). Told (record s { scene = x }) kind.Acts w (telling (item_deeds w o))) (sym h) (tells s s.scene w o opened))
+    (subst (λ (x : SceneState). Told (record s { scene = x }) kind.Acts w (telling (item_deeds w o))) (sym h) (tells s s.scene w o idle opened))
 
 -- ---- what a click does
 
@@ -118,25 +133,25 @@ exec_one e at argument (Some c) s opened = (Some (exec_item at c argument), rw o
 look_one : (e : Entry) (at : Spot) (c : Option Clicked) (s : SceneState) → is_open_window s.book at.window ≡ true → (o : Option Item) × (look_clicked e at c s ≡ item_deeds at.window o)
 unfolding look_click
 look_one e at None s opened = (None, refl)
-look_one e at (Some c) s opened = (Some (look_item at c (look_target at.window (own_text c.text c.expanded) s)), rw opened refl)
+look_one e at (Some c) s opened = (Some (look_item at c (look_step at.window (own_text c.text c.expanded) s)), rw opened refl)
 
-told_exec : (s : State) (at : Spot) (chord : Option Spot) → s.scene ≡ tidy s.scene → is_open_window s.scene.book at.window ≡ true
+told_exec : (s : State) (at : Spot) (chord : Option Spot) → s.scene ≡ tidy s.scene → ArePortsIdle s.scene.ports → is_open_window s.scene.book at.window ≡ true
     → Told s kind.Acts at.window (telling (exec_at_deeds (entry_by (present s) M) at chord (present s).scene))
-told_exec s at chord h opened =
+told_exec s at chord h idle opened =
     let x : SceneState = (present s).scene in
     let one : (o : Option Item) × (exec_at_deeds (entry_by (present s) M) at chord x ≡ item_deeds at.window o) =
     exec_one (entry_by (present s) M) at (argument_if_any x.windows chord) (clicked_at x.windows at click.Exec) x opened
     in
-    told s at.window one.0 (exec_at_deeds (entry_by (present s) M) at chord x) h opened one.1
+    told s at.window one.0 (exec_at_deeds (entry_by (present s) M) at chord x) h idle opened one.1
 
-told_look : (s : State) (at : Spot) → s.scene ≡ tidy s.scene → is_open_window s.scene.book at.window ≡ true
+told_look : (s : State) (at : Spot) → s.scene ≡ tidy s.scene → ArePortsIdle s.scene.ports → is_open_window s.scene.book at.window ≡ true
     → Told s kind.Acts at.window (telling (look_at_deeds (entry_by (present s) M) at (present s).scene))
-told_look s at h opened =
+told_look s at h idle opened =
     let x : SceneState = (present s).scene in
     let one : (o : Option Item) × (look_at_deeds (entry_by (present s) M) at x ≡ item_deeds at.window o) =
     look_one (entry_by (present s) M) at (clicked_at x.windows at click.Look) x opened
     in
-    told s at.window one.0 (look_at_deeds (entry_by (present s) M) at x) h opened one.1
+    told s at.window one.0 (look_at_deeds (entry_by (present s) M) at x) h idle opened one.1
 
 -- ---- every journal
 
@@ -150,17 +165,17 @@ clicks before (event.Exec at) w is opened =
     let same : at.window ≡ w = cc in
     let mine : is_open_window (run before).scene.book at.window ≡ true = subst (λ (v : ℕ). is_open_window (run before).scene.book v ≡ true) (sym same) opened in
     subst (λ (v : ℕ). OnlyTells (run before) (run (before ++ event.Exec at ∷ [])) (said_after before (event.Exec at)) v) same
-    (behind before (event.Exec at) at.window (told_exec (run before) at None (run_tidy before) mine))
+    (behind before (event.Exec at) at.window (told_exec (run before) at None (run_tidy before) (ports_idle_after before) mine))
 clicks before (event.Arg at chord) w is opened =
     let same : at.window ≡ w = cc in
     let mine : is_open_window (run before).scene.book at.window ≡ true = subst (λ (v : ℕ). is_open_window (run before).scene.book v ≡ true) (sym same) opened in
     subst (λ (v : ℕ). OnlyTells (run before) (run (before ++ event.Arg at chord ∷ [])) (said_after before (event.Arg at chord)) v) same
-    (behind before (event.Arg at chord) at.window (told_exec (run before) at (Some chord) (run_tidy before) mine))
+    (behind before (event.Arg at chord) at.window (told_exec (run before) at (Some chord) (run_tidy before) (ports_idle_after before) mine))
 clicks before (event.Look at) w is opened =
     let same : at.window ≡ w = cc in
     let mine : is_open_window (run before).scene.book at.window ≡ true = subst (λ (v : ℕ). is_open_window (run before).scene.book v ≡ true) (sym same) opened in
     subst (λ (v : ℕ). OnlyTells (run before) (run (before ++ event.Look at ∷ [])) (said_after before (event.Look at)) v) same
-    (behind before (event.Look at) at.window (told_look (run before) at (run_tidy before) mine))
+    (behind before (event.Look at) at.window (told_look (run before) at (run_tidy before) (ports_idle_after before) mine))
 clicks before (event.Dial conn) w is opened = absurd cc
 clicks before (event.Msg conn msg) w is opened = absurd cc
 clicks before (event.Hang conn why) w is opened = absurd cc

@@ -22,7 +22,7 @@ use Rattle.core_intents.specs.Doings.{Doing, enabled_at, doing_of}
 use Rattle.core_intents.specs.Enabled.{dial_refusal}
 use Rattle.core_intents.specs.Kinds.{kind_of}
 use Rattle.acme_core.specs.Run.{step, run, enabled, output_at}
-use Rattle.core_steps.specs.Stages.{grown_tables, read_book, said}
+use Rattle.core_steps.specs.Stages.{grown_tables, read_book, open_ports, said}
 use Rattle.core_intents.specs.States.{Present, State, present}
 use Rattle.core_steps.specs.Replies.{replies_of}
 use Rattle.acme_core.proofs.Connected.{tells_connections}
@@ -35,6 +35,9 @@ use Rattle.core_laws.proofs.Playing.{played_more, played_parts}
 use Rattle.core_laws.proofs.Replying.{replied_by, replied_from, all_replied, replied_parts}
 use Rattle.core_laws.proofs.Tells.{Tells, Reading, OfMessage, tells}
 use Rattle.core_laws.proofs.Unsents.{ahead, sent_or_unsent}
+use Rattle.plumb_ports.specs.PortsState.{PortsState}
+use Rattle.core_fids.specs.Fids.{event_opening, port_opening}
+use Rattle.core_laws.proofs.Helds.{AreHeld, held_open, held_after}
 use Rattle.core_laws.proofs.Wells.{Lives, IsOfLive, WaitsOnLive, AreWell, IsWell, IsOwn, begun, own, dial_lives, later, well_read, well_after}
 
 -- ---- what an entry says goes to connections that live
@@ -44,7 +47,11 @@ OnLive cs conn tag = Lives cs conn
 
 reads_live : (cs : List Connection) (t : Tables) (at : ℕ) (b : BookState) → AreWell cs t at b → IsBook (Reading (OnLive cs)) at b
 reads_live cs t at b well =
-    book_weaker (IsHeld t) (Reading (OnLive cs)) at b (λ r h. (fids_at (IsOfLive cs) t r.conn h.number h.fid well.fids h.is).0) well.book
+    book_weaker (IsHeld event_opening t) (Reading (OnLive cs)) at b (λ r h. (fids_at (IsOfLive cs) t r.conn h.number h.fid well.fids h.is).0) well.book
+
+ports_live : (cs : List Connection) (t : Tables) (at : ℕ) (b : BookState) (p : PortsState) → AreWell cs t at b → AreHeld t p → All (Reading (OnLive cs)) p.reads
+ports_live cs t at b p well held =
+    All-weaker (IsHeld port_opening t) (Reading (OnLive cs)) (λ r h. (fids_at (IsOfLive cs) t r.conn h.number h.fid well.fids h.is).0) p.reads held
 
 own_live : (cs : List Connection) (s : Present) (k : Kind) (d : Doing) → cs ≡ s.connections → IsOwn s k d → OfMessage (OnLive (begun cs k)) k
 unfolding IsOwn begun
@@ -74,15 +81,17 @@ dial_ended (v ∷ cs) zero (suc x) e h = h
 dial_ended (v ∷ cs) (suc c) zero e h = h
 dial_ended (v ∷ cs) (suc c) (suc x) e h = dial_ended cs c x e h
 
-says_live : (s : State) (e : Event) → enabled_at (present s) e ≡ None → IsWell s
+says_live : (s : State) (e : Event) → enabled_at (present s) e ≡ None → IsWell s → AreHeld s.tables s.scene.ports
     → All (Tells (OnLive (begun s.connections (kind_of e)))) (said (present s) (kind_of e) (doing_of (present s) e))
-says_live s e allowed well =
+says_live s e allowed well held =
     let p : Present = present s in
     let k : Kind = kind_of e in
     let d : Doing = doing_of p e in
     let mine : IsOwn p k d = own s e allowed well in
+    let grown : AreWell (begun s.connections k) (grown_tables p k d) (s.entries + 1) (read_book p k d) = well_read p k d mine (later s well) in
     tells (OnLive (begun s.connections k)) p k d (own_live s.connections p k d refl mine)
-    (reads_live (begun s.connections k) (grown_tables p k d) (s.entries + 1) (read_book p k d) (well_read p k d mine (later s well)))
+    (reads_live (begun s.connections k) (grown_tables p k d) (s.entries + 1) (read_book p k d) grown)
+    (ports_live (begun s.connections k) (grown_tables p k d) (s.entries + 1) (read_book p k d) (open_ports p k d) grown (held_open p k d mine held))
     (waits_live s.connections k s.tables.waiting well.waiting)
 
 -- an ended connection isn't dialled again
@@ -118,15 +127,15 @@ step_replies : (s : State) (e : Event) → (step s e).replies ≡ replies_of (sa
 unfolding step
 step_replies s e = refl
 
-replied_none : (before : List Event) (e : Event) (conn : ℕ) → enabled before e ≡ None → IsWell (run before) → is_ended (connection_at (run before).connections conn) ≡ true → replied_by conn before e ≡ []
-replied_none before e conn allowed well ended =
+replied_none : (before : List Event) (e : Event) (conn : ℕ) → enabled before e ≡ None → IsWell (run before) → AreHeld (run before).tables (run before).scene.ports → is_ended (connection_at (run before).connections conn) ≡ true → replied_by conn before e ≡ []
+replied_none before e conn allowed well held ended =
     let s : State = run before in
     let cs : List Connection = begun s.connections (kind_of e) in
     let xs : List Response = said (present s) (kind_of e) (doing_of (present s) e) in
     let over : is_ended (connection_at cs conn) ≡ true = still_ended s e conn allowed ended in
     let apart : All (λ x. x.conn ≢ conn) xs =
     All-weaker (Tells (OnLive cs)) (λ x. x.conn ≢ conn)
-    (λ x live (same : x.conn ≡ conn). both (connection_at cs conn) (subst (Lives cs) same live) over) xs (says_live s e allowed well)
+    (λ x live (same : x.conn ≡ conn). both (connection_at cs conn) (subst (Lives cs) same live) over) xs (says_live s e allowed well held)
     in
     ap (λ (u : State). bytes_to conn u.replies) (run-push before e) ∙ ap (bytes_to conn) (step_replies s e) ∙ joined_none conn xs apart
 
@@ -141,7 +150,7 @@ unfolding ArePlayed
 nothing_behind before [] conn small was played hung = refl
 nothing_behind before (e ∷ events) conn small was played hung =
     let ended : is_ended (connection_at (run before).connections conn) ≡ true = tells_connections.ended before conn was small ∙ hung in
-    let first : replied_by conn before e ≡ [] = replied_none before e conn played.1 (well_after before was) ended in
+    let first : replied_by conn before e ≡ [] = replied_none before e conn played.1 (well_after before was) (held_after before was) ended in
     ap (λ (l : List ℕ). l ++ replied_from (before ++ e ∷ []) events conn) first
     ∙ nothing_behind (before ++ e ∷ []) events conn small (played_more [] before e was played.0 played.1) played.2 (hung_more before e conn hung)
 

@@ -22,7 +22,7 @@ use Rattle.event_book.proofs.BookLemmas.{same_window, other_window}
 use Rattle.event_book.proofs.LawfulLemmas.{lawful-add, lawful-put_in, lawful-waits, lawful-answer, lawful-serve, lawful-written_back, lawful-cancel, lawful-leave, lawful-delete}
 use Rattle.am_journal.specs.declared.event.Event.{Event}
 use Rattle.core_fids.specs.declared.effect.Answer.{Answer}
-use Rattle.core_fids.specs.declared.effect.Answer.TheVariants.{Says, Reads}
+use Rattle.core_fids.specs.declared.effect.Answer.TheVariants.{Says, Reads, ReadsPort}
 use Rattle.core_fids.specs.declared.effect.Effect.{Effect}
 use Rattle.core_fids.specs.declared.effect.Effect.TheVariants as effect
 use Rattle.core_fids.specs.declared.effect.EventChange.{EventChange}
@@ -31,7 +31,8 @@ use Rattle.core_scene.specs.declared.deed.WindowItem.{WindowItem}
 use Rattle.core_scene.specs.Scenes.{deleted_by}
 use Rattle.core_events.specs.Asking.{is_full, opened, book_asked, book_read}
 use Rattle.core_events.specs.declared.closing.BackItem.{BackItem}
-use Rattle.core_events.specs.Closing.{written_back, without_opening, without_fid, without_fids, opening_in, freed, cancelled, closed_with}
+use Rattle.core_fids.specs.Fids.{event_opening}
+use Rattle.core_events.specs.Closing.{written_back, without_opening, without_fid, opening_in, freed, cancelled, closed_with}
 use Rattle.core_events.specs.Putting.{put_one, put_all, is_ending, put_if_lives, put_living, ending}
 use Rattle.core_events.specs.Serving.{book_served_most, book_served_all}
 use Rattle.core_events.proofs.Idles.{AreIdle}
@@ -174,6 +175,7 @@ module _ (first : BookState) (at : ℕ) where
         | false ↦ k
       ]
   from_opened s (events.Cancels tag) k = k
+  from_opened s (events.Joins port) k = k
 
   from_put : (s : BookState) (i : WindowItem) → K s → K (put_one s i)
   from_put s i k =
@@ -230,6 +232,7 @@ module _ (first : BookState) (at : ℕ) where
   from_answer t s conn tag None k = k
   from_answer t s conn tag (Some (Says body)) k = k
   from_answer t s conn tag (Some (Reads fid opening count)) k = from_read t s (asker_of conn tag opening count) k
+  from_answer t s conn tag (Some (ReadsPort fid opening count)) k = k
 
   from_message : (t : Tables) (s : BookState) (m : Kind) (a : Option Answer) → K s → K (message_book t s m a at)
   from_message t s (kind.Dials conn) a k = k
@@ -273,7 +276,7 @@ module _ (first : BookState) (at : ℕ) where
 
   from_fids : (s : BookState) (fs : List (ℕ × Fid)) → K s → K (fold (without_fid at) s fs)
   from_fids s [] k = k
-  from_fids s (f ∷ fs) k = from_fids (without_fid at s f) fs (from_without s f.1.opening k)
+  from_fids s (f ∷ fs) k = from_fids (without_fid at s f) fs (from_without s (event_opening f.1) k)
 
   from_freed : (s : BookState) (t : Tables) (conn : ℕ) (e : Effect) → K s → K (freed at s t conn e)
   from_freed s t conn effect.Nothing k = k
@@ -284,6 +287,7 @@ module _ (first : BookState) (at : ℕ) where
   from_cancelled : (s : BookState) (conn : ℕ) (e : EventChange) → K s → K (cancelled s conn e)
   from_cancelled s conn events.Nothing k = k
   from_cancelled s conn (events.Opens w) k = k
+  from_cancelled s conn (events.Joins port) k = k
   from_cancelled s conn (events.Cancels tag) k = on s (after_cancel s conn tag) k (lawful-cancel s conn tag k.lawful) k.latest (λ v n. same (recorded_of s v n))
 
   from_left : (t : Tables) (s : BookState) (m : Kind) (d : Doing) → K s → K (left_book at t m d s)

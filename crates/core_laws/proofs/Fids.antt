@@ -16,12 +16,12 @@ use Rattle.wait_queue.specs.declared.types.Asker.{Asker}
 pub AllFids : (ℕ → Fid → Type 0) → Tables → Type 0
 AllFids Q t = (conn number : ℕ) (f : Fid) → fid_of t conn number ≡ Some f → Q conn f
 
--- the read is one of an opening that a fid of its connection has
-pub record IsHeld (t : Tables) (r : Asker) : Type 0 where
+-- the read is one of an opening that a fid of its connection has, of an event file or of a port
+pub record IsHeld (which : Fid → Option ℕ) (t : Tables) (r : Asker) : Type 0 where
   pub number : ℕ
   pub fid : Fid
   pub is : fid_of t r.conn number ≡ Some fid
-  pub opens : fid.opening ≡ Some r.opening
+  pub opens : which fid ≡ Some r.opening
 
 none_some : {A : Type 0} (o : Option A) (a : A) → o ≡ None → o ≡ Some a → ⊥
 none_some o a n h = let e : None ≡ Some a = sym n ∙ h in absurd cc
@@ -119,8 +119,8 @@ fids_version Q R t c msize more all conn number f e =
 
 -- ---- reads stay held
 
-pub held_join : (t : Tables) (c : ℕ) (r : Asker) → IsHeld t r → IsHeld (after_join t c) r
-held_join t c r h = record {
+pub held_join : (which : Fid → Option ℕ) (t : Tables) (c : ℕ) (r : Asker) → IsHeld which t r → IsHeld which (after_join t c) r
+held_join which t c r h = record {
   number = h.number;
   fid = h.fid;
   is = ap (lookup (nat_eq h.number)) (fids_joined t c r.conn) ∙ h.is;
@@ -133,13 +133,13 @@ put_there : (number : ℕ) (value f : Fid) (o : Option Session) → lookup (nat_
 put_there number value f None e = absurd cc
 put_there number value f (Some s) e = lookup_put s.fids number value
 
-pub held_put : (t : Tables) (c n : ℕ) (value : Fid) (r : Asker) → ((f : Fid) (o : ℕ) → fid_of t c n ≡ Some f → f.opening ≡ Some o → value.opening ≡ Some o)
-    → IsHeld t r → IsHeld (after_put t c n value) r
-held_put t c n value r keeps h =
-    elim (eqb r.conn c) as (λ b. eqb r.conn c ≡ b → IsHeld (after_put t c n value) r) [
+pub held_put : (which : Fid → Option ℕ) (t : Tables) (c n : ℕ) (value : Fid) (r : Asker) → ((f : Fid) (o : ℕ) → fid_of t c n ≡ Some f → which f ≡ Some o → which value ≡ Some o)
+    → IsHeld which t r → IsHeld which (after_put t c n value) r
+held_put which t c n value r keeps h =
+    elim (eqb r.conn c) as (λ b. eqb r.conn c ≡ b → IsHeld which (after_put t c n value) r) [
       | true ↦ λ same. let at : r.conn ≡ c = eqb-true r.conn c same in
           let was : fid_of t c h.number ≡ Some h.fid = subst (λ (x : ℕ). fid_of t x h.number ≡ Some h.fid) at h.is in
-          elim (eqb h.number n) as (λ b. eqb h.number n ≡ b → IsHeld (after_put t c n value) r) [
+          elim (eqb h.number n) as (λ b. eqb h.number n ≡ b → IsHeld which (after_put t c n value) r) [
             | true ↦ λ there. let on : h.number ≡ n = eqb-true h.number n there in
                 let old : fid_of t c n ≡ Some h.fid = subst (λ (k : ℕ). fid_of t c k ≡ Some h.fid) on was in
                 record {
@@ -168,13 +168,13 @@ held_put t c n value r keeps h =
     ] refl
 
 -- where the fid that is taken doesn't have the read's opening
-pub held_take : (t : Tables) (c n : ℕ) (r : Asker) → ((f : Fid) → r.conn ≡ c → fid_of t c n ≡ Some f → f.opening ≡ Some r.opening → ⊥)
-    → IsHeld t r → IsHeld (after_take t c n) r
-held_take t c n r none h =
-    elim (eqb r.conn c) as (λ b. eqb r.conn c ≡ b → IsHeld (after_take t c n) r) [
+pub held_take : (which : Fid → Option ℕ) (t : Tables) (c n : ℕ) (r : Asker) → ((f : Fid) → r.conn ≡ c → fid_of t c n ≡ Some f → which f ≡ Some r.opening → ⊥)
+    → IsHeld which t r → IsHeld which (after_take t c n) r
+held_take which t c n r none h =
+    elim (eqb r.conn c) as (λ b. eqb r.conn c ≡ b → IsHeld which (after_take t c n) r) [
       | true ↦ λ same. let at : r.conn ≡ c = eqb-true r.conn c same in
           let was : fid_of t c h.number ≡ Some h.fid = subst (λ (x : ℕ). fid_of t x h.number ≡ Some h.fid) at h.is in
-          elim (eqb h.number n) as (λ b. eqb h.number n ≡ b → IsHeld (after_take t c n) r) [
+          elim (eqb h.number n) as (λ b. eqb h.number n ≡ b → IsHeld which (after_take t c n) r) [
             | true ↦ λ there. let on : h.number ≡ n = eqb-true h.number n there in
                 absurd (none h.fid at (subst (λ (k : ℕ). fid_of t c k ≡ Some h.fid) on was) h.opens)
             | false ↦ λ apart. let off : h.number ≢ n = eqb-false h.number n apart in
@@ -195,11 +195,11 @@ held_take t c n r none h =
     ] refl
 
 -- where none of the fids that are freed has the read's opening
-pub held_version : (t : Tables) (c : ℕ) (msize : Option ℕ) (r : Asker)
-    → ((number : ℕ) (f : Fid) → r.conn ≡ c → lookup (nat_eq number) (fids_of t c) ≡ Some f → f.opening ≡ Some r.opening → ⊥)
-    → IsHeld t r → (r.conn ≢ c) × IsHeld (after_version t c msize) r
-held_version t c msize r none h =
-    elim (eqb r.conn c) as (λ b. eqb r.conn c ≡ b → (r.conn ≢ c) × IsHeld (after_version t c msize) r) [
+pub held_version : (which : Fid → Option ℕ) (t : Tables) (c : ℕ) (msize : Option ℕ) (r : Asker)
+    → ((number : ℕ) (f : Fid) → r.conn ≡ c → lookup (nat_eq number) (fids_of t c) ≡ Some f → which f ≡ Some r.opening → ⊥)
+    → IsHeld which t r → (r.conn ≢ c) × IsHeld which (after_version t c msize) r
+held_version which t c msize r none h =
+    elim (eqb r.conn c) as (λ b. eqb r.conn c ≡ b → (r.conn ≢ c) × IsHeld which (after_version t c msize) r) [
       | true ↦ λ same. let at : r.conn ≡ c = eqb-true r.conn c same in
           absurd (none h.number h.fid at (subst (λ (x : ℕ). fid_of t x h.number ≡ Some h.fid) at h.is) h.opens)
       | false ↦ λ apart. let off : r.conn ≢ c = eqb-false r.conn c apart in (
@@ -220,8 +220,8 @@ unfolding AllFids
 fids_same Q t u same all conn number f e =
     all conn number f (ap (λ (ss : List Session). lookup (nat_eq number) (fids_in (find (is_session conn) ss))) (sym same) ∙ e)
 
-pub held_same : (t u : Tables) (r : Asker) → u.sessions ≡ t.sessions → IsHeld t r → IsHeld u r
-held_same t u r same h = record {
+pub held_same : (which : Fid → Option ℕ) (t u : Tables) (r : Asker) → u.sessions ≡ t.sessions → IsHeld which t r → IsHeld which u r
+held_same which t u r same h = record {
   number = h.number;
   fid = h.fid;
   is = ap (λ (ss : List Session). lookup (nat_eq h.number) (fids_in (find (is_session r.conn) ss))) same ∙ h.is;

@@ -27,11 +27,11 @@ use Rattle.core_events.specs.Waits.{ended}
 use Rattle.core_tasks.specs.Tasks.{task_deeds, task_refusal}
 use Rattle.core_intents.specs.Doings.{message_doing, doing_of}
 use Rattle.acme_core.specs.Run.{step, run, enabled}
-use Rattle.core_steps.specs.Stages.{response, said, grown_book, tables_after, book_after}
+use Rattle.core_steps.specs.Stages.{response, said, grown_book, grown_ports, tables_after, book_after, ports_after}
 use Rattle.core_intents.specs.States.{Present, State, present, next_entry}
 use Rattle.core_steps.specs.Replies.{replies_of}
 use Rattle.acme_core.proofs.Goes.{run-push}
-use Rattle.acme_core.proofs.Idling.{idle_after}
+use Rattle.acme_core.proofs.Idling.{idle_after, ports_idle_after}
 use Rattle.core_laws.specs.Laws.{IsFree, RepliesAreSaid, EachFlushIsAnswered, NothingToAFlushedTag, NoReadCanBeAnswered}
 use Rattle.core_laws.specs.Saying.{said_after, asks, is_message, flush_of, flushed, flush_body}
 use Rattle.core_laws.proofs.Playing.{played_parts, played_first, silent_after}
@@ -108,11 +108,15 @@ abbrev QuietAfter : Present → ℕ → ℕ → ℕ → Reaction → Type 0
 QuietAfter s conn tag oldtag d =
     All (IsWaiting (OtherTag conn oldtag)) (tables_after s (kind.Asks conn tag) (message_doing s d F)).waiting
     × All (Reading (OtherTag conn oldtag)) (book_after s (kind.Asks conn tag) (message_doing s d F)).reads
+    × All (Reading (OtherTag conn oldtag)) (ports_after s (kind.Asks conn tag) (message_doing s d F)).reads
 
 quiet_flush : (s : Present) (conn tag oldtag : ℕ) → QuietAfter s conn tag oldtag (flush_reaction oldtag)
 unfolding task_deeds task_refusal
-quiet_flush s conn tag oldtag =
-    (none_waiting conn oldtag (ended s.tables (said s (kind.Asks conn tag) (message_doing s (flush_reaction oldtag) F))).waiting, none_reading conn oldtag (grown_book s (kind.Asks conn tag) (message_doing s (flush_reaction oldtag) F)).reads)
+quiet_flush s conn tag oldtag = (
+  none_waiting conn oldtag (ended s.tables (said s (kind.Asks conn tag) (message_doing s (flush_reaction oldtag) F))).waiting,
+  none_reading conn oldtag (grown_book s (kind.Asks conn tag) (message_doing s (flush_reaction oldtag) F)).reads,
+  none_reading conn oldtag (grown_ports s (kind.Asks conn tag) (message_doing s (flush_reaction oldtag) F)).reads,
+)
 
 quiet_then : (s : State) (conn tag oldtag : ℕ) → said (present s) (kind.Asks conn tag) (doing_of (present s) (flush_of conn tag oldtag)) ≡ flushed conn tag ∷ []
     → IsQuiet (OtherTag conn oldtag) (step s (flush_of conn tag oldtag))
@@ -139,6 +143,7 @@ free_by : (journal : List Event) (conn tag : ℕ) → IsQuiet (OtherTag conn tag
 free_by journal conn tag quiet = record {
   waiting = list_any_none (is_waiting conn tag) (run journal).tables.waiting quiet.0;
   reads = list_any_none (is_read conn tag) (run journal).scene.book.reads quiet.1;
+  port_reads = list_any_none (is_read conn tag) (run journal).scene.ports.reads quiet.2;
 }
 
 pub nothing_to_a_flushed : NothingToAFlushedTag
@@ -163,6 +168,4 @@ pub ruleset flushing = (replies_said, each_flush, nothing_to_a_flushed)
 -- ---- no read that waits can be answered
 
 pub none_can : NoReadCanBeAnswered
-none_can journal = idle_after journal
-
-pub ruleset waiting = (none_can)
+none_can journal = (idle_after journal, ports_idle_after journal)

@@ -1,6 +1,5 @@
 -- All laws of a journal of the editor.
-use Rattle.std.proofs.Common.{◌≡◌, ℕ, false, List, [], ◌∷◌, ◌++◌, All, sym, subst, ◌∙◌, append_assoc}
-use Rattle.std.specs.List.{Contains, list_any}
+use Rattle.std.proofs.Common.{◌≡◌, false, List, [], ◌∷◌, ◌++◌, All, sym, subst, ◌∙◌, append_assoc}
 use Rattle.am_journal.specs.declared.event.Event.{Event}
 use Rattle.win_text.specs.Laws.{RangesAreInside}
 use Rattle.core_windows.specs.WindowLaws.{NumbersStay}
@@ -9,9 +8,9 @@ use Rattle.acme_core.proofs.Goes.{groups_numbered}
 use Rattle.acme_core.specs.Laws.{EachIsAnswered}
 use Rattle.acme_core.specs.Run.{enabled}
 use Rattle.am_counter.specs.Played.{ArePlayed, IsPlayed}
-use Rattle.core_laws.specs.Journals.{FlushedTagsAreSilent, IsSilent, JournalsAreLawful}
+use Rattle.core_laws.specs.Journals.{FlushedTagsAreSilent, JournalsAreLawful}
 use Rattle.core_laws.specs.Laws.{IsFree}
-use Rattle.core_laws.specs.Saying.{said_after, said_from, is_told, is_message, flush_of, flushed}
+use Rattle.core_laws.specs.Saying.{said_from, is_told, flush_of}
 use Rattle.core_laws.proofs.Answered.{messages_answered}
 use Rattle.core_laws.proofs.Flushes.{none_can, nothing_to_a_flushed}
 use Rattle.core_laws.proofs.Moves.{moves_whole}

@@ -2,9 +2,11 @@ mod Replying
 mod Unsents
 mod Fids
 mod Books
+mod Ports
 mod Reactions
 mod Answering
 mod Wells
+mod Helds
 mod Playing
 mod Tells
 mod Ends

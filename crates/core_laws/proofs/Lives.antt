@@ -1,5 +1,5 @@
 -- Items that are settled stay so while a step makes what it makes, and items that ended through the whole step.
-use Rattle.std.proofs.Common.{◌≡◌, ◌≢◌, ◌==◌, ℕ, zero, suc, ◌+◌, ◌≤◌, Bool, true, false, not, cond, List, [], ◌∷◌, ◌++◌, length, fold, nat_lt, slice_get, Option, Some, None, refl, sym, ap, subst, ◌∙◌, arith}
+use Rattle.std.proofs.Common.{◌≡◌, ◌≢◌, ◌==◌, ℕ, zero, suc, ◌≤◌, Bool, true, false, not, cond, List, [], ◌∷◌, ◌++◌, length, fold, nat_lt, slice_get, Option, Some, None, refl, sym, subst, arith}
 use Rattle.std.proofs.lemmas.Bool.Decides.{nat_tests}
 use Rattle.fid_table.specs.declared.types.Fid.{Fid}
 use Rattle.fid_table.specs.Tables.{Tables, fid_of, fids_of}
@@ -20,7 +20,7 @@ use Rattle.event_book.proofs.BookLemmas.{same_window, other_window}
 use Rattle.event_book.proofs.LawfulLemmas.{lawful-add, lawful-put_in, lawful-waits, lawful-answer, lawful-serve, lawful-written_back, lawful-cancel, lawful-leave, lawful-delete}
 use Rattle.event_book.proofs.LifeLemmas.{ended_stays}
 use Rattle.core_fids.specs.declared.effect.Answer.{Answer}
-use Rattle.core_fids.specs.declared.effect.Answer.TheVariants.{Says, Reads}
+use Rattle.core_fids.specs.declared.effect.Answer.TheVariants.{Says, Reads, ReadsPort}
 use Rattle.core_fids.specs.declared.effect.Effect.{Effect}
 use Rattle.core_fids.specs.declared.effect.Effect.TheVariants as effect
 use Rattle.core_fids.specs.declared.effect.EventChange.{EventChange}
@@ -29,7 +29,8 @@ use Rattle.core_scene.specs.declared.deed.WindowItem.{WindowItem}
 use Rattle.core_scene.specs.Scenes.{deleted_by}
 use Rattle.core_events.specs.Asking.{is_full, opened, book_asked, book_read}
 use Rattle.core_events.specs.declared.closing.BackItem.{BackItem}
-use Rattle.core_events.specs.Closing.{written_back, without_opening, without_fid, without_fids, opening_in, freed, cancelled, closed_with}
+use Rattle.core_fids.specs.Fids.{event_opening}
+use Rattle.core_events.specs.Closing.{written_back, without_opening, without_fid, opening_in, freed, cancelled, closed_with}
 use Rattle.core_events.specs.Putting.{put_one, put_all, is_ending, put_if_lives, put_living, ending}
 use Rattle.core_events.specs.Serving.{book_served_most, book_served_all}
 use Rattle.core_intents.specs.declared.kind.Kind.{Kind}
@@ -172,6 +173,7 @@ module _ (Q : Life → Bool) (all : AllKeep Q) (first : BookState) (at : ℕ) wh
         | false ↦ k
       ]
   keep_opened s (events.Cancels tag) k = k
+  keep_opened s (events.Joins port) k = k
 
   keep_put : (s : BookState) (i : WindowItem) → K s → K (put_one s i)
   keep_put s i k =
@@ -226,6 +228,7 @@ module _ (Q : Life → Bool) (all : AllKeep Q) (first : BookState) (at : ℕ) wh
   keep_answer t s conn tag None k = k
   keep_answer t s conn tag (Some (Says body)) k = k
   keep_answer t s conn tag (Some (Reads fid opening count)) k = keep_read t s (asker_of conn tag opening count) k
+  keep_answer t s conn tag (Some (ReadsPort fid opening count)) k = k
 
   keep_message : (t : Tables) (s : BookState) (m : Kind) (a : Option Answer) → K s → K (message_book t s m a at)
   keep_message t s (kind.Dials conn) a k = k
@@ -285,7 +288,7 @@ module _ (first : BookState) (at : ℕ) where
 
   end_fids : (s : BookState) (fs : List (ℕ × Fid)) → E s → E (fold (without_fid at) s fs)
   end_fids s [] k = k
-  end_fids s (f ∷ fs) k = end_fids (without_fid at s f) fs (end_without s f.1.opening k)
+  end_fids s (f ∷ fs) k = end_fids (without_fid at s f) fs (end_without s (event_opening f.1) k)
 
   end_freed : (s : BookState) (t : Tables) (conn : ℕ) (e : Effect) → E s → E (freed at s t conn e)
   end_freed s t conn effect.Nothing k = k
@@ -296,6 +299,7 @@ module _ (first : BookState) (at : ℕ) where
   end_cancelled : (s : BookState) (conn : ℕ) (e : EventChange) → E s → E (cancelled s conn e)
   end_cancelled s conn events.Nothing k = k
   end_cancelled s conn (events.Opens w) k = k
+  end_cancelled s conn (events.Joins port) k = k
   end_cancelled s conn (events.Cancels tag) k = end_on s (after_cancel s conn tag) k (lawful-cancel s conn tag k.lawful) k.latest ((ended_stays s k.lawful).cancel conn tag)
 
   end_left : (t : Tables) (s : BookState) (m : Kind) (d : Doing) → E s → E (left_book at t m d s)

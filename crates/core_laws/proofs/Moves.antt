@@ -1,15 +1,13 @@
 -- Undo and Redo, window by window, over journals.
-use Rattle.std.proofs.Common.{◌≡◌, ℕ, ◌+◌, ◌-◌, Bool, true, false, cond, List, [], ◌∷◌, ◌++◌, length, Option, Some, None, refl, sym, ap, subst, ◌∙◌, arith, append_assoc}
-use Rattle.std.specs.Prelude.{map, slice_range}
+use Rattle.std.proofs.Common.{◌≡◌, ℕ, ◌+◌, ◌-◌, true, false, cond, List, [], ◌∷◌, ◌++◌, length, Option, Some, None, refl, sym, ap, ◌∙◌, arith, append_assoc}
+use Rattle.std.specs.Prelude.{map}
 use Rattle.std.specs.Option.{option_map}
 use Rattle.std.proofs.lemmas.List.{length-append}
 use Rattle.acme_cmd.specs.Commands.{classified}
 use Rattle.acme_cmd.specs.declared.command.Command.{Command}
 use Rattle.acme_cmd.specs.declared.command.Command.TheVariants as command
-use Rattle.acme_cmd.specs.declared.expansion.Click.TheVariants as click
 use Rattle.am_text.specs.declared.range.Range.{Range}
 use Rattle.am_journal.specs.declared.event.Event.{Event}
-use Rattle.am_journal.specs.declared.event.Event.TheVariants as event
 use Rattle.am_journal.specs.declared.event.Spot.{Spot}
 use Rattle.edit_log.specs.declared.types.Edit.{Edit}
 use Rattle.edit_log.specs.Groups.{DoneGroup, number_in, last_of, first_of, undoing_group, redoing_group}
@@ -31,7 +29,7 @@ use Rattle.core_actions.specs.declared.undoing.Move.{Move}
 use Rattle.core_actions.specs.declared.undoing.Move.TheVariants as move
 use Rattle.core_actions.specs.Undoing.{next_group, moves, is_number, moves_from, linked, move_deeds}
 use Rattle.core_exec.specs.declared.click.Clicked.{Clicked}
-use Rattle.core_exec.specs.Clicks.{clicked_at, own_text}
+use Rattle.core_exec.specs.Clicks.{own_text}
 use Rattle.core_exec.specs.Executing.{builtin_deeds, command_deeds, exec_deeds}
 use Rattle.core_exec.specs.Acting.{exec_click, exec_clicked}
 use Rattle.core_tasks.specs.Tasks.{task_deeds}
@@ -39,7 +37,7 @@ use Rattle.core_intents.specs.Doings.{doing_of, entry_by}
 use Rattle.acme_core.specs.Run.{step, run, present_after, IsPossible}
 use Rattle.core_intents.specs.States.{State, present, next_entry}
 use Rattle.acme_core.proofs.Goes.{run-push}
-use Rattle.core_laws.specs.Moving.{IsMove, moved_story, moved_story_if, past_after, TextIsMoved, AreMoved, MovesAreWhole, builtin_of, ExecutedMovesAreMoves}
+use Rattle.core_laws.specs.Moving.{moved_story, moved_story_if, TextIsMoved, MovesAreWhole, builtin_of, ExecutedMovesAreMoves}
 use Rattle.core_laws.proofs.Windows.{possible_prefix, all_lawful, one_lawful}
 
 -- ---- which windows move

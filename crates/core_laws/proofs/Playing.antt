@@ -1,14 +1,17 @@
 -- Journals of enabled events, in parts.
 use Rattle.std.specs.List.{fold}
-use Rattle.std.proofs.Common.{◌≡◌, ℕ, refl, List, [], ◌∷◌, ◌++◌, None, sym, subst, append_assoc, append-nil}
+use Rattle.std.proofs.Common.{◌≡◌, ℕ, refl, List, [], ◌∷◌, ◌++◌, None, sym, ap, subst, ◌∙◌, append_assoc, append-nil}
 use Rattle.am_journal.specs.Lawful.{IsLawful}
 use Rattle.am_journal.specs.declared.event.Event.{Event}
 use Rattle.am_counter.specs.Played.{ArePlayed}
 use Rattle.core_events.specs.Putting.{put_living}
 use Rattle.core_events.specs.Serving.{served_all}
+use Rattle.core_events.specs.declared.response.Response.{Response}
+use Rattle.core_ports.specs.Serving.{ports_served}
+use Rattle.core_ports.proofs.Idles.{none_said}
 use Rattle.acme_core.specs.Run.{step, run, enabled}
 use Rattle.core_intents.specs.States.{State, start}
-use Rattle.acme_core.proofs.Idling.{idle_after}
+use Rattle.acme_core.proofs.Idling.{idle_after, ports_idle_after}
 use Rattle.core_steps.proofs.Idling.{silent}
 
 pub played_more : (before events : List Event) (e : Event) → ArePlayed enabled before events → IsLawful e → enabled (before ++ events) e ≡ None → ArePlayed enabled before (events ++ e ∷ [])
@@ -42,5 +45,7 @@ unfolding run
 no_items journal = fold_items start journal refl
 
 -- so an entry without deeds answers no read that waits
-pub silent_after : (journal : List Event) (at : ℕ) → served_all at (put_living [] (run journal).scene.book (run journal).scene.items) ≡ []
-silent_after journal at = silent at [] (run journal).scene.book (run journal).scene.items (idle_after journal) (no_items journal)
+pub silent_after : (journal : List Event) (at : ℕ) → served_all at (put_living [] (run journal).scene.book (run journal).scene.items) ++ ports_served (run journal).scene.ports ≡ []
+silent_after journal at =
+    ap (λ (xs : List Response). xs ++ ports_served (run journal).scene.ports) (silent at [] (run journal).scene.book (run journal).scene.items (idle_after journal) (no_items journal))
+    ∙ none_said (run journal).scene.ports (ports_idle_after journal)

@@ -6,21 +6,26 @@ use Rattle.event_book.specs.BookState.{BookState}
 use Rattle.am_journal.specs.declared.event.Event.{Event}
 use Rattle.am_counter.specs.Played.{ArePlayed}
 use Rattle.core_fids.specs.declared.effect.Answer.{Answer}
-use Rattle.core_fids.specs.declared.effect.Answer.TheVariants.{Says, Reads}
+use Rattle.core_fids.specs.declared.effect.Answer.TheVariants.{Says, Reads, ReadsPort}
 use Rattle.core_fids.specs.declared.effect.Effect.{Effect}
 use Rattle.core_fids.specs.declared.effect.Effect.TheVariants as effect
 use Rattle.core_events.specs.declared.response.Response.{Response}
 use Rattle.core_events.specs.Asking.{read_said}
-use Rattle.core_events.specs.Closing.{written_back, freed, cancelled, opening_in}
+use Rattle.core_events.specs.Closing.{written_back, freed, opening_in}
 use Rattle.core_events.specs.Waits.{ended}
 use Rattle.core_scene.specs.Scenes.{deleted_by}
 use Rattle.core_intents.specs.Connections.{grown_with, ended_with}
 use Rattle.core_intents.specs.declared.kind.Kind.{Kind}
 use Rattle.core_intents.specs.declared.kind.Kind.TheVariants as kind
-use Rattle.core_intents.specs.Doings.{Doing, doing_of}
+use Rattle.plumb_ports.specs.PortsState.{PortsState}
+use Rattle.core_ports.specs.Asking.{port_said}
+use Rattle.core_ports.specs.Closing.{ports_freed}
+use Rattle.core_steps.specs.PortReads.{port_read_in, port_read_of, asked_tables, asked_ports}
+use Rattle.core_laws.proofs.Ports.{read_reads, joined_reads, acted_reads, served_reads, cancelled_reads, freed_reads, without_fids_reads}
+use Rattle.core_intents.specs.Doings.{Doing, doing_of, entry_of}
 use Rattle.core_intents.specs.Kinds.{kind_of}
 use Rattle.acme_core.specs.Run.{step, run, enabled}
-use Rattle.core_steps.specs.Stages.{asker_of, answer_book, answer_tables, grown_tables, grown_book, read_book, left_book, ended_tables, book_after, said}
+use Rattle.core_steps.specs.Stages.{asker_of, answer_book, answer_tables, acted, read_tables, grown_tables, grown_book, open_ports, grown_ports, read_book, left_book, left_ports, ended_tables, book_after, said}
 use Rattle.core_intents.specs.States.{Present, State, present, next_entry}
 use Rattle.acme_core.proofs.Goes.{run-push}
 use Rattle.core_laws.specs.Saying.{said_from}
@@ -31,7 +36,7 @@ use Rattle.core_laws.proofs.Wells.{IsWell, later, done_waiting, cancelled_waitin
 module _ (L : ℕ → ℕ → Type 0) where
   -- it is true of each read that waits
   abbrev pub IsQuiet : State → Type 0
-  IsQuiet s = All (IsWaiting L) s.tables.waiting × All (Reading L) s.scene.book.reads
+  IsQuiet s = All (IsWaiting L) s.tables.waiting × All (Reading L) s.scene.book.reads × All (Reading L) s.scene.ports.reads
 
   book_of : (s : State) → IsWell s → IsQuiet s → IsBook (Reading L) (s.entries + 1) s.scene.book
   book_of s well quiet = let b = later s well in record { lawful = b.book.lawful; latest = b.book.latest; reads = quiet.1 }
@@ -48,15 +53,33 @@ module _ (L : ℕ → ℕ → Type 0) where
   answered_waiting t b conn tag None own h = h
   answered_waiting t b conn tag (Some (Says body)) own h = h
   answered_waiting t b conn tag (Some (Reads fid opening count)) own h = waits_waiting (IsWaiting L) (read_said t b (asker_of conn tag opening count)) t conn tag fid own h
+  answered_waiting t b conn tag (Some (ReadsPort fid opening count)) own h = h
+
+  asked_waiting : (t : Tables) (p : PortsState) (conn tag : ℕ) (a : Option Answer) → L conn tag → All (IsWaiting L) t.waiting
+      → All (IsWaiting L) (asked_tables t p (port_read_in conn tag a)).waiting
+  asked_waiting t p conn tag None own h = h
+  asked_waiting t p conn tag (Some (Says body)) own h = h
+  asked_waiting t p conn tag (Some (Reads fid opening count)) own h = h
+  asked_waiting t p conn tag (Some (ReadsPort fid opening count)) own h = waits_waiting (IsWaiting L) (port_said t p (asker_of conn tag opening count)) t conn tag fid own h
+
+  asked_reads : (t : Tables) (p : PortsState) (conn tag : ℕ) (a : Option Answer) → L conn tag → All (Reading L) p.reads
+      → All (Reading L) (asked_ports t p (port_read_in conn tag a)).reads
+  asked_reads t p conn tag None own h = h
+  asked_reads t p conn tag (Some (Says body)) own h = h
+  asked_reads t p conn tag (Some (Reads fid opening count)) own h = h
+  asked_reads t p conn tag (Some (ReadsPort fid opening count)) own h = read_reads (Reading L) t p (asker_of conn tag opening count) own h
 
   answered_book : (at : ℕ) (t : Tables) (b : BookState) (conn tag : ℕ) (a : Option Answer) → L conn tag → IsBook (Reading L) at b → IsBook (Reading L) at (answer_book t b conn tag a at)
   answered_book at t b conn tag None own book = book
   answered_book at t b conn tag (Some (Says body)) own book = book
   answered_book at t b conn tag (Some (Reads fid opening count)) own book = reading_book (Reading L) at t b (asker_of conn tag opening count) own book
+  answered_book at t b conn tag (Some (ReadsPort fid opening count)) own book = book
 
   grown_waiting : (s : Present) (k : Kind) (d : Doing) → OfMessage L k → All (IsWaiting L) s.tables.waiting → All (IsWaiting L) (grown_tables s k d).waiting
   grown_waiting s (kind.Dials conn) d own h = h
-  grown_waiting s (kind.Asks conn tag) d own h = answered_waiting (grown_with s.tables conn d.effect) s.scene.book conn tag d.answer own (put_waiting s.tables conn d.effect h)
+  grown_waiting s (kind.Asks conn tag) d own h =
+      asked_waiting (read_tables s (kind.Asks conn tag) d) (acted s d).ports conn tag d.answer own
+      (answered_waiting (grown_with s.tables conn d.effect) s.scene.book conn tag d.answer own (put_waiting s.tables conn d.effect h))
   grown_waiting s (kind.Ends conn why) d own h = h
   grown_waiting s (kind.Takes conn) d own h = h
   grown_waiting s kind.Acts d own h = h
@@ -68,7 +91,29 @@ module _ (L : ℕ → ℕ → Type 0) where
   quiet_read s (kind.Takes conn) d own book = book
   quiet_read s kind.Acts d own book = book
 
+  -- the ports with what a message reads and opens
+  message_reads : (s : Present) (k : Kind) (d : Doing) → OfMessage L k → All (Reading L) (acted s d).ports.reads
+      → All (Reading L) (asked_ports (read_tables s k d) (acted s d).ports (port_read_of k d.answer)).reads
+  message_reads s (kind.Dials conn) d own h = h
+  message_reads s (kind.Asks conn tag) d own h = asked_reads (read_tables s (kind.Asks conn tag) d) (acted s d).ports conn tag d.answer own h
+  message_reads s (kind.Ends conn why) d own h = h
+  message_reads s (kind.Takes conn) d own h = h
+  message_reads s kind.Acts d own h = h
+
+  pub quiet_ports : (s : Present) (k : Kind) (d : Doing) → OfMessage L k → All (Reading L) s.scene.ports.reads → All (Reading L) (open_ports s k d).reads
+  quiet_ports s k d own h =
+      joined_reads (Reading L) (asked_ports (read_tables s k d) (acted s d).ports (port_read_of k d.answer)) d.events
+      (message_reads s k d own (acted_reads (Reading L) (entry_of s d) s.scene d.deeds h))
+
   -- ---- what ends
+
+  left_reads : (t : Tables) (p : PortsState) (k : Kind) (d : Doing) → All (Reading L) p.reads → All (Reading L) (left_ports t k d p).reads
+  left_reads t p (kind.Dials conn) d h = h
+  left_reads t p (kind.Asks conn tag) d h =
+      cancelled_reads (Reading L) (ports_freed p t conn d.effect) conn d.events (freed_reads (Reading L) p t conn d.effect h)
+  left_reads t p (kind.Ends conn why) d h = without_fids_reads (Reading L) p t conn h
+  left_reads t p (kind.Takes conn) d h = h
+  left_reads t p kind.Acts d h = h
 
   freed_waiting : (t : Tables) (conn : ℕ) (e : Effect) → All (IsWaiting L) t.waiting → All (IsWaiting L) (ended_with t conn e).waiting
   freed_waiting t conn effect.Nothing h = h
@@ -103,7 +148,8 @@ module _ (L : ℕ → ℕ → Type 0) where
 
   pub quiet_says : (s : State) (e : Event) → OfMessage L (kind_of e) → IsWell s → IsQuiet s → All (Tells L) (said (present s) (kind_of e) (doing_of (present s) e))
   quiet_says s e own well quiet =
-      tells L (present s) (kind_of e) (doing_of (present s) e) own (quiet_read (present s) (kind_of e) (doing_of (present s) e) own (book_of s well quiet)) quiet.0
+      tells L (present s) (kind_of e) (doing_of (present s) e) own (quiet_read (present s) (kind_of e) (doing_of (present s) e) own (book_of s well quiet))
+      (quiet_ports (present s) (kind_of e) (doing_of (present s) e) own quiet.2) quiet.0
 
   pub quiet_step : (s : State) (e : Event) → OfMessage L (kind_of e) → IsWell s → IsQuiet s → IsQuiet (step s e)
   unfolding step
@@ -118,7 +164,7 @@ module _ (L : ℕ → ℕ → Type 0) where
       let closed : IsBook (Reading L) at (book_after p k d) =
       book_closed (Reading L) at (left_book at t k d back) (deleted_by d.deeds) (quiet_left at t back k d (book_written (Reading L) at (grown_book p k d) d.back items))
       in
-      (left_waiting t k d (said p k d) (grown_waiting p k d own quiet.0), closed.reads)
+      (left_waiting t k d (said p k d) (grown_waiting p k d own quiet.0), closed.reads, left_reads t (grown_ports p k d) k d (served_reads (Reading L) (open_ports p k d) (quiet_ports p k d own quiet.2)))
 
   -- ---- all events
 

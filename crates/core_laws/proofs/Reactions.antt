@@ -9,6 +9,9 @@ use Rattle.ninep_types.specs.declared.message.TBody.{TBody}
 use Rattle.ninep_types.specs.declared.message.TBody.TheVariants as t
 use Rattle.ninep_types.specs.declared.message.RBody.TheVariants as r
 use Rattle.acme_tree.specs.Trees.{is_live}
+use Rattle.acme_tree.specs.declared.node.Node.{Node}
+use Rattle.acme_tree.specs.declared.node.Node.TheVariants as node
+use Rattle.acme_tree.specs.declared.node.WinFile.TheVariants as file
 use Rattle.acme_tree.specs.declared.node.World.{World}
 use Rattle.fid_table.specs.declared.types.Fid.{Fid}
 use Rattle.fid_table.specs.Tables.{Tables, fid_of, msize_of}
@@ -16,12 +19,11 @@ use Rattle.core_addresses.specs.Data.{data_taken}
 use Rattle.core_addresses.specs.Ranges.{addressed}
 use Rattle.core_addresses.specs.declared.data.Taken.{Taken}
 use Rattle.core_addresses.specs.declared.fault.RangeFault.{RangeFault}
-use Rattle.core_windows.specs.declared.change.Change.TheVariants as change
 use Rattle.core_windows.specs.Windows.{Window, window_at, named, world_of}
 use Rattle.core_fids.specs.declared.content.Content.{Content}
 use Rattle.core_fids.specs.declared.content.Content.TheVariants as content
 use Rattle.core_fids.specs.declared.effect.Answer.{Answer}
-use Rattle.core_fids.specs.declared.effect.Answer.TheVariants.{Says, Reads}
+use Rattle.core_fids.specs.declared.effect.Answer.TheVariants.{Says, Reads, ReadsPort}
 use Rattle.core_fids.specs.declared.effect.Reaction.{Reaction}
 use Rattle.core_fids.specs.declared.effect.Effect.{Effect}
 use Rattle.core_fids.specs.declared.effect.Effect.TheVariants as effect
@@ -32,15 +34,16 @@ use Rattle.core_fids.specs.declared.refusal.Refusal.TheVariants as refusal
 use Rattle.core_fids.specs.declared.walking.WalkEnd.{WalkEnd}
 use Rattle.core_fids.specs.declared.walking.WalkEnd.TheVariants as end
 use Rattle.core_answers.specs.Addressing.{data_reaction, xdata_reaction, addr_or_refusal, addr_reaction, data_or_refusal, taking_reaction}
-use Rattle.core_fids.specs.Attaching.{is_version, agreed, version_reaction, attach_refusal, or_attaches}
+use Rattle.core_fids.specs.Attaching.{is_version, agreed, version_reaction, attached, attach_refusal, attach_to, or_attaches}
 use Rattle.core_fids.specs.Contents.{content_of}
 use Rattle.core_answers.specs.Reactions.{served, comes_first, reaction}
 use Rattle.core_answers.specs.Erring.{fits_in, fits_tag, errors_of, root_errors, errors_refusal}
-use Rattle.core_fids.specs.Fids.{is_there, is_used, is_open, is_for_reading, is_for_writing}
+use Rattle.core_fids.specs.Fids.{at_event, at_port, event_opening, port_opening, is_there, is_used, is_open, is_for_reading, is_for_writing}
 use Rattle.core_fids.specs.Opening.{open_refusal, or_opens, open_fid, denied, clunk_fid, remove_fid}
 use Rattle.core_fids.specs.Plainly.{does}
+use Rattle.core_fids.specs.Plumbers.{Plumber}
 use Rattle.core_fids.specs.Directories.{place_at, read_dir, stat_fid}
-use Rattle.core_answers.specs.Reading.{read_opening, read_content, use_refusal, or_reads, most, read_fid}
+use Rattle.core_answers.specs.Reading.{read_opening, read_port, read_content, use_refusal, or_reads, most, read_fid}
 use Rattle.core_fids.specs.Refusals.{refused_with, reaction_or_refusal}
 use Rattle.core_answers.specs.Texts.{text_at, right_of}
 use Rattle.core_fids.specs.Walking.{trail, new_refusal, walk_refusal, arrives_at, or_walks, walk_from}
@@ -50,10 +53,10 @@ use Rattle.core_answers.specs.Writing.{if_lives, append_reaction, add_reaction, 
 abbrev pub IsModed : Fid → Type 0
 IsModed f = f.mode ≡ None → f.opening ≡ None
 
--- the fid that is put is such a one, and has the opening of the one in whose place it stands
+-- the fid that is put is such a one, and has the opening and the node of the one in whose place it stands, where that has an opening
 pub record IsPut (tables : Tables) (conn number : ℕ) (value : Fid) : Type 0 where
   pub moded : IsModed value
-  pub keeps : (f : Fid) (o : ℕ) → fid_of tables conn number ≡ Some f → f.opening ≡ Some o → value.opening ≡ Some o
+  pub keeps : (f : Fid) (o : ℕ) → fid_of tables conn number ≡ Some f → f.opening ≡ Some o → (value.opening ≡ Some o) × (value.node ≡ f.node)
 
 abbrev pub PutsSane : Tables → ℕ → Effect → Type 0
 PutsSane tables conn effect.Nothing = Unit {0}
@@ -61,17 +64,70 @@ PutsSane tables conn (effect.Begins msize) = Unit {0}
 PutsSane tables conn (effect.Puts number value) = IsPut tables conn number value
 PutsSane tables conn (effect.Frees number) = Unit {0}
 
--- the opening is that of this fid
-pub record HasOpening (tables : Tables) (conn number opening : ℕ) : Type 0 where
+-- an opening of an event file, or of a port, is the fid's
+pub of_event : (node : Node) (o : Option ℕ) (x : ℕ) → at_event node o ≡ Some x → o ≡ Some x
+of_event node.Root o x h = absurd cc
+of_event node.Cons o x h = absurd cc
+of_event node.ConsCtl o x h = absurd cc
+of_event node.Index o x h = absurd cc
+of_event node.Label o x h = absurd cc
+of_event node.NewDir o x h = absurd cc
+of_event node.PlumbRoot o x h = absurd cc
+of_event node.Send o x h = absurd cc
+of_event node.Rules o x h = absurd cc
+of_event (node.Window w) o x h = absurd cc
+of_event (node.Port k) o x h = absurd cc
+of_event (node.File w file.Addr) o x h = absurd cc
+of_event (node.File w file.Body) o x h = absurd cc
+of_event (node.File w file.Ctl) o x h = absurd cc
+of_event (node.File w file.Data) o x h = absurd cc
+of_event (node.File w file.Errors) o x h = absurd cc
+of_event (node.File w file.Event) o x h = h
+of_event (node.File w file.Tag) o x h = absurd cc
+of_event (node.File w file.Xdata) o x h = absurd cc
+
+pub of_port : (node : Node) (o : Option ℕ) (x : ℕ) → at_port node o ≡ Some x → o ≡ Some x
+of_port node.Root o x h = absurd cc
+of_port node.Cons o x h = absurd cc
+of_port node.ConsCtl o x h = absurd cc
+of_port node.Index o x h = absurd cc
+of_port node.Label o x h = absurd cc
+of_port node.NewDir o x h = absurd cc
+of_port node.PlumbRoot o x h = absurd cc
+of_port node.Send o x h = absurd cc
+of_port node.Rules o x h = absurd cc
+of_port (node.Window w) o x h = absurd cc
+of_port (node.Port k) o x h = h
+of_port (node.File w file.Addr) o x h = absurd cc
+of_port (node.File w file.Body) o x h = absurd cc
+of_port (node.File w file.Ctl) o x h = absurd cc
+of_port (node.File w file.Data) o x h = absurd cc
+of_port (node.File w file.Errors) o x h = absurd cc
+of_port (node.File w file.Event) o x h = absurd cc
+of_port (node.File w file.Tag) o x h = absurd cc
+of_port (node.File w file.Xdata) o x h = absurd cc
+
+-- so the fid that is put has it, too
+pub keeps : (which : Node → Option ℕ → Option ℕ) (tables : Tables) (conn number : ℕ) (value : Fid) → ((node : Node) (o : Option ℕ) (x : ℕ) → which node o ≡ Some x → o ≡ Some x) → IsPut tables conn number value
+    → (f : Fid) (o : ℕ) → fid_of tables conn number ≡ Some f → which f.node f.opening ≡ Some o → which value.node value.opening ≡ Some o
+keeps which tables conn number value own put f o is opens =
+    let mine : f.opening ≡ Some o = own f.node f.opening o opens in
+    let both : (value.opening ≡ Some o) × (value.node ≡ f.node) = put.keeps f o is mine in
+    ap (λ (n : Node). which n value.opening) both.1 ∙ ap (which f.node) (both.0 ∙ sym mine) ∙ opens
+
+-- the opening is that of this fid, of an event file or of a port
+pub record HasOpening (which : Fid → Option ℕ) (tables : Tables) (conn number opening : ℕ) : Type 0 where
   pub fid : Fid
   pub is : fid_of tables conn number ≡ Some fid
-  pub opens : fid.opening ≡ Some opening
+  pub opens : which fid ≡ Some opening
 
 -- what reads does nothing else
 abbrev pub ReadsSane : Tables → ℕ → Reaction → Answer → Type 0
 ReadsSane tables conn d (Says body) = Unit {0}
 ReadsSane tables conn d (Reads number opening count) =
-    (d.effect ≡ effect.Nothing) × HasOpening tables conn number opening × (d.events ≡ events.Nothing) × (d.changes ≡ []) × (d.demand ≡ demand.Nothing)
+    (d.effect ≡ effect.Nothing) × HasOpening event_opening tables conn number opening × (d.events ≡ events.Nothing) × (d.changes ≡ []) × (d.demand ≡ demand.Nothing)
+ReadsSane tables conn d (ReadsPort number opening count) =
+    (d.effect ≡ effect.Nothing) × HasOpening port_opening tables conn number opening × (d.events ≡ events.Nothing) × (d.changes ≡ []) × (d.demand ≡ demand.Nothing)
 
 abbrev pub IsSane : Tables → ℕ → Reaction → Type 0
 IsSane tables conn d = PutsSane tables conn d.effect × ReadsSane tables conn d d.answer
@@ -119,10 +175,11 @@ module _ (tables : Tables) (conn : ℕ) (moded : (number : ℕ) (f : Fid) → fi
   -- ---- fids that are put
 
   -- a fid with what the one in its place had
-  put_again : (number : ℕ) (f value : Fid) → fid_of tables conn number ≡ Some f → value.mode ≡ f.mode → value.opening ≡ f.opening → IsPut tables conn number value
-  put_again number f value is mode opening = record {
+  put_again : (number : ℕ) (f value : Fid) → fid_of tables conn number ≡ Some f → value.mode ≡ f.mode → value.opening ≡ f.opening → value.node ≡ f.node → IsPut tables conn number value
+  put_again number f value is mode opening node = record {
     moded = λ e. opening ∙ moded number f is (sym mode ∙ e);
-    keeps = λ g o there opens. opening ∙ ap (λ (x : Fid). x.opening) (same_some (fid_of tables conn number) f g is there) ∙ opens;
+    keeps = λ g o there opens. let same : f ≡ g = same_some (fid_of tables conn number) f g is there in
+        (opening ∙ ap (λ (x : Fid). x.opening) same ∙ opens, node ∙ ap (λ (x : Fid). x.node) same);
   }
 
   -- a fid where none with an opening stands
@@ -149,8 +206,12 @@ module _ (tables : Tables) (conn : ℕ) (moded : (number : ℕ) (f : Fid) → fi
       (one_of (is_version version) (does (effect.Begins (Some (min msize 65560))) [] (r.Version (min msize 65560) (codes "9P2000")))
       (does (effect.Begins None) [] (r.Version (min msize 65560) (codes "unknown"))) (tt, tt) (tt, tt))
 
-  attaches : (fid afid : ℕ) (aname : List ℕ) (o : Option Refusal) → attach_refusal tables conn fid afid aname ≡ o → Sane (or_attaches o fid)
-  attaches fid afid aname None e = (put_new fid _ (λ h. refl) (unused fid (second_false _ (is_used tables conn fid) _ _ _ e)), tt)
+  attaches_at : (fid : ℕ) (o : Option Node) → is_used tables conn fid ≡ false → Sane (attach_to fid o)
+  attaches_at fid None e = tt
+  attaches_at fid (Some node) e = (put_new fid _ (λ h. refl) (unused fid e), tt)
+
+  attaches : (fid afid : ℕ) (aname : List ℕ) (o : Option Refusal) → attach_refusal tables conn fid afid ≡ o → Sane (or_attaches o fid aname)
+  attaches fid afid aname None e = attaches_at fid (attached aname) (second_false _ (is_used tables conn fid) _ _ _ e)
   attaches fid afid aname (Some x) e = tt
 
   arrives_sane : (newfid : ℕ) (world : World) (qids : List Qid) (e : WalkEnd) → ((f : Fid) → fid_of tables conn newfid ≡ Some f → f.opening ≡ None) → Sane (arrives_at newfid world qids e)
@@ -172,21 +233,22 @@ module _ (tables : Tables) (conn : ℕ) (moded : (number : ℕ) (f : Fid) → fi
         | false ↦ λ apart e. unused newfid (second_false _ (is_used tables conn newfid) _ _ _ e)
       ] refl
 
-  walk_sane : (world : World) (number newfid : ℕ) (names : List (List ℕ)) (o : Option Fid) → fid_of tables conn number ≡ o → Sane (walk_from tables world conn number newfid names o)
-  walk_sane world number newfid names None is = tt
-  walk_sane world number newfid names (Some f) is =
+  walk_sane : (world : World) (ports : List (List ℕ)) (number newfid : ℕ) (names : List (List ℕ)) (o : Option Fid) → fid_of tables conn number ≡ o
+      → Sane (walk_from tables world ports conn number newfid names o)
+  walk_sane world ports number newfid names None is = tt
+  walk_sane world ports number newfid names (Some f) is =
       or_walks_sane (walk_refusal tables conn number newfid f) _
-      (λ e. arrives_sane newfid world (trail world f.node names).qids (trail world f.node names).end (walk_free number newfid f is e))
+      (λ e. arrives_sane newfid world (trail world ports f.node names).qids (trail world ports f.node names).end (walk_free number newfid f is e))
 
-  opens_sane : (world : World) (openings number mode : ℕ) (f : Fid) (o : Option Refusal) → fid_of tables conn number ≡ Some f → open_refusal world openings f mode ≡ o
-      → Sane (or_opens tables o openings number f mode)
-  opens_sane world openings number mode f None is e =
+  opens_sane : (world : World) (plumber : Plumber) (openings number mode : ℕ) (f : Fid) (o : Option Refusal) → fid_of tables conn number ≡ Some f → open_refusal world plumber openings f mode ≡ o
+      → Sane (or_opens tables plumber o openings number f mode)
+  opens_sane world plumber openings number mode f None is e =
       (put_new number _ (λ h. absurd cc) (closed number f is (second_false _ (is_open f) _ _ _ e)), tt)
-  opens_sane world openings number mode f (Some x) is e = tt
+  opens_sane world plumber openings number mode f (Some x) is e = tt
 
-  open_sane : (world : World) (openings number mode : ℕ) (o : Option Fid) → fid_of tables conn number ≡ o → Sane (open_fid tables world openings number mode o)
-  open_sane world openings number mode None is = tt
-  open_sane world openings number mode (Some f) is = opens_sane world openings number mode f (open_refusal world openings f mode) is refl
+  open_sane : (world : World) (plumber : Plumber) (openings number mode : ℕ) (o : Option Fid) → fid_of tables conn number ≡ o → Sane (open_fid tables world plumber openings number mode o)
+  open_sane world plumber openings number mode None is = tt
+  open_sane world plumber openings number mode (Some f) is = opens_sane world plumber openings number mode f (open_refusal world plumber openings f mode) is refl
 
   denied_sane : (o : Option Fid) → Sane (denied o)
   denied_sane None = tt
@@ -196,13 +258,17 @@ module _ (tables : Tables) (conn : ℕ) (moded : (number : ℕ) (f : Fid) → fi
   or_reads_sane None x h = h
   or_reads_sane (Some y) x h = tt
 
-  read_dir_sane : (world : World) (number offset count : ℕ) (f : Fid) (o : Option ℕ) → fid_of tables conn number ≡ Some f → Sane (read_dir world number f offset count o)
-  read_dir_sane world number offset count f None is = tt
-  read_dir_sane world number offset count f (Some skip) is = (put_again number f _ is refl refl, tt)
+  read_dir_sane : (world : World) (ports : List (List ℕ)) (number offset count : ℕ) (f : Fid) (o : Option ℕ) → fid_of tables conn number ≡ Some f → Sane (read_dir world ports number f offset count o)
+  read_dir_sane world ports number offset count f None is = tt
+  read_dir_sane world ports number offset count f (Some skip) is = (put_again number f _ is refl refl refl, tt)
 
-  read_opening_sane : (number count : ℕ) (f : Fid) (o : Option ℕ) → fid_of tables conn number ≡ Some f → f.opening ≡ o → Sane (read_opening number count o)
+  read_opening_sane : (number count : ℕ) (f : Fid) (o : Option ℕ) → fid_of tables conn number ≡ Some f → event_opening f ≡ o → Sane (read_opening number count o)
   read_opening_sane number count f None is e = tt
   read_opening_sane number count f (Some opening) is e = (tt, (refl, record { fid = f; is = is; opens = e }, refl, refl, refl))
+
+  read_port_sane : (number count : ℕ) (f : Fid) (o : Option ℕ) → fid_of tables conn number ≡ Some f → port_opening f ≡ o → Sane (read_port number count o)
+  read_port_sane number count f None is e = tt
+  read_port_sane number count f (Some opening) is e = (tt, (refl, record { fid = f; is = is; opens = e }, refl, refl, refl))
 
   data_sane : (w count : ℕ) (o : Option Window) → IsSane tables conn (data_reaction w count o)
   data_sane w count None = (tt, tt)
@@ -212,26 +278,29 @@ module _ (tables : Tables) (conn : ℕ) (moded : (number : ℕ) (f : Fid) → fi
   xdata_sane w count None = (tt, tt)
   xdata_sane w count (Some window) = (tt, tt)
 
-  read_content_sane : (world : World) (windows : List (Option Window)) (number offset count : ℕ) (f : Fid) (c : Content) → fid_of tables conn number ≡ Some f
-      → Sane (read_content world windows number f offset count c)
-  read_content_sane world windows number offset count f content.Directory is = read_dir_sane world number offset count f (place_at f offset) is
-  read_content_sane world windows number offset count f (content.BodyText w) is = (tt, tt)
-  read_content_sane world windows number offset count f (content.TagText w) is = (tt, tt)
-  read_content_sane world windows number offset count f (content.CtlText w) is = (tt, tt)
-  read_content_sane world windows number offset count f (content.AddrText w) is = (tt, tt)
-  read_content_sane world windows number offset count f (content.DataOf w) is = data_sane w count (window_at windows w)
-  read_content_sane world windows number offset count f (content.XdataOf w) is = xdata_sane w count (window_at windows w)
-  read_content_sane world windows number offset count f content.IndexText is = (tt, tt)
-  read_content_sane world windows number offset count f (content.ErrorsOf w) is = tt
-  read_content_sane world windows number offset count f content.ConsErrors is = (tt, tt)
-  read_content_sane world windows number offset count f content.Empty is = (tt, tt)
-  read_content_sane world windows number offset count f (content.EventsOf w) is = read_opening_sane number count f f.opening is refl
-  read_content_sane world windows number offset count f content.Unserved is = tt
+  read_content_sane : (world : World) (windows : List (Option Window)) (plumber : Plumber) (number offset count : ℕ) (f : Fid) (c : Content) → fid_of tables conn number ≡ Some f
+      → Sane (read_content world windows plumber number f offset count c)
+  read_content_sane world windows plumber number offset count f content.Directory is = read_dir_sane world plumber.names number offset count f (place_at f offset) is
+  read_content_sane world windows plumber number offset count f (content.BodyText w) is = (tt, tt)
+  read_content_sane world windows plumber number offset count f (content.TagText w) is = (tt, tt)
+  read_content_sane world windows plumber number offset count f (content.CtlText w) is = (tt, tt)
+  read_content_sane world windows plumber number offset count f (content.AddrText w) is = (tt, tt)
+  read_content_sane world windows plumber number offset count f (content.DataOf w) is = data_sane w count (window_at windows w)
+  read_content_sane world windows plumber number offset count f (content.XdataOf w) is = xdata_sane w count (window_at windows w)
+  read_content_sane world windows plumber number offset count f content.IndexText is = (tt, tt)
+  read_content_sane world windows plumber number offset count f (content.ErrorsOf w) is = tt
+  read_content_sane world windows plumber number offset count f content.ConsErrors is = (tt, tt)
+  read_content_sane world windows plumber number offset count f content.Empty is = (tt, tt)
+  read_content_sane world windows plumber number offset count f (content.EventsOf w) is = read_opening_sane number count f (event_opening f) is refl
+  read_content_sane world windows plumber number offset count f content.SendText is = tt
+  read_content_sane world windows plumber number offset count f content.RulesText is = (tt, tt)
+  read_content_sane world windows plumber number offset count f (content.PortOf k) is = read_port_sane number count f (port_opening f) is refl
 
-  read_sane : (world : World) (windows : List (Option Window)) (number offset count : ℕ) (o : Option Fid) → fid_of tables conn number ≡ o → Sane (read_fid world windows number offset count o)
-  read_sane world windows number offset count None is = tt
-  read_sane world windows number offset count (Some f) is =
-      or_reads_sane (use_refusal world f is_for_reading) _ (read_content_sane world windows number offset count f (content_of f.node) is)
+  read_sane : (world : World) (windows : List (Option Window)) (plumber : Plumber) (number offset count : ℕ) (o : Option Fid) → fid_of tables conn number ≡ o
+      → Sane (read_fid world windows plumber number offset count o)
+  read_sane world windows plumber number offset count None is = tt
+  read_sane world windows plumber number offset count (Some f) is =
+      or_reads_sane (use_refusal world plumber.names f is_for_reading) _ (read_content_sane world windows plumber number offset count f (content_of f.node) is)
 
   if_lives_sane : (o : Option Window) (x : Result Reaction Refusal) → Sane x → Sane (if_lives o x)
   if_lives_sane None x h = tt
@@ -239,11 +308,11 @@ module _ (tables : Tables) (conn : ℕ) (moded : (number : ℕ) (f : Fid) → fi
 
   append_sane : (windows : List (Option Window)) (number w count : ℕ) (f : Fid) (decoded : Decoded) → fid_of tables conn number ≡ Some f → Sane (append_reaction windows number f w count decoded)
   append_sane windows number w count f decoded is =
-      if_lives_sane (window_at windows w) _ (done_or (fits_in (text_at windows w) decoded.text) _ refusal.TextTooLong (put_again number f _ is refl refl, tt))
+      if_lives_sane (window_at windows w) _ (done_or (fits_in (text_at windows w) decoded.text) _ refusal.TextTooLong (put_again number f _ is refl refl refl, tt))
 
   add_sane : (windows : List (Option Window)) (number w count : ℕ) (f : Fid) (decoded : Decoded) → fid_of tables conn number ≡ Some f → Sane (add_reaction windows number f w count decoded)
   add_sane windows number w count f decoded is =
-      if_lives_sane (window_at windows w) _ (done_or (fits_tag (right_of (window_at windows w)) decoded.text) _ refusal.TextTooLong (put_again number f _ is refl refl, tt))
+      if_lives_sane (window_at windows w) _ (done_or (fits_tag (right_of (window_at windows w)) decoded.text) _ refusal.TextTooLong (put_again number f _ is refl refl refl, tt))
 
   or_errors_sane : (o : Option Refusal) (d : Reaction) → IsSane tables conn d → Sane (or_errors o d)
   or_errors_sane None d h = h
@@ -252,7 +321,7 @@ module _ (tables : Tables) (conn : ℕ) (moded : (number : ℕ) (f : Fid) → fi
   errors_sane : (windows : List (Option Window)) (number count : ℕ) (name : List ℕ) (f : Fid) (decoded : Decoded) → fid_of tables conn number ≡ Some f
       → Sane (errors_reaction windows number f name count decoded)
   errors_sane windows number count name f decoded is =
-      or_errors_sane (errors_refusal windows (named windows name) decoded.text) _ (put_again number f _ is refl refl, tt)
+      or_errors_sane (errors_refusal windows (named windows name) decoded.text) _ (put_again number f _ is refl refl refl, tt)
 
   addr_set_sane : (w count : ℕ) (x : Result Range RangeFault) → Sane (addr_or_refusal w count x)
   addr_set_sane w count (Ok range) = (tt, tt)
@@ -284,12 +353,15 @@ module _ (tables : Tables) (conn : ℕ) (moded : (number : ℕ) (f : Fid) → fi
   write_content_sane windows number f bytes content.ConsErrors is = errors_sane windows number (length bytes) root_errors f (decode_part (part_bytes f.part ++ bytes)) is
   write_content_sane windows number f bytes content.Empty is = (tt, tt)
   write_content_sane windows number f bytes (content.EventsOf w) is = if_lives_sane (window_at windows w) _ (tt, tt)
-  write_content_sane windows number f bytes content.Unserved is = tt
+  write_content_sane windows number f bytes content.SendText is = (put_again number f _ is refl refl refl, tt)
+  write_content_sane windows number f bytes content.RulesText is = (put_again number f _ is refl refl refl, tt)
+  write_content_sane windows number f bytes (content.PortOf k) is = tt
 
-  write_sane : (world : World) (windows : List (Option Window)) (number : ℕ) (bytes : List ℕ) (o : Option Fid) → fid_of tables conn number ≡ o → Sane (write_fid world windows number bytes o)
-  write_sane world windows number bytes None is = tt
-  write_sane world windows number bytes (Some f) is =
-      or_reads_sane (use_refusal world f is_for_writing) _ (write_content_sane windows number f bytes (content_of f.node) is)
+  write_sane : (world : World) (windows : List (Option Window)) (ports : List (List ℕ)) (number : ℕ) (bytes : List ℕ) (o : Option Fid) → fid_of tables conn number ≡ o
+      → Sane (write_fid world windows ports number bytes o)
+  write_sane world windows ports number bytes None is = tt
+  write_sane world windows ports number bytes (Some f) is =
+      or_reads_sane (use_refusal world ports f is_for_writing) _ (write_content_sane windows number f bytes (content_of f.node) is)
 
   clunk_sane : (number : ℕ) (o : Option Fid) → Sane (clunk_fid number o)
   clunk_sane number None = tt
@@ -299,30 +371,30 @@ module _ (tables : Tables) (conn : ℕ) (moded : (number : ℕ) (f : Fid) → fi
   remove_sane number None = tt
   remove_sane number (Some f) = (tt, tt)
 
-  stat_sane : (world : World) (o : Option Fid) → Sane (stat_fid world o)
-  stat_sane world None = tt
-  stat_sane world (Some f) = done_or (is_live world f.node) _ refusal.WindowDeleted (tt, tt)
+  stat_sane : (world : World) (ports : List (List ℕ)) (o : Option Fid) → Sane (stat_fid world ports o)
+  stat_sane world ports None = tt
+  stat_sane world ports (Some f) = done_or (is_live world ports f.node) _ refusal.WindowDeleted (tt, tt)
 
-  served_sane : (world : World) (windows : List (Option Window)) (openings : ℕ) (body : TBody) → Sane (served tables world windows openings conn body)
-  served_sane world windows openings (t.Version msize version) = version_sane msize version
-  served_sane world windows openings (t.Auth afid uname aname) = tt
-  served_sane world windows openings (t.Flush oldtag) = (tt, tt)
-  served_sane world windows openings (t.Attach fid afid uname aname) = attaches fid afid aname (attach_refusal tables conn fid afid aname) refl
-  served_sane world windows openings (t.Walk fid newfid names) = walk_sane world fid newfid names (fid_of tables conn fid) refl
-  served_sane world windows openings (t.Open fid mode) = open_sane world openings fid mode (fid_of tables conn fid) refl
-  served_sane world windows openings (t.Create fid name perm mode) = denied_sane (fid_of tables conn fid)
-  served_sane world windows openings (t.Read fid offset count) = read_sane world windows fid offset (most count (msize_of tables conn)) (fid_of tables conn fid) refl
-  served_sane world windows openings (t.Write fid offset bytes) = write_sane world windows fid bytes (fid_of tables conn fid) refl
-  served_sane world windows openings (t.Clunk fid) = clunk_sane fid (fid_of tables conn fid)
-  served_sane world windows openings (t.Remove fid) = remove_sane fid (fid_of tables conn fid)
-  served_sane world windows openings (t.Stat fid) = stat_sane world (fid_of tables conn fid)
-  served_sane world windows openings (t.Wstat fid stat) = denied_sane (fid_of tables conn fid)
+  served_sane : (world : World) (windows : List (Option Window)) (plumber : Plumber) (openings : ℕ) (body : TBody) → Sane (served tables world windows plumber openings conn body)
+  served_sane world windows plumber openings (t.Version msize version) = version_sane msize version
+  served_sane world windows plumber openings (t.Auth afid uname aname) = tt
+  served_sane world windows plumber openings (t.Flush oldtag) = (tt, tt)
+  served_sane world windows plumber openings (t.Attach fid afid uname aname) = attaches fid afid aname (attach_refusal tables conn fid afid) refl
+  served_sane world windows plumber openings (t.Walk fid newfid names) = walk_sane world plumber.names fid newfid names (fid_of tables conn fid) refl
+  served_sane world windows plumber openings (t.Open fid mode) = open_sane world plumber openings fid mode (fid_of tables conn fid) refl
+  served_sane world windows plumber openings (t.Create fid name perm mode) = denied_sane (fid_of tables conn fid)
+  served_sane world windows plumber openings (t.Read fid offset count) = read_sane world windows plumber fid offset (most count (msize_of tables conn)) (fid_of tables conn fid) refl
+  served_sane world windows plumber openings (t.Write fid offset bytes) = write_sane world windows plumber.names fid bytes (fid_of tables conn fid) refl
+  served_sane world windows plumber openings (t.Clunk fid) = clunk_sane fid (fid_of tables conn fid)
+  served_sane world windows plumber openings (t.Remove fid) = remove_sane fid (fid_of tables conn fid)
+  served_sane world windows plumber openings (t.Stat fid) = stat_sane world plumber.names (fid_of tables conn fid)
+  served_sane world windows plumber openings (t.Wstat fid stat) = denied_sane (fid_of tables conn fid)
 
   settled : (x : Result Reaction Refusal) → Sane x → IsSane tables conn (reaction_or_refusal x)
   settled (Ok d) h = h
   settled (Err x) h = (tt, tt)
 
-  pub reaction_sane : (windows : List (Option Window)) (openings : ℕ) (body : TBody) → IsSane tables conn (reaction tables windows openings conn body)
-  reaction_sane windows openings body =
+  pub reaction_sane : (windows : List (Option Window)) (plumber : Plumber) (openings : ℕ) (body : TBody) → IsSane tables conn (reaction tables windows plumber openings conn body)
+  reaction_sane windows plumber openings body =
       one_of (comes_first tables conn body) (refused_with effect.Nothing refusal.VersionFirst) _ (tt, tt)
-      (settled (served tables (world_of windows) windows openings conn body) (served_sane (world_of windows) windows openings body))
+      (settled (served tables (world_of windows) windows plumber openings conn body) (served_sane (world_of windows) windows plumber openings body))

@@ -1,5 +1,5 @@
 -- A read waits only in a session, so a Tflush for its tag is answered by Rflush.
-use Rattle.std.proofs.Common.{◌≡◌, ◌≢◌, ℕ, Bool, true, false, not, cond, eqb, ◌&&◌, ◌||◌, List, [], ◌∷◌, length, find, fold, nat_lt, min, codes, slice_index_or, Option, Some, None, option_map, All, refl, sym, ap, subst, ◌∙◌}
+use Rattle.std.proofs.Common.{◌≡◌, ◌≢◌, ℕ, Bool, true, false, not, cond, eqb, ◌&&◌, ◌||◌, List, [], ◌∷◌, ◌++◌, length, find, fold, nat_lt, min, codes, slice_index_or, Option, Some, None, option_map, All, refl, sym, ap, subst, ◌∙◌}
 use Rattle.std.specs.List.{filter, list_any}
 use Rattle.std.specs.Option.{option_or}
 use Rattle.std.proofs.lemmas.Bool.{false≢true, eqb-true, eqb-false, not-true}
@@ -19,7 +19,7 @@ use Rattle.win_events.specs.declared.item.Origin.TheVariants.{F}
 use Rattle.am_journal.specs.declared.event.Event.{Event}
 use Rattle.am_journal.specs.declared.event.Event.TheVariants as event
 use Rattle.core_fids.specs.declared.effect.Answer.{Answer}
-use Rattle.core_fids.specs.declared.effect.Answer.TheVariants.{Says, Reads}
+use Rattle.core_fids.specs.declared.effect.Answer.TheVariants.{Says, Reads, ReadsPort}
 use Rattle.core_fids.specs.declared.effect.Reaction.{Reaction}
 use Rattle.core_fids.specs.declared.effect.Effect.{Effect}
 use Rattle.core_fids.specs.declared.effect.Effect.TheVariants as effect
@@ -28,7 +28,6 @@ use Rattle.core_fids.specs.declared.refusal.Refusal.TheVariants as refusal
 use Rattle.core_fids.specs.Attaching.{is_version, agreed, version_reaction}
 use Rattle.core_answers.specs.Reactions.{needs_session, served, flush_reaction}
 use Rattle.core_fids.specs.Plainly.{does}
-use Rattle.core_windows.specs.declared.change.Change.TheVariants as change
 use Rattle.core_windows.specs.Windows.{Window, world_of}
 use Rattle.core_fids.specs.Fids.{is_there}
 use Rattle.core_fids.specs.Refusals.{refused, refused_with, reaction_or_refusal}
@@ -41,15 +40,21 @@ use Rattle.core_events.specs.Putting.{put_living}
 use Rattle.core_events.specs.Serving.{served_all}
 use Rattle.core_tasks.specs.Tasks.{task_deeds, task_refusal}
 use Rattle.core_laws.proofs.Playing.{silent_after}
-use Rattle.core_intents.specs.Doings.{message_doing, doing_of}
+use Rattle.plumb_ports.specs.PortsState.{PortsState}
+use Rattle.core_fids.specs.Plumbers.{Plumber, plumber_of}
+use Rattle.core_ports.specs.Asking.{port_said}
+use Rattle.core_ports.specs.Serving.{ports_served}
+use Rattle.core_steps.specs.PortReads.{port_read_in, asked_tables}
+use Rattle.win_events.specs.declared.item.Origin.{Origin}
+use Rattle.core_intents.specs.Doings.{Doing, message_doing, doing_of}
 use Rattle.core_intents.specs.Intents.{reaction_at}
 use Rattle.core_intents.specs.Origins.{message_origin}
 use Rattle.acme_core.specs.Run.{step, run}
-use Rattle.core_steps.specs.Stages.{asker_of, answer_tables, said}
+use Rattle.core_steps.specs.Stages.{asker_of, answer_tables, acted, said}
 use Rattle.core_intents.specs.States.{Present, State, present, start, next_entry}
 use Rattle.core_laws.specs.Laws.{FlushesAreAnswered}
-use Rattle.core_laws.specs.Saying.{flush_of, flushed}
-use Rattle.core_laws.proofs.Answering.{message_reads}
+use Rattle.core_laws.specs.Saying.{flushed}
+use Rattle.core_laws.proofs.Answering.{message_reads, message_reads_port}
 use Rattle.core_laws.proofs.Flushes.{flush_or}
 use Rattle.core_laws.proofs.Wells.{done_sessions, done_waiting, cancelled_sessions, cancelled_waiting, waits_sessions, waits_waiting}
 
@@ -141,12 +146,29 @@ in_answered : (t : Tables) (b : BookState) (conn tag : ℕ) (a : Option Answer) 
 in_answered t b conn tag None own h = h
 in_answered t b conn tag (Some (Says body)) own h = h
 in_answered t b conn tag (Some (Reads fid opening count)) own h = in_waits t (read_said t b (asker_of conn tag opening count)) conn tag fid (own fid opening count refl) h
+in_answered t b conn tag (Some (ReadsPort fid opening count)) own h = h
+
+in_asked : (t : Tables) (p : PortsState) (conn tag : ℕ) (a : Option Answer) → ((fid opening count : ℕ) → a ≡ Some (ReadsPort fid opening count) → HasSession t conn) → AreInSession t
+    → AreInSession (asked_tables t p (port_read_in conn tag a))
+in_asked t p conn tag None own h = h
+in_asked t p conn tag (Some (Says body)) own h = h
+in_asked t p conn tag (Some (Reads fid opening count)) own h = h
+in_asked t p conn tag (Some (ReadsPort fid opening count)) own h = in_waits t (port_said t p (asker_of conn tag opening count)) conn tag fid (own fid opening count refl) h
+
+answered_msize : (t : Tables) (b : BookState) (conn tag : ℕ) (a : Option Answer) (c : ℕ) → msize_of (answer_tables t b conn tag a) c ≡ msize_of t c
+answered_msize t b conn tag None c = refl
+answered_msize t b conn tag (Some (Says body)) c = refl
+answered_msize t b conn tag (Some (Reads fid opening count)) c =
+    let o : Option RBody = read_said t b (asker_of conn tag opening count) in
+    by_sessions t (waits_unless o t conn tag fid) (waits_sessions o t conn tag fid) c
+answered_msize t b conn tag (Some (ReadsPort fid opening count)) c = refl
 
 -- ---- a read is asked in a session
 
 abbrev is_reads : Answer → Bool
 is_reads (Says body) = false
 is_reads (Reads fid opening count) = true
+is_reads (ReadsPort fid opening count) = true
 
 says_or : (b : Bool) (d e : Reaction) → is_reads d.answer ≡ false → is_reads e.answer ≡ false → is_reads (cond b d e).answer ≡ false
 says_or true d e g h = g
@@ -159,30 +181,30 @@ version_says msize version =
     (does (effect.Begins None) [] (r.Version (min msize 65560) (codes "unknown"))) refl refl)
 
 -- what a message does, by whether a session is missing
-abbrev reaction_or : Tables → List (Option Window) → ℕ → ℕ → TBody → Bool → Reaction
-reaction_or tables windows openings conn body missing =
-    cond (needs_session body && missing) (refused refusal.VersionFirst) (reaction_or_refusal (served tables (world_of windows) windows openings conn body))
+abbrev reaction_or : Tables → List (Option Window) → Plumber → ℕ → ℕ → TBody → Bool → Reaction
+reaction_or tables windows plumber openings conn body missing =
+    cond (needs_session body && missing) (refused refusal.VersionFirst) (reaction_or_refusal (served tables (world_of windows) windows plumber openings conn body))
 
-missing_says : (tables : Tables) (windows : List (Option Window)) (openings conn : ℕ) (body : TBody) → is_reads (reaction_or tables windows openings conn body true).answer ≡ false
-missing_says tables windows openings conn (t.Version msize version) = version_says msize version
-missing_says tables windows openings conn (t.Auth afid uname aname) = refl
-missing_says tables windows openings conn (t.Flush oldtag) = refl
-missing_says tables windows openings conn (t.Attach fid afid uname aname) = refl
-missing_says tables windows openings conn (t.Walk fid newfid names) = refl
-missing_says tables windows openings conn (t.Open fid mode) = refl
-missing_says tables windows openings conn (t.Create fid name perm mode) = refl
-missing_says tables windows openings conn (t.Read fid offset count) = refl
-missing_says tables windows openings conn (t.Write fid offset bytes) = refl
-missing_says tables windows openings conn (t.Clunk fid) = refl
-missing_says tables windows openings conn (t.Remove fid) = refl
-missing_says tables windows openings conn (t.Stat fid) = refl
-missing_says tables windows openings conn (t.Wstat fid stat) = refl
+missing_says : (tables : Tables) (windows : List (Option Window)) (plumber : Plumber) (openings conn : ℕ) (body : TBody) → is_reads (reaction_or tables windows plumber openings conn body true).answer ≡ false
+missing_says tables windows plumber openings conn (t.Version msize version) = version_says msize version
+missing_says tables windows plumber openings conn (t.Auth afid uname aname) = refl
+missing_says tables windows plumber openings conn (t.Flush oldtag) = refl
+missing_says tables windows plumber openings conn (t.Attach fid afid uname aname) = refl
+missing_says tables windows plumber openings conn (t.Walk fid newfid names) = refl
+missing_says tables windows plumber openings conn (t.Open fid mode) = refl
+missing_says tables windows plumber openings conn (t.Create fid name perm mode) = refl
+missing_says tables windows plumber openings conn (t.Read fid offset count) = refl
+missing_says tables windows plumber openings conn (t.Write fid offset bytes) = refl
+missing_says tables windows plumber openings conn (t.Clunk fid) = refl
+missing_says tables windows plumber openings conn (t.Remove fid) = refl
+missing_says tables windows plumber openings conn (t.Stat fid) = refl
+missing_says tables windows plumber openings conn (t.Wstat fid stat) = refl
 
-asked_in : (tables : Tables) (windows : List (Option Window)) (openings conn : ℕ) (body : TBody) (fid opening count : ℕ) (there : Bool)
-    → (reaction_or tables windows openings conn body (not there)).answer ≡ Reads fid opening count → there ≡ true
-asked_in tables windows openings conn body fid opening count true h = refl
-asked_in tables windows openings conn body fid opening count false h =
-    absurd (false≢true (sym (missing_says tables windows openings conn body) ∙ ap is_reads h))
+asked_in : (tables : Tables) (windows : List (Option Window)) (plumber : Plumber) (openings conn : ℕ) (body : TBody) (a : Answer) (there : Bool)
+    → (reaction_or tables windows plumber openings conn body (not there)).answer ≡ a → is_reads a ≡ true → there ≡ true
+asked_in tables windows plumber openings conn body a true h reads = refl
+asked_in tables windows plumber openings conn body a false h reads =
+    absurd (false≢true (sym (missing_says tables windows plumber openings conn body) ∙ ap is_reads h ∙ reads))
 
 -- ---- one event
 
@@ -191,19 +213,26 @@ unfolding step
 in_message s conn msg h =
     let p : Present = present s in
     let done : Reaction = reaction_at p conn msg in
-    let put : Tables = grown_with s.tables conn done.effect in
-    let read : Tables = answer_tables put s.scene.book conn msg.tag (doing_of p (event.Msg conn msg)).answer in
-    let left : Tables = ended_with read conn done.effect in
-    let xs : List Response = said p (kind.Asks conn msg.tag) (doing_of p (event.Msg conn msg)) in
-    in_cancelled (ended left xs) conn done.events
+    let d : Doing = doing_of p (event.Msg conn msg) in
+    let o : Origin = message_origin s.tables conn msg.body in
+    let put : Tables = grown_with s.tables conn d.effect in
+    let read : Tables = answer_tables put s.scene.book conn msg.tag d.answer in
+    let asked : Tables = asked_tables read (acted p d).ports (port_read_in conn msg.tag d.answer) in
+    let left : Tables = ended_with asked conn d.effect in
+    let xs : List Response = said p (kind.Asks conn msg.tag) d in
+    let session : (a : Answer) → done.answer ≡ a → is_reads a ≡ true → HasSession put conn = λ a same reads.
+    ap is_there (grown_msize s.tables conn d.effect conn)
+    ∙ asked_in s.tables p.scene.windows (plumber_of p.scene.rules p.scene.ports) (length s.scene.book.owners) conn msg.body a (is_there (msize_of s.tables conn)) same reads
+    in
+    in_cancelled (ended left xs) conn d.events
     (in_ended left xs
-    (in_freed read conn done.effect
-    (in_answered put s.scene.book conn msg.tag (doing_of p (event.Msg conn msg)).answer
-    (λ fid opening count is.
-    let same : done.answer ≡ Reads fid opening count = message_reads p done (message_origin s.tables conn msg.body) fid opening count is in
-    ap is_there (grown_msize s.tables conn done.effect conn)
-    ∙ asked_in s.tables p.scene.windows (length s.scene.book.owners) conn msg.body fid opening count (is_there (msize_of s.tables conn)) same)
-    (in_grown s.tables conn done.effect h))))
+    (in_freed asked conn d.effect
+    (in_asked read (acted p d).ports conn msg.tag d.answer
+    (λ fid opening count is. ap is_there (answered_msize put s.scene.book conn msg.tag d.answer conn)
+    ∙ session (ReadsPort fid opening count) (message_reads_port p done o fid opening count is) refl)
+    (in_answered put s.scene.book conn msg.tag d.answer
+    (λ fid opening count is. session (Reads fid opening count) (message_reads p done o fid opening count is) refl)
+    (in_grown s.tables conn d.effect h)))))
 
 in_step : (s : State) (e : Event) → AreInSession s.tables → AreInSession (step s e).tables
 unfolding step
@@ -242,7 +271,7 @@ any_session t conn tag (w ∷ ws) all h =
     ] refl h
 
 -- nothing is served, since no read that waits can be answered
-flush_says : (s : Present) (conn tag oldtag : ℕ) → served_all (next_entry s) (put_living [] s.scene.book s.scene.items) ≡ [] → said s (kind.Asks conn tag) (message_doing s (flush_reaction oldtag) F) ≡ flushed conn tag ∷ []
+flush_says : (s : Present) (conn tag oldtag : ℕ) → served_all (next_entry s) (put_living [] s.scene.book s.scene.items) ++ ports_served s.scene.ports ≡ [] → said s (kind.Asks conn tag) (message_doing s (flush_reaction oldtag) F) ≡ flushed conn tag ∷ []
 unfolding task_deeds task_refusal
 flush_says s conn tag oldtag none = ap (λ (xs : List Response). flushed conn tag ∷ xs) none
 

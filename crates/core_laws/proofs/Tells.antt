@@ -1,5 +1,5 @@
 -- To whom something is said: to the message of the entry, or to reads that wait.
-use Rattle.std.proofs.Common.{◌≡◌, ℕ, zero, suc, Bool, true, false, List, [], ◌∷◌, ◌++◌, length, Option, Some, None, All, refl}
+use Rattle.std.proofs.Common.{◌≡◌, ℕ, zero, suc, Bool, List, [], ◌∷◌, ◌++◌, length, Option, Some, None, All, refl}
 use Rattle.std.specs.List.{filter}
 use Rattle.std.proofs.lemmas.List.Elements.{All-nil, All-cons, All-append, All-map, All-filter, All-contains}
 use Rattle.ninep_types.specs.declared.message.RBody.{RBody}
@@ -10,7 +10,7 @@ use Rattle.wait_queue.specs.declared.types.Piece.{Piece}
 use Rattle.event_book.specs.BookState.{BookState, served_of, after_serve}
 use Rattle.event_book.proofs.WaitingLemmas.{served_waited}
 use Rattle.core_fids.specs.declared.effect.Answer.{Answer}
-use Rattle.core_fids.specs.declared.effect.Answer.TheVariants.{Says, Reads}
+use Rattle.core_fids.specs.declared.effect.Answer.TheVariants.{Says, Reads, ReadsPort}
 use Rattle.core_fids.specs.declared.effect.Effect.{Effect}
 use Rattle.core_fids.specs.declared.effect.Effect.TheVariants as effect
 use Rattle.core_fids.specs.declared.refusal.Refusal.{Refusal}
@@ -25,9 +25,14 @@ use Rattle.core_intents.specs.Doings.{Doing}
 use Rattle.core_intents.specs.declared.kind.Kind.{Kind}
 use Rattle.core_intents.specs.declared.kind.Kind.TheVariants as kind
 use Rattle.core_intents.specs.Kinds.{conn_of}
-use Rattle.core_steps.specs.Stages.{asker_of, if_said, answer_said, message_said, acted, with_fid, read_book, put_book, said}
+use Rattle.core_steps.specs.Stages.{asker_of, if_said, answer_said, message_said, acted, with_fid, read_tables, read_book, put_book, open_ports, said}
 use Rattle.core_intents.specs.States.{Present, next_entry}
+use Rattle.plumb_ports.specs.PortsState.{PortsState}
+use Rattle.core_ports.specs.Asking.{port_said}
+use Rattle.core_ports.specs.Serving.{ports_served}
+use Rattle.core_steps.specs.PortReads.{port_read_in, port_read_of, if_port_said, asked_said}
 use Rattle.core_laws.proofs.Books.{IsBook, book_opened, book_put_living, book_serve}
+use Rattle.core_laws.proofs.Ports.{served_said}
 
 -- L: what holds of the connection and the tag of the message and of each read that waits
 module _ (L : ℕ → ℕ → Type 0) where
@@ -63,6 +68,17 @@ module _ (L : ℕ → ℕ → Type 0) where
   tell_answer t b conn tag None own = All-nil Tells
   tell_answer t b conn tag (Some (Says body)) own = All-cons Tells _ [] own (All-nil Tells)
   tell_answer t b conn tag (Some (Reads fid opening count)) own = tell_if conn tag opening (read_said t b (asker_of conn tag opening count)) own
+  tell_answer t b conn tag (Some (ReadsPort fid opening count)) own = All-nil Tells
+
+  tell_port : (r : Asker) (o : Option RBody) → Reading r → All Tells (if_port_said r o)
+  tell_port r None own = All-nil Tells
+  tell_port r (Some body) own = All-cons Tells _ [] own (All-nil Tells)
+
+  tell_port_in : (t : Tables) (p : PortsState) (conn tag : ℕ) (a : Option Answer) → L conn tag → All Tells (asked_said t p (port_read_in conn tag a))
+  tell_port_in t p conn tag None own = All-nil Tells
+  tell_port_in t p conn tag (Some (Says body)) own = All-nil Tells
+  tell_port_in t p conn tag (Some (Reads fid opening count)) own = All-nil Tells
+  tell_port_in t p conn tag (Some (ReadsPort fid opening count)) own = tell_port (asker_of conn tag opening count) (port_said t p (asker_of conn tag opening count)) own
 
   tell_then : (o : Option (Asker × Piece)) (rest : List Response) → ((r : Asker) (piece : Piece) → o ≡ Some (r, piece) → Reading r) → All Tells rest → All Tells (then_served o rest)
   tell_then None rest own h = All-nil Tells
@@ -77,6 +93,9 @@ module _ (L : ℕ → ℕ → Type 0) where
 
   pub tell_served : (at : ℕ) (b : BookState) → IsBook Reading at b → All Tells (served_all at b)
   tell_served at b book = tell_most at (length b.reads) b book
+
+  pub tell_ports : (p : PortsState) → All Reading p.reads → All Tells (ports_served p)
+  tell_ports p h = served_said Tells Reading (λ r body own. own) p h
 
   -- what is true of the message of an event of this kind
   abbrev pub OfMessage : Kind → Type 0
@@ -93,17 +112,31 @@ module _ (L : ℕ → ℕ → Type 0) where
   tell_message t b (kind.Takes conn) a own = All-nil Tells
   tell_message t b kind.Acts a own = All-nil Tells
 
+  tell_asked : (t : Tables) (p : PortsState) (k : Kind) (a : Option Answer) → OfMessage k → All Tells (asked_said t p (port_read_of k a))
+  tell_asked t p (kind.Dials conn) a own = All-nil Tells
+  tell_asked t p (kind.Asks conn tag) a own = tell_port_in t p conn tag a own
+  tell_asked t p (kind.Ends conn why) a own = All-nil Tells
+  tell_asked t p (kind.Takes conn) a own = All-nil Tells
+  tell_asked t p kind.Acts a own = All-nil Tells
+
   -- all that an entry says
-  pub tells : (s : Present) (k : Kind) (d : Doing) → OfMessage k → IsBook Reading (next_entry s) (read_book s k d) → All IsWaiting s.tables.waiting → All Tells (said s k d)
-  tells s k d own read waiting =
+  pub tells : (s : Present) (k : Kind) (d : Doing) → OfMessage k → IsBook Reading (next_entry s) (read_book s k d) → All Reading (open_ports s k d).reads → All IsWaiting s.tables.waiting
+      → All Tells (said s k d)
+  tells s k d own read ports waiting =
       let at : ℕ = next_entry s in
       let put : IsBook Reading at (put_book s k d) = book_put_living Reading at (deleted_by d.deeds) _ (acted s d).items (book_opened Reading at (read_book s k d) d.events read) in
       let one : List Response = clunked s.tables (conn_of k) d.effect in
       let two : List Response = message_said (with_fid s k d) s.scene.book k d.answer in
+      let asked : List Response = asked_said (read_tables s k d) (acted s d).ports (port_read_of k d.answer) in
       let three : List Response = deletions s.tables (deleted_by d.deeds) in
       let four : List Response = served_all at (put_book s k d) in
-      All-append Tells (one ++ two ++ three) four
-      (All-append Tells (one ++ two) three
+      let five : List Response = ports_served (open_ports s k d) in
+      All-append Tells (one ++ two ++ asked ++ three ++ four) five
+      (All-append Tells (one ++ two ++ asked ++ three) four
+      (All-append Tells (one ++ two ++ asked) three
+      (All-append Tells (one ++ two) asked
       (All-append Tells one two (tell_clunked s.tables (conn_of k) d.effect waiting) (tell_message (with_fid s k d) s.scene.book k d.answer own))
+      (tell_asked (read_tables s k d) (acted s d).ports k d.answer own))
       (tell_deletions s.tables (deleted_by d.deeds) waiting))
-      (tell_served at (put_book s k d) put)
+      (tell_served at (put_book s k d) put))
+      (tell_ports (open_ports s k d) ports)

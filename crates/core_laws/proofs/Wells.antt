@@ -24,16 +24,16 @@ use Rattle.am_journal.specs.declared.event.Event.{Event}
 use Rattle.am_journal.specs.declared.event.Event.TheVariants as event
 use Rattle.am_journal.specs.declared.event.Why.{Why}
 use Rattle.core_fids.specs.declared.effect.Answer.{Answer}
-use Rattle.core_fids.specs.declared.effect.Answer.TheVariants.{Says, Reads}
+use Rattle.core_fids.specs.declared.effect.Answer.TheVariants.{Says, Reads, ReadsPort}
 use Rattle.core_fids.specs.declared.effect.Reaction.{Reaction}
 use Rattle.core_fids.specs.declared.effect.Effect.{Effect}
 use Rattle.core_fids.specs.declared.effect.Effect.TheVariants as effect
 use Rattle.core_fids.specs.declared.effect.EventChange.{EventChange}
 use Rattle.core_fids.specs.declared.effect.EventChange.TheVariants as events
 use Rattle.core_events.specs.declared.response.Response.{Response}
-use Rattle.core_events.specs.Asking.{is_full, opened, read_said, book_asked, book_read, waits_unless}
+use Rattle.core_events.specs.Asking.{is_full, read_said, book_asked, book_read, waits_unless}
 use Rattle.core_events.specs.Closing.{written_back, freed, cancelled, closed_with, opening_in, without_fids, without_opening}
-use Rattle.core_events.specs.Putting.{put_living, put_all, ending}
+use Rattle.core_events.specs.Putting.{ending}
 use Rattle.core_events.specs.Serving.{book_served_all}
 use Rattle.core_events.specs.Waits.{ended, without_cancelled}
 use Rattle.core_intents.specs.declared.connection.Connection.{Connection}
@@ -47,14 +47,20 @@ use Rattle.core_intents.specs.Intents.{reaction_at}
 use Rattle.core_intents.specs.Origins.{message_origin}
 use Rattle.core_intents.specs.Enabled.{first_why, live_refusal}
 use Rattle.acme_core.specs.Run.{step, run, enabled}
-use Rattle.core_steps.specs.Stages.{asker_of, answer_book, answer_tables, acted, grown_tables, read_book, put_book, grown_book, left_book, ended_tables, tables_after, book_after, said}
+use Rattle.core_steps.specs.Stages.{asker_of, answer_book, answer_tables, acted, read_tables, grown_tables, read_book, put_book, grown_book, left_book, ended_tables, tables_after, book_after, said}
 use Rattle.core_intents.specs.States.{Present, State, present, start, next_entry}
 use Rattle.acme_core.proofs.Goes.{run-push}
 use Rattle.core_steps.proofs.Joins.{elsewhere}
 use Rattle.core_laws.proofs.Fids.{AllFids, no_fids, fids_weaker, fids_at, IsHeld, fids_join, fids_put, fids_take, fids_version, fids_same, held_join, held_put, held_take, held_version, held_same}
-use Rattle.core_laws.proofs.Answering.{message_reads}
+use Rattle.plumb_ports.specs.PortsState.{PortsState}
+use Rattle.core_fids.specs.Fids.{at_event, event_opening, port_opening}
+use Rattle.core_fids.specs.Plumbers.{plumber_of}
+use Rattle.core_ports.specs.Asking.{port_said}
+use Rattle.core_intents.specs.Intents.{with_held}
+use Rattle.core_steps.specs.PortReads.{port_read_in, asked_tables}
+use Rattle.core_laws.proofs.Answering.{message_reads, message_reads_port, held_of}
 use Rattle.core_laws.proofs.Books.{IsBook, IsApart, book_weaker, book_later, book_opened, book_put_living, book_put_all, book_ask, book_serve_all, book_without, book_without_fids, book_cancelled, book_written, book_closed, without_none, fids_none}
-use Rattle.core_laws.proofs.Reactions.{IsModed, PutsSane, HasOpening, ReadsSane, IsSane, reaction_sane}
+use Rattle.core_laws.proofs.Reactions.{IsModed, PutsSane, HasOpening, ReadsSane, IsSane, of_event, keeps, reaction_sane}
 
 -- ---- connections
 
@@ -95,7 +101,7 @@ WaitsOnLive cs w = Lives cs w.conn
 pub record AreWell (cs : List Connection) (t : Tables) (at : ℕ) (b : BookState) : Type 0 where
   pub fids : AllFids (IsOfLive cs) t
   pub waiting : All (WaitsOnLive cs) t.waiting
-  pub book : IsBook (IsHeld t) at b
+  pub book : IsBook (IsHeld event_opening t) at b
 
 abbrev pub IsWell : State → Type 0
 IsWell s = AreWell s.connections s.tables s.entries s.scene.book
@@ -115,10 +121,12 @@ pub cancelled_sessions : (t : Tables) (conn : ℕ) (e : EventChange) → (withou
 cancelled_sessions t conn events.Nothing = refl
 cancelled_sessions t conn (events.Opens w) = refl
 cancelled_sessions t conn (events.Cancels tag) = refl
+cancelled_sessions t conn (events.Joins port) = refl
 
 pub cancelled_waiting : (P : Waiting → Type 0) (t : Tables) (conn : ℕ) (e : EventChange) → All P t.waiting → All P (without_cancelled t conn e).waiting
 cancelled_waiting P t conn events.Nothing h = h
 cancelled_waiting P t conn (events.Opens w) h = h
+cancelled_waiting P t conn (events.Joins port) h = h
 cancelled_waiting P t conn (events.Cancels tag) h = All-filter (λ w. not (is_waiting conn tag w)) P t.waiting h
 
 -- the same with reads that were answered
@@ -126,15 +134,15 @@ well_ended : (cs : List Connection) (t : Tables) (at : ℕ) (b : BookState) (xs 
 well_ended cs t at b xs well = record {
   fids = fids_same (IsOfLive cs) t (ended t xs) (done_sessions t xs) well.fids;
   waiting = done_waiting (WaitsOnLive cs) t xs well.waiting;
-  book = book_weaker (IsHeld t) (IsHeld (ended t xs)) at b (λ r h. held_same t (ended t xs) r (done_sessions t xs) h) well.book;
+  book = book_weaker (IsHeld event_opening t) (IsHeld event_opening (ended t xs)) at b (λ r h. held_same event_opening t (ended t xs) r (done_sessions t xs) h) well.book;
 }
 
 well_cancelled : (cs : List Connection) (t : Tables) (at : ℕ) (b : BookState) (conn : ℕ) (e : EventChange) → AreWell cs t at b → AreWell cs (without_cancelled t conn e) at (cancelled b conn e)
 well_cancelled cs t at b conn e well = record {
   fids = fids_same (IsOfLive cs) t (without_cancelled t conn e) (cancelled_sessions t conn e) well.fids;
   waiting = cancelled_waiting (WaitsOnLive cs) t conn e well.waiting;
-  book = book_weaker (IsHeld t) (IsHeld (without_cancelled t conn e)) at (cancelled b conn e) (λ r h. held_same t (without_cancelled t conn e) r (cancelled_sessions t conn e) h)
-      (book_cancelled (IsHeld t) at b conn e well.book);
+  book = book_weaker (IsHeld event_opening t) (IsHeld event_opening (without_cancelled t conn e)) at (cancelled b conn e) (λ r h. held_same event_opening t (without_cancelled t conn e) r (cancelled_sessions t conn e) h)
+      (book_cancelled (IsHeld event_opening t) at b conn e well.book);
 }
 
 -- ---- what grows
@@ -146,7 +154,7 @@ well_grown cs t at b conn (effect.Begins msize) live sane well = well
 well_grown cs t at b conn (effect.Puts number fid) live sane well = record {
   fids = fids_put (IsOfLive cs) t conn number fid (live, sane.moded) well.fids;
   waiting = well.waiting;
-  book = book_weaker (IsHeld t) (IsHeld (after_put t conn number fid)) at b (λ r h. held_put t conn number fid r sane.keeps h) well.book;
+  book = book_weaker (IsHeld event_opening t) (IsHeld event_opening (after_put t conn number fid)) at b (λ r h. held_put event_opening t conn number fid r (keeps at_event t conn number fid of_event sane) h) well.book;
 }
 well_grown cs t at b conn (effect.Frees number) live sane well = well
 
@@ -174,7 +182,11 @@ waits_waiting P (Some x) t conn tag fid own h = h
 
 -- a read is one of an opening that a fid has
 unfoldable pub AsksSane : Tables → ℕ → ℕ → Option Answer → Type 0
-AsksSane t conn tag a = (fid opening count : ℕ) → a ≡ Some (Reads fid opening count) → IsHeld t (asker_of conn tag opening count)
+AsksSane t conn tag a = (fid opening count : ℕ) → a ≡ Some (Reads fid opening count) → IsHeld event_opening t (asker_of conn tag opening count)
+
+-- and so is a read of a port
+unfoldable pub AsksPortSane : Tables → ℕ → ℕ → Option Answer → Type 0
+AsksPortSane t conn tag a = (fid opening count : ℕ) → a ≡ Some (ReadsPort fid opening count) → IsHeld port_opening t (asker_of conn tag opening count)
 
 well_answered : (cs : List Connection) (t : Tables) (at : ℕ) (b : BookState) (conn tag : ℕ) (a : Option Answer) → Lives cs conn → AsksSane t conn tag a → AreWell cs t at b
     → AreWell cs (answer_tables t b conn tag a) at (answer_book t b conn tag a at)
@@ -187,8 +199,23 @@ well_answered cs t at b conn tag (Some (Reads fid opening count)) live own well 
     record {
       fids = fids_same (IsOfLive cs) t (waits_unless o t conn tag fid) (waits_sessions o t conn tag fid) well.fids;
       waiting = waits_waiting (WaitsOnLive cs) o t conn tag fid live well.waiting;
-      book = book_weaker (IsHeld t) (IsHeld (waits_unless o t conn tag fid)) at (book_read t b r at) (λ x h. held_same t (waits_unless o t conn tag fid) x (waits_sessions o t conn tag fid) h)
-          (reading_book (IsHeld t) at t b r (own fid opening count refl) well.book);
+      book = book_weaker (IsHeld event_opening t) (IsHeld event_opening (waits_unless o t conn tag fid)) at (book_read t b r at) (λ x h. held_same event_opening t (waits_unless o t conn tag fid) x (waits_sessions o t conn tag fid) h)
+          (reading_book (IsHeld event_opening t) at t b r (own fid opening count refl) well.book);
+    }
+well_answered cs t at b conn tag (Some (ReadsPort fid opening count)) live own well = well
+
+-- the same with the read of a port, where it waits
+well_asked : (cs : List Connection) (t : Tables) (at : ℕ) (b : BookState) (p : PortsState) (conn tag : ℕ) (a : Option Answer) → Lives cs conn → AreWell cs t at b
+    → AreWell cs (asked_tables t p (port_read_in conn tag a)) at b
+well_asked cs t at b p conn tag None live well = well
+well_asked cs t at b p conn tag (Some (Says body)) live well = well
+well_asked cs t at b p conn tag (Some (Reads fid opening count)) live well = well
+well_asked cs t at b p conn tag (Some (ReadsPort fid opening count)) live well =
+    let o : Option RBody = port_said t p (asker_of conn tag opening count) in
+    record {
+      fids = fids_same (IsOfLive cs) t (waits_unless o t conn tag fid) (waits_sessions o t conn tag fid) well.fids;
+      waiting = waits_waiting (WaitsOnLive cs) o t conn tag fid live well.waiting;
+      book = book_weaker (IsHeld event_opening t) (IsHeld event_opening (waits_unless o t conn tag fid)) at b (λ x h. held_same event_opening t (waits_unless o t conn tag fid) x (waits_sessions o t conn tag fid) h) well.book;
     }
 
 -- an opening joins, items come, and reads are served
@@ -200,34 +227,34 @@ items_book P s k d book =
     book_put_all P at (book_served_all at (put_book s k d)) (ending (deleted_by d.deeds) items) (book_serve_all P at (put_book s k d) put)
 
 well_items : (cs : List Connection) (t : Tables) (s : Present) (k : Kind) (d : Doing) → AreWell cs t (next_entry s) (read_book s k d) → AreWell cs t (next_entry s) (grown_book s k d)
-well_items cs t s k d well = record { fids = well.fids; waiting = well.waiting; book = items_book (IsHeld t) s k d well.book }
+well_items cs t s k d well = record { fids = well.fids; waiting = well.waiting; book = items_book (IsHeld event_opening t) s k d well.book }
 
 -- ---- what ends
 
 -- all fids of a connection are freed
-freed_all : (t : Tables) (at : ℕ) (b : BookState) (conn : ℕ) (msize : Option ℕ) → IsBook (IsHeld t) at b → IsBook (IsHeld (after_version t conn msize)) at (without_fids at b t conn)
+freed_all : (t : Tables) (at : ℕ) (b : BookState) (conn : ℕ) (msize : Option ℕ) → IsBook (IsHeld event_opening t) at b → IsBook (IsHeld event_opening (after_version t conn msize)) at (without_fids at b t conn)
 freed_all t at b conn msize book =
     let end : BookState = without_fids at b t conn in
-    let kept : IsBook (IsHeld t) at end = book_without_fids (IsHeld t) at b (fids_of t conn) book in
-    let apart : All (IsApart (fids_of t conn)) end.reads = fids_none (IsHeld t) at b (fids_of t conn) book in
+    let kept : IsBook (IsHeld event_opening t) at end = book_without_fids (IsHeld event_opening t) at b (fids_of t conn) book in
+    let apart : All (IsApart (fids_of t conn)) end.reads = fids_none (IsHeld event_opening t) at b (fids_of t conn) book in
     record {
       lawful = kept.lawful;
       latest = kept.latest;
-      reads = λ k d h. (held_version t conn msize (slice_index_or end.reads k d) (λ number f same is opens. apart k d h number f is opens) (kept.reads k d h)).1;
+      reads = λ k d h. (held_version event_opening t conn msize (slice_index_or end.reads k d) (λ number f same is opens. apart k d h number f is opens) (kept.reads k d h)).1;
     }
 
 -- one of them is
-freed_one : (t : Tables) (at : ℕ) (b : BookState) (conn number : ℕ) → IsBook (IsHeld t) at b
-    → IsBook (IsHeld (after_take t conn number)) at (without_opening at b (opening_in (fid_of t conn number)))
+freed_one : (t : Tables) (at : ℕ) (b : BookState) (conn number : ℕ) → IsBook (IsHeld event_opening t) at b
+    → IsBook (IsHeld event_opening (after_take t conn number)) at (without_opening at b (opening_in (fid_of t conn number)))
 freed_one t at b conn number book =
     let o : Option ℕ = opening_in (fid_of t conn number) in
     let end : BookState = without_opening at b o in
-    let kept : IsBook (IsHeld t) at end = book_without (IsHeld t) at b o book in
+    let kept : IsBook (IsHeld event_opening t) at end = book_without (IsHeld event_opening t) at b o book in
     let apart : All (λ r. o ≡ Some r.opening → ⊥) end.reads = without_none at b o book.lawful in
     record {
       lawful = kept.lawful;
       latest = kept.latest;
-      reads = λ k d h. held_take t conn number (slice_index_or end.reads k d) (λ f same is opens. apart k d h (ap opening_in is ∙ opens)) (kept.reads k d h);
+      reads = λ k d h. held_take event_opening t conn number (slice_index_or end.reads k d) (λ f same is opens. apart k d h (ap opening_in is ∙ opens)) (kept.reads k d h);
     }
 
 others_wait : (cs : List Connection) (ws : List Waiting) (conn : ℕ) → All (WaitsOnLive cs) ws → All (WaitsOnLive cs) (filter (λ w. not (is_waiting_on conn w)) ws)
@@ -248,7 +275,7 @@ well_freed cs t at b conn (effect.Frees number) well = record {
 }
 
 well_closed : (cs : List Connection) (t : Tables) (at : ℕ) (b : BookState) (o : List ℕ) → AreWell cs t at b → AreWell cs t at (closed_with at b o)
-well_closed cs t at b o well = record { fids = well.fids; waiting = well.waiting; book = book_closed (IsHeld t) at b o well.book }
+well_closed cs t at b o well = record { fids = well.fids; waiting = well.waiting; book = book_closed (IsHeld event_opening t) at b o well.book }
 
 -- a hang-up
 well_hung : (cs : List Connection) (t : Tables) (at : ℕ) (b : BookState) (conn : ℕ) (why : Ending) → AreWell cs t at b
@@ -267,7 +294,7 @@ well_hung cs t at b conn why well =
 -- ---- one event
 
 pub later : (s : State) → IsWell s → AreWell s.connections s.tables (s.entries + 1) s.scene.book
-later s well = record { fids = well.fids; waiting = well.waiting; book = book_later (IsHeld s.tables) s.entries (s.entries + 1) s.scene.book (omega arith) well.book }
+later s well = record { fids = well.fids; waiting = well.waiting; book = book_later (IsHeld event_opening s.tables) s.entries (s.entries + 1) s.scene.book (omega arith) well.book }
 
 -- a connection that is dialled
 well_dialed : (cs : List Connection) (t : Tables) (at : ℕ) (b : BookState) (conn : ℕ) → AreWell cs t at b → AreWell (slice_set cs conn Live) (after_join t conn) at b
@@ -276,7 +303,7 @@ well_dialed cs t at b conn well =
     record {
       fids = fids_join (IsOfLive now) t conn (fids_weaker (IsOfLive cs) (IsOfLive now) t (λ c f h. (dial_lives cs conn c h.0, h.1)) well.fids);
       waiting = All-weaker (WaitsOnLive cs) (WaitsOnLive now) (λ w h. dial_lives cs conn w.conn h) t.waiting well.waiting;
-      book = book_weaker (IsHeld t) (IsHeld (after_join t conn)) at b (λ r h. held_join t conn r h) well.book;
+      book = book_weaker (IsHeld event_opening t) (IsHeld event_opening (after_join t conn)) at b (λ r h. held_join event_opening t conn r h) well.book;
     }
 
 -- the connections while what an event makes is made
@@ -290,7 +317,9 @@ begun cs kind.Acts = cs
 -- the connection of a message lives, and the message puts and reads what it may
 unfoldable pub IsOwn : Present → Kind → Doing → Type 0
 IsOwn s (kind.Dials conn) d = Unit {0}
-IsOwn s (kind.Asks conn tag) d = Lives s.connections conn × PutsSane s.tables conn d.effect × AsksSane (grown_with s.tables conn d.effect) conn tag d.answer
+IsOwn s (kind.Asks conn tag) d =
+    Lives s.connections conn × PutsSane s.tables conn d.effect × AsksSane (grown_with s.tables conn d.effect) conn tag d.answer
+    × AsksPortSane (grown_with s.tables conn d.effect) conn tag d.answer
 IsOwn s (kind.Ends conn why) d = Unit {0}
 IsOwn s (kind.Takes conn) d = Unit {0}
 IsOwn s kind.Acts d = Unit {0}
@@ -301,8 +330,9 @@ pub well_read : (s : Present) (k : Kind) (d : Doing) → IsOwn s k d → AreWell
 unfolding begun IsOwn
 well_read s (kind.Dials conn) d own well = well_dialed s.connections s.tables (next_entry s) s.scene.book conn well
 well_read s (kind.Asks conn tag) d own well =
-    well_answered s.connections (grown_with s.tables conn d.effect) (next_entry s) s.scene.book conn tag d.answer own.0 own.2
-    (well_grown s.connections s.tables (next_entry s) s.scene.book conn d.effect own.0 own.1 well)
+    well_asked s.connections (read_tables s (kind.Asks conn tag) d) (next_entry s) (read_book s (kind.Asks conn tag) d) (acted s d).ports conn tag d.answer own.0
+    (well_answered s.connections (grown_with s.tables conn d.effect) (next_entry s) s.scene.book conn tag d.answer own.0 own.2
+    (well_grown s.connections s.tables (next_entry s) s.scene.book conn d.effect own.0 own.1 well))
 well_read s (kind.Ends conn why) d own well = well
 well_read s (kind.Takes conn) d own well = well
 well_read s kind.Acts d own well = well
@@ -321,7 +351,7 @@ well_left cs t at b (kind.Takes conn) d xs well = well_ended cs t at b xs well
 well_left cs t at b kind.Acts d xs well = well_ended cs t at b xs well
 
 well_written : (cs : List Connection) (t : Tables) (at : ℕ) (b : BookState) (o : Option BackItem) → AreWell cs t at b → AreWell cs t at (written_back at b o)
-well_written cs t at b o well = record { fids = well.fids; waiting = well.waiting; book = book_written (IsHeld t) at b o well.book }
+well_written cs t at b o well = record { fids = well.fids; waiting = well.waiting; book = book_written (IsHeld event_opening t) at b o well.book }
 
 well_kind : (s : Present) (k : Kind) (d : Doing) → IsOwn s k d → AreWell s.connections s.tables (next_entry s) s.scene.book
     → AreWell (connections_after s.connections k) (tables_after s k d) (next_entry s) (book_after s k d)
@@ -336,16 +366,32 @@ well_kind s k d own well =
 pub moded : (s : State) (conn : ℕ) → IsWell s → (number : ℕ) (f : Fid) → fid_of s.tables conn number ≡ Some f → IsModed f
 moded s conn well number f e = (fids_at (IsOfLive s.connections) s.tables conn number f well.fids e).1
 
+-- what a fid holds makes no difference
+held_sane : (t : Tables) (conn : ℕ) (e : Effect) (held : Option (List ℕ)) → PutsSane t conn e → PutsSane t conn (with_held e held)
+held_sane t conn effect.Nothing held h = tt
+held_sane t conn (effect.Begins msize) held h = tt
+held_sane t conn (effect.Puts number fid) held h = record { moded = h.moded; keeps = h.keeps }
+held_sane t conn (effect.Frees number) held h = tt
+
 -- the read of a message is one of an opening that a fid has
-own_held : (s : Present) (t : Tables) (conn tag : ℕ) (d : Reaction) (o : Origin) → ReadsSane t conn d d.answer → AsksSane (grown_with t conn d.effect) conn tag (message_doing s d o).answer
+own_held : (s : Present) (t : Tables) (conn tag : ℕ) (d : Reaction) (o : Origin) → ReadsSane t conn d d.answer → AsksSane (grown_with t conn (message_doing s d o).effect) conn tag (message_doing s d o).answer
 unfolding AsksSane
 own_held s t conn tag d o sane fid opening count is =
-    let e : Effect = d.effect in
     let a : Answer = d.answer in
     let same : a ≡ Reads fid opening count = message_reads s d o fid opening count is in
     let reads : ReadsSane t conn d (Reads fid opening count) = subst (ReadsSane t conn d) same sane in
-    let has : HasOpening t conn fid opening = reads.1 in
-    subst (λ (x : Effect). IsHeld (grown_with t conn x) (asker_of conn tag opening count)) (sym reads.0)
+    let has : HasOpening event_opening t conn fid opening = reads.1 in
+    subst (λ (x : Effect). IsHeld event_opening (grown_with t conn (with_held x (held_of s d o))) (asker_of conn tag opening count)) (sym reads.0)
+    (record { number = fid; fid = has.fid; is = has.is; opens = has.opens })
+
+own_port : (s : Present) (t : Tables) (conn tag : ℕ) (d : Reaction) (o : Origin) → ReadsSane t conn d d.answer → AsksPortSane (grown_with t conn (message_doing s d o).effect) conn tag (message_doing s d o).answer
+unfolding AsksPortSane
+own_port s t conn tag d o sane fid opening count is =
+    let a : Answer = d.answer in
+    let same : a ≡ ReadsPort fid opening count = message_reads_port s d o fid opening count is in
+    let reads : ReadsSane t conn d (ReadsPort fid opening count) = subst (ReadsSane t conn d) same sane in
+    let has : HasOpening port_opening t conn fid opening = reads.1 in
+    subst (λ (x : Effect). IsHeld port_opening (grown_with t conn (with_held x (held_of s d o))) (asker_of conn tag opening count)) (sym reads.0)
     (record { number = fid; fid = has.fid; is = has.is; opens = has.opens })
 
 own_message : (s : State) (conn : ℕ) (msg : TMsg) → enabled_at (present s) (event.Msg conn msg) ≡ None → IsWell s
@@ -354,8 +400,9 @@ unfolding IsOwn
 own_message s conn msg allowed well =
     let p : Present = present s in
     let done : Reaction = reaction_at p conn msg in
-    let sane : IsSane s.tables conn done = reaction_sane s.tables conn (moded s conn well) p.scene.windows (length s.scene.book.owners) msg.body in
-    (message_lives p conn msg allowed, sane.0, own_held p s.tables conn msg.tag done (message_origin s.tables conn msg.body) sane.1)
+    let o : Origin = message_origin s.tables conn msg.body in
+    let sane : IsSane s.tables conn done = reaction_sane s.tables conn (moded s conn well) p.scene.windows (plumber_of p.scene.rules p.scene.ports) (length s.scene.book.owners) msg.body in
+    (message_lives p conn msg allowed, held_sane s.tables conn done.effect (held_of p done o) sane.0, own_held p s.tables conn msg.tag done o sane.1, own_port p s.tables conn msg.tag done o sane.1)
 
 pub own : (s : State) (e : Event) → enabled_at (present s) e ≡ None → IsWell s → IsOwn (present s) (kind_of e) (doing_of (present s) e)
 unfolding IsOwn
@@ -378,11 +425,11 @@ well_step s e allowed well = well_kind (present s) (kind_of e) (doing_of (presen
 
 -- ---- all events
 
-no_entries : IsWell start
+pub no_entries : IsWell start
 no_entries = record {
   fids = no_fids (IsOfLive start.connections);
   waiting = All-nil (WaitsOnLive start.connections);
-  book = record { lawful = lawful-empty; latest = omega arith; reads = All-nil (IsHeld nothing) };
+  book = record { lawful = lawful-empty; latest = omega arith; reads = All-nil (IsHeld event_opening nothing) };
 }
 
 well_all : (before events : List Event) → ArePlayed enabled before events → IsWell (run before) → IsWell (run (before ++ events))

@@ -11,7 +11,7 @@ use Rattle.core_scene.specs.SceneLaws.{DeedsShow}
 use Rattle.acme_core.specs.Run.{run, ArePossible, IsPossible}
 use Rattle.core_intents.specs.States.{State}
 use Rattle.acme_core.proofs.Goes.{run-push, lawful_on}
-use Rattle.core_laws.specs.Journals.{IsItsHistory, BodiesAreTheirHistories}
+use Rattle.core_laws.specs.Journals.{BodiesAreTheirHistories}
 
 -- ---- a front of a journal could be done, too
 

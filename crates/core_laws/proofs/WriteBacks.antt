@@ -1,5 +1,5 @@
 -- What a write to an event file does that is answered by Rwrite: the item that it names is acted on.
-use Rattle.std.proofs.Common.{◌≡◌, ℕ, ◌+◌, ◌==◌, ◌&&◌, ◌||◌, Bool, true, false, not, cond, List, [], ◌∷◌, ◌++◌, length, Option, Some, None, Result, Ok, Err, refl, sym, ap, subst, ◌∙◌, append_assoc}
+use Rattle.std.proofs.Common.{◌≡◌, ℕ, ◌+◌, ◌==◌, ◌&&◌, ◌||◌, Bool, true, false, not, cond, List, ◌∷◌, ◌++◌, length, Option, Some, None, Result, Ok, Err, refl, sym, ap, subst, ◌∙◌}
 use Rattle.std.proofs.lemmas.Bool.{eqb-true}
 use Rattle.ninep_types.specs.declared.message.RBody.TheVariants as r
 use Rattle.ninep_types.specs.declared.message.TBody.TheVariants as t
@@ -25,6 +25,7 @@ use Rattle.event_book.specs.declared.finding.BackFault.{BackFault}
 use Rattle.event_book.proofs.FidLemmas.{found_fits}
 use Rattle.am_journal.specs.declared.event.Event.{Event}
 use Rattle.core_windows.specs.Windows.{Window, window_at, world_of}
+use Rattle.core_fids.specs.Plumbers.{plumber_of}
 use Rattle.core_fids.specs.declared.effect.Answer.TheVariants.{Says}
 use Rattle.core_fids.specs.declared.effect.Demand.TheVariants as demand
 use Rattle.core_fids.specs.declared.effect.Effect.TheVariants as effect
@@ -47,7 +48,7 @@ use Rattle.core_intents.specs.Origins.{is_text, origin_at, message_origin}
 use Rattle.acme_core.specs.Run.{run, present_after}
 use Rattle.core_intents.specs.States.{Present}
 use Rattle.acme_core.proofs.Goes.{entries_counted}
-use Rattle.core_laws.specs.Laws.{OnlyTells, IsBackAt, clicked_window, written_by}
+use Rattle.core_laws.specs.Laws.{IsBackAt, written_by}
 use Rattle.core_laws.specs.WriteBacks.{IsNamed, numbered, IsActedOn, write_of, WritesAreActedOn, ActedOnOnce}
 use Rattle.core_laws.proofs.Backs.{named, once}
 use Rattle.core_laws.proofs.Clicks.{clicks}
@@ -105,11 +106,11 @@ write_msg tag fid offset bytes = record { tag = tag; body = t.Write fid offset b
 
 write_shape : (s : Present) (conn tag fid offset w : ℕ) (bytes : List ℕ) (f : Fid) → fid_of s.tables conn fid ≡ Some f → f.node ≡ File w EventsFile
     → reaction_at s conn (write_msg tag fid offset bytes)
-    ≡ shape w bytes (not (is_there (msize_of s.tables conn))) (use_refusal (world_of s.scene.windows) f is_for_writing) (window_at s.scene.windows w)
+    ≡ shape w bytes (not (is_there (msize_of s.tables conn))) (use_refusal (world_of s.scene.windows) (plumber_of s.scene.rules s.scene.ports).names f is_for_writing) (window_at s.scene.windows w)
 write_shape s conn tag fid offset w bytes f there node =
     let missing : Bool = not (is_there (msize_of s.tables conn)) in
-    ap (λ (o : Option Fid). cond missing (refused refusal.VersionFirst) (reaction_or_refusal (write_fid (world_of s.scene.windows) s.scene.windows fid bytes o))) there
-    ∙ ap (λ (n : Node). cond missing (refused refusal.VersionFirst) (reaction_or_refusal (or_reads (use_refusal (world_of s.scene.windows) f is_for_writing) (write_content s.scene.windows fid f bytes (content_of n))))) node
+    ap (λ (o : Option Fid). cond missing (refused refusal.VersionFirst) (reaction_or_refusal (write_fid (world_of s.scene.windows) s.scene.windows (plumber_of s.scene.rules s.scene.ports).names fid bytes o))) there
+    ∙ ap (λ (n : Node). cond missing (refused refusal.VersionFirst) (reaction_or_refusal (or_reads (use_refusal (world_of s.scene.windows) (plumber_of s.scene.rules s.scene.ports).names f is_for_writing) (write_content s.scene.windows fid f bytes (content_of n))))) node
 
 -- where it is answered by Rwrite it asks for the item that it names
 shape_acts : (s : Present) (w count : ℕ) (bytes : List ℕ) (missing : Bool) (o : Option Refusal) (window : Option Window)
@@ -151,7 +152,7 @@ acted_on before behind conn tag fid offset count w bytes f there node answered =
     let e : Event = write_of conn tag fid offset bytes in
     let d : Reaction = reaction_at s conn (write_msg tag fid offset bytes) in
     let missing : Bool = not (is_there (msize_of s.tables conn)) in
-    let o : Option Refusal = use_refusal (world_of s.scene.windows) f is_for_writing in
+    let o : Option Refusal = use_refusal (world_of s.scene.windows) (plumber_of s.scene.rules s.scene.ports).names f is_for_writing in
     let x : Reaction = shape w bytes missing o (window_at s.scene.windows w) in
     let shaped : doing_of s e ≡ message_doing s x F =
     ap (λ (y : Reaction). message_doing s y (message_origin s.tables conn (t.Write fid offset bytes))) (write_shape s conn tag fid offset w bytes f there node)

@@ -8,16 +8,20 @@ use Rattle.ninep_types.specs.Spelling.{kind_t, kind_r}
 use Rattle.fid_table.specs.Tables.{is_waiting}
 use Rattle.wait_queue.specs.Reads.{is_read}
 use Rattle.event_book.specs.BookState.{read_waits}
+use Rattle.plumb_ports.specs.PortsState.{read_waits as port_waits}
 use Rattle.am_journal.specs.declared.event.Event.{Event}
 use Rattle.am_journal.specs.declared.event.Event.TheVariants as event
 use Rattle.core_fids.specs.declared.effect.Answer.{Answer}
-use Rattle.core_fids.specs.declared.effect.Answer.TheVariants.{Says, Reads}
+use Rattle.core_fids.specs.declared.effect.Answer.TheVariants.{Says, Reads, ReadsPort}
 use Rattle.core_answers.specs.Laws.{IsRefused}
+use Rattle.core_events.specs.declared.response.Feed.{Feed}
 use Rattle.core_events.specs.declared.response.Response.{Response}
+use Rattle.core_events.specs.Responses.{event_feed, port_feed}
 use Rattle.core_events.specs.Asking.{read_said}
+use Rattle.core_ports.specs.Asking.{port_said}
 use Rattle.core_intents.specs.Doings.{doing_of}
 use Rattle.acme_core.specs.Run.{run, present_after}
-use Rattle.core_steps.specs.Stages.{response, read_response, asker_of}
+use Rattle.core_steps.specs.Stages.{response, asker_of}
 use Rattle.core_intents.specs.States.{State}
 use Rattle.core_laws.specs.Saying.{said_after}
 
@@ -27,7 +31,7 @@ IsAnswerTo asked body = (kind_r body ≡ kind_t asked + 1) ⊎ IsRefused body
 
 -- a read with this tag waits on this connection
 abbrev pub waits_with : State → ℕ → ℕ → Bool
-waits_with s conn tag = list_any (is_waiting conn tag) s.tables.waiting || list_any (is_read conn tag) s.scene.book.reads
+waits_with s conn tag = list_any (is_waiting conn tag) s.tables.waiting || (list_any (is_read conn tag) s.scene.book.reads || list_any (is_read conn tag) s.scene.ports.reads)
 
 -- what is said to a read that waited
 abbrev pub TellsAWait : State → Response → Type 0
@@ -40,27 +44,32 @@ pub record SaysOnce (s : State) (conn tag : ℕ) (body : RBody) (said : List Res
   pub is : said ≡ front ++ response conn tag body ∷ rest
   pub others : All (TellsAWait s) (front ++ rest)
 
--- It waits: nothing is said, and a read with its tag waits from then on. Its count isn't 0, and its opening has no carry, its window no
--- item that nobody took (`must_wait` of wait_queue).
-pub record ReadWaits (before : List Event) (conn : ℕ) (msg : TMsg) (opening count : ℕ) : Type 0 where
+-- It waits, as it must: nothing is said, and a read with its tag waits from then on.
+pub record ReadWaits (before : List Event) (conn : ℕ) (msg : TMsg) (has_to : Bool) : Type 0 where
   pub silent : said_after before (event.Msg conn msg) ≡ []
   pub waits : list_any (is_waiting conn msg.tag) (run (before ++ event.Msg conn msg ∷ [])).tables.waiting ≡ true
-  pub must : read_waits (run before).scene.book (asker_of conn msg.tag opening count) ≡ true
+  pub must : has_to ≡ true
 
--- A read of an event file is answered at once and nothing else is said, or it waits.
-abbrev pub ReadsOnce : List Event → ℕ → TMsg → ℕ → ℕ → Option RBody → Type 0
-ReadsOnce before conn msg opening count (Some body) =
-    IsAnswerTo msg.body body × (said_after before (event.Msg conn msg) ≡ read_response conn msg.tag opening body ∷ [])
-ReadsOnce before conn msg opening count None = ReadWaits before conn msg opening count
+-- A read of an opening is answered at once and nothing else is said, or it waits.
+abbrev pub ReadsOnce : List Event → ℕ → TMsg → Feed → Bool → Option RBody → Type 0
+ReadsOnce before conn msg feed must (Some body) =
+    IsAnswerTo msg.body body × (said_after before (event.Msg conn msg) ≡ record (response conn msg.tag body) { feed = Some feed } ∷ [])
+ReadsOnce before conn msg feed must None = ReadWaits before conn msg must
 
 abbrev pub IsAnsweredBy : List Event → ℕ → TMsg → Option Answer → Type 0
 IsAnsweredBy before conn msg None = ⊥
 IsAnsweredBy before conn msg (Some (Says body)) =
     IsAnswerTo msg.body body × SaysOnce (run before) conn msg.tag body (said_after before (event.Msg conn msg))
 IsAnsweredBy before conn msg (Some (Reads fid opening count)) =
-    ReadsOnce before conn msg opening count (read_said (run before).tables (run before).scene.book (asker_of conn msg.tag opening count))
+    ReadsOnce before conn msg (event_feed opening) (read_waits (run before).scene.book (asker_of conn msg.tag opening count))
+    (read_said (run before).tables (run before).scene.book (asker_of conn msg.tag opening count))
+IsAnsweredBy before conn msg (Some (ReadsPort fid opening count)) =
+    ReadsOnce before conn msg (port_feed opening) (port_waits (run before).scene.ports (asker_of conn msg.tag opening count))
+    (port_said (run before).tables (run before).scene.ports (asker_of conn msg.tag opening count))
 
--- Each message of the journal is answered by its own R message or by Rerror, in its step and once, or is a read that waits.
+-- Each message of the journal is answered by its own R message or by Rerror, in its step and once, or is a read that waits: its count isn't
+-- 0, and its opening has no carry, its window no item that nobody took, or its opening of a port no message (`read_waits` of event_book
+-- and of plumb_ports).
 abbrev pub MessagesAreAnswered : List Event → Type 0
 MessagesAreAnswered journal =
     (before behind : List Event) (conn : ℕ) (msg : TMsg) → before ++ event.Msg conn msg ∷ behind ≡ journal

@@ -1,5 +1,5 @@
 -- What holds of each journal of the editor: one record of all laws of journals.
-use Rattle.std.specs.Prelude.{◌≡◌, ℕ, ◌<◌, false, List, [], ◌∷◌, ◌++◌, length, All, Option, Some}
+use Rattle.std.specs.Prelude.{◌≡◌, ℕ, ◌<◌, false, List, [], ◌∷◌, ◌++◌, length, All, Some}
 use Rattle.std.specs.List.{Contains, list_any}
 use Rattle.am_journal.specs.declared.event.Event.{Event}
 use Rattle.am_counter.specs.Played.{IsPlayed, IsPrefix}
@@ -9,6 +9,7 @@ use Rattle.win_text.specs.BodyStories.{BodyStory, story_text, range_now, limit_n
 use Rattle.core_windows.specs.Stories.{WindowStory, story_at, AreLawful}
 use Rattle.core_windows.specs.WindowLaws.{AreNumbered}
 use Rattle.core_events.specs.Sound.{IsIdle}
+use Rattle.core_ports.specs.Sound.{ArePortsIdle}
 use Rattle.acme_core.specs.Run.{enabled, run, output_at, IsPossible}
 use Rattle.core_laws.specs.Replies.{replies}
 use Rattle.core_laws.specs.Saying.{said_after, said_from, is_told, is_message, flush_of, flushed}
@@ -68,7 +69,7 @@ pub record JournalLaws (journal : List Event) : Type 0 where
   -- What was replied to a connection is what was sent to it, and then what is unsent.
   pub replied : (conn : ℕ) → conn < 64 → replies journal conn ≡ sent output_at journal conn ++ output_at journal conn
   -- No read that waits can be answered.
-  pub idle : (before : List Event) → IsPrefix before journal → IsIdle (run before).scene.book
+  pub idle : (before : List Event) → IsPrefix before journal → IsIdle (run before).scene.book × ArePortsIdle (run before).scene.ports
 
 -- Each journal of the editor is lawful.
 abbrev pub JournalsAreLawful : Type 0

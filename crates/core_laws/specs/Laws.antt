@@ -14,6 +14,7 @@ use Rattle.core_fids.specs.Fids.{is_there}
 use Rattle.core_events.specs.declared.response.Response.{Response}
 use Rattle.core_events.specs.Serving.{served_all, book_served_all}
 use Rattle.core_events.specs.Sound.{IsIdle}
+use Rattle.core_ports.specs.Sound.{ArePortsIdle}
 use Rattle.core_events.specs.declared.closing.BackItem.{BackItem}
 use Rattle.core_intents.specs.Doings.{doing_of}
 use Rattle.acme_core.specs.Run.{run, present_after, enabled, output_at}
@@ -60,6 +61,7 @@ EachFlushIsAnswered =
 pub record IsFree (journal : List Event) (conn tag : ℕ) : Type 0 where
   pub waiting : list_any (is_waiting conn tag) (run journal).tables.waiting ≡ false
   pub reads : list_any (is_read conn tag) (run journal).scene.book.reads ≡ false
+  pub port_reads : list_any (is_read conn tag) (run journal).scene.ports.reads ≡ false
 
 -- Behind a Tflush that was answered by Rflush, whatever stood before it, no read waits with the tag that it names, and nothing is said to
 -- that tag, up to the next message of that tag.
@@ -123,4 +125,4 @@ WrittenBackOnce = (before between : List Event) (e f : Event) (b : BackItem) →
 
 -- Between entries no read that waits can be answered: there is nothing for it yet.
 abbrev pub NoReadCanBeAnswered : Type 0
-NoReadCanBeAnswered = (journal : List Event) → IsIdle (run journal).scene.book
+NoReadCanBeAnswered = (journal : List Event) → IsIdle (run journal).scene.book × ArePortsIdle (run journal).scene.ports

@@ -1,5 +1,5 @@
 -- Items that are written back, each acted on once, over journals.
-use Rattle.std.specs.Prelude.{◌≡◌, ℕ, ◌+◌, true, List, [], ◌∷◌, ◌++◌, length, Option, Some, None, Ok}
+use Rattle.std.specs.Prelude.{◌≡◌, ℕ, ◌+◌, true, List, [], ◌∷◌, ◌++◌, length, Some, Ok}
 use Rattle.ninep_types.specs.declared.message.RBody.TheVariants as r
 use Rattle.ninep_types.specs.declared.message.TBody.TheVariants as t
 use Rattle.acme_tree.specs.declared.node.Node.TheVariants.{File}
@@ -18,7 +18,7 @@ use Rattle.am_journal.specs.declared.event.Event.TheVariants as event
 use Rattle.core_fids.specs.declared.effect.Answer.TheVariants.{Says}
 use Rattle.core_events.specs.declared.closing.BackItem.{BackItem}
 use Rattle.core_exec.specs.Acting.{act_on_deeds}
-use Rattle.core_intents.specs.Doings.{Doing, doing_of}
+use Rattle.core_intents.specs.Doings.{doing_of}
 use Rattle.acme_core.specs.Run.{run, present_after}
 use Rattle.core_laws.specs.Laws.{OnlyTells, IsBackAt, clicked_window, written_by}
 use Rattle.core_laws.specs.Saying.{said_after}

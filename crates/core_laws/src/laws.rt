@@ -41,7 +41,6 @@ pub fn items_are_written_back_once()
 {}
 
 /// Between entries no read that waits can be answered: an entry answers the oldest that can be, until none can.
-#[tactic(auto, using(crate::proofs::Flushes::waiting))]
 pub fn no_waiting_read_can_be_answered()
     ensures { NoReadCanBeAnswered }
 {}

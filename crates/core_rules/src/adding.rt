@@ -1,6 +1,9 @@
 //! Sets of rules that are added.
 
-ghost use Rattle.std.specs.Prelude.{◌≡◌, ◌≤◌, length, IfOk, OnOk};
+ghost use Rattle.std.specs.Prelude.{◌≡◌, ◌≤◌, true, length, IfOk, OnOk};
+ghost use Rattle.std.specs.List.{list_all};
+ghost use Rattle.rule_syntax.specs.Verbs.{is_port_name};
+ghost use Rattle.rule_texts.specs.Naming as naming;
 ghost use Rattle.core_scene.specs.Scenes.{scene_of, kept_of, Did};
 ghost use Rattle.core_rules.specs.NewNames.{new_names};
 ghost use Rattle.core_rules.specs.Adding.{set_deeds, fits, names_added, sets_added, adds};
@@ -10,7 +13,7 @@ use crate::refusal::RulesRefusal;
 use am_text::{Bytes, NoMemory};
 use core_scene::{Deed, Deeds, Entry, RuleSets, Scene, Vars};
 use rule_syntax::RuleFault;
-use rule_texts::ports_of;
+use rule_texts::{names_are_ports, ports_of};
 use std::alloc::Global;
 
 /// Text that is to be added, and how many bytes count as held with it.
@@ -55,7 +58,8 @@ fn add_names(
     written: Written<'_>,
     found: (NewNames, (RuleSets, Vars)),
 ) -> Result<Option<RulesRefusal>, NoMemory>
-    requires { length written.text.now ≤ written.bytes }
+    requires counted { length written.text.now ≤ written.bytes }
+    requires named { list_all is_port_name found.0 ≡ true }
     ensures refusal { IfOk result (λ refusal. refusal ≡ (names_added found.0 written.entry.text.now written.entry.bytes found.1 (scene_of scene.old)).refusal) }
     ensures ok { OnOk result (Did entry (scene_of scene.old) (scene_of scene.new) (names_added found.0 written.entry.text.now written.entry.bytes found.1 (scene_of scene.old)).deeds) }
     ensures kept { kept_of scene.new ≡ kept_of scene.old }
@@ -77,7 +81,8 @@ fn add_sets(
     written: Written<'_>,
     read: (RuleSets, Vars),
 ) -> Result<Option<RulesRefusal>, NoMemory>
-    requires { length written.text.now ≤ written.bytes }
+    requires counted { length written.text.now ≤ written.bytes }
+    requires named { list_all is_port_name (naming.ports_of read.0) ≡ true }
     ensures refusal { IfOk result (λ refusal. refusal ≡ (sets_added written.entry.text.now written.entry.bytes read (scene_of scene.old)).refusal) }
     ensures ok { OnOk result (Did entry (scene_of scene.old) (scene_of scene.new) (sets_added written.entry.text.now written.entry.bytes read (scene_of scene.old)).deeds) }
     ensures kept { kept_of scene.new ≡ kept_of scene.old }
@@ -99,6 +104,7 @@ pub(crate) fn add(
     ensures ok { OnOk result (Did entry (scene_of scene.old) (scene_of scene.new) (adds written.entry.text.now written.entry.bytes (scene_of scene.old)).deeds) }
     ensures kept { kept_of scene.new ≡ kept_of scene.old }
 {
+    names_are_ports();
     match scene.rules.read(alloc, written.text) {
         Ok(read) => add_sets(alloc, scene, entry, written, read),
         Err(RuleFault::Bad(_)) => Ok(Some(RulesRefusal::BadRule)),

@@ -1,10 +1,11 @@
 -- The scene that a step plays on, and what deeds make of it.
-use Rattle.std.specs.Prelude.{◌≡◌, ℕ, ◌||◌, Bool, true, false, nat_lt, List, [], ◌∷◌, ◌++◌, length, Option, None}
+use Rattle.std.specs.Prelude.{◌≡◌, ℕ, ◌&&◌, ◌||◌, Bool, true, false, nat_lt, List, [], ◌∷◌, ◌++◌, length, Option, None}
 use Rattle.am_text.specs.Twice.{both, IsSteady}
 use Rattle.am_text.specs.declared.job.Job.{Job}
 use Rattle.event_book.specs.BookState.{BookState, empty_book}
 use Rattle.name_tree.specs.declared.types.Node.{Node}
 use Rattle.name_tree.specs.Kinds.{file_clashes, directory_clashes, after_file, after_directory}
+use Rattle.rule_syntax.specs.Verbs.{is_port_name}
 use Rattle.core_stores.specs.Stores.{RuleState, no_rules, added, has_room}
 use Rattle.plumb_ports.specs.PortList.{is_there}
 use Rattle.plumb_ports.specs.PortsState.{PortsState, beginning, after_add, refusal, after_deliver}
@@ -51,11 +52,11 @@ done e s deed.ClearsRules = record s { rules = no_rules }
 done e s (deed.AddsPort name) = record s { ports = after_add s.ports name }
 done e s (deed.Delivers port message keep) = record s { ports = after_deliver s.ports port message }
 
--- whether a port of this name is there, or there is room for one more
+-- whether it is the name of a port, and a port of this name is there, or there is room for one more
 abbrev pub can_add : PortsState → List ℕ → Bool
-can_add s name = is_there s.ports name || nat_lt (length s.ports) 65536
+can_add s name = is_port_name name && (is_there s.ports name || nat_lt (length s.ports) 65536)
 
--- what a change names is there; what is stored or made clashes with nothing; there is room for rules and ports; a port takes
+-- what a change names is there; what is stored or made clashes with nothing; there is room for rules and ports, which have names of ports; a port takes
 -- what is delivered
 abbrev pub CanDo : SceneState → Deed → Type 0
 CanDo s (deed.Windows c) = CanChange s.windows c

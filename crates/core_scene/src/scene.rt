@@ -39,7 +39,7 @@ impl Scene {
         ensures { IfOk result (λ scene. scene ≡ scene_in no_scene) }
     {
         Ok(Scene {
-            windows: Windows::new(alloc)?,
+            windows: Windows::new(alloc),
             book: Book::new(alloc),
             files: Tree::new(alloc),
             snarf: Snarf::new(alloc),

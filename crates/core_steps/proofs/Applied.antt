@@ -3,6 +3,7 @@ use Rattle.std.proofs.Common.{◌≡◌, ℕ, List, [], refl, ap, ◌∙◌}
 use Rattle.am_text.specs.Twice.{Twice, both}
 use Rattle.fid_table.specs.Tables.{Tables}
 use Rattle.event_book.specs.BookState.{BookState}
+use Rattle.plumb_ports.specs.PortsState.{PortsState}
 use Rattle.core_scene.specs.declared.scene.Scene.{Scene}
 use Rattle.core_scene.specs.Scenes.{SceneState, scene_of, kept_of, scene_in}
 use Rattle.core_events.specs.declared.response.Response.{Response}
@@ -18,7 +19,7 @@ use Rattle.core_intents.specs.Kinds.{kind_of}
 use Rattle.core_intents.specs.Parts.{present_of}
 use Rattle.core_steps.specs.Ready.{HasReady}
 use Rattle.core_steps.specs.Replies.{replies_of}
-use Rattle.core_steps.specs.Stages.{acted, grown_tables, grown_book, said, closed_book, ended_tables, scene_after, left_unsent, after}
+use Rattle.core_steps.specs.Stages.{acted, grown_tables, grown_book, said, closed_book, left_ports, ended_tables, book_after, ports_after, scene_after, left_unsent, after}
 use Rattle.core_intents.specs.States.{Present, next_entry}
 
 present_same : (n m : ℕ) (cs ds : List Connection) (t u : Tables) (s r : SceneState) (us vs : List Unsent) (rs qs : List Reply) → n ≡ m → cs ≡ ds → t ≡ u → s ≡ r → us ≡ vs → rs ≡ qs
@@ -51,12 +52,23 @@ module _ (p : Parts) (x : Prepared) (d : Doing) (h : HasReady p x d) where
       ∙ ap (λ (y : Scene). closed_book (next_entry s) (grown_tables s k d) k d y.book.present) kept
       ∙ ap (λ (y : SceneState). closed_book (next_entry s) (grown_tables s k d) k d y.book) h.scene
 
-  scene_done : (kind : Kind) (settled : Scene) (book : Twice BookState) → kind ≡ k → settled ≡ scene_in (scene_of p.scene) → book ≡ both (closed_book x.at p.sessions.present kind d settled.book.present)
-      → kept_of (record settled { book = book }) ≡ scene_after s k d
-  scene_done kind settled book is kept done =
-      ap (λ (y : Scene). record (kept_of y) { book = book.kept }) kept
-      ∙ ap (λ (y : SceneState). record y { book = book.kept; items = []; deleted = [] }) h.scene
-      ∙ ap (λ (b : BookState). record (acted s d) { book = b; items = []; deleted = [] }) (book_done kind settled book is kept done)
+  ports_done : (kind : Kind) (settled : Scene) (ports : Twice PortsState) → kind ≡ k → settled ≡ scene_in (scene_of p.scene) → ports ≡ both (left_ports p.sessions.present kind d settled.ports.present)
+      → ports.kept ≡ ports_after s k d
+  ports_done kind settled ports is kept done =
+      ap (λ (t : Twice PortsState). t.kept) done
+      ∙ ap (λ (y : Kind). left_ports p.sessions.present y d settled.ports.present) is
+      ∙ ap (λ (t : Tables). left_ports t k d settled.ports.present) h.sessions
+      ∙ ap (λ (y : Scene). left_ports (grown_tables s k d) k d y.ports.present) kept
+      ∙ ap (λ (y : SceneState). left_ports (grown_tables s k d) k d y.ports) h.scene
+
+  scene_done : (kind : Kind) (settled : Scene) (book : Twice BookState) (ports : Twice PortsState) → kind ≡ k → settled ≡ scene_in (scene_of p.scene)
+      → book ≡ both (closed_book x.at p.sessions.present kind d settled.book.present) → ports ≡ both (left_ports p.sessions.present kind d settled.ports.present)
+      → kept_of (record settled { book = book; ports = ports }) ≡ scene_after s k d
+  scene_done kind settled book ports is kept done left =
+      ap (λ (y : Scene). record (kept_of y) { book = book.kept; ports = ports.kept }) kept
+      ∙ ap (λ (y : SceneState). record y { book = book.kept; ports = ports.kept; items = []; deleted = [] }) h.scene
+      ∙ ap (λ (b : BookState). record (acted s d) { book = b; ports = ports.kept; items = []; deleted = [] }) (book_done kind settled book is kept done)
+      ∙ ap (λ (q : PortsState). record (acted s d) { book = book_after s k d; ports = q; items = []; deleted = [] }) (ports_done kind settled ports is kept left)
 
   outputs_done : (kind : Kind) (kept outputs : Twice (List Unsent)) → kind ≡ k → kept ≡ both p.outputs.present → outputs ≡ both (left_unsent kept.present kind)
       → outputs.kept ≡ (after s x.event d).unsent
@@ -67,14 +79,15 @@ module _ (p : Parts) (x : Prepared) (d : Doing) (h : HasReady p x d) where
       ∙ ap (λ (us : List Unsent). left_unsent us k) h.outputs
 
   -- all that is ready, done part by part
-  pub applied : (kind : Kind) (heard : List Response) (conns : List Connection) (sessions : Twice Tables) (settled : Scene) (book : Twice BookState) (kept outputs : Twice (List Unsent))
+  pub applied : (kind : Kind) (heard : List Response) (conns : List Connection) (sessions : Twice Tables) (settled : Scene) (book : Twice BookState)
+      (ports : Twice PortsState) (kept outputs : Twice (List Unsent))
       → kind ≡ k → heard ≡ x.said → conns ≡ connections_after p.connections.items kind → sessions ≡ both (ended_tables p.sessions.present kind d heard)
       → settled ≡ scene_in (scene_of p.scene) → book ≡ both (closed_book x.at p.sessions.present kind d settled.book.present)
-      → kept ≡ both p.outputs.present → outputs ≡ both (left_unsent kept.present kind)
-      → ◌≡◌ {A = Present} (record { entries = x.at; connections = conns; tables = sessions.kept; scene = kept_of (record settled { book = book }); unsent = outputs.kept; replies = x.replies.items })
+      → ports ≡ both (left_ports p.sessions.present kind d settled.ports.present) → kept ≡ both p.outputs.present → outputs ≡ both (left_unsent kept.present kind)
+      → ◌≡◌ {A = Present} (record { entries = x.at; connections = conns; tables = sessions.kept; scene = kept_of (record settled { book = book; ports = ports }); unsent = outputs.kept; replies = x.replies.items })
       (after s x.event d)
-  applied kind heard conns sessions settled book kept outputs is says joins sess keeps closes holds takes =
-      present_same x.at (next_entry s) conns (connections_after s.connections k) sessions.kept (ended_tables (grown_tables s k d) k d (said s k d)) (kept_of (record settled { book = book })) (scene_after s k d)
+  applied kind heard conns sessions settled book ports kept outputs is says joins sess keeps closes leaves holds takes =
+      present_same x.at (next_entry s) conns (connections_after s.connections k) sessions.kept (ended_tables (grown_tables s k d) k d (said s k d)) (kept_of (record settled { book = book; ports = ports })) (scene_after s k d)
       outputs.kept (after s x.event d).unsent x.replies.items (replies_of (said s k d))
-      h.at (joins ∙ ap (λ (y : Kind). connections_after s.connections y) is) (tables_done kind heard sessions is says sess) (scene_done kind settled book is keeps closes)
+      h.at (joins ∙ ap (λ (y : Kind). connections_after s.connections y) is) (tables_done kind heard sessions is says sess) (scene_done kind settled book ports is keeps closes leaves)
       (outputs_done kind kept outputs is holds takes) h.replies

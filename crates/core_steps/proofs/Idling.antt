@@ -9,7 +9,7 @@ use Rattle.event_book.specs.BookState.{BookState, served_of, piece_for}
 use Rattle.event_book.specs.Laws.{IsLawful}
 use Rattle.core_fids.specs.declared.effect.EventChange.{EventChange}
 use Rattle.core_fids.specs.declared.effect.Answer.{Answer}
-use Rattle.core_fids.specs.declared.effect.Answer.TheVariants.{Says, Reads}
+use Rattle.core_fids.specs.declared.effect.Answer.TheVariants.{Says, Reads, ReadsPort}
 use Rattle.core_scene.specs.declared.deed.WindowItem.{WindowItem}
 use Rattle.core_scene.specs.Scenes.{deleted_by}
 use Rattle.core_events.specs.Asking.{opened}
@@ -19,9 +19,13 @@ use Rattle.core_events.specs.Serving.{served_all, book_served_all}
 use Rattle.core_events.specs.Sound.{IsSound, IsIdle}
 use Rattle.core_events.proofs.Idles.{AreIdle, IsKept, read_idle, open_idle, living_kept, written_idle, served_idle, ending_idle, all_freed_idle, freed_idle, cancelled_idle, closed_idle, idle_for, idle_from, idle_end}
 use Rattle.core_events.proofs.Turns.{all_none, book_all_none}
+use Rattle.plumb_ports.specs.PortsState.{PortsState}
+use Rattle.core_ports.specs.Closing.{ports_freed}
+use Rattle.core_ports.specs.Sound.{ArePortsIdle}
+use Rattle.core_ports.proofs.Idles.{idle_served, idle_freed, idle_cancelled, idle_without_fids}
 use Rattle.core_intents.specs.declared.kind.Kind.{Kind}
 use Rattle.core_intents.specs.declared.kind.Kind.TheVariants as kind
-use Rattle.core_steps.specs.Stages.{asker_of, answer_book, message_book, acted, with_fid, grown_tables, read_book, put_book, grown_book, left_book, book_after}
+use Rattle.core_steps.specs.Stages.{asker_of, answer_book, message_book, acted, with_fid, grown_tables, read_book, put_book, grown_book, left_book, book_after, open_ports, grown_ports, left_ports, ports_after}
 use Rattle.core_intents.specs.States.{Present, next_entry}
 use Rattle.core_intents.specs.Doings.{Doing}
 
@@ -30,6 +34,7 @@ module _ (deleted : List ℕ) (at : ℕ) where
   answered t b conn tag None h = h
   answered t b conn tag (Some (Says body)) h = h
   answered t b conn tag (Some (Reads fid opening count)) h = read_idle deleted at t b (asker_of conn tag opening count) h
+  answered t b conn tag (Some (ReadsPort fid opening count)) h = h
 
   read : (t : Tables) (b : BookState) (k : Kind) (a : Option Answer) → AreIdle deleted at b → AreIdle deleted at (message_book t b k a at)
   read t b (kind.Dials conn) a h = h
@@ -59,6 +64,17 @@ idle_on s k d idle =
     let grown : AreIdle deleted at (grown_book s k d) = ending_idle deleted at (book_served_all at (put_book s k d)) items served in
     let back : BookState = written_back at (grown_book s k d) d.back in
     closed_idle deleted at (left_book at (grown_tables s k d) k d back) (left deleted at (grown_tables s k d) back k d (written_idle deleted at (grown_book s k d) d.back grown))
+
+-- so it is with ports, whatever could be answered before
+ports_left : (t : Tables) (k : Kind) (d : Doing) (p : PortsState) → ArePortsIdle p → ArePortsIdle (left_ports t k d p)
+ports_left t (kind.Dials conn) d p h = h
+ports_left t (kind.Asks conn tag) d p h = idle_cancelled (ports_freed p t conn d.effect) conn d.events (idle_freed p t conn d.effect h)
+ports_left t (kind.Ends conn why) d p h = idle_without_fids p t conn h
+ports_left t (kind.Takes conn) d p h = h
+ports_left t kind.Acts d p h = h
+
+pub ports_idle_on : (s : Present) (k : Kind) (d : Doing) → ArePortsIdle (ports_after s k d)
+ports_idle_on s k d = ports_left (grown_tables s k d) k d (grown_ports s k d) (idle_served (open_ports s k d))
 
 -- so nothing is served before an item comes
 pub none_served : (b : BookState) → IsIdle b → served_of b ≡ None

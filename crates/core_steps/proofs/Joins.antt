@@ -1,6 +1,6 @@
 -- The connections that joined the sessions are those that were dialled, one event further.
-use Rattle.std.proofs.Common.{◌≡◌, ◌≢◌, ℕ, ◌<◌, Bool, true, false, cond, eqb, ◌||◌, List, [], ◌∷◌, length, Option, Some, None, refl, sym, ap, ◌∙◌, arith}
-use Rattle.std.specs.Prelude.{slice_set}
+use Rattle.std.proofs.Common.{◌≡◌, ◌≢◌, ℕ, ◌<◌, Bool, true, false, cond, eqb, ◌||◌, List, [], ◌∷◌, length, Option, Some, None, refl, sym, ap, subst, ◌∙◌, arith}
+use Rattle.std.specs.Prelude.{slice_set, IfSome}
 use Rattle.std.specs.List.{list_any}
 use Rattle.std.proofs.lemmas.Bool.{eqb-true, eqb-false}
 use Rattle.std.proofs.lemmas.List.{get_or-set_same, get_or-set_other}
@@ -9,7 +9,7 @@ use Rattle.core_intents.specs.declared.kind.Kind.{Kind}
 use Rattle.core_intents.specs.declared.kind.Kind.TheVariants as kind
 use Rattle.core_intents.proofs.Kinded.{IsNumbered, IsFound}
 use Rattle.fid_table.specs.declared.session.Session.{Session}
-use Rattle.fid_table.specs.Tables.{Tables, is_session, has_joined, on_session, put_in, taken_from, begun, after_join, after_done, after_hangup}
+use Rattle.fid_table.specs.Tables.{Tables, HasJoined, is_session, has_joined, on_session, put_in, taken_from, begun, after_join, after_done, after_hangup}
 use Rattle.core_intents.specs.declared.connection.Connection.{Connection}
 use Rattle.core_intents.specs.declared.connection.Connection.TheVariants.{Undialed, Live, Ended}
 use Rattle.core_fids.specs.declared.effect.Effect.{Effect}
@@ -17,17 +17,22 @@ use Rattle.core_fids.specs.declared.effect.Effect.TheVariants as effect
 use Rattle.core_intents.specs.Connections.{connection_at, connections_after, was_dialed, AreJoined, IsJoinedFor, IsOfJoined, grown, grown_with, ended_with}
 use Rattle.core_intents.specs.Enabled.{dial_refusal, live_refusal}
 use Rattle.core_intents.specs.States.{Present}
-use Rattle.core_steps.specs.Stages.{asker_of, answer_tables, message_tables, said, tables_after}
+use Rattle.core_steps.specs.Stages.{asker_of, answer_tables, message_tables, acted, said, tables_after}
 use Rattle.core_intents.specs.Doings.{Doing}
 use Rattle.ninep_types.specs.declared.message.RBody.{RBody}
 use Rattle.event_book.specs.BookState.{BookState}
 use Rattle.core_fids.specs.declared.effect.Answer.{Answer}
-use Rattle.core_fids.specs.declared.effect.Answer.TheVariants.{Says, Reads}
+use Rattle.core_fids.specs.declared.effect.Answer.TheVariants.{Says, Reads, ReadsPort}
 use Rattle.core_fids.specs.declared.effect.EventChange.{EventChange}
 use Rattle.core_fids.specs.declared.effect.EventChange.TheVariants as events
 use Rattle.core_events.specs.declared.response.Response.{Response}
 use Rattle.core_events.specs.Asking.{read_said, waits_unless}
 use Rattle.core_events.specs.Waits.{ended, without_cancelled}
+use Rattle.plumb_ports.specs.PortsState.{PortsState}
+use Rattle.core_ports.specs.Asking.{port_said}
+use Rattle.core_intents.specs.Doings.{IsAnswerable}
+use Rattle.core_steps.specs.declared.reading.PortRead.{PortRead}
+use Rattle.core_steps.specs.PortReads.{port_read_in, port_read_of, asked_tables, IsReadable}
 
 -- ---- sessions keep their connections
 
@@ -60,6 +65,7 @@ cancelled_keeps : (t : Tables) (conn x : ℕ) (v : EventChange) → has_joined (
 cancelled_keeps t conn x events.Nothing = refl
 cancelled_keeps t conn x (events.Opens w) = refl
 cancelled_keeps t conn x (events.Cancels tag) = refl
+cancelled_keeps t conn x (events.Joins port) = refl
 
 waits_keeps : (t : Tables) (conn tag fid x : ℕ) (o : Option RBody) → has_joined (waits_unless o t conn tag fid) x ≡ has_joined t x
 waits_keeps t conn tag fid x None = refl
@@ -69,6 +75,11 @@ answer_keeps : (t : Tables) (b : BookState) (conn tag x : ℕ) (a : Option Answe
 answer_keeps t b conn tag x None = refl
 answer_keeps t b conn tag x (Some (Says body)) = refl
 answer_keeps t b conn tag x (Some (Reads fid opening count)) = waits_keeps t conn tag fid x (read_said t b (asker_of conn tag opening count))
+answer_keeps t b conn tag x (Some (ReadsPort fid opening count)) = refl
+
+asked_keeps : (t : Tables) (p : PortsState) (r : Option PortRead) (x : ℕ) → has_joined (asked_tables t p r) x ≡ has_joined t x
+asked_keeps t p None x = refl
+asked_keeps t p (Some r) x = waits_keeps t r.asker.conn r.asker.tag r.fid x (port_said t p r.asker)
 
 or_false : (b : Bool) → (b || false) ≡ b
 or_false true = refl
@@ -126,10 +137,12 @@ joins_on s (kind.Dials conn) d n h e all = λ x.
 joins_on s (kind.Asks conn tag) d n h e all = λ x.
     let put : Tables = grown_with s.tables conn d.effect in
     let read : Tables = answer_tables put s.scene.book conn tag d.answer in
-    let left : Tables = ended_with read conn d.effect in
+    let port : Option PortRead = port_read_in conn tag d.answer in
+    let asked : Tables = asked_tables read (acted s d).ports port in
+    let left : Tables = ended_with asked conn d.effect in
     let responses : List Response = said s (kind.Asks conn tag) d in
-    cancelled_keeps (ended left responses) conn x d.events ∙ ended_keeps left x responses ∙ ended_with_keeps read conn x d.effect
-    ∙ answer_keeps put s.scene.book conn tag x d.answer ∙ grown_keeps s.tables conn x d.effect ∙ all x
+    cancelled_keeps (ended left responses) conn x d.events ∙ ended_keeps left x responses ∙ ended_with_keeps asked conn x d.effect
+    ∙ asked_keeps read (acted s d).ports port x ∙ answer_keeps put s.scene.book conn tag x d.answer ∙ grown_keeps s.tables conn x d.effect ∙ all x
 joins_on s (kind.Ends conn why) d n h e all = λ x.
     ended_keeps (after_hangup s.tables conn) x (said s (kind.Ends conn why) d) ∙ any_kept (begun None) (λ s. refl) conn x s.tables.sessions
     ∙ hang_joins s.connections s.tables conn (Ended why) (omega (arith, n, h)) refl (dialed_live (connection_at s.connections conn) e) all x
@@ -162,4 +175,29 @@ read_joined t b (kind.Ends conn why) a h = h
 read_joined t b (kind.Takes conn) a h = tt
 read_joined t b kind.Acts a h = tt
 
-pub ruleset joining = (grown_joined, read_joined)
+pub asked_joined : (t : Tables) (p : PortsState) (r : Option PortRead) (k : Kind) → IsOfJoined t k → IsOfJoined (asked_tables t p r) k
+asked_joined t p r (kind.Dials conn) h = tt
+asked_joined t p r (kind.Asks conn tag) h = asked_keeps t p r conn ∙ h
+asked_joined t p r (kind.Ends conn why) h = asked_keeps t p r conn ∙ h
+asked_joined t p r (kind.Takes conn) h = tt
+asked_joined t p r kind.Acts h = tt
+
+-- ---- the read of a port
+
+readable_in : (t : Tables) (conn tag : ℕ) (a : Option Answer) → IsAnswerable a → HasJoined t conn → IfSome (port_read_in conn tag a) (IsReadable t)
+readable_in t conn tag None short joined = tt
+readable_in t conn tag (Some (Says body)) short joined = tt
+readable_in t conn tag (Some (Reads fid opening count)) short joined = tt
+readable_in t conn tag (Some (ReadsPort fid opening count)) short joined = record { short = short; joined = joined }
+
+readable_of : (t : Tables) (k : Kind) (a : Option Answer) → IsAnswerable a → IsOfJoined t k → IfSome (port_read_of k a) (IsReadable t)
+readable_of t (kind.Dials conn) a short joined = tt
+readable_of t (kind.Asks conn tag) a short joined = readable_in t conn tag a short joined
+readable_of t (kind.Ends conn why) a short joined = tt
+readable_of t (kind.Takes conn) a short joined = tt
+readable_of t kind.Acts a short joined = tt
+
+pub readable : (t : Tables) (k : Kind) (a : Option Answer) (r : Option PortRead) → r ≡ port_read_of k a → IsAnswerable a → IsOfJoined t k → IfSome r (IsReadable t)
+readable t k a r is short joined = subst (λ (x : Option PortRead). IfSome x (IsReadable t)) (sym is) (readable_of t k a short joined)
+
+pub ruleset joining = (grown_joined, read_joined, asked_joined, readable)

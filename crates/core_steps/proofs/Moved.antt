@@ -1,14 +1,37 @@
 -- What a task does to a scene where nothing is ready, and what is then taken of it.
-use Rattle.std.proofs.Common.{◌≡◌, ℕ, List, [], sym, ap, subst, ◌∙◌}
+use Rattle.std.proofs.Common.{◌≡◌, ℕ, List, [], ◌∷◌, sym, ap, subst, ◌∙◌}
 use Rattle.core_scene.specs.declared.deed.Entry.{Entry}
 use Rattle.core_scene.specs.declared.deed.Deed.{Deed}
+use Rattle.core_scene.specs.declared.deed.Deed.TheVariants as deed
 use Rattle.core_scene.specs.declared.deed.WindowItem.{WindowItem}
 use Rattle.core_scene.specs.declared.scene.Scene.{Scene}
-use Rattle.core_scene.specs.Scenes.{SceneState, scene_of, kept_of, IsSettled, done_all, deleted_by, CanDoAll, Did}
+use Rattle.core_scene.specs.Scenes.{SceneState, scene_of, kept_of, IsSettled, done, done_all, deleted_by, CanDoAll, Did}
 use Rattle.core_scene.proofs.Dids.{deleted_done, book_stays}
 use Rattle.core_scene.proofs.Settled.{settled_is}
+use Rattle.core_ports.specs.Sound.{ArePortsSound}
+use Rattle.core_ports.proofs.Sounds.{sound_add, sound_deliver}
 use Rattle.core_tasks.specs.declared.task.Task.{Task}
 use Rattle.core_tasks.specs.Tasks.{task_deeds, CanDoTask}
+
+-- ---- the ports stay sound
+
+port_sound : (e : Entry) (s : SceneState) (d : Deed) → ArePortsSound s.ports → ArePortsSound (done e s d).ports
+port_sound e s (deed.Windows c) h = h
+port_sound e s (deed.Item w item) h = h
+port_sound e s (deed.Snarfs text) h = h
+port_sound e s (deed.Stores path bytes) h = h
+port_sound e s (deed.MakesDir path) h = h
+port_sound e s (deed.Requests job) h = h
+port_sound e s (deed.AddsRules sets vars text) h = h
+port_sound e s deed.ClearsRules h = h
+port_sound e s (deed.AddsPort name) h = sound_add s.ports name h
+port_sound e s (deed.Delivers port message keep) h = sound_deliver s.ports port message h
+
+ports_sound : (e : Entry) (s : SceneState) (ds : List Deed) → ArePortsSound s.ports → ArePortsSound (done_all e s ds).ports
+ports_sound e s [] h = h
+ports_sound e s (d ∷ ds) h = ports_sound e (done e s d) ds (port_sound e s d h)
+
+-- ---- a task
 
 -- what can be done in the kept state can be done in the present one
 pub can_now : (e : Entry) (x : Scene) (t : Task) → IsSettled x → CanDoTask e (kept_of x) t → CanDoTask e (scene_of x) t
@@ -37,6 +60,10 @@ module _ (e : Entry) (old x : Scene) (t : Task) (settled : IsSettled old) (did :
   task_deleted y deleted first is =
       is ∙ ap (λ (s : Scene). s.deleted) first ∙ ap (λ (s : SceneState). s.deleted) did_kept.made ∙ deleted_done e (kept_of old) deeds
 
+  pub task_ports : (y z : Scene) → y ≡ record x { items = [] } → z ≡ record y { deleted = [] } → ArePortsSound old.ports.kept → ArePortsSound z.ports.present
+  task_ports y z first second sound =
+      subst (λ (s : SceneState). ArePortsSound s.ports) (sym (task_scene y z first second)) (ports_sound e (kept_of old) deeds sound)
+
   pub task_kept : (y z : Scene) → kept_of x ≡ kept_of old → y ≡ record x { items = [] } → z ≡ record y { deleted = [] } → kept_of z ≡ kept_of old
   task_kept y z kept first second = ap kept_of (second ∙ ap (λ (s : Scene). record s { deleted = [] }) first) ∙ kept
 
@@ -45,4 +72,4 @@ module _ (e : Entry) (old x : Scene) (t : Task) (settled : IsSettled old) (did :
 
 pub ruleset moving = (can_now)
 
-pub ruleset tasking = (can_now, task_can, task_scene, task_items, task_deleted, task_kept, task_book)
+pub ruleset tasking = (can_now, task_can, task_scene, task_items, task_deleted, task_ports, task_kept, task_book)

@@ -1,3 +1,4 @@
 pub mod Replies
+pub mod PortReads
 pub mod Stages
 pub mod Ready

@@ -2,13 +2,14 @@
 use Rattle.std.specs.Prelude.{◌≡◌, []}
 use Rattle.core_scene.specs.Scenes.{SceneState, scene_of, deleted_by}
 use Rattle.core_events.specs.Sound.{IsSound}
+use Rattle.core_ports.specs.Sound.{ArePortsSound}
 use Rattle.core_intents.specs.Doings.{Doing}
 use Rattle.core_intents.specs.declared.kind.Kind.{Kind}
 use Rattle.core_intents.specs.declared.parts.Parts.{Parts}
 use Rattle.core_steps.specs.declared.prepared.Prepared.{Prepared}
 use Rattle.core_intents.specs.Connections.{IsOfJoined}
 use Rattle.core_intents.specs.Kinds.{kind_of}
-use Rattle.core_steps.specs.Stages.{acted, grown_tables, grown_book, said}
+use Rattle.core_steps.specs.Stages.{acted, grown_tables, grown_book, grown_ports, said}
 use Rattle.core_intents.specs.States.{Present, next_entry}
 use Rattle.core_steps.specs.Replies.{replies_of}
 use Rattle.core_outputs.specs.Unsent.{put_replies}
@@ -16,7 +17,7 @@ use Rattle.core_intents.specs.Parts.{present_of}
 
 -- the scene with all that a step makes
 abbrev pub grown_scene : Present → Kind → Doing → SceneState
-grown_scene s k d = record (acted s d) { book = grown_book s k d; items = []; deleted = [] }
+grown_scene s k d = record (acted s d) { book = grown_book s k d; ports = grown_ports s k d; items = []; deleted = [] }
 
 -- All that a step makes is ready, and what it ends is known, where its event does this.
 pub record HasReady (p : Parts) (prepared : Prepared) (d : Doing) : Type 0 where
@@ -31,4 +32,5 @@ pub record HasReady (p : Parts) (prepared : Prepared) (d : Doing) : Type 0 where
   pub sessions : p.sessions.present ≡ grown_tables (present_of p) (kind_of prepared.event) d
   pub scene : scene_of p.scene ≡ grown_scene (present_of p) (kind_of prepared.event) d
   pub sound : IsSound prepared.at p.scene.book.present
+  pub ports : ArePortsSound p.scene.ports.present
   pub outputs : p.outputs.present ≡ put_replies p.outputs.kept (replies_of (said (present_of p) (kind_of prepared.event) d))

@@ -1,4 +1,4 @@
--- A step, part by part. First comes what it makes: the message is answered, or waits; deeds are done; items come; waiting reads are
+-- A step, part by part. First comes what it makes: deeds are done; the message is answered, or waits; items come; waiting reads are
 -- answered. Then comes what it ends: the item that is written back, openings of freed fids and of deleted windows, and reads that wait no
 -- more.
 use Rattle.std.specs.Prelude.{ℕ, List, [], ◌∷◌, ◌++◌, Option, Some, None}
@@ -7,11 +7,12 @@ use Rattle.fid_table.specs.Tables.{Tables, after_hangup}
 use Rattle.wait_queue.specs.declared.types.Asker.{Asker}
 use Rattle.am_journal.specs.declared.event.Event.{Event}
 use Rattle.event_book.specs.BookState.{BookState}
+use Rattle.plumb_ports.specs.PortsState.{PortsState}
 use Rattle.core_windows.specs.Stories.{all_changed_stories}
 use Rattle.core_scene.specs.Scenes.{SceneState, done_all, deleted_by}
 use Rattle.core_scene.specs.SceneLaws.{changes_in}
 use Rattle.core_fids.specs.declared.effect.Answer.{Answer}
-use Rattle.core_fids.specs.declared.effect.Answer.TheVariants.{Says, Reads}
+use Rattle.core_fids.specs.declared.effect.Answer.TheVariants.{Says, Reads, ReadsPort}
 use Rattle.core_events.specs.declared.response.Response.{Response}
 use Rattle.core_events.specs.Asking.{opened, read_said, book_read, tables_read}
 use Rattle.core_events.specs.Closing.{written_back, freed, cancelled, closed_with, without_fids}
@@ -19,6 +20,9 @@ use Rattle.core_events.specs.Putting.{put_all, put_living, ending}
 use Rattle.core_events.specs.Responses.{event_feed}
 use Rattle.core_events.specs.Serving.{served_all, book_served_all}
 use Rattle.core_events.specs.Waits.{clunked, deletions, ended, without_cancelled}
+use Rattle.core_ports.specs.Asking.{joined_with}
+use Rattle.core_ports.specs.Serving.{ports_served, ports_after_serving}
+use Rattle.core_ports.specs.Closing.{ports_freed, ports_cancelled, ports_without_fids}
 use Rattle.core_intents.specs.declared.kind.Kind.{Kind}
 use Rattle.core_intents.specs.declared.kind.Kind.TheVariants as kind
 use Rattle.core_intents.specs.Connections.{connections_after, grown, ended_with}
@@ -26,9 +30,10 @@ use Rattle.core_intents.specs.Doings.{Doing, entry_of}
 use Rattle.core_intents.specs.Kinds.{kind_of, conn_of}
 use Rattle.core_intents.specs.States.{Present, State, next_entry}
 use Rattle.core_steps.specs.Replies.{replies_of}
+use Rattle.core_steps.specs.PortReads.{port_read_of, asked_said, asked_ports, asked_tables}
 use Rattle.core_outputs.specs.Unsent.{Unsent, put_replies, taken}
 
--- ---- the answer to the message
+-- ---- the answer to the message, unless it reads a port
 
 abbrev pub response : ℕ → ℕ → RBody → Response
 response conn tag body = record { conn = conn; message = record { tag = tag; body = body }; feed = None }
@@ -48,16 +53,19 @@ abbrev pub answer_said : Tables → BookState → ℕ → ℕ → Option Answer 
 answer_said tables book conn tag None = []
 answer_said tables book conn tag (Some (Says body)) = response conn tag body ∷ []
 answer_said tables book conn tag (Some (Reads fid opening count)) = if_said conn tag opening (read_said tables book (asker_of conn tag opening count))
+answer_said tables book conn tag (Some (ReadsPort fid opening count)) = []
 
 abbrev pub answer_book : Tables → BookState → ℕ → ℕ → Option Answer → ℕ → BookState
 answer_book tables book conn tag None at = book
 answer_book tables book conn tag (Some (Says body)) at = book
 answer_book tables book conn tag (Some (Reads fid opening count)) at = book_read tables book (asker_of conn tag opening count) at
+answer_book tables book conn tag (Some (ReadsPort fid opening count)) at = book
 
 abbrev pub answer_tables : Tables → BookState → ℕ → ℕ → Option Answer → Tables
 answer_tables tables book conn tag None = tables
 answer_tables tables book conn tag (Some (Says body)) = tables
 answer_tables tables book conn tag (Some (Reads fid opening count)) = tables_read tables book (asker_of conn tag opening count) fid
+answer_tables tables book conn tag (Some (ReadsPort fid opening count)) = tables
 
 -- a message alone is answered
 
@@ -84,7 +92,7 @@ message_tables tables book kind.Acts answer = tables
 
 -- ---- what a step makes
 
--- the scene once the deeds are done, each told by the event files as they stood before the step
+-- The scene once the deeds are done, each told by the event files as they stood before the step. Its ports are those that the message finds.
 abbrev pub acted : Present → Doing → SceneState
 acted s d = done_all (entry_of s d) s.scene d.deeds
 
@@ -92,8 +100,11 @@ acted s d = done_all (entry_of s d) s.scene d.deeds
 abbrev pub with_fid : Present → Kind → Doing → Tables
 with_fid s k d = grown s.tables k d.effect
 
+abbrev pub read_tables : Present → Kind → Doing → Tables
+read_tables s k d = message_tables (with_fid s k d) s.scene.book k d.answer
+
 abbrev pub grown_tables : Present → Kind → Doing → Tables
-grown_tables s k d = message_tables (with_fid s k d) s.scene.book k d.answer
+grown_tables s k d = asked_tables (read_tables s k d) (acted s d).ports (port_read_of k d.answer)
 
 -- the event files with what a read takes, with an opening more, and with the items that come to windows that live on
 abbrev pub read_book : Present → Kind → Doing → BookState
@@ -106,14 +117,24 @@ put_book s k d = put_living (deleted_by d.deeds) (opened (read_book s k d) d.eve
 abbrev pub grown_book : Present → Kind → Doing → BookState
 grown_book s k d = put_all (book_served_all (next_entry s) (put_book s k d)) (ending (deleted_by d.deeds) (acted s d).items)
 
+-- the ports with what a read takes, and with an opening more
+abbrev pub open_ports : Present → Kind → Doing → PortsState
+open_ports s k d = joined_with (asked_ports (read_tables s k d) (acted s d).ports (port_read_of k d.answer)) d.events
+
+-- and then waiting reads are answered
+abbrev pub grown_ports : Present → Kind → Doing → PortsState
+grown_ports s k d = ports_after_serving (open_ports s k d)
+
 -- What is said: to the reads of a fid that is freed, to the message, to the reads of windows that are deleted, and to the reads that
--- can be answered then.
+-- can be answered then. No step makes items and delivers to ports as well, so these are the oldest first over all files.
 abbrev pub said : Present → Kind → Doing → List Response
 said s k d =
     clunked s.tables (conn_of k) d.effect
     ++ message_said (with_fid s k d) s.scene.book k d.answer
+    ++ asked_said (read_tables s k d) (acted s d).ports (port_read_of k d.answer)
     ++ deletions s.tables (deleted_by d.deeds)
     ++ served_all (next_entry s) (put_book s k d)
+    ++ ports_served (open_ports s k d)
 
 -- ---- what a step ends
 
@@ -128,6 +149,14 @@ left_book at tables kind.Acts d book = book
 -- first the item that is written back, and at last the event files of the windows that are deleted
 abbrev pub closed_book : ℕ → Tables → Kind → Doing → BookState → BookState
 closed_book at tables k d book = closed_with at (left_book at tables k d (written_back at book d.back)) (deleted_by d.deeds)
+
+-- the same of ports
+abbrev pub left_ports : Tables → Kind → Doing → PortsState → PortsState
+left_ports tables (kind.Dials conn) d ports = ports
+left_ports tables (kind.Asks conn tag) d ports = ports_cancelled (ports_freed ports tables conn d.effect) conn d.events
+left_ports tables (kind.Ends conn why) d ports = ports_without_fids ports tables conn
+left_ports tables (kind.Takes conn) d ports = ports
+left_ports tables kind.Acts d ports = ports
 
 -- the sessions without the fids that are freed, and the reads that were answered wait no more
 abbrev pub ended_tables : Tables → Kind → Doing → List Response → Tables
@@ -147,16 +176,19 @@ left_unsent unsent kind.Acts = unsent
 
 -- ---- the whole
 
--- the sessions and the event files after an event of this kind
+-- the sessions, the event files and the ports after an event of this kind
 abbrev pub tables_after : Present → Kind → Doing → Tables
 tables_after s k d = ended_tables (grown_tables s k d) k d (said s k d)
 
 abbrev pub book_after : Present → Kind → Doing → BookState
 book_after s k d = closed_book (next_entry s) (grown_tables s k d) k d (grown_book s k d)
 
+abbrev pub ports_after : Present → Kind → Doing → PortsState
+ports_after s k d = left_ports (grown_tables s k d) k d (grown_ports s k d)
+
 -- the scene after it
 abbrev pub scene_after : Present → Kind → Doing → SceneState
-scene_after s k d = record (acted s d) { book = book_after s k d; items = []; deleted = [] }
+scene_after s k d = record (acted s d) { book = book_after s k d; ports = ports_after s k d; items = []; deleted = [] }
 
 -- the editor as it stands after an event that does this
 abbrev pub after : Present → Event → Doing → Present

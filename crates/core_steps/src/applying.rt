@@ -3,13 +3,14 @@
 ghost use Rattle.std.specs.Prelude.{◌≡◌};
 ghost use Rattle.am_text.specs.Twice.{both, IsSteady};
 ghost use Rattle.core_events.specs.Sound.{IsSound};
+ghost use Rattle.core_ports.specs.Sound.{ArePortsSound};
 ghost use Rattle.core_intents.specs.Doings.{Doing};
 ghost use Rattle.core_intents.specs.Parts.{present_of, AreSteady};
 ghost use Rattle.core_steps.specs.Ready.{HasReady};
 ghost use Rattle.core_steps.specs.Stages.{after, left_unsent};
 ghost use Rattle.core_intents.specs.States.{present};
 
-use crate::closing::change_book;
+use crate::closing::{change_book, change_ports};
 use crate::connections::{change_connections, change_sessions};
 use crate::prepared::Prepared;
 use am_journal::Event;
@@ -37,12 +38,14 @@ pub fn apply(alloc: Global, parts: &mut Parts, prepared: Prepared) -> Event
     ensures event { result ≡ prepared.event }
     ensures state { (d : Doing) → HasReady parts.old prepared d → present_of parts.new ≡ after (present_of parts.old) prepared.event d }
     ensures sound { IsSound parts.new.entries parts.new.scene.book.kept }
+    ensures ports { ArePortsSound parts.new.scene.ports.kept }
     ensures steady { AreSteady parts.new }
 {
     let kind = kind_of(&prepared.event);
     change_connections(parts.connections.as_mut_slice(), kind);
     parts.scene.keep(alloc);
     change_book(&mut parts.scene.book, &parts.sessions, kind, &prepared);
+    change_ports(&mut parts.scene.ports, &parts.sessions, kind, &prepared);
     let Prepared {
         event,
         at,

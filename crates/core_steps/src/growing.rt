@@ -1,42 +1,48 @@
 //! What a step makes, done to the present states, which can be taken back.
 
-ghost use Rattle.std.specs.Prelude.{◌≡◌, ◌++◌, ◌∷◌, [], false, IfOk, OnOk};
-ghost use Rattle.core_tasks.specs.Tasks.{task_deeds, task_refusal, CanDoTask};
+ghost use Rattle.std.specs.Prelude.{◌≡◌, ◌+◌, ◌<◌, ◌^◌, ◌++◌, ◌∷◌, [], false, IfOk, IfSome, OnOk};
+ghost use Rattle.core_tasks.specs.Tasks.{task_deeds, task_refusal, task_held, CanDoTask};
 ghost use Rattle.core_fids.specs.Done.{IsSent};
 ghost use Rattle.am_text.specs.Twice.{IsSteady};
 ghost use Rattle.fid_table.specs.Tables.{HasJoined};
 ghost use Rattle.core_scene.specs.Scenes.{scene_of, kept_of, done_all, deleted_by, CanDoAll, IsSettled};
 ghost use Rattle.core_events.specs.declared.response.Feed.{Feed};
 ghost use Rattle.core_events.specs.Responses.{AreSaid};
-ghost use Rattle.core_events.specs.Asking.{opened};
+ghost use Rattle.core_events.specs.Asking.{opened, read_said, book_read, tables_read};
 ghost use Rattle.core_events.specs.Putting.{put_all, put_living, ending};
 ghost use Rattle.core_events.specs.Serving.{served_all, book_served_all};
 ghost use Rattle.core_events.specs.Waits.{clunked, deletions};
 ghost use Rattle.core_events.specs.Sound.{IsSound, IsIdle};
+ghost use Rattle.core_ports.specs.Asking.{joined_with};
+ghost use Rattle.core_ports.specs.Serving.{ports_served, ports_after_serving};
+ghost use Rattle.core_ports.specs.Sound.{ArePortsSound};
 ghost use Rattle.core_intents.specs.Connections.{IsJoinedFor, IsOfJoined, grown};
 ghost use Rattle.core_intents.specs.Kinds.{kind_of, conn_of, is_hang};
 ghost use Rattle.core_intents.specs.Parts.{present_of, AreSteady};
 ghost use Rattle.core_steps.specs.Ready.{HasReady};
 ghost use Rattle.core_intents.specs.Doings.{IsAnswerable, CanBeDone, CanBeMeant, resolved};
 ghost use Rattle.core_intents.specs.Intents.{answer_or};
-ghost use Rattle.core_steps.specs.Stages.{response, answer_said, answer_book, answer_tables, message_said, message_book, message_tables};
+ghost use Rattle.core_steps.specs.PortReads.{asked_said, asked_ports, asked_tables, IsReadable};
+ghost use Rattle.core_steps.specs.Stages.{response, if_said, message_said, message_book, message_tables};
 ghost use Rattle.core_intents.specs.States.{next_entry};
 ghost use Rattle.core_steps.specs.Replies.{replies_of};
 ghost use Rattle.core_outputs.specs.Unsent.{HaveBytes};
 
 use crate::connections::grow_sessions;
 use crate::prepared::Prepared;
+use crate::reading::{PortRead, ask_port, port_read_of};
 use am_journal::Event;
-use am_text::{Ids, Items, NoMemory};
+use am_text::{Bytes, Ids, Items, NoMemory};
 use core_events::{
     Book, Feed, Response, Responses, clunked, deletions, event_feed, joined, open_events, put_all,
     put_living, read_events, serve_all,
 };
 use core_fids::{Answer, Effect, EventChange};
-use core_intents::{Intent, Kind, Parts, answer_or, conn_of, kind_of};
+use core_intents::{Intent, Kind, Parts, answer_or, conn_of, kind_of, with_held};
 use core_outputs::Reply;
+use core_ports::{Ports, open_port, serve_ports};
 use core_scene::{Entry, Scene, WindowItems};
-use core_tasks::{Task, do_task};
+use core_tasks::{Ended, Task, do_task};
 use fid_table::Sessions;
 use ninep_types::{RBody, RMsg};
 use ninep_wire::write_r;
@@ -50,19 +56,28 @@ struct EndedSaid {
     deleted: Responses,
 }
 
-// What a task makes: items, and windows that are deleted; and the answer to the message.
+// What is said to a message that reads a port, and to waiting reads of ports.
+#[derive(Drop)]
+struct PortsSaid {
+    asked: Responses,
+    served: Responses,
+}
+
+// What a task makes: items, and windows that are deleted; what is held then; and the answer to the message.
 #[derive(Drop)]
 struct Acted {
     items: WindowItems,
     deleted: Ids,
+    held: Option<Bytes>,
     answer: Option<Answer>,
 }
 
-// What a message asks of event files: its answer, and an opening.
+// What a message asks of event files at the entry of this number: its answer, and an opening.
 #[derive(Drop)]
 struct Asks {
     answer: Option<Answer>,
     events: EventChange,
+    at: u64,
 }
 
 // The scene with what the task does to it, and without the items that it makes and the windows that it deletes.
@@ -77,21 +92,25 @@ fn act(
     requires settled { IsSettled scene.old }
     requires can { CanDoTask entry (kept_of scene.old) task }
     requires answerable { IsAnswerable answer }
+    requires ports { ArePortsSound scene.old.ports.kept }
     ensures scene { OnOk result (scene_of scene.new ≡ record (done_all entry (kept_of scene.old) (task_deeds entry task (kept_of scene.old))) { items = []; deleted = [] }) }
     ensures items { IfOk result (λ a. a.items ≡ (done_all entry (kept_of scene.old) (task_deeds entry task (kept_of scene.old))).items) }
     ensures deleted { IfOk result (λ a. a.deleted ≡ deleted_by (task_deeds entry task (kept_of scene.old))) }
+    ensures held { IfOk result (λ a. a.held ≡ task_held entry task (kept_of scene.old)) }
     ensures answer { IfOk result (λ a. a.answer ≡ answer_or (task_refusal entry task (kept_of scene.old)) answer) }
     ensures answerable { IfOk result (λ a. IsAnswerable a.answer) }
     ensures possible { OnOk result (CanDoAll entry (kept_of scene.old) (task_deeds entry task (kept_of scene.old))) }
     ensures kept { kept_of scene.new ≡ kept_of scene.old }
     ensures book { OnOk result (scene.new.book ≡ scene.old.book) }
+    ensures ports { OnOk result (ArePortsSound scene.new.ports.present) }
 {
-    let refusal = do_task(alloc, scene, entry, task)?;
+    let Ended { refusal, held } = do_task(alloc, scene, entry, task)?;
     let items = scene.take_items(alloc);
     let deleted = scene.take_deleted(alloc);
     Ok(Acted {
         items,
         deleted,
+        held,
         answer: answer_or(alloc, refusal, answer)?,
     })
 }
@@ -118,54 +137,36 @@ fn one(
     Ok(said)
 }
 
-// What is said to a message at once.
+// What is said at once to a read of an event file.
 #[tactic(auto, using(crate::proofs::Saids::saying))]
-fn answer(
+fn read(
     alloc: Global,
     book: &mut Book,
     sessions: &mut Sessions,
-    conn: u32,
-    tag: u16,
-    answer: Option<Answer>,
+    asker: Asker,
+    fid: u32,
     at: u64,
 ) -> Result<Responses, NoMemory>
     requires steady { IsSteady book.old }
     requires sound { IsSound at book.old.present }
-    requires answerable { IsAnswerable answer }
-    requires joined { HasJoined sessions.old.present conn }
-    ensures exact { IfOk result (λ said. said ≡ answer_said sessions.old.present book.old.present conn tag answer) }
+    requires small { asker.count + 11 < 2 ^ 32 }
+    requires joined { HasJoined sessions.old.present asker.conn }
+    ensures exact { IfOk result (λ said. said ≡ if_said asker.conn asker.tag asker.opening (read_said sessions.old.present book.old.present asker)) }
     ensures said { IfOk result AreSaid }
-    ensures book { OnOk result (book.new.present ≡ answer_book sessions.old.present book.old.present conn tag answer at) }
-    ensures tables { OnOk result (sessions.new.present ≡ answer_tables sessions.old.present book.old.present conn tag answer) }
+    ensures book { OnOk result (book.new.present ≡ book_read sessions.old.present book.old.present asker at) }
+    ensures tables { OnOk result (sessions.new.present ≡ tables_read sessions.old.present book.old.present asker fid) }
     ensures kept_book { book.new.kept ≡ book.old.kept }
     ensures kept_tables { sessions.new.kept ≡ sessions.old.kept }
     ensures sound { OnOk result (IsSound at book.new.present) }
 {
-    match answer {
+    let feed = event_feed(asker.opening);
+    match read_events(alloc, book, sessions, asker, fid, at)? {
+        Some(body) => one(alloc, asker.conn, asker.tag, body, Some(feed)),
         None => Ok(Items::new(alloc)),
-        Some(Answer::Says(body)) => one(alloc, conn, tag, body, None),
-        Some(
-            Answer::Reads {
-                fid,
-                opening,
-                count,
-            },
-        ) => {
-            let asker = Asker {
-                conn,
-                tag,
-                opening,
-                count,
-            };
-            match read_events(alloc, book, sessions, asker, fid, at)? {
-                Some(body) => one(alloc, conn, tag, body, Some(event_feed(opening))),
-                None => Ok(Items::new(alloc)),
-            }
-        }
     }
 }
 
-// What is said to an event of this kind at once: it is answered where it is a message.
+// What is said to an event of this kind at once: it is answered where it is a message, unless it reads a port.
 #[tactic(auto, using(crate::proofs::Saids::saying))]
 fn answer_message(
     alloc: Global,
@@ -187,12 +188,28 @@ fn answer_message(
     ensures kept_tables { sessions.new.kept ≡ sessions.old.kept }
     ensures sound { OnOk result (IsSound at book.new.present) }
 {
-    match kind {
-        Kind::Asks { conn, tag } => self::answer(alloc, book, sessions, conn, tag, answer, at),
-        Kind::Dials { .. } => Ok(Items::new(alloc)),
-        Kind::Ends { .. } => Ok(Items::new(alloc)),
-        Kind::Takes { .. } => Ok(Items::new(alloc)),
-        Kind::Acts => Ok(Items::new(alloc)),
+    let Kind::Asks { conn, tag } = kind else {
+        return Ok(Items::new(alloc));
+    };
+    match answer {
+        None => Ok(Items::new(alloc)),
+        Some(Answer::Says(body)) => one(alloc, conn, tag, body, None),
+        Some(
+            Answer::Reads {
+                fid,
+                opening,
+                count,
+            },
+        ) => {
+            let asker = Asker {
+                conn,
+                tag,
+                opening,
+                count,
+            };
+            read(alloc, book, sessions, asker, fid, at)
+        }
+        Some(Answer::ReadsPort { .. }) => Ok(Items::new(alloc)),
     }
 }
 
@@ -240,23 +257,23 @@ fn grow_files(
     kind: Kind,
     asks: Asks,
     effect: &Effect,
-    at: u64,
 ) -> Result<Responses, NoMemory>
     requires steady { IsSteady book.old }
-    requires sound { IsSound at book.old.present }
+    requires sound { IsSound asks.at book.old.present }
     requires idle { IsIdle book.old.present }
     requires answerable { IsAnswerable asks.answer }
     requires joined { IsJoinedFor sessions.old.present kind }
     ensures exact { IfOk result (λ said. said ≡ message_said (grown sessions.old.present kind effect.now) book.old.present kind asks.answer) }
     ensures said { IfOk result AreSaid }
-    ensures book { OnOk result (book.new.present ≡ opened (message_book (grown sessions.old.present kind effect.now) book.old.present kind asks.answer at) asks.events) }
+    ensures book { OnOk result (book.new.present ≡ opened (message_book (grown sessions.old.present kind effect.now) book.old.present kind asks.answer asks.at) asks.events) }
     ensures tables { OnOk result (sessions.new.present ≡ message_tables (grown sessions.old.present kind effect.now) book.old.present kind asks.answer) }
     ensures kept_book { book.new.kept ≡ book.old.kept }
     ensures kept_tables { sessions.new.kept ≡ sessions.old.kept }
-    ensures sound { OnOk result (IsSound at book.new.present) }
+    ensures sound { OnOk result (IsSound asks.at book.new.present) }
     ensures idle { OnOk result (IsIdle book.new.present) }
+    ensures there { OnOk result (IsOfJoined sessions.new.present kind) }
 {
-    let Asks { answer, events } = asks;
+    let Asks { answer, events, at } = asks;
     book.is_lawful();
     grow_sessions(alloc, sessions, kind, effect)?;
     let said = answer_message(alloc, book, sessions, kind, answer, at)?;
@@ -290,16 +307,54 @@ fn grow_items(
     Ok(said)
 }
 
-// All that is said, in order.
-fn in_order(ended: EndedSaid, answered: Responses, served: Responses) -> Result<Responses, NoMemory>
+// The ports with what a message reads and opens; and what is said to it, and to the waiting reads that can be answered then.
+fn grow_ports(
+    alloc: Global,
+    ports: &mut Ports,
+    sessions: &mut Sessions,
+    read: Option<PortRead>,
+    events: EventChange,
+) -> Result<PortsSaid, NoMemory>
+    requires sound { ArePortsSound ports.old.present }
+    requires readable { IfSome read (IsReadable sessions.old.present) }
+    ensures asked { IfOk result (λ both. both.asked ≡ asked_said sessions.old.present ports.old.present read) }
+    ensures served { IfOk result (λ both. both.served ≡ ports_served (joined_with (asked_ports sessions.old.present ports.old.present read) events)) }
+    ensures said { IfOk result (λ both. AreSaid both.asked × AreSaid both.served) }
+    ensures ports { OnOk result (ports.new.present ≡ ports_after_serving (joined_with (asked_ports sessions.old.present ports.old.present read) events)) }
+    ensures tables { OnOk result (sessions.new.present ≡ asked_tables sessions.old.present ports.old.present read) }
+    ensures kept_ports { ports.new.kept ≡ ports.old.kept }
+    ensures kept_tables { sessions.new.kept ≡ sessions.old.kept }
+    ensures sound { OnOk result (ArePortsSound ports.new.present) }
+{
+    let asked = ask_port(alloc, ports, sessions, read)?;
+    open_port(ports, events)?;
+    Ok(PortsSaid {
+        asked,
+        served: serve_ports(alloc, ports)?,
+    })
+}
+
+// All that is said, in order: the answer to a message and what follows from it, with what is said of event files before what is said of
+// ports.
+fn in_order(
+    ended: EndedSaid,
+    answered: Responses,
+    served: Responses,
+    ports: PortsSaid,
+) -> Result<Responses, NoMemory>
     requires ended { AreSaid ended.clunked × AreSaid ended.deleted }
     requires answered { AreSaid answered }
     requires served { AreSaid served }
-    ensures exact { IfOk result (λ said. said ≡ ended.clunked ++ answered ++ ended.deleted ++ served) }
+    requires ports { AreSaid ports.asked × AreSaid ports.served }
+    ensures exact { IfOk result (λ said. said ≡ ended.clunked ++ answered ++ ports.asked ++ ended.deleted ++ served ++ ports.served) }
     ensures said { IfOk result AreSaid }
 {
     let EndedSaid { clunked, deleted } = ended;
-    joined(clunked, joined(answered, joined(deleted, served)?)?)
+    let said = joined(clunked, answered)?;
+    let said = joined(said, ports.asked)?;
+    let said = joined(said, deleted)?;
+    let said = joined(said, served)?;
+    joined(said, ports.served)
 }
 
 /// Makes all that an event does ready, by what it is to do and the number of its entry. What the tables mean stays. `NoMemory`
@@ -319,6 +374,7 @@ pub fn grow(
     requires steady { AreSteady parts.old }
     requires sound { IsSound at parts.old.scene.book.kept }
     requires idle { IsIdle parts.old.scene.book.kept }
+    requires ports { ArePortsSound parts.old.scene.ports.kept }
     requires at { at ≡ next_entry (present_of parts.old) }
     ensures state { present_of parts.new ≡ present_of parts.old }
     ensures event { IfOk result (λ p. p.event ≡ event) }
@@ -337,8 +393,11 @@ pub fn grow(
     let Acted {
         items,
         deleted,
+        held,
         answer,
     } = act(alloc, &mut parts.scene, Entry { at, origin }, task, answer)?;
+    let effect = with_held(effect, held);
+    let port_read = port_read_of(kind, &answer);
     let ended = ended_said(
         alloc,
         &parts.sessions,
@@ -351,12 +410,18 @@ pub fn grow(
         &mut parts.scene.book,
         &mut parts.sessions,
         kind,
-        Asks { answer, events },
+        Asks { answer, events, at },
         &effect,
-        at,
+    )?;
+    let ports = grow_ports(
+        alloc,
+        &mut parts.scene.ports,
+        &mut parts.sessions,
+        port_read,
+        events,
     )?;
     let served = grow_items(alloc, &mut parts.scene.book, items, deleted.as_slice(), at)?;
-    let said = in_order(ended, answered, served)?;
+    let said = in_order(ended, answered, served, ports)?;
     let replies = spelled(alloc, said.as_slice())?;
     parts.outputs.put_all(&replies)?;
     Ok(Prepared {

@@ -6,7 +6,9 @@ mod closing;
 mod connections;
 mod growing;
 mod prepared;
+mod reading;
 
 pub use applying::apply;
 pub use growing::grow;
 pub use prepared::Prepared;
+pub use reading::PortRead;

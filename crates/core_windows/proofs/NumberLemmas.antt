@@ -11,7 +11,7 @@ use Rattle.core_windows.specs.declared.change.Change.TheVariants as change
 use Rattle.core_windows.specs.declared.numbers.Numbers.{Numbers}
 use Rattle.core_windows.specs.Places.{at_place, live_at, gone}
 use Rattle.core_windows.specs.Possible.{CanChange}
-use Rattle.core_windows.specs.Windows.{Window, window_at, named_window, edited, added, set, undone_window, redone_window, changed, numbers, ports, world_of}
+use Rattle.core_windows.specs.Windows.{Window, window_at, named_window, edited, added, set, undone_window, redone_window, changed, numbers, world_of}
 use Rattle.core_windows.specs.Numbering.{others, with_next, without, numbers_after, numbers_of, renumbered, MayMake}
 use Rattle.core_windows.proofs.Conditions.{has_place, at_its_place}
 
@@ -24,7 +24,7 @@ numbers_more n (Some y ∷ ws) x =
     ap (λ (l : List ℕ). n ∷ l) (numbers_more (n + 1) ws x ∙ ap (λ (i : ℕ). numbers (n + 1) ws ++ i ∷ []) (omega arith))
 
 abbrev world_with : List ℕ → ℕ → World
-world_with ids next = record { windows = ids; ports = ports; next = next }
+world_with ids next = record { windows = ids; next = next }
 
 world_more : (ws : List (Option Window)) (x : Window) → renumbered (world_of ws) (Some (with_next (world_of ws))) ≡ world_of (ws ++ Some x ∷ [])
 world_more ws x =

@@ -108,7 +108,7 @@ named windows name = named_from 1 windows name
 abbrev pub window_addr : Window → Range
 window_addr window = window.body.addr
 
--- ---- what the trees are made of
+-- ---- what the editor's tree is made of
 
 -- the numbers of the live windows, of which the first has this one
 abbrev pub numbers : ℕ → List (Option Window) → List ℕ
@@ -116,9 +116,5 @@ numbers w [] = []
 numbers w (None ∷ ws) = numbers (w + 1) ws
 numbers w (Some window ∷ ws) = w ∷ numbers (w + 1) ws
 
--- the names of the plumber's ports
-abbrev pub ports : List (List ℕ)
-ports = codes "edit" ∷ []
-
 abbrev pub world_of : List (Option Window) → World
-world_of windows = record { windows = numbers 1 windows; ports = ports; next = length windows + 1 }
+world_of windows = record { windows = numbers 1 windows; next = length windows + 1 }

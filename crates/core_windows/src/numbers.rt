@@ -18,17 +18,14 @@ pub struct Numbers {
     pub next: u32,
 }
 
-/// No window, and the ports that are there from the start.
-pub(crate) fn new_world(alloc: Global) -> Result<World, NoMemory>
-    ensures { IfOk result (λ world. world ≡ world_of []) }
+/// No window. It takes no memory.
+pub(crate) fn new_world(alloc: Global) -> World
+    ensures { result ≡ world_of [] }
 {
-    let mut ports = Items::new(alloc);
-    ports.push(Items::copied(alloc, b"edit")?)?;
-    Ok(World {
+    World {
         windows: Items::new(alloc),
-        ports,
         next: 1,
-    })
+    }
 }
 
 fn with_next(alloc: Global, world: &World) -> Result<Numbers, NoMemory>

@@ -1,6 +1,6 @@
 //! All windows by number, in two states.
 
-ghost use Rattle.std.specs.Prelude.{◌≡◌, [], Some, None, MatchOption, IsSome, IfSome, IfOk, OnOk, OnErr, length};
+ghost use Rattle.std.specs.Prelude.{◌≡◌, [], Some, None, MatchOption, IsSome, IfSome, OnOk, OnErr, length};
 ghost use Rattle.std.specs.Option.{option_map};
 ghost use Rattle.am_text.specs.Twice.{both};
 ghost use Rattle.core_windows.specs.Windows.{window_at, window_addr, world_of, named, changed};
@@ -43,20 +43,20 @@ impl Model for Windows {
 }
 
 impl Windows {
-    /// No window was ever made.
-    pub fn new(alloc: Global) -> Result<Windows, NoMemory>
-        ensures { IfOk result (λ windows. windows ≡ both []) }
+    /// No window was ever made. It takes no memory.
+    pub fn new(alloc: Global) -> Windows
+        ensures { result ≡ both [] }
     {
-        Ok(Windows {
+        Windows {
             alloc,
             states: States::new(alloc),
-            world: new_world(alloc)?,
+            world: new_world(alloc),
             earlier: None,
-        })
+        }
     }
 
-    /// What the trees are made of: the numbers of the live windows, the names of the ports, and the
-    /// number that the next window gets. No number is given twice.
+    /// What the editor's tree is made of: the numbers of the live windows, and the number that the next
+    /// window gets. No number is given twice.
     pub fn world(&self) -> &World
         ensures { result.now ≡ world_of self.now.present }
     {

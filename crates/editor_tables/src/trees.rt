@@ -1,4 +1,4 @@
-//! The trees, in a world with window 1 and the port `edit`. PATH is `acme`, `plumb` or a window's number, and names with
+//! The trees, with window 1 and the port `edit`. PATH is `acme`, `plumb` or a window's number, and names with
 //! a slash before each. NEXT is the number that the next window gets.
 //!
 //! | line | answer |
@@ -18,14 +18,31 @@ use acme_tree::{
 use am_text::NoMemory;
 use std::alloc::Global;
 
-fn world(alloc: Global, next: u32) -> Result<World, NoMemory> {
+/// What both trees are made of.
+#[derive(Drop)]
+struct Trees {
+    world: World,
+    ports: Items<Bytes>,
+}
+
+fn trees_with(alloc: Global, next: u32) -> Result<Trees, NoMemory> {
     let mut ports = Items::new(alloc);
     ports.push(Bytes::copied(alloc, b"edit")?)?;
-    Ok(World {
-        windows: Items::copied(alloc, &[1])?,
+    let windows = Items::copied(alloc, &[1])?;
+    Ok(Trees {
+        world: World { windows, next },
         ports,
-        next,
     })
+}
+
+fn stepped_from(trees: &Trees, node: Node, name: &str, last: bool) -> Step {
+    walk_one(
+        &trees.world,
+        trees.ports.as_slice(),
+        node,
+        name.as_bytes(),
+        last,
+    )
 }
 
 fn first_node(name: &str) -> Result<Node, Fault> {
@@ -36,10 +53,10 @@ fn first_node(name: &str) -> Result<Node, Fault> {
     }
 }
 
-fn node_below(world: &World, first: Node, names: &str) -> Result<Node, Fault> {
+fn node_below(trees: &Trees, first: Node, names: &str) -> Result<Node, Fault> {
     let mut node = first;
     for name in names.split('/') {
-        match walk_one(world, node, name.as_bytes(), false) {
+        match stepped_from(trees, node, name, false) {
             Step::Found(next) => node = next,
             _ => return Err(Fault::NoCase),
         }
@@ -47,18 +64,19 @@ fn node_below(world: &World, first: Node, names: &str) -> Result<Node, Fault> {
     Ok(node)
 }
 
-fn node_at(world: &World, path: &str) -> Result<Node, Fault> {
+fn node_at(trees: &Trees, path: &str) -> Result<Node, Fault> {
     match path.split_once('/') {
-        Some((first, names)) => node_below(world, first_node(first)?, names),
+        Some((first, names)) => node_below(trees, first_node(first)?, names),
         None => first_node(path),
     }
 }
 
-fn shown(alloc: Global, world: &World, node: Node) -> Result<String, Fault> {
-    if !is_live(world, node) {
+fn shown(alloc: Global, trees: &Trees, node: Node) -> Result<String, Fault> {
+    let ports = trees.ports.as_slice();
+    if !is_live(&trees.world, ports, node) {
         return Err(Fault::NoCase);
     }
-    let stat = stat_of(alloc, world, node)?;
+    let stat = stat_of(alloc, ports, node)?;
     let qid = qid_of(node);
     let name = String::from_utf8_lossy(alloc, stat.name.as_slice())?;
     Ok(format!(in alloc;
@@ -67,12 +85,13 @@ fn shown(alloc: Global, world: &World, node: Node) -> Result<String, Fault> {
     )?)
 }
 
-fn listed(alloc: Global, world: &World, node: Node) -> Result<String, Fault> {
-    if !is_dir(node) || !is_live(world, node) {
+fn listed(alloc: Global, trees: &Trees, node: Node) -> Result<String, Fault> {
+    let ports = trees.ports.as_slice();
+    if !is_dir(node) || !is_live(&trees.world, ports, node) {
         return Err(Fault::NoCase);
     }
     let mut line = String::new(alloc);
-    for stat in children(alloc, world, node)?.as_slice() {
+    for stat in children(alloc, &trees.world, ports, node)?.as_slice() {
         let name = String::from_utf8_lossy(alloc, stat.name.as_slice())?;
         line.push_str(format!(in alloc; "{name} ")?.as_str())?;
     }
@@ -92,14 +111,14 @@ fn opened(alloc: Global, node: Node, mode: &str) -> Result<String, Fault> {
 pub fn answer(alloc: Global, word: &str, fields: &str) -> Result<String, Fault> {
     let (next, fields) = cut(fields)?;
     let (path, field) = fields.split_once('\t').unwrap_or((fields, ""));
-    let world = world(alloc, number_of(next)?)?;
-    let node = node_at(&world, path)?;
+    let trees = trees_with(alloc, number_of(next)?)?;
+    let node = node_at(&trees, path)?;
     match word {
-        "node" => shown(alloc, &world, node),
-        "walk" => stepped(alloc, walk_one(&world, node, field.as_bytes(), true)),
-        "pass" => stepped(alloc, walk_one(&world, node, field.as_bytes(), false)),
+        "node" => shown(alloc, &trees, node),
+        "walk" => stepped(alloc, stepped_from(&trees, node, field, true)),
+        "pass" => stepped(alloc, stepped_from(&trees, node, field, false)),
         "open" => opened(alloc, node, field),
-        "list" => listed(alloc, &world, node),
-        _ => Ok(format!(in alloc; "{}", is_full(&world))?),
+        "list" => listed(alloc, &trees, node),
+        _ => Ok(format!(in alloc; "{}", is_full(&trees.world))?),
     }
 }

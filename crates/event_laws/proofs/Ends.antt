@@ -6,6 +6,7 @@ use Rattle.event_book.specs.BookState.{BookState, is_living, is_taken_of, after_
 use Rattle.book_calls.specs.Calls.{Written, Cancel, Leave, Delete}
 use Rattle.book_calls.proofs.Trails.{IsEnded, none_ended, one_ended}
 use Rattle.core_scene.specs.Scenes.{deleted_by}
+use Rattle.core_fids.specs.Fids.{event_opening}
 use Rattle.core_fids.specs.declared.effect.Effect.{Effect}
 use Rattle.core_fids.specs.declared.effect.Effect.TheVariants as effect
 use Rattle.core_fids.specs.declared.effect.EventChange.{EventChange}
@@ -40,7 +41,7 @@ module _ (at : ℕ) (first : BookState) where
 
   end_fids : (s : BookState) (fs : List (ℕ × Fid)) → E s → E (fold (without_fid at) s fs)
   end_fids s [] e = e
-  end_fids s (f ∷ fs) e = end_fids (without_fid at s f) fs (end_without s f.1.opening e)
+  end_fids s (f ∷ fs) e = end_fids (without_fid at s f) fs (end_without s (event_opening f.1) e)
 
   end_freed : (s : BookState) (t : Tables) (conn : ℕ) (x : Effect) → E s → E (freed at s t conn x)
   end_freed s t conn effect.Nothing e = e
@@ -51,6 +52,7 @@ module _ (at : ℕ) (first : BookState) where
   end_cancelled : (s : BookState) (conn : ℕ) (x : EventChange) → E s → E (cancelled s conn x)
   end_cancelled s conn events.Nothing e = e
   end_cancelled s conn (events.Opens w) e = e
+  end_cancelled s conn (events.Joins port) e = e
   end_cancelled s conn (events.Cancels tag) e = one_ended at first s (Cancel conn tag) e tt
 
   end_left : (t : Tables) (s : BookState) (k : Kind) (d : Doing) → E s → E (left_book at t k d s)

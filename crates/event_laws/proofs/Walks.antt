@@ -1,5 +1,6 @@
 -- What an entry makes of the event files is made by calls of the book, which give the Rreads that it says.
 use Rattle.std.proofs.Common.{◌≡◌, ℕ, zero, suc, Bool, true, false, cond, nat_lt, List, [], ◌∷◌, ◌++◌, length, map, filter, Option, Some, None, refl, sym, ap, ◌∙◌, subst, append_assoc, append-nil}
+use Rattle.ninep_types.specs.declared.message.RBody.{RBody}
 use Rattle.ninep_types.specs.declared.message.RBody.TheVariants as r
 use Rattle.fid_table.specs.declared.session.Waiting.{Waiting}
 use Rattle.fid_table.specs.Tables.{Tables}
@@ -14,7 +15,7 @@ use Rattle.book_calls.proofs.Trails.{IsMade, none_made, one_made}
 use Rattle.core_scene.specs.declared.deed.WindowItem.{WindowItem}
 use Rattle.core_scene.specs.Scenes.{deleted_by}
 use Rattle.core_fids.specs.declared.effect.Answer.{Answer}
-use Rattle.core_fids.specs.declared.effect.Answer.TheVariants.{Says, Reads}
+use Rattle.core_fids.specs.declared.effect.Answer.TheVariants.{Says, Reads, ReadsPort}
 use Rattle.core_fids.specs.declared.effect.Effect.{Effect}
 use Rattle.core_fids.specs.declared.effect.Effect.TheVariants as effect
 use Rattle.core_fids.specs.declared.effect.EventChange.{EventChange}
@@ -25,7 +26,7 @@ use Rattle.core_fids.specs.Refusals.{refusal_text}
 use Rattle.core_events.specs.Asking.{opened, is_full, said_to, book_asked, read_said, book_read}
 use Rattle.core_events.specs.declared.response.Feed.{Feed}
 use Rattle.core_events.specs.declared.response.FeedKind.{FeedKind}
-use Rattle.core_events.specs.declared.response.FeedKind.TheVariants.{Events}
+use Rattle.core_events.specs.declared.response.FeedKind.TheVariants.{Events, Port}
 use Rattle.core_events.specs.declared.response.Response.{Response}
 use Rattle.core_events.specs.Putting.{put_one, put_all, is_ending, put_if_lives, put_living, ending}
 use Rattle.core_events.specs.Responses.{feed_at, errors}
@@ -36,7 +37,12 @@ use Rattle.core_intents.specs.declared.kind.Kind.{Kind}
 use Rattle.core_intents.specs.declared.kind.Kind.TheVariants as kind
 use Rattle.core_intents.specs.Doings.{Doing}
 use Rattle.core_intents.specs.Kinds.{conn_of}
-use Rattle.core_steps.specs.Stages.{asker_of, if_said, answer_said, answer_book, message_said, message_book, acted, with_fid, read_book, put_book, grown_book, said}
+use Rattle.plumb_ports.specs.PortsState.{PortsState, served_of as port_served_of, after_serve as after_port_serve}
+use Rattle.core_ports.specs.Asking.{port_said}
+use Rattle.core_ports.specs.Serving.{then_served as then_port_served, served_most as ports_served_most, ports_served}
+use Rattle.core_steps.specs.declared.reading.PortRead.{PortRead}
+use Rattle.core_steps.specs.PortReads.{port_read_of, if_port_said, asked_said}
+use Rattle.core_steps.specs.Stages.{asker_of, if_said, answer_said, answer_book, message_said, message_book, acted, with_fid, read_tables, read_book, put_book, grown_book, open_ports, said}
 use Rattle.core_intents.specs.States.{Present, next_entry}
 use Rattle.event_laws.specs.Rreads.{Rread, rread_on, rread_in, rreads_of}
 use Rattle.event_laws.specs.Laws.{rread_to}
@@ -55,6 +61,7 @@ map_append f (x ∷ xs) ys = ap (λ (l : List Rread). f x ∷ l) (map_append f x
 -- a refusal is no Rread
 refused_on : (at : ℕ) (k : FeedKind) (opening : ℕ) (text : List ℕ) → rread_on at k opening (r.Error text) ≡ []
 refused_on at Events opening text = refl
+refused_on at Port opening text = refl
 
 refused_in : (at : ℕ) (feed : Option Feed) (text : List ℕ) → rread_in at feed (r.Error text) ≡ []
 refused_in at None text = refl
@@ -76,6 +83,27 @@ no_deletions at t (w ∷ ws) =
     rreads_append at (errors refusal.WindowDeleted t (filter (is_of_window t w) t.waiting)) (deletions t ws)
     ∙ ap (λ (l : List Rread). l ++ rreads_of at (deletions t ws)) (no_errors at refusal.WindowDeleted t (filter (is_of_window t w) t.waiting))
     ∙ no_deletions at t ws
+
+-- what reads of ports are answered is none of an event file
+no_port : (at : ℕ) (x : Asker) (o : Option RBody) → rreads_of at (if_port_said x o) ≡ []
+no_port at x None = refl
+no_port at x (Some body) = refl
+
+no_asked : (at : ℕ) (t : Tables) (p : PortsState) (o : Option PortRead) → rreads_of at (asked_said t p o) ≡ []
+no_asked at t p None = refl
+no_asked at t p (Some read) = no_port at read.asker (port_said t p read.asker)
+
+no_then : (at : ℕ) (o : Option (Asker × Piece)) (rest : List Response) → rreads_of at rest ≡ [] → rreads_of at (then_port_served o rest) ≡ []
+no_then at None rest h = refl
+no_then at (Some x) rest h = h
+
+no_ports_most : (at n : ℕ) (p : PortsState) → rreads_of at (ports_served_most n p) ≡ []
+unfolding ports_served_most
+no_ports_most at zero p = refl
+no_ports_most at (suc n) p = no_then at (port_served_of p) (ports_served_most n (after_port_serve p)) (no_ports_most at n (after_port_serve p))
+
+no_ports : (at : ℕ) (p : PortsState) → rreads_of at (ports_served p) ≡ []
+no_ports at p = no_ports_most at (length p.reads) p
 
 -- ---- made by calls, up to what was said
 
@@ -125,6 +153,7 @@ module _ (at : ℕ) (first : BookState) where
         | false ↦ λ e. w
       ]) refl
   walk_opened heard s (events.Cancels tag) w = w
+  walk_opened heard s (events.Joins port) w = w
 
   walk_put : (heard : List Response) (s : BookState) (i : WindowItem) → W heard s → W heard (put_one s i)
   walk_put heard s i w =
@@ -188,6 +217,7 @@ module _ (at : ℕ) (first : BookState) where
   walk_answer t heard s conn tag None w = walk_silent heard [] s w refl
   walk_answer t heard s conn tag (Some (Says body)) w = walk_silent heard (answer_said t s conn tag (Some (Says body))) s w refl
   walk_answer t heard s conn tag (Some (Reads fid opening count)) w = walk_read t heard s conn tag opening count w
+  walk_answer t heard s conn tag (Some (ReadsPort fid opening count)) w = walk_silent heard [] s w refl
 
   walk_message : (t : Tables) (heard : List Response) (s : BookState) (k : Kind) (a : Option Answer) → W heard s → W (heard ++ message_said t s k a) (message_book t s k a at)
   walk_message t heard s (kind.Dials conn) a w = walk_silent heard [] s w refl
@@ -232,6 +262,12 @@ grown p k d =
     let puts : Walks at first (a ++ b) put =
     walk_living at first ends (a ++ b) (opened (read_book p k d) d.events) items (walk_opened at first (a ++ b) (read_book p k d) d.events read)
     in
-    let deletes : Walks at first ((a ++ b) ++ c) put = walk_silent at first (a ++ b) c put puts (no_deletions at p.tables ends) in
-    let served : Walks at first (((a ++ b) ++ c) ++ e) (book_served_all at put) = walk_most at first (length put.reads) ((a ++ b) ++ c) put deletes in
-    walk_all at first (((a ++ b) ++ c) ++ e) (book_served_all at put) (ending ends items) served
+    let q : List Response = asked_said (read_tables p k d) (acted p d).ports (port_read_of k d.answer) in
+    let f : List Response = ports_served (open_ports p k d) in
+    let asks : Walks at first ((a ++ b) ++ q) put = walk_silent at first (a ++ b) q put puts (no_asked at (read_tables p k d) (acted p d).ports (port_read_of k d.answer)) in
+    let deletes : Walks at first (((a ++ b) ++ q) ++ c) put = walk_silent at first ((a ++ b) ++ q) c put asks (no_deletions at p.tables ends) in
+    let served : Walks at first ((((a ++ b) ++ q) ++ c) ++ e) (book_served_all at put) = walk_most at first (length put.reads) (((a ++ b) ++ q) ++ c) put deletes in
+    let ported : Walks at first (((((a ++ b) ++ q) ++ c) ++ e) ++ f) (book_served_all at put) =
+    walk_silent at first ((((a ++ b) ++ q) ++ c) ++ e) f (book_served_all at put) served (no_ports at (open_ports p k d))
+    in
+    walk_all at first (((((a ++ b) ++ q) ++ c) ++ e) ++ f) (book_served_all at put) (ending ends items) ported

@@ -1,13 +1,13 @@
 -- What holds of all that openings are given.
 use Rattle.std.proofs.Common.{◌≡◌, ◌≢◌, ◌==◌, ℕ, zero, suc, ◌||◌, Bool, true, false, cond, not, List, [], ◌∷◌, ◌++◌, take, drop, map, filter, find, Option, Some, None, refl, sym, ap, ◌∙◌, append_assoc, append-nil, take-append-drop}
 use Rattle.std.proofs.lemmas.Bool.{eqb-true, ne_eqb, eq-eqb}
-use Rattle.std.specs.List.{list_any}
+use Rattle.std.specs.List.{concat, list_any}
 use Rattle.wait_queue.specs.Reads.{is_read, without_read}
 use Rattle.wait_queue.specs.declared.types.Asker.{Asker}
 use Rattle.plumb_ports.specs.PortList.{Port, number_of, kept_of, with_kept}
 use Rattle.plumb_ports.specs.Inboxes.{Inbox, blank, is_of, is_on, inbox_of, received, delivered, piece_from, piece_of, after_piece_from, after_piece, after_read}
 use Rattle.plumb_ports.specs.PortsState.{PortsState, HasJoined, has_joined, is_open, is_ready, read_waits, piece_for, next_of, refusal_on, after_join, delivered_at, delivered_on, after_ask, after_next, after_answer, after_leave}
-use Rattle.plumb_ports.specs.Laws.{Add, Join, Deliver, Ask, Serve, Cancel, Leave, after_call, run, joined, owed_in, owed, answer_to, served_to, given_by, message_to, delivered_by, all_given, all_delivered, LosesNothing, GetsEachMessage, BeginsWithNothing, KeptOnce, LeavesOthers, CancelledIsNotNext}
+use Rattle.plumb_ports.specs.Laws.{Add, Join, Deliver, Ask, Serve, Cancel, Leave, after_call, run, owed_in, owed, answer_to, served_to, given_by, message_to, delivered_by, all_given, all_delivered, LosesNothing, GetsEachMessage, BeginsWithNothing, KeptOnce, LeavesOthers, CancelledIsNotNext}
 
 -- ---- one opening among others
 
@@ -19,7 +19,7 @@ inbox-missing (o ∷ os) x h = by (is_of x o) refl (inbox-missing os x)
     by true e later = let bad : true ≡ false = rw e at h in cc
     by false e later = rw e (later (rw e at h))
 
-inbox-pushed : (os : List Inbox) (new : Inbox) (x : ℕ) → list_any (is_of x) os ≡ true → inbox_of (os ++ new ∷ []) x ≡ inbox_of os x
+pub inbox-pushed : (os : List Inbox) (new : Inbox) (x : ℕ) → list_any (is_of x) os ≡ true → inbox_of (os ++ new ∷ []) x ≡ inbox_of os x
 inbox-pushed [] new x h = cc
 inbox-pushed (o ∷ os) new x h = by (is_of x o) refl (inbox-pushed os new x)
   where
@@ -36,7 +36,7 @@ inbox-last (o ∷ os) new x h t = by (is_of x o) refl (λ g. inbox-last os new x
     by false e later = rw e (later (rw e at h))
 
 -- one that is there after another joined was there, or is that one
-any-pushed : (os : List Inbox) (new : Inbox) (x : ℕ) → list_any (is_of x) os ≡ false → list_any (is_of x) (os ++ new ∷ []) ≡ true → is_of x new ≡ true
+pub any-pushed : (os : List Inbox) (new : Inbox) (x : ℕ) → list_any (is_of x) os ≡ false → list_any (is_of x) (os ++ new ∷ []) ≡ true → is_of x new ≡ true
 any-pushed [] new x h t = by (is_of x new) refl
   where
     by : (b : Bool) → is_of x new ≡ b → is_of x new ≡ true
@@ -48,17 +48,17 @@ any-pushed (o ∷ os) new x h t = by (is_of x o) refl (any-pushed os new x)
     by true e later = let bad : true ≡ false = rw e at h in cc
     by false e later = later (rw e at h) (rw e at t)
 
-opening-delivered : (port : ℕ) (message : List ℕ) (o : Inbox) → (delivered port message o).opening ≡ o.opening
+pub opening-delivered : (port : ℕ) (message : List ℕ) (o : Inbox) → (delivered port message o).opening ≡ o.opening
 opening-delivered port message o =
     elim (is_on port o) as (λ b. (cond b (received message o) o).opening ≡ o.opening) [ true ↦ refl | false ↦ refl ]
 
-any-delivered : (port : ℕ) (message : List ℕ) (os : List Inbox) (x : ℕ) → list_any (is_of x) (map (delivered port message) os) ≡ list_any (is_of x) os
+pub any-delivered : (port : ℕ) (message : List ℕ) (os : List Inbox) (x : ℕ) → list_any (is_of x) (map (delivered port message) os) ≡ list_any (is_of x) os
 any-delivered port message [] x = refl
 any-delivered port message (o ∷ os) x =
     ap (λ n. (n == x) || list_any (is_of x) (map (delivered port message) os)) (opening-delivered port message o)
     ∙ ap (λ b. is_of x o || b) (any-delivered port message os x)
 
-inbox-delivered : (port : ℕ) (message : List ℕ) (os : List Inbox) (x : ℕ) → list_any (is_of x) os ≡ true → inbox_of (map (delivered port message) os) x ≡ delivered port message (inbox_of os x)
+pub inbox-delivered : (port : ℕ) (message : List ℕ) (os : List Inbox) (x : ℕ) → list_any (is_of x) os ≡ true → inbox_of (map (delivered port message) os) x ≡ delivered port message (inbox_of os x)
 inbox-delivered port message [] x h = cc
 inbox-delivered port message (o ∷ os) x h = by (is_of x o) refl (inbox-delivered port message os x)
   where
@@ -78,12 +78,12 @@ opening-piece_from (b ∷ bs) ms o n = refl
 opening-piece_from [] (m ∷ ms) o n = refl
 opening-piece_from [] [] o n = refl
 
-opening-piece : (o : Inbox) (n : ℕ) → (after_piece o n).opening ≡ o.opening
+pub opening-piece : (o : Inbox) (n : ℕ) → (after_piece o n).opening ≡ o.opening
 opening-piece o n =
     elim (n == 0) as (λ b. (cond b o (after_piece_from o.carry o.messages o n)).opening ≡ o.opening)
     [ true ↦ refl | false ↦ opening-piece_from o.carry o.messages o n ]
 
-inbox-read : (os : List Inbox) (x n : ℕ) → list_any (is_of x) os ≡ true → inbox_of (after_read os x n) x ≡ after_piece (inbox_of os x) n
+pub inbox-read : (os : List Inbox) (x n : ℕ) → list_any (is_of x) os ≡ true → inbox_of (after_read os x n) x ≡ after_piece (inbox_of os x) n
 inbox-read [] x n h = cc
 inbox-read (o ∷ os) x n h = by (is_of x o) refl (inbox-read os x n)
   where
@@ -99,7 +99,7 @@ inbox-read (o ∷ os) x n h = by (is_of x o) refl (inbox-read os x n)
         ∙ later (rw e at h)
         ∙ ap (λ b. after_piece (cond b o (inbox_of os x)) n) (sym e)
 
-inbox-read_other : (os : List Inbox) (x y n : ℕ) → y ≢ x → inbox_of (after_read os x n) y ≡ inbox_of os y
+pub inbox-read_other : (os : List Inbox) (x y n : ℕ) → y ≢ x → inbox_of (after_read os x n) y ≡ inbox_of os y
 inbox-read_other [] x y n d = refl
 inbox-read_other (o ∷ os) x y n d = by (is_of x o) refl (inbox-read_other os x y n d)
   where
@@ -114,7 +114,7 @@ inbox-read_other (o ∷ os) x y n d = by (is_of x o) refl (inbox-read_other os x
         ap (λ b. inbox_of (cond b (after_piece o n ∷ os) (o ∷ after_read os x n)) y) e
         ∙ ap (λ r. cond (is_of y o) o r) later
 
-any-read : (os : List Inbox) (x y n : ℕ) → list_any (is_of y) (after_read os x n) ≡ list_any (is_of y) os
+pub any-read : (os : List Inbox) (x y n : ℕ) → list_any (is_of y) (after_read os x n) ≡ list_any (is_of y) os
 any-read [] x y n = refl
 any-read (o ∷ os) x y n = by (is_of x o) refl (any-read os x y n)
   where
@@ -126,7 +126,7 @@ any-read (o ∷ os) x y n = by (is_of x o) refl (any-read os x y n)
         ap (λ b. list_any (is_of y) (cond b (after_piece o n ∷ os) (o ∷ after_read os x n))) e
         ∙ ap (λ b. is_of y o || b) later
 
-inbox-left : (os : List Inbox) (x y : ℕ) → y ≢ x → inbox_of (filter (λ o. not (is_of x o)) os) y ≡ inbox_of os y
+pub inbox-left : (os : List Inbox) (x y : ℕ) → y ≢ x → inbox_of (filter (λ o. not (is_of x o)) os) y ≡ inbox_of os y
 inbox-left [] x y d = refl
 inbox-left (o ∷ os) x y d = by (is_of x o) refl (inbox-left os x y d)
   where
@@ -162,13 +162,13 @@ not-on port (o ∷ os) x h j = by (is_on port o) refl (is_of x o) refl (not-on p
 
 -- ---- bytes
 
-joined-pushed : (ms : List (List ℕ)) (m : List ℕ) → joined (ms ++ m ∷ []) ≡ joined ms ++ m
-joined-pushed [] m = append-nil m
-joined-pushed (x ∷ xs) m = ap (λ r. x ++ r) (joined-pushed xs m) ∙ sym (append_assoc x (joined xs) m)
+concat-pushed : (ms : List (List ℕ)) (m : List ℕ) → concat (ms ++ m ∷ []) ≡ concat ms ++ m
+concat-pushed [] m = append-nil m
+concat-pushed (x ∷ xs) m = ap (λ r. x ++ r) (concat-pushed xs m) ∙ sym (append_assoc x (concat xs) m)
 
 owed-received : (message : List ℕ) (o : Inbox) → owed_in (received message o) ≡ owed_in o ++ message
 owed-received message o =
-    ap (λ r. o.carry ++ r) (joined-pushed o.messages message) ∙ sym (append_assoc o.carry (joined o.messages) message)
+    ap (λ r. o.carry ++ r) (concat-pushed o.messages message) ∙ sym (append_assoc o.carry (concat o.messages) message)
 
 owed-delivered : (port : ℕ) (message : List ℕ) (o : Inbox) → owed_in (delivered port message o) ≡ owed_in o ++ cond (is_on port o) message []
 owed-delivered port message o =
@@ -177,11 +177,11 @@ owed-delivered port message o =
 
 piece-owed_from : (carry : List ℕ) (ms : List (List ℕ)) (o : Inbox) (n : ℕ) → o.carry ≡ carry → o.messages ≡ ms → (piece_from carry ms n).bytes ++ owed_in (after_piece_from carry ms o n) ≡ owed_in o
 piece-owed_from (b ∷ bs) ms o n e f =
-    sym (append_assoc (take n (b ∷ bs)) (drop n (b ∷ bs)) (joined o.messages))
-    ∙ ap (λ l. l ++ joined o.messages) (take-append-drop n (b ∷ bs) ∙ sym e)
+    sym (append_assoc (take n (b ∷ bs)) (drop n (b ∷ bs)) (concat o.messages))
+    ∙ ap (λ l. l ++ concat o.messages) (take-append-drop n (b ∷ bs) ∙ sym e)
 piece-owed_from [] (m ∷ ms) o n e f =
-    sym (append_assoc (take n m) (drop n m) (joined ms))
-    ∙ ap (λ l. l ++ joined ms) (take-append-drop n m) ∙ ap joined (sym f) ∙ ap (λ l. l ++ joined o.messages) (sym e)
+    sym (append_assoc (take n m) (drop n m) (concat ms))
+    ∙ ap (λ l. l ++ concat ms) (take-append-drop n m) ∙ ap concat (sym f) ∙ ap (λ l. l ++ concat o.messages) (sym e)
 piece-owed_from [] [] o n e f = refl
 
 piece-owed : (o : Inbox) (n : ℕ) → (piece_of o n).bytes ++ owed_in (after_piece o n) ≡ owed_in o
@@ -213,17 +213,17 @@ leaves s r other d = inbox-read_other s.openings r.opening other r.count d
 
 -- ---- each call
 
-join-owed : (s : PortsState) (port o x : ℕ) → has_joined s o ≡ false → HasJoined (after_join s port o) x → owed (after_join s port o) x ≡ owed s x ++ cond (o == x) (joined (kept_of s.ports port)) []
+join-owed : (s : PortsState) (port o x : ℕ) → has_joined s o ≡ false → HasJoined (after_join s port o) x → owed (after_join s port o) x ≡ owed s x ++ cond (o == x) (concat (kept_of s.ports port)) []
 join-owed s port o x f h = by (list_any (is_of x) s.openings) refl
   where
     new : Inbox
     new = record { opening = o; port = port; messages = kept_of s.ports port; carry = [] }
 
-    by : (b : Bool) → list_any (is_of x) s.openings ≡ b → owed (after_join s port o) x ≡ owed s x ++ cond (o == x) (joined (kept_of s.ports port)) []
+    by : (b : Bool) → list_any (is_of x) s.openings ≡ b → owed (after_join s port o) x ≡ owed s x ++ cond (o == x) (concat (kept_of s.ports port)) []
     by true e =
         let apart : (o == x) ≡ false = other (o == x) refl in
         ap owed_in (inbox-pushed s.openings new x e) ∙ sym (append-nil (owed s x))
-        ∙ ap (λ b. owed s x ++ cond b (joined (kept_of s.ports port)) []) (sym apart)
+        ∙ ap (λ b. owed s x ++ cond b (concat (kept_of s.ports port)) []) (sym apart)
       where
         other : (b : Bool) → (o == x) ≡ b → (o == x) ≡ false
         other true g = let t : list_any (is_of x) s.openings ≡ false = ap (λ y. list_any (is_of y) s.openings) (sym (eqb-true o x g)) ∙ f in cc
@@ -231,8 +231,8 @@ join-owed s port o x f h = by (list_any (is_of x) s.openings) refl
     by false e =
         let there : (o == x) ≡ true = any-pushed s.openings new x e h in
         ap owed_in (inbox-last s.openings new x e there)
-        ∙ ap (λ b. cond b (joined (kept_of s.ports port)) []) (sym there)
-        ∙ ap (λ p. owed_in p ++ cond (o == x) (joined (kept_of s.ports port)) []) (sym (inbox-missing s.openings x e))
+        ∙ ap (λ b. cond b (concat (kept_of s.ports port)) []) (sym there)
+        ∙ ap (λ p. owed_in p ++ cond (o == x) (concat (kept_of s.ports port)) []) (sym (inbox-missing s.openings x e))
 
 message-owed : (s : PortsState) (port : ℕ) (message : List ℕ) (x : ℕ) → HasJoined (delivered_at s port message) x → owed (delivered_at s port message) x ≡ owed s x ++ cond (is_on port (inbox_of s.openings x)) message []
 message-owed s port message x h = by (is_open s port) refl

@@ -6,3 +6,4 @@ pub mod ReadLemmas
 pub mod LawLemmas
 pub mod LawfulLemmas
 pub mod WaitingLemmas
+pub mod NumberLemmas

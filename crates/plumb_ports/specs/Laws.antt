@@ -1,6 +1,6 @@
 -- What holds of all that openings are given.
-use Rattle.std.specs.Prelude.{◌≡◌, ◌≢◌, ◌==◌, ◌≤◌, length, ℕ, Bool, true, false, List, [], ◌∷◌, ◌++◌, Option, Some, None, if◌then◌else◌}
-use Rattle.std.specs.List.{Contains, list_any}
+use Rattle.std.specs.Prelude.{◌≡◌, ◌≢◌, ◌==◌, ◌+◌, ◌≤◌, nat_le, length, ℕ, Bool, true, false, List, [], ◌∷◌, ◌++◌, Option, Some, None, if◌then◌else◌}
+use Rattle.std.specs.List.{Contains, concat, list_all, list_any}
 use Rattle.wait_queue.specs.Laws.{AddsNone, AddsOnly}
 use Rattle.wait_queue.specs.Reads.{is_read}
 use Rattle.wait_queue.specs.declared.types.Asker.{Asker}
@@ -38,14 +38,9 @@ after_call s Serve = after_serve s
 after_call s (Cancel conn tag) = after_cancel s conn tag
 after_call s (Leave opening) = after_leave s opening
 
--- messages one after another
-abbrev pub joined : List (List ℕ) → List ℕ
-joined [] = []
-joined (m ∷ ms) = m ++ joined ms
-
 -- what is still to come for an opening: what it has left, and then its messages
 abbrev pub owed_in : Inbox → List ℕ
-owed_in o = o.carry ++ joined o.messages
+owed_in o = o.carry ++ concat o.messages
 
 abbrev pub owed : PortsState → ℕ → List ℕ
 owed s opening = owed_in (inbox_of s.openings opening)
@@ -76,7 +71,7 @@ message_to (Some port) message o = if is_on port o then message else []
 -- what the call delivers to the opening: what the port keeps, where it is the one that joins, or the message
 abbrev pub delivered_by : PortsState → Call → ℕ → List ℕ
 delivered_by s (Add name) opening = []
-delivered_by s (Join port o) opening = if o == opening then joined (kept_of s.ports port) else []
+delivered_by s (Join port o) opening = if o == opening then concat (kept_of s.ports port) else []
 delivered_by s (Deliver name message keep) opening = message_to (number_of s.ports name) message (inbox_of s.openings opening)
 delivered_by s (Ask r) opening = []
 delivered_by s Serve opening = []
@@ -165,6 +160,31 @@ OnlyAskWaits = (s : PortsState) (call : Call) → WaitsAfter call s.reads (after
 -- what `serve` answers waited
 abbrev pub ServedWaited : Type 0
 ServedWaited = (s : PortsState) (r : Asker) (piece : Piece) → served_of s ≡ Some (r, piece) → Contains s.reads r
+
+-- no opening has a number beyond those that ever joined
+abbrev pub is_numbered : ℕ → Inbox → Bool
+is_numbered count o = nat_le o.opening count
+
+abbrev pub AreNumbered : PortsState → Type 0
+AreNumbered s = list_all (is_numbered s.joined) s.openings ≡ true
+
+-- an opening that joins has the next number
+abbrev pub IsNumbered : PortsState → Call → Type 0
+IsNumbered s (Add name) = Unit {0}
+IsNumbered s (Join port opening) = opening ≡ s.joined + 1
+IsNumbered s (Deliver name message keep) = Unit {0}
+IsNumbered s (Ask r) = Unit {0}
+IsNumbered s Serve = Unit {0}
+IsNumbered s (Cancel conn tag) = Unit {0}
+IsNumbered s (Leave opening) = Unit {0}
+
+-- so it stays, and one that is there has such a number
+pub record NumbersRise (s : PortsState) : Type 0 where
+  pub stays : (c : Call) → IsNumbered s c → AreNumbered (after_call s c)
+  pub within : (opening : ℕ) → HasJoined s opening → opening ≤ s.joined
+
+abbrev pub OpeningsAreNumbered : Type 0
+OpeningsAreNumbered = (s : PortsState) → AreNumbered s → NumbersRise s
 
 -- no port keeps more than 64 messages, and one with an opening keeps none
 pub record IsLawful (s : PortsState) : Type 0 where

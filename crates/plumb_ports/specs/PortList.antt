@@ -1,5 +1,5 @@
 -- The ports: their names, numbers, and the messages that they keep.
-use Rattle.std.specs.Prelude.{ℕ, zero, suc, Bool, List, [], ◌∷◌, ◌++◌, codes, length, position, Option, Some, None}
+use Rattle.std.specs.Prelude.{ℕ, zero, suc, Bool, List, [], ◌∷◌, ◌++◌, codes, length, map, position, Option, Some, None}
 use Rattle.std.specs.Str.{bytes_eq}
 use Rattle.std.specs.Option.{is_some}
 
@@ -17,6 +17,9 @@ edit_name = codes "edit"
 
 abbrev pub has_name : List ℕ → Port → Bool
 has_name name p = bytes_eq name p.name
+
+abbrev pub names_of : List Port → List (List ℕ)
+names_of ps = map (λ p. p.name) ps
 
 -- a port's number is its place, from 0, in the order in which the names were first seen
 abbrev pub number_of : List Port → List ℕ → Option ℕ

@@ -1,5 +1,5 @@
 -- The ports, their openings and the reads that wait, and what each call does to them.
-use Rattle.std.specs.Prelude.{◌≡◌, ℕ, Bool, List, [], ◌∷◌, ◌++◌, not, nat_le, length, filter, find, map, Option, Some, None, option_map, IsTrue, if◌then◌else◌}
+use Rattle.std.specs.Prelude.{◌≡◌, ◌+◌, ℕ, Bool, List, [], ◌∷◌, ◌++◌, not, nat_le, length, filter, find, map, Option, Some, None, option_map, IsTrue, if◌then◌else◌}
 use Rattle.std.specs.List.{list_any}
 use Rattle.am_text.specs.Twice.{Twice, both}
 use Rattle.wait_queue.specs.Reads.{without_first, without_read, without_reads_on}
@@ -12,16 +12,17 @@ use Rattle.plumb_ports.specs.Inboxes.{Inbox, is_of, is_on, inbox_with, inbox_of,
 use Rattle.plumb_ports.specs.declared.fault.PortFault.{PortFault}
 use Rattle.plumb_ports.specs.declared.fault.PortFault.TheVariants.{NoPort, Closed, Full, NoMemory}
 
--- The ports in first-seen order, the openings in the order of joining, and the waiting reads of all
--- ports in the order of asking.
+-- The ports in first-seen order, the openings in the order of joining, how many ever joined, and the
+-- waiting reads of all ports in the order of asking.
 pub record PortsState : Type 0 where
   pub ports : List Port
   pub openings : List Inbox
+  pub joined : ℕ
   pub reads : List Asker
 
 -- the one port `edit`
 abbrev pub beginning : PortsState
-beginning = record { ports = named edit_name ∷ []; openings = []; reads = [] }
+beginning = record { ports = named edit_name ∷ []; openings = []; joined = 0; reads = [] }
 
 -- whether the port has an opening
 abbrev pub is_open : PortsState → ℕ → Bool
@@ -46,6 +47,7 @@ abbrev pub after_join : PortsState → ℕ → ℕ → PortsState
 after_join s port opening = record s {
   ports = with_kept s.ports port [];
   openings = s.openings ++ inbox_with opening port (kept_of s.ports port) ∷ [];
+  joined = s.joined + 1;
 }
 
 -- a port keeps at most 64 messages

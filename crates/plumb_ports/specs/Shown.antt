@@ -1,16 +1,24 @@
 -- What the parts of the code show.
-use Rattle.std.specs.Prelude.{◌≡◌, ℕ, List, [], ◌∷◌, map}
+use Rattle.std.specs.Prelude.{◌≡◌, ◌≤◌, ℕ, true, List, [], ◌∷◌, length, map}
+use Rattle.std.specs.List.{list_all}
 use Rattle.std.specs.Global.{Vec}
 use Rattle.am_text.specs.Twice.{Twice, both}
 use Rattle.wait_queue.specs.Carry.{carry_of}
 use Rattle.wait_queue.specs.WaitState.{WaitState}
 use Rattle.wait_queue.specs.declared.pending.Pending.{Pending}
-use Rattle.plumb_ports.specs.PortList.{Port}
+use Rattle.rule_syntax.specs.Verbs.{is_port_name}
+use Rattle.plumb_ports.specs.PortList.{Port, names_of}
 use Rattle.plumb_ports.specs.Inboxes.{Inbox, delivered}
 
 -- a port as the map holds it: its name and what it keeps
 abbrev pub port_of : Vec ℕ × List (List ℕ) → Port
 port_of e = record { name = e.0.items; kept = e.1 }
+
+-- these are the names in the map, which are names of ports; there are at most 65,536
+pub record IsNamedBy (names : List (List ℕ)) (entries : List (Vec ℕ × List (List ℕ))) : Type 0 where
+  pub few : length entries ≤ 65536
+  pub same : names ≡ names_of (map port_of entries)
+  pub named_well : list_all is_port_name names ≡ true
 
 -- a message as the queue of an opening holds it: messages have no numbers of their own
 abbrev pub as_item : List ℕ → Pending

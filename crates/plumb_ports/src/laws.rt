@@ -1,6 +1,6 @@
 //! What holds of all that openings are given.
 
-ghost use Rattle.plumb_ports.specs.Laws.{LosesNothing, GetsEachMessage, BeginsWithNothing, KeptOnce, StaysLawful, LeavesOthers, CancelledIsGone, CancelledIsNotNext, OnlyAskWaits, ServedWaited};
+ghost use Rattle.plumb_ports.specs.Laws.{LosesNothing, GetsEachMessage, BeginsWithNothing, KeptOnce, StaysLawful, LeavesOthers, CancelledIsGone, CancelledIsNotNext, OnlyAskWaits, ServedWaited, OpeningsAreNumbered};
 
 /// What a call gives to an opening, with what is then still to come, is what was to come before with
 /// what the call delivers. So no byte of a message is lost or given twice.
@@ -19,6 +19,11 @@ pub fn gets_each_message()
 /// message is either copied to openings or kept.
 pub fn kept_once()
     ensures { KeptOnce }
+{}
+
+/// Where each opening that joins gets the next number, none is numbered beyond those that ever joined.
+pub fn openings_are_numbered()
+    ensures { OpeningsAreNumbered }
 {}
 
 /// No port ever keeps more than 64 messages, and one with an opening keeps none.

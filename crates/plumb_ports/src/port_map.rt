@@ -1,7 +1,9 @@
 //! The ports by name, in one state.
 
-ghost use Rattle.std.specs.Prelude.{◌≡◌, ◌<◌, ◌≤◌, [], ◌∷◌, ◌++◌, length, None, slice_get, option_copied, option_map, IfOk, OnOk, OnErr};
-ghost use Rattle.plumb_ports.specs.PortList.{Port, named, number_of, kept_of, with_kept};
+ghost use Rattle.std.specs.Prelude.{◌≡◌, ◌<◌, ◌≤◌, [], ◌∷◌, ◌++◌, length, None, slice_get, option_copied, option_map, true, IfOk, OnOk, OnErr};
+ghost use Rattle.std.specs.List.{list_all};
+ghost use Rattle.rule_syntax.specs.Verbs.{is_port_name};
+ghost use Rattle.plumb_ports.specs.PortList.{Port, named, names_of, number_of, kept_of, with_kept};
 ghost use Rattle.plumb_ports.specs.Undo.{without_last};
 
 use crate::kept::KeptMessages;
@@ -14,18 +16,20 @@ use std::marker::Model;
 #[derive(Drop)]
 pub struct PortMap {
     by_name: IndexMap<Vec<u8>, KeptMessages>,
+    // The same names, as a slice of them is asked for.
+    names: Vec<Bytes>,
 }
 
 impl Model for PortMap {
-    ghost use Rattle.std.specs.Prelude.{List, map, length, ◌≤◌};
+    ghost use Rattle.std.specs.Prelude.{List, map};
     ghost use Rattle.plumb_ports.specs.PortList.{Port};
-    ghost use Rattle.plumb_ports.specs.Shown.{port_of};
+    ghost use Rattle.plumb_ports.specs.Shown.{port_of, IsNamedBy};
 
     ghost Value = { List Port };
 
     ghost view = { λ m. map port_of m.by_name.entries };
 
-    ghost invariant = { λ m. length m.by_name.entries ≤ 65536 };
+    ghost invariant = { λ m. IsNamedBy m.names.items m.by_name.entries };
 }
 
 impl PortMap {
@@ -35,6 +39,7 @@ impl PortMap {
     {
         PortMap {
             by_name: IndexMap::new(alloc),
+            names: Vec::new(alloc),
         }
     }
 
@@ -44,6 +49,15 @@ impl PortMap {
         ensures at_most { result ≤ 65536 }
     {
         self.by_name.len()
+    }
+
+    /// The names of the ports.
+    pub fn names(&self) -> &[Bytes]
+        ensures names { result.now ≡ names_of self.now }
+        ensures named_well { list_all is_port_name result.now ≡ true }
+        ensures at_most { length result.now ≤ 65536 }
+    {
+        self.names.as_slice()
     }
 
     /// The number of the port of this name.
@@ -70,11 +84,15 @@ impl PortMap {
     pub fn add(&mut self, alloc: Global, name: &[u8]) -> Result<(), NoMemory>
         requires new_name { number_of self.old name.now ≡ None }
         requires few { length self.old < 65536 }
+        requires named_well { is_port_name name.now ≡ true }
         ensures ok { OnOk result (self.new ≡ self.old ++ named name.now ∷ []) }
         ensures err { OnErr result (self.new ≡ self.old) }
     {
+        self.names.reserve(1)?;
+        let copy = Bytes::copied(alloc, name)?;
         let key = Vec::from_slice(alloc, name)?;
         self.by_name.insert(key, KeptMessages::new(alloc))?;
+        self.names.push_reserved(copy);
         Ok(())
     }
 
@@ -83,6 +101,7 @@ impl PortMap {
         ensures { self.new ≡ without_last self.old }
     {
         self.by_name.pop();
+        self.names.pop();
     }
 
     /// The port keeps one more message. A refusal changes nothing.

@@ -1,8 +1,10 @@
 //! The ports and what they keep, in two states.
 
-ghost use Rattle.std.specs.Prelude.{◌≡◌, ◌<◌, [], ◌∷◌, ◌++◌, length, None, OnOk, OnErr};
+ghost use Rattle.std.specs.Prelude.{◌≡◌, ◌<◌, ◌≤◌, true, [], ◌∷◌, ◌++◌, length, None, OnOk, OnErr};
+ghost use Rattle.std.specs.List.{list_all};
+ghost use Rattle.rule_syntax.specs.Verbs.{is_port_name};
 ghost use Rattle.am_text.specs.Twice.{Twice, both};
-ghost use Rattle.plumb_ports.specs.PortList.{named, number_of, kept_of, with_kept};
+ghost use Rattle.plumb_ports.specs.PortList.{named, names_of, number_of, kept_of, with_kept};
 
 use crate::port_map::PortMap;
 use crate::undo::{Undo, take_all_back};
@@ -65,6 +67,15 @@ impl PortTable {
         self.ports.len()
     }
 
+    /// The names of the ports.
+    pub fn names(&self) -> &[Bytes]
+        ensures names { result.now ≡ names_of self.now.present }
+        ensures named_well { list_all is_port_name result.now ≡ true }
+        ensures at_most { length result.now ≤ 65536 }
+    {
+        self.ports.names()
+    }
+
     /// The number of the port of this name.
     pub fn number(&self, name: &[u8]) -> Option<u32>
         ensures { result ≡ number_of self.now.present name.now }
@@ -83,6 +94,7 @@ impl PortTable {
     pub fn add(&mut self, name: &[u8]) -> Result<(), NoMemory>
         requires new_name { number_of self.old.present name.now ≡ None }
         requires few { length self.old.present < 65536 }
+        requires named_well { is_port_name name.now ≡ true }
         ensures ok { OnOk result (self.new ≡ record self.old { present = self.old.present ++ named name.now ∷ [] }) }
         ensures err { OnErr result (self.new ≡ self.old) }
     {

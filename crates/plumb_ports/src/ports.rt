@@ -1,10 +1,11 @@
 //! The ports.
 
-ghost use Rattle.std.specs.Prelude.{◌≡◌, ◌<◌, ◌⊎◌, false, [], ◌∷◌, length, None, Some, IfOk, IfErr, OnOk, OnErr, IsTrue};
-ghost use Rattle.std.specs.List.{list_any};
+ghost use Rattle.std.specs.Prelude.{◌≡◌, ◌<◌, ◌⊎◌, false, ◌≤◌, true, [], ◌∷◌, length, None, Some, IfOk, IfErr, OnOk, OnErr, IsTrue};
+ghost use Rattle.std.specs.List.{list_all, list_any};
 ghost use Rattle.am_text.specs.Twice.{Twice, both, IsSteady};
 ghost use Rattle.wait_queue.specs.Reads.{is_read};
-ghost use Rattle.plumb_ports.specs.PortList.{named, edit_name, is_there, number_of};
+ghost use Rattle.rule_syntax.specs.Verbs.{is_port_name};
+ghost use Rattle.plumb_ports.specs.PortList.{named, names_of, edit_name, is_there, number_of};
 ghost use Rattle.plumb_ports.specs.PortsState.{PortsState, beginning, is_open, is_full, has_joined, HasJoined, added_number, after_add, after_join, refusal, Refuses, after_fault, after_deliver, delivered_at, read_waits, piece_for, after_answer, asked_of, after_ask, next_of, without_next, served_of, after_serve, after_cancel, after_leave};
 
 use crate::fault::PortFault;
@@ -19,7 +20,7 @@ use wait_queue::{Answers, Asked, Asker, Piece, Reads};
 const KEPT_MESSAGES: usize = 64;
 
 // The port `edit` alone, in both states.
-#[tactic(auto, unfolding(crate::specs::PortList::edit_name))]
+#[tactic(auto, unfolding(crate::specs::PortList::edit_name, rule_syntax::specs::Verbs::is_port_name))]
 fn edit_alone(alloc: Global) -> Result<PortTable, NoMemory>
     ensures { IfOk result (λ table. table ≡ both (named edit_name ∷ [])) }
 {
@@ -61,6 +62,8 @@ pub struct Ports {
     alloc: Global,
     table: PortTable,
     openings: OpeningTable,
+    joined: u32,
+    kept_joined: u32,
     reads: Reads,
     // Whether the present state may differ from the kept one.
     changed: bool,
@@ -73,13 +76,13 @@ impl Model for Ports {
     ghost Value = { Twice PortsState };
 
     ghost view = { λ p. record {
-      present = record { ports = p.table.present; openings = p.openings.present; reads = p.reads.present };
-      kept = record { ports = p.table.kept; openings = p.openings.kept; reads = p.reads.kept };
+      present = record { ports = p.table.present; openings = p.openings.present; joined = p.joined; reads = p.reads.present };
+      kept = record { ports = p.table.kept; openings = p.openings.kept; joined = p.kept_joined; reads = p.reads.kept };
     } };
 
     ghost use Rattle.std.specs.Prelude.{◌≡◌, false};
 
-    ghost invariant = { λ p. p.changed ≡ false → (p.table.present ≡ p.table.kept) × (p.openings.present ≡ p.openings.kept) × (p.reads.present ≡ p.reads.kept) };
+    ghost invariant = { λ p. p.changed ≡ false → (p.table.present ≡ p.table.kept) × (p.openings.present ≡ p.openings.kept) × (p.joined ≡ p.kept_joined) × (p.reads.present ≡ p.reads.kept) };
 }
 
 impl Ports {
@@ -91,6 +94,8 @@ impl Ports {
             alloc,
             table: edit_alone(alloc)?,
             openings: OpeningTable::new(alloc),
+            joined: 0,
+            kept_joined: 0,
             reads: Reads::new(alloc),
             changed: false,
         })
@@ -103,6 +108,7 @@ impl Ports {
         if self.changed {
             self.table.keep();
             self.openings.keep();
+            self.kept_joined = self.joined;
             self.reads.keep();
             self.changed = false;
         }
@@ -115,6 +121,7 @@ impl Ports {
         if self.changed {
             self.table.back();
             self.openings.back();
+            self.joined = self.kept_joined;
             self.reads.back();
             self.changed = false;
         }
@@ -125,6 +132,22 @@ impl Ports {
         ensures { result ≡ length self.now.present.ports }
     {
         self.table.len()
+    }
+
+    /// The names of the ports, in the order in which they were added.
+    pub fn names(&self) -> &[Bytes]
+        ensures names { result.now ≡ names_of self.now.present.ports }
+        ensures named_well { list_all is_port_name result.now ≡ true }
+        ensures at_most { length result.now ≤ 65536 }
+    {
+        self.table.names()
+    }
+
+    /// How many openings ever joined.
+    pub fn joined(&self) -> u32
+        ensures { result ≡ self.now.present.joined }
+    {
+        self.joined
     }
 
     /// The number of the port of this name. None exactly where it was never added.
@@ -156,7 +179,8 @@ impl Ports {
     }
 
     fn try_add(&mut self, name: &[u8]) -> Result<u32, NoMemory>
-        requires { IsTrue (is_there self.old.present.ports name.now) ⊎ (length self.old.present.ports < 65536) }
+        requires room { IsTrue (is_there self.old.present.ports name.now) ⊎ (length self.old.present.ports < 65536) }
+        requires named_well { is_port_name name.now ≡ true }
         ensures number { IfOk result (λ number. number ≡ added_number self.old.present name.now) }
         ensures ok { OnOk result (self.new ≡ record self.old { present = after_add self.old.present name.now }) }
         ensures err { OnErr result (self.new.kept ≡ self.old.kept) }
@@ -173,7 +197,8 @@ impl Ports {
     /// Adds a port of this name, the last one, and answers its number. A name that is there keeps its
     /// port, whose number is answered. There are at most 65,536 ports.
     pub fn add(&mut self, name: &[u8]) -> Result<u32, NoMemory>
-        requires { IsTrue (is_there self.old.present.ports name.now) ⊎ (length self.old.present.ports < 65536) }
+        requires room { IsTrue (is_there self.old.present.ports name.now) ⊎ (length self.old.present.ports < 65536) }
+        requires named_well { is_port_name name.now ≡ true }
         ensures number { IfOk result (λ number. number ≡ added_number self.old.present name.now) }
         ensures ok { OnOk result (self.new ≡ record self.old { present = after_add self.old.present name.now }) }
         ensures err { OnErr result (self.new ≡ both self.old.kept) }
@@ -188,19 +213,23 @@ impl Ports {
     }
 
     fn try_join(&mut self, port: u32, opening: u32) -> Result<(), NoMemory>
+        requires { self.old.present.joined < 4294967295 }
         ensures ok { OnOk result (self.new ≡ record self.old { present = after_join self.old.present port opening }) }
         ensures err { OnErr result (self.new.kept ≡ self.old.kept) }
     {
         self.changed = true;
         self.openings.join(port, opening, self.table.kept(port))?;
-        self.table.empty(port)
+        self.table.empty(port)?;
+        self.joined += 1;
+        Ok(())
     }
 
     /// An opening joins a port. It takes all that the port keeps, in order, and from then on a copy of
-    /// each message that is delivered to the port.
+    /// each message that is delivered to the port. At most 4,294,967,295 ever join.
     pub fn join(&mut self, port: u32, opening: u32) -> Result<(), NoMemory>
         requires port { port < length self.old.present.ports }
         requires once { has_joined self.old.present opening ≡ false }
+        requires few { self.old.present.joined < 4294967295 }
         ensures ok { OnOk result (self.new ≡ record self.old { present = after_join self.old.present port opening }) }
         ensures err { OnErr result (self.new ≡ both self.old.kept) }
     {
@@ -266,7 +295,8 @@ impl Ports {
         }
     }
 
-    fn must_wait(&self, asker: Asker) -> bool
+    /// Whether this read would wait: it asks for some bytes, and its opening has nothing for it.
+    pub fn must_wait(&self, asker: Asker) -> bool
         ensures { result ≡ read_waits self.now.present asker }
     {
         self.openings.must_wait(asker.opening, asker.count)

@@ -109,7 +109,10 @@ fn open(alloc: Global, desk: &mut Desk, name: &str) -> Result<Bytes, Fault> {
         return says(alloc, "none");
     };
     let opening = desk.openings;
-    if port as usize >= desk.scene.ports.len() || desk.scene.ports.has_joined(opening) {
+    if port as usize >= desk.scene.ports.len()
+        || desk.scene.ports.has_joined(opening)
+        || desk.scene.ports.joined() == u32::MAX
+    {
         return Err(Fault::NoCase);
     }
     desk.scene.ports.join(port, opening)?;

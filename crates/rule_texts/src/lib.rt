@@ -2,8 +2,10 @@
 #![tactic(auto)]
 
 mod cutting;
+mod laws;
 mod naming;
 mod words;
 
 pub use cutting::sets_end;
+pub use laws::names_are_ports;
 pub use naming::ports_of;

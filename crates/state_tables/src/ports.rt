@@ -24,13 +24,13 @@ use crate::answers::{asked_line, next_line, says, says_whether, served_line};
 use crate::call::{Call, asker_of, bytes_of, cut, one_of, tag_of, two_of};
 use crate::fault::Fault;
 use am_text::{Bytes, decimal};
-use plumb_ports::{PortFault, Ports};
+use plumb_ports::{PortFault, Ports, is_port_name};
 use std::alloc::Global;
 
 const MOST_PORTS: usize = 65536;
 
 fn add(alloc: Global, ports: &mut Ports, name: &[u8]) -> Result<Bytes, Fault> {
-    if ports.len() >= MOST_PORTS {
+    if ports.len() >= MOST_PORTS || !is_port_name(name) {
         return Err(Fault::NoCase);
     }
     let number = ports.add(name)?;
@@ -46,7 +46,7 @@ fn number(alloc: Global, ports: &Ports, name: &[u8]) -> Result<Bytes, Fault> {
 
 fn join(alloc: Global, ports: &mut Ports, numbers: &[u32]) -> Result<Bytes, Fault> {
     let (port, opening) = two_of(numbers)?;
-    if port as usize >= ports.len() || ports.has_joined(opening) {
+    if port as usize >= ports.len() || ports.has_joined(opening) || ports.joined() == u32::MAX {
         return Err(Fault::NoCase);
     }
     ports.join(port, opening)?;

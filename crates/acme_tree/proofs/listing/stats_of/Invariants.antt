@@ -6,6 +6,6 @@ use Rattle.acme_tree.proofs.listing.stats_of.Given as goal
 
 abbrev pub invariant-loop-node : goal.invariant-loop-node
 invariant-loop-node l = record {
-  listed : l.stats ≡ map (stat_of l.world) (take l.node-index l.nodes);
-  named : All IsName l.world.ports → All HasName l.stats;
+  listed : l.stats ≡ map (stat_of l.ports) (take l.node-index l.nodes);
+  named : All IsName l.ports → All HasName l.stats;
 }

@@ -1,4 +1,4 @@
-use Rattle.std.proofs.Common.{◌^◌, List, ℕ, take, rules, ap, ◌∙◌}
+use Rattle.std.proofs.Common.{List, ℕ, rules, ap, ◌∙◌}
 use Rattle.std.specs.Prelude.{position}
 use Rattle.std.specs.Option.{option_map}
 use Rattle.std.specs.Str.{bytes_eq}
@@ -8,5 +8,5 @@ use Rattle.acme_tree.proofs.walk.in_plumber.Goals as goal
 
 pub returns-else-eq-2 : goal.returns-else-eq-2
 returns-else-eq-2 c =
-    in_plumber_rest c.args.world.now c.args.name.now c.to_port.result (search rules) (search rules)
-    (c.to_port.ensures ∙ ap (option_map (λ k. Port k)) c.port_named.ensures ∙ ap (λ (ports : List (List ℕ)). option_map (λ k. Port k) (position (λ port. bytes_eq c.args.name.now port) ports)) (c.numbered_ports.ensures.ports ∙ ap (λ (ports : List (List ℕ)). take (2 ^ 32) ports) c.as_slice-else-eq-2.ensures))
+    in_plumber_rest c.args.ports.now c.args.name.now c.to_port.result (search rules) (search rules)
+    (c.to_port.ensures ∙ ap (option_map (λ k. Port k)) c.port_named.ensures ∙ ap (λ (ports : List (List ℕ)). option_map (λ k. Port k) (position (λ port. bytes_eq c.args.name.now port) ports)) c.numbered_ports.ensures.ports)

@@ -6,7 +6,7 @@ use Rattle.core_fids.proofs.walking.trail_of.Given as goal
 abbrev pub invariant-loop-rest : goal.invariant-loop-rest
 invariant-loop-rest l = record {
   few : length l.qids + length l.rest ≤ length l.names;
-  goes : then_qids l.qids (trail l.world l.node l.rest) ≡ trail l.world l.initial.node l.names;
+  goes : then_qids l.qids (trail l.world l.ports l.node l.rest) ≡ trail l.world l.ports l.initial.node l.names;
 }
 
 abbrev pub decreases-loop-rest : goal.decreases-loop-rest

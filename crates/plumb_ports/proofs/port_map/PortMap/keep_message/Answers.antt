@@ -1,9 +1,8 @@
 use Rattle.std.proofs.Common.{sym, ap, ◌∙◌, map, List, ℕ, ◌∷◌, [], ◌++◌}
 use Rattle.std.proofs.lemmas.Result.{on_ok_weaker, on_err_weaker}
-use Rattle.indexmap.specs.Layout.{length-set_value_at}
 use Rattle.plumb_ports.specs.PortList.{with_kept}
 use Rattle.plumb_ports.specs.Shown.{port_of}
-use Rattle.plumb_ports.proofs.PortLemmas.{kept-written, written-none, kept-value}
+use Rattle.plumb_ports.proofs.PortLemmas.{still-named, kept-written, written-none, kept-value}
 use Rattle.plumb_ports.proofs.UndoLemmas.{with_kept-same}
 use Rattle.plumb_ports.proofs.port_map.PortMap.keep_message.Goals as goal
 
@@ -12,7 +11,7 @@ returns-in_default-clause-ok c =
     rw (← c.self.view_is) (written-none c.self.inside.by_name.entries c.args.port _ (sym c.in_default.ensures.value))
 
 pub invariant_of-self-2 : goal.invariant_of-self-2
-invariant_of-self-2 c = rw (length-set_value_at c.self.inside.by_name.entries c.args.port c.push.new.self) c.self.invariant
+invariant_of-self-2 c = still-named c.self.inside.names.items c.self.inside.by_name.entries c.args.port c.push.new.self c.self.invariant
 
 pub returns-clause-ok : goal.returns-clause-ok
 returns-clause-ok c =

@@ -1,8 +1,7 @@
 use Rattle.std.proofs.Common.{sym, ap, ◌∙◌, map, []}
-use Rattle.indexmap.specs.Layout.{length-set_value_at}
 use Rattle.plumb_ports.specs.PortList.{with_kept}
 use Rattle.plumb_ports.specs.Shown.{port_of}
-use Rattle.plumb_ports.proofs.PortLemmas.{kept-written, kept-none, none-entry, written-none, kept-value}
+use Rattle.plumb_ports.proofs.PortLemmas.{still-named, kept-written, kept-none, none-entry, written-none, kept-value}
 use Rattle.plumb_ports.proofs.port_map.PortMap.take_kept.Goals as goal
 
 pub returns-in_default-clause-messages : goal.returns-in_default-clause-messages
@@ -14,7 +13,7 @@ returns-in_default-clause-new c =
     rw (← c.self.view_is) (written-none c.self.inside.by_name.entries c.args.port [] (sym c.in_default.ensures.value))
 
 pub invariant_of-self-2 : goal.invariant_of-self-2
-invariant_of-self-2 c = rw (length-set_value_at c.self.inside.by_name.entries c.args.port c.replace.new.dest) c.self.invariant
+invariant_of-self-2 c = still-named c.self.inside.names.items c.self.inside.by_name.entries c.args.port c.replace.new.dest c.self.invariant
 
 pub returns-clause-messages : goal.returns-clause-messages
 returns-clause-messages c =

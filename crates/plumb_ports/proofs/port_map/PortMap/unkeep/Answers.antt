@@ -1,9 +1,8 @@
 use Rattle.std.proofs.Common.{sym, ap, ◌∙◌, map}
-use Rattle.indexmap.specs.Layout.{length-set_value_at}
 use Rattle.plumb_ports.specs.PortList.{with_kept}
 use Rattle.plumb_ports.specs.Undo.{without_last}
 use Rattle.plumb_ports.specs.Shown.{port_of}
-use Rattle.plumb_ports.proofs.PortLemmas.{kept-written, written-none, kept-value}
+use Rattle.plumb_ports.proofs.PortLemmas.{still-named, kept-written, written-none, kept-value}
 use Rattle.plumb_ports.proofs.port_map.PortMap.unkeep.Goals as goal
 
 pub returns-in_default : goal.returns-in_default
@@ -11,7 +10,7 @@ returns-in_default c =
     rw (← c.self.view_is) (written-none c.self.inside.by_name.entries c.args.port _ (sym c.in_default.ensures.value))
 
 pub invariant_of-self-2 : goal.invariant_of-self-2
-invariant_of-self-2 c = rw (length-set_value_at c.self.inside.by_name.entries c.args.port c.pop.new.self) c.self.invariant
+invariant_of-self-2 c = still-named c.self.inside.names.items c.self.inside.by_name.entries c.args.port c.pop.new.self c.self.invariant
 
 pub returns : goal.returns
 returns c =

@@ -1,8 +1,0 @@
-use Rattle.std.proofs.lemmas.Result.{on_ok_weaker}
-use Rattle.core_scene.specs.Scenes.{scene_of}
-use Rattle.core_exec.proofs.Saying.{looked_too}
-use Rattle.core_exec.proofs.acting.look_at_text.Goals as goal
-
-pub returns-clause-ok : goal.returns-clause-ok
-returns-clause-ok c =
-    on_ok_weaker c.look.result (λ did. looked_too c.args.entry (scene_of c.args.scene.now) (scene_of c.look.new.scene) c.args.window _ _ c.as_slice.ensures did) c.look.ensures.ok

@@ -1,0 +1,4 @@
+pub mod Asking
+pub mod Serving
+pub mod Closing
+pub mod Sound
