@@ -1,5 +1,6 @@
 pub mod Column
 pub mod Escapes
+pub mod Front
 pub mod Lines
 pub mod Number
 pub mod Part

@@ -3,6 +3,7 @@
 
 mod column;
 mod escapes;
+mod front;
 mod items;
 mod job;
 mod letters;
@@ -16,6 +17,7 @@ mod utf8;
 
 pub use column::column11;
 pub use escapes::{escapes_are_read_again, unescape};
+pub use front::{after_front, put_words};
 pub use items::{Bytes, Ids, Items, NameList, Names, Numbers, Rune, Runes, Words};
 pub use job::{Job, JobKind, Jobs};
 pub use letters::Letters;

@@ -5,8 +5,10 @@
 #![tactic(auto)]
 
 mod fault;
+mod limits;
 mod message;
 
 pub use am_text::{Bytes, Items, Names, NoMemory};
 pub use fault::{WireError, WireFault};
+pub use limits::MAX_MSIZE;
 pub use message::{Qid, Qids, RBody, RMsg, TBody, TMsg};

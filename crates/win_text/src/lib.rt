@@ -4,6 +4,7 @@
 mod body;
 mod groups;
 mod laws;
+mod limits;
 mod plans;
 mod ranges;
 mod types;
@@ -14,4 +15,5 @@ pub use laws::{
     more_room_is_fine, numbers_never_fall, ranges_are_inside, settings_are_taken_back,
     stays_lawful, stays_ready, text_is_its_history, undo_and_redo_are_plans, undo_takes_back,
 };
+pub use limits::BODY_RUNES;
 pub use types::{Marks, PlanKind, Ready, TextPlan, Trace, TraceKind};
