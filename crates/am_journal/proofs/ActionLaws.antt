@@ -10,7 +10,8 @@ use Rattle.am_journal.specs.declared.event.Event.TheVariants as event
 use Rattle.am_journal.specs.declared.event.Spot.{Spot}
 use Rattle.am_journal.specs.Lawful.{IsSpotInRange}
 use Rattle.am_journal.specs.Paths.{is_path_text}
-use Rattle.am_journal.specs.Line.{first_field, after_field, text_of, spot_at, first_spot, after_spot, spot_words, exec_from, exec_at, exec_line, arg_from, arg_at, arg_line, look_from, look_at, look_line, path_at, file_from, file_at, file_line, dir_from, dir_at, dir_line, after_front, with_front, action_of}
+use Rattle.am_text.specs.Front.{after_front}
+use Rattle.am_journal.specs.Line.{first_field, after_field, text_of, spot_at, first_spot, after_spot, spot_words, exec_from, exec_at, exec_line, arg_from, arg_at, arg_line, look_from, look_at, look_line, path_at, file_from, file_at, file_line, dir_from, dir_at, dir_line, with_front, action_of}
 use Rattle.am_journal.proofs.FieldWords.{first-is, after-is, split-is, front-is}
 use Rattle.am_journal.proofs.WindowLaws.{text-is}
 use Rattle.am_journal.proofs.PathLaws.{path_text-visible}

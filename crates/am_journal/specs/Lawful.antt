@@ -2,19 +2,21 @@
 use Rattle.std.specs.Prelude.{◌≡◌, ℕ, ◌<◌, ◌≤◌, ◌^◌, true, List, length, slice_index}
 use Rattle.std.specs.Char.{IsScalar}
 use Rattle.std.specs.List.{AllByRecursion}
+use Rattle.ninep_types.specs.Limits.{max_msize}
 use Rattle.ninep_types.specs.Spelling.{spelling_t, Fits_t, InRange_t}
 use Rattle.am_journal.specs.declared.event.Event.{Event}
 use Rattle.am_journal.specs.declared.event.Event.TheVariants as event
 use Rattle.am_journal.specs.declared.event.Spot.{Spot}
+use Rattle.am_journal.specs.Limits.{connection_count}
 use Rattle.am_journal.specs.Paths.{is_path_text}
 
 -- A connection is one of 64, a message has a spelling of at most 65,560 bytes, a text is of Unicode scalar values alone,
 -- a range doesn't end before it begins, and a path is one of a file or a directory below `/`.
 abbrev pub IsLawful : Event → Type 0
-IsLawful (event.Dial c) = c < 64
-IsLawful (event.Msg c m) = (c < 64) × Fits_t m × (length (spelling_t m) ≤ 65560)
-IsLawful (event.Hang c why) = c < 64
-IsLawful (event.Took c) = c < 64
+IsLawful (event.Dial c) = c < connection_count
+IsLawful (event.Msg c m) = (c < connection_count) × Fits_t m × (length (spelling_t m) ≤ max_msize)
+IsLawful (event.Hang c why) = c < connection_count
+IsLawful (event.Took c) = c < connection_count
 IsLawful event.New = Unit {0}
 IsLawful (event.Key w side text) = AllByRecursion IsScalar text
 IsLawful (event.Sel w range) = range.q0 ≤ range.q1

@@ -1,5 +1,6 @@
 pub mod Paths
 pub mod Lawful
+pub mod Limits
 pub mod Hexadecimal
 pub mod Parts
 pub mod Causes

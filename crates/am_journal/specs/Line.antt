@@ -3,12 +3,14 @@ use Rattle.std.specs.Prelude.{ℕ, List, [], ◌∷◌, ◌++◌, length, Option
 use Rattle.std.specs.List.{flat_map}
 use Rattle.std.specs.Str.{bytes_eq}
 use Rattle.std.specs.Fmt.{decimal}
+use Rattle.am_text.specs.Front.{after_front}
 use Rattle.am_text.specs.Number.{number_of}
 use Rattle.am_text.specs.Lines.{escaped}
 use Rattle.am_text.specs.Escapes.{unescaped}
 use Rattle.am_text.specs.declared.range.Range.{Range}
 use Rattle.ninep_types.specs.declared.fault.WireFault.{WireFault}
 use Rattle.ninep_types.specs.declared.message.TMsg.{TMsg}
+use Rattle.ninep_types.specs.Limits.{max_msize}
 use Rattle.ninep_types.specs.Spelling.{spelling_t}
 use Rattle.ninep_types.specs.Reading.{t_of}
 use Rattle.am_journal.specs.declared.event.Event.{Event}
@@ -17,6 +19,7 @@ use Rattle.am_journal.specs.declared.event.Side.{Side}
 use Rattle.am_journal.specs.declared.event.Side.TheVariants as side
 use Rattle.am_journal.specs.declared.event.Spot.{Spot}
 use Rattle.am_journal.specs.Hexadecimal.{hex_of, bytes_of_hex}
+use Rattle.am_journal.specs.Limits.{connection_count}
 use Rattle.am_journal.specs.Parts.{around}
 use Rattle.am_journal.specs.Paths.{is_path_text}
 use Rattle.am_journal.specs.declared.ending.Ending.{Ending}
@@ -100,7 +103,7 @@ after_field (b ∷ bs) = if b == 32 then bs else after_field bs
 -- the number of a connection
 abbrev pub conn_from : Option ℕ → Option ℕ
 conn_from None = None
-conn_from (Some n) = if nat_lt n 64 then Some n else None
+conn_from (Some n) = if nat_lt n connection_count then Some n else None
 
 abbrev pub conn_at : List ℕ → Option ℕ
 conn_at bs = conn_from (number_of bs)
@@ -119,7 +122,7 @@ msg_read c (Err f) = None
 abbrev pub msg_from : Option ℕ → Option (List ℕ) → Option Event
 msg_from None bytes = None
 msg_from (Some c) None = None
-msg_from (Some c) (Some bytes) = if nat_lt 65560 (length bytes) then None else msg_read c (t_of bytes)
+msg_from (Some c) (Some bytes) = if nat_lt max_msize (length bytes) then None else msg_read c (t_of bytes)
 
 abbrev pub msg_at : List ℕ → Option Event
 msg_at bs = msg_from (conn_at (first_field bs)) (bytes_of_hex (after_field bs))
@@ -246,12 +249,6 @@ dir_from (Some path) = Some (event.Dir path)
 
 abbrev pub dir_at : List ℕ → Option Event
 dir_at bs = dir_from (path_at bs)
-
--- the bytes after a front, if they begin so
-abbrev pub after_front : List ℕ → List ℕ → Option (List ℕ)
-after_front [] bs = Some bs
-after_front (f ∷ fs) [] = None
-after_front (f ∷ fs) (b ∷ bs) = if b == f then after_front fs bs else None
 
 -- what the first front that the bytes begin with gives of the bytes after it
 abbrev pub with_front : Option (List ℕ) → (List ℕ → Option Event) → Option Event → Option Event

@@ -1,31 +1,15 @@
 //! Fields of a line.
 
-ghost use Rattle.std.specs.Prelude.{◌≡◌, ◌<◌, ◌++◌, OnOk, IfOk, IfSome, option_copied};
-ghost use Rattle.am_journal.specs.Line.{after_front, conn_at, first_field, after_field, window_at, side_word, side_of, text_of, range_from, range_at};
+ghost use Rattle.std.specs.Prelude.{◌≡◌, ◌<◌, ◌++◌, OnOk, IfOk, IfSome};
+ghost use Rattle.am_journal.specs.Line.{conn_at, first_field, after_field, window_at, side_word, side_of, text_of, range_from, range_at};
 ghost use Rattle.am_text.specs.Number.{number_of};
+ghost use Rattle.am_journal.specs.Limits.{connection_count};
 ghost use Rattle.am_journal.specs.Parts.{around};
 
 use crate::event::Side;
+use crate::limits::CONNECTIONS;
 use am_text::{Bytes, NoMemory, Range, Runes, decimal, read_decimal, unescape};
 use std::alloc::Global;
-
-/// The bytes after a front, if they begin so.
-pub(crate) fn after_front<'a>(front: &[u8], bytes: &'a [u8]) -> Option<&'a [u8]>
-    ensures { option_copied result ≡ after_front front.now bytes.now }
-{
-    let mut left = front;
-    let mut rest = bytes;
-    while let [f, fs @ ..] = left {
-        match rest {
-            [b, bs @ ..] if *b == *f => {
-                left = fs;
-                rest = bs;
-            }
-            _ => return None,
-        }
-    }
-    Some(rest)
-}
 
 /// The bytes up to the first blank, and those after it.
 pub(crate) fn cut_field(bytes: &[u8]) -> (&[u8], &[u8])
@@ -46,20 +30,23 @@ pub(crate) fn cut_field(bytes: &[u8]) -> (&[u8], &[u8])
 /// The number of a connection.
 pub(crate) fn conn_of(bytes: &[u8]) -> Option<u32>
     ensures value { result ≡ conn_at bytes.now }
-    ensures small { IfSome result (λ c. c < 64) }
+    ensures small { IfSome result (λ c. c < connection_count) }
 {
     match read_decimal(bytes) {
-        Some(n) if n < 64 => Some(n as u32),
+        Some(n) if n < CONNECTIONS as u64 => Some(n as u32),
         _ => None,
     }
 }
+
+/// What the number of a window is below: it has 32 bits.
+const WINDOW_NUMBERS: u64 = 1 << 32;
 
 /// The number of a window.
 pub(crate) fn window_of(bytes: &[u8]) -> Option<u32>
     ensures { result ≡ window_at bytes.now }
 {
     match read_decimal(bytes) {
-        Some(n) if n < 4294967296 => Some(n as u32),
+        Some(n) if n < WINDOW_NUMBERS => Some(n as u32),
         _ => None,
     }
 }

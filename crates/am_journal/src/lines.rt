@@ -11,16 +11,13 @@ use crate::causes::{ending_of, put_cause};
 use crate::ending::Ending;
 use crate::event::{Event, Side};
 use crate::fields::{
-    after_front, conn_of, cut_field, put_around, range_of, side_of, side_word, text_of, window_of,
+    conn_of, cut_field, put_around, range_of, side_of, side_word, text_of, window_of,
 };
 use crate::hexadecimal::{bytes_of_hex, hex_text};
-use am_text::{Bytes, Items, NoMemory, Range, decimal, escape};
-use ninep_types::{TMsg, WireError};
+use am_text::{Bytes, Items, NoMemory, Range, after_front, decimal, escape};
+use ninep_types::{MAX_MSIZE, TMsg, WireError};
 use ninep_wire::{read_t, write_t};
 use std::alloc::Global;
-
-/// The most bytes that a message of a line has.
-const MAX_MESSAGE: usize = 65560;
 
 fn dial_of(rest: &[u8]) -> Option<Event>
     ensures { result ≡ dial_at rest.now }
@@ -41,7 +38,7 @@ fn msg_of(alloc: Global, rest: &[u8]) -> Result<Option<Event>, NoMemory>
     let Some(bytes) = bytes_of_hex(alloc, hex)? else {
         return Ok(None);
     };
-    if bytes.len() > MAX_MESSAGE {
+    if bytes.len() > MAX_MSIZE as usize {
         return Ok(None);
     }
     match read_t(alloc, bytes.as_slice()) {
@@ -244,8 +241,3 @@ pub fn write_line(alloc: Global, event: &Event) -> Result<Bytes, NoMemory>
 {
     line_of(alloc, event)
 }
-
-/// The round trip of the transcript: the line of a lawful event is read as that event.
-pub fn line_law()
-    ensures { (e : Event) → IsLawful e → IsInRange e → event_of (line_text e) ≡ Some e }
-{}

@@ -8,7 +8,7 @@ use Rattle.std.specs.Borrow.{Bor}
 use Rattle.std.proofs.lemmas.Bool.{eq-eqb, eqb-true}
 use Rattle.std.proofs.lemmas.Bool.Decides.{Decides-eqb}
 use Rattle.std.proofs.lemmas.Slice.Eq.{strip_prefix_is}
-use Rattle.am_journal.specs.Line.{after_front}
+use Rattle.am_text.specs.Front.{after_front}
 
 after_whole : (front rest : List ℕ) → after_front front (front ++ rest) ≡ Some rest
 after_whole [] rest = refl

@@ -5,7 +5,8 @@ use Rattle.am_journal.specs.declared.event.Event.{Event}
 use Rattle.am_journal.specs.declared.event.Event.TheVariants as event
 use Rattle.am_journal.specs.Journal.{is_report}
 use Rattle.am_journal.specs.Lawful.{IsLawful, IsInRange}
-use Rattle.am_journal.specs.Line.{after_front, event_of, window_at}
+use Rattle.am_text.specs.Front.{after_front}
+use Rattle.am_journal.specs.Line.{event_of, window_at}
 use Rattle.am_counter.specs.declared.ask.Ask.TheVariants.{EventOpen}
 use Rattle.am_counter.specs.Known.{Known, Looks, Submits}
 use Rattle.am_counter.specs.Played.{has_hang}

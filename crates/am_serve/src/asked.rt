@@ -1,7 +1,8 @@
 //! What a line of a script asks.
 
 ghost use Rattle.std.specs.Prelude.{◌≡◌, IfOk, option_copied};
-ghost use Rattle.am_journal.specs.Line.{after_front, window_at};
+ghost use Rattle.am_text.specs.Front.{after_front};
+ghost use Rattle.am_journal.specs.Line.{window_at};
 ghost use Rattle.am_serve.specs.Script.{is_scripted, asks_window, asks_event, asked_by, DoesLawful, DoesInRange};
 
 use am_journal::{Event, read_line};

@@ -4,7 +4,8 @@ use Rattle.std.specs.List.{AllByRecursion}
 use Rattle.am_text.specs.Lines.{lines_of}
 use Rattle.am_journal.specs.declared.event.Event.{Event}
 use Rattle.am_journal.specs.Journal.{is_report}
-use Rattle.am_journal.specs.Line.{after_front, event_of, window_at}
+use Rattle.am_text.specs.Front.{after_front}
+use Rattle.am_journal.specs.Line.{event_of, window_at}
 use Rattle.am_counter.specs.Known.{Known}
 use Rattle.am_serve.specs.Gained.{Rule, Answers, plain}
 use Rattle.am_serve.specs.Script.{is_scripted, asks_event, asks_window, awaits_or, asked_by, then_asked, asked_by_lines, asked_by_script, asked_events, Passed, EndsScript}

@@ -1,13 +1,15 @@
 -- The words of `serve`, form by form.
-use Rattle.std.proofs.Common.{◌≡◌, ℕ, ◌≤◌, Bool, cond, true, false, List, [], ◌∷◌, ◌++◌, length, take, drop, Option, Some, None}
+use Rattle.std.proofs.Common.{◌≡◌, ℕ, ◌≤◌, Bool, cond, true, false, List, [], ◌∷◌, ◌++◌, Option, Some, None}
 use Rattle.std.proofs.Common.{refl, sym, ap, subst, ◌∙◌, codes, if◌then◌else◌, is_some}
+use Rattle.std.specs.Prelude.{◌==◌}
 use Rattle.std.specs.List.{AllByRecursion}
 use Rattle.std.specs.Str.{bytes_eq, chars, IsUtf8, is_utf8}
 use Rattle.std.specs.Char.{encode_utf8}
+use Rattle.std.proofs.lemmas.Bool.{eqb-true}
 use Rattle.std.proofs.lemmas.Slice.Eq.{bytes_eq-Decides}
 use Rattle.std.proofs.lemmas.Str.{IsUtf8-append, IsUtf8-from_is_utf8}
-use Rattle.std.proofs.lemmas.List.{take-append-drop}
-use Rattle.am_words.specs.Words.{after_front, clients_of, in_two, in_three, is_path, rounds_of, IsText, or_else, path_and_clients, with_clients}
+use Rattle.am_text.specs.Front.{after_front}
+use Rattle.am_words.specs.Words.{clients_of, in_two, in_three, is_path, rounds_of, IsText, or_else, path_and_clients, with_clients}
 use Rattle.am_words.specs.Commands.{drill_reads, serve_reads}
 use Rattle.am_words.proofs.Numbers.{number_begins, number_is_text, up_to_some, up_to_within}
 use Rattle.am_words.proofs.Taken.{apart_before, apart_behind, drill_read, joined_before, joined_behind}
@@ -34,16 +36,13 @@ parts p number path n e = by_number (clients_of number) refl e
     by_number (Some m) s e = by_path (is_path p) m refl s e
 
 front_is : (front bytes rest : List ℕ) → after_front front bytes ≡ Some rest → bytes ≡ front ++ rest
-front_is front bytes rest e = go (bytes_eq (take (length front) bytes) front) refl e
-  where
-    go : (b : Bool) → bytes_eq (take (length front) bytes) front ≡ b → (if b then Some (drop (length front) bytes) else None) ≡ Some rest
-        → bytes ≡ front ++ rest
-    go false t e = absurd cc
-    go true t e =
-        let begins : take (length front) bytes ≡ front = (bytes_eq-Decides _ _).0 t in
-        let left : drop (length front) bytes ≡ rest = cc in
-        sym (take-append-drop (length front) bytes) ∙ (ap (λ (l : List ℕ). l ++ drop (length front) bytes) begins
-        ∙ ap (λ (l : List ℕ). front ++ l) left)
+front_is [] bytes rest e = let same : bytes ≡ rest = cc in same
+front_is (f ∷ fs) [] rest e = absurd cc
+front_is (f ∷ fs) (b ∷ bytes) rest e =
+    elim (b == f) as (λ t. (b == f) ≡ t → cond t (after_front fs bytes) None ≡ Some rest → b ∷ bytes ≡ f ∷ (fs ++ rest)) [
+      | true ↦ λ t e. ap (λ (x : ℕ). x ∷ bytes) (eqb-true b f t) ∙ ap (λ (l : List ℕ). f ∷ l) (front_is fs bytes rest e)
+      | false ↦ λ t e. absurd cc
+    ] refl e
 
 clients_are_text : (number : List ℕ) (n : ℕ) → clients_of number ≡ Some n → IsUtf8 number
 clients_are_text number n e = number_is_text number n (up_to_some 64 (number_of number) n e)

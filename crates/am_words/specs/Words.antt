@@ -1,7 +1,8 @@
 -- What the words after the program's name ask for.
 use Rattle.std.specs.Prelude.{◌≡◌, ◌⊎◌, ℕ, ◌≤◌, ◌==◌, nat_lt, nat_le, Bool, true, false, not, ◌&&◌, List, [], ◌∷◌, Option, Some}
-use Rattle.std.specs.Prelude.{None, if◌then◌else◌, codes, length, take, drop, string_bytes}
+use Rattle.std.specs.Prelude.{None, if◌then◌else◌, codes, string_bytes}
 use Rattle.std.specs.Str.{bytes_eq, IsUtf8}
+use Rattle.am_text.specs.Front.{after_front}
 use Rattle.am_text.specs.Number.{number_of}
 use Rattle.am_words.specs.declared.asked.Asked.{Asked}
 use Rattle.am_words.specs.declared.asked.Asked.TheVariants as asked
@@ -60,10 +61,6 @@ with_clients path (Some n) = if is_path path then Some (path, n) else None
 
 abbrev pub path_and_clients : List ℕ → List ℕ → Option (List ℕ × ℕ)
 path_and_clients path number = with_clients path (clients_of number)
-
--- the bytes after a front, if they begin so
-abbrev pub after_front : List ℕ → List ℕ → Option (List ℕ)
-after_front front bytes = if bytes_eq (take (length front) bytes) front then Some (drop (length front) bytes) else None
 
 -- the path with the number behind the option's front, where that was found
 abbrev pub or_else : List ℕ → Option (List ℕ) → Option (List ℕ × ℕ) → Option (List ℕ × ℕ)

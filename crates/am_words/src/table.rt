@@ -1,10 +1,10 @@
 //! The table of the words, as a test that takes no memory.
 
-ghost use Rattle.std.specs.Prelude.{◌≡◌, is_some, option_copied};
-ghost use Rattle.am_words.specs.Words.{after_front, are_alone, are_pack, are_replay, are_trace, clients_of, in_three, in_two, is_path, path_and_clients, rounds_of, tree_of};
+ghost use Rattle.std.specs.Prelude.{◌≡◌, is_some};
+ghost use Rattle.am_words.specs.Words.{are_alone, are_pack, are_replay, are_trace, clients_of, in_three, in_two, is_path, path_and_clients, rounds_of, tree_of};
 
 use crate::asked::Tree;
-use am_text::{Bytes, read_decimal};
+use am_text::{Bytes, after_front, read_decimal};
 
 /// Whether the words ask for a replay.
 pub(crate) fn is_replay(words: &[Bytes]) -> bool
@@ -39,12 +39,18 @@ pub(crate) fn is_pack(words: &[Bytes]) -> bool
     are_alone(b"pack", words)
 }
 
+/// The most rounds of a drill.
+const MOST_ROUNDS: u64 = 100_000;
+
+/// The most clients that are served.
+const MOST_CLIENTS: u64 = 64;
+
 /// The number of rounds, where the word is one.
 pub(crate) fn rounds_of(number: &[u8]) -> Option<u64>
     ensures { result ≡ rounds_of number.now }
 {
     match read_decimal(number) {
-        Some(n) if 0 < n && n <= 100_000 => Some(n),
+        Some(n) if 0 < n && n <= MOST_ROUNDS => Some(n),
         _ => None,
     }
 }
@@ -54,7 +60,7 @@ pub(crate) fn clients_of(number: &[u8]) -> Option<u32>
     ensures { result ≡ clients_of number.now }
 {
     match read_decimal(number) {
-        Some(n) if 0 < n && n <= 64 => Some(n as u32),
+        Some(n) if 0 < n && n <= MOST_CLIENTS => Some(n as u32),
         _ => None,
     }
 }
@@ -73,12 +79,6 @@ fn are_path_and_clients(path: &[u8], number: &[u8]) -> bool
     ensures { result ≡ is_some (path_and_clients path.now number.now) }
 {
     is_path(path) && clients_of(number).is_some()
-}
-
-fn after_front<'a>(front: &[u8], word: &'a [u8]) -> Option<&'a [u8]>
-    ensures { option_copied result ≡ after_front front.now word.now }
-{
-    word.strip_prefix(front)
 }
 
 /// Whether the words after `serve` are a path and the option, in one word with its number.

@@ -10,7 +10,8 @@ use Rattle.am_text.specs.Utf8.{utf8}
 use Rattle.am_text.specs.Lines.{lines_of}
 use Rattle.do_lines.specs.declared.line.DoLine.{DoLine}
 use Rattle.do_lines.specs.declared.line.DoLine.TheVariants as line
-use Rattle.do_lines.specs.Fields.{first_field, after_field, after_front, fid_at, count_at, mode_at, few_bytes, bytes_from, bytes_at, names_at}
+use Rattle.am_text.specs.Front.{after_front}
+use Rattle.do_lines.specs.Fields.{first_field, after_field, fid_at, count_at, mode_at, few_bytes, bytes_from, bytes_at, names_at}
 use Rattle.do_lines.specs.Lines.{open_from, open_at, read_from, read_at, write_from, write_at, close_from, close_at, with_front, read_by, line_of, onto_line, line_then, lines_from}
 use Rattle.do_lines.specs.Lawful.{IsLawful, AreLawful}
 use Rattle.do_lines.proofs.Named.{names_are_lawful}

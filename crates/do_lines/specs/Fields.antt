@@ -1,5 +1,5 @@
 -- The fields of a line of `do`.
-use Rattle.std.specs.Prelude.{◌≡◌, ◌≤◌, ◌<◌, ◌^◌, ℕ, zero, suc, Bool, true, false, ◌&&◌, List, [], ◌∷◌, ◌++◌, length, take, drop, Option, Some, None, nat_lt, nat_le, ◌==◌, if◌then◌else◌, codes}
+use Rattle.std.specs.Prelude.{◌≡◌, ◌≤◌, ◌<◌, ◌^◌, ℕ, zero, suc, Bool, true, false, ◌&&◌, List, [], ◌∷◌, ◌++◌, length, Option, Some, None, nat_lt, nat_le, ◌==◌, if◌then◌else◌, codes}
 use Rattle.std.specs.List.{list_all}
 use Rattle.std.specs.Str.{bytes_eq, is_utf8}
 use Rattle.am_text.specs.Number.{number_of}
@@ -14,10 +14,6 @@ first_field (b ∷ bs) = if b == 32 then [] else b ∷ first_field bs
 abbrev pub after_field : List ℕ → List ℕ
 after_field [] = []
 after_field (b ∷ bs) = if b == 32 then bs else after_field bs
-
--- the bytes after a front, if they begin so
-abbrev pub after_front : List ℕ → List ℕ → Option (List ℕ)
-after_front front bytes = if bytes_eq (take (length front) bytes) front then Some (drop (length front) bytes) else None
 
 -- the number of a fid: 1 to 1,000
 abbrev pub fid_from : Option ℕ → Option ℕ

@@ -3,7 +3,8 @@ use Rattle.std.specs.Prelude.{ℕ, ◌+◌, List, [], ◌∷◌, Option, Some, N
 use Rattle.am_text.specs.Number.{number_of}
 use Rattle.do_lines.specs.declared.line.DoLine.{DoLine}
 use Rattle.do_lines.specs.declared.line.DoLine.TheVariants as line
-use Rattle.do_lines.specs.Fields.{first_field, after_field, after_front, fid_at, count_at, mode_at, bytes_at, names_at}
+use Rattle.am_text.specs.Front.{after_front}
+use Rattle.do_lines.specs.Fields.{first_field, after_field, fid_at, count_at, mode_at, bytes_at, names_at}
 
 -- `open K NAME MODE`
 abbrev pub open_from : Option ℕ → Option (List (List ℕ)) → Option ℕ → Option DoLine

@@ -1,20 +1,23 @@
 //! The fields of a line.
 
-ghost use Rattle.std.specs.Prelude.{◌≡◌, ◌≤◌, ◌<◌, IfOk, IfSome, option_copied};
-ghost use Rattle.do_lines.specs.Fields.{first_field, after_field, after_front, fid_at, count_at, mode_at, few_bytes, bytes_at};
+ghost use Rattle.std.specs.Prelude.{◌≡◌, ◌≤◌, ◌<◌, IfOk, IfSome};
+ghost use Rattle.do_lines.specs.Fields.{first_field, after_field, fid_at, count_at, mode_at, few_bytes, bytes_at};
 
 use am_text::{Bytes, NoMemory, encode, read_decimal, unescape};
 use std::alloc::Global;
 
-/// The most bytes that a line writes.
-const MOST_BYTES: usize = 8000;
+/// The largest number of a fid.
+const MOST_FIDS: u64 = 1_000;
 
-/// The bytes after a front, if they begin so.
-pub(crate) fn after_front<'a>(front: &[u8], bytes: &'a [u8]) -> Option<&'a [u8]>
-    ensures { option_copied result ≡ after_front front.now bytes.now }
-{
-    bytes.strip_prefix(front)
-}
+/// The most bytes that a line reads or writes.
+const MOST_BYTES: usize = 8_000;
+
+/// The modes of open(5): for reading, for writing, for both.
+const READ: u8 = 0;
+
+const WRITE: u8 = 1;
+
+const READ_WRITE: u8 = 2;
 
 /// The bytes up to the first blank, and those after it.
 pub(crate) fn cut_field(bytes: &[u8]) -> (&[u8], &[u8])
@@ -37,7 +40,7 @@ pub(crate) fn fid_of(bytes: &[u8]) -> Option<u32>
     ensures { result ≡ fid_at bytes.now }
 {
     match read_decimal(bytes) {
-        Some(n) if 0 < n && n <= 1000 => Some(n as u32),
+        Some(n) if 0 < n && n <= MOST_FIDS => Some(n as u32),
         _ => None,
     }
 }
@@ -47,7 +50,7 @@ pub(crate) fn count_of(bytes: &[u8]) -> Option<u32>
     ensures { result ≡ count_at bytes.now }
 {
     match read_decimal(bytes) {
-        Some(n) if n <= 8000 => Some(n as u32),
+        Some(n) if n <= MOST_BYTES as u64 => Some(n as u32),
         _ => None,
     }
 }
@@ -57,11 +60,11 @@ pub(crate) fn mode_of(word: &[u8]) -> Option<u8>
     ensures { result ≡ mode_at word.now }
 {
     if word == b"r".as_slice() {
-        Some(0)
+        Some(READ)
     } else if word == b"w".as_slice() {
-        Some(1)
+        Some(WRITE)
     } else if word == b"rw".as_slice() {
-        Some(2)
+        Some(READ_WRITE)
     } else {
         None
     }

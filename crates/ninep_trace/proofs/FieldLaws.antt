@@ -12,7 +12,7 @@ use Rattle.ninep_types.specs.Fields.{is_text}
 use Rattle.ninep_types.specs.Spelling.{IsString}
 use Rattle.am_journal.specs.Hexadecimal.{hex_of, bytes_of_hex}
 use Rattle.am_journal.specs.Lawful.{AreBytes}
-use Rattle.am_journal.specs.Line.{after_front}
+use Rattle.am_text.specs.Front.{after_front}
 use Rattle.am_journal.proofs.FieldWords.{front-is}
 use Rattle.am_journal.proofs.HexLaws.{hex-again, hex-is}
 use Rattle.ninep_trace.specs.Fields.{◌>>=◌, digits, after_digits, value_at, below, small_at, number, number_at, marked, quoted, unquoted_after, is_string, if_string, quoted_at, text, text_at, bytes_in_hex, fewer, bytes_in_hex_at}

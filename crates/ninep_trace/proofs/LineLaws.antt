@@ -6,7 +6,8 @@ use Rattle.ninep_types.specs.declared.message.RMsg.{RMsg}
 use Rattle.am_journal.specs.declared.event.Event.{Event}
 use Rattle.am_journal.specs.declared.event.Event.TheVariants as event
 use Rattle.am_journal.specs.Lawful.{IsLawful, IsInRange}
-use Rattle.am_journal.specs.Line.{dial_line, msg_line, hang_line, took_line, new_line, key_line, sel_line, exec_line, arg_line, look_line, file_line, dir_line, line_text, after_front, event_of}
+use Rattle.am_text.specs.Front.{after_front}
+use Rattle.am_journal.specs.Line.{dial_line, msg_line, hang_line, took_line, new_line, key_line, sel_line, exec_line, arg_line, look_line, file_line, dir_line, line_text, event_of}
 use Rattle.am_journal.specs.Parts.{around}
 use Rattle.am_journal.proofs.FieldWords.{front-is}
 use Rattle.am_journal.proofs.LineLaws.{line-again, line-is}

@@ -7,7 +7,7 @@ use Rattle.std.proofs.lemmas.List.{append-nil}
 use Rattle.std.proofs.lemmas.List.Elements.{recursion_from_All, All-from_recursion}
 use Rattle.ninep_types.specs.declared.message.Qid.{Qid}
 use Rattle.ninep_types.specs.Spelling.{AreNames, IsQid, IsString}
-use Rattle.am_journal.specs.Line.{after_front}
+use Rattle.am_text.specs.Front.{after_front}
 use Rattle.am_journal.proofs.FieldWords.{front-is}
 use Rattle.ninep_trace.specs.Fields.{◌>>=◌, small_at, number, number_at, quoted, quoted_at, qid_text, qid_at, qid_field, qid_field_at, blank_and, listed, several_at, listed_at}
 use Rattle.ninep_trace.proofs.FieldLaws.{some_is, bind_some, Takes, takes_then, front_again, IsEnd, Stops, stops_then, small_takes, small_again, number_takes, number_again, number_stops, quoted_takes, quoted_again}

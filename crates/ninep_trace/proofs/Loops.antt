@@ -1,7 +1,7 @@
 -- Reading the members of a list one after the other, as a loop does.
 use Rattle.std.proofs.Common.{◌≡◌, ℕ, suc, ◌-◌, ◌+◌, ◌≤◌, ◌<◌, List, [], ◌∷◌, ◌++◌, Option, Some, None, refl, sym, ap, ◌∙◌, append_assoc, arith}
 use Rattle.std.proofs.lemmas.List.{append-nil}
-use Rattle.am_journal.specs.Line.{after_front}
+use Rattle.am_text.specs.Front.{after_front}
 use Rattle.ninep_trace.specs.declared.unread.Unread.{Unread}
 use Rattle.ninep_trace.specs.declared.unread.Unread.TheVariants as unread
 use Rattle.ninep_trace.specs.Fields.{◌>>=◌, Fails, several_at}

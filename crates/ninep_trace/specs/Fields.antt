@@ -8,7 +8,7 @@ use Rattle.am_text.specs.Number.{number_of}
 use Rattle.ninep_types.specs.declared.message.Qid.{Qid}
 use Rattle.ninep_types.specs.Fields.{is_text}
 use Rattle.am_journal.specs.Hexadecimal.{hex_of, bytes_of_hex}
-use Rattle.am_journal.specs.Line.{after_front}
+use Rattle.am_text.specs.Front.{after_front}
 use Rattle.ninep_trace.specs.declared.unread.Unread.{Unread}
 use Rattle.ninep_trace.specs.declared.unread.Unread.TheVariants as unread
 

@@ -1,5 +1,5 @@
 -- Reading a line in words from left to right.
-use Rattle.std.specs.Prelude.{ℕ, ◌^◌, ◌&&◌, nat_le, ◌==◌, List, [], ◌∷◌, length, Option, Some, None, if◌then◌else◌, codes}
+use Rattle.std.specs.Prelude.{ℕ, ◌+◌, ◌^◌, ◌&&◌, nat_le, ◌==◌, List, [], ◌∷◌, length, Option, Some, None, if◌then◌else◌, codes}
 use Rattle.std.specs.Str.{bytes_eq}
 use Rattle.ninep_types.specs.declared.message.TMsg.{TMsg}
 use Rattle.ninep_types.specs.declared.message.TBody.{TBody}
@@ -7,10 +7,13 @@ use Rattle.ninep_types.specs.declared.message.TBody.TheVariants as t
 use Rattle.ninep_types.specs.declared.message.RMsg.{RMsg}
 use Rattle.ninep_types.specs.declared.message.RBody.{RBody}
 use Rattle.ninep_types.specs.declared.message.RBody.TheVariants as r
+use Rattle.ninep_types.specs.Limits.{max_msize}
 use Rattle.ninep_types.specs.Spelling.{size_t, size_r}
 use Rattle.am_journal.specs.declared.event.Event.{Event}
 use Rattle.am_journal.specs.declared.event.Event.TheVariants as event
-use Rattle.am_journal.specs.Line.{after_front, first_field, after_field, event_of}
+use Rattle.am_text.specs.Front.{after_front}
+use Rattle.am_journal.specs.Limits.{connection_count}
+use Rattle.am_journal.specs.Line.{first_field, after_field, event_of}
 use Rattle.ninep_trace.specs.declared.line.Line.{Line}
 use Rattle.ninep_trace.specs.declared.line.Line.TheVariants as line
 use Rattle.ninep_trace.specs.Fields.{◌>>=◌, small_at, number_at, text_at, bytes_in_hex_at, qid_at, qid_field_at, quoted_at, listed_at}
@@ -80,7 +83,7 @@ unfoldable pub t_write_at : List ℕ → Option (TBody × List ℕ)
 t_write_at input = do
   fid ← number_at (codes " fid=") (2 ^ 32) input
   offset ← number_at (codes " offset=") (2 ^ 64) fid.1
-  bytes ← bytes_in_hex_at (codes " data=") 65561 offset.1
+  bytes ← bytes_in_hex_at (codes " data=") (max_msize + 1) offset.1
   Some (t.Write fid.0 offset.0 bytes.0, bytes.1)
 
 unfoldable pub t_clunk_at : List ℕ → Option (TBody × List ℕ)
@@ -126,7 +129,7 @@ t_body_at name bytes = read_by t_readers name bytes
 
 -- all bytes are read, and the message has at most 65,560 bytes
 abbrev pub whole_t : TMsg → List ℕ → Option TMsg
-whole_t m rest = if length rest == 0 && nat_le (size_t m.body) 65560 then Some m else None
+whole_t m rest = if length rest == 0 && nat_le (size_t m.body) max_msize then Some m else None
 
 -- from the name on
 unfoldable pub t_message_at : List ℕ → Option TMsg
@@ -138,7 +141,7 @@ t_message_at bytes = do
 -- from the connection on
 unfoldable pub t_line_at : List ℕ → Option Line
 t_line_at bytes = do
-  conn ← small_at 64 bytes
+  conn ← small_at connection_count bytes
   rest ← after_front (32 ∷ []) conn.1
   m ← t_message_at rest
   Some (line.Event (event.Msg conn.0 m))
@@ -188,7 +191,7 @@ r_create_at input = do
 
 unfoldable pub r_read_at : List ℕ → Option (RBody × List ℕ)
 r_read_at input = do
-  bytes ← bytes_in_hex_at (codes " data=") 65561 input
+  bytes ← bytes_in_hex_at (codes " data=") (max_msize + 1) input
   Some (r.Read bytes.0, bytes.1)
 
 unfoldable pub r_write_at : List ℕ → Option (RBody × List ℕ)
@@ -233,7 +236,7 @@ r_body_at name bytes = read_by r_readers name bytes
 
 -- all bytes are read, and the message has at most 65,560 bytes
 abbrev pub whole_r : RMsg → List ℕ → Option RMsg
-whole_r m rest = if length rest == 0 && nat_le (size_r m.body) 65560 then Some m else None
+whole_r m rest = if length rest == 0 && nat_le (size_r m.body) max_msize then Some m else None
 
 -- from the name on
 unfoldable pub r_message_at : List ℕ → Option RMsg
@@ -245,7 +248,7 @@ r_message_at bytes = do
 -- from the connection on
 unfoldable pub r_line_at : List ℕ → Option Line
 r_line_at bytes = do
-  conn ← small_at 64 bytes
+  conn ← small_at connection_count bytes
   rest ← after_front (32 ∷ []) conn.1
   m ← r_message_at rest
   Some (line.Reply conn.0 m)

@@ -6,10 +6,12 @@ use Rattle.ninep_types.specs.declared.message.TBody.TheVariants as t
 use Rattle.ninep_types.specs.declared.message.RMsg.{RMsg}
 use Rattle.ninep_types.specs.declared.message.RBody.{RBody}
 use Rattle.ninep_types.specs.declared.message.RBody.TheVariants as r
+use Rattle.ninep_types.specs.Limits.{max_msize}
 use Rattle.ninep_types.specs.Spelling.{spelling_r, Fits_r, InRange_r}
 use Rattle.am_journal.specs.declared.event.Event.{Event}
 use Rattle.am_journal.specs.declared.event.Event.TheVariants as event
 use Rattle.am_journal.specs.Lawful.{AreBytes, IsLawful, IsInRange}
+use Rattle.am_journal.specs.Limits.{connection_count}
 use Rattle.am_journal.specs.Line.{line_text}
 use Rattle.am_journal.specs.Parts.{around}
 use Rattle.ninep_trace.specs.declared.line.Line.{Line}
@@ -118,9 +120,9 @@ line_words (line.Reply c m) = words_r c m
 
 -- a message to a connection that has words: one of 64 connections, and a spelling of at most 65,560 bytes
 pub record IsReply (c : ℕ) (m : RMsg) : Type 0 where
-  pub conn : c < 64
+  pub conn : c < connection_count
   pub fits : Fits_r m
-  pub short : length (spelling_r m) ≤ 65560
+  pub short : length (spelling_r m) ≤ max_msize
 
 -- each number of it fits its field, as each of a value of the program does
 pub record IsReplyInRange (m : RMsg) : Type 0 where

@@ -1,34 +1,23 @@
 //! The kinds of fields, each taken from the front of the bytes.
 
-ghost use Rattle.std.specs.Prelude.{◌≡◌, ◌==◌, ◌<◌, ◌≤◌, ◌+◌, ◌^◌, ◌++◌, ◌∷◌, [], ℕ, List, false, length, slice_index, IfOk, IfSome, IfNone, None, option_copied};
+ghost use Rattle.std.specs.Prelude.{◌≡◌, ◌==◌, ◌<◌, ◌≤◌, ◌+◌, ◌^◌, ◌++◌, ◌∷◌, [], ℕ, List, false, length, slice_index, IfOk, IfSome, IfNone, None};
 ghost use Rattle.std.specs.List.{list_any};
-ghost use Rattle.am_journal.specs.Line.{after_front, first_field, after_field};
+ghost use Rattle.am_text.specs.Front.{after_front};
+ghost use Rattle.am_journal.specs.Line.{first_field, after_field};
 ghost use Rattle.ninep_types.specs.Fields.{is_text};
 ghost use Rattle.ninep_trace.specs.Fields.{Gives, digits, after_digits, value_at, small_at, number_at, unquoted_after, is_string, quoted_at, text_at, bytes_in_hex_at, qid_at, qid_field_at, several_at, listed_at};
 
 use crate::hexadecimal::bytes_of_hex;
 use crate::unread::Unread;
-use am_text::{Bytes, Items, Names, is_utf8, read_decimal};
+use am_text::{Bytes, Items, Names, after_front, is_utf8, read_decimal};
 use ninep_types::{Qid, Qids};
 use std::alloc::Global;
 
-/// The bytes after a front, if they begin so.
-pub(crate) fn after_front<'a>(front: &[u8], bytes: &'a [u8]) -> Option<&'a [u8]>
-    ensures { option_copied result ≡ after_front front.now bytes.now }
-{
-    let mut left = front;
-    let mut rest = bytes;
-    while let [f, fs @ ..] = left {
-        match rest {
-            [b, bs @ ..] if *b == *f => {
-                left = fs;
-                rest = bs;
-            }
-            _ => return None,
-        }
-    }
-    Some(rest)
-}
+/// What the length of a string or a stat is below: it has two bytes.
+pub(crate) const SHORT: usize = 1 << 16;
+
+/// The most members of a list.
+const MOST_MEMBERS: u64 = 16;
 
 /// The bytes after a front, which has to be there.
 pub(crate) fn take_front<'a>(front: &[u8], bytes: &'a [u8]) -> Result<&'a [u8], Unread>
@@ -183,7 +172,7 @@ fn has_nul(bytes: &[u8]) -> bool
 fn is_string(bytes: &[u8]) -> bool
     ensures { result ≡ is_string bytes.now }
 {
-    is_utf8(bytes) && !has_nul(bytes) && bytes.len() < 65536
+    is_utf8(bytes) && !has_nul(bytes) && bytes.len() < SHORT
 }
 
 /// A string in quotes: UTF-8 without NUL, of fewer than 65,536 bytes.
@@ -256,7 +245,7 @@ pub(crate) fn take_qid<'a>(front: &[u8], bytes: &'a [u8]) -> Result<(Qid, &'a [u
 fn take_count<'a>(front: &[u8], bytes: &'a [u8]) -> Result<(u8, &'a [u8]), Unread>
     ensures { Gives (λ x. (x.0, x.1.now)) result (number_at front.now 17 bytes.now) }
 {
-    let (n, rest) = take_small(16, take_front(front, bytes)?)?;
+    let (n, rest) = take_small(MOST_MEMBERS, take_front(front, bytes)?)?;
     Ok((n as u8, rest))
 }
 

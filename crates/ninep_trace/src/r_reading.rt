@@ -5,13 +5,12 @@ ghost use Rattle.ninep_types.specs.Spelling.{size_r};
 ghost use Rattle.ninep_trace.specs.Fields.{Gives};
 ghost use Rattle.ninep_trace.specs.Reading.{r_version_at, r_auth_at, r_error_at, r_attach_at, r_walk_at, r_open_at, r_create_at, r_read_at, r_write_at, r_stat_at, r_body_at, r_message_at};
 
-use crate::fields::{cut_name, take_bytes, take_qid, take_qids, take_text, take_u16, take_u32};
+use crate::fields::{
+    SHORT, cut_name, take_bytes, take_qid, take_qids, take_text, take_u16, take_u32,
+};
 use crate::unread::Unread;
-use ninep_types::{RBody, RMsg};
+use ninep_types::{MAX_MSIZE, RBody, RMsg};
 use std::alloc::Global;
-
-/// The most bytes that a message of a line has.
-const MAX_MESSAGE: usize = 65560;
 
 #[tactic(auto, unfolding(crate::specs::Reading::r_version_at))]
 fn take_r_version(alloc: Global, rest: &[u8]) -> Result<(RBody, &[u8]), Unread>
@@ -76,7 +75,7 @@ fn take_r_create(rest: &[u8]) -> Result<(RBody, &[u8]), Unread>
 fn take_r_read(alloc: Global, rest: &[u8]) -> Result<(RBody, &[u8]), Unread>
     ensures { Gives (λ x. (x.0, x.1.now)) result (r_read_at rest.now) }
 {
-    let (bytes, rest) = take_bytes(alloc, b" data=", MAX_MESSAGE + 1, rest)?;
+    let (bytes, rest) = take_bytes(alloc, b" data=", MAX_MSIZE as usize + 1, rest)?;
     Ok((RBody::Read { bytes }, rest))
 }
 
@@ -92,7 +91,7 @@ fn take_r_write(rest: &[u8]) -> Result<(RBody, &[u8]), Unread>
 fn take_r_stat(alloc: Global, rest: &[u8]) -> Result<(RBody, &[u8]), Unread>
     ensures { Gives (λ x. (x.0, x.1.now)) result (r_stat_at rest.now) }
 {
-    let (stat, rest) = take_bytes(alloc, b" stat=", 65536, rest)?;
+    let (stat, rest) = take_bytes(alloc, b" stat=", SHORT, rest)?;
     Ok((RBody::Stat { stat }, rest))
 }
 
@@ -164,7 +163,7 @@ pub(crate) fn take_r_message(alloc: Global, words: &[u8]) -> Result<RMsg, Unread
     let (name, rest) = cut_name(words);
     let (tag, rest) = take_u16(b"tag=", rest)?;
     let (body, rest) = take_r_body(alloc, name, rest)?;
-    if !rest.is_empty() || r_body_size(&body) > MAX_MESSAGE {
+    if !rest.is_empty() || r_body_size(&body) > MAX_MSIZE as usize {
         return Err(Unread::NotWords);
     }
     Ok(RMsg { tag, body })

@@ -1,6 +1,7 @@
 //! Messages from the server, in words.
 
 ghost use Rattle.std.specs.Prelude.{◌≡◌, ◌<◌, ◌≤◌, ◌++◌, length, OnOk, IfOk, Some};
+ghost use Rattle.ninep_types.specs.Limits.{max_msize};
 ghost use Rattle.ninep_types.specs.Spelling.{spelling_r, Fits_r};
 ghost use Rattle.ninep_trace.specs.Words.{name_r, fields_r, words_r};
 ghost use Rattle.ninep_trace.specs.Reading.{line_of};
@@ -131,7 +132,7 @@ fn r_name(body: &RBody) -> &'static [u8]
 #[tactic(auto, using(crate::proofs::Joins::joins), unfolding(crate::specs::Words::words_r))]
 pub fn words_r(alloc: Global, conn: u32, msg: &RMsg) -> Result<Bytes, NoMemory>
     requires fits { Fits_r msg.now }
-    requires short { length (spelling_r msg.now) ≤ 65560 }
+    requires short { length (spelling_r msg.now) ≤ max_msize }
     requires conn { conn < 64 }
     ensures exact { IfOk result (λ line. line ≡ words_r conn msg.now) }
 {

@@ -6,20 +6,20 @@ ghost use Rattle.ninep_trace.specs.Fields.{Gives};
 ghost use Rattle.ninep_trace.specs.Words.{line_words, IsWorded};
 ghost use Rattle.ninep_trace.specs.Reading.{t_line_at, r_line_at, line_of};
 
-use crate::fields::{after_front, take_front, take_small};
+use crate::fields::{take_front, take_small};
 use crate::line::Line;
 use crate::r_reading::take_r_message;
 use crate::t_reading::take_t_message;
 use crate::unread::Unread;
-use am_journal::{Event, read_line};
-use am_text::NoMemory;
+use am_journal::{CONNECTIONS, Event, read_line};
+use am_text::{NoMemory, after_front};
 use std::alloc::Global;
 
 #[tactic(auto, unfolding(crate::specs::Reading::t_line_at))]
 fn take_t_line(alloc: Global, rest: &[u8]) -> Result<Line, Unread>
     ensures { Gives (λ l. l) result (t_line_at rest.now) }
 {
-    let (conn, rest) = take_small(63, rest)?;
+    let (conn, rest) = take_small(CONNECTIONS as u64 - 1, rest)?;
     let msg = take_t_message(alloc, take_front(b" ", rest)?)?;
     let conn = conn as u32;
     Ok(Line::Event(Event::Msg { conn, msg }))
@@ -29,7 +29,7 @@ fn take_t_line(alloc: Global, rest: &[u8]) -> Result<Line, Unread>
 fn take_r_line(alloc: Global, rest: &[u8]) -> Result<Line, Unread>
     ensures { Gives (λ l. l) result (r_line_at rest.now) }
 {
-    let (conn, rest) = take_small(63, rest)?;
+    let (conn, rest) = take_small(CONNECTIONS as u64 - 1, rest)?;
     let msg = take_r_message(alloc, take_front(b" ", rest)?)?;
     Ok(Line::Reply(conn as u32, msg))
 }

@@ -5,15 +5,12 @@ ghost use Rattle.ninep_trace.specs.Fields.{Gives};
 ghost use Rattle.ninep_trace.specs.Reading.{t_version_at, t_auth_at, t_flush_at, t_attach_at, t_walk_at, t_open_at, t_create_at, t_read_at, t_write_at, t_clunk_at, t_remove_at, t_stat_at, t_wstat_at, t_body_at, t_message_at};
 
 use crate::fields::{
-    cut_name, take_bytes, take_names, take_text, take_u8, take_u16, take_u32, take_u64,
+    SHORT, cut_name, take_bytes, take_names, take_text, take_u8, take_u16, take_u32, take_u64,
 };
 use crate::unread::Unread;
-use ninep_types::{TBody, TMsg};
+use ninep_types::{MAX_MSIZE, TBody, TMsg};
 use ninep_wire::t_size;
 use std::alloc::Global;
-
-/// The most bytes that a message of a line has.
-const MAX_MESSAGE: usize = 65560;
 
 #[tactic(auto, unfolding(crate::specs::Reading::t_version_at))]
 fn take_t_version(alloc: Global, rest: &[u8]) -> Result<(TBody, &[u8]), Unread>
@@ -115,7 +112,7 @@ fn take_t_write(alloc: Global, rest: &[u8]) -> Result<(TBody, &[u8]), Unread>
 {
     let (fid, rest) = take_u32(b" fid=", rest)?;
     let (offset, rest) = take_u64(b" offset=", rest)?;
-    let (bytes, rest) = take_bytes(alloc, b" data=", MAX_MESSAGE + 1, rest)?;
+    let (bytes, rest) = take_bytes(alloc, b" data=", MAX_MSIZE as usize + 1, rest)?;
     Ok((TBody::Write { fid, offset, bytes }, rest))
 }
 
@@ -148,7 +145,7 @@ fn take_t_wstat(alloc: Global, rest: &[u8]) -> Result<(TBody, &[u8]), Unread>
     ensures { Gives (λ x. (x.0, x.1.now)) result (t_wstat_at rest.now) }
 {
     let (fid, rest) = take_u32(b" fid=", rest)?;
-    let (stat, rest) = take_bytes(alloc, b" stat=", 65536, rest)?;
+    let (stat, rest) = take_bytes(alloc, b" stat=", SHORT, rest)?;
     Ok((TBody::Wstat { fid, stat }, rest))
 }
 
@@ -196,7 +193,7 @@ pub(crate) fn take_t_message(alloc: Global, words: &[u8]) -> Result<TMsg, Unread
     let (tag, rest) = take_u16(b"tag=", rest)?;
     let (body, rest) = take_t_body(alloc, name, rest)?;
     let msg = TMsg { tag, body };
-    if !rest.is_empty() || t_size(&msg) > MAX_MESSAGE {
+    if !rest.is_empty() || t_size(&msg) > MAX_MSIZE as usize {
         return Err(Unread::NotWords);
     }
     Ok(msg)

@@ -1,6 +1,7 @@
 //! Messages to the server, in words.
 
 ghost use Rattle.std.specs.Prelude.{◌≡◌, ◌<◌, ◌≤◌, ◌++◌, length, OnOk, IfOk, Some};
+ghost use Rattle.ninep_types.specs.Limits.{max_msize};
 ghost use Rattle.ninep_types.specs.Spelling.{spelling_t, Fits_t};
 ghost use Rattle.ninep_trace.specs.Words.{name_t, fields_t, words_t};
 ghost use Rattle.ninep_trace.specs.Reading.{line_of};
@@ -230,7 +231,7 @@ fn t_name(body: &TBody) -> &'static [u8]
 #[tactic(auto, using(crate::proofs::Joins::joins), unfolding(crate::specs::Words::words_t))]
 pub fn words_t(alloc: Global, conn: u32, msg: &TMsg) -> Result<Bytes, NoMemory>
     requires fits { Fits_t msg.now }
-    requires short { length (spelling_t msg.now) ≤ 65560 }
+    requires short { length (spelling_t msg.now) ≤ max_msize }
     requires conn { conn < 64 }
     ensures exact { IfOk result (λ line. line ≡ words_t conn msg.now) }
 {

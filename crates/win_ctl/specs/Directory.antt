@@ -1,5 +1,5 @@
--- Directories of names.
-use Rattle.std.specs.Prelude.{ℕ, ◌+◌, ◌==◌, List, [], ◌∷◌, take, if◌then◌else◌}
+-- Directories of names, and the names of errors windows.
+use Rattle.std.specs.Prelude.{ℕ, ◌+◌, ◌==◌, List, [], ◌∷◌, ◌++◌, codes, take, if◌then◌else◌}
 
 -- one rune more in front: it counts where it is `/` or stands before one
 abbrev pub widened : ℕ → ℕ → ℕ
@@ -13,3 +13,7 @@ dir_width (c ∷ cs) = widened c (dir_width cs)
 -- the name up to and with its last `/`, or `/` where it has none
 unfoldable pub directory : List ℕ → List ℕ
 directory name = if dir_width name == 0 then 47 ∷ [] else take (dir_width name) name
+
+-- the name of the errors window of a directory (acme(1))
+unfoldable pub errors_name : List ℕ → List ℕ
+errors_name dir = dir ++ codes "+Errors"

@@ -1,3 +1,4 @@
+pub mod Limits
 pub mod Messages
 pub mod Tags
 pub mod Columns

@@ -3,6 +3,7 @@ use Rattle.std.specs.Prelude.{◌≡◌, ◌≢◌, ℕ, Bool, ◌==◌, ◌||�
 use Rattle.std.specs.Str.{bytes_eq}
 use Rattle.std.specs.List.{starts_with, list_any}
 use Rattle.am_text.specs.Utf8.{decode}
+use Rattle.am_text.specs.Front.{after_front}
 use Rattle.win_ctl.specs.declared.message.CtlMsg.{CtlMsg}
 use Rattle.win_ctl.specs.declared.message.CtlMsg.TheVariants as msg
 use Rattle.win_ctl.specs.declared.message.CtlFault.{CtlFault}
@@ -11,9 +12,9 @@ use Rattle.win_ctl.specs.declared.message.CtlFault.TheVariants as fault
 -- ---- whole words
 
 -- the message beside these bytes in a table
-abbrev pub looked_up : List (List ℕ × CtlMsg) → List ℕ → Option CtlMsg
-looked_up [] line = None
-looked_up (r ∷ rs) line = if bytes_eq line r.0 then Some r.1 else looked_up rs line
+abbrev pub message_beside : List (List ℕ × CtlMsg) → List ℕ → Option CtlMsg
+message_beside [] line = None
+message_beside (r ∷ rs) line = if bytes_eq line r.0 then Some r.1 else message_beside rs line
 
 abbrev pub range_messages : List (List ℕ × CtlMsg)
 range_messages =
@@ -45,13 +46,7 @@ is_dump line = starts_with nat_eq line (codes "dump ") || starts_with nat_eq lin
 unfoldable pub plain_msg : List ℕ → Option CtlMsg
 plain_msg line = if is_dump line
     then Some msg.Idle
-    else or_else (looked_up range_messages line) (or_else (looked_up window_messages line) (looked_up idle_messages line))
-
--- what follows a front, if the bytes begin with it
-abbrev pub after_front : List ℕ → List ℕ → Option (List ℕ)
-after_front [] bs = Some bs
-after_front (f ∷ fs) [] = None
-after_front (f ∷ fs) (b ∷ bs) = if b == f then after_front fs bs else None
+    else or_else (message_beside range_messages line) (or_else (message_beside window_messages line) (message_beside idle_messages line))
 
 -- a rune is at most U+0020
 abbrev pub has_blank : List ℕ → Bool
@@ -66,13 +61,13 @@ name_msg name = if is_bad_name name then Err fault.BadName else Ok (msg.Name nam
 
 -- ---- all lines
 
-abbrev pub known : Option CtlMsg → Result CtlMsg CtlFault
-known None = Err fault.Unknown
-known (Some m) = Ok m
+abbrev pub or_unknown : Option CtlMsg → Result CtlMsg CtlFault
+or_unknown None = Err fault.Unknown
+or_unknown (Some m) = Ok m
 
 -- where the line begins with `name` and a blank, what follows gives the name
 abbrev pub ctl_at : Option (List ℕ) → List ℕ → Result CtlMsg CtlFault
-ctl_at None line = known (plain_msg line)
+ctl_at None line = or_unknown (plain_msg line)
 ctl_at (Some name) line = name_msg (decode name)
 
 -- the message of a line, or why it is none

@@ -2,14 +2,15 @@
 #![tactic(auto)]
 
 mod columns;
-mod fronts;
+mod limits;
 mod message;
 mod parsing;
 mod paths;
 mod tags;
 
 pub use columns::{ctl_text, index_line};
+pub use limits::TAG_RUNES;
 pub use message::{CtlFault, CtlMsg};
 pub use parsing::parse_ctl;
-pub use paths::directory;
+pub use paths::{ERRORS, SLASH, directory, errors_name};
 pub use tags::{Shown, Tag, tag_text};

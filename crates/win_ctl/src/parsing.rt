@@ -2,15 +2,17 @@
 
 ghost use Rattle.std.specs.Prelude.{◌≡◌, IfOk, IfErr, Ok};
 ghost use Rattle.am_text.specs.Utf8.{decode};
-ghost use Rattle.win_ctl.specs.Messages.{looked_up, range_messages, window_messages, idle_messages, is_dump, plain_msg, has_blank, is_bad_name, name_msg, ctl_of, Refuses};
+ghost use Rattle.win_ctl.specs.Messages.{message_beside, range_messages, window_messages, idle_messages, is_dump, plain_msg, has_blank, is_bad_name, name_msg, ctl_of, Refuses};
 
-use crate::fronts::after_front;
 use crate::message::{CtlFault, CtlMsg};
-use am_text::{Rune, decode_whole};
+use am_text::{Rune, after_front, decode_whole};
 use std::alloc::Global;
 
+/// A space, the last of the runes that no name has.
+const SPACE: Rune = 0x20;
+
 fn range_msg(line: &[u8]) -> Option<CtlMsg>
-    ensures { result ≡ looked_up range_messages line.now }
+    ensures { result ≡ message_beside range_messages line.now }
 {
     if line == b"addr=dot".as_slice() {
         Some(CtlMsg::AddrDot)
@@ -28,7 +30,7 @@ fn range_msg(line: &[u8]) -> Option<CtlMsg>
 }
 
 fn window_msg(line: &[u8]) -> Option<CtlMsg>
-    ensures { result ≡ looked_up window_messages line.now }
+    ensures { result ≡ message_beside window_messages line.now }
 {
     if line == b"clean".as_slice() {
         Some(CtlMsg::Clean)
@@ -50,7 +52,7 @@ fn window_msg(line: &[u8]) -> Option<CtlMsg>
 }
 
 fn idle_msg(line: &[u8]) -> Option<CtlMsg>
-    ensures { result ≡ looked_up idle_messages line.now }
+    ensures { result ≡ message_beside idle_messages line.now }
 {
     if line == b"dump".as_slice() {
         Some(CtlMsg::Idle)
@@ -95,7 +97,7 @@ fn plain_msg(line: &[u8]) -> Option<CtlMsg>
 fn has_blank(name: &[Rune]) -> bool
     ensures { result ≡ has_blank name.now }
 {
-    name.iter().any(|rune| *rune <= 0x20)
+    name.iter().any(|rune| *rune <= SPACE)
 }
 
 fn is_bad_name(name: &[Rune]) -> bool

@@ -1,13 +1,16 @@
-//! Directories of names.
+//! Directories of names, and the names of errors windows.
 
 ghost use Rattle.std.specs.Prelude.{◌≡◌, ◌≤◌, length, IfOk};
-ghost use Rattle.win_ctl.specs.Directory.{dir_width, directory};
+ghost use Rattle.win_ctl.specs.Directory.{dir_width, directory, errors_name};
 
 use am_text::{NoMemory, Rune, Runes};
 use std::alloc::Global;
 
 /// The rune `/`.
-const SLASH: Rune = 47;
+pub const SLASH: Rune = 0x2F;
+
+/// The end of the name of an errors window: `+Errors`.
+pub const ERRORS: [Rune; 7] = [43, 69, 114, 114, 111, 114, 115];
 
 // How many runes a name has up to and with its last `/`.
 fn dir_width(name: &[Rune]) -> usize
@@ -36,4 +39,14 @@ pub fn directory(alloc: Global, name: &[Rune]) -> Result<Runes, NoMemory>
     }
     let (dir, _) = name.split_at(width);
     Runes::copied(alloc, dir)
+}
+
+/// The name of the window that takes what is said about a directory's windows (acme(1)).
+#[tactic(auto, unfolding(crate::specs::Directory::errors_name))]
+pub fn errors_name(alloc: Global, dir: &[Rune]) -> Result<Runes, NoMemory>
+    ensures { IfOk result (λ name. name ≡ errors_name dir.now) }
+{
+    let mut name = Runes::copied(alloc, dir)?;
+    name.append(&ERRORS)?;
+    Ok(name)
 }

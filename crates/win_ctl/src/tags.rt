@@ -1,9 +1,9 @@
 //! Tags of windows.
 
-ghost use Rattle.std.specs.Prelude.{◌≡◌, ◌++◌, IfOk, OnOk};
+ghost use Rattle.std.specs.Prelude.{◌≡◌, IfOk};
 ghost use Rattle.win_ctl.specs.Tags.{word_if, shows_put, tag_text};
 
-use am_text::{NoMemory, Runes};
+use am_text::{NoMemory, Runes, put_words};
 use std::alloc::Global;
 
 /// What a user may change of a tag: the window's name, and the part after the bar.
@@ -21,17 +21,6 @@ pub struct Shown {
     pub redo: bool,
     pub modified: bool,
     pub dir: bool,
-}
-
-// A text in ASCII at the end.
-#[tactic(auto, using(crate::proofs::CtlLemmas::words))]
-fn put_words(text: &mut Runes, words: &[u8]) -> Result<(), NoMemory>
-    ensures { OnOk result (text.new ≡ text.old ++ words.now) }
-{
-    for byte in words {
-        text.push(u32::from(*byte))?;
-    }
-    Ok(())
 }
 
 fn word_if(shown: bool, word: &'static [u8]) -> &'static [u8]

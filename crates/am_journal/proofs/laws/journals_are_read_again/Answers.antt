@@ -1,5 +1,5 @@
 use Rattle.am_journal.proofs.JournalLaws.{reads_journal}
-use Rattle.am_journal.proofs.journal.journal_law.Goals as goal
+use Rattle.am_journal.proofs.laws.journals_are_read_again.Goals as goal
 
 pub returns : goal.returns
 returns c = reads_journal
