@@ -23,8 +23,8 @@ is_live world ports (Port k) = nat_lt k (length ports)
 is_live world ports node = true
 
 -- No window can be made: 4,096 are live, or the next number is the one that is never given.
-abbrev pub is_full : World → Bool
-is_full world = nat_le 4096 (length world.windows) || (world.next == 4294967295)
+abbrev pub world_is_full : World → Bool
+world_is_full world = nat_le 4096 (length world.windows) || (world.next == 4294967295)
 
 -- ---- qids and modes
 

@@ -7,7 +7,7 @@ use Rattle.acme_tree.specs.declared.node.WinFile.{WinFile}
 use Rattle.acme_tree.specs.declared.node.World.{World}
 use Rattle.acme_tree.specs.declared.walk.Step.{Step}
 use Rattle.acme_tree.specs.declared.walk.Step.TheVariants.{Found, Make, NotFound, NotDir, Deleted, Windows}
-use Rattle.acme_tree.specs.Trees.{is_dir, is_live, is_full, name_of, file_name, files, entries}
+use Rattle.acme_tree.specs.Trees.{is_dir, is_live, world_is_full, name_of, file_name, files, entries}
 
 -- the first of these nodes that has this name
 abbrev pub named_in : List (List ℕ) → List Node → List ℕ → Option Node
@@ -27,7 +27,7 @@ to_entry (Some node) = Found node
 -- In `new` a window's file is found as the last name of its walk, and a window is made for it.
 abbrev pub to_new : World → Bool → Option WinFile → Step
 to_new world last None = NotFound
-to_new world last (Some file) = if last then (if is_full world then Windows else Make file) else NotFound
+to_new world last (Some file) = if last then (if world_is_full world then Windows else Make file) else NotFound
 
 -- the directory above a directory; a root is its own
 abbrev pub above : Node → Node

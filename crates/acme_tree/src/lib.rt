@@ -15,5 +15,5 @@ pub use am_text::{Bytes, Ids, Items, NoMemory};
 pub use listing::{children, qid_of, stat_of};
 pub use ninep_frame::{Stat, Stats};
 pub use ninep_types::Qid;
-pub use node::{Node, WinFile, World, is_dir, is_full, is_live};
+pub use node::{Node, WinFile, World, is_dir, is_live, world_is_full};
 pub use walk::{Step, walk_one};

@@ -1,7 +1,7 @@
 //! The nodes of the trees.
 
 ghost use Rattle.std.specs.Prelude.{◌≡◌};
-ghost use Rattle.acme_tree.specs.Trees.{is_dir, is_full, is_live, is_window};
+ghost use Rattle.acme_tree.specs.Trees.{is_dir, world_is_full, is_live, is_window};
 
 use am_text::{Bytes, Ids};
 
@@ -84,8 +84,8 @@ pub fn is_live(world: &World, ports: &[Bytes], node: Node) -> bool
 }
 
 /// Whether no window can be made: 4,096 are live, or the next number is the one that is never given.
-pub fn is_full(world: &World) -> bool
-    ensures { result ≡ is_full world.now }
+pub fn world_is_full(world: &World) -> bool
+    ensures { result ≡ world_is_full world.now }
 {
     WINDOWS <= world.windows.len() || world.next == NEVER_GIVEN
 }

@@ -8,7 +8,7 @@ ghost use Rattle.acme_tree.specs.Trees.{plumber_entries, root_entries};
 ghost use Rattle.acme_tree.specs.Walks.{above, below, entry_named, file_named, named_in, to_entry, to_new, walk_one};
 
 use crate::entries::numbered_ports;
-use crate::node::{Node, WinFile, World, is_dir, is_full, is_live};
+use crate::node::{Node, WinFile, World, is_dir, is_live, world_is_full};
 use am_text::{Bytes, read_decimal};
 
 /// Where one name of a walk leads.
@@ -152,7 +152,7 @@ fn to_new(world: &World, last: bool, found: Option<WinFile>) -> Step
 {
     match found {
         Some(file) if last => {
-            if is_full(world) {
+            if world_is_full(world) {
                 Step::Windows
             } else {
                 Step::Make(file)

@@ -16,14 +16,12 @@ use crate::replay::{End, Ended, end_at, end_text, journal_of, no_events};
 use crate::script::{Did, Fault, Played, Stop, do_line, fault_word, put};
 use acme_core::Core;
 use am_base::{INPUT_LIMIT, ReadStop, Sink, Source, read_to_end};
-use am_journal::refused_line;
+use am_journal::{CONNECTIONS, refused_line};
 use am_text::{Bytes, Items, NoMemory, split_line};
 use ninep_trace::{words_of, words_r};
+use ninep_types::MAX_MSIZE;
 use ninep_wire::read_r;
 use std::alloc::Global;
-
-/// The most bytes that a message in words has.
-const MAX_MESSAGE: usize = 65560;
 
 // The line in words of the last event, with its newline.
 fn last_event(alloc: Global, core: &Core) -> Result<Bytes, NoMemory>
@@ -44,7 +42,7 @@ fn reply_words(alloc: Global, conn: u32, bytes: &[u8]) -> Result<Bytes, NoMemory
     ensures line { IfOk result (λ line. line ≡ message_line conn (r_of bytes.now)) }
     ensures worded { IfOk result (λ line. HasWords (record { conn = conn; bytes = bytes.now })) }
 {
-    if conn >= 64 || bytes.len() > MAX_MESSAGE {
+    if conn >= CONNECTIONS as u32 || bytes.len() > MAX_MSIZE as usize {
         return Err(NoMemory);
     }
     match read_r(alloc, bytes) {

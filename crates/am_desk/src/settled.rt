@@ -16,11 +16,9 @@ ghost use Rattle.am_desk.specs.Replies.{told_by};
 
 use acme_core::{Ask, Bytes, Core, Event, Items, NoMemory, Refused};
 use am_counter::{Taken, Told};
+use am_journal::CONNECTIONS;
 use std::alloc::Global;
 use turn_lock::Kept;
-
-/// How many connections there are.
-const CONNECTIONS: u32 = 64;
 
 /// A core without a plan that waits, with fewer than 2^64 entries, each number of which fits its field. It stands in a box: each turn
 /// moves it out of the lock and back.
@@ -172,7 +170,7 @@ impl Settled {
             × (answer_at (journal_of self.old) (ask.Ended conn) ≡ true) × (output_at (journal_of self.old) conn ≡ []) }
         ensures err { OnErr result ((journal_of self.new ≡ journal_of self.old) × (into.new ≡ into.old)) }
     {
-        if conn >= CONNECTIONS {
+        if conn >= CONNECTIONS as u32 {
             self.core.events_were_enabled();
             return Ok(Taken::NothingYet);
         }

@@ -29,10 +29,10 @@ use Rattle.core_events.specs.Serving.{served_most, book_served_most}
 use Rattle.core_windows.specs.Stories.{WindowStory, named_story, shown_windows}
 use Rattle.core_windows.specs.Windows.{world_of}
 use Rattle.core_fids.specs.Fids.{fresh}
-use Rattle.core_fids.specs.declared.walking.Trail.{Trail}
+use Rattle.core_fids.specs.declared.walking.Course.{Course}
 use Rattle.core_fids.specs.declared.walking.WalkEnd.TheVariants as end
 use Rattle.core_fids.specs.Refusals.{reaction_or_refusal}
-use Rattle.core_fids.specs.Walking.{trail, onwards, then_qid, arrives}
+use Rattle.core_fids.specs.Walking.{course, onwards, then_qid, arrives}
 use Rattle.win_events.specs.declared.item.Origin.TheVariants.{F}
 use Rattle.core_tasks.specs.Tasks.{task_deeds, task_refusal, task_held}
 use Rattle.core_intents.specs.Doings.{message_doing}
@@ -119,7 +119,7 @@ walked_fids = (0, fresh Root) ∷ (1, fresh (File 1 file.Body)) ∷ []
 
 pub walk_body_step : (b : Begun) → step (begun (Some 8192) root_fids [] empty_book b) walk_body
     ≡ begun (Some 8192) walked_fids (Some new_story ∷ []) empty_book (told b 2 (r.Walk (qid_of NewDir ∷ qid_of (File 1 file.Body) ∷ [])))
-unfolding step served_most book_served_most port_served_most after_serving_most trail walk_one entry_named file_named entries task_deeds task_refusal task_held
+unfolding step served_most book_served_most port_served_most after_serving_most course walk_one entry_named file_named entries task_deeds task_refusal task_held
 walk_body_step b = refl
 
 abbrev pub opened_fids : List (ℕ × Fid)
@@ -143,15 +143,15 @@ named_one : entry_named world_one ports_one Root (codes "1") ≡ Some (Window 1)
 unfolding entry_named entries
 named_one = ap (λ (name : List ℕ). if bytes_eq (codes "1") name then Some (Window 1) else None) (decimal_digit 1 (omega arith))
 
-event_trail : trail world_one ports_one (Window 1) (codes "event" ∷ []) ≡ record { qids = qid_of (File 1 file.Event) ∷ []; end = end.At (File 1 file.Event) }
-unfolding trail walk_one entry_named entries
-event_trail = refl
+event_course : course world_one ports_one (Window 1) (codes "event" ∷ []) ≡ record { qids = qid_of (File 1 file.Event) ∷ []; end = end.At (File 1 file.Event) }
+unfolding course walk_one entry_named entries
+event_course = refl
 
-trail_one : trail world_one ports_one Root (codes "1" ∷ codes "event" ∷ []) ≡ record { qids = qid_of (Window 1) ∷ qid_of (File 1 file.Event) ∷ []; end = end.At (File 1 file.Event) }
-unfolding trail walk_one
-trail_one =
-    ap (λ (found : Option Node). onwards world_one (to_entry found) (λ m. trail world_one ports_one m (codes "event" ∷ []))) named_one
-    ∙ ap (λ (rest : Trail). then_qid (qid_of (Window 1)) rest) event_trail
+course_one : course world_one ports_one Root (codes "1" ∷ codes "event" ∷ []) ≡ record { qids = qid_of (Window 1) ∷ qid_of (File 1 file.Event) ∷ []; end = end.At (File 1 file.Event) }
+unfolding course walk_one
+course_one =
+    ap (λ (found : Option Node). onwards world_one (to_entry found) (λ m. course world_one ports_one m (codes "event" ∷ []))) named_one
+    ∙ ap (λ (rest : Course). then_qid (qid_of (Window 1)) rest) event_course
 
 pub walk_event_step : (b : Begun) → step (begun (Some 8192) opened_fids (Some new_story ∷ []) empty_book b) walk_event
     ≡ begun (Some 8192) ((0, fresh Root) ∷ (1, body_fid) ∷ (2, fresh (File 1 file.Event)) ∷ []) (Some new_story ∷ []) empty_book
@@ -159,7 +159,7 @@ pub walk_event_step : (b : Begun) → step (begun (Some 8192) opened_fids (Some 
 unfolding step served_most book_served_most port_served_most after_serving_most task_deeds task_refusal task_held
 walk_event_step b =
     let s : State = begun (Some 8192) opened_fids (Some new_story ∷ []) empty_book b in
-    ap (λ (rest : Trail). after_story s (present s) walk_event (message_doing (present s) (reaction_or_refusal (arrives 2 world_one rest)) F)) trail_one
+    ap (λ (rest : Course). after_story s (present s) walk_event (message_doing (present s) (reaction_or_refusal (arrives 2 world_one rest)) F)) course_one
 
 -- ---- and so the rounds begin
 

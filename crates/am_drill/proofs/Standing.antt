@@ -5,7 +5,7 @@ use Rattle.fid_table.specs.declared.session.Waiting.{Waiting}
 use Rattle.fid_table.specs.Tables.{Tables}
 use Rattle.acme_tree.specs.declared.node.Node.TheVariants.{Root, File}
 use Rattle.acme_tree.specs.declared.node.WinFile.TheVariants as file
-use Rattle.core_fids.specs.Fids.{fresh, opened}
+use Rattle.core_fids.specs.Fids.{fresh, opened_fid}
 use Rattle.core_scene.specs.Scenes.{no_scene}
 use Rattle.core_windows.specs.Stories.{WindowStory}
 use Rattle.event_book.specs.declared.lives.Recorded.{Recorded}
@@ -20,10 +20,10 @@ use Rattle.core_outputs.specs.Unsent.{Unsent, nothing_unsent}
 -- ---- what stands fixed: fid 0 is the root, fid 1 the body of window 1, fid 2 its event file
 
 abbrev pub body_fid : Fid
-body_fid = opened (fresh (File 1 file.Body)) 2 None
+body_fid = opened_fid (fresh (File 1 file.Body)) 2 None
 
 abbrev pub event_fid : Fid
-event_fid = opened (fresh (File 1 file.Event)) 0 (Some 1)
+event_fid = opened_fid (fresh (File 1 file.Event)) 0 (Some 1)
 
 abbrev pub fids : List (ℕ × Fid)
 fids = (0, fresh Root) ∷ (1, body_fid) ∷ (2, event_fid) ∷ []

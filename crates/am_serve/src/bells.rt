@@ -3,14 +3,12 @@
 ghost use Rattle.std.specs.Prelude.{◌≡◌, ◌≢◌, ◌<◌, IfOk, length};
 
 use am_counter::Told;
+use am_journal::CONNECTIONS;
 use am_text::NoMemory;
 use std::alloc::Global;
 use std::sync::Wait;
 use std::sync::atomic::{AtomicBool, Ordering};
 use turn_lock::Bell;
-
-/// How many connections there are at most.
-const CONNECTIONS: usize = 64;
 
 /// The bells of one connection.
 #[derive(Drop)]

@@ -10,7 +10,7 @@ use Rattle.core_scene.specs.declared.deed.Entry.{Entry}
 use Rattle.core_scene.specs.Scenes.{SceneState, done, done_all}
 use Rattle.core_actions.specs.declared.undoing.Move.{Move}
 use Rattle.core_actions.specs.declared.undoing.Move.TheVariants as move
-use Rattle.core_actions.specs.Undoing.{next_group, moves, is_number, moves_from, linked}
+use Rattle.core_actions.specs.Undoing.{next_group, moves, is_number, moves_from, linked_deeds}
 use Rattle.core_actions.specs.UndoLaws.{moved_window, moved_if, MovesAreLinked}
 
 -- the window at a place, behind those in front of it
@@ -56,7 +56,7 @@ all_same : (m : Move) (ws : List (Option Window)) → ws ≡ map (moved_if m Non
 all_same m [] = refl
 all_same m (o ∷ ws) = ap (λ (l : List (Option Window)). o ∷ l) (all_same m ws)
 
-linked_by : (e : Entry) (m : Move) (s : SceneState) (g : Option ℕ) → (done_all e s (linked m g s)).windows ≡ map (moved_if m g) s.windows
+linked_by : (e : Entry) (m : Move) (s : SceneState) (g : Option ℕ) → (done_all e s (linked_deeds m g s)).windows ≡ map (moved_if m g) s.windows
 linked_by e m s None = all_same m s.windows
 linked_by e m s (Some n) = linked_from e m n 1 s.windows [] s refl refl
 

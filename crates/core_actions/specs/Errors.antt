@@ -1,6 +1,7 @@
 -- Texts for the window that takes what is said about a directory's windows, `+Errors` (acme(1)).
 use Rattle.std.specs.Prelude.{ℕ, ◌==◌, ◌||◌, not, Bool, false, List, [], ◌∷◌, ◌++◌, length, codes, Option, Some, None, if◌then◌else◌}
-use Rattle.acme_tree.specs.Trees.{is_full}
+use Rattle.acme_tree.specs.Trees.{world_is_full}
+use Rattle.win_ctl.specs.Directory.{errors_name}
 use Rattle.core_addresses.specs.Data.{replacing}
 use Rattle.sam_address.specs.Value.{null_at}
 use Rattle.core_windows.specs.Possible.{text_in}
@@ -12,10 +13,6 @@ use Rattle.core_scene.specs.declared.deed.Deed.TheVariants as deed
 use Rattle.core_scene.specs.Scenes.{SceneState}
 use Rattle.core_actions.specs.Seen.{fits}
 use Rattle.core_actions.specs.Made.{make_deeds}
-
--- the name of a directory's errors window
-unfoldable pub errors_name : List ℕ → List ℕ
-errors_name dir = dir ++ codes "+Errors"
 
 -- the text is put at the end of a window's body
 abbrev pub append_deeds : ℕ → List ℕ → SceneState → List Deed
@@ -33,7 +30,7 @@ size_of (Some w) s = length (text_in (window_at s.windows w))
 
 -- the window isn't there, and no more can be made
 abbrev pub is_missing : Option ℕ → SceneState → Bool
-is_missing None s = is_full (world_of s.windows)
+is_missing None s = world_is_full (world_of s.windows)
 is_missing (Some w) s = false
 
 -- it has no place for the text, or there is no text

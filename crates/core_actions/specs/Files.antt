@@ -50,13 +50,13 @@ abbrev pub fill_deeds : ℕ → List ℕ → SceneState → List Deed
 fill_deeds w text s =
     deed.Windows (change.Edits w (replacing (whole_of (text_in (window_at s.windows w))) text)) ∷ deed.Windows (change.Sets w setting.Clean) ∷ []
 
-abbrev pub filled : ℕ → Result (List ℕ) ActionFault → SceneState → Outcome
-filled w (Err f) s = fails f
-filled w (Ok text) s = if fits 0 (length text) then does (fill_deeds w text s) else fails fault.TextTooLong
+abbrev pub fill_outcome : ℕ → Result (List ℕ) ActionFault → SceneState → Outcome
+fill_outcome w (Err f) s = fails f
+fill_outcome w (Ok text) s = if fits 0 (length text) then does (fill_deeds w text s) else fails fault.TextTooLong
 
 -- Get: the text of the file or directory takes the place of the body
 abbrev pub get_outcome : ℕ → List ℕ → SceneState → Outcome
-get_outcome w name s = filled w (file_text w name s) s
+get_outcome w name s = fill_outcome w (file_text w name s) s
 
 -- ---- Put
 

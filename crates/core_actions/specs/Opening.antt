@@ -1,7 +1,7 @@
 -- Names that are opened: New, and Look at a name (acme(1)).
 use Rattle.std.specs.Prelude.{ℕ, ◌==◌, List, [], ◌∷◌, ◌++◌, length, IsSome, Option, Some, None, if◌then◌else◌}
 use Rattle.acme_cmd.specs.Names.{whole_name}
-use Rattle.acme_tree.specs.Trees.{is_full}
+use Rattle.acme_tree.specs.Trees.{world_is_full}
 use Rattle.am_text.specs.Utf8.{utf8, decode}
 use Rattle.name_tree.specs.Listing.{found_at}
 use Rattle.name_tree.specs.Paths.{is_root}
@@ -66,13 +66,13 @@ show_at e name text address s = then_ e (show_deeds name text) (address_deeds (n
 -- the window is taken, or made where one more can be, and the address sets its dot
 abbrev pub open_deeds : Entry → Target → Option (List ℕ) → SceneState → List Deed
 open_deeds e (target.Live w) address s = address_deeds w address s
-open_deeds e (target.New name text) address s = if is_full (world_of s.windows) then [] else show_at e name text address s
+open_deeds e (target.New name text) address s = if world_is_full (world_of s.windows) then [] else show_at e name text address s
 
 -- ---- New
 
 -- a window of this name, without a text
 abbrev pub empty_deeds : List ℕ → SceneState → List Deed
-empty_deeds name s = if is_full (world_of s.windows) then [] else deed.Windows (change.Makes name) ∷ []
+empty_deeds name s = if world_is_full (world_of s.windows) then [] else deed.Windows (change.Makes name) ∷ []
 
 abbrev pub open_or_make : Entry → Option Target → List ℕ → Option (List ℕ) → SceneState → List Deed
 open_or_make e None name address s = empty_deeds name s

@@ -10,12 +10,12 @@ use Rattle.core_actions.specs.declared.fault.ActionFault.{ActionFault}
 use Rattle.core_actions.specs.declared.fault.ActionFault.TheVariants as fault
 
 -- without a last `/`
-abbrev pub stripped : List ℕ → List ℕ
-stripped name = if ends_with nat_eq name (47 ∷ []) then take (length name - 1) name else name
+abbrev pub without_last_slash : List ℕ → List ℕ
+without_last_slash name = if ends_with nat_eq name (47 ∷ []) then take (length name - 1) name else name
 
 -- likewise, but `/` itself keeps it
 abbrev pub without_slash : List ℕ → List ℕ
-without_slash name = if is_root name then name else stripped name
+without_slash name = if is_root name then name else without_last_slash name
 
 -- the path of a name that is made whole with a directory
 abbrev pub path_named : List ℕ → List ℕ → List ℕ

@@ -4,6 +4,7 @@ use Rattle.std.specs.List.{ends_with}
 use Rattle.am_text.specs.declared.range.Range.{Range}
 use Rattle.win_ctl.specs.Directory.{directory}
 use Rattle.win_text.specs.Bodies.{null_range}
+use Rattle.win_text.specs.Limits.{body_runes}
 use Rattle.core_windows.specs.Possible.{text_in}
 use Rattle.core_windows.specs.Windows.{Window}
 
@@ -25,7 +26,7 @@ dot_text window = slice_range (text_in window) (dot_of window).q0 (dot_of window
 
 -- a body of so many runes has room for so many more
 abbrev pub fits : ℕ → ℕ → Bool
-fits len more = nat_le (len + more) 16777216
+fits len more = nat_le (len + more) body_runes
 
 -- the name of a directory ends in `/`
 abbrev pub is_dir_name : List ℕ → Bool

@@ -34,10 +34,10 @@ abbrev pub moves_from : Move → ℕ → ℕ → List (Option Window) → List D
 moves_from m n w [] = []
 moves_from m n w (o ∷ ws) = moves_if m n w o ++ moves_from m n (w + 1) ws
 
-abbrev pub linked : Move → Option ℕ → SceneState → List Deed
-linked m None s = []
-linked m (Some n) s = moves_from m n 1 s.windows
+abbrev pub linked_deeds : Move → Option ℕ → SceneState → List Deed
+linked_deeds m None s = []
+linked_deeds m (Some n) s = moves_from m n 1 s.windows
 
 -- Undo or Redo in a window: in each live window, by number, whose next group was begun by the same step as its own
 abbrev pub move_deeds : Move → ℕ → SceneState → List Deed
-move_deeds m w s = linked m (next_group m (window_at s.windows w)) s
+move_deeds m w s = linked_deeds m (next_group m (window_at s.windows w)) s

@@ -1,7 +1,7 @@
 //! Single deeds over windows, after which the window lives.
 
 ghost use Rattle.std.specs.Prelude.{◌≡◌, ◌∷◌, [], false, IsSome, Some, IfOk, OnOk};
-ghost use Rattle.acme_tree.specs.Trees.{is_full};
+ghost use Rattle.acme_tree.specs.Trees.{world_is_full};
 ghost use Rattle.edit_log.specs.Edited.{text_after};
 ghost use Rattle.core_windows.specs.Possible.{CanEdit, CanSet, CanSetIn, text_in};
 ghost use Rattle.core_windows.specs.Windows.{window_at, world_of, named_window};
@@ -75,7 +75,7 @@ pub(crate) fn edit_and_set(
 
 /// Makes a window of this name. It lives, and is empty and clean.
 fn make(alloc: Global, scene: &mut Scene, entry: Entry, name: Runes) -> Result<(), NoMemory>
-    requires { is_full (world_of scene.old.windows.present) ≡ false }
+    requires { world_is_full (world_of scene.old.windows.present) ≡ false }
     ensures ok { OnOk result (Did entry (scene_of scene.old) (scene_of scene.new) (deed.Windows (change.Makes name) ∷ [])) }
     ensures made { OnOk result (window_at scene.new.windows.present (next_window (scene_of scene.old)) ≡ Some (named_window name)) }
     ensures kept { kept_of scene.new ≡ kept_of scene.old }
@@ -92,7 +92,7 @@ pub(crate) fn make_with(
     name: Runes,
     text: Runes,
 ) -> Result<u32, NoMemory>
-    requires { is_full (world_of scene.old.windows.present) ≡ false }
+    requires { world_is_full (world_of scene.old.windows.present) ≡ false }
     ensures ok { OnOk result (Did entry (scene_of scene.old) (scene_of scene.new) (make_deeds name text (scene_of scene.old))) }
     ensures number { IfOk result (λ w. w ≡ next_window (scene_of scene.old)) }
     ensures lives { IfOk result (λ w. IsSome (window_at scene.new.windows.present w)) }

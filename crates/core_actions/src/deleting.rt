@@ -8,12 +8,9 @@ ghost use Rattle.core_actions.specs.Deleting.{delete_deeds, warning, warn_deeds,
 use crate::deeds::set_in_window;
 use crate::errors::append_errors;
 use crate::seen::{asks, dir_at, name_at};
-use am_text::{NoMemory, Rune, Runes};
+use am_text::{NoMemory, Runes, put_words};
 use core_scene::{Change, Deed, Entry, Scene, Setting};
 use std::alloc::Global;
-
-/// What is said behind the name of a window that is modified.
-const MODIFIED: [Rune; 10] = [32, 109, 111, 100, 105, 102, 105, 101, 100, 10]; // " modified" and a newline
 
 // What is said of a window that is modified.
 #[tactic(auto, unfolding(crate::specs::Deleting::warning))]
@@ -21,7 +18,7 @@ fn warning(name: Runes) -> Result<Runes, NoMemory>
     ensures { IfOk result (λ text. text ≡ warning name) }
 {
     let mut text = name;
-    text.append(&MODIFIED)?;
+    put_words(&mut text, b" modified\n")?;
     Ok(text)
 }
 

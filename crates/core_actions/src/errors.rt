@@ -3,28 +3,16 @@
 ghost use Rattle.std.specs.Prelude.{◌≡◌, ◌∷◌, [], false, IsSome, IfSome, IfOk, OnOk};
 ghost use Rattle.core_windows.specs.Windows.{window_at};
 ghost use Rattle.core_scene.specs.Scenes.{scene_of, kept_of, Did};
-ghost use Rattle.core_actions.specs.Errors.{errors_name, append_deeds, put_in, size_of, is_missing, is_dropped, errors_in, errors_deeds};
+ghost use Rattle.core_actions.specs.Errors.{append_deeds, put_in, size_of, is_missing, is_dropped, errors_in, errors_deeds};
 
 use crate::deeds::{edit_window, make_with};
 use crate::seen::{fits, size_at};
-use acme_tree::is_full;
+use acme_tree::world_is_full;
 use am_text::{NoMemory, Range, Rune, Runes};
 use core_addresses::replacing;
 use core_scene::{Entry, Scene};
 use std::alloc::Global;
-
-/// The end of the name of an errors window.
-pub(crate) const ERRORS: [Rune; 7] = [43, 69, 114, 114, 111, 114, 115]; // +Errors
-
-// The name of a directory's errors window.
-#[tactic(auto, unfolding(crate::specs::Errors::errors_name))]
-fn errors_name(alloc: Global, dir: &[Rune]) -> Result<Runes, NoMemory>
-    ensures { IfOk result (λ name. name ≡ errors_name dir.now) }
-{
-    let mut name = Runes::copied(alloc, dir)?;
-    name.append(&ERRORS)?;
-    Ok(name)
-}
+use win_ctl::errors_name;
 
 // Puts a text at the end of a window's body.
 #[tactic(auto, using(crate::proofs::Windows::editing))]
@@ -58,7 +46,7 @@ fn size_of(scene: &Scene, window: Option<u32>) -> usize
 fn is_missing(scene: &Scene, window: Option<u32>) -> bool
     ensures { result ≡ is_missing window (scene_of scene.now) }
 {
-    window.is_none() && is_full(scene.windows.world())
+    window.is_none() && world_is_full(scene.windows.world())
 }
 
 // Whether there is no text, or no place for it.

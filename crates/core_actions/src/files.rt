@@ -7,7 +7,7 @@ ghost use Rattle.name_tree.specs.Listing.{found_at};
 ghost use Rattle.core_windows.specs.Windows.{window_at};
 ghost use Rattle.core_scene.specs.Scenes.{scene_of, kept_of, Did};
 ghost use Rattle.core_actions.specs.Seen.{dir_of};
-ghost use Rattle.core_actions.specs.Files.{text_found, file_text, fill_deeds, filled, get_outcome, save_job, store_deeds, is_own, clean_if, put_deeds, put_at, put_outcome};
+ghost use Rattle.core_actions.specs.Files.{text_found, file_text, fill_deeds, fill_outcome, get_outcome, save_job, store_deeds, is_own, clean_if, put_deeds, put_at, put_outcome};
 
 use crate::deeds::{edit_and_set, set_in_window};
 use crate::fault::ActionFault;
@@ -111,8 +111,8 @@ fn fill_if_fits(
     text: Runes,
 ) -> Result<Option<ActionFault>, NoMemory>
     requires { IsSome (window_at scene.old.windows.present window) }
-    ensures fault { IfOk result (λ fault. fault ≡ (filled window (Ok text) (scene_of scene.old)).fault) }
-    ensures ok { OnOk result (Did entry (scene_of scene.old) (scene_of scene.new) (filled window (Ok text) (scene_of scene.old)).deeds) }
+    ensures fault { IfOk result (λ fault. fault ≡ (fill_outcome window (Ok text) (scene_of scene.old)).fault) }
+    ensures ok { OnOk result (Did entry (scene_of scene.old) (scene_of scene.new) (fill_outcome window (Ok text) (scene_of scene.old)).deeds) }
     ensures kept { kept_of scene.new ≡ kept_of scene.old }
 {
     if !fits(0, text.len()) {

@@ -2,7 +2,7 @@
 
 ghost use Rattle.std.specs.Prelude.{◌≡◌, ◌∷◌, [], List, Option, false, IsSome, IfSome, IfOk, OnOk, option_copied};
 ghost use Rattle.acme_cmd.specs.Names.{whole_name};
-ghost use Rattle.acme_tree.specs.Trees.{is_full};
+ghost use Rattle.acme_tree.specs.Trees.{world_is_full};
 ghost use Rattle.am_text.specs.Utf8.{utf8};
 ghost use Rattle.name_tree.specs.Listing.{found_at};
 ghost use Rattle.core_windows.specs.Windows.{Window, window_at, world_of};
@@ -17,12 +17,11 @@ use crate::deeds::{make_with, set_in_window};
 use crate::paths::{is_place, is_root, without_slash};
 use crate::seen::{dir_at, fits};
 use acme_cmd::whole;
-use acme_tree::is_full;
+use acme_tree::world_is_full;
 use am_text::{NoMemory, Rune, Runes, decode_whole, encode};
 use core_scene::{Change, Deed, Entry, Found, Scene, Setting, Tree, Windows};
 use std::alloc::Global;
-
-const SLASH: Rune = 0x2F;
+use win_ctl::SLASH;
 
 /// What a name opens.
 #[derive(Drop)]
@@ -107,7 +106,7 @@ fn show(
     name: Runes,
     text: Runes,
 ) -> Result<u32, NoMemory>
-    requires { is_full (world_of scene.old.windows.present) ≡ false }
+    requires { world_is_full (world_of scene.old.windows.present) ≡ false }
     ensures ok { OnOk result (Did entry (scene_of scene.old) (scene_of scene.new) (show_deeds name text (scene_of scene.old))) }
     ensures number { IfOk result (λ w. w ≡ next_window (scene_of scene.old)) }
     ensures lives { IfOk result (λ w. IsSome (window_at scene.new.windows.present w)) }
@@ -135,7 +134,7 @@ pub fn open(
     match target {
         Target::Live(window) => set_dot(alloc, scene, entry, window, address),
         Target::New { name, text } => {
-            if is_full(scene.windows.world()) {
+            if world_is_full(scene.windows.world()) {
                 return Ok(());
             }
             let window = show(alloc, scene, entry, name, text)?;
@@ -150,7 +149,7 @@ fn make_empty(alloc: Global, scene: &mut Scene, entry: Entry, name: Runes) -> Re
     ensures ok { OnOk result (Did entry (scene_of scene.old) (scene_of scene.new) (empty_deeds name (scene_of scene.old))) }
     ensures kept { kept_of scene.new ≡ kept_of scene.old }
 {
-    if is_full(scene.windows.world()) {
+    if world_is_full(scene.windows.world()) {
         return Ok(());
     }
     scene.act(alloc, entry, Deed::Windows(Change::Makes { name }))

@@ -3,7 +3,7 @@
 ghost use Rattle.std.specs.Prelude.{◌≡◌, IfOk};
 ghost use Rattle.name_tree.specs.Paths.{is_root};
 ghost use Rattle.core_windows.specs.Windows.{window_at};
-ghost use Rattle.core_actions.specs.Paths.{stripped, without_slash, path_named, is_place, place_or_fault, named_or_fault, name_or_own, path_of};
+ghost use Rattle.core_actions.specs.Paths.{without_last_slash, without_slash, path_named, is_place, place_or_fault, named_or_fault, name_or_own, path_of};
 
 use crate::fault::ActionFault;
 use crate::seen::{dir_at, name_at};
@@ -11,8 +11,7 @@ use acme_cmd::{is_path, whole};
 use am_text::{NoMemory, Rune, Runes};
 use core_scene::Windows;
 use std::alloc::Global;
-
-const SLASH: Rune = 0x2F;
+use win_ctl::SLASH;
 
 /// Whether the path is `/`.
 pub(crate) fn is_root(path: &[Rune]) -> bool
@@ -25,8 +24,8 @@ pub(crate) fn is_root(path: &[Rune]) -> bool
 }
 
 // A name without a last `/`.
-fn stripped(name: &[Rune]) -> &[Rune]
-    ensures { result.now ≡ stripped name.now }
+fn without_last_slash(name: &[Rune]) -> &[Rune]
+    ensures { result.now ≡ without_last_slash name.now }
 {
     match name.strip_suffix(&[SLASH]) {
         Some(front) => front,
@@ -38,7 +37,11 @@ fn stripped(name: &[Rune]) -> &[Rune]
 pub(crate) fn without_slash(name: &[Rune]) -> &[Rune]
     ensures { result.now ≡ without_slash name.now }
 {
-    if is_root(name) { name } else { stripped(name) }
+    if is_root(name) {
+        name
+    } else {
+        without_last_slash(name)
+    }
 }
 
 /// The path of a name that is made whole with a directory.

@@ -6,16 +6,11 @@ ghost use Rattle.core_windows.specs.Possible.{text_in};
 ghost use Rattle.core_windows.specs.Windows.{window_at};
 ghost use Rattle.core_actions.specs.Seen.{name_of, dir_of, dot_of, dot_text, fits, is_dir_name, is_guarded, asks};
 
-use crate::errors::ERRORS;
 use am_text::{Letters, NoMemory, Range, Rune, Runes};
 use core_scene::Windows;
 use std::alloc::Global;
-use win_ctl::directory;
-
-/// The most runes that a body may have.
-const RUNES: usize = 16_777_216;
-
-const SLASH: Rune = 0x2F;
+use win_ctl::{ERRORS, SLASH, directory};
+use win_text::BODY_RUNES;
 
 /// The null range at the front.
 pub(crate) const FRONT: Range = Range { q0: 0, q1: 0 };
@@ -24,7 +19,7 @@ pub(crate) const FRONT: Range = Range { q0: 0, q1: 0 };
 pub(crate) fn fits(len: usize, more: usize) -> bool
     ensures { result ≡ fits len more }
 {
-    more <= RUNES && len <= RUNES - more
+    more <= BODY_RUNES && len <= BODY_RUNES - more
 }
 
 // Whether this is the name of a directory.

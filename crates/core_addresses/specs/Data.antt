@@ -6,6 +6,7 @@ use Rattle.am_text.specs.Utf8.{rune_bytes, utf8}
 use Rattle.edit_log.specs.declared.types.Edit.{Edit}
 use Rattle.sam_address.specs.Value.{null_at}
 use Rattle.win_text.specs.Bodies.{BodyState}
+use Rattle.win_text.specs.Limits.{body_runes}
 use Rattle.core_addresses.specs.declared.data.Given.{Given}
 use Rattle.core_addresses.specs.declared.data.Taken.{Taken}
 use Rattle.core_addresses.specs.declared.fault.RangeFault.{RangeFault}
@@ -14,13 +15,13 @@ use Rattle.core_addresses.specs.declared.fault.RangeFault.TheVariants.{PartialRu
 -- ---- reads
 
 -- how many of the first runes have all their bytes in so many
-unfoldable pub fitting : ℕ → List ℕ → ℕ
-fitting count [] = 0
-fitting count (c ∷ text) = if nat_le (length (rune_bytes c)) count then fitting (count - length (rune_bytes c)) text + 1 else 0
+unfoldable pub runes_within : ℕ → List ℕ → ℕ
+runes_within count [] = 0
+runes_within count (c ∷ text) = if nat_le (length (rune_bytes c)) count then runes_within (count - length (rune_bytes c)) text + 1 else 0
 
 -- whole runes of a text, as many as fit
 abbrev pub whole_runes : ℕ → List ℕ → List ℕ
-whole_runes count text = utf8 (take (fitting count text) text)
+whole_runes count text = utf8 (take (runes_within count text) text)
 
 -- the runes from the start of `addr` up to a place
 abbrev pub from_addr : BodyState → ℕ → List ℕ
@@ -30,14 +31,14 @@ from_addr b end = slice_range b.text b.addr.q0 end
 abbrev pub data_given : BodyState → ℕ → Given
 data_given b count = record {
   bytes = whole_runes count (from_addr b (length b.text));
-  addr = null_at (b.addr.q0 + fitting count (from_addr b (length b.text)));
+  addr = null_at (b.addr.q0 + runes_within count (from_addr b (length b.text)));
 }
 
 -- `xdata` stops at the end of `addr`, whose start then stands behind what was given
 abbrev pub xdata_given : BodyState → ℕ → Given
 xdata_given b count = record {
   bytes = whole_runes count (from_addr b b.addr.q1);
-  addr = record { q0 = b.addr.q0 + fitting count (from_addr b b.addr.q1); q1 = b.addr.q1 };
+  addr = record { q0 = b.addr.q0 + runes_within count (from_addr b b.addr.q1); q1 = b.addr.q1 };
 }
 
 -- ---- writes, the same to both
@@ -48,7 +49,7 @@ replacing r text = if (r.q0 == r.q1) && (length text == 0) then [] else record {
 
 -- a body has at most 16,777,216 runes
 abbrev pub fits : List ℕ → Range → List ℕ → Result Taken RangeFault → Result Taken RangeFault
-fits body r text taken = if nat_le (length body - (r.q1 - r.q0) + length text) 16777216 then taken else Err TooLong
+fits body r text taken = if nat_le (length body - (r.q1 - r.q0) + length text) body_runes then taken else Err TooLong
 
 abbrev pub is_whole : List ℕ → Result Taken RangeFault → Result Taken RangeFault
 is_whole rest taken = if length rest == 0 then taken else Err PartialRune

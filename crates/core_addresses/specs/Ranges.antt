@@ -46,10 +46,10 @@ range_or_fault (Ok r) = Ok r
 range_or_fault (Err f) = Err (fault_of f)
 
 -- the value of an address, in which `.` is the present `addr`
-abbrev pub valued : BodyState → Option Tree → Result Range RangeFault
-valued b None = Err BadAddress
-valued b (Some a) = range_or_fault (value a b.text (bounds b) b.addr)
+abbrev pub address_value : BodyState → Option Tree → Result Range RangeFault
+address_value b None = Err BadAddress
+address_value b (Some a) = range_or_fault (value a b.text (bounds b) b.addr)
 
 -- the range that is written
-abbrev pub addressed : BodyState → List ℕ → Result Range RangeFault
-addressed b bytes = valued b (small_address (without_newline (decode bytes)))
+abbrev pub address_range : BodyState → List ℕ → Result Range RangeFault
+address_range b bytes = address_value b (small_address (without_newline (decode bytes)))

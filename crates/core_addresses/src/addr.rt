@@ -3,7 +3,7 @@
 ghost use Rattle.std.specs.Prelude.{◌≡◌, ◌++◌, IfOk, OnOk, IfErr, Ok, Some};
 ghost use Rattle.win_text.specs.Bodies.{IsInside};
 ghost use Rattle.addr_syntax.specs.Tree.{tree};
-ghost use Rattle.core_addresses.specs.Ranges.{rune_number, range_text, without_newline, bounds, fault_of, valued, addressed};
+ghost use Rattle.core_addresses.specs.Ranges.{rune_number, range_text, without_newline, bounds, fault_of, address_value, address_range};
 ghost use Rattle.core_addresses.specs.Data.{Tells};
 
 use crate::fault::RangeFault;
@@ -71,9 +71,9 @@ fn fault_of(fault: AddrFault) -> RangeFault
     }
 }
 
-fn valued(alloc: Global, body: &Body, address: &Addr) -> Result<Range, RangeFault>
-    ensures exact { IfOk result (λ r. valued body.now.state (Some (tree address.now)) ≡ Ok r) }
-    ensures fault { IfErr result (λ e. Tells e (valued body.now.state (Some (tree address.now)))) }
+fn address_value(alloc: Global, body: &Body, address: &Addr) -> Result<Range, RangeFault>
+    ensures exact { IfOk result (λ r. address_value body.now.state (Some (tree address.now)) ≡ Ok r) }
+    ensures fault { IfErr result (λ e. Tells e (address_value body.now.state (Some (tree address.now)))) }
     ensures inside { IfOk result (IsInside body.now.state.text) }
 {
     body.is_sound();
@@ -86,14 +86,14 @@ fn valued(alloc: Global, body: &Body, address: &Addr) -> Result<Range, RangeFaul
 /// The range that is written to `addr`: the value of the address that the bytes spell, one newline at their end being
 /// dropped. In it `.` is the present `addr`, and searches stay inside the limit. A fault comes exactly where there is
 /// no such range, want of memory alone at any time.
-pub fn addressed(alloc: Global, body: &Body, bytes: &[u8]) -> Result<Range, RangeFault>
-    ensures exact { IfOk result (λ r. addressed body.now.state bytes.now ≡ Ok r) }
-    ensures fault { IfErr result (λ e. Tells e (addressed body.now.state bytes.now)) }
+pub fn address_range(alloc: Global, body: &Body, bytes: &[u8]) -> Result<Range, RangeFault>
+    ensures exact { IfOk result (λ r. address_range body.now.state bytes.now ≡ Ok r) }
+    ensures fault { IfErr result (λ e. Tells e (address_range body.now.state bytes.now)) }
     ensures inside { IfOk result (IsInside body.now.state.text) }
 {
     let text = decode_whole(alloc, bytes)?;
     match read_address(alloc, without_newline(text.as_slice()))? {
-        Some(address) => valued(alloc, body, &address),
+        Some(address) => address_value(alloc, body, &address),
         None => Err(RangeFault::BadAddress),
     }
 }

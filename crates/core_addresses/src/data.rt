@@ -5,16 +5,14 @@ ghost use Rattle.am_text.specs.Utf8.{rune_bytes};
 ghost use Rattle.edit_log.specs.Edited.{text_after};
 ghost use Rattle.win_text.specs.Bodies.{IsInside};
 ghost use Rattle.win_text.specs.BodyStories.{IsChangeOf};
-ghost use Rattle.core_addresses.specs.Data.{fitting, whole_runes, data_given, xdata_given, replacing, takes, data_taken, Tells};
+ghost use Rattle.win_text.specs.Limits.{body_runes};
+ghost use Rattle.core_addresses.specs.Data.{runes_within, whole_runes, data_given, xdata_given, replacing, takes, data_taken, Tells};
 
 use crate::fault::RangeFault;
 use am_text::{Bytes, Items, Letters, NoMemory, Part, Range, Rune, Runes, decode_part, encode};
 use edit_log::{Edit, Edits};
 use std::alloc::Global;
-use win_text::Body;
-
-/// The most runes that a body may have.
-const RUNES: usize = 16777216;
+use win_text::{BODY_RUNES, Body};
 
 /// What a read of `data` or `xdata` gives, and the range that `addr` then is.
 #[derive(Drop)]
@@ -44,10 +42,10 @@ fn width(rune: Rune) -> usize
 // How many runes of a body, from one place on and before another, have all their bytes in so many. No more runes
 // than those and one are looked at.
 #[tactic(auto, using(crate::proofs::Fitted::fitted))]
-fn fitting(body: &Body, from: usize, to: usize, count: usize) -> usize
+fn runes_within(body: &Body, from: usize, to: usize, count: usize) -> usize
     requires order { from ≤ to }
     requires bounds { to ≤ length body.now.state.text }
-    ensures exact { result ≡ fitting count (slice_range body.now.state.text from to) }
+    ensures exact { result ≡ runes_within count (slice_range body.now.state.text from to) }
     ensures within { result ≤ to - from }
 {
     let mut room = count;
@@ -75,11 +73,11 @@ fn whole_runes(
     requires order { from ≤ to }
     requires bounds { to ≤ length body.now.state.text }
     ensures bytes { IfOk result (λ given. given.0 ≡ whole_runes count (slice_range body.now.state.text from to)) }
-    ensures runes { IfOk result (λ given. given.1 ≡ fitting count (slice_range body.now.state.text from to)) }
+    ensures runes { IfOk result (λ given. given.1 ≡ runes_within count (slice_range body.now.state.text from to)) }
     ensures small { IfOk result (λ given. length given.0 ≤ count) }
     ensures within { IfOk result (λ given. given.1 ≤ to - from) }
 {
-    let runes = fitting(body, from, to, count);
+    let runes = runes_within(body, from, to, count);
     let text = body.slice(from, from + runes)?;
     Ok((encode(alloc, &text)?, runes))
 }
@@ -138,15 +136,15 @@ pub fn replacing(alloc: Global, range: Range, text: Runes) -> Result<Edits, NoMe
 // Whether a body has room for so many runes in the place of a range.
 fn fits(body: &Body, range: Range, more: usize) -> bool
     requires { IsInside body.now.state.text range }
-    ensures { result ≡ nat_le (length body.now.state.text - (range.q1 - range.q0) + more) 16777216 }
+    ensures { result ≡ nat_le (length body.now.state.text - (range.q1 - range.q0) + more) body_runes }
 {
     let kept = body.len() - (range.q1 - range.q0);
-    more <= RUNES && kept <= RUNES - more
+    more <= BODY_RUNES && kept <= BODY_RUNES - more
 }
 
 // The text takes the place of `addr`.
 fn takes(alloc: Global, body: &Body, text: Runes) -> Result<Taken, NoMemory>
-    requires { length body.now.state.text - (body.now.state.addr.q1 - body.now.state.addr.q0) + length text ≤ 16777216 }
+    requires { length body.now.state.text - (body.now.state.addr.q1 - body.now.state.addr.q0) + length text ≤ body_runes }
     ensures exact { IfOk result (λ taken. taken ≡ takes body.now.state text) }
     ensures possible { IfOk result (λ taken. IsChangeOf body.now.state.text (record { edits = taken.edits; dot = None })) }
     ensures inside { IfOk result (λ taken. IsInside (text_after body.now.state.text taken.edits) taken.addr) }

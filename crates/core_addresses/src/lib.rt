@@ -5,7 +5,7 @@ mod addr;
 mod data;
 mod fault;
 
-pub use addr::{addressed, range_text};
+pub use addr::{address_range, range_text};
 pub use data::{Given, Taken, data_given, data_taken, replacing, xdata_given};
 pub use fault::RangeFault;
 pub use win_text::Body;

@@ -14,7 +14,7 @@ use Rattle.fid_table.specs.declared.types.Fid.{Fid}
 use Rattle.fid_table.specs.Tables.{Tables, fid_of, msize_of}
 use Rattle.am_text.specs.declared.range.Range.{Range}
 use Rattle.core_addresses.specs.Data.{data_taken}
-use Rattle.core_addresses.specs.Ranges.{addressed}
+use Rattle.core_addresses.specs.Ranges.{address_range}
 use Rattle.core_addresses.specs.declared.data.Taken.{Taken}
 use Rattle.core_addresses.specs.declared.fault.RangeFault.{RangeFault}
 use Rattle.core_answers.specs.Addressing.{data_reaction, xdata_reaction, addr_or_refusal, addr_reaction, data_or_refusal, taking_reaction}
@@ -33,18 +33,18 @@ use Rattle.core_fids.specs.Plainly.{does}
 use Rattle.core_fids.specs.Refusals.{refused_with, reaction_or_refusal}
 use Rattle.core_windows.specs.declared.change.Change.TheVariants as change
 use Rattle.core_windows.specs.Windows.{Window, window_at, named, world_of}
-use Rattle.core_fids.specs.Attaching.{is_version, agreed, version_reaction, attached, attach_refusal, attach_to, or_attaches}
+use Rattle.core_fids.specs.Attaching.{is_version, agreement, version_reaction, root_of, attach_refusal, attach_to, or_attaches}
 use Rattle.core_fids.specs.Plumbers.{Plumber}
-use Rattle.core_fids.specs.Walking.{trail, walk_refusal, arrives_at, or_walks, walk_from}
-use Rattle.core_fids.specs.Opening.{open_refusal, or_opens, open_fid, denied, clunk_fid, remove_fid}
+use Rattle.core_fids.specs.Walking.{course, walk_refusal, arrives_at, or_walks, walk_from}
+use Rattle.core_fids.specs.Opening.{open_refusal, or_opens, open_fid, denial, clunk_fid, remove_fid}
 use Rattle.core_fids.specs.Directories.{place_at, read_dir, stat_fid}
 use Rattle.core_answers.specs.Reading.{read_opening, read_port, read_content, use_refusal, or_reads, most, read_fid}
-use Rattle.core_answers.specs.Writing.{written, if_lives, append_reaction, add_reaction, or_errors, errors_reaction, asking_reaction, write_content, write_fid}
+use Rattle.core_answers.specs.Writing.{change_reaction, if_lives, append_reaction, add_reaction, or_errors, errors_reaction, asking_reaction, write_content, write_fid}
 use Rattle.core_answers.specs.Erring.{fits_in, fits_tag, appends, errors_of, root_errors, errors_refusal}
 use Rattle.core_answers.specs.Texts.{text_at, right_of}
 use Rattle.core_fids.specs.Contents.{content_of}
-use Rattle.core_fids.specs.Fids.{is_for_reading, is_for_writing, event_opening, port_opening, holding}
-use Rattle.core_answers.specs.Reactions.{served, comes_first}
+use Rattle.core_fids.specs.Fids.{is_for_reading, is_for_writing, event_opening, port_opening, fid_with_part}
+use Rattle.core_answers.specs.Reactions.{session_reaction, comes_first}
 use Rattle.core_answers.specs.Laws.{IsAnswered, EachIsAnswered}
 
 -- what is done is answered
@@ -80,14 +80,14 @@ known_answers asked msize version false = inl refl
 
 version_answers : (msize : ℕ) (version : List ℕ) → IsAnswered (t.Version msize version) (version_reaction msize version).answer
 version_answers msize version =
-    refused_or (t.Version msize version) (nat_lt msize 256) (effect.Begins None) refusal.MsizeTooSmall (agreed (min msize 65560) version) (known_answers msize (min msize 65560) version (is_version version))
+    refused_or (t.Version msize version) (nat_lt msize 256) (effect.Begins None) refusal.MsizeTooSmall (agreement (min msize 65560) version) (known_answers msize (min msize 65560) version (is_version version))
 
 root_answers : (fid afid : ℕ) (uname aname : List ℕ) (o : Option Node) → Answers (t.Attach fid afid uname aname) (attach_to fid o)
 root_answers fid afid uname aname None = tt
 root_answers fid afid uname aname (Some node) = inl refl
 
 attach_answers : (fid afid : ℕ) (uname aname : List ℕ) (o : Option Refusal) → Answers (t.Attach fid afid uname aname) (or_attaches o fid aname)
-attach_answers fid afid uname aname None = root_answers fid afid uname aname (attached aname)
+attach_answers fid afid uname aname None = root_answers fid afid uname aname (root_of aname)
 attach_answers fid afid uname aname (Some x) = tt
 
 arrives_answers : (fid newfid : ℕ) (names : List (List ℕ)) (world : World) (qids : List Qid) (e : WalkEnd) → Answers (t.Walk fid newfid names) (arrives_at newfid world qids e)
@@ -103,7 +103,7 @@ walk_answers : (tables : Tables) (world : World) (ports : List (List ℕ)) (conn
 walk_answers tables world ports conn fid newfid names None = tt
 walk_answers tables world ports conn fid newfid names (Some f) =
     or_walks_answers (t.Walk fid newfid names) (walk_refusal tables conn fid newfid f) _
-    (arrives_answers fid newfid names world (trail world ports f.node names).qids (trail world ports f.node names).end)
+    (arrives_answers fid newfid names world (course world ports f.node names).qids (course world ports f.node names).end)
 
 opens_answers : (tables : Tables) (plumber : Plumber) (openings fid mode : ℕ) (f : Fid) (o : Option Refusal) → Answers (t.Open fid mode) (or_opens tables plumber o openings fid f mode)
 opens_answers tables plumber openings fid mode f None = inl refl
@@ -113,7 +113,7 @@ open_answers : (tables : Tables) (world : World) (plumber : Plumber) (openings f
 open_answers tables world plumber openings fid mode None = tt
 open_answers tables world plumber openings fid mode (Some f) = opens_answers tables plumber openings fid mode f (open_refusal world plumber openings f mode)
 
-denied_answers : (body : TBody) (o : Option Fid) → Answers body (denied o)
+denied_answers : (body : TBody) (o : Option Fid) → Answers body (denial o)
 denied_answers body None = tt
 denied_answers body (Some f) = tt
 
@@ -171,13 +171,13 @@ append_answers : (windows : List (Option Window)) (fid offset : ℕ) (bytes : Li
 append_answers windows fid offset bytes f w decoded =
     if_lives_answers (t.Write fid offset bytes) (window_at windows w) _
     (done_or (t.Write fid offset bytes) (fits_in (text_at windows w) decoded.text)
-    (written (appends windows w decoded.text) fid (holding f (part_of decoded.rest)) (length bytes)) refusal.TextTooLong (inl refl))
+    (change_reaction (appends windows w decoded.text) fid (fid_with_part f (part_of decoded.rest)) (length bytes)) refusal.TextTooLong (inl refl))
 
 add_answers : (windows : List (Option Window)) (fid offset : ℕ) (bytes : List ℕ) (f : Fid) (w : ℕ) (decoded : Decoded) → Answers (t.Write fid offset bytes) (add_reaction windows fid f w (length bytes) decoded)
 add_answers windows fid offset bytes f w decoded =
     if_lives_answers (t.Write fid offset bytes) (window_at windows w) _
     (done_or (t.Write fid offset bytes) (fits_tag (right_of (window_at windows w)) decoded.text)
-    (written (change.Adds w decoded.text ∷ []) fid (holding f (part_of decoded.rest)) (length bytes)) refusal.TextTooLong (inl refl))
+    (change_reaction (change.Adds w decoded.text ∷ []) fid (fid_with_part f (part_of decoded.rest)) (length bytes)) refusal.TextTooLong (inl refl))
 
 or_errors_answers : (body : TBody) (o : Option Refusal) (d : Reaction) → IsAnswered body d.answer → Answers body (or_errors o d)
 or_errors_answers body None d h = h
@@ -196,7 +196,7 @@ addr_set_answers fid offset w bytes (Err f) = tt
 
 addr_answers : (fid offset w : ℕ) (bytes : List ℕ) (o : Option Window) → Answers (t.Write fid offset bytes) (addr_reaction w bytes o)
 addr_answers fid offset w bytes None = tt
-addr_answers fid offset w bytes (Some window) = addr_set_answers fid offset w bytes (addressed window.body bytes)
+addr_answers fid offset w bytes (Some window) = addr_set_answers fid offset w bytes (address_range window.body bytes)
 
 data_set_answers : (fid offset w : ℕ) (bytes : List ℕ) (x : Result Taken RangeFault) → Answers (t.Write fid offset bytes) (data_or_refusal w (length bytes) x)
 data_set_answers fid offset w bytes (Ok taken) = inl refl
@@ -242,7 +242,7 @@ stat_answers world ports fid None = tt
 stat_answers world ports fid (Some f) =
     done_or (t.Stat fid) (is_live world ports f.node) _ refusal.WindowDeleted (inl refl)
 
-served_answers : (tables : Tables) (world : World) (windows : List (Option Window)) (plumber : Plumber) (openings conn : ℕ) (body : TBody) → Answers body (served tables world windows plumber openings conn body)
+served_answers : (tables : Tables) (world : World) (windows : List (Option Window)) (plumber : Plumber) (openings conn : ℕ) (body : TBody) → Answers body (session_reaction tables world windows plumber openings conn body)
 served_answers tables world windows plumber openings conn (t.Version msize version) = version_answers msize version
 served_answers tables world windows plumber openings conn (t.Auth afid uname aname) = tt
 served_answers tables world windows plumber openings conn (t.Flush oldtag) = inl refl
@@ -262,4 +262,4 @@ served_answers tables world windows plumber openings conn (t.Wstat fid stat) = d
 pub each_is_answered : EachIsAnswered
 each_is_answered tables windows plumber openings conn body =
     refused_or body (comes_first tables conn body) effect.Nothing refusal.VersionFirst _
-    (settled body (served tables (world_of windows) windows plumber openings conn body) (served_answers tables (world_of windows) windows plumber openings conn body))
+    (settled body (session_reaction tables (world_of windows) windows plumber openings conn body) (served_answers tables (world_of windows) windows plumber openings conn body))

@@ -1,10 +1,10 @@
 -- Changes that can be made.
 use Rattle.std.proofs.Common.{◌≡◌, ℕ, ◌+◌, Bool, true, false, cond, List, [], ◌∷◌, ◌++◌, length, Option, Some, None, refl, sym, ap, subst, ◌<◌, ◌^◌, arith}
 use Rattle.std.specs.Prelude.{eqb, Result, IsSome}
-use Rattle.acme_tree.specs.Trees.{is_full}
+use Rattle.acme_tree.specs.Trees.{world_is_full}
 use Rattle.am_text.specs.declared.range.Range.{Range}
 use Rattle.core_addresses.specs.Data.{data_taken, Tells}
-use Rattle.core_addresses.specs.Ranges.{addressed}
+use Rattle.core_addresses.specs.Ranges.{address_range}
 use Rattle.core_addresses.specs.declared.data.Taken.{Taken}
 use Rattle.core_addresses.specs.declared.fault.RangeFault.{RangeFault}
 use Rattle.core_addresses.specs.declared.fault.RangeFault.TheVariants as range
@@ -47,7 +47,7 @@ new_edits : (windows : List (Option Window)) (name more : List ℕ) → CanEdit 
 new_edits windows name more =
     subst (λ (o : Option Window). CanEdit o (edits_at_end [] more)) (sym (made_there windows (named_window name))) (record { lives = refl; range = at_end [] more })
 
-pub make_possible : (windows : List (Option Window)) (name text : List ℕ) (cs : List Change) → is_full (world_of windows) ≡ false → cs ≡ errors_changes windows name None text → CanBeMade windows cs
+pub make_possible : (windows : List (Option Window)) (name text : List ℕ) (cs : List Change) → world_is_full (world_of windows) ≡ false → cs ≡ errors_changes windows name None text → CanBeMade windows cs
 make_possible windows name text cs h e = subst (CanBeMade windows) (sym e) (λ at. (h, (new_edits windows name text, tt)))
 
 -- ---- the address
@@ -83,9 +83,9 @@ tells_data w count range.PartialRune wanted h = ap (data_or_refusal w count) h
 tells_data w count range.TooLong wanted h = ap (data_or_refusal w count) h
 tells_data w count range.NoMemory wanted h = tt
 
-pub addr_refused : (w : ℕ) (bytes : List ℕ) (o : Option Window) (window : Window) (e : RangeFault) → o ≡ Some window → Tells e (addressed window.body bytes) → Gives (fault_of e) (addr_reaction w bytes o)
+pub addr_refused : (w : ℕ) (bytes : List ℕ) (o : Option Window) (window : Window) (e : RangeFault) → o ≡ Some window → Tells e (address_range window.body bytes) → Gives (fault_of e) (addr_reaction w bytes o)
 addr_refused w bytes o window e there h =
-    subst (λ (x : Option Window). Gives (fault_of e) (addr_reaction w bytes x)) (sym there) (tells_addr w (length bytes) e (addressed window.body bytes) h)
+    subst (λ (x : Option Window). Gives (fault_of e) (addr_reaction w bytes x)) (sym there) (tells_addr w (length bytes) e (address_range window.body bytes) h)
 
 pub data_refused : (w : ℕ) (bytes : List ℕ) (o : Option Window) (window : Window) (e : RangeFault) → o ≡ Some window → Tells e (data_taken window.body bytes) → Gives (fault_of e) (taking_reaction w bytes o)
 data_refused w bytes o window e there h =

@@ -3,7 +3,7 @@ use Rattle.std.specs.Prelude.{ℕ, List, [], ◌∷◌, length, Option, Some, No
 use Rattle.am_text.specs.declared.range.Range.{Range}
 use Rattle.ninep_types.specs.declared.message.RBody.TheVariants as r
 use Rattle.core_addresses.specs.Data.{data_given, xdata_given, data_taken}
-use Rattle.core_addresses.specs.Ranges.{range_text, addressed}
+use Rattle.core_addresses.specs.Ranges.{range_text, address_range}
 use Rattle.core_addresses.specs.declared.data.Given.{Given}
 use Rattle.core_addresses.specs.declared.data.Taken.{Taken}
 use Rattle.core_addresses.specs.declared.fault.RangeFault.{RangeFault}
@@ -73,7 +73,7 @@ addr_or_refusal w count (Err f) = Err (range_refusal f)
 
 abbrev pub addr_reaction : ℕ → List ℕ → Option Window → Result Reaction Refusal
 addr_reaction w bytes None = Err refusal.WindowDeleted
-addr_reaction w bytes (Some window) = addr_or_refusal w (length bytes) (addressed window.body bytes)
+addr_reaction w bytes (Some window) = addr_or_refusal w (length bytes) (address_range window.body bytes)
 
 abbrev pub data_or_refusal : ℕ → ℕ → Result Taken RangeFault → Result Reaction Refusal
 data_or_refusal w count (Ok taken) = Ok (does effect.Nothing (edits_with_addr w taken.edits taken.addr) (r.Write count))

@@ -1,8 +1,10 @@
 -- Texts for windows: what is put at the end of a body, and what is written to `errors` and `cons`.
 use Rattle.std.specs.Prelude.{ℕ, ◌+◌, ◌==◌, Bool, nat_le, List, [], ◌∷◌, ◌++◌, length, codes, Option, Some, None, if◌then◌else◌}
 use Rattle.edit_log.specs.declared.types.Edit.{Edit}
-use Rattle.acme_tree.specs.Trees.{is_full}
-use Rattle.win_ctl.specs.Directory.{directory}
+use Rattle.acme_tree.specs.Trees.{world_is_full}
+use Rattle.win_ctl.specs.Directory.{directory, errors_name}
+use Rattle.win_ctl.specs.Limits.{tag_runes}
+use Rattle.win_text.specs.Limits.{body_runes}
 use Rattle.core_windows.specs.declared.change.Change.{Change}
 use Rattle.core_windows.specs.declared.change.Change.TheVariants as change
 use Rattle.core_windows.specs.Windows.{Window, world_of}
@@ -12,10 +14,10 @@ use Rattle.core_answers.specs.Texts.{text_at, name_of}
 
 -- a body has at most 16,777,216 runes, and the right part of a tag 65,536
 abbrev pub fits_in : List ℕ → List ℕ → Bool
-fits_in text more = nat_le (length text + length more) 16777216
+fits_in text more = nat_le (length text + length more) body_runes
 
 abbrev pub fits_tag : List ℕ → List ℕ → Bool
-fits_tag right more = nat_le (length right + length more) 65536
+fits_tag right more = nat_le (length right + length more) tag_runes
 
 -- the edit that puts a text at the end of another; an empty text is none
 abbrev pub edits_at_end : List ℕ → List ℕ → List Edit
@@ -25,10 +27,6 @@ abbrev pub appends : List (Option Window) → ℕ → List ℕ → List Change
 appends windows w more = change.Edits w (edits_at_end (text_at windows w) more) ∷ []
 
 -- ---- errors windows
-
--- the name of the errors window of a directory
-abbrev pub errors_name : List ℕ → List ℕ
-errors_name dir = dir ++ codes "+Errors"
 
 -- the errors window of a window's directory
 abbrev pub errors_of : Option Window → List ℕ
@@ -47,5 +45,5 @@ abbrev pub long_refusal : List ℕ → List ℕ → Option Refusal
 long_refusal text more = if fits_in text more then None else Some refusal.TextTooLong
 
 abbrev pub errors_refusal : List (Option Window) → Option ℕ → List ℕ → Option Refusal
-errors_refusal windows None text = if is_full (world_of windows) then Some refusal.TooManyWindows else long_refusal [] text
+errors_refusal windows None text = if world_is_full (world_of windows) then Some refusal.TooManyWindows else long_refusal [] text
 errors_refusal windows (Some w) text = long_refusal (text_at windows w) text

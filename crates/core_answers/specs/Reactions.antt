@@ -18,7 +18,7 @@ use Rattle.core_fids.specs.Plumbers.{Plumber}
 use Rattle.core_windows.specs.Windows.{Window, world_of}
 use Rattle.core_fids.specs.Attaching.{version_reaction, attach_reaction}
 use Rattle.core_fids.specs.Walking.{walk_reaction}
-use Rattle.core_fids.specs.Opening.{open_reaction, denied, clunk_fid, remove_fid}
+use Rattle.core_fids.specs.Opening.{open_reaction, denial, clunk_fid, remove_fid}
 use Rattle.core_fids.specs.Directories.{stat_fid}
 use Rattle.core_answers.specs.Reading.{read_reaction}
 use Rattle.core_answers.specs.Writing.{write_reaction}
@@ -28,20 +28,20 @@ abbrev pub flush_reaction : ℕ → Reaction
 flush_reaction oldtag = record { effect = effect.Nothing; events = events.Cancels oldtag; changes = []; demand = demand.Nothing; answer = Says r.Flush }
 
 -- what a message does in a session, where so many openings of event files were made
-abbrev pub served : Tables → World → List (Option Window) → Plumber → ℕ → ℕ → TBody → Result Reaction Refusal
-served tables world windows plumber openings conn (t.Version msize version) = Ok (version_reaction msize version)
-served tables world windows plumber openings conn (t.Auth afid uname aname) = Err refusal.AuthenticationNotRequired
-served tables world windows plumber openings conn (t.Flush oldtag) = Ok (flush_reaction oldtag)
-served tables world windows plumber openings conn (t.Attach fid afid uname aname) = attach_reaction tables conn fid afid aname
-served tables world windows plumber openings conn (t.Walk fid newfid names) = walk_reaction tables world plumber.names conn fid newfid names
-served tables world windows plumber openings conn (t.Open fid mode) = open_reaction tables world plumber openings conn fid mode
-served tables world windows plumber openings conn (t.Create fid name perm mode) = denied (fid_of tables conn fid)
-served tables world windows plumber openings conn (t.Read fid offset count) = read_reaction tables world windows plumber conn fid offset count
-served tables world windows plumber openings conn (t.Write fid offset bytes) = write_reaction tables world windows plumber.names conn fid bytes
-served tables world windows plumber openings conn (t.Clunk fid) = clunk_fid fid (fid_of tables conn fid)
-served tables world windows plumber openings conn (t.Remove fid) = remove_fid fid (fid_of tables conn fid)
-served tables world windows plumber openings conn (t.Stat fid) = stat_fid world plumber.names (fid_of tables conn fid)
-served tables world windows plumber openings conn (t.Wstat fid stat) = denied (fid_of tables conn fid)
+abbrev pub session_reaction : Tables → World → List (Option Window) → Plumber → ℕ → ℕ → TBody → Result Reaction Refusal
+session_reaction tables world windows plumber openings conn (t.Version msize version) = Ok (version_reaction msize version)
+session_reaction tables world windows plumber openings conn (t.Auth afid uname aname) = Err refusal.AuthenticationNotRequired
+session_reaction tables world windows plumber openings conn (t.Flush oldtag) = Ok (flush_reaction oldtag)
+session_reaction tables world windows plumber openings conn (t.Attach fid afid uname aname) = attach_reaction tables conn fid afid aname
+session_reaction tables world windows plumber openings conn (t.Walk fid newfid names) = walk_reaction tables world plumber.names conn fid newfid names
+session_reaction tables world windows plumber openings conn (t.Open fid mode) = open_reaction tables world plumber openings conn fid mode
+session_reaction tables world windows plumber openings conn (t.Create fid name perm mode) = denial (fid_of tables conn fid)
+session_reaction tables world windows plumber openings conn (t.Read fid offset count) = read_reaction tables world windows plumber conn fid offset count
+session_reaction tables world windows plumber openings conn (t.Write fid offset bytes) = write_reaction tables world windows plumber.names conn fid bytes
+session_reaction tables world windows plumber openings conn (t.Clunk fid) = clunk_fid fid (fid_of tables conn fid)
+session_reaction tables world windows plumber openings conn (t.Remove fid) = remove_fid fid (fid_of tables conn fid)
+session_reaction tables world windows plumber openings conn (t.Stat fid) = stat_fid world plumber.names (fid_of tables conn fid)
+session_reaction tables world windows plumber openings conn (t.Wstat fid stat) = denial (fid_of tables conn fid)
 
 -- a Tversion alone needs no session
 abbrev pub needs_session : TBody → Bool
@@ -66,4 +66,4 @@ comes_first tables conn body = needs_session body && not (is_there (msize_of tab
 abbrev pub reaction : Tables → List (Option Window) → Plumber → ℕ → ℕ → TBody → Reaction
 reaction tables windows plumber openings conn body =
     if comes_first tables conn body then refused refusal.VersionFirst
-    else reaction_or_refusal (served tables (world_of windows) windows plumber openings conn body)
+    else reaction_or_refusal (session_reaction tables (world_of windows) windows plumber openings conn body)

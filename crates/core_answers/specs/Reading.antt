@@ -24,8 +24,8 @@ use Rattle.core_windows.specs.Windows.{Window, window_at}
 use Rattle.core_answers.specs.Texts.{part_at, read_of, text_at, tag_if_live, ctl_if_live, index_from}
 
 -- what is answered where nothing changes
-abbrev pub shown : List ℕ → Reaction
-shown bytes = does effect.Nothing [] (r.Read bytes)
+abbrev pub bytes_reaction : List ℕ → Reaction
+bytes_reaction bytes = does effect.Nothing [] (r.Read bytes)
 
 -- ---- event files and ports
 
@@ -45,19 +45,19 @@ read_port number count (Some opening) =
 
 abbrev pub read_content : World → List (Option Window) → Plumber → ℕ → Fid → ℕ → ℕ → Content → Result Reaction Refusal
 read_content world windows plumber number fid offset count content.Directory = read_dir world plumber.names number fid offset count (place_at fid offset)
-read_content world windows plumber number fid offset count (content.BodyText w) = Ok (shown (read_of (text_at windows w) offset count))
-read_content world windows plumber number fid offset count (content.TagText w) = Ok (shown (read_of (tag_if_live (window_at windows w)) offset count))
-read_content world windows plumber number fid offset count (content.CtlText w) = Ok (shown (part_at (ctl_if_live w (window_at windows w)) offset count))
-read_content world windows plumber number fid offset count (content.AddrText w) = Ok (shown (part_at (addr_text (window_at windows w)) offset count))
+read_content world windows plumber number fid offset count (content.BodyText w) = Ok (bytes_reaction (read_of (text_at windows w) offset count))
+read_content world windows plumber number fid offset count (content.TagText w) = Ok (bytes_reaction (read_of (tag_if_live (window_at windows w)) offset count))
+read_content world windows plumber number fid offset count (content.CtlText w) = Ok (bytes_reaction (part_at (ctl_if_live w (window_at windows w)) offset count))
+read_content world windows plumber number fid offset count (content.AddrText w) = Ok (bytes_reaction (part_at (addr_text (window_at windows w)) offset count))
 read_content world windows plumber number fid offset count (content.DataOf w) = Ok (data_reaction w count (window_at windows w))
 read_content world windows plumber number fid offset count (content.XdataOf w) = Ok (xdata_reaction w count (window_at windows w))
-read_content world windows plumber number fid offset count content.IndexText = Ok (shown (part_at (index_from 1 windows) offset count))
+read_content world windows plumber number fid offset count content.IndexText = Ok (bytes_reaction (part_at (index_from 1 windows) offset count))
 read_content world windows plumber number fid offset count (content.ErrorsOf w) = Err refusal.PermissionDenied
-read_content world windows plumber number fid offset count content.ConsErrors = Ok (shown [])
-read_content world windows plumber number fid offset count content.Empty = Ok (shown [])
+read_content world windows plumber number fid offset count content.ConsErrors = Ok (bytes_reaction [])
+read_content world windows plumber number fid offset count content.Empty = Ok (bytes_reaction [])
 read_content world windows plumber number fid offset count (content.EventsOf w) = read_opening number count (event_opening fid)
 read_content world windows plumber number fid offset count content.SendText = Err refusal.PermissionDenied
-read_content world windows plumber number fid offset count content.RulesText = Ok (shown (part_at plumber.text offset count))
+read_content world windows plumber number fid offset count content.RulesText = Ok (bytes_reaction (part_at plumber.text offset count))
 read_content world windows plumber number fid offset count (content.PortOf k) = read_port number count (port_opening fid)
 
 -- a fid is used where it was opened for that

@@ -26,8 +26,8 @@ abbrev pub tag_of : Window → Tag
 tag_of window = record { name = window.name; right = window.right }
 
 -- what the tag offers: Undo and Redo where there is a group, Put where the window is modified, Get where it is a directory
-abbrev pub offered : Window → Shown
-offered window = record {
+abbrev pub shown_of : Window → Shown
+shown_of window = record {
   undo = not (length window.body.history.past == 0);
   redo = not (length window.body.history.future == 0);
   modified = window.modified;
@@ -36,7 +36,7 @@ offered window = record {
 
 -- the whole text of the tag
 abbrev pub whole_tag : Window → List ℕ
-whole_tag window = tag_text (tag_of window) (offered window)
+whole_tag window = tag_text (tag_of window) (shown_of window)
 
 -- what `ctl` shows
 abbrev pub ctl_of : ℕ → Window → List ℕ

@@ -23,13 +23,13 @@ use Rattle.core_fids.specs.declared.content.Content.TheVariants as content
 use Rattle.core_answers.specs.Addressing.{addr_reaction, taking_reaction}
 use Rattle.core_fids.specs.Contents.{content_of}
 use Rattle.core_answers.specs.Erring.{fits_in, fits_tag, appends, errors_of, root_errors, errors_changes, errors_refusal}
-use Rattle.core_fids.specs.Fids.{is_for_writing, holding, held_with, emptied}
+use Rattle.core_fids.specs.Fids.{is_for_writing, fid_with_part, held_with, emptied_fid}
 use Rattle.core_answers.specs.Reading.{use_refusal, or_reads}
 use Rattle.core_answers.specs.Texts.{text_at, right_of}
 
 -- the whole count is answered
-abbrev pub written : List Change → ℕ → Fid → ℕ → Reaction
-written changes number fid count = does (effect.Puts number fid) changes (r.Write count)
+abbrev pub change_reaction : List Change → ℕ → Fid → ℕ → Reaction
+change_reaction changes number fid count = does (effect.Puts number fid) changes (r.Write count)
 
 -- what is done where the window lives
 abbrev pub if_lives : Option Window → Result Reaction Refusal → Result Reaction Refusal
@@ -43,13 +43,13 @@ whole_runes fid bytes = decode_part (part_bytes fid.part ++ bytes)
 
 abbrev pub append_reaction : List (Option Window) → ℕ → Fid → ℕ → ℕ → Decoded → Result Reaction Refusal
 append_reaction windows number fid w count decoded = if_lives (window_at windows w) (if fits_in (text_at windows w) decoded.text
-    then Ok (written (appends windows w decoded.text) number (holding fid (part_of decoded.rest)) count)
+    then Ok (change_reaction (appends windows w decoded.text) number (fid_with_part fid (part_of decoded.rest)) count)
     else Err refusal.TextTooLong)
 
 -- the right part of the tag alone can be written
 abbrev pub add_reaction : List (Option Window) → ℕ → Fid → ℕ → ℕ → Decoded → Result Reaction Refusal
 add_reaction windows number fid w count decoded = if_lives (window_at windows w) (if fits_tag (right_of (window_at windows w)) decoded.text
-    then Ok (written (change.Adds w decoded.text ∷ []) number (holding fid (part_of decoded.rest)) count)
+    then Ok (change_reaction (change.Adds w decoded.text ∷ []) number (fid_with_part fid (part_of decoded.rest)) count)
     else Err refusal.TextTooLong)
 
 abbrev pub or_errors : Option Refusal → Reaction → Result Reaction Refusal
@@ -60,7 +60,7 @@ or_errors (Some refusal) reaction = Err refusal
 abbrev pub errors_reaction : List (Option Window) → ℕ → Fid → List ℕ → ℕ → Decoded → Result Reaction Refusal
 errors_reaction windows number fid name count decoded =
     or_errors (errors_refusal windows (named windows name) decoded.text)
-    (written (errors_changes windows name (named windows name) decoded.text) number (holding fid (part_of decoded.rest)) count)
+    (change_reaction (errors_changes windows name (named windows name) decoded.text) number (fid_with_part fid (part_of decoded.rest)) count)
 
 -- ---- control messages, and event messages that are written back: the scene does them, or refuses
 
@@ -70,9 +70,9 @@ asking_reaction windows w count d = if_lives (window_at windows w) (Ok (demands 
 -- ---- rules and plumb messages: the scene takes what is whole, and the fid holds the rest
 
 -- the fid is emptied here; what the scene leaves of the text is put into it where the scene is known
-abbrev pub handing : ℕ → Fid → ℕ → Demand → Reaction
-handing number fid count d = record {
-  effect = effect.Puts number (emptied fid);
+abbrev pub demand_reaction : ℕ → Fid → ℕ → Demand → Reaction
+demand_reaction number fid count d = record {
+  effect = effect.Puts number (emptied_fid fid);
   events = events.Nothing;
   changes = [];
   demand = d;
@@ -97,8 +97,8 @@ write_content windows number fid bytes content.ConsErrors =
     errors_reaction windows number fid root_errors (length bytes) (whole_runes fid bytes)
 write_content windows number fid bytes content.Empty = Ok (does effect.Nothing [] (r.Write (length bytes)))
 write_content windows number fid bytes (content.EventsOf w) = asking_reaction windows w (length bytes) (demand.WriteBack w bytes)
-write_content windows number fid bytes content.SendText = Ok (handing number fid (length bytes) (demand.Sends (held_with fid bytes)))
-write_content windows number fid bytes content.RulesText = Ok (handing number fid (length bytes) (demand.AddsRules (held_with fid bytes)))
+write_content windows number fid bytes content.SendText = Ok (demand_reaction number fid (length bytes) (demand.Sends (held_with fid bytes)))
+write_content windows number fid bytes content.RulesText = Ok (demand_reaction number fid (length bytes) (demand.AddsRules (held_with fid bytes)))
 write_content windows number fid bytes (content.PortOf k) = Err refusal.PermissionDenied
 
 abbrev pub write_fid : World → List (Option Window) → List (List ℕ) → ℕ → List ℕ → Option Fid → Result Reaction Refusal

@@ -9,7 +9,7 @@ ghost use Rattle.core_fids.specs.Refusals.{Gives};
 use crate::read::show;
 use am_text::{Bytes, Items, NoMemory, Range};
 use core_addresses::{
-    Given, RangeFault, Taken, addressed, data_given, data_taken, range_text, xdata_given,
+    Given, RangeFault, Taken, address_range, data_given, data_taken, range_text, xdata_given,
 };
 use core_fids::{Effect, Fault, Reaction, Refusal};
 use core_windows::{Change, Changes, Edits, Setting, Windows};
@@ -128,7 +128,7 @@ pub(crate) fn write_addr(
     let Some(pane) = windows.get(window) else {
         return Err(Fault::Refused(Refusal::WindowDeleted));
     };
-    let range = match addressed(alloc, &pane.body, bytes) {
+    let range = match address_range(alloc, &pane.body, bytes) {
         Ok(range) => range,
         Err(fault) => return Err(fault_of(fault)),
     };

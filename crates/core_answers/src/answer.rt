@@ -5,7 +5,7 @@ ghost use Rattle.ninep_types.specs.Spelling.{BodyFits_t};
 ghost use Rattle.core_fids.specs.Done.{IsDone, IsStill};
 ghost use Rattle.core_fids.specs.Refusals.{Gives};
 ghost use Rattle.core_fids.specs.Servers.{plumber_in, tables_in, windows_in, world_in};
-ghost use Rattle.core_answers.specs.Reactions.{flush_reaction, served, needs_session, comes_first, reaction};
+ghost use Rattle.core_answers.specs.Reactions.{flush_reaction, session_reaction, needs_session, comes_first, reaction};
 
 use crate::read::read;
 use crate::write::write;
@@ -31,10 +31,10 @@ fn flush(alloc: Global, oldtag: u16) -> Reaction
 }
 
 #[tactic(auto, using(crate::proofs::Possibly::still))]
-fn served(alloc: Global, server: &Server, body: &TBody) -> Result<Reaction, Fault>
+fn session_reaction(alloc: Global, server: &Server, body: &TBody) -> Result<Reaction, Fault>
     requires { BodyFits_t body.now }
-    ensures exact { IfOk result (λ r. served (tables_in server.now) (world_in server.now) (windows_in server.now) (plumber_in server.now) server.now.openings server.now.conn body.now ≡ Ok r) }
-    ensures refused { IfErr result (λ e. Gives e (served (tables_in server.now) (world_in server.now) (windows_in server.now) (plumber_in server.now) server.now.openings server.now.conn body.now)) }
+    ensures exact { IfOk result (λ r. session_reaction (tables_in server.now) (world_in server.now) (windows_in server.now) (plumber_in server.now) server.now.openings server.now.conn body.now ≡ Ok r) }
+    ensures refused { IfErr result (λ e. Gives e (session_reaction (tables_in server.now) (world_in server.now) (windows_in server.now) (plumber_in server.now) server.now.openings server.now.conn body.now)) }
     ensures done { IfOk result (IsDone (windows_in server.now)) }
 {
     match body {
@@ -99,7 +99,7 @@ pub fn reaction_of(alloc: Global, server: &Server, body: &TBody) -> Result<React
     if comes_first(server, body) {
         return refuse(alloc, Effect::Nothing, Refusal::VersionFirst);
     }
-    match served(alloc, server, body) {
+    match session_reaction(alloc, server, body) {
         Ok(reaction) => Ok(reaction),
         Err(Fault::Refused(refusal)) => refuse(alloc, Effect::Nothing, refusal),
         Err(Fault::NoMemory) => Err(NoMemory),

@@ -1,27 +1,19 @@
 //! Texts for windows: what is put at the end of a body, and what is written to `errors` and `cons`, after acme(4).
 
 ghost use Rattle.std.specs.Prelude.{◌≡◌, ◌+◌, ◌++◌, ◌<◌, ◌≤◌, ◌^◌, ◌==◌, nat_le, [], ◌∷◌, if◌then◌else◌, false, is_some, IsSome, IfSome, IfOk, length, None};
-ghost use Rattle.acme_tree.specs.Trees.{is_full};
+ghost use Rattle.acme_tree.specs.Trees.{world_is_full};
 ghost use Rattle.core_fids.specs.Done.{CanBeMade};
 ghost use Rattle.core_windows.specs.Windows.{window_at, world_of};
-ghost use Rattle.core_answers.specs.Erring.{fits_in, fits_tag, edits_at_end, appends, errors_name, errors_of, root_errors, errors_changes, long_refusal, errors_refusal};
+ghost use Rattle.core_answers.specs.Erring.{fits_in, fits_tag, edits_at_end, appends, errors_of, root_errors, errors_changes, long_refusal, errors_refusal};
 ghost use Rattle.core_answers.specs.Texts.{text_at, right_of, name_of, text_of};
 
-use acme_tree::is_full;
+use acme_tree::world_is_full;
 use am_text::{Items, Letters, NoMemory, Rune, Runes};
 use core_fids::Refusal;
 use core_windows::{Change, Changes, Edit, Edits, Windows};
 use std::alloc::Global;
-use win_ctl::directory;
-
-/// The end of the name of an errors window: `+Errors`.
-const ERRORS: [Rune; 7] = [43, 69, 114, 114, 111, 114, 115];
-
-/// The most runes that a body may have.
-const RUNES: usize = 16777216;
-
-/// The most runes that the right part of a tag may have.
-const TAG_RUNES: usize = 65536;
+use win_ctl::{SLASH, TAG_RUNES, directory, errors_name};
+use win_text::BODY_RUNES;
 
 /// Whether the window of that number lives.
 pub(crate) fn lives(windows: &Windows, window: u32) -> bool
@@ -60,7 +52,7 @@ fn fits(len: usize, more: usize, most: usize) -> bool
 pub(crate) fn fits_body(windows: &Windows, window: u32, text: &[Rune]) -> bool
     ensures { result ≡ fits_in (text_at windows.now.present window) text.now }
 {
-    fits(body_len(windows, window), text.len(), RUNES)
+    fits(body_len(windows, window), text.len(), BODY_RUNES)
 }
 
 /// Whether the right part of a window's tag has room for a text.
@@ -108,21 +100,18 @@ pub(crate) fn append_changes(
 pub(crate) fn errors_of(alloc: Global, windows: &Windows, window: u32) -> Result<Runes, NoMemory>
     ensures { IfOk result (λ name. name ≡ errors_of (window_at windows.now.present window)) }
 {
-    let mut name = match windows.get(window) {
+    let dir = match windows.get(window) {
         Some(pane) => directory(alloc, pane.name.as_slice())?,
         None => directory(alloc, &[])?,
     };
-    name.append(&ERRORS)?;
-    Ok(name)
+    errors_name(alloc, dir.as_slice())
 }
 
 /// The name of the errors window of the directory `/`.
 pub(crate) fn root_errors(alloc: Global) -> Result<Runes, NoMemory>
     ensures { IfOk result (λ name. name ≡ root_errors) }
 {
-    let mut name = Runes::copied(alloc, &[47])?;
-    name.append(&ERRORS)?;
-    Ok(name)
+    errors_name(alloc, &[SLASH])
 }
 
 /// Why a text can't be put into the errors window, or into a new one where there is none.
@@ -134,8 +123,8 @@ pub(crate) fn errors_refusal(
     ensures { result ≡ errors_refusal windows.now.present window text.now }
 {
     match window {
-        None if is_full(windows.world()) => Some(Refusal::TooManyWindows),
-        None if fits(0, text.len(), RUNES) => None,
+        None if world_is_full(windows.world()) => Some(Refusal::TooManyWindows),
+        None if fits(0, text.len(), BODY_RUNES) => None,
         None => Some(Refusal::TextTooLong),
         Some(window) if fits_body(windows, window, text) => None,
         Some(_) => Some(Refusal::TextTooLong),
@@ -167,7 +156,7 @@ fn make_changes(
     name: Runes,
     text: Runes,
 ) -> Result<Changes, NoMemory>
-    requires { is_full (world_of windows.now.present) ≡ false }
+    requires { world_is_full (world_of windows.now.present) ≡ false }
     ensures exact { IfOk result (λ changes. changes ≡ errors_changes windows.now.present name None text) }
     ensures possible { IfOk result (CanBeMade windows.now.present) }
 {

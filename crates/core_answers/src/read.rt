@@ -6,7 +6,7 @@ ghost use Rattle.core_fids.specs.Done.{IsDone, IsStill};
 ghost use Rattle.core_fids.specs.Fids.{event_opening, is_for_reading, is_for_writing, port_opening};
 ghost use Rattle.core_fids.specs.Refusals.{Gives};
 ghost use Rattle.core_fids.specs.Servers.{plumber_in, tables_in, windows_in, world_in};
-ghost use Rattle.core_answers.specs.Reading.{shown, read_content, read_opening, read_port, use_refusal, most, read_reaction};
+ghost use Rattle.core_answers.specs.Reading.{bytes_reaction, read_content, read_opening, read_port, use_refusal, most, read_reaction};
 ghost use Rattle.core_answers.specs.Texts.{part_at};
 
 use crate::addressing::{addr_text, read_data, read_xdata};
@@ -24,7 +24,7 @@ use std::alloc::Global;
 /// What answers bytes, and changes nothing.
 pub(crate) fn show(alloc: Global, bytes: Bytes) -> Reaction
     requires { length bytes + 11 < 2 ^ 32 }
-    ensures exact { result ≡ shown bytes }
+    ensures exact { result ≡ bytes_reaction bytes }
     ensures still { IsStill result }
 {
     Reaction::plain(Effect::Nothing, Items::new(alloc), RBody::Read { bytes })
@@ -33,7 +33,7 @@ pub(crate) fn show(alloc: Global, bytes: Bytes) -> Reaction
 // What answers the bytes of these that a read gets.
 fn show_part(alloc: Global, bytes: &[u8], reading: &Reading) -> Result<Reaction, NoMemory>
     requires { reading.now.count + 11 < 2 ^ 32 }
-    ensures exact { IfOk result (λ r. r ≡ shown (part_at bytes.now reading.now.offset reading.now.count)) }
+    ensures exact { IfOk result (λ r. r ≡ bytes_reaction (part_at bytes.now reading.now.offset reading.now.count)) }
     ensures still { IfOk result IsStill }
 {
     let part = part_at(alloc, bytes, reading.offset, reading.count as usize)?;

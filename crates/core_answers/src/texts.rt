@@ -3,7 +3,7 @@
 ghost use Rattle.std.specs.Prelude.{◌≡◌, ◌+◌, ◌++◌, ◌<◌, ◌≤◌, ◌^◌, ◌==◌, not, IfOk, length, take, drop};
 ghost use Rattle.core_windows.specs.Panes.{window_of, windows_of};
 ghost use Rattle.core_windows.specs.Windows.{window_at};
-ghost use Rattle.core_answers.specs.Texts.{part_at, read_of, tag_of, offered, whole_tag, ctl_of, line_of, index_from, text_at, tag_if_live, ctl_if_live, is_dir_name};
+ghost use Rattle.core_answers.specs.Texts.{part_at, read_of, tag_of, shown_of, whole_tag, ctl_of, line_of, index_from, text_at, tag_if_live, ctl_if_live, is_dir_name};
 
 use am_text::{Bytes, Items, Letters, NoMemory, Rune, Runes, utf8_slice};
 use core_windows::{Pane, Windows};
@@ -41,8 +41,8 @@ fn tag_of(alloc: Global, pane: &Pane) -> Result<Tag, NoMemory>
     })
 }
 
-fn offered(pane: &Pane) -> Shown
-    ensures { result ≡ offered (window_of pane.now) }
+fn shown_of(pane: &Pane) -> Shown
+    ensures { result ≡ shown_of (window_of pane.now) }
 {
     Shown {
         undo: pane.body.can_undo(),
@@ -57,7 +57,7 @@ pub(crate) fn whole_tag(alloc: Global, pane: &Pane) -> Result<Runes, NoMemory>
     ensures { IfOk result (λ text. text ≡ whole_tag (window_of pane.now)) }
 {
     let tag = tag_of(alloc, pane)?;
-    tag_text(alloc, &tag, offered(pane))
+    tag_text(alloc, &tag, shown_of(pane))
 }
 
 /// What the `ctl` of a window shows.

@@ -6,10 +6,10 @@ ghost use Rattle.am_text.specs.Part.{part_bytes, part_of};
 ghost use Rattle.am_text.specs.Pieces.{decode_part};
 ghost use Rattle.core_fids.specs.Contents.{content_of};
 ghost use Rattle.core_fids.specs.Done.{HasSpelling, IsOfLiving, IsDone};
-ghost use Rattle.core_fids.specs.Fids.{holding};
+ghost use Rattle.core_fids.specs.Fids.{fid_with_part};
 ghost use Rattle.core_fids.specs.Refusals.{Gives};
 ghost use Rattle.core_fids.specs.Servers.{plumber_in, tables_in, windows_in, world_in};
-ghost use Rattle.core_answers.specs.Writing.{handing, whole_runes, written, append_reaction, add_reaction, errors_reaction, asking_reaction, write_content, write_reaction};
+ghost use Rattle.core_answers.specs.Writing.{demand_reaction, whole_runes, change_reaction, append_reaction, add_reaction, errors_reaction, asking_reaction, write_content, write_reaction};
 
 use crate::addressing::{write_addr, write_data};
 use crate::erring::{
@@ -20,7 +20,7 @@ use crate::read::why_not_written;
 use am_text::{Bytes, Items, NoMemory, Part, Runes, decode_part};
 use core_fids::{
     Answer, Content, Demand, Effect, EventChange, Fault, Reaction, Refusal, Server, at_most_three,
-    content_of, emptied, held_with, holding, port_names,
+    content_of, emptied_fid, fid_with_part, held_with, port_names,
 };
 use core_windows::{Change, Changes, Windows};
 use fid_table::Fid;
@@ -45,20 +45,20 @@ fn runes_of(alloc: Global, writing: &Writing) -> Result<(Runes, Part), NoMemory>
 }
 
 // What a write does whose changes are these; the fid holds the bytes of an unfinished rune.
-fn written(
+fn change_reaction(
     alloc: Global,
     writing: &Writing,
     changes: Changes,
     part: Part,
 ) -> Result<Reaction, NoMemory>
     requires { length writing.now.bytes.now < 2 ^ 32 }
-    ensures exact { IfOk result (λ r. r ≡ written changes writing.now.number (holding writing.now.fid.now part) (length writing.now.bytes.now)) }
+    ensures exact { IfOk result (λ r. r ≡ change_reaction changes writing.now.number (fid_with_part writing.now.fid.now part) (length writing.now.bytes.now)) }
     ensures sent { IfOk result (λ r. HasSpelling r.answer) }
 {
     Ok(Reaction::plain(
         Effect::Puts {
             number: writing.number,
-            fid: holding(alloc, writing.fid, part)?,
+            fid: fid_with_part(alloc, writing.fid, part)?,
         },
         changes,
         RBody::Write {
@@ -87,7 +87,7 @@ fn append(
         return Err(Fault::Refused(Refusal::TextTooLong));
     }
     let changes = append_changes(alloc, windows, window, text)?;
-    Ok(written(alloc, writing, changes, part)?)
+    Ok(change_reaction(alloc, writing, changes, part)?)
 }
 
 #[tactic(auto, using(crate::proofs::Possibly::made))]
@@ -106,7 +106,7 @@ fn add(alloc: Global, windows: &Windows, writing: &Writing, window: u32) -> Resu
     }
     let mut changes = Items::new(alloc);
     changes.push(Change::Adds { window, text })?;
-    Ok(written(alloc, writing, changes, part)?)
+    Ok(change_reaction(alloc, writing, changes, part)?)
 }
 
 #[tactic(auto, using(crate::proofs::Possibly::made))]
@@ -127,7 +127,7 @@ fn complain(
         return Err(Fault::Refused(refusal));
     }
     let changes = errors_changes(alloc, windows, name, window, text)?;
-    Ok(written(alloc, writing, changes, part)?)
+    Ok(change_reaction(alloc, writing, changes, part)?)
 }
 
 // What a write does that asks this of a window.
@@ -155,13 +155,13 @@ fn ask(
 fn hand(alloc: Global, writing: &Writing, demand: Demand) -> Reaction
     requires small { length writing.now.bytes.now < 2 ^ 32 }
     requires own { (windows : List (Option Window)) → IsOfLiving windows demand }
-    ensures exact { result ≡ handing writing.now.number writing.now.fid.now (length writing.now.bytes.now) demand }
+    ensures exact { result ≡ demand_reaction writing.now.number writing.now.fid.now (length writing.now.bytes.now) demand }
     ensures done { (windows : List (Option Window)) → IsDone windows result }
 {
     Reaction {
         effect: Effect::Puts {
             number: writing.number,
-            fid: emptied(alloc, writing.fid),
+            fid: emptied_fid(alloc, writing.fid),
         },
         events: EventChange::Nothing,
         changes: Items::new(alloc),

@@ -9,7 +9,8 @@ use Rattle.core_windows.proofs.Conditions.{has_place}
 use Rattle.core_scene.specs.declared.deed.Entry.{Entry}
 use Rattle.core_scene.specs.Scenes.{SceneState, done_all}
 use Rattle.core_actions.specs.Seen.{dir_of}
-use Rattle.core_actions.specs.Errors.{errors_name, errors_deeds, errors_in, put_in, is_dropped}
+use Rattle.win_ctl.specs.Directory.{errors_name}
+use Rattle.core_actions.specs.Errors.{errors_deeds, errors_in, put_in, is_dropped}
 use Rattle.core_edit.specs.declared.fault.CommandFault.{CommandFault}
 use Rattle.core_edit.specs.Faults.{fault_line}
 use Rattle.core_edit.specs.Plans.{Planned, edit_plan}

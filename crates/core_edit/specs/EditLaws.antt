@@ -4,7 +4,7 @@ use Rattle.core_windows.specs.Windows.{window_at, named}
 use Rattle.core_scene.specs.declared.deed.Entry.{Entry}
 use Rattle.core_scene.specs.Scenes.{SceneState, done_all}
 use Rattle.core_actions.specs.Seen.{dir_of}
-use Rattle.core_actions.specs.Errors.{errors_name}
+use Rattle.win_ctl.specs.Directory.{errors_name}
 use Rattle.core_edit.specs.declared.fault.CommandFault.{CommandFault}
 use Rattle.core_edit.specs.Plans.{edit_plan}
 use Rattle.core_edit.specs.Editing.{edit_deeds}

@@ -6,13 +6,13 @@ use Rattle.core_edit.specs.declared.fault.CommandFault.{CommandFault}
 use Rattle.core_edit.specs.declared.fault.CommandFault.TheVariants as fault
 
 -- the fault of a command over a text, as one that is said; want of memory isn't
-abbrev pub told : EditFault → Option CommandFault
-told edit_fault.Range = Some fault.AddressOutOfRange
-told edit_fault.NoMatch = Some fault.NoMatch
-told edit_fault.Order = Some fault.AddressOutOfOrder
-told edit_fault.Sequence = Some fault.ChangesOutOfSequence
-told edit_fault.Overlap = Some fault.MoveOverlaps
-told edit_fault.NoMemory = None
+abbrev pub command_fault : EditFault → Option CommandFault
+command_fault edit_fault.Range = Some fault.AddressOutOfRange
+command_fault edit_fault.NoMatch = Some fault.NoMatch
+command_fault edit_fault.Order = Some fault.AddressOutOfOrder
+command_fault edit_fault.Sequence = Some fault.ChangesOutOfSequence
+command_fault edit_fault.Overlap = Some fault.MoveOverlaps
+command_fault edit_fault.NoMemory = None
 
 abbrev pub fault_text : CommandFault → List ℕ
 fault_text fault.BadCommand = codes "bad command"

@@ -15,38 +15,38 @@ use Rattle.core_windows.specs.Windows.{Window}
 use Rattle.core_actions.specs.Seen.{name_of, dot_of, fits}
 use Rattle.core_edit.specs.declared.fault.CommandFault.{CommandFault}
 use Rattle.core_edit.specs.declared.fault.CommandFault.TheVariants as fault
-use Rattle.core_edit.specs.Faults.{told}
+use Rattle.core_edit.specs.Faults.{command_fault}
 
 -- a plan, or the fault that is said; of want of memory nothing is said
 abbrev pub Planned : Type 0
 Planned = Result EditPlan (Option CommandFault)
 
 -- one of these two, where there is memory
-abbrev pub answered : Result EditPlan CommandFault → Planned
-answered (Ok plan) = Ok plan
-answered (Err f) = Err (Some f)
+abbrev pub as_planned : Result EditPlan CommandFault → Planned
+as_planned (Ok plan) = Ok plan
+as_planned (Err f) = Err (Some f)
 
 -- where the commands of a window are done
 abbrev pub site_of : ℕ → Option Window → Site
 site_of w window = record { window = w; name = name_of window; dot = dot_of window }
 
-abbrev pub said : Result EditPlan EditFault → Planned
-said (Ok plan) = Ok plan
-said (Err f) = Err (told f)
+abbrev pub planned_of : Result EditPlan EditFault → Planned
+planned_of (Ok plan) = Ok plan
+planned_of (Err f) = Err (command_fault f)
 
 -- Wherever a command has the one fault, the other one is said.
 abbrev pub IsToldAs : EditFault → CommandFault → Type 0
-IsToldAs f as_told = (outcome : Result EditPlan EditFault) → IsFault f outcome → said outcome ≡ Err (Some as_told)
+IsToldAs f as_told = (outcome : Result EditPlan EditFault) → IsFault f outcome → planned_of outcome ≡ Err (Some as_told)
 
 -- A plan is one only where the body has room for what it makes.
-abbrev pub fitting : List ℕ → Planned → Planned
-fitting t (Err f) = Err f
-fitting t (Ok plan) = if fits 0 (length (text_after t plan.edits)) then Ok plan else Err (Some fault.TextTooLong)
+abbrev pub plan_if_fits : List ℕ → Planned → Planned
+plan_if_fits t (Err f) = Err f
+plan_if_fits t (Ok plan) = if fits 0 (length (text_after t plan.edits)) then Ok plan else Err (Some fault.TextTooLong)
 
 -- what a command makes of a text, if the text of Edit is one
 abbrev pub plan_of : Option Command → List ℕ → Site → Planned
 plan_of None t site = Err (Some fault.BadCommand)
-plan_of (Some c) t site = fitting t (said (planned c t site))
+plan_of (Some c) t site = plan_if_fits t (planned_of (planned c t site))
 
 -- what a text of Edit makes of a window's body
 abbrev pub edit_plan : ℕ → Option Window → List ℕ → Planned

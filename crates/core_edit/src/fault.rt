@@ -4,8 +4,7 @@ ghost use Rattle.std.specs.Prelude.{◌≡◌, IfOk};
 ghost use Rattle.core_edit.specs.Faults.{fault_text, fault_line};
 ghost use Rattle.core_edit.specs.Plans.{IsToldAs};
 
-use crate::words::put_words;
-use am_text::{NoMemory, Runes};
+use am_text::{NoMemory, Runes, put_words};
 use edit_run::EditFault;
 use std::alloc::Global;
 
@@ -29,7 +28,7 @@ pub enum CommandFault {
 }
 
 /// The fault of a command over a text, as it is said.
-pub(crate) fn told(fault: EditFault) -> Result<CommandFault, NoMemory>
+pub(crate) fn command_fault(fault: EditFault) -> Result<CommandFault, NoMemory>
     ensures { IfOk result (IsToldAs fault) }
 {
     match fault {

@@ -5,7 +5,6 @@ mod doing;
 mod fault;
 mod laws;
 mod planning;
-mod words;
 
 pub use doing::edit;
 pub use fault::CommandFault;

@@ -5,19 +5,16 @@ ghost use Rattle.edit_parts.specs.Tree.{command};
 ghost use Rattle.core_windows.specs.Panes.{window_of};
 ghost use Rattle.core_windows.specs.Possible.{text_in};
 ghost use Rattle.core_windows.specs.Windows.{window_at};
-ghost use Rattle.core_edit.specs.Plans.{answered, site_of, fitting, plan_of, edit_plan, IsPlanOf, length_with, length_after};
+ghost use Rattle.core_edit.specs.Plans.{as_planned, site_of, plan_if_fits, plan_of, edit_plan, IsPlanOf, length_with, length_after};
 
-use crate::fault::{CommandFault, told};
+use crate::fault::{CommandFault, command_fault};
 use am_text::{Letters, NoMemory, Rune, Runes};
 use core_scene::Windows;
 use core_windows::Pane;
 use edit_run::{Cmd, Edit, EditPlan, Site, changes};
 use edit_trees::read_edit;
 use std::alloc::Global;
-use win_text::Body;
-
-/// The most runes that a body may have.
-const RUNES: usize = 16_777_216;
+use win_text::{BODY_RUNES, Body};
 
 /// A plan, or the fault that is said.
 type Planned = Result<EditPlan, CommandFault>;
@@ -48,13 +45,13 @@ fn length_after(size: usize, edits: &[Edit]) -> Result<usize, NoMemory>
 
 // A plan of a body, if the body has room for what it makes.
 #[tactic(auto, using(crate::proofs::Lengths::lengths))]
-fn fitting(body: &Body, plan: EditPlan) -> Result<Planned, NoMemory>
+fn plan_if_fits(body: &Body, plan: EditPlan) -> Result<Planned, NoMemory>
     requires { IsPlanOf body.now.state.text plan }
-    ensures exact { IfOk result (λ planned. answered planned ≡ fitting body.now.state.text (Ok plan)) }
+    ensures exact { IfOk result (λ planned. as_planned planned ≡ plan_if_fits body.now.state.text (Ok plan)) }
     ensures sound { IfOk result (λ planned. IfOk planned (IsPlanOf body.now.state.text)) }
 {
     let len = length_after(body.len(), plan.edits.as_slice())?;
-    if len <= RUNES {
+    if len <= BODY_RUNES {
         Ok(Ok(plan))
     } else {
         Ok(Err(CommandFault::TextTooLong))
@@ -76,14 +73,14 @@ fn site_of(alloc: Global, window: u32, pane: &Pane) -> Result<Site, NoMemory>
 // What a command makes of a window's body.
 #[tactic(auto, using(crate::proofs::Lengths::ranges))]
 fn plan_of(alloc: Global, window: u32, pane: &Pane, cmd: &Cmd) -> Result<Planned, NoMemory>
-    ensures exact { IfOk result (λ planned. answered planned ≡ plan_of (Some (command cmd.now)) pane.now.body.state.text (site_of window (Some (window_of pane.now)))) }
+    ensures exact { IfOk result (λ planned. as_planned planned ≡ plan_of (Some (command cmd.now)) pane.now.body.state.text (site_of window (Some (window_of pane.now)))) }
     ensures sound { IfOk result (λ planned. IfOk planned (IsPlanOf pane.now.body.state.text)) }
 {
     pane.body.is_sound();
     let site = site_of(alloc, window, pane)?;
     match changes(alloc, cmd, &pane.body, &site) {
-        Ok(plan) => fitting(&pane.body, plan),
-        Err(fault) => Ok(Err(told(fault)?)),
+        Ok(plan) => plan_if_fits(&pane.body, plan),
+        Err(fault) => Ok(Err(command_fault(fault)?)),
     }
 }
 
@@ -95,7 +92,7 @@ pub(crate) fn edit_plan(
     text: &[Rune],
 ) -> Result<Planned, NoMemory>
     requires { IsSome (window_at windows.now.present window) }
-    ensures exact { IfOk result (λ planned. answered planned ≡ edit_plan window (window_at windows.now.present window) text.now) }
+    ensures exact { IfOk result (λ planned. as_planned planned ≡ edit_plan window (window_at windows.now.present window) text.now) }
     ensures sound { IfOk result (λ planned. IfOk planned (IsPlanOf (text_in (window_at windows.now.present window)))) }
 {
     let Some(cmd) = read_edit(alloc, text)? else {

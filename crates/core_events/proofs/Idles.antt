@@ -29,7 +29,7 @@ use Rattle.core_fids.specs.declared.effect.Effect.TheVariants as effect
 use Rattle.core_fids.specs.declared.effect.EventChange.{EventChange}
 use Rattle.core_fids.specs.declared.effect.EventChange.TheVariants as events
 use Rattle.core_scene.specs.declared.deed.WindowItem.{WindowItem}
-use Rattle.core_events.specs.Asking.{opened, is_full, book_asked, book_read}
+use Rattle.core_events.specs.Asking.{opened, reads_are_full, book_asked, book_read}
 use Rattle.core_events.specs.declared.closing.BackItem.{BackItem}
 use Rattle.core_events.specs.Closing.{written_back, without_opening as without_owned, without_fid, without_fids, opening_in, freed, cancelled, closed_with}
 use Rattle.core_events.specs.Putting.{put_one, put_all, is_among, is_ending, put_if_lives, put_living, ending}
@@ -274,8 +274,8 @@ module _ (deleted : List ℕ) (at : ℕ) where
 
   pub read_idle : (t : Tables) (s : BookState) (a : Asker) → AreIdle deleted at s → AreIdle deleted at (book_read t s a at)
   read_idle t s a b =
-      (elim (is_living s a.opening) as (λ l. is_living s a.opening ≡ l → AreIdle deleted at (cond l (book_asked (is_full t a.conn) (asked_of s a) s a at) s)) [
-        | true ↦ λ living. asked_idle (is_full t a.conn) (asked_of s a) s a living b
+      (elim (is_living s a.opening) as (λ l. is_living s a.opening ≡ l → AreIdle deleted at (cond l (book_asked (reads_are_full t a.conn) (asked_of s a) s a at) s)) [
+        | true ↦ λ living. asked_idle (reads_are_full t a.conn) (asked_of s a) s a living b
         | false ↦ λ dead. b
       ]) refl
 

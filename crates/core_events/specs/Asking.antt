@@ -21,8 +21,8 @@ opened book (events.Joins port) = book
 opened book (events.Cancels tag) = book
 
 -- a connection has 64 waiting reads at most
-abbrev pub is_full : Tables → ℕ → Bool
-is_full tables conn = nat_le 64 (count_by (is_waiting_on conn) tables.waiting)
+abbrev pub reads_are_full : Tables → ℕ → Bool
+reads_are_full tables conn = nat_le 64 (count_by (is_waiting_on conn) tables.waiting)
 
 -- What is said to a read at once; none where it waits. A connection whose reads are 64 can't have another one that waits.
 abbrev pub said_to : Bool → Asked → Option RBody
@@ -38,12 +38,12 @@ book_asked false Waits book asker at = after_ask book asker at
 -- an opening that is closed is one of a deleted window
 abbrev pub read_said : Tables → BookState → Asker → Option RBody
 read_said tables book asker = if is_living book asker.opening
-    then said_to (is_full tables asker.conn) (asked_of book asker)
+    then said_to (reads_are_full tables asker.conn) (asked_of book asker)
     else Some (r.Error (refusal_text refusal.WindowDeleted))
 
 abbrev pub book_read : Tables → BookState → Asker → ℕ → BookState
 book_read tables book asker at = if is_living book asker.opening
-    then book_asked (is_full tables asker.conn) (asked_of book asker) book asker at
+    then book_asked (reads_are_full tables asker.conn) (asked_of book asker) book asker at
     else book
 
 -- a read of this fid waits where nothing is said to it

@@ -4,18 +4,15 @@ ghost use Rattle.std.specs.Prelude.{◌≡◌, ℕ, ◌+◌, ◌<◌, ◌^◌, I
 ghost use Rattle.am_text.specs.Twice.{IsSteady};
 ghost use Rattle.fid_table.specs.Tables.{HasJoined};
 ghost use Rattle.core_fids.specs.Done.{IsSent};
-ghost use Rattle.core_events.specs.Asking.{opened, is_full, read_said, book_read, tables_read};
+ghost use Rattle.core_events.specs.Asking.{opened, reads_are_full, read_said, book_read, tables_read};
 ghost use Rattle.core_events.specs.Sound.{IsSound};
 
 use am_text::NoMemory;
-use core_fids::{EventChange, RBody, Refusal, error};
+use core_fids::{EventChange, OPENINGS, RBody, Refusal, error};
 use event_book::Book;
 use fid_table::Sessions;
 use std::alloc::Global;
 use wait_queue::{Asked, Asker};
-
-/// The most openings of event files that are ever made.
-const OPENINGS: usize = 4294967295;
 
 /// The most reads of a connection that wait.
 const READS: usize = 64;
@@ -40,8 +37,8 @@ pub fn open_events(book: &mut Book, events: EventChange) -> Result<(), NoMemory>
 }
 
 /// Whether as many reads of a connection wait as may.
-pub fn is_full(sessions: &Sessions, conn: u32) -> bool
-    ensures { result ≡ is_full sessions.now.present conn }
+pub fn reads_are_full(sessions: &Sessions, conn: u32) -> bool
+    ensures { result ≡ reads_are_full sessions.now.present conn }
 {
     sessions.waiting(conn) >= READS
 }
@@ -72,7 +69,7 @@ pub fn read_events(
     }
     match book.ask(asker, at)? {
         Asked::Now(piece) => Ok(Some(RBody::Read { bytes: piece.bytes })),
-        Asked::Waits if is_full(sessions, asker.conn) => {
+        Asked::Waits if reads_are_full(sessions, asker.conn) => {
             book.back();
             Ok(Some(error(alloc, Refusal::TooManyWaitingReads)?))
         }

@@ -10,7 +10,7 @@ use Rattle.core_actions.specs.Looking.{find_deeds, look_deeds}
 use Rattle.core_actions.specs.Opening.{new_deeds}
 use Rattle.core_edit.specs.Editing.{edit_deeds}
 use Rattle.core_plumb.specs.Looking.{is_plumbed}
-use Rattle.core_exec.specs.Looking.{looks}
+use Rattle.core_exec.specs.Looking.{look_at_text_deeds}
 use Rattle.core_exec.specs.Executing.{said_if_any}
 
 pub said_after : (e : Entry) (a b c : SceneState) (xs : List Deed) (d d' word : List ℕ) (f f' : Option ActionFault) → Did e a b xs → d ≡ d' → f ≡ f'
@@ -34,8 +34,8 @@ edited_too e a b w t t' h did = subst (λ (x : List ℕ). Did e a b (edit_deeds 
 -- ---- a look
 
 -- the plumber leaves it, and the scene as it was
-pub other_look : (e : Entry) (a m b : SceneState) (w : ℕ) (t t' : List ℕ) → false ≡ is_plumbed w t' a → m ≡ a → t ≡ t' → Did e m b (look_deeds e w t m) → Did e a b (looks e w t' a)
-unfolding looks
+pub other_look : (e : Entry) (a m b : SceneState) (w : ℕ) (t t' : List ℕ) → false ≡ is_plumbed w t' a → m ≡ a → t ≡ t' → Did e m b (look_deeds e w t m) → Did e a b (look_at_text_deeds e w t' a)
+unfolding look_at_text_deeds
 other_look e a m b w t t' h same k did =
     let here : Did e a b (look_deeds e w t' a) = subst (λ (x : SceneState). Did e x b (look_deeds e w t' x)) same (subst (λ (x : List ℕ). Did e m b (look_deeds e w x m)) k did) in
     rw (sym h) here

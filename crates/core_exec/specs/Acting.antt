@@ -13,7 +13,7 @@ use Rattle.am_journal.specs.declared.event.Spot.{Spot}
 use Rattle.core_exec.specs.declared.click.Clicked.{Clicked}
 use Rattle.core_exec.specs.Clicks.{clicked_at, own_text, argument_if_any, text_if_any, exec_item, look_item}
 use Rattle.core_exec.specs.Executing.{exec_deeds}
-use Rattle.core_exec.specs.Looking.{look_step, looks}
+use Rattle.core_exec.specs.Looking.{look_step, look_at_text_deeds}
 
 -- ---- clicks
 
@@ -33,7 +33,7 @@ exec_at_deeds e at chord s = exec_clicked e at (argument_if_any s.windows chord)
 unfoldable pub look_click : Entry → Spot → Clicked → SceneState → List Deed
 look_click e at c s =
     if is_open_window s.book at.window then deed.Item at.window (look_item at c (look_step at.window (own_text c.text c.expanded) s)) ∷ []
-    else looks e at.window (own_text c.text c.expanded) s
+    else look_at_text_deeds e at.window (own_text c.text c.expanded) s
 
 abbrev pub look_clicked : Entry → Spot → Option Clicked → SceneState → List Deed
 look_clicked e at None s = []
@@ -49,8 +49,8 @@ look_at_deeds e at s = look_clicked e at (clicked_at s.windows at click.Look) s
 abbrev pub action_of : Entry → ℕ → Sort → List ℕ → Option (List ℕ) → SceneState → List Deed
 action_of e w sort.BodyExec text chord s = exec_deeds e w text chord s
 action_of e w sort.TagExec text chord s = exec_deeds e w text chord s
-action_of e w sort.BodyLook text chord s = looks e w text s
-action_of e w sort.TagLook text chord s = looks e w text s
+action_of e w sort.BodyLook text chord s = look_at_text_deeds e w text s
+action_of e w sort.TagLook text chord s = look_at_text_deeds e w text s
 action_of e w sort.BodyDel text chord s = []
 action_of e w sort.TagDel text chord s = []
 action_of e w sort.BodyIns text chord s = []

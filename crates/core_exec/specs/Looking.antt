@@ -21,5 +21,5 @@ abbrev pub look_step : ℕ → List ℕ → SceneState → LookStep
 look_step w text s = if is_plumbed w text s then step.Plumbs else target_step (look_target w text s)
 
 -- a look at a text, in a window: the plumber takes it, or else it is opened as a name or searched for
-unfoldable pub looks : Entry → ℕ → List ℕ → SceneState → List Deed
-looks e w text s = if is_plumbed w text s then plumb_look_deeds e w text s else look_deeds e w text s
+unfoldable pub look_at_text_deeds : Entry → ℕ → List ℕ → SceneState → List Deed
+look_at_text_deeds e w text s = if is_plumbed w text s then plumb_look_deeds e w text s else look_deeds e w text s

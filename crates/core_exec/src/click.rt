@@ -7,10 +7,9 @@ ghost use Rattle.core_windows.specs.Panes.{window_of};
 ghost use Rattle.core_windows.specs.Windows.{window_at};
 ghost use Rattle.core_exec.specs.Clicks.{side_text, part_of, IsSpot, clicked, clicked_at, own_text, place_text, argument_at, argument_if_any};
 
-use crate::words::put_words;
 use acme_cmd::{Click, expand};
 use am_journal::{Side, Spot};
-use am_text::{NoMemory, Range, Rune, Runes, decimal};
+use am_text::{NoMemory, Range, Rune, Runes, decimal, put_words};
 use core_actions::name_at;
 use core_scene::Windows;
 use core_windows::Pane;

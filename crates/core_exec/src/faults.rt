@@ -4,8 +4,7 @@ ghost use Rattle.std.specs.Prelude.{◌≡◌, IfOk, OnOk};
 ghost use Rattle.core_scene.specs.Scenes.{scene_of, kept_of, Did};
 ghost use Rattle.core_exec.specs.Executing.{fault_text, fault_line, said_if_any};
 
-use crate::words::put_words;
-use am_text::{NoMemory, Runes};
+use am_text::{NoMemory, Runes, put_words};
 use core_actions::{ActionFault, append_errors};
 use core_scene::{Entry, Scene};
 use std::alloc::Global;

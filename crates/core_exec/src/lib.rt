@@ -10,7 +10,6 @@ mod items;
 mod looking;
 mod requests;
 mod running;
-mod words;
 
 pub use acting::{act_on, exec_at, look_at};
 pub use am_journal::{Side, Spot};

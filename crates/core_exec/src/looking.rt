@@ -3,7 +3,7 @@
 ghost use Rattle.std.specs.Prelude.{◌≡◌, IsSome, IfOk, OnOk};
 ghost use Rattle.core_windows.specs.Windows.{window_at};
 ghost use Rattle.core_scene.specs.Scenes.{scene_of, kept_of, Did};
-ghost use Rattle.core_exec.specs.Looking.{target_step, look_step, looks};
+ghost use Rattle.core_exec.specs.Looking.{target_step, look_step, look_at_text_deeds};
 
 use am_text::{NoMemory, Runes};
 use core_actions::{Target, look, look_target};
@@ -51,7 +51,7 @@ pub(crate) fn look_step(
 }
 
 /// Looks at a text of a window: the plumber takes it, or else it is opened as a name or searched for.
-#[tactic(auto, unfolding(crate::specs::Looking::looks))]
+#[tactic(auto, unfolding(crate::specs::Looking::look_at_text_deeds))]
 pub(crate) fn look_at_text(
     alloc: Global,
     scene: &mut Scene,
@@ -60,7 +60,7 @@ pub(crate) fn look_at_text(
     text: &Runes,
 ) -> Result<(), NoMemory>
     requires { IsSome (window_at scene.old.windows.present window) }
-    ensures ok { OnOk result (Did entry (scene_of scene.old) (scene_of scene.new) (looks entry window text.now (scene_of scene.old))) }
+    ensures ok { OnOk result (Did entry (scene_of scene.old) (scene_of scene.new) (look_at_text_deeds entry window text.now (scene_of scene.old))) }
     ensures kept { kept_of scene.new ≡ kept_of scene.old }
 {
     if plumb_look(alloc, scene, entry, window, text)? {

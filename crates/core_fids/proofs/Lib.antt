@@ -1,5 +1,5 @@
 pub mod Answers
-pub mod Trails
+pub mod Courses
 pub mod Entries
 pub mod Parted
 pub mod Named

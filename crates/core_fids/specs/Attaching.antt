@@ -2,6 +2,7 @@
 use Rattle.std.specs.Prelude.{[], ℕ, Bool, ◌==◌, ◌||◌, not, nat_eq, nat_lt, min, List, length, codes, Option, Some, None, Result, Ok, Err, if◌then◌else◌}
 use Rattle.std.specs.Str.{bytes_eq}
 use Rattle.std.specs.List.{starts_with}
+use Rattle.ninep_types.specs.Limits.{max_msize}
 use Rattle.ninep_types.specs.declared.message.RBody.TheVariants as r
 use Rattle.acme_tree.specs.declared.node.Node.{Node}
 use Rattle.acme_tree.specs.declared.node.Node.TheVariants.{Root, PlumbRoot}
@@ -21,17 +22,17 @@ use Rattle.core_fids.specs.Refusals.{refused_with}
 abbrev pub is_version : List ℕ → Bool
 is_version version = bytes_eq version (codes "9P2000") || starts_with nat_eq version (codes "9P2000.")
 
--- Fids are freed in each case. The msize is at least 256, and at most 65560 is answered; a version that isn't known opens no
+-- Fids are freed in each case. The msize is at least 256, and at most 65,560 is answered; a version that isn't known opens no
 -- session.
-abbrev pub agreed : ℕ → List ℕ → Reaction
-agreed msize version = if is_version version
+abbrev pub agreement : ℕ → List ℕ → Reaction
+agreement msize version = if is_version version
     then does (effect.Begins (Some msize)) [] (r.Version msize (codes "9P2000"))
     else does (effect.Begins None) [] (r.Version msize (codes "unknown"))
 
 abbrev pub version_reaction : ℕ → List ℕ → Reaction
 version_reaction msize version = if nat_lt msize 256
     then refused_with (effect.Begins None) refusal.MsizeTooSmall
-    else agreed (min msize 65560) version
+    else agreement (min msize max_msize) version
 
 -- ---- Tattach
 
@@ -40,8 +41,8 @@ abbrev pub is_editor : List ℕ → Bool
 is_editor aname = (length aname == 0) || bytes_eq aname (codes "acme")
 
 -- the root of the tree of that name
-abbrev pub attached : List ℕ → Option Node
-attached aname = if is_editor aname then Some Root else (if bytes_eq aname (codes "plumb") then Some PlumbRoot else None)
+abbrev pub root_of : List ℕ → Option Node
+root_of aname = if is_editor aname then Some Root else (if bytes_eq aname (codes "plumb") then Some PlumbRoot else None)
 
 abbrev pub attach_refusal : Tables → ℕ → ℕ → ℕ → Option Refusal
 attach_refusal tables conn fid afid =
@@ -55,7 +56,7 @@ attach_to fid None = Err refusal.NoSuchTree
 attach_to fid (Some root) = Ok (does (effect.Puts fid (fresh root)) [] (r.Attach (qid_of root)))
 
 abbrev pub or_attaches : Option Refusal → ℕ → List ℕ → Result Reaction Refusal
-or_attaches None fid aname = attach_to fid (attached aname)
+or_attaches None fid aname = attach_to fid (root_of aname)
 or_attaches (Some refusal) fid aname = Err refusal
 
 abbrev pub attach_reaction : Tables → ℕ → ℕ → ℕ → List ℕ → Result Reaction Refusal

@@ -14,7 +14,7 @@ use Rattle.core_fids.specs.declared.effect.Reaction.{Reaction}
 use Rattle.core_fids.specs.Plainly.{does}
 use Rattle.core_fids.specs.declared.refusal.Refusal.{Refusal}
 use Rattle.core_fids.specs.declared.refusal.Refusal.TheVariants as refusal
-use Rattle.core_fids.specs.Fids.{placed}
+use Rattle.core_fids.specs.Fids.{placed_fid}
 
 -- how many records a read goes on after: none at the front, those that were given at the offset where the last read ended
 abbrev pub place_at : Fid → ℕ → Option ℕ
@@ -37,7 +37,7 @@ first_record (s ∷ stats) = Some (record_of s)
 
 abbrev pub goes_on : ℕ → Fid → ℕ → ℕ → List Stat → Reaction
 goes_on number fid offset skip part =
-    does (effect.Puts number (placed fid (offset + length (records part)) (skip + length part))) [] (r.Read (records part))
+    does (effect.Puts number (placed_fid fid (offset + length (records part)) (skip + length part))) [] (r.Read (records part))
 
 abbrev pub read_dir : World → List (List ℕ) → ℕ → Fid → ℕ → ℕ → Option ℕ → Result Reaction Refusal
 read_dir world ports number fid offset count None = Err refusal.BadDirectoryOffset

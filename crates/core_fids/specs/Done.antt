@@ -4,7 +4,7 @@ use Rattle.std.specs.Prelude.{[], ◌≡◌, ◌<◌, ◌+◌, ◌^◌, ℕ, fal
 use Rattle.ninep_types.specs.declared.message.RBody.{RBody}
 use Rattle.ninep_types.specs.Spelling.{BodyFits_r, size_r}
 use Rattle.acme_tree.specs.declared.node.World.{World}
-use Rattle.acme_tree.specs.Trees.{is_full}
+use Rattle.acme_tree.specs.Trees.{world_is_full}
 use Rattle.core_windows.specs.declared.change.Change.{Change}
 use Rattle.core_windows.specs.Possible.{CanChangeAll}
 use Rattle.core_windows.specs.Windows.{Window, window_at}
@@ -57,7 +57,7 @@ pub record IsDone (windows : List (Option Window)) (reaction : Reaction) : Type 
 -- a walk that makes a window ends only where one more may live
 abbrev pub MayEnd : World → WalkEnd → Type 0
 MayEnd world (end.At node) = Unit {0}
-MayEnd world (end.Makes file) = is_full world ≡ false
+MayEnd world (end.Makes file) = world_is_full world ≡ false
 MayEnd world (end.Stops refusal) = Unit {0}
 
 -- the window of what a node holds lives, where it is one of a window

@@ -56,19 +56,19 @@ abbrev pub port_opening : Fid → Option ℕ
 port_opening fid = at_port fid.node fid.opening
 
 -- opened with a mode, and where it is an opening of an event file or of a port, with its number
-abbrev pub opened : Fid → ℕ → Option ℕ → Fid
-opened fid mode opening = record fid { mode = Some mode; opening = opening }
+abbrev pub opened_fid : Fid → ℕ → Option ℕ → Fid
+opened_fid fid mode opening = record fid { mode = Some mode; opening = opening }
 
 -- the bytes of a rune that a write left unfinished
-abbrev pub holding : Fid → Part → Fid
-holding fid part = record fid { part = part }
+abbrev pub fid_with_part : Fid → Part → Fid
+fid_with_part fid part = record fid { part = part }
 
 -- what was written and isn't whole yet, with these bytes behind it, and the fid without it
 abbrev pub held_with : Fid → List ℕ → List ℕ
 held_with fid bytes = fid.held ++ bytes
 
-abbrev pub emptied : Fid → Fid
-emptied fid = record fid { held = [] }
+abbrev pub emptied_fid : Fid → Fid
+emptied_fid fid = record fid { held = [] }
 
 -- it is one of `rules`, and what was written to it last isn't added yet
 abbrev pub is_rules : Node → Bool
@@ -82,5 +82,5 @@ holds_rules fid = is_rules fid.node && not (length fid.held == 0)
 abbrev pub capped : ℕ → ℕ
 capped n = min n (2 ^ 64 - 1)
 
-abbrev pub placed : Fid → ℕ → ℕ → Fid
-placed fid given skip = record fid { given = capped given; skip = capped skip }
+abbrev pub placed_fid : Fid → ℕ → ℕ → Fid
+placed_fid fid given skip = record fid { given = capped given; skip = capped skip }

@@ -31,7 +31,7 @@ use Rattle.core_fids.specs.declared.refusal.Refusal.TheVariants as refusal
 use Rattle.core_fids.specs.declared.content.Content.{Content}
 use Rattle.core_fids.specs.declared.content.Content.TheVariants as content
 use Rattle.core_fids.specs.Contents.{content_of}
-use Rattle.core_fids.specs.Fids.{is_open, opened, holds_rules}
+use Rattle.core_fids.specs.Fids.{is_open, opened_fid, holds_rules}
 use Rattle.core_fids.specs.Plumbers.{Plumber}
 use Rattle.core_fids.specs.Refusals.{refusal_text}
 
@@ -165,7 +165,7 @@ opening_demand true c = demand.Nothing
 -- an iounit isn't given
 abbrev pub or_opens : Tables → Plumber → Option Refusal → ℕ → ℕ → Fid → ℕ → Result Reaction Refusal
 or_opens tables plumber None openings number fid mode = Ok (record {
-  effect = effect.Puts number (opened fid mode (opening_of plumber openings (content_of fid.node)));
+  effect = effect.Puts number (opened_fid fid mode (opening_of plumber openings (content_of fid.node)));
   events = opening_events (content_of fid.node);
   changes = opening_changes tables (content_of fid.node);
   demand = opening_demand (truncates mode) (content_of fid.node);
@@ -184,9 +184,9 @@ open_reaction tables world plumber openings conn number mode =
 
 -- ---- Tcreate and Twstat, which are never done
 
-abbrev pub denied : Option Fid → Result Reaction Refusal
-denied None = Err refusal.UnknownFid
-denied (Some fid) = Err refusal.PermissionDenied
+abbrev pub denial : Option Fid → Result Reaction Refusal
+denial None = Err refusal.UnknownFid
+denial (Some fid) = Err refusal.PermissionDenied
 
 -- ---- Tclunk and Tremove, which free a fid; nothing is removed
 

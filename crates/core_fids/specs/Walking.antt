@@ -16,7 +16,7 @@ use Rattle.core_fids.specs.declared.effect.Reaction.{Reaction}
 use Rattle.core_fids.specs.Plainly.{does}
 use Rattle.core_fids.specs.declared.refusal.Refusal.{Refusal}
 use Rattle.core_fids.specs.declared.refusal.Refusal.TheVariants as refusal
-use Rattle.core_fids.specs.declared.walking.Trail.{Trail}
+use Rattle.core_fids.specs.declared.walking.Course.{Course}
 use Rattle.core_fids.specs.declared.walking.WalkEnd.{WalkEnd}
 use Rattle.core_fids.specs.declared.walking.WalkEnd.TheVariants as end
 use Rattle.fid_table.specs.Tables.{Tables, fid_of}
@@ -24,14 +24,14 @@ use Rattle.core_fids.specs.Fids.{is_used, fids_full, is_open, fresh, nofid}
 
 -- ---- names
 
-abbrev pub then_qid : Qid → Trail → Trail
-then_qid qid trail = record { qids = qid ∷ trail.qids; end = trail.end }
+abbrev pub then_qid : Qid → Course → Course
+then_qid qid course = record { qids = qid ∷ course.qids; end = course.end }
 
-abbrev pub stops : Refusal → Trail
+abbrev pub stops : Refusal → Course
 stops refusal = record { qids = []; end = end.Stops refusal }
 
--- a step, and the trail from where it leads
-abbrev pub onwards : World → Step → (Node → Trail) → Trail
+-- a step, and the course from where it leads
+abbrev pub onwards : World → Step → (Node → Course) → Course
 onwards world (Found node) rest = then_qid (qid_of node) (rest node)
 onwards world (Make file) rest = record { qids = qid_of (File world.next file) ∷ []; end = end.Makes file }
 onwards world NotFound rest = stops refusal.FileNotFound
@@ -40,9 +40,9 @@ onwards world Deleted rest = stops refusal.WindowDeleted
 onwards world Windows rest = stops refusal.TooManyWindows
 
 -- where the names lead from a node, with the qid of each that is found; the ports have these names
-unfoldable pub trail : World → List (List ℕ) → Node → List (List ℕ) → Trail
-trail world ports node [] = record { qids = []; end = end.At node }
-trail world ports node (n ∷ ns) = onwards world (walk_one world ports node n (length ns == 0)) (λ m. trail world ports m ns)
+unfoldable pub course : World → List (List ℕ) → Node → List (List ℕ) → Course
+course world ports node [] = record { qids = []; end = end.At node }
+course world ports node (n ∷ ns) = onwards world (walk_one world ports node n (length ns == 0)) (λ m. course world ports m ns)
 
 -- ---- Twalk
 
@@ -66,8 +66,8 @@ arrives_at newfid world qids (end.Makes file) = Ok (does (effect.Puts newfid (fr
 arrives_at newfid world qids (end.Stops refusal) =
     if length qids == 0 then Err refusal else Ok (does effect.Nothing [] (r.Walk qids))
 
-abbrev pub arrives : ℕ → World → Trail → Result Reaction Refusal
-arrives newfid world trail = arrives_at newfid world trail.qids trail.end
+abbrev pub arrives : ℕ → World → Course → Result Reaction Refusal
+arrives newfid world course = arrives_at newfid world course.qids course.end
 
 abbrev pub or_walks : Option Refusal → Result Reaction Refusal → Result Reaction Refusal
 or_walks None walked = walked
@@ -76,7 +76,7 @@ or_walks (Some refusal) walked = Err refusal
 abbrev pub walk_from : Tables → World → List (List ℕ) → ℕ → ℕ → ℕ → List (List ℕ) → Option Fid → Result Reaction Refusal
 walk_from tables world ports conn number newfid names None = Err refusal.UnknownFid
 walk_from tables world ports conn number newfid names (Some fid) =
-    or_walks (walk_refusal tables conn number newfid fid) (arrives newfid world (trail world ports fid.node names))
+    or_walks (walk_refusal tables conn number newfid fid) (arrives newfid world (course world ports fid.node names))
 
 abbrev pub walk_reaction : Tables → World → List (List ℕ) → ℕ → ℕ → ℕ → List (List ℕ) → Result Reaction Refusal
 walk_reaction tables world ports conn number newfid names = walk_from tables world ports conn number newfid names (fid_of tables conn number)

@@ -4,7 +4,7 @@ ghost use Rattle.std.specs.Prelude.{◌≡◌, IfOk, IfErr, Ok};
 ghost use Rattle.core_fids.specs.Refusals.{Gives};
 ghost use Rattle.core_fids.specs.Done.{IsDone, IsStill};
 ghost use Rattle.core_fids.specs.Servers.{tables_in, windows_in};
-ghost use Rattle.core_fids.specs.Attaching.{is_version, agreed, version_reaction, attached, is_editor, attach_refusal, attach_reaction};
+ghost use Rattle.core_fids.specs.Attaching.{is_version, agreement, version_reaction, root_of, is_editor, attach_refusal, attach_reaction};
 
 use crate::effect::{Effect, Reaction};
 use crate::fids::{NOFID, fids_full, fresh, is_used};
@@ -12,14 +12,11 @@ use crate::refusal::{Fault, Refusal, refuse};
 use crate::server::Server;
 use acme_tree::{Node, qid_of};
 use am_text::{Items, NoMemory};
-use ninep_types::RBody;
+use ninep_types::{MAX_MSIZE, RBody};
 use std::alloc::Global;
 
 /// The lowest msize.
 const MIN_MSIZE: u32 = 256;
-
-/// The highest msize.
-const MAX_MSIZE: u32 = 65560;
 
 fn is_version(version: &[u8]) -> bool
     ensures { result ≡ is_version version.now }
@@ -29,7 +26,7 @@ fn is_version(version: &[u8]) -> bool
 
 #[tactic(auto, using(crate::proofs::Answers::sent))]
 fn agree(alloc: Global, msize: u32, version: &[u8]) -> Result<Reaction, NoMemory>
-    ensures exact { IfOk result (λ d. d ≡ agreed msize version.now) }
+    ensures exact { IfOk result (λ d. d ≡ agreement msize version.now) }
     ensures still { IfOk result IsStill }
 {
     if !is_version(version) {
@@ -71,8 +68,8 @@ fn is_editor(aname: &[u8]) -> bool
 }
 
 // The root of the tree of that name.
-fn attached(aname: &[u8]) -> Option<Node>
-    ensures { result ≡ attached aname.now }
+fn root_of(aname: &[u8]) -> Option<Node>
+    ensures { result ≡ root_of aname.now }
 {
     if is_editor(aname) {
         Some(Node::Root)
@@ -114,7 +111,7 @@ pub fn attach(
     if let Some(refusal) = attach_refusal(server, fid, afid) {
         return Err(Fault::Refused(refusal));
     }
-    let Some(root) = attached(aname) else {
+    let Some(root) = root_of(aname) else {
         return Err(Fault::Refused(Refusal::NoSuchTree));
     };
     Ok(Reaction::plain(

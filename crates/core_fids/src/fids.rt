@@ -3,7 +3,7 @@
 ghost use Rattle.std.specs.Prelude.{◌≡◌, ◌+◌, ◌≤◌, IfOk, length};
 ghost use Rattle.am_text.specs.Part.{part_bytes};
 ghost use Rattle.core_fids.specs.Servers.{tables_in};
-ghost use Rattle.core_fids.specs.Fids.{is_used, fids_full, fresh, is_open, is_for_reading, is_for_writing, event_opening, port_opening, opened, holding, held_with, emptied, is_rules, holds_rules, placed};
+ghost use Rattle.core_fids.specs.Fids.{is_used, fids_full, fresh, is_open, is_for_reading, is_for_writing, event_opening, port_opening, opened_fid, fid_with_part, held_with, emptied_fid, is_rules, holds_rules, placed_fid};
 
 use crate::directory::DirPart;
 use crate::server::Server;
@@ -14,6 +14,13 @@ use std::alloc::Global;
 
 /// The number that is no fid.
 pub(crate) const NOFID: u32 = 0xFFFFFFFF;
+
+/// The bits of a mode that say how a file is used, and what they are for reading alone and for writing alone (open(5)).
+const HOW: u8 = 3;
+
+const FOR_READING: u8 = 0;
+
+const FOR_WRITING: u8 = 1;
 
 /// The most fids that a connection may have.
 const FIDS: usize = 1024;
@@ -58,14 +65,14 @@ pub(crate) fn is_open(fid: &Fid) -> bool
 pub fn is_for_reading(mode: u8) -> bool
     ensures { result ≡ is_for_reading mode }
 {
-    mode & 3 != 1
+    mode & HOW != FOR_WRITING
 }
 
 /// Whether a file is written with this mode.
 pub fn is_for_writing(mode: u8) -> bool
     ensures { result ≡ is_for_writing mode }
 {
-    mode & 3 != 0
+    mode & HOW != FOR_READING
 }
 
 fn is_rules(node: Node) -> bool
@@ -120,13 +127,13 @@ pub fn copy(alloc: Global, fid: &Fid) -> Result<Fid, NoMemory>
 }
 
 /// The fid, opened with a mode, and with the number of its opening of an event file or of a port, where it is one.
-pub(crate) fn opened(
+pub(crate) fn opened_fid(
     alloc: Global,
     fid: &Fid,
     mode: u8,
     opening: Option<u32>,
 ) -> Result<Fid, NoMemory>
-    ensures { IfOk result (λ f. f ≡ opened fid.now mode opening) }
+    ensures { IfOk result (λ f. f ≡ opened_fid fid.now mode opening) }
 {
     Ok(Fid {
         mode: Some(mode),
@@ -136,8 +143,8 @@ pub(crate) fn opened(
 }
 
 /// The fid with the bytes of a rune that a write left unfinished.
-pub fn holding(alloc: Global, fid: &Fid, part: Part) -> Result<Fid, NoMemory>
-    ensures { IfOk result (λ f. f ≡ holding fid.now part) }
+pub fn fid_with_part(alloc: Global, fid: &Fid, part: Part) -> Result<Fid, NoMemory>
+    ensures { IfOk result (λ f. f ≡ fid_with_part fid.now part) }
 {
     Ok(Fid {
         part,
@@ -155,8 +162,8 @@ pub fn held_with(alloc: Global, fid: &Fid, bytes: &[u8]) -> Result<Bytes, NoMemo
 }
 
 /// The fid that holds nothing.
-pub fn emptied(alloc: Global, fid: &Fid) -> Fid
-    ensures { result ≡ emptied fid.now }
+pub fn emptied_fid(alloc: Global, fid: &Fid) -> Fid
+    ensures { result ≡ emptied_fid fid.now }
 {
     Fid {
         node: fid.node,
@@ -170,14 +177,14 @@ pub fn emptied(alloc: Global, fid: &Fid) -> Fid
 }
 
 /// The fid after a read of its directory at an offset, behind `skip` records, which gave this part.
-pub(crate) fn placed(
+pub(crate) fn placed_fid(
     alloc: Global,
     fid: &Fid,
     offset: u64,
     skip: usize,
     part: &DirPart,
 ) -> Result<Fid, NoMemory>
-    ensures { IfOk result (λ f. f ≡ placed fid.now (offset + length part.now.bytes) (skip + part.now.count)) }
+    ensures { IfOk result (λ f. f ≡ placed_fid fid.now (offset + length part.now.bytes) (skip + part.now.count)) }
 {
     Ok(Fid {
         given: offset.saturating_add(part.bytes.len() as u64),

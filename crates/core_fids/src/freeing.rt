@@ -5,7 +5,7 @@ ghost use Rattle.fid_table.specs.Tables.{fid_of};
 ghost use Rattle.core_fids.specs.Servers.{tables_in, windows_in};
 ghost use Rattle.core_fids.specs.Refusals.{Gives};
 ghost use Rattle.core_fids.specs.Done.{IsDone};
-ghost use Rattle.core_fids.specs.Opening.{clunk_fid, denied, remove_fid, rest_demand};
+ghost use Rattle.core_fids.specs.Opening.{clunk_fid, denial, remove_fid, rest_demand};
 
 use crate::effect::{Demand, Reaction};
 use crate::fids::holds_rules;
@@ -18,7 +18,7 @@ use std::alloc::Global;
 
 /// Why a Tcreate or a Twstat isn't done.
 pub fn deny(server: &Server, number: u32) -> Refusal
-    ensures { denied (fid_of (tables_in server.now) server.now.conn number) ≡ Err result }
+    ensures { denial (fid_of (tables_in server.now) server.now.conn number) ≡ Err result }
 {
     if server.sessions.fid(server.conn, number).is_some() {
         Refusal::PermissionDenied

@@ -20,13 +20,13 @@ pub use core_stores::RuleStore;
 pub use core_windows::{Change, Changes, Windows};
 pub use effect::{Answer, Demand, Effect, EventChange, Reaction};
 pub use fids::{
-    at_most_three, copy, emptied, event_opening, held_with, holding, is_for_reading,
+    at_most_three, copy, emptied_fid, event_opening, fid_with_part, held_with, is_for_reading,
     is_for_writing, port_opening,
 };
 pub use freeing::{clunk, deny, remove};
 pub use listing::{Reading, read_dir, stat};
 pub use ninep_types::RBody;
-pub use opening::open;
+pub use opening::{OPENINGS, open};
 pub use plumb_ports::Ports;
 pub use refusal::{Fault, Refusal, error, refuse};
 pub use server::{Server, port_names};

@@ -9,7 +9,7 @@ ghost use Rattle.core_fids.specs.Directories.{place_at, read_dir, stat_fid};
 
 use crate::directory::dir_part;
 use crate::effect::{Effect, Reaction};
-use crate::fids::placed;
+use crate::fids::placed_fid;
 use crate::refusal::{Fault, Refusal};
 use crate::server::{Server, port_names};
 use acme_tree::{is_live, stat_of};
@@ -62,7 +62,7 @@ pub fn read_dir(alloc: Global, server: &Server, reading: &Reading) -> Result<Rea
     Ok(Reaction::plain(
         Effect::Puts {
             number: reading.number,
-            fid: placed(alloc, fid, reading.offset, skip, &part)?,
+            fid: placed_fid(alloc, fid, reading.offset, skip, &part)?,
         },
         Items::new(alloc),
         RBody::Read { bytes: part.bytes },

@@ -12,7 +12,7 @@ ghost use Rattle.core_fids.specs.Opening.{mode_refusal, opening_refusal, content
 
 use crate::content::{Content, content_of};
 use crate::effect::{Answer, Demand, Effect, EventChange, Reaction};
-use crate::fids::{is_open, opened};
+use crate::fids::{is_open, opened_fid};
 use crate::refusal::{Fault, Refusal};
 use crate::server::{Server, port_names};
 use acme_tree::{May, Node, WinFile, is_live, may_open, qid_of, truncates};
@@ -26,7 +26,7 @@ use std::alloc::Global;
 const CONNS: u32 = 64;
 
 /// The most openings of event files that are ever made, and the most of ports.
-const OPENINGS: usize = 4294967295;
+pub const OPENINGS: usize = 4294967295;
 
 fn mode_refusal(may: May) -> Option<Refusal>
     ensures { result ≡ mode_refusal may }
@@ -281,7 +281,7 @@ pub fn open(alloc: Global, server: &Server, number: u32, mode: u8) -> Result<Rea
     Ok(Reaction {
         effect: Effect::Puts {
             number,
-            fid: opened(alloc, fid, mode, opening_of(server, content))?,
+            fid: opened_fid(alloc, fid, mode, opening_of(server, content))?,
         },
         events: opening_events(content),
         changes: opening_changes(alloc, server.sessions, content)?,

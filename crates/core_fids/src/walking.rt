@@ -5,7 +5,7 @@ ghost use Rattle.core_fids.specs.Refusals.{Gives};
 ghost use Rattle.core_fids.specs.Servers.{plumber_in, tables_in, windows_in, world_in};
 ghost use Rattle.core_windows.specs.declared.change.Change.TheVariants as Change;
 ghost use Rattle.core_fids.specs.Done.{IsDone, MayEnd};
-ghost use Rattle.core_fids.specs.Walking.{trail, new_refusal, walk_refusal, arrives, walk_from, walk_reaction};
+ghost use Rattle.core_fids.specs.Walking.{course, new_refusal, walk_refusal, arrives, walk_from, walk_reaction};
 
 use crate::effect::{Effect, Reaction};
 use crate::fids::{NOFID, fids_full, fresh, is_open, is_used};
@@ -31,21 +31,21 @@ pub enum WalkEnd {
 
 /// The qids of the names that are found, and where the walk ends.
 #[derive(Drop)]
-pub struct Trail {
+pub struct Course {
     pub qids: Qids,
     pub end: WalkEnd,
 }
 
 /// Where the names lead from a node, where the ports have these names.
-#[tactic(auto, unfolding(crate::specs::Walking::trail), using(crate::proofs::Trails::trails))]
-fn trail_of(
+#[tactic(auto, unfolding(crate::specs::Walking::course), using(crate::proofs::Courses::courses))]
+fn course_of(
     alloc: Global,
     world: &World,
     ports: &[Bytes],
     from: Node,
     names: &[Bytes],
-) -> Result<Trail, NoMemory>
-    ensures exact { IfOk result (λ t. t ≡ trail world.now ports.now from names.now) }
+) -> Result<Course, NoMemory>
+    ensures exact { IfOk result (λ t. t ≡ course world.now ports.now from names.now) }
     ensures few { IfOk result (λ t. length t.qids ≤ length names.now) }
     ensures may { IfOk result (λ t. MayEnd world.now t.end) }
 {
@@ -69,9 +69,9 @@ fn trail_of(
             Step::Deleted => WalkEnd::Stops(Refusal::WindowDeleted),
             Step::Windows => WalkEnd::Stops(Refusal::TooManyWindows),
         };
-        return Ok(Trail { qids, end });
+        return Ok(Course { qids, end });
     }
-    Ok(Trail {
+    Ok(Course {
         qids,
         end: WalkEnd::At(node),
     })
@@ -115,14 +115,14 @@ fn new_window(alloc: Global) -> Result<Changes, NoMemory>
     Ok(changes)
 }
 
-fn arrive(alloc: Global, server: &Server, newfid: u32, trail: Trail) -> Result<Reaction, Fault>
-    requires few { length trail.qids ≤ 16 }
-    requires may { MayEnd (world_in server.now) trail.end }
-    ensures exact { IfOk result (λ d. arrives newfid (world_in server.now) trail ≡ Ok d) }
-    ensures refused { IfErr result (λ e. Gives e (arrives newfid (world_in server.now) trail)) }
+fn arrive(alloc: Global, server: &Server, newfid: u32, course: Course) -> Result<Reaction, Fault>
+    requires few { length course.qids ≤ 16 }
+    requires may { MayEnd (world_in server.now) course.end }
+    ensures exact { IfOk result (λ d. arrives newfid (world_in server.now) course ≡ Ok d) }
+    ensures refused { IfErr result (λ e. Gives e (arrives newfid (world_in server.now) course)) }
     ensures done { IfOk result (IsDone (windows_in server.now)) }
 {
-    let Trail { qids, end } = trail;
+    let Course { qids, end } = course;
     match end {
         WalkEnd::At(node) => Ok(Reaction::plain(
             Effect::Puts {
@@ -169,6 +169,6 @@ pub fn walk(
         return Err(Fault::Refused(refusal));
     }
     let ports = port_names(server);
-    let trail = trail_of(alloc, server.windows.world(), ports, fid.node, names)?;
-    arrive(alloc, server, newfid, trail)
+    let course = course_of(alloc, server.windows.world(), ports, fid.node, names)?;
+    arrive(alloc, server, newfid, course)
 }

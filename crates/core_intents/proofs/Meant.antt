@@ -14,7 +14,7 @@ use Rattle.am_journal.specs.declared.event.Spot.{Spot}
 use Rattle.am_journal.specs.declared.event.Why.{Why}
 use Rattle.am_journal.specs.declared.event.Why.TheVariants as why
 use Rattle.win_text.specs.Bodies.{IsInside}
-use Rattle.acme_tree.specs.Trees.{is_full}
+use Rattle.acme_tree.specs.Trees.{world_is_full}
 use Rattle.core_windows.specs.declared.change.Change.{Change}
 use Rattle.core_windows.specs.declared.change.Change.TheVariants as change
 use Rattle.core_windows.specs.Windows.{Window, window_at, world_of}
@@ -78,10 +78,10 @@ not_full : (b : Bool) → new_refusal b ≡ None → b ≡ false
 not_full true e = absurd cc
 not_full false e = refl
 
-pub new_can : (s : Present) (cs : List Change) (o : Origin) (i : Intent) → i ≡ acting (task.Changes cs) o → cs ≡ change.Makes [] ∷ [] → new_refusal (is_full (world_of s.scene.windows)) ≡ None
+pub new_can : (s : Present) (cs : List Change) (o : Origin) (i : Intent) → i ≡ acting (task.Changes cs) o → cs ≡ change.Makes [] ∷ [] → new_refusal (world_is_full (world_of s.scene.windows)) ≡ None
     → CanBeMeant s i
 new_can s cs o i is one allowed =
-    acts s (task.Changes cs) o i is (subst (λ (x : List Change). CanDoTask (entry_by s o) s.scene (task.Changes x)) (sym one) (not_full (is_full (world_of s.scene.windows)) allowed, tt))
+    acts s (task.Changes cs) o i is (subst (λ (x : List Change). CanDoTask (entry_by s o) s.scene (task.Changes x)) (sym one) (not_full (world_is_full (world_of s.scene.windows)) allowed, tt))
 
 -- ---- ranges of texts
 

@@ -5,7 +5,7 @@ use Rattle.ninep_types.specs.declared.message.TMsg.{TMsg}
 use Rattle.ninep_types.specs.declared.message.TBody.{TBody}
 use Rattle.ninep_types.specs.declared.message.TBody.TheVariants as t
 use Rattle.ninep_types.specs.Spelling.{spelling_t}
-use Rattle.acme_tree.specs.Trees.{is_full}
+use Rattle.acme_tree.specs.Trees.{world_is_full}
 use Rattle.fid_table.specs.Tables.{Tables, msize_of, is_waiting}
 use Rattle.name_tree.specs.Kinds.{file_clashes, directory_clashes}
 use Rattle.win_events.specs.declared.item.Origin.{Origin}
@@ -48,7 +48,7 @@ enabled_at s (event.Msg conn msg) =
     msg_refusal (connection_at s.connections conn) (msize_of s.tables conn) (is_tag_used s.tables conn msg) (unsent_count s conn) (length (spelling_t msg))
 enabled_at s (event.Hang conn why) = live_refusal (connection_at s.connections conn)
 enabled_at s (event.Took conn) = took_refusal (connection_at s.connections conn) (unsent_count s conn)
-enabled_at s event.New = new_refusal (is_full (world_of s.scene.windows))
+enabled_at s event.New = new_refusal (world_is_full (world_of s.scene.windows))
 enabled_at s (event.Key w side text) = key_refusal (window_at s.scene.windows w) side text
 enabled_at s (event.Sel w range) = sel_refusal (window_at s.scene.windows w) range
 enabled_at s (event.Exec at) = spot_refusal s.scene.windows at

@@ -1,5 +1,6 @@
 -- The reasons for which an event isn't enabled.
 use Rattle.std.specs.Prelude.{ℕ, Bool, ◌==◌, nat_le, nat_lt, Option, Some, None, if◌then◌else◌}
+use Rattle.ninep_types.specs.Limits.{max_msize}
 use Rattle.am_journal.specs.declared.event.Why.{Why}
 use Rattle.am_journal.specs.declared.event.Why.TheVariants as why
 use Rattle.core_intents.specs.declared.connection.Connection.{Connection}
@@ -21,9 +22,9 @@ live_refusal Undialed = Some why.Conn
 live_refusal Live = None
 live_refusal (Ended cause) = Some why.Ended
 
--- the most bytes of a message: the msize of the session, and 65560 where none is open
+-- the most bytes of a message: the msize of the session, and the largest where none is open
 abbrev pub most_bytes : Option ℕ → ℕ
-most_bytes None = 65560
+most_bytes None = max_msize
 most_bytes (Some msize) = msize
 
 abbrev pub size_refusal : Option ℕ → ℕ → Option Why

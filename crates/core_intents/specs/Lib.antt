@@ -1,6 +1,5 @@
 pub mod Kinds
 pub mod Connections
-pub mod Limits
 pub mod Enabled
 pub mod Typing
 pub mod Origins

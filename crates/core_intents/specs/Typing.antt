@@ -12,7 +12,7 @@ use Rattle.core_windows.specs.declared.change.Change.TheVariants as change
 use Rattle.core_windows.specs.declared.change.Setting.TheVariants as setting
 use Rattle.core_windows.specs.Windows.{Window}
 use Rattle.core_answers.specs.Erring.{fits_tag}
-use Rattle.core_intents.specs.Limits.{body_runes}
+use Rattle.win_text.specs.Limits.{body_runes}
 
 -- ---- keys
 

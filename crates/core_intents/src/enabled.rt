@@ -4,8 +4,9 @@ ghost use Rattle.std.specs.Prelude.{◌≡◌};
 ghost use Rattle.core_intents.specs.Enabled.{first_why, dial_refusal, live_refusal, size_refusal, tag_refusal, replies_refusal, msg_refusal, took_refusal, new_refusal, tree_refusal};
 
 use crate::connection::Connection;
-use crate::limits::{FIRST_MSIZE, REPLIES};
+use crate::limits::REPLIES;
 use am_journal::Why;
+use ninep_types::MAX_MSIZE;
 
 /// The first of two reasons, of which the second counts where there is no first one.
 pub(crate) fn first_why(first: Option<Why>, later: Option<Why>) -> Option<Why>
@@ -42,7 +43,7 @@ pub(crate) fn live_refusal(connection: Connection) -> Option<Why>
 fn size_refusal(msize: Option<u32>, size: usize) -> Option<Why>
     ensures { result ≡ size_refusal msize size }
 {
-    let most = msize.unwrap_or(FIRST_MSIZE);
+    let most = msize.unwrap_or(MAX_MSIZE);
     if most as usize >= size {
         None
     } else {

@@ -11,8 +11,9 @@ mod parts;
 mod spot;
 mod typing;
 
+pub use am_journal::CONNECTIONS;
 pub use connection::{Connection, connection_at, live_count};
 pub use intent::{Intent, answer_or, intent_of, with_held};
 pub use kind::{Kind, conn_of, is_hang, kind_of};
-pub use limits::{CONNECTIONS, REPLIES};
+pub use limits::REPLIES;
 pub use parts::Parts;

@@ -12,11 +12,10 @@ use crate::connection::{Connection, connection_at};
 use crate::enabled::{
     dial_refusal, live_refusal, msg_refusal, new_refusal, took_refusal, tree_refusal,
 };
-use crate::limits::CONNECTIONS;
 use crate::spot::{arg_refusal, spot_refusal};
 use crate::typing::{key_refusal, sel_refusal};
-use acme_tree::is_full;
-use am_journal::{Event, Why};
+use acme_tree::world_is_full;
+use am_journal::{CONNECTIONS, Event, Why};
 use am_text::NoMemory;
 use core_outputs::{Outputs, Reply};
 use core_scene::Scene;
@@ -103,7 +102,7 @@ impl Parts {
                 connection_at(&self.connections, *conn),
                 self.outputs.count(*conn),
             ),
-            Event::New => new_refusal(is_full(self.scene.windows.world())),
+            Event::New => new_refusal(world_is_full(self.scene.windows.world())),
             Event::Key { window, side, text } => {
                 key_refusal(&self.scene.windows, *window, *side, text.as_slice())
             }

@@ -7,12 +7,13 @@ ghost use Rattle.core_windows.specs.declared.change.Change.TheVariants as change
 ghost use Rattle.core_windows.specs.Windows.{window_at};
 ghost use Rattle.core_intents.specs.Typing.{fits_side, key_refusal, edits_with_dot, typed, key_changes, sel_refusal, sel_changes};
 
-use crate::limits::{BODY_RUNES, TAG_RUNES};
 use am_journal::{Side, Why};
 use am_text::{Items, Letters, NoMemory, Range, Rune, Runes};
 use core_addresses::replacing;
 use core_windows::{Change, Changes, Edits, Pane, Setting, Windows};
 use std::alloc::Global;
+use win_ctl::TAG_RUNES;
+use win_text::BODY_RUNES;
 
 fn long(len: usize, more: usize, most: usize) -> Option<Why>
     ensures { result ≡ if nat_le (len + more) most then None else Some Why.Length }

@@ -34,7 +34,7 @@ use Rattle.core_fids.specs.Refusals.{refusal_text}
 use Rattle.core_windows.specs.declared.change.Change.{Change}
 use Rattle.core_scene.specs.Scenes.{deleted_by}
 use Rattle.core_events.specs.declared.response.Response.{Response}
-use Rattle.core_events.specs.Asking.{opened, is_full, said_to, read_said, book_read, waits_unless}
+use Rattle.core_events.specs.Asking.{opened, reads_are_full, said_to, read_said, book_read, waits_unless}
 use Rattle.core_events.specs.Putting.{put_living}
 use Rattle.core_events.specs.Serving.{served_all}
 use Rattle.core_events.specs.Responses.{event_feed, port_feed}
@@ -203,8 +203,8 @@ waits_for b x true false h = absurd cc
 waits_for b x false false h = absurd cc
 
 must_wait_for : (t : Tables) (b : BookState) (x : Asker) (living : Bool)
-    → cond living (said_to (is_full t x.conn) (asked_of b x)) (Some (r.Error (refusal_text refusal.WindowDeleted))) ≡ None → read_waits b x ≡ true
-must_wait_for t b x true h = waits_for b x (is_full t x.conn) (read_waits b x) h
+    → cond living (said_to (reads_are_full t x.conn) (asked_of b x)) (Some (r.Error (refusal_text refusal.WindowDeleted))) ≡ None → read_waits b x ≡ true
+must_wait_for t b x true h = waits_for b x (reads_are_full t x.conn) (read_waits b x) h
 must_wait_for t b x false h = absurd cc
 
 plain_waits : (s : State) (o : Origin) (conn tag fid opening count : ℕ) → AreIdle [] s.entries s.scene.book → ArePortsIdle s.scene.ports → s.scene.items ≡ []
@@ -231,8 +231,8 @@ said_answers asked b x false false body tread is =
     let same : r.Read (piece_for b x).bytes ≡ body = cc in subst (IsAnswerTo asked) same (inl (ap (λ (n : ℕ). n + 1) (sym tread)))
 
 read_answers : (asked : TBody) (t : Tables) (b : BookState) (x : Asker) (living : Bool) (body : RBody) → kind_t asked ≡ 116
-    → cond living (said_to (is_full t x.conn) (asked_of b x)) (Some (r.Error (refusal_text refusal.WindowDeleted))) ≡ Some body → IsAnswerTo asked body
-read_answers asked t b x true body tread is = said_answers asked b x (is_full t x.conn) (read_waits b x) body tread is
+    → cond living (said_to (reads_are_full t x.conn) (asked_of b x)) (Some (r.Error (refusal_text refusal.WindowDeleted))) ≡ Some body → IsAnswerTo asked body
+read_answers asked t b x true body tread is = said_answers asked b x (reads_are_full t x.conn) (read_waits b x) body tread is
 read_answers asked t b x false body tread is = let same : r.Error (refusal_text refusal.WindowDeleted) ≡ body = cc in inr (refusal.WindowDeleted, sym same)
 
 -- ---- each message

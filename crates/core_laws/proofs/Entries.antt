@@ -29,7 +29,7 @@ use Rattle.core_fids.specs.declared.effect.EventChange.{EventChange}
 use Rattle.core_fids.specs.declared.effect.EventChange.TheVariants as events
 use Rattle.core_scene.specs.declared.deed.WindowItem.{WindowItem}
 use Rattle.core_scene.specs.Scenes.{deleted_by}
-use Rattle.core_events.specs.Asking.{is_full, opened, book_asked, book_read}
+use Rattle.core_events.specs.Asking.{reads_are_full, opened, book_asked, book_read}
 use Rattle.core_events.specs.declared.closing.BackItem.{BackItem}
 use Rattle.core_fids.specs.Fids.{event_opening}
 use Rattle.core_events.specs.Closing.{written_back, without_opening, without_fid, opening_in, freed, cancelled, closed_with}
@@ -223,8 +223,8 @@ module _ (first : BookState) (at : ℕ) where
 
   from_read : (t : Tables) (s : BookState) (x : Asker) → K s → K (book_read t s x at)
   from_read t s x k =
-      (elim (is_living s x.opening) as (λ l. is_living s x.opening ≡ l → K (cond l (book_asked (is_full t x.conn) (asked_of s x) s x at) s)) [
-        | true ↦ λ living. from_asked (is_full t x.conn) (asked_of s x) s x living k
+      (elim (is_living s x.opening) as (λ l. is_living s x.opening ≡ l → K (cond l (book_asked (reads_are_full t x.conn) (asked_of s x) s x at) s)) [
+        | true ↦ λ living. from_asked (reads_are_full t x.conn) (asked_of s x) s x living k
         | false ↦ λ dead. k
       ]) refl
 

@@ -27,7 +27,7 @@ use Rattle.core_fids.specs.declared.effect.EventChange.{EventChange}
 use Rattle.core_fids.specs.declared.effect.EventChange.TheVariants as events
 use Rattle.core_scene.specs.declared.deed.WindowItem.{WindowItem}
 use Rattle.core_scene.specs.Scenes.{deleted_by}
-use Rattle.core_events.specs.Asking.{is_full, opened, book_asked, book_read}
+use Rattle.core_events.specs.Asking.{reads_are_full, opened, book_asked, book_read}
 use Rattle.core_events.specs.declared.closing.BackItem.{BackItem}
 use Rattle.core_fids.specs.Fids.{event_opening}
 use Rattle.core_events.specs.Closing.{written_back, without_opening, without_fid, opening_in, freed, cancelled, closed_with}
@@ -219,8 +219,8 @@ module _ (Q : Life → Bool) (all : AllKeep Q) (first : BookState) (at : ℕ) wh
 
   keep_read : (t : Tables) (s : BookState) (r : Asker) → K s → K (book_read t s r at)
   keep_read t s r k =
-      (elim (is_living s r.opening) as (λ l. is_living s r.opening ≡ l → K (cond l (book_asked (is_full t r.conn) (asked_of s r) s r at) s)) [
-        | true ↦ λ living. keep_asked (is_full t r.conn) (asked_of s r) s r living k
+      (elim (is_living s r.opening) as (λ l. is_living s r.opening ≡ l → K (cond l (book_asked (reads_are_full t r.conn) (asked_of s r) s r at) s)) [
+        | true ↦ λ living. keep_asked (reads_are_full t r.conn) (asked_of s r) s r living k
         | false ↦ λ dead. k
       ]) refl
 

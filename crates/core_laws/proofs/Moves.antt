@@ -27,7 +27,7 @@ use Rattle.core_scene.specs.Scenes.{SceneState}
 use Rattle.core_scene.specs.SceneLaws.{changes_in, DeedsShow}
 use Rattle.core_actions.specs.declared.undoing.Move.{Move}
 use Rattle.core_actions.specs.declared.undoing.Move.TheVariants as move
-use Rattle.core_actions.specs.Undoing.{next_group, moves, is_number, moves_from, linked, move_deeds}
+use Rattle.core_actions.specs.Undoing.{next_group, moves, is_number, moves_from, linked_deeds, move_deeds}
 use Rattle.core_exec.specs.declared.click.Clicked.{Clicked}
 use Rattle.core_exec.specs.Clicks.{own_text}
 use Rattle.core_exec.specs.Executing.{builtin_deeds, command_deeds, exec_deeds}
@@ -86,7 +86,7 @@ all_same : (m : Move) (ss : List (Option WindowStory)) → ss ≡ map (moved_sto
 all_same m [] = refl
 all_same m (o ∷ ss) = ap (λ (l : List (Option WindowStory)). o ∷ l) (all_same m ss)
 
-linked_by : (at : ℕ) (m : Move) (s : State) (g : Option ℕ) → all_changed_stories at s.windows (changes_in (linked m g (present s).scene)) ≡ map (moved_story_if m g) s.windows
+linked_by : (at : ℕ) (m : Move) (s : State) (g : Option ℕ) → all_changed_stories at s.windows (changes_in (linked_deeds m g (present s).scene)) ≡ map (moved_story_if m g) s.windows
 linked_by at m s None = all_same m s.windows
 linked_by at m s (Some n) = stories_from at m n 1 s.windows [] refl
 

@@ -16,7 +16,7 @@ use Rattle.acme_tree.specs.declared.node.World.{World}
 use Rattle.fid_table.specs.declared.types.Fid.{Fid}
 use Rattle.fid_table.specs.Tables.{Tables, fid_of, msize_of}
 use Rattle.core_addresses.specs.Data.{data_taken}
-use Rattle.core_addresses.specs.Ranges.{addressed}
+use Rattle.core_addresses.specs.Ranges.{address_range}
 use Rattle.core_addresses.specs.declared.data.Taken.{Taken}
 use Rattle.core_addresses.specs.declared.fault.RangeFault.{RangeFault}
 use Rattle.core_windows.specs.Windows.{Window, window_at, named, world_of}
@@ -34,19 +34,19 @@ use Rattle.core_fids.specs.declared.refusal.Refusal.TheVariants as refusal
 use Rattle.core_fids.specs.declared.walking.WalkEnd.{WalkEnd}
 use Rattle.core_fids.specs.declared.walking.WalkEnd.TheVariants as end
 use Rattle.core_answers.specs.Addressing.{data_reaction, xdata_reaction, addr_or_refusal, addr_reaction, data_or_refusal, taking_reaction}
-use Rattle.core_fids.specs.Attaching.{is_version, agreed, version_reaction, attached, attach_refusal, attach_to, or_attaches}
+use Rattle.core_fids.specs.Attaching.{is_version, agreement, version_reaction, root_of, attach_refusal, attach_to, or_attaches}
 use Rattle.core_fids.specs.Contents.{content_of}
-use Rattle.core_answers.specs.Reactions.{served, comes_first, reaction}
+use Rattle.core_answers.specs.Reactions.{session_reaction, comes_first, reaction}
 use Rattle.core_answers.specs.Erring.{fits_in, fits_tag, errors_of, root_errors, errors_refusal}
 use Rattle.core_fids.specs.Fids.{at_event, at_port, event_opening, port_opening, is_there, is_used, is_open, is_for_reading, is_for_writing}
-use Rattle.core_fids.specs.Opening.{open_refusal, or_opens, open_fid, denied, clunk_fid, remove_fid}
+use Rattle.core_fids.specs.Opening.{open_refusal, or_opens, open_fid, denial, clunk_fid, remove_fid}
 use Rattle.core_fids.specs.Plainly.{does}
 use Rattle.core_fids.specs.Plumbers.{Plumber}
 use Rattle.core_fids.specs.Directories.{place_at, read_dir, stat_fid}
 use Rattle.core_answers.specs.Reading.{read_opening, read_port, read_content, use_refusal, or_reads, most, read_fid}
 use Rattle.core_fids.specs.Refusals.{refused_with, reaction_or_refusal}
 use Rattle.core_answers.specs.Texts.{text_at, right_of}
-use Rattle.core_fids.specs.Walking.{trail, new_refusal, walk_refusal, arrives_at, or_walks, walk_from}
+use Rattle.core_fids.specs.Walking.{course, new_refusal, walk_refusal, arrives_at, or_walks, walk_from}
 use Rattle.core_answers.specs.Writing.{if_lives, append_reaction, add_reaction, or_errors, errors_reaction, write_content, write_fid}
 
 -- a fid that isn't open has no opening
@@ -202,7 +202,7 @@ module _ (tables : Tables) (conn : ℕ) (moded : (number : ℕ) (f : Fid) → fi
 
   version_sane : (msize : ℕ) (version : List ℕ) → IsSane tables conn (version_reaction msize version)
   version_sane msize version =
-      one_of (nat_lt msize 256) (refused_with (effect.Begins None) refusal.MsizeTooSmall) (agreed (min msize 65560) version) (tt, tt)
+      one_of (nat_lt msize 256) (refused_with (effect.Begins None) refusal.MsizeTooSmall) (agreement (min msize 65560) version) (tt, tt)
       (one_of (is_version version) (does (effect.Begins (Some (min msize 65560))) [] (r.Version (min msize 65560) (codes "9P2000")))
       (does (effect.Begins None) [] (r.Version (min msize 65560) (codes "unknown"))) (tt, tt) (tt, tt))
 
@@ -211,7 +211,7 @@ module _ (tables : Tables) (conn : ℕ) (moded : (number : ℕ) (f : Fid) → fi
   attaches_at fid (Some node) e = (put_new fid _ (λ h. refl) (unused fid e), tt)
 
   attaches : (fid afid : ℕ) (aname : List ℕ) (o : Option Refusal) → attach_refusal tables conn fid afid ≡ o → Sane (or_attaches o fid aname)
-  attaches fid afid aname None e = attaches_at fid (attached aname) (second_false _ (is_used tables conn fid) _ _ _ e)
+  attaches fid afid aname None e = attaches_at fid (root_of aname) (second_false _ (is_used tables conn fid) _ _ _ e)
   attaches fid afid aname (Some x) e = tt
 
   arrives_sane : (newfid : ℕ) (world : World) (qids : List Qid) (e : WalkEnd) → ((f : Fid) → fid_of tables conn newfid ≡ Some f → f.opening ≡ None) → Sane (arrives_at newfid world qids e)
@@ -238,7 +238,7 @@ module _ (tables : Tables) (conn : ℕ) (moded : (number : ℕ) (f : Fid) → fi
   walk_sane world ports number newfid names None is = tt
   walk_sane world ports number newfid names (Some f) is =
       or_walks_sane (walk_refusal tables conn number newfid f) _
-      (λ e. arrives_sane newfid world (trail world ports f.node names).qids (trail world ports f.node names).end (walk_free number newfid f is e))
+      (λ e. arrives_sane newfid world (course world ports f.node names).qids (course world ports f.node names).end (walk_free number newfid f is e))
 
   opens_sane : (world : World) (plumber : Plumber) (openings number mode : ℕ) (f : Fid) (o : Option Refusal) → fid_of tables conn number ≡ Some f → open_refusal world plumber openings f mode ≡ o
       → Sane (or_opens tables plumber o openings number f mode)
@@ -250,7 +250,7 @@ module _ (tables : Tables) (conn : ℕ) (moded : (number : ℕ) (f : Fid) → fi
   open_sane world plumber openings number mode None is = tt
   open_sane world plumber openings number mode (Some f) is = opens_sane world plumber openings number mode f (open_refusal world plumber openings f mode) is refl
 
-  denied_sane : (o : Option Fid) → Sane (denied o)
+  denied_sane : (o : Option Fid) → Sane (denial o)
   denied_sane None = tt
   denied_sane (Some f) = tt
 
@@ -329,7 +329,7 @@ module _ (tables : Tables) (conn : ℕ) (moded : (number : ℕ) (f : Fid) → fi
 
   addr_sane : (w : ℕ) (bytes : List ℕ) (o : Option Window) → Sane (addr_reaction w bytes o)
   addr_sane w bytes None = tt
-  addr_sane w bytes (Some window) = addr_set_sane w (length bytes) (addressed window.body bytes)
+  addr_sane w bytes (Some window) = addr_set_sane w (length bytes) (address_range window.body bytes)
 
   data_set_sane : (w count : ℕ) (x : Result Taken RangeFault) → Sane (data_or_refusal w count x)
   data_set_sane w count (Ok taken) = (tt, tt)
@@ -375,7 +375,7 @@ module _ (tables : Tables) (conn : ℕ) (moded : (number : ℕ) (f : Fid) → fi
   stat_sane world ports None = tt
   stat_sane world ports (Some f) = done_or (is_live world ports f.node) _ refusal.WindowDeleted (tt, tt)
 
-  served_sane : (world : World) (windows : List (Option Window)) (plumber : Plumber) (openings : ℕ) (body : TBody) → Sane (served tables world windows plumber openings conn body)
+  served_sane : (world : World) (windows : List (Option Window)) (plumber : Plumber) (openings : ℕ) (body : TBody) → Sane (session_reaction tables world windows plumber openings conn body)
   served_sane world windows plumber openings (t.Version msize version) = version_sane msize version
   served_sane world windows plumber openings (t.Auth afid uname aname) = tt
   served_sane world windows plumber openings (t.Flush oldtag) = (tt, tt)
@@ -397,4 +397,4 @@ module _ (tables : Tables) (conn : ℕ) (moded : (number : ℕ) (f : Fid) → fi
   pub reaction_sane : (windows : List (Option Window)) (plumber : Plumber) (openings : ℕ) (body : TBody) → IsSane tables conn (reaction tables windows plumber openings conn body)
   reaction_sane windows plumber openings body =
       one_of (comes_first tables conn body) (refused_with effect.Nothing refusal.VersionFirst) _ (tt, tt)
-      (settled (served tables (world_of windows) windows plumber openings conn body) (served_sane (world_of windows) windows plumber openings body))
+      (settled (session_reaction tables (world_of windows) windows plumber openings conn body) (served_sane (world_of windows) windows plumber openings body))

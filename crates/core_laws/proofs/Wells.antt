@@ -31,7 +31,7 @@ use Rattle.core_fids.specs.declared.effect.Effect.TheVariants as effect
 use Rattle.core_fids.specs.declared.effect.EventChange.{EventChange}
 use Rattle.core_fids.specs.declared.effect.EventChange.TheVariants as events
 use Rattle.core_events.specs.declared.response.Response.{Response}
-use Rattle.core_events.specs.Asking.{is_full, read_said, book_asked, book_read, waits_unless}
+use Rattle.core_events.specs.Asking.{reads_are_full, read_said, book_asked, book_read, waits_unless}
 use Rattle.core_events.specs.Closing.{written_back, freed, cancelled, closed_with, opening_in, without_fids, without_opening}
 use Rattle.core_events.specs.Putting.{ending}
 use Rattle.core_events.specs.Serving.{book_served_all}
@@ -166,8 +166,8 @@ asked_book P at false Waits b r living own book = book_ask P at b r living own b
 
 pub reading_book : (P : Asker → Type 0) (at : ℕ) (t : Tables) (b : BookState) (r : Asker) → P r → IsBook P at b → IsBook P at (book_read t b r at)
 reading_book P at t b r own book =
-    elim (is_living b r.opening) as (λ l. is_living b r.opening ≡ l → IsBook P at (cond l (book_asked (is_full t r.conn) (asked_of b r) b r at) b)) [
-      | true ↦ λ living. asked_book P at (is_full t r.conn) (asked_of b r) b r living own book
+    elim (is_living b r.opening) as (λ l. is_living b r.opening ≡ l → IsBook P at (cond l (book_asked (reads_are_full t r.conn) (asked_of b r) b r at) b)) [
+      | true ↦ λ living. asked_book P at (reads_are_full t r.conn) (asked_of b r) b r living own book
       | false ↦ λ dead. book
     ] refl
 

@@ -12,7 +12,7 @@ use Rattle.core_fids.specs.declared.effect.EventChange.TheVariants as events
 use Rattle.core_fids.specs.declared.refusal.Refusal.{Refusal}
 use Rattle.core_fids.specs.declared.refusal.Refusal.TheVariants as refusal
 use Rattle.core_fids.specs.Refusals.{refusal_text}
-use Rattle.core_events.specs.Asking.{is_full, waits_unless}
+use Rattle.core_events.specs.Asking.{reads_are_full, waits_unless}
 
 -- ---- an opening
 
@@ -35,7 +35,7 @@ joined_with ports (events.Cancels tag) = ports
 -- A read is of an opening that is there. A connection whose waiting reads are 64 can't have another one that waits.
 abbrev pub read_refusal : Tables → PortsState → Asker → Option Refusal
 read_refusal tables ports asker = if not (has_joined ports asker.opening) then Some refusal.FidIsNotOpen
-    else (if read_waits ports asker && is_full tables asker.conn then Some refusal.TooManyWaitingReads else None)
+    else (if read_waits ports asker && reads_are_full tables asker.conn then Some refusal.TooManyWaitingReads else None)
 
 abbrev pub said_unless : Option Refusal → Asked → Option RBody
 said_unless (Some refusal) asked = Some (r.Error (refusal_text refusal))

@@ -7,7 +7,7 @@ ghost use Rattle.core_ports.specs.Asking.{can_join, joined_with, read_refusal, p
 ghost use Rattle.core_ports.specs.Sound.{ArePortsSound};
 
 use am_text::NoMemory;
-use core_events::is_full;
+use core_events::reads_are_full;
 use core_fids::{EventChange, RBody, Refusal, error};
 use fid_table::Sessions;
 use plumb_ports::Ports;
@@ -48,7 +48,7 @@ fn read_refusal(ports: &Ports, sessions: &Sessions, asker: Asker) -> Option<Refu
     if !ports.has_joined(asker.opening) {
         return Some(Refusal::FidIsNotOpen);
     }
-    if ports.must_wait(asker) && is_full(sessions, asker.conn) {
+    if ports.must_wait(asker) && reads_are_full(sessions, asker.conn) {
         return Some(Refusal::TooManyWaitingReads);
     }
     None

@@ -26,7 +26,7 @@ use Rattle.core_actions.specs.declared.fault.ActionFault.{ActionFault}
 use Rattle.core_actions.specs.declared.fault.ActionFault.TheVariants as fault
 use Rattle.core_actions.specs.Outcomes.{does as does_all, fails}
 use Rattle.core_actions.specs.Seen.{asks, fits}
-use Rattle.core_actions.specs.Files.{whole_of, fill_deeds, filled, file_text, store_deeds, put_deeds, put_at, is_own, clean_if}
+use Rattle.core_actions.specs.Files.{whole_of, fill_deeds, fill_outcome, file_text, store_deeds, put_deeds, put_at, is_own, clean_if}
 use Rattle.core_actions.specs.declared.files.Saved.{Saved}
 use Rattle.core_actions.specs.Paths.{path_of}
 use Rattle.core_tasks.specs.declared.control.Next.{Next}
@@ -55,7 +55,7 @@ fill_if_lives : (e : Entry) (w : ℕ) (text : List ℕ) (s : SceneState) (b : Bo
 fill_if_lives e w text s true h = fill_lives e w text s h
 fill_if_lives e w text s false h = h
 
-get_lives : (e : Entry) (w : ℕ) (r : Result (List ℕ) ActionFault) (s : SceneState) → IsSome (window_at s.windows w) → LivesAfter e w s (filled w r s).deeds
+get_lives : (e : Entry) (w : ℕ) (r : Result (List ℕ) ActionFault) (s : SceneState) → IsSome (window_at s.windows w) → LivesAfter e w s (fill_outcome w r s).deeds
 get_lives e w (Err f) s h = h
 get_lives e w (Ok text) s h = fill_if_lives e w text s (fits 0 (length text)) h
 

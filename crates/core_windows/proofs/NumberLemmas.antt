@@ -5,7 +5,7 @@ use Rattle.std.specs.Option.{option_map}
 use Rattle.std.proofs.lemmas.List.{length-append}
 use Rattle.std.proofs.lemmas.Bool.Decides.{nat_tests}
 use Rattle.acme_tree.specs.declared.node.World.{World}
-use Rattle.acme_tree.specs.Trees.{is_full}
+use Rattle.acme_tree.specs.Trees.{world_is_full}
 use Rattle.core_windows.specs.declared.change.Change.{Change}
 use Rattle.core_windows.specs.declared.change.Change.TheVariants as change
 use Rattle.core_windows.specs.declared.numbers.Numbers.{Numbers}
@@ -108,7 +108,7 @@ either_false : (a b : Bool) → (a || b) ≡ false → b ≡ false
 either_false true b e = absurd cc
 either_false false b e = e
 
-pub can_count : (world : World) → is_full world ≡ false → world.next < 2 ^ 32 → world.next + 1 < 2 ^ 32
+pub can_count : (world : World) → world_is_full world ≡ false → world.next < 2 ^ 32 → world.next + 1 < 2 ^ 32
 can_count world e h =
     let ne : eqb world.next 4294967295 ≡ false = either_false (leb 4096 (length world.windows)) (eqb world.next 4294967295) e in
     grind (arith, nat_tests)

@@ -2,7 +2,7 @@
 use Rattle.std.specs.Prelude.{◌≡◌, ℕ, ◌+◌, ◌==◌, not, false, List, [], ◌∷◌, ◌++◌, filter, Option, Some, None}
 use Rattle.am_text.specs.Twice.{Twice}
 use Rattle.acme_tree.specs.declared.node.World.{World}
-use Rattle.acme_tree.specs.Trees.{is_full}
+use Rattle.acme_tree.specs.Trees.{world_is_full}
 use Rattle.core_windows.specs.declared.change.Change.{Change}
 use Rattle.core_windows.specs.declared.change.Change.TheVariants as change
 use Rattle.core_windows.specs.declared.numbers.Numbers.{Numbers}
@@ -31,7 +31,7 @@ numbers_after world (change.Redoes w) = None
 
 -- one more window may be made, where the change makes one
 abbrev pub MayMake : World → Change → Type 0
-MayMake world (change.Makes name) = is_full world ≡ false
+MayMake world (change.Makes name) = world_is_full world ≡ false
 MayMake world (change.Deletes w) = Unit {0}
 MayMake world (change.Edits w edits) = Unit {0}
 MayMake world (change.Adds w text) = Unit {0}

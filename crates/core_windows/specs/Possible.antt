@@ -1,6 +1,6 @@
 -- Changes that can be made.
 use Rattle.std.specs.Prelude.{◌≡◌, ℕ, false, List, [], ◌∷◌, Option, Some, None, IsSome}
-use Rattle.acme_tree.specs.Trees.{is_full}
+use Rattle.acme_tree.specs.Trees.{world_is_full}
 use Rattle.edit_log.specs.declared.types.Edit.{Edit}
 use Rattle.win_text.specs.Bodies.{IsInside, AreInRange}
 use Rattle.core_windows.specs.declared.change.Change.{Change}
@@ -40,7 +40,7 @@ pub record CanSetIn (window : Option Window) (setting : Setting) : Type 0 where
 
 -- The window of the change lives, and what is named lies in its text; one more may be made.
 abbrev pub CanChange : List (Option Window) → Change → Type 0
-CanChange ws (change.Makes name) = is_full (world_of ws) ≡ false
+CanChange ws (change.Makes name) = world_is_full (world_of ws) ≡ false
 CanChange ws (change.Deletes w) = IsSome (window_at ws w)
 CanChange ws (change.Edits w edits) = CanEdit (window_at ws w) edits
 CanChange ws (change.Adds w text) = IsSome (window_at ws w)

@@ -1,7 +1,7 @@
 //! The numbers of the live windows.
 
 ghost use Rattle.std.specs.Prelude.{◌≡◌, ◌==◌, not, false, [], filter, None, Some, IfOk};
-ghost use Rattle.acme_tree.specs.Trees.{is_full};
+ghost use Rattle.acme_tree.specs.Trees.{world_is_full};
 ghost use Rattle.core_windows.specs.Numbering.{others, with_next, without, numbers_after, numbers_of, renumbered, MayMake};
 ghost use Rattle.core_windows.specs.Windows.{world_of};
 
@@ -29,7 +29,7 @@ pub(crate) fn new_world(alloc: Global) -> World
 }
 
 fn with_next(alloc: Global, world: &World) -> Result<Numbers, NoMemory>
-    requires { is_full world.now ≡ false }
+    requires { world_is_full world.now ≡ false }
     ensures { IfOk result (λ numbers. numbers ≡ with_next world.now) }
 {
     let mut windows = Items::copied(alloc, world.windows.as_slice())?;

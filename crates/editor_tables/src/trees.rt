@@ -12,8 +12,8 @@
 
 use crate::fault::{Fault, cut, number_of};
 use acme_tree::{
-    Bytes, Items, Node, Step, World, children, is_dir, is_full, is_live, may_open, qid_of, stat_of,
-    walk_one,
+    Bytes, Items, Node, Step, World, children, is_dir, is_live, may_open, qid_of, stat_of,
+    walk_one, world_is_full,
 };
 use am_text::NoMemory;
 use std::alloc::Global;
@@ -119,6 +119,6 @@ pub fn answer(alloc: Global, word: &str, fields: &str) -> Result<String, Fault> 
         "pass" => stepped(alloc, stepped_from(&trees, node, field, false)),
         "open" => opened(alloc, node, field),
         "list" => listed(alloc, &trees, node),
-        _ => Ok(format!(in alloc; "{}", is_full(&trees.world))?),
+        _ => Ok(format!(in alloc; "{}", world_is_full(&trees.world))?),
     }
 }

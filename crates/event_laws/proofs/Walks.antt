@@ -23,7 +23,7 @@ use Rattle.core_fids.specs.declared.effect.EventChange.TheVariants as events
 use Rattle.core_fids.specs.declared.refusal.Refusal.{Refusal}
 use Rattle.core_fids.specs.declared.refusal.Refusal.TheVariants as refusal
 use Rattle.core_fids.specs.Refusals.{refusal_text}
-use Rattle.core_events.specs.Asking.{opened, is_full, said_to, book_asked, read_said, book_read}
+use Rattle.core_events.specs.Asking.{opened, reads_are_full, said_to, book_asked, read_said, book_read}
 use Rattle.core_events.specs.declared.response.Feed.{Feed}
 use Rattle.core_events.specs.declared.response.FeedKind.{FeedKind}
 use Rattle.core_events.specs.declared.response.FeedKind.TheVariants.{Events, Port}
@@ -208,8 +208,8 @@ module _ (at : ℕ) (first : BookState) where
   walk_read t heard s conn tag opening count w =
       let a : Asker = asker_of conn tag opening count in
       let asked : Asked = cond (read_waits s a) Waits (Now (piece_for s a)) in
-      (elim (is_living s opening) as (λ l. is_living s opening ≡ l → W (heard ++ if_said conn tag opening (cond l (said_to (is_full t conn) asked) (Some (r.Error (refusal_text refusal.WindowDeleted))))) (cond l (book_asked (is_full t conn) asked s a at) s)) [
-        | true ↦ λ living. walk_asked (is_full t conn) heard s conn tag opening count living w
+      (elim (is_living s opening) as (λ l. is_living s opening ≡ l → W (heard ++ if_said conn tag opening (cond l (said_to (reads_are_full t conn) asked) (Some (r.Error (refusal_text refusal.WindowDeleted))))) (cond l (book_asked (reads_are_full t conn) asked s a at) s)) [
+        | true ↦ λ living. walk_asked (reads_are_full t conn) heard s conn tag opening count living w
         | false ↦ λ dead. walk_refused heard s conn tag opening refusal.WindowDeleted w
       ]) refl
 

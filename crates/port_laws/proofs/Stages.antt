@@ -30,7 +30,7 @@ use Rattle.core_fids.specs.declared.effect.EventChange.TheVariants as events
 use Rattle.core_fids.specs.declared.refusal.Refusal.{Refusal}
 use Rattle.core_fids.specs.declared.refusal.Refusal.TheVariants as refusal
 use Rattle.core_fids.specs.Refusals.{refusal_text}
-use Rattle.core_events.specs.Asking.{is_full, read_said}
+use Rattle.core_events.specs.Asking.{reads_are_full, read_said}
 use Rattle.core_events.specs.declared.response.Feed.{Feed}
 use Rattle.core_events.specs.declared.response.FeedKind.{FeedKind}
 use Rattle.core_events.specs.declared.response.FeedKind.TheVariants.{Events, Port}
@@ -121,7 +121,7 @@ deeds_stage e s (deed.Delivers port message keep ∷ ds) =
 
 not_refused : (t : Tables) (s : PortsState) (a : Asker) → read_refusal t s a ≡ None → has_joined s a.opening ≡ true
 not_refused t s a h =
-    (elim (has_joined s a.opening) as (λ b. cond (not b) (Some refusal.FidIsNotOpen) (cond (read_waits s a && is_full t a.conn) (Some refusal.TooManyWaitingReads) None) ≡ None → b ≡ true) [
+    (elim (has_joined s a.opening) as (λ b. cond (not b) (Some refusal.FidIsNotOpen) (cond (read_waits s a && reads_are_full t a.conn) (Some refusal.TooManyWaitingReads) None) ≡ None → b ≡ true) [
       | true ↦ λ k. refl
       | false ↦ λ k. absurd cc
     ]) h

@@ -1,6 +1,0 @@
--- Limits of texts.
-use Rattle.std.specs.Prelude.{ℕ}
-
--- the most runes of a body
-abbrev pub body_runes : ℕ
-body_runes = 16777216
