@@ -1,8 +1,9 @@
 -- Each message is answered in its step, or is a read that waits.
-use Rattle.std.proofs.Common.{◌≡◌, inl, inr, ℕ, ◌+◌, Bool, true, false, cond, eqb, ◌&&◌, ◌||◌, List, [], ◌∷◌, ◌++◌, length, slice_index_or, Option, Some, None, All, refl, sym, ap, subst, ◌∙◌, append_assoc, append-nil, arith}
+use Rattle.std.proofs.Common.{◌≡◌, ◌⊎◌, inl, inr, ℕ, ◌+◌, Bool, true, false, cond, eqb, ◌&&◌, ◌||◌, List, [], ◌∷◌, ◌++◌, length, slice_index_or, Option, Some, None, All, refl, sym, ap, subst, ◌∙◌, append_assoc, append-nil, arith}
 use Rattle.std.specs.List.{list_any}
+use Rattle.std.proofs.lemmas.Bool.{both_ways, false_from_ne_true, or_from}
 use Rattle.std.proofs.lemmas.Bool.Decides.{nat_tests}
-use Rattle.std.proofs.lemmas.List.Elements.{All-append}
+use Rattle.std.proofs.lemmas.List.Elements.{All-nil, All-append, All-weaker}
 use Rattle.std.proofs.lemmas.List.Folds.{list_any_at, list_any-append}
 use Rattle.ninep_types.specs.declared.message.RBody.{RBody}
 use Rattle.ninep_types.specs.declared.message.RBody.TheVariants as r
@@ -30,6 +31,8 @@ use Rattle.core_fids.specs.declared.effect.EventChange.TheVariants as events
 use Rattle.core_fids.specs.declared.effect.Reaction.{Reaction}
 use Rattle.core_fids.specs.declared.refusal.Refusal.{Refusal}
 use Rattle.core_fids.specs.declared.refusal.Refusal.TheVariants as refusal
+use Rattle.core_fids.specs.Fids.{event_opening, port_opening}
+use Rattle.core_fids.specs.Plainly.{does}
 use Rattle.core_fids.specs.Refusals.{refusal_text}
 use Rattle.core_windows.specs.declared.change.Change.{Change}
 use Rattle.core_scene.specs.Scenes.{deleted_by}
@@ -47,7 +50,6 @@ use Rattle.core_events.specs.Waits.{clunked, deletions, ended}
 use Rattle.core_events.proofs.Idles.{AreIdle, read_idle, idle_for, idle_end}
 use Rattle.core_tasks.specs.Tasks.{task_deeds, task_refusal}
 use Rattle.core_intents.specs.declared.kind.Kind.TheVariants as kind
-use Rattle.core_fids.specs.Plumbers.{plumber_of}
 use Rattle.core_intents.specs.Doings.{Doing, doing_of, entry_of, message_doing}
 use Rattle.core_intents.specs.Intents.{reaction_at}
 use Rattle.acme_core.specs.Laws.{HasAnswer, EachIsAnswered}
@@ -60,14 +62,17 @@ use Rattle.acme_core.proofs.Goes.{run-push}
 use Rattle.acme_core.proofs.Idling.{run_idle, ports_idle_after}
 use Rattle.core_steps.proofs.Idling.{silent}
 use Rattle.core_laws.specs.Answered.{IsAnswerTo, waits_with, TellsAWait, SaysOnce, ReadsOnce, IsAnsweredBy, MessagesAreAnswered}
-use Rattle.core_laws.specs.Saying.{said_after}
+use Rattle.core_laws.specs.Saying.{said_after, is_told}
+use Rattle.core_laws.specs.Waits.{WaitsAreTied}
 use Rattle.core_laws.proofs.Answering.{message_reads, message_reads_port}
 use Rattle.core_laws.proofs.Books.{IsBook, book_opened, book_put_living}
 use Rattle.core_laws.proofs.Ports.{joined_reads, acted_reads}
-use Rattle.core_laws.proofs.Playing.{played_parts, no_items}
-use Rattle.core_laws.proofs.Reactions.{ReadsSane, IsSane, reaction_sane}
+use Rattle.core_laws.proofs.Playing.{played_parts, played_first, no_items, silent_after}
+use Rattle.core_laws.proofs.Reactions.{ReadsSane, IsSane}
 use Rattle.core_laws.proofs.Tells.{Reading, tell_clunked, tell_deletions, tell_served, tell_ports}
-use Rattle.core_laws.proofs.Wells.{IsWell, moded, well_after}
+use Rattle.core_laws.proofs.Tied.{on_version, tag_or_version, waits_tied}
+use Rattle.core_laws.proofs.Zips.{key_parts, none_asks}
+use Rattle.core_laws.proofs.Wells.{IsWell, opens_in, sane_in, well_after}
 
 -- ---- reads that wait are among those that wait
 
@@ -128,9 +133,30 @@ waited_open s conn tag d body is =
     (subst (λ (a : Option Answer). All own (asked_ports (read_tables p k d) (acted p d).ports (port_read_in conn tag a)).reads) (sym is)
     (acted_reads own (entry_of p d) p.scene d.deeds (porting_waits s)))
 
-says_once : (s : State) (conn tag : ℕ) (d : Doing) (body : RBody) → d.answer ≡ Some (Says body) → AreIdle [] s.entries s.scene.book
+-- what is said before the answer, and behind it
+abbrev front_of : Present → ℕ → Doing → List Response
+front_of s conn d = clunked s.tables conn d.effect
+
+abbrev rest_of : Present → ℕ → ℕ → Doing → List Response
+rest_of s conn tag d = deletions s.tables (deleted_by d.deeds) ++ served_all (next_entry s) (put_book s (kind.Asks conn tag) d) ++ ports_served (open_ports s (kind.Asks conn tag) d)
+
+-- with a tag that no read has which waits, or where nothing else is said
+abbrev IsAlone : State → ℕ → ℕ → Doing → Type 0
+IsAlone s conn tag d = (waits_with s conn tag ≡ false) ⊎ (front_of (present s) conn d ++ rest_of (present s) conn tag d ≡ [])
+
+not_told : (s : State) (conn tag : ℕ) → waits_with s conn tag ≡ false → (x : Response) → TellsAWait s x → is_told conn tag x ≡ false
+not_told s conn tag none x tells =
+    false_from_ne_true (is_told conn tag x) (λ is. let key : (x.conn ≡ conn) × (x.message.tag ≡ tag) = key_parts x.conn x.message.tag conn tag is in
+    both_ways (waits_with s conn tag) none (subst (λ (g : ℕ). waits_with s conn g ≡ true) key.1 (subst (λ (c : ℕ). waits_with s c x.message.tag ≡ true) key.0 tells)))
+
+none_told : (s : State) (conn tag : ℕ) (d : Doing) → IsAlone s conn tag d → All (TellsAWait s) (front_of (present s) conn d ++ rest_of (present s) conn tag d)
+    → All (λ x. is_told conn tag x ≡ false) (front_of (present s) conn d ++ rest_of (present s) conn tag d)
+none_told s conn tag d (inl none) others = All-weaker (TellsAWait s) (λ x. is_told conn tag x ≡ false) (not_told s conn tag none) (front_of (present s) conn d ++ rest_of (present s) conn tag d) others
+none_told s conn tag d (inr empty) others = subst (All (λ (x : Response). is_told conn tag x ≡ false)) (sym empty) (All-nil (λ (x : Response). is_told conn tag x ≡ false))
+
+says_once : (s : State) (conn tag : ℕ) (d : Doing) (body : RBody) → d.answer ≡ Some (Says body) → AreIdle [] s.entries s.scene.book → IsAlone s conn tag d
     → SaysOnce s conn tag body (said (present s) (kind.Asks conn tag) d)
-says_once s conn tag d body is idle =
+says_once s conn tag d body is idle alone =
     let p : Present = present s in
     let k = kind.Asks conn tag in
     let front : List Response = clunked s.tables conn d.effect in
@@ -141,6 +167,10 @@ says_once s conn tag d body is idle =
     let told_gone : All (TellsAWait s) gone = tell_deletions (Waited s) s.tables (deleted_by d.deeds) (waiting_waits s) in
     let told_served : All (TellsAWait s) served = tell_served (Waited s) (next_entry p) (put_book p k d) (waited_put s conn tag d body is idle) in
     let told_later : All (TellsAWait s) later = tell_ports (Waited s) (open_ports p k d) (waited_open s conn tag d body is) in
+    let others : All (TellsAWait s) (front ++ (gone ++ served ++ later)) =
+    All-append (TellsAWait s) front (gone ++ served ++ later) (tell_clunked (Waited s) s.tables conn d.effect (waiting_waits s))
+    (All-append (TellsAWait s) (gone ++ served) later (All-append (TellsAWait s) gone served told_gone told_served) told_later)
+    in
     record {
       front = front;
       rest = gone ++ served ++ later;
@@ -149,9 +179,32 @@ says_once s conn tag d body is idle =
           ∙ ap (λ (xs : List Response). xs ++ later) (append_assoc one gone served)
           ∙ append_assoc one (gone ++ served) later
           ∙ append_assoc front (response conn tag body ∷ []) (gone ++ served ++ later);
-      others = All-append (TellsAWait s) front (gone ++ served ++ later) (tell_clunked (Waited s) s.tables conn d.effect (waiting_waits s))
-          (All-append (TellsAWait s) (gone ++ served) later (All-append (TellsAWait s) gone served told_gone told_served) told_later);
+      once = none_told s conn tag d alone others;
+      others = others;
     }
+
+-- a Tversion is answered alone
+version_alone : (before : List Event) (conn tag : ℕ) (o : Origin) (msize : Option ℕ) (body : RBody)
+    → front_of (present_after before) conn (message_doing (present_after before) (does (effect.Begins msize) [] body) o) ++ rest_of (present_after before) conn tag (message_doing (present_after before) (does (effect.Begins msize) [] body) o) ≡ []
+unfolding task_deeds task_refusal
+version_alone before conn tag o msize body = silent_after before (next_entry (present_after before))
+
+free_key : (s : State) (conn tag : ℕ) → WaitsAreTied s → list_any (is_waiting conn tag) s.tables.waiting ≡ false → waits_with s conn tag ≡ false
+free_key s conn tag tied none =
+    or_from (list_any (is_waiting conn tag) s.tables.waiting) (list_any (is_read conn tag) s.scene.book.reads || list_any (is_read conn tag) s.scene.ports.reads) none
+    (or_from (list_any (is_read conn tag) s.scene.book.reads) (list_any (is_read conn tag) s.scene.ports.reads)
+    (none_asks event_opening s.tables conn tag s.tables.waiting s.scene.book.reads tied.events none) (none_asks port_opening s.tables conn tag s.tables.waiting s.scene.ports.reads tied.ports none))
+
+alone_by : (before : List Event) (conn : ℕ) (msg : TMsg) → IsPlayed enabled before → enabled before (event.Msg conn msg) ≡ None → IsAlone (run before) conn msg.tag (doing_of (present_after before) (event.Msg conn msg))
+alone_by before conn msg played allowed =
+    let s : State = run before in
+    let p : Present = present s in
+    let o : Origin = message_origin s.tables conn msg.body in
+    elim (tag_or_version p conn msg allowed) as (λ z. IsAlone s conn msg.tag (doing_of p (event.Msg conn msg))) [
+      | inl none ↦ inl (free_key s conn msg.tag (waits_tied before played) none)
+      | inr version ↦
+          inr (on_version p conn (λ d. front_of p conn (message_doing p d o) ++ rest_of p conn msg.tag (message_doing p d o) ≡ []) (λ msize body. version_alone before conn msg.tag o msize body) msg.body version)
+    ]
 
 -- ---- a read of an event file
 
@@ -274,7 +327,7 @@ reads_by before conn msg fid opening count well asks is =
     let d : Reaction = reaction_at p conn msg in
     let o : Origin = message_origin s.tables conn msg.body in
     let same : d.answer ≡ Reads fid opening count = message_reads p d o fid opening count is in
-    let sane : IsSane s.tables conn d = reaction_sane s.tables conn (moded s conn well) p.scene.windows (plumber_of p.scene.rules p.scene.ports) (length s.scene.book.owners) msg.body in
+    let sane : IsSane (opens_in p) s.tables conn d = sane_in s conn msg well in
     let reads : ReadsSane s.tables conn d (Reads fid opening count) = subst (ReadsSane s.tables conn d) same sane.1 in
     read_by before conn msg o fid opening count (read_said s.tables s.scene.book (asker_of conn msg.tag opening count)) asks
     (reading p o d.effect d.events d.changes d.demand d.answer (Reads fid opening count) reads.0 reads.2 reads.3 reads.4 same) refl
@@ -359,23 +412,23 @@ reads_port_by before conn msg fid opening count well asks is =
     let d : Reaction = reaction_at p conn msg in
     let o : Origin = message_origin s.tables conn msg.body in
     let same : d.answer ≡ ReadsPort fid opening count = message_reads_port p d o fid opening count is in
-    let sane : IsSane s.tables conn d = reaction_sane s.tables conn (moded s conn well) p.scene.windows (plumber_of p.scene.rules p.scene.ports) (length s.scene.book.owners) msg.body in
+    let sane : IsSane (opens_in p) s.tables conn d = sane_in s conn msg well in
     let reads : ReadsSane s.tables conn d (ReadsPort fid opening count) = subst (ReadsSane s.tables conn d) same sane.1 in
     port_by before conn msg o fid opening count (port_said s.tables s.scene.ports (asker_of conn msg.tag opening count)) asks
     (reading p o d.effect d.events d.changes d.demand d.answer (ReadsPort fid opening count) reads.0 reads.2 reads.3 reads.4 same) refl
 
 -- ---- all messages
 
-answered_by : (before : List Event) (conn : ℕ) (msg : TMsg) (a : Option Answer) → IsWell (run before) → (doing_of (present_after before) (event.Msg conn msg)).answer ≡ a
+answered_by : (before : List Event) (conn : ℕ) (msg : TMsg) (a : Option Answer) → IsWell (run before) → IsAlone (run before) conn msg.tag (doing_of (present_after before) (event.Msg conn msg)) → (doing_of (present_after before) (event.Msg conn msg)).answer ≡ a
     → HasAnswer msg.body a → IsAnsweredBy before conn msg a
-answered_by before conn msg None well is has = has
-answered_by before conn msg (Some (Says body)) well is has =
-    (has, says_once (run before) conn msg.tag (doing_of (present_after before) (event.Msg conn msg)) body is (run_idle before))
-answered_by before conn msg (Some (Reads fid opening count)) well is has = reads_by before conn msg fid opening count well has is
-answered_by before conn msg (Some (ReadsPort fid opening count)) well is has = reads_port_by before conn msg fid opening count well has is
+answered_by before conn msg None well alone is has = has
+answered_by before conn msg (Some (Says body)) well alone is has =
+    (has, says_once (run before) conn msg.tag (doing_of (present_after before) (event.Msg conn msg)) body is (run_idle before) alone)
+answered_by before conn msg (Some (Reads fid opening count)) well alone is has = reads_by before conn msg fid opening count well has is
+answered_by before conn msg (Some (ReadsPort fid opening count)) well alone is has = reads_port_by before conn msg fid opening count well has is
 
 pub messages_answered : EachIsAnswered → (journal : List Event) → IsPlayed enabled journal → MessagesAreAnswered journal
 messages_answered law journal played before behind conn msg is =
     let e : Event = event.Msg conn msg in
     let parts : ArePlayed enabled [] before × ArePlayed enabled ([] ++ before) (e ∷ behind) = played_parts [] before (e ∷ behind) (subst (IsPlayed enabled) (sym is) played) in
-    answered_by before conn msg (doing_of (present_after before) e).answer (well_after before parts.0) refl (law (present_after before) conn msg)
+    answered_by before conn msg (doing_of (present_after before) e).answer (well_after before parts.0) (alone_by before conn msg parts.0 (played_first before behind e parts.1).0) refl (law (present_after before) conn msg)

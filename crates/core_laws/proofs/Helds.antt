@@ -1,6 +1,7 @@
 -- After each journal of enabled events each read of a port that waits is on an opening that a fid of its connection has.
 use Rattle.std.proofs.Common.{◌≡◌, ℕ, List, [], ◌∷◌, ◌++◌, slice_index_or, Option, Some, None, All, refl, sym, ap, subst, ◌∙◌, append_assoc, append-nil}
 use Rattle.std.proofs.lemmas.List.Elements.{All-nil, All-weaker}
+use Rattle.fid_table.specs.declared.types.Fid.{Fid}
 use Rattle.fid_table.specs.Tables.{Tables, nothing, fid_of, fids_of, after_join, after_hangup, after_take, after_version}
 use Rattle.wait_queue.specs.declared.types.Asker.{Asker}
 use Rattle.event_book.specs.BookState.{BookState}
@@ -30,7 +31,7 @@ use Rattle.acme_core.proofs.Goes.{run-push}
 use Rattle.core_laws.proofs.Fids.{IsHeld, held_join, held_put, held_take, held_version, held_same}
 use Rattle.core_laws.proofs.Ports.{joined_reads, read_reads, served_reads, acted_reads, leave_reads, without_fids_reads, cancelled_reads, left_none, IsApart, without_fids_none}
 use Rattle.core_laws.proofs.Reactions.{PutsSane, of_port, keeps}
-use Rattle.core_laws.proofs.Wells.{IsWell, IsOwn, AsksPortSane, own, no_entries, done_sessions, cancelled_sessions, waits_sessions, well_step}
+use Rattle.core_laws.proofs.Wells.{IsWell, opens_in, IsOwn, AsksPortSane, own, no_entries, done_sessions, cancelled_sessions, waits_sessions, well_step}
 
 abbrev pub AreHeld : Tables → PortsState → Type 0
 AreHeld t p = All (IsHeld port_opening t) p.reads
@@ -43,12 +44,12 @@ by_sessions t u p same h = weaker t u p (λ x k. held_same port_opening t u x sa
 
 -- ---- what grows
 
-put_held : (t : Tables) (conn : ℕ) (e : Effect) (p : PortsState) → PutsSane t conn e → AreHeld t p → AreHeld (grown_with t conn e) p
-put_held t conn effect.Nothing p sane h = h
-put_held t conn (effect.Begins msize) p sane h = h
-put_held t conn (effect.Puts number fid) p sane h =
-    weaker t (grown_with t conn (effect.Puts number fid)) p (λ x k. held_put port_opening t conn number fid x (keeps at_port t conn number fid of_port sane) k) h
-put_held t conn (effect.Frees number) p sane h = h
+put_held : (New : Fid → Type 0) (t : Tables) (conn : ℕ) (e : Effect) (p : PortsState) → PutsSane New t conn e → AreHeld t p → AreHeld (grown_with t conn e) p
+put_held New t conn effect.Nothing p sane h = h
+put_held New t conn (effect.Begins msize) p sane h = h
+put_held New t conn (effect.Puts number fid) p sane h =
+    weaker t (grown_with t conn (effect.Puts number fid)) p (λ x k. held_put port_opening t conn number fid x (keeps at_port New t conn number fid of_port sane) k) h
+put_held New t conn (effect.Frees number) p sane h = h
 
 answered_sessions : (t : Tables) (b : BookState) (conn tag : ℕ) (a : Option Answer) → (answer_tables t b conn tag a).sessions ≡ t.sessions
 answered_sessions t b conn tag None = refl
@@ -90,7 +91,7 @@ held_open s (kind.Asks conn tag) d own h =
     let same : t.sessions ≡ put.sessions = asked_sessions read (acted s d).ports conn tag d.answer ∙ answered_sessions put s.scene.book conn tag d.answer in
     joined_reads (IsHeld port_opening t) (asked_ports read (acted s d).ports (port_read_in conn tag d.answer)) d.events
     (asked_held read t (acted s d).ports conn tag d.answer (same_sane put t conn tag d.answer same own.3)
-    (acted_held t s d (by_sessions put t s.scene.ports same (put_held s.tables conn d.effect s.scene.ports own.1 h))))
+    (acted_held t s d (by_sessions put t s.scene.ports same (put_held (opens_in s d.events) s.tables conn d.effect s.scene.ports own.1 h))))
 held_open s (kind.Ends conn why) d own h = joined_reads (IsHeld port_opening s.tables) (acted s d).ports d.events (acted_held s.tables s d h)
 held_open s (kind.Takes conn) d own h = joined_reads (IsHeld port_opening s.tables) (acted s d).ports d.events (acted_held s.tables s d h)
 held_open s kind.Acts d own h = joined_reads (IsHeld port_opening s.tables) (acted s d).ports d.events (acted_held s.tables s d h)

@@ -7,7 +7,7 @@ use Rattle.core_scene.specs.SceneLaws.{DeedsShow}
 use Rattle.acme_core.proofs.Goes.{groups_numbered}
 use Rattle.acme_core.specs.Laws.{EachIsAnswered}
 use Rattle.acme_core.specs.Run.{enabled}
-use Rattle.am_counter.specs.Played.{ArePlayed, IsPlayed}
+use Rattle.am_counter.specs.Played.{ArePlayed, IsPlayed, IsPrefix}
 use Rattle.core_laws.specs.Journals.{FlushedTagsAreSilent, JournalsAreLawful}
 use Rattle.core_laws.specs.Laws.{IsFree}
 use Rattle.core_laws.specs.Saying.{said_from, is_told, flush_of}
@@ -15,9 +15,14 @@ use Rattle.core_laws.proofs.Answered.{messages_answered}
 use Rattle.core_laws.proofs.Flushes.{none_can, nothing_to_a_flushed}
 use Rattle.core_laws.proofs.Moves.{moves_whole}
 use Rattle.core_laws.proofs.Playing.{played_parts}
+use Rattle.core_laws.proofs.Tied.{waits_tied, tags_apart}
 use Rattle.core_laws.proofs.WriteBacks.{acted_once}
 use Rattle.core_laws.proofs.Unsents.{sent_or_unsent}
 use Rattle.core_laws.proofs.Windows.{possible_prefix, all_lawful, histories}
+
+-- the events of a beginning were enabled, too
+played_prefix : (before journal : List Event) → IsPrefix before journal → IsPlayed enabled journal → IsPlayed enabled before
+played_prefix before journal front played = (played_parts [] before front.0 (subst (IsPlayed enabled) (sym front.1) played)).0
 
 -- the front of a journal up to an entry and some behind it
 silent_by : (journal : List Event) → IsPlayed enabled journal → FlushedTagsAreSilent journal
@@ -38,6 +43,8 @@ all_laws show inside numbers answers journal is = record {
   histories = λ before front. histories inside before (all_lawful show before (possible_prefix before journal front is.possible));
   groups = λ before front. groups_numbered numbers before;
   moves = moves_whole show journal is.possible;
+  waiting = λ before front. waits_tied before (played_prefix before journal front is.played);
+  tags = λ before front. tags_apart before (played_prefix before journal front is.played);
   answered = messages_answered answers journal is.played;
   silent = silent_by journal is.played;
   acted = acted_once journal;

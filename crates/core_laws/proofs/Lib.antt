@@ -16,6 +16,15 @@ mod Sessions
 mod Clicks
 mod Lives
 mod Backs
+mod Lists
+mod Zips
+mod Holders
+mod Staying
+mod Ties
+mod Growths
+mod Endings
+mod Waits
+mod Tied
 mod Windows
 mod Moves
 mod Answered

@@ -1,6 +1,6 @@
 -- What messages do to fids with openings: these are open, and keep their openings until they are freed; a read is one of such a fid.
-use Rattle.std.proofs.Common.{◌≡◌, ℕ, Bool, true, false, cond, eqb, List, [], ◌++◌, length, Option, Some, None, Result, Ok, Err, min, codes, nat_lt, ◌==◌, refl, sym, ap, subst, ◌∙◌}
-use Rattle.std.proofs.lemmas.Bool.{eqb-true}
+use Rattle.std.proofs.Common.{◌≡◌, ◌⊎◌, inl, inr, ℕ, Bool, true, false, not, cond, eqb, List, [], ◌++◌, length, Option, Some, None, Result, Ok, Err, min, codes, nat_lt, ◌==◌, refl, sym, ap, subst, ◌∙◌}
+use Rattle.std.proofs.lemmas.Bool.{eqb-true, not-false}
 use Rattle.am_text.specs.Part.{part_bytes}
 use Rattle.am_text.specs.Pieces.{Decoded, decode_part}
 use Rattle.am_text.specs.declared.range.Range.{Range}
@@ -27,6 +27,7 @@ use Rattle.core_fids.specs.declared.effect.Answer.TheVariants.{Says, Reads, Read
 use Rattle.core_fids.specs.declared.effect.Reaction.{Reaction}
 use Rattle.core_fids.specs.declared.effect.Effect.{Effect}
 use Rattle.core_fids.specs.declared.effect.Effect.TheVariants as effect
+use Rattle.core_fids.specs.declared.effect.EventChange.{EventChange}
 use Rattle.core_fids.specs.declared.effect.EventChange.TheVariants as events
 use Rattle.core_fids.specs.declared.effect.Demand.TheVariants as demand
 use Rattle.core_fids.specs.declared.refusal.Refusal.{Refusal}
@@ -38,8 +39,8 @@ use Rattle.core_fids.specs.Attaching.{is_version, agreement, version_reaction, r
 use Rattle.core_fids.specs.Contents.{content_of}
 use Rattle.core_answers.specs.Reactions.{session_reaction, comes_first, reaction}
 use Rattle.core_answers.specs.Erring.{fits_in, fits_tag, errors_of, root_errors, errors_refusal}
-use Rattle.core_fids.specs.Fids.{at_event, at_port, event_opening, port_opening, is_there, is_used, is_open, is_for_reading, is_for_writing}
-use Rattle.core_fids.specs.Opening.{open_refusal, or_opens, open_fid, denial, clunk_fid, remove_fid}
+use Rattle.core_fids.specs.Fids.{at_event, at_port, event_opening, port_opening, is_there, is_used, is_open, opened_fid, is_for_reading, is_for_writing}
+use Rattle.core_fids.specs.Opening.{first_refusal, content_refusal, opening_events, opening_of, open_refusal, or_opens, open_fid, denial, clunk_fid, remove_fid}
 use Rattle.core_fids.specs.Plainly.{does}
 use Rattle.core_fids.specs.Plumbers.{Plumber}
 use Rattle.core_fids.specs.Directories.{place_at, read_dir, stat_fid}
@@ -53,16 +54,29 @@ use Rattle.core_answers.specs.Writing.{if_lives, append_reaction, add_reaction, 
 abbrev pub IsModed : Fid → Type 0
 IsModed f = f.mode ≡ None → f.opening ≡ None
 
--- the fid that is put is such a one, and has the opening and the node of the one in whose place it stands, where that has an opening
-pub record IsPut (tables : Tables) (conn number : ℕ) (value : Fid) : Type 0 where
+-- it has the opening and the node of the one in whose place it stands
+abbrev pub IsStill : Tables → ℕ → ℕ → Fid → Type 0
+IsStill tables conn number value = (f : Fid) × (fid_of tables conn number ≡ Some f) × (value.opening ≡ f.opening) × (value.node ≡ f.node)
+
+-- The fid that is put is such a one, and has the opening and the node of the one in whose place it stands, where that has an opening. What
+-- has an opening besides is newly opened.
+pub record IsPut (New : Fid → Type 0) (tables : Tables) (conn number : ℕ) (value : Fid) : Type 0 where
   pub moded : IsModed value
   pub keeps : (f : Fid) (o : ℕ) → fid_of tables conn number ≡ Some f → f.opening ≡ Some o → (value.opening ≡ Some o) × (value.node ≡ f.node)
+  pub from : (o : ℕ) → value.opening ≡ Some o → IsStill tables conn number value ⊎ New value
 
-abbrev pub PutsSane : Tables → ℕ → Effect → Type 0
-PutsSane tables conn effect.Nothing = Unit {0}
-PutsSane tables conn (effect.Begins msize) = Unit {0}
-PutsSane tables conn (effect.Puts number value) = IsPut tables conn number value
-PutsSane tables conn (effect.Frees number) = Unit {0}
+abbrev pub PutsSane : (Fid → Type 0) → Tables → ℕ → Effect → Type 0
+PutsSane New tables conn effect.Nothing = Unit {0}
+PutsSane New tables conn (effect.Begins msize) = Unit {0}
+PutsSane New tables conn (effect.Puts number value) = IsPut New tables conn number value
+PutsSane New tables conn (effect.Frees number) = Unit {0}
+
+-- A fid is newly opened by what this does to openings: its node is there, it has the next number, and that can be counted.
+pub record IsNew (world : World) (plumber : Plumber) (openings : ℕ) (e : EventChange) (value : Fid) : Type 0 where
+  pub live : is_live world plumber.names value.node ≡ true
+  pub opening : value.opening ≡ opening_of plumber openings (content_of value.node)
+  pub events : e ≡ opening_events (content_of value.node)
+  pub counted : content_refusal plumber openings (content_of value.node) ≡ None
 
 -- an opening of an event file, or of a port, is the fid's
 pub of_event : (node : Node) (o : Option ℕ) (x : ℕ) → at_event node o ≡ Some x → o ≡ Some x
@@ -108,9 +122,9 @@ of_port (node.File w file.Tag) o x h = absurd cc
 of_port (node.File w file.Xdata) o x h = absurd cc
 
 -- so the fid that is put has it, too
-pub keeps : (which : Node → Option ℕ → Option ℕ) (tables : Tables) (conn number : ℕ) (value : Fid) → ((node : Node) (o : Option ℕ) (x : ℕ) → which node o ≡ Some x → o ≡ Some x) → IsPut tables conn number value
-    → (f : Fid) (o : ℕ) → fid_of tables conn number ≡ Some f → which f.node f.opening ≡ Some o → which value.node value.opening ≡ Some o
-keeps which tables conn number value own put f o is opens =
+pub keeps : (which : Node → Option ℕ → Option ℕ) (New : Fid → Type 0) (tables : Tables) (conn number : ℕ) (value : Fid) → ((node : Node) (o : Option ℕ) (x : ℕ) → which node o ≡ Some x → o ≡ Some x)
+    → IsPut New tables conn number value → (f : Fid) (o : ℕ) → fid_of tables conn number ≡ Some f → which f.node f.opening ≡ Some o → which value.node value.opening ≡ Some o
+keeps which New tables conn number value own put f o is opens =
     let mine : f.opening ≡ Some o = own f.node f.opening o opens in
     let both : (value.opening ≡ Some o) × (value.node ≡ f.node) = put.keeps f o is mine in
     ap (λ (n : Node). which n value.opening) both.1 ∙ ap (which f.node) (both.0 ∙ sym mine) ∙ opens
@@ -129,8 +143,8 @@ ReadsSane tables conn d (Reads number opening count) =
 ReadsSane tables conn d (ReadsPort number opening count) =
     (d.effect ≡ effect.Nothing) × HasOpening port_opening tables conn number opening × (d.events ≡ events.Nothing) × (d.changes ≡ []) × (d.demand ≡ demand.Nothing)
 
-abbrev pub IsSane : Tables → ℕ → Reaction → Type 0
-IsSane tables conn d = PutsSane tables conn d.effect × ReadsSane tables conn d d.answer
+abbrev pub IsSane : (EventChange → Fid → Type 0) → Tables → ℕ → Reaction → Type 0
+IsSane New tables conn d = PutsSane (New d.events) tables conn d.effect × ReadsSane tables conn d d.answer
 
 -- ---- tests
 
@@ -155,37 +169,51 @@ first_false : {A : Type 0} (a : Bool) (x : A) (rest : Option A) → cond a (Some
 first_false true x rest e = absurd cc
 first_false false x rest e = refl
 
-module _ (tables : Tables) (conn : ℕ) (moded : (number : ℕ) (f : Fid) → fid_of tables conn number ≡ Some f → IsModed f) where
+third_none : (a b : Bool) (x y : Refusal) (m c : Option Refusal) → cond a (Some x) (cond b (Some y) (first_refusal m c)) ≡ None → c ≡ None
+third_none true b x y m c e = absurd cc
+third_none false true x y m c e = absurd cc
+third_none false false x y None c e = e
+third_none false false x y (Some z) c e = absurd cc
+
+-- what Topen opens is such a one
+abbrev pub OpensNew : (EventChange → Fid → Type 0) → World → Plumber → ℕ → Type 0
+OpensNew New world plumber openings = (f : Fid) (mode : ℕ) → is_live world plumber.names f.node ≡ true → content_refusal plumber openings (content_of f.node) ≡ None
+    → New (opening_events (content_of f.node)) (opened_fid f mode (opening_of plumber openings (content_of f.node)))
+
+module _ (New : EventChange → Fid → Type 0) (tables : Tables) (conn : ℕ) (moded : (number : ℕ) (f : Fid) → fid_of tables conn number ≡ Some f → IsModed f) where
   abbrev Sane : Result Reaction Refusal → Type 0
-  Sane (Ok d) = IsSane tables conn d
+  Sane (Ok d) = IsSane New tables conn d
   Sane (Err x) = Unit {0}
 
-  one_of : (b : Bool) (d e : Reaction) → IsSane tables conn d → IsSane tables conn e → IsSane tables conn (cond b d e)
+  one_of : (b : Bool) (d e : Reaction) → IsSane New tables conn d → IsSane New tables conn e → IsSane New tables conn (cond b d e)
   one_of true d e g h = g
   one_of false d e g h = h
 
-  done_or : (b : Bool) (d : Reaction) (x : Refusal) → IsSane tables conn d → Sane (cond b (Ok d) (Err x))
+  done_or : (b : Bool) (d : Reaction) (x : Refusal) → IsSane New tables conn d → Sane (cond b (Ok d) (Err x))
   done_or true d x h = h
   done_or false d x h = tt
 
-  or_done : (b : Bool) (x : Refusal) (d : Reaction) → IsSane tables conn d → Sane (cond b (Err x) (Ok d))
+  or_done : (b : Bool) (x : Refusal) (d : Reaction) → IsSane New tables conn d → Sane (cond b (Err x) (Ok d))
   or_done true x d h = tt
   or_done false x d h = h
 
   -- ---- fids that are put
 
   -- a fid with what the one in its place had
-  put_again : (number : ℕ) (f value : Fid) → fid_of tables conn number ≡ Some f → value.mode ≡ f.mode → value.opening ≡ f.opening → value.node ≡ f.node → IsPut tables conn number value
+  put_again : {e : EventChange} (number : ℕ) (f value : Fid) → fid_of tables conn number ≡ Some f → value.mode ≡ f.mode → value.opening ≡ f.opening → value.node ≡ f.node → IsPut (New e) tables conn number value
   put_again number f value is mode opening node = record {
+    from = λ o opens. inl (f, is, opening, node);
     moded = λ e. opening ∙ moded number f is (sym mode ∙ e);
     keeps = λ g o there opens. let same : f ≡ g = same_some (fid_of tables conn number) f g is there in
         (opening ∙ ap (λ (x : Fid). x.opening) same ∙ opens, node ∙ ap (λ (x : Fid). x.node) same);
   }
 
   -- a fid where none with an opening stands
-  put_new : (number : ℕ) (value : Fid) → IsModed value → ((f : Fid) → fid_of tables conn number ≡ Some f → f.opening ≡ None) → IsPut tables conn number value
-  put_new number value own none = record {
+  put_new : {e : EventChange} (number : ℕ) (value : Fid) → IsModed value → ((f : Fid) → fid_of tables conn number ≡ Some f → f.opening ≡ None)
+      → ((o : ℕ) → value.opening ≡ Some o → New e value) → IsPut (New e) tables conn number value
+  put_new number value own none new = record {
     moded = own;
+    from = λ o opens. inr (new o opens);
     keeps = λ f o there opens. let e : None ≡ Some o = sym (none f there) ∙ opens in absurd cc;
   }
 
@@ -200,7 +228,7 @@ module _ (tables : Tables) (conn : ℕ) (moded : (number : ℕ) (f : Fid) → fi
 
   -- ---- message by message
 
-  version_sane : (msize : ℕ) (version : List ℕ) → IsSane tables conn (version_reaction msize version)
+  version_sane : (msize : ℕ) (version : List ℕ) → IsSane New tables conn (version_reaction msize version)
   version_sane msize version =
       one_of (nat_lt msize 256) (refused_with (effect.Begins None) refusal.MsizeTooSmall) (agreement (min msize 65560) version) (tt, tt)
       (one_of (is_version version) (does (effect.Begins (Some (min msize 65560))) [] (r.Version (min msize 65560) (codes "9P2000")))
@@ -208,15 +236,15 @@ module _ (tables : Tables) (conn : ℕ) (moded : (number : ℕ) (f : Fid) → fi
 
   attaches_at : (fid : ℕ) (o : Option Node) → is_used tables conn fid ≡ false → Sane (attach_to fid o)
   attaches_at fid None e = tt
-  attaches_at fid (Some node) e = (put_new fid _ (λ h. refl) (unused fid e), tt)
+  attaches_at fid (Some node) e = (put_new fid _ (λ h. refl) (unused fid e) (λ o h. absurd cc), tt)
 
   attaches : (fid afid : ℕ) (aname : List ℕ) (o : Option Refusal) → attach_refusal tables conn fid afid ≡ o → Sane (or_attaches o fid aname)
   attaches fid afid aname None e = attaches_at fid (root_of aname) (second_false _ (is_used tables conn fid) _ _ _ e)
   attaches fid afid aname (Some x) e = tt
 
   arrives_sane : (newfid : ℕ) (world : World) (qids : List Qid) (e : WalkEnd) → ((f : Fid) → fid_of tables conn newfid ≡ Some f → f.opening ≡ None) → Sane (arrives_at newfid world qids e)
-  arrives_sane newfid world qids (end.At node) none = (put_new newfid _ (λ h. refl) none, tt)
-  arrives_sane newfid world qids (end.Makes file) none = (put_new newfid _ (λ h. refl) none, tt)
+  arrives_sane newfid world qids (end.At node) none = (put_new newfid _ (λ h. refl) none (λ o h. absurd cc), tt)
+  arrives_sane newfid world qids (end.Makes file) none = (put_new newfid _ (λ h. refl) none (λ o h. absurd cc), tt)
   arrives_sane newfid world qids (end.Stops x) none = or_done (length qids == 0) x (does effect.Nothing [] (r.Walk qids)) (tt, tt)
 
   or_walks_sane : (o : Option Refusal) (x : Result Reaction Refusal) → (o ≡ None → Sane x) → Sane (or_walks o x)
@@ -240,15 +268,18 @@ module _ (tables : Tables) (conn : ℕ) (moded : (number : ℕ) (f : Fid) → fi
       or_walks_sane (walk_refusal tables conn number newfid f) _
       (λ e. arrives_sane newfid world (course world ports f.node names).qids (course world ports f.node names).end (walk_free number newfid f is e))
 
-  opens_sane : (world : World) (plumber : Plumber) (openings number mode : ℕ) (f : Fid) (o : Option Refusal) → fid_of tables conn number ≡ Some f → open_refusal world plumber openings f mode ≡ o
-      → Sane (or_opens tables plumber o openings number f mode)
-  opens_sane world plumber openings number mode f None is e =
-      (put_new number _ (λ h. absurd cc) (closed number f is (second_false _ (is_open f) _ _ _ e)), tt)
-  opens_sane world plumber openings number mode f (Some x) is e = tt
+  opens_sane : (world : World) (plumber : Plumber) (openings number mode : ℕ) (f : Fid) (o : Option Refusal) → OpensNew New world plumber openings → fid_of tables conn number ≡ Some f
+      → open_refusal world plumber openings f mode ≡ o → Sane (or_opens tables plumber o openings number f mode)
+  opens_sane world plumber openings number mode f None news is e =
+      let live : is_live world plumber.names f.node ≡ true = not-false (is_live world plumber.names f.node) (first_false (not (is_live world plumber.names f.node)) _ _ e) in
+      let counted : content_refusal plumber openings (content_of f.node) ≡ None = third_none _ (is_open f) _ _ _ (content_refusal plumber openings (content_of f.node)) e in
+      (put_new number _ (λ h. absurd cc) (closed number f is (second_false _ (is_open f) _ _ _ e)) (λ o h. news f mode live counted), tt)
+  opens_sane world plumber openings number mode f (Some x) news is e = tt
 
-  open_sane : (world : World) (plumber : Plumber) (openings number mode : ℕ) (o : Option Fid) → fid_of tables conn number ≡ o → Sane (open_fid tables world plumber openings number mode o)
-  open_sane world plumber openings number mode None is = tt
-  open_sane world plumber openings number mode (Some f) is = opens_sane world plumber openings number mode f (open_refusal world plumber openings f mode) is refl
+  open_sane : (world : World) (plumber : Plumber) (openings number mode : ℕ) (o : Option Fid) → OpensNew New world plumber openings → fid_of tables conn number ≡ o
+      → Sane (open_fid tables world plumber openings number mode o)
+  open_sane world plumber openings number mode None news is = tt
+  open_sane world plumber openings number mode (Some f) news is = opens_sane world plumber openings number mode f (open_refusal world plumber openings f mode) news is refl
 
   denied_sane : (o : Option Fid) → Sane (denial o)
   denied_sane None = tt
@@ -270,11 +301,11 @@ module _ (tables : Tables) (conn : ℕ) (moded : (number : ℕ) (f : Fid) → fi
   read_port_sane number count f None is e = tt
   read_port_sane number count f (Some opening) is e = (tt, (refl, record { fid = f; is = is; opens = e }, refl, refl, refl))
 
-  data_sane : (w count : ℕ) (o : Option Window) → IsSane tables conn (data_reaction w count o)
+  data_sane : (w count : ℕ) (o : Option Window) → IsSane New tables conn (data_reaction w count o)
   data_sane w count None = (tt, tt)
   data_sane w count (Some window) = (tt, tt)
 
-  xdata_sane : (w count : ℕ) (o : Option Window) → IsSane tables conn (xdata_reaction w count o)
+  xdata_sane : (w count : ℕ) (o : Option Window) → IsSane New tables conn (xdata_reaction w count o)
   xdata_sane w count None = (tt, tt)
   xdata_sane w count (Some window) = (tt, tt)
 
@@ -314,7 +345,7 @@ module _ (tables : Tables) (conn : ℕ) (moded : (number : ℕ) (f : Fid) → fi
   add_sane windows number w count f decoded is =
       if_lives_sane (window_at windows w) _ (done_or (fits_tag (right_of (window_at windows w)) decoded.text) _ refusal.TextTooLong (put_again number f _ is refl refl refl, tt))
 
-  or_errors_sane : (o : Option Refusal) (d : Reaction) → IsSane tables conn d → Sane (or_errors o d)
+  or_errors_sane : (o : Option Refusal) (d : Reaction) → IsSane New tables conn d → Sane (or_errors o d)
   or_errors_sane None d h = h
   or_errors_sane (Some x) d h = tt
 
@@ -375,26 +406,26 @@ module _ (tables : Tables) (conn : ℕ) (moded : (number : ℕ) (f : Fid) → fi
   stat_sane world ports None = tt
   stat_sane world ports (Some f) = done_or (is_live world ports f.node) _ refusal.WindowDeleted (tt, tt)
 
-  served_sane : (world : World) (windows : List (Option Window)) (plumber : Plumber) (openings : ℕ) (body : TBody) → Sane (session_reaction tables world windows plumber openings conn body)
-  served_sane world windows plumber openings (t.Version msize version) = version_sane msize version
-  served_sane world windows plumber openings (t.Auth afid uname aname) = tt
-  served_sane world windows plumber openings (t.Flush oldtag) = (tt, tt)
-  served_sane world windows plumber openings (t.Attach fid afid uname aname) = attaches fid afid aname (attach_refusal tables conn fid afid) refl
-  served_sane world windows plumber openings (t.Walk fid newfid names) = walk_sane world plumber.names fid newfid names (fid_of tables conn fid) refl
-  served_sane world windows plumber openings (t.Open fid mode) = open_sane world plumber openings fid mode (fid_of tables conn fid) refl
-  served_sane world windows plumber openings (t.Create fid name perm mode) = denied_sane (fid_of tables conn fid)
-  served_sane world windows plumber openings (t.Read fid offset count) = read_sane world windows plumber fid offset (most count (msize_of tables conn)) (fid_of tables conn fid) refl
-  served_sane world windows plumber openings (t.Write fid offset bytes) = write_sane world windows plumber.names fid bytes (fid_of tables conn fid) refl
-  served_sane world windows plumber openings (t.Clunk fid) = clunk_sane fid (fid_of tables conn fid)
-  served_sane world windows plumber openings (t.Remove fid) = remove_sane fid (fid_of tables conn fid)
-  served_sane world windows plumber openings (t.Stat fid) = stat_sane world plumber.names (fid_of tables conn fid)
-  served_sane world windows plumber openings (t.Wstat fid stat) = denied_sane (fid_of tables conn fid)
+  served_sane : (world : World) (windows : List (Option Window)) (plumber : Plumber) (openings : ℕ) (body : TBody) → OpensNew New world plumber openings → Sane (session_reaction tables world windows plumber openings conn body)
+  served_sane world windows plumber openings (t.Version msize version) news = version_sane msize version
+  served_sane world windows plumber openings (t.Auth afid uname aname) news = tt
+  served_sane world windows plumber openings (t.Flush oldtag) news = (tt, tt)
+  served_sane world windows plumber openings (t.Attach fid afid uname aname) news = attaches fid afid aname (attach_refusal tables conn fid afid) refl
+  served_sane world windows plumber openings (t.Walk fid newfid names) news = walk_sane world plumber.names fid newfid names (fid_of tables conn fid) refl
+  served_sane world windows plumber openings (t.Open fid mode) news = open_sane world plumber openings fid mode (fid_of tables conn fid) news refl
+  served_sane world windows plumber openings (t.Create fid name perm mode) news = denied_sane (fid_of tables conn fid)
+  served_sane world windows plumber openings (t.Read fid offset count) news = read_sane world windows plumber fid offset (most count (msize_of tables conn)) (fid_of tables conn fid) refl
+  served_sane world windows plumber openings (t.Write fid offset bytes) news = write_sane world windows plumber.names fid bytes (fid_of tables conn fid) refl
+  served_sane world windows plumber openings (t.Clunk fid) news = clunk_sane fid (fid_of tables conn fid)
+  served_sane world windows plumber openings (t.Remove fid) news = remove_sane fid (fid_of tables conn fid)
+  served_sane world windows plumber openings (t.Stat fid) news = stat_sane world plumber.names (fid_of tables conn fid)
+  served_sane world windows plumber openings (t.Wstat fid stat) news = denied_sane (fid_of tables conn fid)
 
-  settled : (x : Result Reaction Refusal) → Sane x → IsSane tables conn (reaction_or_refusal x)
+  settled : (x : Result Reaction Refusal) → Sane x → IsSane New tables conn (reaction_or_refusal x)
   settled (Ok d) h = h
   settled (Err x) h = (tt, tt)
 
-  pub reaction_sane : (windows : List (Option Window)) (plumber : Plumber) (openings : ℕ) (body : TBody) → IsSane tables conn (reaction tables windows plumber openings conn body)
-  reaction_sane windows plumber openings body =
+  pub reaction_sane : (windows : List (Option Window)) (plumber : Plumber) (openings : ℕ) (body : TBody) → OpensNew New (world_of windows) plumber openings → IsSane New tables conn (reaction tables windows plumber openings conn body)
+  reaction_sane windows plumber openings body news =
       one_of (comes_first tables conn body) (refused_with effect.Nothing refusal.VersionFirst) _ (tt, tt)
-      (settled (session_reaction tables (world_of windows) windows plumber openings conn body) (served_sane (world_of windows) windows plumber openings body))
+      (settled (session_reaction tables (world_of windows) windows plumber openings conn body) (served_sane (world_of windows) windows plumber openings body news))

@@ -1,6 +1,6 @@
 -- After each journal of enabled events each fid is one of a connection that lives, and so is each read that waits; those of event files
 -- are on openings of such fids.
-use Rattle.std.proofs.Common.{◌≡◌, ◌≢◌, ℕ, zero, suc, ◌+◌, Bool, true, false, not, cond, List, [], ◌∷◌, ◌++◌, length, slice_index_or, slice_set, Option, Some, None, All, refl, sym, ap, subst, ◌∙◌, append_assoc, append-nil, arith}
+use Rattle.std.proofs.Common.{◌≡◌, ◌≢◌, ◌⊎◌, inl, inr, ℕ, zero, suc, ◌+◌, Bool, true, false, not, cond, List, [], ◌∷◌, ◌++◌, length, slice_index_or, slice_set, Option, Some, None, All, refl, sym, ap, subst, ◌∙◌, append_assoc, append-nil, arith}
 use Rattle.std.specs.List.{filter}
 use Rattle.std.proofs.lemmas.Bool.{eqb-false, not-true}
 use Rattle.std.proofs.lemmas.List.Elements.{All-nil, All-push, All-filter, All-weaker, filter_passes}
@@ -56,11 +56,12 @@ use Rattle.plumb_ports.specs.PortsState.{PortsState}
 use Rattle.core_fids.specs.Fids.{at_event, event_opening, port_opening}
 use Rattle.core_fids.specs.Plumbers.{plumber_of}
 use Rattle.core_ports.specs.Asking.{port_said}
-use Rattle.core_intents.specs.Intents.{with_held}
+use Rattle.core_windows.specs.Windows.{world_of}
+use Rattle.core_intents.specs.Intents.{held_or, with_held}
 use Rattle.core_steps.specs.PortReads.{port_read_in, asked_tables}
 use Rattle.core_laws.proofs.Answering.{message_reads, message_reads_port, held_of}
 use Rattle.core_laws.proofs.Books.{IsBook, IsApart, book_weaker, book_later, book_opened, book_put_living, book_put_all, book_ask, book_serve_all, book_without, book_without_fids, book_cancelled, book_written, book_closed, without_none, fids_none}
-use Rattle.core_laws.proofs.Reactions.{IsModed, PutsSane, HasOpening, ReadsSane, IsSane, of_event, keeps, reaction_sane}
+use Rattle.core_laws.proofs.Reactions.{IsModed, IsStill, PutsSane, IsNew, HasOpening, ReadsSane, IsSane, of_event, keeps, reaction_sane}
 
 -- ---- connections
 
@@ -147,16 +148,16 @@ well_cancelled cs t at b conn e well = record {
 
 -- ---- what grows
 
-well_grown : (cs : List Connection) (t : Tables) (at : ℕ) (b : BookState) (conn : ℕ) (e : Effect) → Lives cs conn → PutsSane t conn e → AreWell cs t at b
+well_grown : (New : Fid → Type 0) (cs : List Connection) (t : Tables) (at : ℕ) (b : BookState) (conn : ℕ) (e : Effect) → Lives cs conn → PutsSane New t conn e → AreWell cs t at b
     → AreWell cs (grown_with t conn e) at b
-well_grown cs t at b conn effect.Nothing live sane well = well
-well_grown cs t at b conn (effect.Begins msize) live sane well = well
-well_grown cs t at b conn (effect.Puts number fid) live sane well = record {
+well_grown New cs t at b conn effect.Nothing live sane well = well
+well_grown New cs t at b conn (effect.Begins msize) live sane well = well
+well_grown New cs t at b conn (effect.Puts number fid) live sane well = record {
   fids = fids_put (IsOfLive cs) t conn number fid (live, sane.moded) well.fids;
   waiting = well.waiting;
-  book = book_weaker (IsHeld event_opening t) (IsHeld event_opening (after_put t conn number fid)) at b (λ r h. held_put event_opening t conn number fid r (keeps at_event t conn number fid of_event sane) h) well.book;
+  book = book_weaker (IsHeld event_opening t) (IsHeld event_opening (after_put t conn number fid)) at b (λ r h. held_put event_opening t conn number fid r (keeps at_event New t conn number fid of_event sane) h) well.book;
 }
-well_grown cs t at b conn (effect.Frees number) live sane well = well
+well_grown New cs t at b conn (effect.Frees number) live sane well = well
 
 asked_book : (P : Asker → Type 0) (at : ℕ) (full : Bool) (asked : Asked) (b : BookState) (r : Asker) → is_living b r.opening ≡ true → P r → IsBook P at b
     → IsBook P at (book_asked full asked b r at)
@@ -314,11 +315,15 @@ begun cs (kind.Ends conn why) = cs
 begun cs (kind.Takes conn) = cs
 begun cs kind.Acts = cs
 
+-- what a message of this state opens
+abbrev pub opens_in : Present → EventChange → Fid → Type 0
+opens_in s e value = IsNew (world_of s.scene.windows) (plumber_of s.scene.rules s.scene.ports) (length s.scene.book.owners) e value
+
 -- the connection of a message lives, and the message puts and reads what it may
 unfoldable pub IsOwn : Present → Kind → Doing → Type 0
 IsOwn s (kind.Dials conn) d = Unit {0}
 IsOwn s (kind.Asks conn tag) d =
-    Lives s.connections conn × PutsSane s.tables conn d.effect × AsksSane (grown_with s.tables conn d.effect) conn tag d.answer
+    Lives s.connections conn × PutsSane (opens_in s d.events) s.tables conn d.effect × AsksSane (grown_with s.tables conn d.effect) conn tag d.answer
     × AsksPortSane (grown_with s.tables conn d.effect) conn tag d.answer
 IsOwn s (kind.Ends conn why) d = Unit {0}
 IsOwn s (kind.Takes conn) d = Unit {0}
@@ -332,7 +337,7 @@ well_read s (kind.Dials conn) d own well = well_dialed s.connections s.tables (n
 well_read s (kind.Asks conn tag) d own well =
     well_asked s.connections (read_tables s (kind.Asks conn tag) d) (next_entry s) (read_book s (kind.Asks conn tag) d) (acted s d).ports conn tag d.answer own.0
     (well_answered s.connections (grown_with s.tables conn d.effect) (next_entry s) s.scene.book conn tag d.answer own.0 own.2
-    (well_grown s.connections s.tables (next_entry s) s.scene.book conn d.effect own.0 own.1 well))
+    (well_grown (opens_in s d.events) s.connections s.tables (next_entry s) s.scene.book conn d.effect own.0 own.1 well))
 well_read s (kind.Ends conn why) d own well = well
 well_read s (kind.Takes conn) d own well = well
 well_read s kind.Acts d own well = well
@@ -367,11 +372,22 @@ pub moded : (s : State) (conn : ℕ) → IsWell s → (number : ℕ) (f : Fid) �
 moded s conn well number f e = (fids_at (IsOfLive s.connections) s.tables conn number f well.fids e).1
 
 -- what a fid holds makes no difference
-held_sane : (t : Tables) (conn : ℕ) (e : Effect) (held : Option (List ℕ)) → PutsSane t conn e → PutsSane t conn (with_held e held)
-held_sane t conn effect.Nothing held h = tt
-held_sane t conn (effect.Begins msize) held h = tt
-held_sane t conn (effect.Puts number fid) held h = record { moded = h.moded; keeps = h.keeps }
-held_sane t conn (effect.Frees number) held h = tt
+held_new : (s : Present) (v : EventChange) (f : Fid) (text : List ℕ) → opens_in s v f → opens_in s v (record f { held = text })
+held_new s v f text h = record { live = h.live; opening = h.opening; events = h.events; counted = h.counted }
+
+held_sane : (s : Present) (v : EventChange) (t : Tables) (conn : ℕ) (e : Effect) (held : Option (List ℕ)) → PutsSane (opens_in s v) t conn e → PutsSane (opens_in s v) t conn (with_held e held)
+held_sane s v t conn effect.Nothing held h = tt
+held_sane s v t conn (effect.Begins msize) held h = tt
+held_sane s v t conn (effect.Puts number fid) held h = record {
+  moded = h.moded;
+  keeps = h.keeps;
+  from = λ o opens.
+      elim (h.from o opens) as (λ x. IsStill t conn number (record fid { held = held_or fid.held held }) ⊎ opens_in s v (record fid { held = held_or fid.held held })) [
+        | inl still ↦ inl still
+        | inr new ↦ inr (held_new s v fid (held_or fid.held held) new)
+      ];
+}
+held_sane s v t conn (effect.Frees number) held h = tt
 
 -- the read of a message is one of an opening that a fid has
 own_held : (s : Present) (t : Tables) (conn tag : ℕ) (d : Reaction) (o : Origin) → ReadsSane t conn d d.answer → AsksSane (grown_with t conn (message_doing s d o).effect) conn tag (message_doing s d o).answer
@@ -394,6 +410,13 @@ own_port s t conn tag d o sane fid opening count is =
     subst (λ (x : Effect). IsHeld port_opening (grown_with t conn (with_held x (held_of s d o))) (asker_of conn tag opening count)) (sym reads.0)
     (record { number = fid; fid = has.fid; is = has.is; opens = has.opens })
 
+-- what a message of this state does to fids and openings
+pub sane_in : (s : State) (conn : ℕ) (msg : TMsg) → IsWell s → IsSane (opens_in (present s)) s.tables conn (reaction_at (present s) conn msg)
+sane_in s conn msg well =
+    let p : Present = present s in
+    reaction_sane (opens_in p) s.tables conn (moded s conn well) p.scene.windows (plumber_of p.scene.rules p.scene.ports) (length s.scene.book.owners) msg.body
+    (λ f mode live counted. record { live = live; opening = refl; events = refl; counted = counted })
+
 own_message : (s : State) (conn : ℕ) (msg : TMsg) → enabled_at (present s) (event.Msg conn msg) ≡ None → IsWell s
     → IsOwn (present s) (kind.Asks conn msg.tag) (doing_of (present s) (event.Msg conn msg))
 unfolding IsOwn
@@ -401,8 +424,8 @@ own_message s conn msg allowed well =
     let p : Present = present s in
     let done : Reaction = reaction_at p conn msg in
     let o : Origin = message_origin s.tables conn msg.body in
-    let sane : IsSane s.tables conn done = reaction_sane s.tables conn (moded s conn well) p.scene.windows (plumber_of p.scene.rules p.scene.ports) (length s.scene.book.owners) msg.body in
-    (message_lives p conn msg allowed, held_sane s.tables conn done.effect (held_of p done o) sane.0, own_held p s.tables conn msg.tag done o sane.1, own_port p s.tables conn msg.tag done o sane.1)
+    let sane : IsSane (opens_in p) s.tables conn done = sane_in s conn msg well in
+    (message_lives p conn msg allowed, held_sane p done.events s.tables conn done.effect (held_of p done o) sane.0, own_held p s.tables conn msg.tag done o sane.1, own_port p s.tables conn msg.tag done o sane.1)
 
 pub own : (s : State) (e : Event) → enabled_at (present s) e ≡ None → IsWell s → IsOwn (present s) (kind_of e) (doing_of (present s) e)
 unfolding IsOwn

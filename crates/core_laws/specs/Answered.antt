@@ -1,5 +1,5 @@
 -- Each message is answered in its step, or is a read that waits.
-use Rattle.std.specs.Prelude.{◌≡◌, ◌⊎◌, ℕ, ◌+◌, ◌||◌, Bool, true, List, [], ◌∷◌, ◌++◌, All, Option, Some, None}
+use Rattle.std.specs.Prelude.{◌≡◌, ◌⊎◌, ℕ, ◌+◌, ◌||◌, Bool, true, false, List, [], ◌∷◌, ◌++◌, All, Option, Some, None}
 use Rattle.std.specs.List.{list_any}
 use Rattle.ninep_types.specs.declared.message.RBody.{RBody}
 use Rattle.ninep_types.specs.declared.message.TBody.{TBody}
@@ -23,7 +23,7 @@ use Rattle.core_intents.specs.Doings.{doing_of}
 use Rattle.acme_core.specs.Run.{run, present_after}
 use Rattle.core_steps.specs.Stages.{response, asker_of}
 use Rattle.core_intents.specs.States.{State}
-use Rattle.core_laws.specs.Saying.{said_after}
+use Rattle.core_laws.specs.Saying.{said_after, is_told}
 
 -- its own R message, whose type byte is one more, or Rerror with the text of a named refusal
 abbrev pub IsAnswerTo : TBody → RBody → Type 0
@@ -37,11 +37,12 @@ waits_with s conn tag = list_any (is_waiting conn tag) s.tables.waiting || (list
 abbrev pub TellsAWait : State → Response → Type 0
 TellsAWait s x = waits_with s x.conn x.message.tag ≡ true
 
--- The message is answered by this, once. All else that is said answers reads that waited before.
+-- The message is answered by this, and nothing else is said to its tag. All else answers reads that waited before.
 pub record SaysOnce (s : State) (conn tag : ℕ) (body : RBody) (said : List Response) : Type 0 where
   pub front : List Response
   pub rest : List Response
   pub is : said ≡ front ++ response conn tag body ∷ rest
+  pub once : All (λ x. is_told conn tag x ≡ false) (front ++ rest)
   pub others : All (TellsAWait s) (front ++ rest)
 
 -- It waits, as it must: nothing is said, and a read with its tag waits from then on.
@@ -67,9 +68,9 @@ IsAnsweredBy before conn msg (Some (ReadsPort fid opening count)) =
     ReadsOnce before conn msg (port_feed opening) (port_waits (run before).scene.ports (asker_of conn msg.tag opening count))
     (port_said (run before).tables (run before).scene.ports (asker_of conn msg.tag opening count))
 
--- Each message of the journal is answered by its own R message or by Rerror, in its step and once, or is a read that waits: its count isn't
--- 0, and its opening has no carry, its window no item that nobody took, or its opening of a port no message (`read_waits` of event_book
--- and of plumb_ports).
+-- Each message of the journal has in its step just one reply to its tag on its connection, its own R message or Rerror; or it has none and
+-- is a read that waits: its count isn't 0, and its opening has no carry, its window no item that nobody took, or its opening of a port no
+-- message (`read_waits` of event_book and of plumb_ports).
 abbrev pub MessagesAreAnswered : List Event → Type 0
 MessagesAreAnswered journal =
     (before behind : List Event) (conn : ℕ) (msg : TMsg) → before ++ event.Msg conn msg ∷ behind ≡ journal

@@ -16,6 +16,7 @@ use Rattle.core_laws.specs.Saying.{said_after, said_from, is_told, is_message, f
 use Rattle.core_laws.specs.Laws.{IsFree}
 use Rattle.core_laws.specs.Moving.{MovesAreWhole}
 use Rattle.core_laws.specs.Answered.{MessagesAreAnswered}
+use Rattle.core_laws.specs.Waits.{WaitsAreTied, AreApart}
 use Rattle.core_laws.specs.WriteBacks.{ActedOnOnce}
 
 -- A journal of the editor: each event is lawful, was enabled at its place, and could be done there.
@@ -60,7 +61,11 @@ pub record JournalLaws (journal : List Event) : Type 0 where
   -- Undo and Redo move the groups that one step began, in all windows, and leave each other window whole. The text then is that before the
   -- group, or behind it.
   pub moves : MovesAreWhole journal
-  -- Each message is answered by its own R message or by Rerror, in its step and once, or is a read that waits.
+  -- The reads that wait in the sessions are those of the event files and of the ports, in order, and no others.
+  pub waiting : (before : List Event) → IsPrefix before journal → WaitsAreTied (run before)
+  -- No two reads that wait have one connection and tag.
+  pub tags : (before : List Event) → IsPrefix before journal → AreApart (run before).tables.waiting
+  -- Each message has in its step just one reply to its tag, its own R message or Rerror, or is a read that waits.
   pub answered : MessagesAreAnswered journal
   -- Behind an Rflush nothing is said to the tag that was flushed, up to the next message of that tag.
   pub silent : FlushedTagsAreSilent journal
