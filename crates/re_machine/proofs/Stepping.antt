@@ -10,12 +10,12 @@ use Rattle.re_spans.proofs.Chosen.{found_first, found_last, firsts_between, last
 use Rattle.re_sets.specs.Readings.{Reading, forward, backward, mirrored}
 use Rattle.re_sets.specs.Rows.{Row, Seen, seen, seen_at, ended, onward, solid, parted, moved, entered}
 use Rattle.re_sets.specs.Tables.{Table, IsTable, text_of, meet, join_rows, take_away}
-use Rattle.re_sets.specs.Searches.{Known, FindsIn, from_end, turned_if}
+use Rattle.re_sets.specs.Searches.{Known, Followed, Reached, FindsIn, from_end, turned_if}
 use Rattle.re_sets.proofs.Telling.{if_from, on_minus, on_minus_in}
 use Rattle.re_sets.proofs.Wording.{on_zero}
 use Rattle.std.specs.Int.Bits.{or_zero_l}
 use Rattle.re_machine.proofs.Joining.{same_set}
-use Rattle.re_sets.proofs.Searching.{known_skip, known_step, known_end, known_stops}
+use Rattle.re_sets.proofs.Searching.{known_skip, known_step, known_end, known_stops, known_alone, followed_step}
 use Rattle.re_sets.proofs.Found as forth
 use Rattle.re_sets.proofs.FoundBack as back
 use Rattle.re_machine.specs.Contexts.{IsContextOf, IsNeverNull, NoneBegins}
@@ -47,14 +47,14 @@ module _ {S : Type 0} (bits : S → ℕ) where
       onward_by t w no_null k (slice_index (map bits c.follow.items)) (bits c.first) takes s next is.row_is is.first_is d (grind (arith, nat_tests, l)) e
 
 module _ (r : Tree) (t : Table) (w : Reading) (no_null : Option ℕ) (low : ℕ) (is : IsTable r t) where
-  pub step_known : (k : ℕ) (rows : List Row) (best : Option Range) (s : Seen) (next : List Row) (found : Option Range) → low ≤ k → s ≡ seen (text_of t w no_null) k rows best → next ≡ solid (onward (text_of t w no_null) k s) → found ≡ s.best → Known r w no_null low k rows best → Known r w no_null low (k + 1) next found
+  pub step_known : (k : ℕ) (rows : List Row) (best : Option Range) (s : Seen) (next : List Row) (found : Option Range) → low ≤ k → s ≡ seen (text_of t w no_null) k rows best → next ≡ solid (onward (text_of t w no_null) k s) → found ≡ s.best → Reached r t w no_null low k rows best → Known r w no_null low (k + 1) next found
   step_known k rows best s next found above e n f known =
       let T = text_of t w no_null in
       let here = known_step r t w no_null low is k rows best above known in
       let there = subst (λ (z : Seen). Known r w no_null low (k + 1) (solid (onward T k z)) z.best) (sym e) here in
       subst (λ (z : List Row). Known r w no_null low (k + 1) z found) (sym n) (subst (λ (z : Option Range). Known r w no_null low (k + 1) (solid (onward T k s)) z) (sym f) there)
 
-  pub end_known : (k : ℕ) (rows : List Row) (best : Option Range) (s : Seen) → low ≤ k → s ≡ seen (text_of t w no_null) k rows best → Known r w no_null low k rows best → FindsIn r w no_null low k s.best
+  pub end_known : (k : ℕ) (rows : List Row) (best : Option Range) (s : Seen) → low ≤ k → s ≡ seen (text_of t w no_null) k rows best → Reached r t w no_null low k rows best → FindsIn r w no_null low k s.best
   end_known k rows best s above e known = subst (λ (z : Seen). FindsIn r w no_null low k z.best) (sym e) (known_end r t w no_null low is k rows best above known)
 
   over_by : (k high : ℕ) (rows : List Row) (best : Option Range) → k ≤ high + 1 → rows ≡ [] → IsSome best → Known r w no_null low k rows best → FindsIn r w no_null low high best
@@ -146,7 +146,7 @@ module _ {S : Type 0} (bits : S → ℕ) (r : Tree) (t : Table) (w : Reading) (n
         let e = seen_text t w no_null k (one_row start set) (Some b) ((text_of t w no_null).null k) (bits c.last) s refl of.last_is seen_is in
         let m = move_by bits t.size c takes set in
         let moved_is : one_row start next ≡ solid (parted take_away bit_or (moved (move_by bits t.size c takes) s.rows ++ entered s.enters k (begin_by bits c takes)) 0) = subst (λ (z : ℕ). one_row start z ≡ solid (one_row start (take_away m 0))) (sym a.next_is) (sym (lone start m (λ z. a.some (a.next_is ∙ z)))) in
-        step_known r t w no_null low is k (one_row start set) (Some b) s (one_row start next) (Some b) above e (onward_text bits t w no_null k c takes s (one_row start next) of is_takes inside moved_is) refl known
+        step_known r t w no_null low is k (one_row start set) (Some b) s (one_row start next) (Some b) above e (onward_text bits t w no_null k c takes s (one_row start next) of is_takes inside moved_is) refl (inl known)
 
     lone_none : IsAlone bits t.size c takes set true next → Steps k start set next None
     lone_none a known =
@@ -158,11 +158,37 @@ module _ {S : Type 0} (bits : S → ℕ) (r : Tree) (t : Table) (w : Reading) (n
         let b = begin_by bits c takes in
         let other : take_away b m ≡ 0 = subst (λ (z : ℕ). take_away b z ≡ 0) a.next_is (a.no_other refl) in
         let moved_is : one_row start next ≡ solid (parted take_away bit_or (moved (move_by bits t.size c takes) s.rows ++ entered s.enters k b) 0) = subst (λ (z : ℕ). one_row start z ≡ solid (one_row start (take_away m 0) ++ one_row k (take_away b (bit_or 0 m)))) (sym a.next_is) (sym (lone_two start m k b (λ z. a.some (a.next_is ∙ z)) other)) in
-        step_known r t w no_null low is k (one_row start set) None s (one_row start next) None above e (onward_text bits t w no_null k c takes s (one_row start next) of is_takes inside moved_is) refl known
+        step_known r t w no_null low is k (one_row start set) None s (one_row start next) None above e (onward_text bits t w no_null k c takes s (one_row start next) of is_takes inside moved_is) refl (inl known)
 
     pub lone_known : (best : Option Range) (is_idle : Bool) → is_idle ≡ is_none best → IsAlone bits t.size c takes set is_idle next → Steps k start set next best
     lone_known None is_idle e a = lone_none (subst (λ (b : Bool). IsAlone bits t.size c takes set b next) e a)
     lone_known (Some b) is_idle e a = lone_some b (subst (λ (b : Bool). IsAlone bits t.size c takes set b next) e a)
+
+-- ---- one row followed alone
+
+module _ {S : Type 0} (bits : S → ℕ) (r : Tree) (t : Table) (w : Reading) (no_null : Option ℕ) (low : ℕ) (is : IsTable r t) where
+  moved_text : (k set next : ℕ) (row : ℕ → ℕ) (takes : ℕ) → row ≡ t.row (w.here k) → takes ≡ t.takes (w.rune k) → nat_lt k w.count ≡ true → next ≡ bit_and (join_rows row set t.size) takes → next ≡ (text_of t w no_null).move k set
+  moved_text k set next row takes r d l e =
+      let P : Bool → Type 0 = λ b. next ≡ (if b then bit_and (join_rows (t.row (w.here k)) set t.size) (t.takes (w.rune k)) else 0) in
+      let Q : ℕ → Type 0 = λ z. next ≡ bit_and (join_rows (t.row (w.here k)) set t.size) z in
+      let T : (ℕ → ℕ) → Type 0 = λ z. next ≡ bit_and (join_rows z set t.size) takes in
+      subst P (sym l) (subst Q d (subst T r e))
+
+  pub follow_known : (k start set next : ℕ) (c : Context S) (takes : ℕ) → k < w.count → IsContextOf bits t (w.here k) c → takes ≡ t.takes (w.rune k) → meet t.size set (bits c.last) ≡ false → next ≡ bit_and (join_rows (slice_index (map bits c.follow.items)) set t.size) takes → Followed r w no_null low k start set → Followed r w no_null low (k + 1) start next
+  follow_known k start set next c takes inside of d e n f =
+      let ends : (text_of t w no_null).ends k set ≡ false = subst (λ (z : ℕ). meet t.size set z ≡ false) of.last_is e in
+      let move = moved_text k set next (slice_index (map bits c.follow.items)) takes of.row_is d (grind (arith, nat_tests, inside)) n in
+      subst (λ (z : ℕ). Followed r w no_null low (k + 1) start z) (sym move) (followed_step r t w no_null low is k start set ends f)
+
+  -- the one row of a list gets the letters that it has where it ends
+  pub lead_known : (k at : ℕ) (xs : List (Thread S)) (x y : Thread S) (set : S) (best best' : Option Range) → length xs ≡ 1 → best ≡ None → x ≡ get_or xs 0 x → y ≡ get_or xs 0 y → ((start : ℕ) → Followed r w no_null low k start (bits x.set) → Followed r w no_null low at start (bits set)) → meet t.size (bits set) (t.last (w.here at)) ≡ true → Known r w no_null low k (rows_of bits xs) best → Reached r t w no_null low at (rows_of bits (slice_set xs 0 (record { start = y.start; set = set }))) best'
+  lead_known k at [] x y set best best' l n e f g m known = absurd (omega (arith, l))
+  lead_known k at (z ∷ []) x y set best best' l n e f g m known =
+      let one = subst (λ (o : Option Range). Known r w no_null low k (one_row z.start (bits z.set)) o) n known in
+      let here = known_alone r t w no_null low is k z.start (bits z.set) one in
+      let there = g z.start (subst (λ v. Followed r w no_null low k z.start (bits v.set)) (sym e) here) in
+      inr (record { start = y.start; set = bits set }, refl, subst (λ v. Followed r w no_null low at v.start (bits set)) (sym f) there, m)
+  lead_known k at (z ∷ (u ∷ us)) x y set best best' l n e f g m known = absurd (omega (arith, l))
 
 -- nothing ends or begins
 pub is_alone : {S : Type 0} (bits : S → ℕ) (size : ℕ) (c : Context S) (takes set : ℕ) (is_idle : Bool) (next : ℕ) → (meet size set (bits c.last) || (is_idle && c.null)) ≡ false → next ≡ move_by bits size c takes set → (next == 0) ≡ false → (is_idle && not (take_away (begin_by bits c takes) next == 0)) ≡ false → IsAlone bits size c takes set is_idle next

@@ -1,11 +1,11 @@
 //! A search that has one row.
 
-ghost use Rattle.std.specs.Prelude.{◌≡◌, ◌<◌, ◌≤◌, ◌==◌, ◌&&◌, ◌||◌, ℕ, Option, not, length, IfSome};
+ghost use Rattle.std.specs.Prelude.{◌≡◌, ◌<◌, ◌≤◌, ◌==◌, ◌&&◌, ◌||◌, ℕ, Option, None, not, true, length, IfSome};
 ghost use Rattle.std.specs.Option.{is_none};
 ghost use Rattle.am_text.specs.declared.range.Range.{Range};
 ghost use Rattle.re_syntax.specs.Tree.{Tree};
 ghost use Rattle.re_sets.specs.Tables.{IsTable, meet, take_away};
-ghost use Rattle.re_sets.specs.Searches.{Known};
+ghost use Rattle.re_sets.specs.Searches.{Known, Followed, Reached};
 ghost use Rattle.re_machine.specs.Ways.{reading};
 ghost use Rattle.re_machine.specs.Whole.{table_of, IsWhole};
 ghost use Rattle.re_machine.specs.Threads.{rows_of, one_row, begin_by, IsAlone};
@@ -114,6 +114,90 @@ pub fn glide<T: Letters, S: LetterSet>(
         is_idle: threads.best.is_none(),
     };
     let (at, set) = glided(tables, text, way, lone, range);
+    let row = &mut threads.rows[0];
+    row.set = set;
+    at
+}
+
+// Over the runes of a range by one row alone, whatever begins beside it: the place where it has no letters left or a
+// match of it ends, and where one ends its letters there.
+fn followed<T: Letters, S: LetterSet>(
+    tables: &Tables<S>,
+    text: &T,
+    way: Way,
+    first: S,
+    range: Range,
+) -> (usize, Option<S>)
+    requires whole { IsWhole S.bits S.SIZE tables.now }
+    requires order { range.q0 ≤ range.q1 }
+    requires within { range.q1 ≤ length (T.letters text.now) }
+    ensures above { range.q0 ≤ result.0 }
+    ensures below { result.0 ≤ range.q1 }
+    ensures ends { IfSome result.1 (λ set. meet S.SIZE (S.bits set) ((table_of S.bits S.SIZE tables.now).last ((reading way (T.letters text.now)).here result.0)) ≡ true) }
+    ensures known { IfSome result.1 (λ set. (r : Tree) (no_null : Option ℕ) (low start : ℕ) → IsTable r (table_of S.bits S.SIZE tables.now) → Followed r (reading way (T.letters text.now)) no_null low range.q0 start (S.bits first) → Followed r (reading way (T.letters text.now)) no_null low result.0 start (S.bits set)) }
+{
+    let mut set = first;
+    for at in range.q0..range.q1 {
+        let context = tables.context(text, way, at);
+        if meets(set, context.last) {
+            return (at, Some(set));
+        }
+        let takes = tables.takes(rune_at(text, way, at));
+        set = join(context.follow.as_slice(), set).both(takes);
+        if set.is_none() {
+            return (at, None);
+        }
+    }
+    let context = tables.context(text, way, range.q1);
+    if meets(set, context.last) {
+        return (range.q1, Some(set));
+    }
+    (range.q1, None)
+}
+
+// Whether there is one row and no match, and its row wasn't followed alone beyond this place yet.
+fn may_lead<S: LetterSet>(threads: &Threads<S>, k: usize) -> bool
+    ensures one { result ≡ true → length threads.now.rows.items ≡ 1 }
+    ensures none { result ≡ true → threads.now.best ≡ None }
+{
+    threads.rows.len() == 1 && threads.best.is_none() && k > threads.led
+}
+
+/// Over the runes up to the end of a match of the one row, where others begin at this place: its match goes before
+/// theirs, so they needn't be kept unless it has none. No place is so passed twice.
+pub fn lead<T: Letters, S: LetterSet>(
+    tables: &Tables<S>,
+    text: &T,
+    way: Way,
+    threads: &mut Threads<S>,
+    k: usize,
+    bounds: Bounds,
+) -> usize
+    requires whole { IsWhole S.bits S.SIZE tables.now }
+    requires order { k ≤ bounds.high }
+    requires within { bounds.high ≤ length (T.letters text.now) }
+    ensures above { k ≤ result }
+    ensures below { result ≤ bounds.high }
+    ensures reached { (r : Tree) → IsTable r (table_of S.bits S.SIZE tables.now) → Known r (reading way (T.letters text.now)) bounds.no_null bounds.low k (rows_of S.bits threads.old.rows.items) threads.old.best → Reached r (table_of S.bits S.SIZE tables.now) (reading way (T.letters text.now)) bounds.no_null bounds.low result (rows_of S.bits threads.new.rows.items) threads.new.best }
+{
+    if k == bounds.high {
+        return k;
+    }
+    if !may_lead(threads, k) {
+        return k;
+    }
+    if !tables.may_begin(rune_at(text, way, k)) {
+        return k;
+    }
+    let range = Range {
+        q0: k,
+        q1: bounds.high,
+    };
+    let (at, ends) = followed(tables, text, way, threads.rows[0].set, range);
+    threads.led = at;
+    let Some(set) = ends else {
+        return k;
+    };
     let row = &mut threads.rows[0];
     row.set = set;
     at

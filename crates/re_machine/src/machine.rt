@@ -32,7 +32,7 @@ pub enum Form {
 
 /// An expression made ready to be searched for in many texts. Contracts see its tree.
 ///
-/// A search reads the text once, from where it begins, and no further than its match needs.
+/// A search reads the text from where it begins, and no further than its match needs.
 #[derive(Drop)]
 pub struct Machine {
     re: Re,

@@ -24,6 +24,8 @@ pub struct Threads<S> {
     pub rows: Vec<Thread<S>>,
     pub spare: Vec<Thread<S>>,
     pub best: Option<Range>,
+    /// Up to this place the first row was followed alone.
+    pub led: usize,
 }
 
 // The number of the first row at whose letters a match may end.
@@ -77,6 +79,7 @@ impl<S: LetterSet> Threads<S> {
             rows: Vec::new(alloc),
             spare: Vec::new(alloc),
             best: None,
+            led: 0,
         }
     }
 

@@ -10,7 +10,7 @@ ghost use Rattle.re_machine.specs.Contexts.{NoneBegins};
 ghost use Rattle.re_machine.specs.Whole.{table_of, IsWhole};
 ghost use Rattle.re_machine.specs.Threads.{rows_of};
 
-use crate::alone::glide;
+use crate::alone::{glide, lead};
 use crate::bounds::Bounds;
 use crate::rows::Threads;
 use crate::set::LetterSet;
@@ -99,7 +99,8 @@ pub fn search<T: Letters, S: LetterSet>(
     let mut from = bounds.low;
     'places: loop {
         let begun = skip(tables, text, way, &threads, from, bounds);
-        let k = glide(tables, text, way, &mut threads, begun, bounds);
+        let at = glide(tables, text, way, &mut threads, begun, bounds);
+        let k = lead(tables, text, way, &mut threads, at, bounds);
         let context = tables.context(text, way, k);
         let null = counts(context.null, bounds.no_null, k);
         let enters = threads.see(k, null, context.last);

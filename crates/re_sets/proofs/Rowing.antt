@@ -4,7 +4,7 @@ use Rattle.std.specs.Prelude.{IsTrue, ◌↔◌, if◌then◌else◌}
 use Rattle.std.proofs.lemmas.Bool.{cases_lt, cases_eq, cases_Bool}
 use Rattle.std.proofs.lemmas.Bool.Decides.{nat_tests}
 use Rattle.am_text.specs.declared.range.Range.{Range}
-use Rattle.re_sets.specs.Rows.{Row, AllRows, AnyRow, AreSorted, with_row, ended, parted, Seen, seen_at, entered, moved, solid, Text, seen, onward, search, Beats, Covers, OnBest, Knows, Tells, IsBest, Finds}
+use Rattle.re_sets.specs.Rows.{Row, AllRows, AnyRow, AreSorted, with_row, ended, parted, Seen, seen_at, entered, moved, solid, Text, seen, onward, search, Beats, Covers, OnBest, Knows, Follows, Reaches, Tells, IsBest, Finds}
 
 all_map : (P Q : Row → Type 0) → ((x : Row) → P x → Q x) → (xs : List Row) → AllRows P xs → AllRows Q xs
 all_map P Q f [] a = tt
@@ -428,16 +428,6 @@ module _ (S A : ℕ → ℕ → Type 0) (L : ℕ → ℕ → ℕ → Type 0) (lo
     done = knows.done;
   }
 
-  pub step_is : (k : ℕ) (rows : List Row) (best : Option Range) → low ≤ k → Knows S A L low k k rows best → Knows S A L low (k + 1) (k + 1) (solid (onward t k (seen t k rows best))) (seen t k rows best).best
-  step_is k rows best above knows =
-      let s = seen t k rows best in
-      solid_is (k + 1) (k + 1) (onward t k s) s.best (next_is k s above (seen_is k rows best above knows) (late_by k rows best (ended (t.ends k) rows) (t.null k)))
-
-  pub end_is : (k : ℕ) (rows : List Row) (best : Option Range) → low ≤ k → Knows S A L low k k rows best → Finds S A L low k (seen t k rows best).best
-  end_is k rows best above knows =
-      let s = seen t k rows best in
-      finds_by k s.rows s.best (seen_is k rows best above knows).0
-
   -- no match begins here, and there are no rows
   pub skip_is : (k : ℕ) → low ≤ k → t.null k ≡ false → ((j : ℕ) → L (t.begin k) (k + 1) j → ⊥) → Knows S A L low k k [] None → Knows S A L low (k + 1) (k + 1) [] None
   skip_is k above n dead knows = record {
@@ -471,3 +461,82 @@ module _ (S A : ℕ → ℕ → Type 0) (L : ℕ → ℕ → ℕ → Type 0) (lo
     opened = λ i j a b c m. absurd (omega (arith, a, b));
     done = λ i j a b m out. absurd (omega (arith, a, b, tells.on i j m));
   }
+
+  -- ---- one row is followed alone
+
+  pub follow_is : (k start set : ℕ) → Knows S A L low k k (record { start = start; set = set } ∷ []) None → Follows S A L low k start set
+  follow_is k start set knows =
+      let x = knows.sound.0 in
+      record {
+        above = x.0;
+        begun = x.1;
+        sound = x.2;
+        opened = λ i j a b c m. elim (knows.opened i j a (omega (arith, b, x.1)) c m) [
+          | inl y ↦ absurd y
+          | inr y ↦ elim y [ inl u ↦ u | inr u ↦ absurd u ]
+        ];
+        done = λ i j a b c m out. knows.done i j a c m out;
+      }
+
+  pub follow_step : (k start set : ℕ) → t.ends k set ≡ false → Follows S A L low k start set → Follows S A L low (k + 1) start (t.move k set)
+  follow_step k start set e f = record {
+    above = f.above;
+    begun = omega (arith, f.begun);
+    sound = λ j l. f.sound j (tells.move_from set k j l);
+    opened = λ i j a b c m.
+        let x = f.opened i j a b (omega (arith, c)) m in
+        (x.0, tells.move_to set k j (omega (arith, c)) x.1);
+    done = λ i j a b c m out. elim (cases_lt j k) [
+      | inl l ↦ f.done i j a b l m out
+      | inr g ↦
+          let s : j ≡ k = omega (arith, c, g) in
+          let x = f.opened i k a b (omega arith) (subst (λ (z : ℕ). S i z) s m) in
+          cc (tells.ends_to set k x.1, e)
+    ];
+  }
+
+  followed : (k start set : ℕ) → t.ends k set ≡ true → Follows S A L low k start set → After k (record { rows = record { start = start; set = set } ∷ []; best = Some (record { q0 = start; q1 = k }); enters = false })
+  followed k start set e f = (
+    record {
+      sorted = (tt, tt);
+      sound = ((f.above, f.begun, f.sound), tt);
+      before = (omega arith, tt);
+      is_span = (f.above, omega (arith, f.begun), omega arith, f.sound k (tells.ends_from set k e), λ a. omega (arith, f.begun, tells.left_out start k a));
+      opened = λ i j a b c m. elim (cases_lt start i) [
+        | inl l ↦ inl l
+        | inr g ↦ inr (inl (f.opened i j a (omega (arith, g)) c m))
+      ];
+      done = λ i j a l m out. elim (cases_lt start i) [
+        | inl x ↦ inl x
+        | inr g ↦ elim (cases_lt j k) [
+          | inl y ↦ absurd (f.done i j a (omega (arith, g)) y m out)
+          | inr y ↦
+              let s : j ≡ k = omega (arith, l, y) in
+              let x = f.opened i k a (omega (arith, g)) (omega arith) (subst (λ (z : ℕ). S i z) s m) in
+              inr (omega (arith, g, x.0), omega (arith, l))
+        ]
+      ];
+    },
+    inr f.begun,
+  )
+
+  seen_followed : (k start set : ℕ) (best : Option Range) → t.ends k set ≡ true → Follows S A L low k start set → After k (seen t k (record { start = start; set = set } ∷ []) best)
+  seen_followed k start set best e f =
+      let s : seen t k (record { start = start; set = set } ∷ []) best ≡ record { rows = record { start = start; set = set } ∷ []; best = Some (record { q0 = start; q1 = k }); enters = false } = rw e refl in
+      subst (After k) (sym s) (followed k start set e f)
+
+  reached : (k : ℕ) (rows : List Row) (best : Option Range) → low ≤ k → Reaches S A L low t k rows best → After k (seen t k rows best)
+  reached k rows best above x = elim x [
+    | inl knows ↦ seen_is k rows best above knows
+    | inr p ↦ subst (λ (z : List Row). After k (seen t k z best)) (sym p.1) (seen_followed k p.0.start p.0.set best p.3 p.2)
+  ]
+
+  pub step_from : (k : ℕ) (rows : List Row) (best : Option Range) → low ≤ k → Reaches S A L low t k rows best → Knows S A L low (k + 1) (k + 1) (solid (onward t k (seen t k rows best))) (seen t k rows best).best
+  step_from k rows best above x =
+      let s = seen t k rows best in
+      solid_is (k + 1) (k + 1) (onward t k s) s.best (next_is k s above (reached k rows best above x) (late_by k rows best (ended (t.ends k) rows) (t.null k)))
+
+  pub end_from : (k : ℕ) (rows : List Row) (best : Option Range) → low ≤ k → Reaches S A L low t k rows best → Finds S A L low k (seen t k rows best).best
+  end_from k rows best above x =
+      let s = seen t k rows best in
+      finds_by k s.rows s.best (reached k rows best above x).0

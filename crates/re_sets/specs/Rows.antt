@@ -117,6 +117,18 @@ module _ (S A : ℕ → ℕ → Type 0) (L : ℕ → ℕ → ℕ → Type 0) (lo
     pub union_cases : (x y k j : ℕ) → L (t.union x y) k j → L x k j ⊎ L y k j
     pub empty : (k j : ℕ) → L 0 k j → ⊥
 
+  -- one row followed alone, whatever begins after it: matches that begin no later lead from its letters, and none ended
+  pub record Follows (k start set : ℕ) : Type 0 where
+    pub above : low ≤ start
+    pub begun : start < k
+    pub sound : (j : ℕ) → L set k j → S start j
+    pub opened : (i j : ℕ) → low ≤ i → i ≤ start → k ≤ j → S i j → (start ≤ i) × L set k j
+    pub done : (i j : ℕ) → low ≤ i → i ≤ start → j < k → S i j → (A i j → ⊥) → ⊥
+
+  -- these rows and this match are all that is known, or the one row was followed alone to a place where it ends
+  abbrev pub Reaches : Text → ℕ → List Row → Option Range → Type 0
+  Reaches t k rows best = Knows k k rows best ⊎ ((x : Row) × (rows ≡ x ∷ []) × Follows k x.start x.set × (t.ends k x.set ≡ true))
+
   -- it begins first, and of those it is the longest
   pub record IsBest (high : ℕ) (b : Range) : Type 0 where
     pub above : low ≤ b.q0

@@ -8,7 +8,7 @@ use Rattle.re_sets.specs.Readings.{Reading, Spans, forward, backward, mirrored}
 use Rattle.re_sets.specs.Numbers.{Leads}
 use Rattle.re_sets.specs.Words.{on}
 use Rattle.re_sets.specs.Laws.{LeftOut}
-use Rattle.re_sets.specs.Rows.{Row, Knows, Finds, search}
+use Rattle.re_sets.specs.Rows.{Row, Knows, Follows, Reaches, Finds, search}
 use Rattle.re_sets.specs.Tables.{Table, IsTable, text_of}
 
 abbrev pub SearchFinds : Type 0
@@ -41,6 +41,14 @@ SearchIsValue = (r : Tree) (t : Table) (text : List ℕ) (no_null : Option ℕ) 
 -- what a search knows at a place: its rows, and the best match that it has found
 abbrev pub Known : Tree → Reading → Option ℕ → ℕ → ℕ → List Row → Option Range → Type 0
 Known r w no_null low k rows best = Knows (Spans r w) (LeftOut no_null) (λ x k j. Leads r w (on x) k j) low k k rows best
+
+-- what is known at a place of the one row that was followed alone up to there
+abbrev pub Followed : Tree → Reading → Option ℕ → ℕ → ℕ → ℕ → ℕ → Type 0
+Followed r w no_null low k start set = Follows (Spans r w) (LeftOut no_null) (λ x k j. Leads r w (on x) k j) low k start set
+
+-- what a search may be in when it looks at a place
+abbrev pub Reached : Tree → Table → Reading → Option ℕ → ℕ → ℕ → List Row → Option Range → Type 0
+Reached r t w no_null low k rows best = Reaches (Spans r w) (LeftOut no_null) (λ x k j. Leads r w (on x) k j) low (text_of t w no_null) k rows best
 
 -- it is the match that a search finds between two places, or there is none
 abbrev pub FindsIn : Tree → Reading → Option ℕ → ℕ → ℕ → Option Range → Type 0
