@@ -1,8 +1,8 @@
 -- The connections stay 64, and one more of them lives at most.
-use Rattle.std.proofs.Common.{◌≡◌, ℕ, ◌+◌, ◌<◌, ◌≤◌, Bool, true, false, cond, List, length, None, refl, arith}
+use Rattle.std.proofs.Common.{◌≡◌, ℕ, ◌+◌, ◌<◌, ◌≤◌, Bool, true, false, cond, List, [], ◌∷◌, length, None, refl, arith}
 use Rattle.std.specs.Prelude.{slice_set}
 use Rattle.std.proofs.lemmas.List.{length-set}
-use Rattle.std.proofs.lemmas.List.Sums.{sum_by-set}
+use Rattle.std.proofs.lemmas.List.Sums.{sum_by-set, sum_by-cons}
 use Rattle.core_intents.specs.declared.kind.Kind.{Kind}
 use Rattle.core_intents.specs.declared.kind.Kind.TheVariants as kind
 use Rattle.core_intents.specs.declared.connection.Connection.{Connection}
@@ -49,6 +49,11 @@ lives_more cs (kind.Asks conn tag) n h = omega arith
 lives_more cs (kind.Ends conn why) n h = omega (arith, count_set cs conn (Ended why) (omega (arith, n, h)), weight_most (Ended why))
 lives_more cs (kind.Takes conn) n h = omega arith
 lives_more cs kind.Acts n h = omega arith
+
+-- all live at most
+pub lives_few : (cs : List Connection) → live_count cs ≤ length cs
+lives_few [] = omega arith
+lives_few (c ∷ cs) = omega (arith, sum_by-cons (λ x. cond (is_live x) 1 0) c cs, weight_below (is_live c), lives_few cs)
 
 ended_weight : (why : _) → weight (Ended why) ≡ 0
 unfolding weight

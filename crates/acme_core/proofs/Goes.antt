@@ -12,7 +12,10 @@ use Rattle.am_counter.specs.Played.{ArePlayed, IsPlayed}
 use Rattle.core_windows.specs.Windows.{Window}
 use Rattle.core_windows.specs.Stories.{AreLawful}
 use Rattle.core_windows.specs.WindowLaws.{ChangesAreLawful, AreNumbered, NumbersStay}
+use Rattle.am_text.specs.Twice.{both}
+use Rattle.core_scene.specs.Scenes.{kept_of, scene_in}
 use Rattle.core_scene.specs.SceneLaws.{changes_in, AreShown, DeedsShow}
+use Rattle.core_scene.proofs.Settled.{settled_in}
 use Rattle.core_events.specs.Sound.{IsSound, IsIdle}
 use Rattle.core_ports.specs.Sound.{ArePortsSound, ArePortsIdle}
 use Rattle.core_ports.proofs.Sounds.{sound_beginning}
@@ -129,6 +132,23 @@ kept_on show entries next old new p e left was is grown spare changed book ports
       hangs = record { room = omega (arith, count, spare, ready.entries.room); numbers = omega (arith, count, numbered, had, ready.entries.numbers) };
       ready = subst (λ (x : Option Prepared). IsReady (present_after next.items) next.spare new x) (sym none) steady;
     }
+
+-- a plan that waits is dropped
+pub kept_back : (entries : Room Event) (parts new : Parts) (prepared left : Option Prepared) → IsKept entries parts prepared → left ≡ None
+    → new ≡ record parts { sessions = both parts.sessions.kept; scene = scene_in (kept_of parts.scene); outputs = both parts.outputs.kept } → IsKept entries new left
+kept_back entries parts new prepared left was none back =
+    let gone : Parts = record parts { sessions = both parts.sessions.kept; scene = scene_in (kept_of parts.scene); outputs = both parts.outputs.kept } in
+    subst (λ (x : Parts). IsKept entries x left) (sym back)
+    (record {
+      played = was.played;
+      possible = was.possible;
+      state = was.state;
+      lawful = was.lawful;
+      counted = was.counted;
+      sound = record { conns = was.sound.conns; joined = was.sound.joined; book = was.sound.book; idle = was.sound.idle; ports = was.sound.ports; ports_idle = was.sound.ports_idle };
+      hangs = was.hangs;
+      ready = subst (λ (x : Option Prepared). IsReady (present_after entries.items) entries.spare gone x) (sym none) (record { sessions = refl; scene = settled_in (kept_of parts.scene); outputs = refl });
+    })
 
 -- ---- the empty editor
 

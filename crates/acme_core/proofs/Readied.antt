@@ -17,17 +17,18 @@ use Rattle.core_intents.proofs.Kinded.{numbered}
 use Rattle.core_steps.specs.declared.prepared.Prepared.{Prepared}
 use Rattle.core_steps.specs.Ready.{HasReady}
 use Rattle.acme_core.specs.Kept.{HasEntries, IsPrepared}
-use Rattle.acme_core.proofs.Few.{lives_more}
+use Rattle.acme_core.proofs.Few.{lives_more, lives_few}
 
 -- there is an entry for it, and for the hang-ups of the connections that then live
-pub entry_room : (old new : Parts) (e : Event) (spare len lives : ℕ) → present_of new ≡ present_of old → length old.connections.items ≡ 64 → IsLawful e → old.entries ≡ len
-    → lives ≡ live_count old.connections.items → lives + 2 ≤ spare → len + (lives + 2) < 2 ^ 64
+pub entry_room : (old new : Parts) (e : Event) (spare len : ℕ) → present_of new ≡ present_of old → length old.connections.items ≡ 64 → IsLawful e → old.entries ≡ len
+    → 66 ≤ spare → len + 66 < 2 ^ 64
     → HasEntries (present_of old).entries spare (live_count (connections_after new.connections.items (kind_of e)) + 1)
-entry_room old new e spare len lives state conns lawful counted live room fits =
+entry_room old new e spare len state conns lawful counted room fits =
     let same : new.connections.items ≡ old.connections.items = ap (λ (x : Present). x.connections) state in
     let most : live_count (connections_after old.connections.items (kind_of e)) ≤ live_count old.connections.items + 1 = lives_more old.connections.items (kind_of e) conns (numbered e lawful) in
+    let few : live_count old.connections.items ≤ 64 = omega (arith, conns, lives_few old.connections.items) in
     subst (λ (cs : List Connection). HasEntries old.entries spare (live_count (connections_after cs (kind_of e)) + 1)) (sym same)
-    (record { room = omega (arith, most, live, room); numbers = omega (arith, most, live, counted, fits) })
+    (record { room = omega (arith, most, few, room); numbers = omega (arith, most, few, counted, fits) })
 
 pub readied : (s : Present) (spare : ℕ) (parts : Parts) (e : Event) (i : Intent) (r : Result Prepared NoMemory) → IsLawful e → enabled_at s e ≡ None → i ≡ intent_of s e
     → HasEntries s.entries spare (live_count (connections_after parts.connections.items (kind_of e)) + 1)

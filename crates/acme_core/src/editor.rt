@@ -80,8 +80,19 @@ impl Core {
         })
     }
 
+    // Drops the plan that waits, if there is one, with what is ready for it. It takes no memory.
+    fn drop_plan(&mut self)
+        ensures { self.new ≡ settled self.old.journal }
+    {
+        match self.prepared.take() {
+            Some(_) => self.parts.back(self.alloc),
+            None => {}
+        }
+    }
+
     /// Decides whether an event is enabled, and makes everything ready that its step needs. What
     /// the editor means stays as it was, and an earlier plan that wasn't committed is dropped.
+    #[tactic(auto, using(crate::proofs::Goes::asking))]
     pub fn plan(&mut self, event: Event) -> Result<Plan, Refused>
         requires { IsLawful event }
         ensures ok { IfOk result (λ plan. (enabled self.old.journal event ≡ None) × (plan ≡ length self.old.journal + 1)) }
@@ -91,7 +102,7 @@ impl Core {
         // A hang-up is never refused for memory.
         ensures hang { IsHang event → IfErr result IsWhy }
     {
-        self.prepared = None;
+        self.drop_plan();
         let before = self.journal.len();
         let prepared = prepare(self.alloc, &mut self.journal, &mut self.parts, event)?;
         self.prepared = Some(prepared);

@@ -15,7 +15,7 @@ ghost use Rattle.acme_core.specs.Run.{Refuses, IsHang, IsWhy};
 use am_journal::{Event, Refused};
 use am_text::{Items, NoMemory, Roomy};
 use core_fids::{Effect, EventChange};
-use core_intents::{Parts, intent_of, is_hang, live_count};
+use core_intents::{CONNECTIONS, Parts, intent_of, is_hang};
 use core_steps::{Prepared, grow};
 use std::alloc::Global;
 
@@ -40,7 +40,7 @@ fn ready(
     ensures prepared { IfOk result (IsPrepared (present_of parts.old) journal.new.spare parts.new) }
 {
     let intent = intent_of(alloc, parts, &event)?;
-    journal.reserve(live_count(&parts.connections) + 2)?;
+    journal.reserve(CONNECTIONS + 2)?;
     let at = parts.entries + 1;
     grow(alloc, parts, event, intent, at)
 }
@@ -70,7 +70,8 @@ fn hanging(alloc: Global, parts: &Parts, event: Event) -> Prepared
     }
 }
 
-/// Decides whether an event is enabled, and makes it ready. What the tables mean stays, and a refusal leaves nothing ready in them.
+/// Decides whether an event is enabled, and makes it ready in tables in which nothing is ready. What they mean stays, and a refusal leaves
+/// nothing ready in them.
 #[tactic(auto, using(crate::proofs::Joins::joined, crate::proofs::Hangs::hung))]
 pub(crate) fn prepare(
     alloc: Global,
@@ -80,6 +81,7 @@ pub(crate) fn prepare(
 ) -> Result<Prepared, Refused>
     requires lawful { IsLawful event }
     requires sound { AreSound parts.old }
+    requires steady { AreSteady parts.old }
     requires counted { parts.old.entries ≡ length journal.old.items }
     requires hangs { HasEntries parts.old.entries journal.old.spare (live_count parts.old.connections.items) }
     ensures items { journal.new.items ≡ journal.old.items }
@@ -91,7 +93,6 @@ pub(crate) fn prepare(
     ensures hang { IsHang event → IfErr result IsWhy }
     ensures steady { OnErr result (AreSteady parts.new) }
 {
-    parts.back(alloc);
     if let Some(why) = parts.why_not(&event) {
         return Err(Refused::NotEnabled(why));
     }

@@ -17,6 +17,14 @@ use wait_queue::{Asked, Asker};
 /// The most reads of a connection that wait.
 const READS: usize = 64;
 
+/// A read of an event file at the entry of this number: the fid that is read, and who asks for how much of which opening.
+#[derive(Clone, Copy, Debug, PartialEq, Eq)]
+pub struct EventRead {
+    pub fid: u32,
+    pub asker: Asker,
+    pub at: u64,
+}
+
 /// Makes an opening more of a window's event file, where the message asks for one.
 pub fn open_events(book: &mut Book, events: EventChange) -> Result<(), NoMemory>
     ensures kept { book.new.kept ≡ book.old.kept }
@@ -43,27 +51,26 @@ pub fn reads_are_full(sessions: &Sessions, conn: u32) -> bool
     sessions.waiting(conn) >= READS
 }
 
-/// A read of an event file: what is said to it at once, None where it waits. The read is one of this fid.
+/// What is said at once to a read of an event file, None where it waits.
 pub fn read_events(
     alloc: Global,
     book: &mut Book,
     sessions: &mut Sessions,
-    asker: Asker,
-    fid: u32,
-    at: u64,
+    read: EventRead,
 ) -> Result<Option<RBody>, NoMemory>
     requires steady { IsSteady book.old }
-    requires sound { IsSound at book.old.present }
-    requires small { asker.count + 11 < 2 ^ 32 }
-    requires joined { HasJoined sessions.old.present asker.conn }
-    ensures said { IfOk result (λ said. said ≡ read_said sessions.old.present book.old.present asker) }
+    requires sound { IsSound read.at book.old.present }
+    requires small { read.asker.count + 11 < 2 ^ 32 }
+    requires joined { HasJoined sessions.old.present read.asker.conn }
+    ensures said { IfOk result (λ said. said ≡ read_said sessions.old.present book.old.present read.asker) }
     ensures sent { IfOk result (λ said. IfSome said IsSent) }
-    ensures book { OnOk result (book.new.present ≡ book_read sessions.old.present book.old.present asker at) }
-    ensures tables { OnOk result (sessions.new.present ≡ tables_read sessions.old.present book.old.present asker fid) }
+    ensures book { OnOk result (book.new.present ≡ book_read sessions.old.present book.old.present read.asker read.at) }
+    ensures tables { OnOk result (sessions.new.present ≡ tables_read sessions.old.present book.old.present read.asker read.fid) }
     ensures kept_book { book.new.kept ≡ book.old.kept }
     ensures kept_tables { sessions.new.kept ≡ sessions.old.kept }
-    ensures sound { OnOk result (IsSound at book.new.present) }
+    ensures sound { OnOk result (IsSound read.at book.new.present) }
 {
+    let EventRead { fid, asker, at } = read;
     if !book.is_living(asker.opening) {
         return Ok(Some(error(alloc, Refusal::WindowDeleted)?));
     }

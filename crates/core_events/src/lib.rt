@@ -9,7 +9,7 @@ mod serving;
 mod waits;
 
 pub use am_text::{Items, NoMemory};
-pub use asking::{open_events, read_events, reads_are_full};
+pub use asking::{EventRead, open_events, read_events, reads_are_full};
 pub use closing::{BackItem, cancel_read, close_events, free_fids, free_openings, write_back};
 pub use core_scene::{WindowItem, WindowItems};
 pub use event_book::Book;

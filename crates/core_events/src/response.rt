@@ -81,6 +81,9 @@ pub fn joined(said: Responses, more: Responses) -> Result<Responses, NoMemory>
     if said.is_empty() {
         return Ok(more);
     }
+    if more.is_empty() {
+        return Ok(said);
+    }
     let mut all = said;
     for response in more.into_vec() {
         all.push(response)?;

@@ -1,7 +1,7 @@
 //! Connections.
 
 ghost use Rattle.std.specs.Prelude.{◌≡◌};
-ghost use Rattle.core_intents.specs.Connections.{connection_at, live_count, is_live};
+ghost use Rattle.core_intents.specs.Connections.{connection_at};
 
 use am_journal::Ending;
 
@@ -24,21 +24,4 @@ pub fn connection_at(connections: &[Connection], conn: u32) -> Connection
         Some(connection) => *connection,
         None => Connection::Undialed,
     }
-}
-
-fn is_live(connection: Connection) -> bool
-    ensures { result ≡ is_live connection }
-{
-    match connection {
-        Connection::Live => true,
-        Connection::Undialed => false,
-        Connection::Ended(_) => false,
-    }
-}
-
-/// How many connections live.
-pub fn live_count(connections: &[Connection]) -> usize
-    ensures { result ≡ live_count connections.now }
-{
-    connections.iter().filter(|c| is_live(**c)).count()
 }

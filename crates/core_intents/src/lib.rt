@@ -12,7 +12,7 @@ mod spot;
 mod typing;
 
 pub use am_journal::CONNECTIONS;
-pub use connection::{Connection, connection_at, live_count};
+pub use connection::{Connection, connection_at};
 pub use intent::{Intent, answer_or, intent_of, with_held};
 pub use kind::{Kind, conn_of, is_hang, kind_of};
 pub use limits::REPLIES;

@@ -1,7 +1,8 @@
 -- Replies, and those of each connection that aren't taken yet.
-use Rattle.std.specs.Prelude.{ℕ, ◌<◌, ◌+◌, List, [], ◌++◌, length, slice_set, slice_index_or, All}
+use Rattle.std.specs.Prelude.{◌≡◌, ℕ, ◌<◌, ◌≤◌, ◌+◌, List, [], ◌++◌, length, map, take, drop, slice_set, slice_index_or, All}
 use Rattle.std.specs.List.{fold}
 use Rattle.am_text.specs.Twice.{Twice}
+use Rattle.am_text.specs.declared.range.Range.{Range}
 use Rattle.core_outputs.specs.declared.reply.Reply.{Reply}
 
 -- the unsent replies of a connection: how many there are, and their bytes, one after another
@@ -43,6 +44,16 @@ with_present t = record { present = t.present; kept = t.present }
 
 abbrev pub with_kept : Twice Unsent → Twice Unsent
 with_kept t = record { present = t.kept; kept = t.kept }
+
+-- what is kept of these is as it is now
+abbrev pub AreAlike : List (Twice Unsent) → Type 0
+AreAlike us = map present_of us ≡ map kept_of us
+
+-- only what lies in a range may have replies that aren't kept
+pub record IsTouched (touched : Range) (us : List (Twice Unsent)) : Type 0 where
+  pub within : touched.q1 ≤ length us
+  pub before : AreAlike (take touched.q0 us)
+  pub behind : AreAlike (drop touched.q1 us)
 
 -- each reply has bytes
 abbrev pub HasBytes : Reply → Type 0

@@ -34,8 +34,8 @@ use crate::reading::{PortRead, ask_port, port_read_of};
 use am_journal::Event;
 use am_text::{Bytes, Ids, Items, NoMemory};
 use core_events::{
-    Book, Feed, Response, Responses, clunked, deletions, event_feed, joined, open_events, put_all,
-    put_living, read_events, serve_all,
+    Book, EventRead, Feed, Response, Responses, clunked, deletions, event_feed, joined,
+    open_events, put_all, put_living, read_events, serve_all,
 };
 use core_fids::{Answer, Effect, EventChange};
 use core_intents::{Intent, Kind, Parts, answer_or, conn_of, kind_of, with_held};
@@ -72,9 +72,10 @@ struct Acted {
     answer: Option<Answer>,
 }
 
-// What a message asks of event files at the entry of this number: its answer, and an opening.
+// What an event of this kind asks of event files at the entry of this number: an answer, where it is a message, and an opening.
 #[derive(Drop)]
 struct Asks {
+    kind: Kind,
     answer: Option<Answer>,
     events: EventChange,
     at: u64,
@@ -143,24 +144,23 @@ fn read(
     alloc: Global,
     book: &mut Book,
     sessions: &mut Sessions,
-    asker: Asker,
-    fid: u32,
-    at: u64,
+    read: EventRead,
 ) -> Result<Responses, NoMemory>
     requires steady { IsSteady book.old }
-    requires sound { IsSound at book.old.present }
-    requires small { asker.count + 11 < 2 ^ 32 }
-    requires joined { HasJoined sessions.old.present asker.conn }
-    ensures exact { IfOk result (λ said. said ≡ if_said asker.conn asker.tag asker.opening (read_said sessions.old.present book.old.present asker)) }
+    requires sound { IsSound read.at book.old.present }
+    requires small { read.asker.count + 11 < 2 ^ 32 }
+    requires joined { HasJoined sessions.old.present read.asker.conn }
+    ensures exact { IfOk result (λ said. said ≡ if_said read.asker.conn read.asker.tag read.asker.opening (read_said sessions.old.present book.old.present read.asker)) }
     ensures said { IfOk result AreSaid }
-    ensures book { OnOk result (book.new.present ≡ book_read sessions.old.present book.old.present asker at) }
-    ensures tables { OnOk result (sessions.new.present ≡ tables_read sessions.old.present book.old.present asker fid) }
+    ensures book { OnOk result (book.new.present ≡ book_read sessions.old.present book.old.present read.asker read.at) }
+    ensures tables { OnOk result (sessions.new.present ≡ tables_read sessions.old.present book.old.present read.asker read.fid) }
     ensures kept_book { book.new.kept ≡ book.old.kept }
     ensures kept_tables { sessions.new.kept ≡ sessions.old.kept }
-    ensures sound { OnOk result (IsSound at book.new.present) }
+    ensures sound { OnOk result (IsSound read.at book.new.present) }
 {
+    let asker = read.asker;
     let feed = event_feed(asker.opening);
-    match read_events(alloc, book, sessions, asker, fid, at)? {
+    match read_events(alloc, book, sessions, read)? {
         Some(body) => one(alloc, asker.conn, asker.tag, body, Some(feed)),
         None => Ok(Items::new(alloc)),
     }
@@ -172,22 +172,26 @@ fn answer_message(
     alloc: Global,
     book: &mut Book,
     sessions: &mut Sessions,
-    kind: Kind,
-    answer: Option<Answer>,
-    at: u64,
+    asks: Asks,
 ) -> Result<Responses, NoMemory>
     requires steady { IsSteady book.old }
-    requires sound { IsSound at book.old.present }
-    requires answerable { IsAnswerable answer }
-    requires joined { IsOfJoined sessions.old.present kind }
-    ensures exact { IfOk result (λ said. said ≡ message_said sessions.old.present book.old.present kind answer) }
+    requires sound { IsSound asks.at book.old.present }
+    requires answerable { IsAnswerable asks.answer }
+    requires joined { IsOfJoined sessions.old.present asks.kind }
+    ensures exact { IfOk result (λ said. said ≡ message_said sessions.old.present book.old.present asks.kind asks.answer) }
     ensures said { IfOk result AreSaid }
-    ensures book { OnOk result (book.new.present ≡ message_book sessions.old.present book.old.present kind answer at) }
-    ensures tables { OnOk result (sessions.new.present ≡ message_tables sessions.old.present book.old.present kind answer) }
+    ensures book { OnOk result (book.new.present ≡ message_book sessions.old.present book.old.present asks.kind asks.answer asks.at) }
+    ensures tables { OnOk result (sessions.new.present ≡ message_tables sessions.old.present book.old.present asks.kind asks.answer) }
     ensures kept_book { book.new.kept ≡ book.old.kept }
     ensures kept_tables { sessions.new.kept ≡ sessions.old.kept }
-    ensures sound { OnOk result (IsSound at book.new.present) }
+    ensures sound { OnOk result (IsSound asks.at book.new.present) }
 {
+    let Asks {
+        kind,
+        answer,
+        at,
+        ..
+    } = asks;
     let Kind::Asks { conn, tag } = kind else {
         return Ok(Items::new(alloc));
     };
@@ -207,7 +211,7 @@ fn answer_message(
                 opening,
                 count,
             };
-            read(alloc, book, sessions, asker, fid, at)
+            read(alloc, book, sessions, EventRead { fid, asker, at })
         }
         Some(Answer::ReadsPort { .. }) => Ok(Items::new(alloc)),
     }
@@ -254,7 +258,6 @@ fn grow_files(
     alloc: Global,
     book: &mut Book,
     sessions: &mut Sessions,
-    kind: Kind,
     asks: Asks,
     effect: &Effect,
 ) -> Result<Responses, NoMemory>
@@ -262,21 +265,21 @@ fn grow_files(
     requires sound { IsSound asks.at book.old.present }
     requires idle { IsIdle book.old.present }
     requires answerable { IsAnswerable asks.answer }
-    requires joined { IsJoinedFor sessions.old.present kind }
-    ensures exact { IfOk result (λ said. said ≡ message_said (grown sessions.old.present kind effect.now) book.old.present kind asks.answer) }
+    requires joined { IsJoinedFor sessions.old.present asks.kind }
+    ensures exact { IfOk result (λ said. said ≡ message_said (grown sessions.old.present asks.kind effect.now) book.old.present asks.kind asks.answer) }
     ensures said { IfOk result AreSaid }
-    ensures book { OnOk result (book.new.present ≡ opened (message_book (grown sessions.old.present kind effect.now) book.old.present kind asks.answer asks.at) asks.events) }
-    ensures tables { OnOk result (sessions.new.present ≡ message_tables (grown sessions.old.present kind effect.now) book.old.present kind asks.answer) }
+    ensures book { OnOk result (book.new.present ≡ opened (message_book (grown sessions.old.present asks.kind effect.now) book.old.present asks.kind asks.answer asks.at) asks.events) }
+    ensures tables { OnOk result (sessions.new.present ≡ message_tables (grown sessions.old.present asks.kind effect.now) book.old.present asks.kind asks.answer) }
     ensures kept_book { book.new.kept ≡ book.old.kept }
     ensures kept_tables { sessions.new.kept ≡ sessions.old.kept }
     ensures sound { OnOk result (IsSound asks.at book.new.present) }
     ensures idle { OnOk result (IsIdle book.new.present) }
-    ensures there { OnOk result (IsOfJoined sessions.new.present kind) }
+    ensures there { OnOk result (IsOfJoined sessions.new.present asks.kind) }
 {
-    let Asks { answer, events, at } = asks;
+    let events = asks.events;
     book.is_lawful();
-    grow_sessions(alloc, sessions, kind, effect)?;
-    let said = answer_message(alloc, book, sessions, kind, answer, at)?;
+    grow_sessions(alloc, sessions, asks.kind, effect)?;
+    let said = answer_message(alloc, book, sessions, asks)?;
     open_events(book, events)?;
     Ok(said)
 }
@@ -409,8 +412,12 @@ pub fn grow(
         alloc,
         &mut parts.scene.book,
         &mut parts.sessions,
-        kind,
-        Asks { answer, events, at },
+        Asks {
+            kind,
+            answer,
+            events,
+            at,
+        },
         &effect,
     )?;
     let ports = grow_ports(

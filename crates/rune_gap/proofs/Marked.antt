@@ -29,6 +29,56 @@ size_take n text = omega (arith, size_few (take n text), length-take n text)
 pub size_drop : (n : ℕ) (text : List ℕ) → size (drop n text) ≤ 4 * length text
 size_drop n text = omega (arith, size_few (drop n text), length-drop n text)
 
+-- ---- a plain text, whose runes take one byte each
+
+-- a rune has one byte at least
+some_bytes : (c : ℕ) (b : Bool) → 1 ≤ length (cond b (encode_utf8 c) (encode_utf8 0xFFFD))
+some_bytes c true = omega (arith, length-encode c, (len_utf8_bounds c).0)
+some_bytes c false = omega (arith, length-encode 0xFFFD, (len_utf8_bounds 0xFFFD).0)
+
+pub some_byte : (c : ℕ) → 1 ≤ length (rune_bytes c)
+some_byte c = some_bytes c (scalar c)
+
+pub size_least : (text : List ℕ) → length text ≤ size text
+size_least [] = omega arith
+size_least (c ∷ text) = omega (arith, length-append (rune_bytes c) (utf8 text), some_bytes c (scalar c), size_least text)
+
+-- so are its parts
+pub plain_take : (text : List ℕ) (n : ℕ) → size text ≡ length text → size (take n text) ≡ length (take n text)
+plain_take text n plain =
+    omega (
+      arith,
+      plain,
+      sym (size-append (take n text) (drop n text)) ∙ ap size (take-append-drop n text),
+      sym (length-append (take n text) (drop n text)) ∙ ap (λ (l : List ℕ). length l) (take-append-drop n text),
+      size_least (take n text),
+      size_least (drop n text),
+    )
+
+pub plain_drop : (text : List ℕ) (n : ℕ) → size text ≡ length text → size (drop n text) ≡ length (drop n text)
+plain_drop text n plain =
+    omega (
+      arith,
+      plain,
+      sym (size-append (take n text) (drop n text)) ∙ ap size (take-append-drop n text),
+      sym (length-append (take n text) (drop n text)) ∙ ap (λ (l : List ℕ). length l) (take-append-drop n text),
+      size_least (take n text),
+      size_least (drop n text),
+    )
+
+pub plain_part : (text : List ℕ) (m n : ℕ) → size text ≡ length text → size (take n (drop m text)) ≡ length (take n (drop m text))
+plain_part text m n plain = plain_take (drop m text) n (plain_drop text m plain)
+
+pub plain_left : (a b : List ℕ) → size (a ++ b) ≡ length (a ++ b) → size a ≡ length a
+plain_left a b plain = omega (arith, plain, size-append a b, length-append a b, size_least a, size_least b)
+
+pub plain_right : (a b : List ℕ) → size (a ++ b) ≡ length (a ++ b) → size b ≡ length b
+plain_right a b plain = omega (arith, plain, size-append a b, length-append a b, size_least a, size_least b)
+
+-- and it stays plain where a plain text is put in
+pub plain_joined : (a b : List ℕ) → size a ≡ length a → size b ≡ length b → size (a ++ b) ≡ length (a ++ b)
+plain_joined a b ea eb = omega (arith, size-append a b, length-append a b, ea, eb)
+
 -- ---- one more stride is noted
 
 noted_below : (marks : List ℕ) (k x m : ℕ) → m ≤ k → noted (slice_set marks k x) m ≡ noted marks m
@@ -143,6 +193,9 @@ back_after marks items text q0 q1 n m within fits small le h =
     ap (λ (i : ℕ). drop i items) (sym from) ∙ sym (drop-drop (length behind - m) q1 items) ∙ sym (last_of_joined (take q0 items ++ text) behind m few) in
     let room : m ≤ length (edited items text q0 q1) = omega (arith, few, length-append (take q0 items ++ text) behind) in
     stands_back marks items (edited items text q0 q1) m (omega (arith, le, fits)) room same (fewer_back marks items n m le h)
+
+pub plain_after : (items text : List ℕ) (q0 q1 : ℕ) → size items ≡ length items → size text ≡ length text → size (edited items text q0 q1) ≡ length (edited items text q0 q1)
+plain_after items text q0 q1 plain put = plain_joined (take q0 items ++ text) (drop q1 items) (plain_joined (take q0 items) text (plain_take items q0 plain) put) (plain_drop items q1 plain)
 
 -- ---- the bytes of a side
 

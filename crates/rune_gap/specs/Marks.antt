@@ -1,5 +1,5 @@
 -- How many bytes stand before and behind places of a text, noted for each stride of runes.
-use Rattle.std.specs.Prelude.{◌≡◌, ◌≤◌, ◌<◌, ℕ, zero, suc, ◌+◌, ◌-◌, ◌*◌, ◌^◌, List, length, take, drop, slice_index}
+use Rattle.std.specs.Prelude.{◌≡◌, ◌≤◌, ◌<◌, ℕ, zero, suc, ◌+◌, ◌-◌, ◌*◌, ◌^◌, Bool, true, List, length, take, drop, slice_index}
 use Rattle.am_text.specs.Utf8.{utf8}
 use Rattle.am_text.specs.declared.range.Range.{Range}
 use Rattle.rune_gap.specs.Gap.{around, IsGapIn}
@@ -29,11 +29,16 @@ IsMarked marks text n = (k : ℕ) → k * stride ≤ n → noted marks k ≡ siz
 abbrev pub IsMarkedBack : List ℕ → List ℕ → ℕ → Type 0
 IsMarkedBack marks text n = (k : ℕ) → k * stride ≤ n → noted marks k ≡ size (drop (length text - k * stride) text)
 
+-- where it is noted that a text is plain, each of its runes takes one byte
+abbrev pub IsPlain : Bool → List ℕ → Type 0
+IsPlain plain text = plain ≡ true → size text ≡ length text
+
 -- a text with a gap, whose strides before the gap and behind it are noted
-pub record IsKept (gap : Range) (buffer before behind : List ℕ) : Type 0 where
+pub record IsKept (gap : Range) (buffer before behind : List ℕ) (plain : Bool) : Type 0 where
   pub placed : IsGapIn gap buffer
   pub small : length buffer < 2 ^ 61
   pub before_room : HasRoom before buffer
   pub behind_room : HasRoom behind buffer
   pub before_gap : IsMarked before (around gap buffer) gap.q0
   pub behind_gap : IsMarkedBack behind (around gap buffer) (length buffer - gap.q1)
+  pub is_plain : IsPlain plain (around gap buffer)

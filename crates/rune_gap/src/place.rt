@@ -74,7 +74,7 @@ fn place_behind(marks: &[usize], side: &[Rune], offset: usize) -> Place
 
 /// A place that isn't past an offset, less than two strides before it where there are as many bytes.
 pub fn place_at(marks: &Marks, buffer: &[Rune], gap: Range, offset: usize) -> Place
-    requires { IsKept gap buffer.now marks.now.before.items marks.now.behind.items }
+    requires { IsKept gap buffer.now marks.now.before.items marks.now.behind.items marks.now.plain }
     ensures inside { result.runes ≤ length (around gap buffer.now) }
     ensures exact { result.bytes ≡ size (take result.runes (around gap buffer.now)) }
     ensures before { result.bytes ≤ offset }

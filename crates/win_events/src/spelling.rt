@@ -1,10 +1,11 @@
 //! The messages of an event.
 
 ghost use Rattle.std.specs.Prelude.{◌≡◌, ◌++◌, ◌∷◌, [], length, IfOk, OnOk, OnErr};
+ghost use Rattle.std.specs.Fmt.{decimal};
 ghost use Rattle.win_events.specs.Spelling.{origin_letter, sort_letter, is_deletion, shown, field, message, first_text, expansion, argument, spelling};
 
 use crate::item::{Item, Origin, Sort};
-use am_text::{Bytes, NoMemory, Range, Runes, decimal, encode};
+use am_text::{Bytes, NoMemory, Range, Runes, encode};
 use std::alloc::Global;
 
 fn origin_letter(origin: Origin) -> u8
@@ -43,14 +44,23 @@ fn is_deletion(sort: Sort) -> bool
     }
 }
 
+// Puts a number in decimal at the end, digit by digit.
+#[tactic(auto, using(crate::proofs::Digits::digits))]
+fn push_decimal(bytes: &mut Bytes, n: u64) -> Result<(), NoMemory>
+    ensures { OnOk result (bytes.new ≡ bytes.old ++ decimal n) }
+{
+    if n >= 10 {
+        push_decimal(bytes, n / 10)?;
+    }
+    bytes.push(b'0' + (n % 10) as u8)
+}
+
 // Puts a number and a blank at the end.
-fn push_field(alloc: Global, bytes: &mut Bytes, n: u64) -> Result<(), NoMemory>
+fn push_field(bytes: &mut Bytes, n: u64) -> Result<(), NoMemory>
     ensures { OnOk result (bytes.new ≡ bytes.old ++ field n) }
 {
-    let mut digits = decimal(alloc, n)?;
-    digits.push(b' ')?;
-    bytes.append(digits.as_slice())?;
-    Ok(())
+    push_decimal(bytes, n)?;
+    bytes.push(b' ')
 }
 
 // The text that a message shows.
@@ -78,10 +88,10 @@ fn message(
     let mut bytes = Bytes::new(alloc);
     bytes.push(origin_letter(item.origin))?;
     bytes.push(sort_letter(item.sort))?;
-    push_field(alloc, &mut bytes, range.q0 as u64)?;
-    push_field(alloc, &mut bytes, range.q1 as u64)?;
-    push_field(alloc, &mut bytes, u64::from(flag))?;
-    push_field(alloc, &mut bytes, shown.len() as u64)?;
+    push_field(&mut bytes, range.q0 as u64)?;
+    push_field(&mut bytes, range.q1 as u64)?;
+    push_field(&mut bytes, u64::from(flag))?;
+    push_field(&mut bytes, shown.len() as u64)?;
     bytes.append(encode(alloc, &shown)?.as_slice())?;
     bytes.push(b'\n')?;
     Ok(bytes)

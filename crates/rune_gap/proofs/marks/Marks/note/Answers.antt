@@ -1,8 +1,17 @@
-use Rattle.std.proofs.Common.{◌-◌, List, ℕ, length, length-drop, drop, refl, sym, subst, take_at, arith}
+use Rattle.std.proofs.Common.{◌≡◌, ◌-◌, List, ℕ, take, length, length-drop, drop, refl, sym, subst, take_at, arith}
 use Rattle.rune_gap.specs.Gap.{around}
-use Rattle.rune_gap.specs.Marks.{IsMarkedBack}
-use Rattle.rune_gap.proofs.Marked.{whole_side, to_side, from_side, fewer_back}
+use Rattle.rune_gap.specs.Marks.{size, IsMarkedBack}
+use Rattle.rune_gap.proofs.Marked.{whole_side, to_side, from_side, fewer_back, plain_left, plain_right}
 use Rattle.rune_gap.proofs.marks.Marks.note.Goals as goal
+
+pub mark_front-requires-clause-plain : goal.mark_front-requires-clause-plain
+mark_front-requires-clause-plain c p = plain_left (take c.args.gap.q0 c.args.buffer.now) (drop c.args.gap.q1 c.args.buffer.now) (c.requires.plain p)
+
+pub mark_back-requires-clause-plain : goal.mark_back-requires-clause-plain
+mark_back-requires-clause-plain c p =
+    let buffer = c.args.buffer.now in
+    subst (λ (s : List ℕ). size s ≡ length s) (sym (whole_side c.args.gap buffer c.requires.gap (length buffer) refl))
+    (plain_right (take c.args.gap.q0 buffer) (drop c.args.gap.q1 buffer) (c.requires.plain p))
 
 pub mark_back-requires-clause-marked : goal.mark_back-requires-clause-marked
 mark_back-requires-clause-marked c =
