@@ -5,7 +5,7 @@ use Rattle.std.specs.Char.{encode_utf8}
 use Rattle.std.specs.List.{AllByRecursion}
 use Rattle.std.specs.Str.{is_utf8, chars}
 use Rattle.am_base.specs.Outside.{HasRisen}
-use Rattle.am_base.specs.Written.{Output}
+use Rattle.am_base.specs.Seen.{Given, Seen}
 use Rattle.am_text.specs.Lines.{lines_of}
 use Rattle.am_journal.specs.declared.ending.Ending.{Ending}
 use Rattle.am_journal.specs.declared.event.Event.{Event}
@@ -29,7 +29,6 @@ use Rattle.am_do.specs.Went as talking
 use Rattle.am_do.specs.Written.{Comes}
 use Rattle.am_do.proofs.Completing.{says_complete}
 use Rattle.am_slots.specs.Slots.{Outside}
-use Rattle.am_server.specs.Ends.{Given}
 use Rattle.am_server.specs.Replied.{GotAll}
 use Rattle.am_server.specs.Sound.{EndsWell}
 use Rattle.am_server.specs.declared.served.Served.{Served}
@@ -38,7 +37,7 @@ use Rattle.am_server.specs.declared.served.ServedEnd.TheVariants as end
 use Rattle.am_words.specs.declared.asked.Tree.{Tree}
 use Rattle.am_words.specs.declared.asked.Tree.TheVariants.{Acme, Plumb}
 use Rattle.am_words.specs.Words.{tree_name}
-use Rattle.acmefs.specs.Does.{Does, closed_by, do_status, ended_by, entry_at, entry_of, how_ended, listed, peer_of, given_of, undialled}
+use Rattle.acmefs.specs.Does.{Does, closed_by, do_status, ended_by, entry_at, entry_of, how_ended, listed, peer_of, undialled}
 use Rattle.acmefs.specs.declared.status.Status.{Status}
 use Rattle.acmefs.specs.declared.status.Status.TheVariants as exit
 use Rattle.acmefs.specs.Statuses.{number_of}
@@ -86,8 +85,8 @@ not_read (Some (stop.Fault fault.Large)) failed h = absurd (omega (arith, ap num
 not_read (Some (stop.Fault (fault.Remote text))) failed h = absurd (omega (arith, ap number_of h))
 
 -- the output has failed where an end tells so
-put_badly : (why : Option Stop) (failed : Bool) (talk : List ℕ → Told (Unit {0})) (t : Talk) (e : talking.Ends) (o : Output)
-    → do_status (end_at why failed) ≡ exit.WriteFault → Comes why talk t e failed o → HasRisen o.faults o.faults_now
+put_badly : (why : Option Stop) (failed : Bool) (talk : List ℕ → Told (Unit {0})) (t : Talk) (e : talking.Ends) (o : Seen)
+    → do_status (end_at why failed) ≡ exit.WriteFault → Comes why talk t e failed o → HasRisen o.before.faults o.now.faults
 put_badly None false talk t e o h comes = absurd (omega (arith, ap number_of h))
 put_badly None true talk t e o h comes = comes.wrote.holds.risen
 put_badly (Some stop.Refused) failed talk t e o h comes = absurd (omega (arith, ap number_of h))
@@ -113,36 +112,36 @@ module _ {L S K : Type 0} where
   code_at : (e : DoEnd) (d : Doing L S K) → d ≡ unlinked e → do_status d.end ≡ do_status e
   code_at e d is = ap (λ (x : Doing L S K). do_status x.end) is
 
-  refused_code : (line : ℕ) (word : List ℕ) (o : Output) (d : Doing L S K) → Refuses line word o d → (do_status d.end ≡ exit.Refused) ⊎ (do_status d.end ≡ exit.NoMemory)
+  refused_code : (line : ℕ) (word : List ℕ) (o : Seen) (d : Doing L S K) → Refuses line word o d → (do_status d.end ≡ exit.Refused) ⊎ (do_status d.end ≡ exit.NoMemory)
   refused_code line word o d (inl r) = inl (code_at doing.Script d r.nothing)
   refused_code line word o d (inr r) = inr (code_at doing.NoMemory d r.nothing)
 
-  not_refused : (line : ℕ) (word : List ℕ) (o : Output) (d : Doing L S K) (n : Status) → (exit.Refused ≡ n → ⊥) → (exit.NoMemory ≡ n → ⊥) → Refuses line word o d → do_status d.end ≡ n → ⊥
+  not_refused : (line : ℕ) (word : List ℕ) (o : Seen) (d : Doing L S K) (n : Status) → (exit.Refused ≡ n → ⊥) → (exit.NoMemory ≡ n → ⊥) → Refuses line word o d → do_status d.end ≡ n → ⊥
   not_refused line word o d n two six r h = ⊎_elim (λ (x : do_status d.end ≡ exit.Refused). two (sym x ∙ h)) (λ (x : do_status d.end ≡ exit.NoMemory). six (sym x ∙ h)) (refused_code line word o d r)
 
-  lined_read : (m : Peer L S K) (tree : List ℕ) (read : Result (List DoLine) ℕ) (i : talks.Given) (o : Output) (d : Doing L S K) → Lined m tree read i o d → do_status d.end ≡ exit.ReadFault → ⊥
+  lined_read : (m : Peer L S K) (tree : List ℕ) (read : Result (List DoLine) ℕ) (i : Given) (o : Seen) (d : Doing L S K) → Lined m tree read i o d → do_status d.end ≡ exit.ReadFault → ⊥
   lined_read m tree (Err k) i o d r h = not_refused k (codes "line") o d exit.ReadFault (λ x. absurd (omega (arith, ap number_of x))) (λ x. absurd (omega (arith, ap number_of x))) r h
   lined_read m tree (Ok lines) i o d (inl x) h = absurd (omega (arith, ap number_of (code_at doing.HostFault d x.0.nothing), ap number_of h))
   lined_read m tree (Ok lines) i o d (inr (inl x)) h = absurd (omega (arith, ap number_of (ap (λ (y : Doing L S K). do_status y.end) x.none), ap number_of h))
   lined_read m tree (Ok lines) i o d (inr (inr x)) h = not_read d.stop x.failed (sym (ap do_status x.ended) ∙ h)
 
-  said_read : (m : Peer L S K) (tree : List ℕ) (i : talks.Given) (o : Output) (d : Doing L S K) → Says m tree i o d → do_status d.end ≡ exit.ReadFault
-      → HasRisen i.faults i.faults_now × (o.held_now ≡ o.held)
+  said_read : (m : Peer L S K) (tree : List ℕ) (i : Given) (o : Seen) (d : Doing L S K) → Says m tree i o d → do_status d.end ≡ exit.ReadFault
+      → HasRisen i.input.before.faults i.input.now.faults × (o.now.bytes ≡ o.before.bytes)
   said_read m tree i o d (inl s) h = (s.1, s.0.silent)
   said_read m tree i o d (inr (inl (long, r))) h = absurd (not_refused 0 (codes "input") o d exit.ReadFault (λ x. absurd (omega (arith, ap number_of x))) (λ x. absurd (omega (arith, ap number_of x))) r h)
   said_read m tree i o d (inr (inr (inl w))) h = absurd (omega (arith, ap number_of (code_at doing.NoMemory d w.nothing), ap number_of h))
   said_read m tree i o d (inr (inr (inr (bytes, told, fits, lined)))) h = absurd (lined_read m tree (lines_from 1 (lines_of bytes)) i o d lined h)
 
-  lined_written : (m : Peer L S K) (tree : List ℕ) (read : Result (List DoLine) ℕ) (i : talks.Given) (o : Output) (d : Doing L S K) → Lined m tree read i o d → do_status d.end ≡ exit.WriteFault
-      → HasRisen o.faults o.faults_now
+  lined_written : (m : Peer L S K) (tree : List ℕ) (read : Result (List DoLine) ℕ) (i : Given) (o : Seen) (d : Doing L S K) → Lined m tree read i o d → do_status d.end ≡ exit.WriteFault
+      → HasRisen o.before.faults o.now.faults
   lined_written m tree (Err k) i o d r h = absurd (not_refused k (codes "line") o d exit.WriteFault (λ x. absurd (omega (arith, ap number_of x))) (λ x. absurd (omega (arith, ap number_of x))) r h)
   lined_written m tree (Ok lines) i o d (inl x) h = absurd (omega (arith, ap number_of (code_at doing.HostFault d x.0.nothing), ap number_of h))
   lined_written m tree (Ok lines) i o d (inr (inl x)) h = absurd (omega (arith, ap number_of (ap (λ (y : Doing L S K). do_status y.end) x.none), ap number_of h))
   lined_written m tree (Ok lines) i o d (inr (inr x)) h =
-      put_badly d.stop x.failed (told_of tree lines) begun (talking.ends x.held (m.held x.writer) 0 (m.sink_faults x.writer) (m.begins x.link) (m.left x.reader) 0 (m.source_faults x.reader)) o
+      put_badly d.stop x.failed (told_of tree lines) begun (talking.ends x.sink (m.sink x.writer) x.source (m.source x.reader)) o
       (sym (ap do_status x.ended) ∙ h) x.comes
 
-  said_written : (m : Peer L S K) (tree : List ℕ) (i : talks.Given) (o : Output) (d : Doing L S K) → Says m tree i o d → do_status d.end ≡ exit.WriteFault → HasRisen o.faults o.faults_now
+  said_written : (m : Peer L S K) (tree : List ℕ) (i : Given) (o : Seen) (d : Doing L S K) → Says m tree i o d → do_status d.end ≡ exit.WriteFault → HasRisen o.before.faults o.now.faults
   said_written m tree i o d (inl s) h = absurd (omega (arith, ap number_of (code_at doing.ReadFault d s.0.nothing), ap number_of h))
   said_written m tree i o d (inr (inl (long, r))) h = absurd (not_refused 0 (codes "input") o d exit.WriteFault (λ x. absurd (omega (arith, ap number_of x))) (λ x. absurd (omega (arith, ap number_of x))) r h)
   said_written m tree i o d (inr (inr (inl w))) h = absurd (omega (arith, ap number_of (code_at doing.NoMemory d w.nothing), ap number_of h))
@@ -196,23 +195,23 @@ module _ {G L S K : Type 0} where
   no_cause : (d : Doing L S K) (s : Served G L S K) (cause : Ending) → how_ended d.end (is_some d.link) (is_some d.reader) d.stop ≡ Some s.end → s.end ≡ end.Ended cause → ⊥
   no_cause d s cause is e = never_ended d.end (is_some d.link) (is_some d.reader) d.stop cause (is ∙ ap (λ (x : ServedEnd). Some x) e)
 
-  pub complete_at : (status : Status) (m : Outside G L S K) (tree : List ℕ) (i : Given) (o : Output) (d : Doing L S K) → status ≡ do_status d.end → Says (peer_of m) tree (given_of i) o d
-      → IfSome i.told (λ bytes. NothingFails (peer_of m) tree bytes (given_of i) o d → (status ≡ exit.Done) ⊎ (status ≡ exit.NoMemory))
-  complete_at status m tree i o d is says = by_case i.told refl
+  pub complete_at : (status : Status) (m : Outside G L S K) (tree : List ℕ) (i : Given) (o : Seen) (d : Doing L S K) → status ≡ do_status d.end → Says (peer_of m) tree i o d
+      → IfSome i.input.before.bytes (λ bytes. NothingFails (peer_of m) tree bytes i o d → (status ≡ exit.Done) ⊎ (status ≡ exit.NoMemory))
+  complete_at status m tree i o d is says = by_case i.input.before.bytes refl
     where
-      by_case : (t : Option (List ℕ)) → i.told ≡ t → IfSome t (λ bytes. NothingFails (peer_of m) tree bytes (given_of i) o d → (status ≡ exit.Done) ⊎ (status ≡ exit.NoMemory))
+      by_case : (t : Option (List ℕ)) → i.input.before.bytes ≡ t → IfSome t (λ bytes. NothingFails (peer_of m) tree bytes i o d → (status ≡ exit.Done) ⊎ (status ≡ exit.NoMemory))
       by_case None told = tt
-      by_case (Some bytes) told = λ n. good_code d.end status is (says_complete (peer_of m) tree bytes (given_of i) o d told says n)
+      by_case (Some bytes) told = λ n. good_code d.end status is (says_complete (peer_of m) tree bytes i o d told says n)
 
-  module _ (status : Status) (m : Outside G L S K) (tree : List ℕ) (i : Given) (o : Output) (served : List (Served G L S K)) (does : Does status m tree i o served) where
+  module _ (status : Status) (m : Outside G L S K) (tree : List ℕ) (i : Given) (o : Seen) (served : List (Served G L S K)) (does : Does status m tree i o served) where
     pub usage : status ≡ exit.Usage → ⊥
     usage h = no_usage does.doing.end (sym does.coded ∙ h)
 
-    pub read_fault : status ≡ exit.ReadFault → HasRisen i.faults i.faults_now × (o.held_now ≡ o.held)
-    read_fault h = said_read (peer_of m) tree (given_of i) o does.doing does.says (sym does.coded ∙ h)
+    pub read_fault : status ≡ exit.ReadFault → HasRisen i.input.before.faults i.input.now.faults × (o.now.bytes ≡ o.before.bytes)
+    read_fault h = said_read (peer_of m) tree i o does.doing does.says (sym does.coded ∙ h)
 
-    pub write_cause : status ≡ exit.WriteFault → HasRisen o.faults o.faults_now
-    write_cause h = said_written (peer_of m) tree (given_of i) o does.doing does.says (sym does.coded ∙ h)
+    pub write_cause : status ≡ exit.WriteFault → HasRisen o.before.faults o.now.faults
+    write_cause h = said_written (peer_of m) tree i o does.doing does.says (sym does.coded ∙ h)
 
     pub replied : (journal : List Event) → AllByRecursion (GotAll m journal) served
     replied journal = all_of (GotAll m journal) served does.doing does.told (λ s is why sink ended other there fine. absurd (no_cause does.doing s why is ended))
@@ -220,14 +219,14 @@ module _ {G L S K : Type 0} where
     pub sound : (journal : List Event) → AllByRecursion (EndsWell m journal) served
     sound journal = all_of (EndsWell m journal) served does.doing does.told (λ s is cause ended sound. absurd (no_cause does.doing s cause is ended))
 
-  pub of_tree : (status : Status) (m : Outside G L S K) (a b : Tree) (i : Given) (o : Output) (served : List (Served G L S K)) → a ≡ b → Does status m (tree_name a) i o served → Does status m (tree_name b) i o served
+  pub of_tree : (status : Status) (m : Outside G L S K) (a b : Tree) (i : Given) (o : Seen) (served : List (Served G L S K)) → a ≡ b → Does status m (tree_name a) i o served → Does status m (tree_name b) i o served
   of_tree status m a b i o served same d = subst (λ (t : Tree). Does status m (tree_name t) i o served) same d
 
   -- what came of lines
-  pub done : (status : Status) (m : Outside G L S K) (name tree : List ℕ) (i : Given) (o : Output) (served : List (Served G L S K)) (d : Doing L S K) (entry : Option (Served G L S K))
-      → status ≡ do_status d.end → served ≡ listed entry → entry ≡ entry_of d → name ≡ tree → Says (peer_of m) name (given_of i) o d → Does status m tree i o served
+  pub done : (status : Status) (m : Outside G L S K) (name tree : List ℕ) (i : Given) (o : Seen) (served : List (Served G L S K)) (d : Doing L S K) (entry : Option (Served G L S K))
+      → status ≡ do_status d.end → served ≡ listed entry → entry ≡ entry_of d → name ≡ tree → Says (peer_of m) name i o d → Does status m tree i o served
   done status m name tree i o served d entry coded told is same says =
-      let said : Says (peer_of m) tree (given_of i) o d = subst (λ (n : List ℕ). Says (peer_of m) n (given_of i) o d) same says in
+      let said : Says (peer_of m) tree i o d = subst (λ (n : List ℕ). Says (peer_of m) n i o d) same says in
       record {
         doing = d;
         coded = coded;
@@ -237,8 +236,8 @@ module _ {G L S K : Type 0} where
       }
 
   -- memory ran out before the words were read
-  pub idle : (status : Status) (m : Outside G L S K) (tree : List ℕ) (i : Given) (o : Output) (served : List (Served G L S K)) → o.held_now ≡ o.held → status ≡ exit.NoMemory → served ≡ [] → Does status m tree i o served
+  pub idle : (status : Status) (m : Outside G L S K) (tree : List ℕ) (i : Given) (o : Seen) (served : List (Served G L S K)) → o.now.bytes ≡ o.before.bytes → status ≡ exit.NoMemory → served ≡ [] → Does status m tree i o served
   idle status m tree i o served silent is none = record { doing = unlinked doing.NoMemory; coded = is; told = none; says = idly; complete = complete_at status m tree i o (unlinked doing.NoMemory) is idly }
     where
-      idly : Says (peer_of m) tree (given_of i) o (unlinked doing.NoMemory)
+      idly : Says (peer_of m) tree i o (unlinked doing.NoMemory)
       idly = inr (inr (inl (record { nothing = refl; silent = silent })))

@@ -2,7 +2,7 @@
 use Rattle.std.proofs.Common.{◌≡◌, inl, inr, ℕ, List, [], ◌∷◌, ◌++◌, ◌∙◌, sym, subst, arith, ap}
 use Rattle.std.specs.List.{AllByRecursion}
 use Rattle.am_base.specs.Outside.{HasRisen}
-use Rattle.am_base.specs.Written.{Output}
+use Rattle.am_base.specs.Seen.{Seen}
 use Rattle.am_journal.specs.declared.event.Event.{Event}
 use Rattle.am_journal.specs.Lawful.{IsInRange}
 use Rattle.am_counter.specs.Played.{IsPlayed}
@@ -20,16 +20,16 @@ use Rattle.acmefs.specs.Statuses.{number_of}
 
 -- ---- the journal
 
-said-done : (e : DrillEnd) (rounds : ℕ) (o : Output) (journal : List Event) → AreDone [] (events rounds) → DrillSays e rounds o journal → AreDone [] journal
+said-done : (e : DrillEnd) (rounds : ℕ) (o : Seen) (journal : List Event) → AreDone [] (events rounds) → DrillSays e rounds o journal → AreDone [] journal
 said-done end.Done rounds o journal d h = subst (AreDone []) (sym h.0) d
 said-done end.WriteFault rounds o journal d h = subst (AreDone []) (sym h.0) d
 said-done end.NoMemory rounds o journal d h = front-done journal h.0.0 [] (subst (AreDone []) (sym h.0.1) d)
 
-pub drill_trips : (e : DrillEnd) (rounds : ℕ) (o : Output) (journal : List Event) → IsPlayed enabled (events rounds) → AllByRecursion IsInRange (events rounds)
+pub drill_trips : (e : DrillEnd) (rounds : ℕ) (o : Seen) (journal : List Event) → IsPlayed enabled (events rounds) → AllByRecursion IsInRange (events rounds)
     → DrillSays e rounds o journal → RoundTrips journal
 drill_trips e rounds o journal played ranged says = trips journal (said-done e rounds o journal (done-from [] (events rounds) played ranged) says)
 
-pub drill_played : (e : DrillEnd) (rounds : ℕ) (o : Output) (journal : List Event) → IsPlayed enabled (events rounds) → AllByRecursion IsInRange (events rounds)
+pub drill_played : (e : DrillEnd) (rounds : ℕ) (o : Seen) (journal : List Event) → IsPlayed enabled (events rounds) → AllByRecursion IsInRange (events rounds)
     → DrillSays e rounds o journal → IsPlayed enabled journal
 drill_played e rounds o journal played ranged says = played-done [] journal (said-done e rounds o journal (done-from [] (events rounds) played ranged) says)
 
@@ -40,7 +40,7 @@ no_usage end.Done h = absurd (omega (arith, ap number_of h))
 no_usage end.WriteFault h = absurd (omega (arith, ap number_of h))
 no_usage end.NoMemory h = absurd (omega (arith, ap number_of h))
 
-pub drill_usage : (status : Status) (rounds : ℕ) (o : Output) (journal : List Event) → Drilled status rounds o journal → status ≡ exit.Usage → ⊥
+pub drill_usage : (status : Status) (rounds : ℕ) (o : Seen) (journal : List Event) → Drilled status rounds o journal → status ≡ exit.Usage → ⊥
 drill_usage status rounds o journal d h = no_usage d.0 (sym d.1 ∙ h)
 
 no_read_fault : (e : DrillEnd) → drill_status e ≡ exit.ReadFault → ⊥
@@ -48,21 +48,21 @@ no_read_fault end.Done h = absurd (omega (arith, ap number_of h))
 no_read_fault end.WriteFault h = absurd (omega (arith, ap number_of h))
 no_read_fault end.NoMemory h = absurd (omega (arith, ap number_of h))
 
-pub drill_read_fault : (status : Status) (rounds : ℕ) (o : Output) (journal : List Event) → Drilled status rounds o journal → status ≡ exit.ReadFault → ⊥
+pub drill_read_fault : (status : Status) (rounds : ℕ) (o : Seen) (journal : List Event) → Drilled status rounds o journal → status ≡ exit.ReadFault → ⊥
 drill_read_fault status rounds o journal d h = no_read_fault d.0 (sym d.1 ∙ h)
 
-risen_at : (e : DrillEnd) (rounds : ℕ) (o : Output) (journal : List Event) → drill_status e ≡ exit.WriteFault → DrillSays e rounds o journal → HasRisen o.faults o.faults_now
+risen_at : (e : DrillEnd) (rounds : ℕ) (o : Seen) (journal : List Event) → drill_status e ≡ exit.WriteFault → DrillSays e rounds o journal → HasRisen o.before.faults o.now.faults
 risen_at end.Done rounds o journal h says = absurd (omega (arith, ap number_of h))
 risen_at end.WriteFault rounds o journal h says = says.1.risen
 risen_at end.NoMemory rounds o journal h says = absurd (omega (arith, ap number_of h))
 
-pub drill_write_fault : (status : Status) (rounds : ℕ) (o : Output) (journal : List Event) → Drilled status rounds o journal → status ≡ exit.WriteFault → HasRisen o.faults o.faults_now
+pub drill_write_fault : (status : Status) (rounds : ℕ) (o : Seen) (journal : List Event) → Drilled status rounds o journal → status ≡ exit.WriteFault → HasRisen o.before.faults o.now.faults
 drill_write_fault status rounds o journal d h = risen_at d.0 rounds o journal (sym d.1 ∙ h) d.2
 
-complete_at : (e : DrillEnd) (status : Status) (rounds : ℕ) (o : Output) (journal : List Event) → status ≡ drill_status e → DrillSays e rounds o journal → IsDrilled status rounds o journal
+complete_at : (e : DrillEnd) (status : Status) (rounds : ℕ) (o : Seen) (journal : List Event) → status ≡ drill_status e → DrillSays e rounds o journal → IsDrilled status rounds o journal
 complete_at end.Done status rounds o journal h says = λ unrisen. inl (h, says.0, says.1)
 complete_at end.WriteFault status rounds o journal h says = λ unrisen. absurd (unrisen says.1.risen)
 complete_at end.NoMemory status rounds o journal h says = λ unrisen. inr h
 
-pub drill_complete : (rounds asked : ℕ) (status : Status) (o : Output) (journal : List Event) → rounds ≡ asked → Drilled status rounds o journal → IsDrilled status asked o journal
+pub drill_complete : (rounds asked : ℕ) (status : Status) (o : Seen) (journal : List Event) → rounds ≡ asked → Drilled status rounds o journal → IsDrilled status asked o journal
 drill_complete rounds asked status o journal same d = subst (λ (n : ℕ). IsDrilled status n o journal) same (complete_at d.0 status rounds o journal d.1 d.2)

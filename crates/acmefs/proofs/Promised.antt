@@ -1,118 +1,118 @@
 -- What each exit status says, from how the run ended.
 use Rattle.std.proofs.Common.{◌≡◌, inl, inr, ℕ, List, Option, Some, None, sym, subst, arith, ap}
 use Rattle.std.specs.Prelude.{IfSome}
-use Rattle.am_base.specs.Outside.{HasRisen}
+use Rattle.am_base.specs.Outside.{BytesTold, HasRisen}
 use Rattle.am_journal.specs.declared.event.Event.{Event}
 use Rattle.acmefs.specs.declared.replay.End.{End}
 use Rattle.acmefs.specs.declared.replay.End.TheVariants.{Done, Usage, Script, ReadFault, WriteFault, NoMemory}
 use Rattle.acmefs.specs.Scripts.{script_of}
 use Rattle.acmefs.specs.Scripts as scripts
-use Rattle.am_base.specs.Written.{Output}
+use Rattle.am_base.specs.Seen.{Seen}
 use Rattle.acmefs.specs.Ends.{Ran, RanTold, Replays, Says, IsIdle, IsComplete, status_of}
 use Rattle.acmefs.specs.declared.status.Status.{Status}
 use Rattle.acmefs.specs.declared.status.Status.TheVariants as exit
 use Rattle.acmefs.specs.Statuses.{number_of}
 
-told_ran : (end : End) (told : Option (List ℕ)) (o : Output) (journal : List Event) → Replays end told o journal → RanTold end told o journal
+told_ran : (end : End) (told : Option (List ℕ)) (o : Seen) (journal : List Event) → Replays end told o journal → RanTold end told o journal
 told_ran end None o journal r = tt
 told_ran end (Some bytes) o journal r = subst (λ (x : List ℕ). Ran end (script_of x) o journal) (sym r.1) r.2
 
-told_part : (end : End) (status : Status) (told : Option (List ℕ)) (before now : ℕ) (o : Output) (journal : List Event) → Replays end told o journal
+told_part : (end : End) (status : Status) (told : Option (List ℕ)) (before now : BytesTold) (o : Seen) (journal : List Event) → Replays end told o journal
     → ((script : scripts.Script) → Ran end script o journal → IsComplete status script before now o journal) → IfSome told (λ bytes. IsComplete status (script_of bytes) before now o journal)
 told_part end status None before now o journal r f = tt
 told_part end status (Some bytes) before now o journal r f = f (script_of bytes) (subst (λ (x : List ℕ). Ran end (script_of x) o journal) (sym r.1) r.2)
 
 -- status 1 comes only for other words
-pub usage : (end : End) (status : Status) (told : Option (List ℕ)) (before now : ℕ) (o : Output) (journal : List Event)
-    → status ≡ status_of end → Says end told before now o journal → status ≡ exit.Usage → ⊥
-usage Done status told before now o journal e p h = absurd (omega (arith, ap number_of e, ap number_of h))
-usage Usage status told before now o journal e p h = absurd p
-usage Script status told before now o journal e p h = absurd (omega (arith, ap number_of e, ap number_of h))
-usage ReadFault status told before now o journal e p h = absurd (omega (arith, ap number_of e, ap number_of h))
-usage WriteFault status told before now o journal e p h = absurd (omega (arith, ap number_of e, ap number_of h))
-usage NoMemory status told before now o journal e p h = absurd (omega (arith, ap number_of e, ap number_of h))
+pub usage : (end : End) (status : Status) (before now : BytesTold) (o : Seen) (journal : List Event)
+    → status ≡ status_of end → Says end before now o journal → status ≡ exit.Usage → ⊥
+usage Done status before now o journal e p h = absurd (omega (arith, ap number_of e, ap number_of h))
+usage Usage status before now o journal e p h = absurd p
+usage Script status before now o journal e p h = absurd (omega (arith, ap number_of e, ap number_of h))
+usage ReadFault status before now o journal e p h = absurd (omega (arith, ap number_of e, ap number_of h))
+usage WriteFault status before now o journal e p h = absurd (omega (arith, ap number_of e, ap number_of h))
+usage NoMemory status before now o journal e p h = absurd (omega (arith, ap number_of e, ap number_of h))
 
 -- where the input failed nothing is written or done
-pub idle_fault : (end : End) (status : Status) (told : Option (List ℕ)) (before now : ℕ) (o : Output) (journal : List Event)
-    → status ≡ status_of end → Says end told before now o journal → status ≡ exit.ReadFault → IsIdle o journal
-idle_fault Done status told before now o journal e p h = absurd (omega (arith, ap number_of e, ap number_of h))
-idle_fault Usage status told before now o journal e p h = absurd p
-idle_fault Script status told before now o journal e p h = absurd (omega (arith, ap number_of e, ap number_of h))
-idle_fault ReadFault status told before now o journal e p h = p.0
-idle_fault WriteFault status told before now o journal e p h = absurd (omega (arith, ap number_of e, ap number_of h))
-idle_fault NoMemory status told before now o journal e p h = absurd (omega (arith, ap number_of e, ap number_of h))
+pub idle_fault : (end : End) (status : Status) (before now : BytesTold) (o : Seen) (journal : List Event)
+    → status ≡ status_of end → Says end before now o journal → status ≡ exit.ReadFault → IsIdle o journal
+idle_fault Done status before now o journal e p h = absurd (omega (arith, ap number_of e, ap number_of h))
+idle_fault Usage status before now o journal e p h = absurd p
+idle_fault Script status before now o journal e p h = absurd (omega (arith, ap number_of e, ap number_of h))
+idle_fault ReadFault status before now o journal e p h = p.0
+idle_fault WriteFault status before now o journal e p h = absurd (omega (arith, ap number_of e, ap number_of h))
+idle_fault NoMemory status before now o journal e p h = absurd (omega (arith, ap number_of e, ap number_of h))
 
 -- status 3 comes only where the count of the input has risen
-pub read_fault : (end : End) (status : Status) (told : Option (List ℕ)) (before now : ℕ) (o : Output) (journal : List Event)
-    → status ≡ status_of end → Says end told before now o journal → status ≡ exit.ReadFault → HasRisen before now
-read_fault Done status told before now o journal e p h = absurd (omega (arith, ap number_of e, ap number_of h))
-read_fault Usage status told before now o journal e p h = absurd p
-read_fault Script status told before now o journal e p h = absurd (omega (arith, ap number_of e, ap number_of h))
-read_fault ReadFault status told before now o journal e p h = p.1
-read_fault WriteFault status told before now o journal e p h = absurd (omega (arith, ap number_of e, ap number_of h))
-read_fault NoMemory status told before now o journal e p h = absurd (omega (arith, ap number_of e, ap number_of h))
+pub read_fault : (end : End) (status : Status) (before now : BytesTold) (o : Seen) (journal : List Event)
+    → status ≡ status_of end → Says end before now o journal → status ≡ exit.ReadFault → HasRisen before.faults now.faults
+read_fault Done status before now o journal e p h = absurd (omega (arith, ap number_of e, ap number_of h))
+read_fault Usage status before now o journal e p h = absurd p
+read_fault Script status before now o journal e p h = absurd (omega (arith, ap number_of e, ap number_of h))
+read_fault ReadFault status before now o journal e p h = p.1
+read_fault WriteFault status before now o journal e p h = absurd (omega (arith, ap number_of e, ap number_of h))
+read_fault NoMemory status before now o journal e p h = absurd (omega (arith, ap number_of e, ap number_of h))
 
 -- with status 0 all was done and written
-pub done : (end : End) (status : Status) (told : Option (List ℕ)) (before now : ℕ) (o : Output) (journal : List Event)
-    → status ≡ status_of end → Says end told before now o journal → status ≡ exit.Done → RanTold Done told o journal
-done Done status told before now o journal e p h = told_ran Done told o journal p
-done Usage status told before now o journal e p h = absurd p
-done Script status told before now o journal e p h = absurd (omega (arith, ap number_of e, ap number_of h))
-done ReadFault status told before now o journal e p h = absurd (omega (arith, ap number_of e, ap number_of h))
-done WriteFault status told before now o journal e p h = absurd (omega (arith, ap number_of e, ap number_of h))
-done NoMemory status told before now o journal e p h = absurd (omega (arith, ap number_of e, ap number_of h))
+pub done : (end : End) (status : Status) (before now : BytesTold) (o : Seen) (journal : List Event)
+    → status ≡ status_of end → Says end before now o journal → status ≡ exit.Done → RanTold Done before.bytes o journal
+done Done status before now o journal e p h = told_ran Done before.bytes o journal p
+done Usage status before now o journal e p h = absurd p
+done Script status before now o journal e p h = absurd (omega (arith, ap number_of e, ap number_of h))
+done ReadFault status before now o journal e p h = absurd (omega (arith, ap number_of e, ap number_of h))
+done WriteFault status before now o journal e p h = absurd (omega (arith, ap number_of e, ap number_of h))
+done NoMemory status before now o journal e p h = absurd (omega (arith, ap number_of e, ap number_of h))
 
 -- with status 2 a line is refused
-pub script : (end : End) (status : Status) (told : Option (List ℕ)) (before now : ℕ) (o : Output) (journal : List Event)
-    → status ≡ status_of end → Says end told before now o journal → status ≡ exit.Refused → RanTold Script told o journal
-script Done status told before now o journal e p h = absurd (omega (arith, ap number_of e, ap number_of h))
-script Usage status told before now o journal e p h = absurd p
-script Script status told before now o journal e p h = told_ran Script told o journal p
-script ReadFault status told before now o journal e p h = absurd (omega (arith, ap number_of e, ap number_of h))
-script WriteFault status told before now o journal e p h = absurd (omega (arith, ap number_of e, ap number_of h))
-script NoMemory status told before now o journal e p h = absurd (omega (arith, ap number_of e, ap number_of h))
+pub script : (end : End) (status : Status) (before now : BytesTold) (o : Seen) (journal : List Event)
+    → status ≡ status_of end → Says end before now o journal → status ≡ exit.Refused → RanTold Script before.bytes o journal
+script Done status before now o journal e p h = absurd (omega (arith, ap number_of e, ap number_of h))
+script Usage status before now o journal e p h = absurd p
+script Script status before now o journal e p h = told_ran Script before.bytes o journal p
+script ReadFault status before now o journal e p h = absurd (omega (arith, ap number_of e, ap number_of h))
+script WriteFault status before now o journal e p h = absurd (omega (arith, ap number_of e, ap number_of h))
+script NoMemory status before now o journal e p h = absurd (omega (arith, ap number_of e, ap number_of h))
 
 -- with status 4 all was done and a front was written
-pub write_fault : (end : End) (status : Status) (told : Option (List ℕ)) (before now : ℕ) (o : Output) (journal : List Event)
-    → status ≡ status_of end → Says end told before now o journal → status ≡ exit.WriteFault → RanTold WriteFault told o journal
-write_fault Done status told before now o journal e p h = absurd (omega (arith, ap number_of e, ap number_of h))
-write_fault Usage status told before now o journal e p h = absurd p
-write_fault Script status told before now o journal e p h = absurd (omega (arith, ap number_of e, ap number_of h))
-write_fault ReadFault status told before now o journal e p h = absurd (omega (arith, ap number_of e, ap number_of h))
-write_fault WriteFault status told before now o journal e p h = told_ran WriteFault told o journal p
-write_fault NoMemory status told before now o journal e p h = absurd (omega (arith, ap number_of e, ap number_of h))
+pub write_fault : (end : End) (status : Status) (before now : BytesTold) (o : Seen) (journal : List Event)
+    → status ≡ status_of end → Says end before now o journal → status ≡ exit.WriteFault → RanTold WriteFault before.bytes o journal
+write_fault Done status before now o journal e p h = absurd (omega (arith, ap number_of e, ap number_of h))
+write_fault Usage status before now o journal e p h = absurd p
+write_fault Script status before now o journal e p h = absurd (omega (arith, ap number_of e, ap number_of h))
+write_fault ReadFault status before now o journal e p h = absurd (omega (arith, ap number_of e, ap number_of h))
+write_fault WriteFault status before now o journal e p h = told_ran WriteFault before.bytes o journal p
+write_fault NoMemory status before now o journal e p h = absurd (omega (arith, ap number_of e, ap number_of h))
 
 -- with status 6 memory ran out
-pub no_memory : (end : End) (status : Status) (told : Option (List ℕ)) (before now : ℕ) (o : Output) (journal : List Event)
-    → status ≡ status_of end → Says end told before now o journal → status ≡ exit.NoMemory → RanTold NoMemory told o journal
-no_memory Done status told before now o journal e p h = absurd (omega (arith, ap number_of e, ap number_of h))
-no_memory Usage status told before now o journal e p h = absurd p
-no_memory Script status told before now o journal e p h = absurd (omega (arith, ap number_of e, ap number_of h))
-no_memory ReadFault status told before now o journal e p h = absurd (omega (arith, ap number_of e, ap number_of h))
-no_memory WriteFault status told before now o journal e p h = absurd (omega (arith, ap number_of e, ap number_of h))
-no_memory NoMemory status told before now o journal e p h = told_ran NoMemory told o journal p
+pub no_memory : (end : End) (status : Status) (before now : BytesTold) (o : Seen) (journal : List Event)
+    → status ≡ status_of end → Says end before now o journal → status ≡ exit.NoMemory → RanTold NoMemory before.bytes o journal
+no_memory Done status before now o journal e p h = absurd (omega (arith, ap number_of e, ap number_of h))
+no_memory Usage status before now o journal e p h = absurd p
+no_memory Script status before now o journal e p h = absurd (omega (arith, ap number_of e, ap number_of h))
+no_memory ReadFault status before now o journal e p h = absurd (omega (arith, ap number_of e, ap number_of h))
+no_memory WriteFault status before now o journal e p h = absurd (omega (arith, ap number_of e, ap number_of h))
+no_memory NoMemory status before now o journal e p h = told_ran NoMemory before.bytes o journal p
 
 -- status 4 comes only where the count of the output has risen
-pub write_cause : (end : End) (status : Status) (told : Option (List ℕ)) (before now : ℕ) (o : Output) (journal : List Event)
-    → status ≡ status_of end → Says end told before now o journal → status ≡ exit.WriteFault → HasRisen o.faults o.faults_now
-write_cause Done status told before now o journal e p h = absurd (omega (arith, ap number_of e, ap number_of h))
-write_cause Usage status told before now o journal e p h = absurd p
-write_cause Script status told before now o journal e p h = absurd (omega (arith, ap number_of e, ap number_of h))
-write_cause ReadFault status told before now o journal e p h = absurd (omega (arith, ap number_of e, ap number_of h))
-write_cause WriteFault status told before now o journal e p h = p.2.2.risen
-write_cause NoMemory status told before now o journal e p h = absurd (omega (arith, ap number_of e, ap number_of h))
+pub write_cause : (end : End) (status : Status) (before now : BytesTold) (o : Seen) (journal : List Event)
+    → status ≡ status_of end → Says end before now o journal → status ≡ exit.WriteFault → HasRisen o.before.faults o.now.faults
+write_cause Done status before now o journal e p h = absurd (omega (arith, ap number_of e, ap number_of h))
+write_cause Usage status before now o journal e p h = absurd p
+write_cause Script status before now o journal e p h = absurd (omega (arith, ap number_of e, ap number_of h))
+write_cause ReadFault status before now o journal e p h = absurd (omega (arith, ap number_of e, ap number_of h))
+write_cause WriteFault status before now o journal e p h = p.2.2.risen
+write_cause NoMemory status before now o journal e p h = absurd (omega (arith, ap number_of e, ap number_of h))
 
-risen_in : (told : Option (List ℕ)) (status : Status) (before now : ℕ) (o : Output) (journal : List Event) → HasRisen before now
+risen_in : (told : Option (List ℕ)) (status : Status) (before now : BytesTold) (o : Seen) (journal : List Event) → HasRisen before.faults now.faults
     → IfSome told (λ bytes. IsComplete status (script_of bytes) before now o journal)
 risen_in None status before now o journal r = tt
 risen_in (Some bytes) status before now o journal r = λ none in_ok out_ok. absurd (in_ok r)
 
 -- an input of enabled events with no fault outside is done and written whole, or memory ran out
-pub complete : (end : End) (status : Status) (told : Option (List ℕ)) (before now : ℕ) (o : Output) (journal : List Event)
-    → status ≡ status_of end → Says end told before now o journal → IfSome told (λ bytes. IsComplete status (script_of bytes) before now o journal)
-complete Done status told before now o journal e p = told_part Done status told before now o journal p (λ s r none in_ok out_ok. inl (e, r))
-complete Usage status told before now o journal e p = absurd p
-complete Script status told before now o journal e p = told_part Script status told before now o journal p (λ s r none in_ok out_ok. absurd (let a = r.1.1 in cc))
-complete ReadFault status told before now o journal e p = risen_in told status before now o journal p.1
-complete WriteFault status told before now o journal e p = told_part WriteFault status told before now o journal p (λ s r none in_ok out_ok. absurd (out_ok r.2.risen))
-complete NoMemory status told before now o journal e p = told_part NoMemory status told before now o journal p (λ s r none in_ok out_ok. inr e)
+pub complete : (end : End) (status : Status) (before now : BytesTold) (o : Seen) (journal : List Event)
+    → status ≡ status_of end → Says end before now o journal → IfSome before.bytes (λ bytes. IsComplete status (script_of bytes) before now o journal)
+complete Done status before now o journal e p = told_part Done status before.bytes before now o journal p (λ s r none in_ok out_ok. inl (e, r))
+complete Usage status before now o journal e p = absurd p
+complete Script status before now o journal e p = told_part Script status before.bytes before now o journal p (λ s r none in_ok out_ok. absurd (let a = r.1.1 in cc))
+complete ReadFault status before now o journal e p = risen_in before.bytes status before now o journal p.1
+complete WriteFault status before now o journal e p = told_part WriteFault status before.bytes before now o journal p (λ s r none in_ok out_ok. absurd (out_ok r.2.risen))
+complete NoMemory status before now o journal e p = told_part NoMemory status before.bytes before now o journal p (λ s r none in_ok out_ok. inr e)

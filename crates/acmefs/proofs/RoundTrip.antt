@@ -1,5 +1,6 @@
 -- A journal's lines, and then its report, give that journal again.
 use Rattle.std.proofs.Common.{◌≡◌, ℕ, ◌+◌, Bool, true, false, cond, ltb, List, [], ◌∷◌, ◌++◌, map, length, codes, Option, Some, None, refl, sym, ap, subst, ◌∙◌, append_assoc}
+use Rattle.am_base.specs.Outside.{BytesTold}
 use Rattle.std.proofs.lemmas.List.{append-nil}
 use Rattle.am_text.specs.Lines.{lines_of}
 use Rattle.am_journal.specs.declared.event.Event.{Event}
@@ -18,7 +19,7 @@ use Rattle.acmefs.specs.declared.replay.End.{End}
 use Rattle.acmefs.specs.declared.replay.End.TheVariants as ends
 use Rattle.acmefs.specs.Scripts.{Script, ended, refused_at, play, play_line, play_event, script_of, text_of}
 use Rattle.am_base.specs.Stops.{input_limit}
-use Rattle.am_base.specs.Written.{Output}
+use Rattle.am_base.specs.Seen.{Seen}
 use Rattle.acmefs.specs.Ends.{Ran, Says}
 use Rattle.acmefs.specs.Own.{transcript_of, RoundTrips}
 use Rattle.acmefs.proofs.Ran.{short_script}
@@ -88,7 +89,7 @@ script-done bytes =
       | false ↦ let g = play-goes (lines_of bytes) [] 1 in subst (AreDone []) (sym g.are) g.done
     ]
 
-ran-done : (end : End) (script : Script) (o : Output) (journal : List Event) → AreDone [] script.events → Ran end script o journal → AreDone [] journal
+ran-done : (end : End) (script : Script) (o : Seen) (journal : List Event) → AreDone [] script.events → Ran end script o journal → AreDone [] journal
 ran-done ends.Done script o journal d h = subst (AreDone []) (sym h.0) d
 ran-done ends.Usage script o journal d h = absurd h
 ran-done ends.Script script o journal d h = subst (AreDone []) (sym h.0) d
@@ -99,13 +100,13 @@ ran-done ends.NoMemory script o journal d h = front-done journal h.events.0 [] (
 pub none-done : (journal : List Event) → journal ≡ [] → AreDone [] journal
 none-done journal e = subst (AreDone []) (sym e) tt
 
-says-done : (end : End) (told : Option (List ℕ)) (before now : ℕ) (o : Output) (journal : List Event) → Says end told before now o journal → AreDone [] journal
-says-done ends.Done told before now o journal h = ran-done ends.Done (script_of h.0) o journal (script-done h.0) h.2
-says-done ends.Usage told before now o journal h = absurd h
-says-done ends.Script told before now o journal h = ran-done ends.Script (script_of h.0) o journal (script-done h.0) h.2
-says-done ends.ReadFault told before now o journal h = none-done journal h.0.empty
-says-done ends.WriteFault told before now o journal h = ran-done ends.WriteFault (script_of h.0) o journal (script-done h.0) h.2
-says-done ends.NoMemory told before now o journal h = ran-done ends.NoMemory (script_of h.0) o journal (script-done h.0) h.2
+says-done : (end : End) (before now : BytesTold) (o : Seen) (journal : List Event) → Says end before now o journal → AreDone [] journal
+says-done ends.Done before now o journal h = ran-done ends.Done (script_of h.0) o journal (script-done h.0) h.2
+says-done ends.Usage before now o journal h = absurd h
+says-done ends.Script before now o journal h = ran-done ends.Script (script_of h.0) o journal (script-done h.0) h.2
+says-done ends.ReadFault before now o journal h = none-done journal h.0.empty
+says-done ends.WriteFault before now o journal h = ran-done ends.WriteFault (script_of h.0) o journal (script-done h.0) h.2
+says-done ends.NoMemory before now o journal h = ran-done ends.NoMemory (script_of h.0) o journal (script-done h.0) h.2
 
 -- ---- their lines
 
@@ -153,8 +154,8 @@ trips journal d =
       again = λ short. let again = sym (short_script (transcript_of journal) short) ∙ read in record { events = again; text = ap text_of again };
     }
 
-pub says_trips : (end : End) (told : Option (List ℕ)) (before now : ℕ) (o : Output) (journal : List Event) → Says end told before now o journal → RoundTrips journal
-says_trips end told before now o journal h = trips journal (says-done end told before now o journal h)
+pub says_trips : (end : End) (before now : BytesTold) (o : Seen) (journal : List Event) → Says end before now o journal → RoundTrips journal
+says_trips end before now o journal h = trips journal (says-done end before now o journal h)
 
-pub says_played : (end : End) (told : Option (List ℕ)) (before now : ℕ) (o : Output) (journal : List Event) → Says end told before now o journal → IsPlayed enabled journal
-says_played end told before now o journal h = played-done [] journal (says-done end told before now o journal h)
+pub says_played : (end : End) (before now : BytesTold) (o : Seen) (journal : List Event) → Says end before now o journal → IsPlayed enabled journal
+says_played end before now o journal h = played-done [] journal (says-done end before now o journal h)

@@ -9,19 +9,18 @@ use Rattle.am_serve.specs.declared.scripting.ScriptEnd.TheVariants as script
 use Rattle.am_slots.specs.Slots.{Outside}
 use Rattle.am_slots.specs.declared.slot.Slot.{Slot}
 use Rattle.am_server.specs.Ends as ends
-use Rattle.am_server.specs.Ends.{SaysServe, Given, AllDone, end_at, end_done, wants_untold, Writes}
+use Rattle.am_server.specs.Ends.{SaysServe, AllDone, end_at, end_done, wants_untold, Writes}
 use Rattle.am_server.specs.Complete.{IsComplete}
 use Rattle.am_server.specs.Replied.{GotAll}
 use Rattle.am_server.specs.Sound.{EndsWell}
 use Rattle.am_server.proofs.Completing.{says_complete}
 use Rattle.acmefs.proofs.RoundTrip.{AreDone, done-from, none-done}
 use Rattle.am_server.specs.Texts.{has_failed}
-use Rattle.am_base.specs.Written as put
 use Rattle.am_server.specs.declared.served.Served.{Served}
 use Rattle.am_server.specs.declared.writing.ServeEnd.{ServeEnd}
 use Rattle.am_server.specs.declared.writing.ServeEnd.TheVariants as end
 use Rattle.acmefs.specs.Ends.{IsServeComplete, serve_status}
-use Rattle.am_base.specs.Written.{Output}
+use Rattle.am_base.specs.Seen.{Given, Seen}
 use Rattle.acmefs.specs.declared.status.Status.{Status}
 use Rattle.acmefs.specs.declared.status.Status.TheVariants as exit
 use Rattle.acmefs.specs.Statuses.{number_of}
@@ -72,22 +71,22 @@ module _ {G L S K : Type 0} where
   no_write_fault slots script.Done h =
       host_or (list_any has_failed slots) (end_done (list_any wants_untold slots) false) exit.WriteFault (λ x. absurd (omega (arith, ap number_of x))) (whole_or (list_any wants_untold slots)) h
 
-  writes_read : (slots : List (Slot G L S K)) (s : ScriptEnd) (o : put.Output) (text : List ℕ) (e : ServeEnd) → serve_status e ≡ exit.ReadFault → Writes slots s o text e → ⊥
+  writes_read : (slots : List (Slot G L S K)) (s : ScriptEnd) (o : Seen) (text : List ℕ) (e : ServeEnd) → serve_status e ≡ exit.ReadFault → Writes slots s o text e → ⊥
   writes_read slots s o text e h (inl w) = no_read_fault slots s false (ap serve_status (sym w.0) ∙ h)
   writes_read slots s o text e h (inr (inl w)) = no_read_fault slots s true (ap serve_status (sym w.0) ∙ h)
   writes_read slots s o text e h (inr (inr w)) = absurd (omega (arith, ap number_of (ap serve_status w.0), ap number_of h))
 
-  writes_fault : (slots : List (Slot G L S K)) (s : ScriptEnd) (o : put.Output) (text : List ℕ) (e : ServeEnd) → serve_status e ≡ exit.WriteFault → Writes slots s o text e → HasRisen o.faults o.faults_now
+  writes_fault : (slots : List (Slot G L S K)) (s : ScriptEnd) (o : Seen) (text : List ℕ) (e : ServeEnd) → serve_status e ≡ exit.WriteFault → Writes slots s o text e → HasRisen o.before.faults o.now.faults
   writes_fault slots s o text e h (inl w) = absurd (no_write_fault slots s (ap serve_status (sym w.0) ∙ h))
   writes_fault slots s o text e h (inr (inl w)) = w.1.risen
   writes_fault slots s o text e h (inr (inr w)) = absurd (omega (arith, ap number_of (ap serve_status w.0), ap number_of h))
 
-  too_long_ends : (o : put.Output) (journal : List Event) (served : List (Served G L S K)) (e : ServeEnd) → ends.IsTooLong o journal served e → (serve_status e ≡ exit.Refused) ⊎ (serve_status e ≡ exit.NoMemory)
+  too_long_ends : (o : Seen) (journal : List Event) (served : List (Served G L S K)) (e : ServeEnd) → ends.IsTooLong o journal served e → (serve_status e ≡ exit.Refused) ⊎ (serve_status e ≡ exit.NoMemory)
   too_long_ends o journal served e t = ⊎_elim (λ w. inl (ap serve_status w.0)) (λ w. inr (ap serve_status w.0)) t.put
 
   -- status 3 comes only where the input's count has risen
-  pub serve_read_fault : (m : Outside G L S K) (path : List ℕ) (clients : ℕ) (i : Given) (o : put.Output) (journal : List Event) (served : List (Served G L S K)) (status : Status) (e : ServeEnd)
-      → status ≡ serve_status e → SaysServe m path clients i o journal served e → status ≡ exit.ReadFault → HasRisen i.faults i.faults_now × ends.IsIdle o journal served
+  pub serve_read_fault : (m : Outside G L S K) (path : List ℕ) (clients : ℕ) (i : Given) (o : Seen) (journal : List Event) (served : List (Served G L S K)) (status : Status) (e : ServeEnd)
+      → status ≡ serve_status e → SaysServe m path clients i o journal served e → status ≡ exit.ReadFault → HasRisen i.input.before.faults i.input.now.faults × ends.IsIdle o journal served
   serve_read_fault m path clients i o journal served status e is (inl s) h = (s.1, s.2)
   serve_read_fault m path clients i o journal served status e is (inr (inl (long, t))) h =
       ⊎_elim (λ (x : serve_status e ≡ exit.Refused). absurd (omega (arith, ap number_of x, ap number_of is, ap number_of h))) (λ (x : serve_status e ≡ exit.NoMemory). absurd (omega (arith, ap number_of x, ap number_of is, ap number_of h))) (too_long_ends o journal served e t)
@@ -95,8 +94,8 @@ module _ {G L S K : Type 0} where
   serve_read_fault m path clients i o journal served status e is (inr (inr (inr (lines, told, fits, s)))) h = absurd (writes_read s.slots s.done o _ e (sym is ∙ h) s.writes)
 
   -- status 4 comes only where the output's count has risen
-  pub serve_write_fault : (m : Outside G L S K) (path : List ℕ) (clients : ℕ) (i : Given) (o : put.Output) (journal : List Event) (served : List (Served G L S K)) (status : Status) (e : ServeEnd)
-      → status ≡ serve_status e → SaysServe m path clients i o journal served e → status ≡ exit.WriteFault → HasRisen o.faults o.faults_now
+  pub serve_write_fault : (m : Outside G L S K) (path : List ℕ) (clients : ℕ) (i : Given) (o : Seen) (journal : List Event) (served : List (Served G L S K)) (status : Status) (e : ServeEnd)
+      → status ≡ serve_status e → SaysServe m path clients i o journal served e → status ≡ exit.WriteFault → HasRisen o.before.faults o.now.faults
   serve_write_fault m path clients i o journal served status e is (inl s) h = absurd (omega (arith, ap number_of (ap serve_status s.0), ap number_of is, ap number_of h))
   serve_write_fault m path clients i o journal served status e is (inr (inl (long, t))) h =
       ⊎_elim (λ (x : serve_status e ≡ exit.Refused). absurd (omega (arith, ap number_of x, ap number_of is, ap number_of h))) (λ (x : serve_status e ≡ exit.NoMemory). absurd (omega (arith, ap number_of x, ap number_of is, ap number_of h))) (too_long_ends o journal served e t)
@@ -108,7 +107,7 @@ module _ {G L S K : Type 0} where
   none_replied m journal served none = subst (λ (l : List (Served G L S K)). AllByRecursion (GotAll m journal) l) (sym none) tt
 
   -- with status 0 and 4 each sink that has not failed got all replies
-  pub serve_replied : (m : Outside G L S K) (path : List ℕ) (clients : ℕ) (i : Given) (o : put.Output) (journal : List Event) (served : List (Served G L S K)) (status : Status) (e : ServeEnd)
+  pub serve_replied : (m : Outside G L S K) (path : List ℕ) (clients : ℕ) (i : Given) (o : Seen) (journal : List Event) (served : List (Served G L S K)) (status : Status) (e : ServeEnd)
       → status ≡ serve_status e → SaysServe m path clients i o journal served e → (status ≡ exit.Done) ⊎ (status ≡ exit.WriteFault) → AllByRecursion (GotAll m journal) served
   serve_replied m path clients i o journal served status e is (inl s) h = none_replied m journal served s.2.none
   serve_replied m path clients i o journal served status e is (inr (inl (long, t))) h = none_replied m journal served t.none
@@ -121,7 +120,7 @@ module _ {G L S K : Type 0} where
   none_ended m journal served none = subst (λ (l : List (Served G L S K)). AllByRecursion (EndsWell m journal) l) (sym none) tt
 
   -- a connection with sound objects ends well
-  pub serve_sound : (m : Outside G L S K) (path : List ℕ) (clients : ℕ) (i : Given) (o : put.Output) (journal : List Event) (served : List (Served G L S K)) (e : ServeEnd)
+  pub serve_sound : (m : Outside G L S K) (path : List ℕ) (clients : ℕ) (i : Given) (o : Seen) (journal : List Event) (served : List (Served G L S K)) (e : ServeEnd)
       → SaysServe m path clients i o journal served e → AllByRecursion (EndsWell m journal) served
   serve_sound m path clients i o journal served e (inl s) = none_ended m journal served s.2.none
   serve_sound m path clients i o journal served e (inr (inl (long, t))) = none_ended m journal served t.none
@@ -129,41 +128,41 @@ module _ {G L S K : Type 0} where
   serve_sound m path clients i o journal served e (inr (inr (inr (lines, told, fits, s)))) = s.sound
 
   -- the journal's events were enabled, and their numbers fit their fields
-  pub serve_done : (m : Outside G L S K) (path : List ℕ) (clients : ℕ) (i : Given) (o : put.Output) (journal : List Event) (served : List (Served G L S K)) (e : ServeEnd)
+  pub serve_done : (m : Outside G L S K) (path : List ℕ) (clients : ℕ) (i : Given) (o : Seen) (journal : List Event) (served : List (Served G L S K)) (e : ServeEnd)
       → SaysServe m path clients i o journal served e → AreDone [] journal
   serve_done m path clients i o journal served e (inl s) = none-done journal s.2.empty
   serve_done m path clients i o journal served e (inr (inl (long, t))) = none-done journal t.empty
   serve_done m path clients i o journal served e (inr (inr (inl w))) = none-done journal w.1.empty
   serve_done m path clients i o journal served e (inr (inr (inr (lines, told, fits, s)))) = done-from [] journal s.played s.in_range
 
-  complete_as : (m : Outside G L S K) (clients : ℕ) (lines : List ℕ) (i : Given) (o : put.Output) (journal : List Event) (served : List (Served G L S K)) (status : Status) (e : ServeEnd)
+  complete_as : (m : Outside G L S K) (clients : ℕ) (lines : List ℕ) (i : Given) (o : Seen) (journal : List Event) (served : List (Served G L S K)) (status : Status) (e : ServeEnd)
       → status ≡ serve_status e → IsComplete m clients lines i o journal served e → IsServeComplete status m clients lines i o journal served
   complete_as m clients lines i o journal served status e is h = λ n. ⊎_elim (λ w. inl (is ∙ ap serve_status w.0, w.1)) (λ w. inr (is ∙ ap serve_status w)) (h n)
 
   -- a script that tells its bytes is done, and its text written, where nothing fails
-  pub serve_complete : (m : Outside G L S K) (path : List ℕ) (clients : ℕ) (i : Given) (o : put.Output) (journal : List Event) (served : List (Served G L S K)) (status : Status) (e : ServeEnd)
-      → status ≡ serve_status e → SaysServe m path clients i o journal served e → IfSome i.told (λ bytes. IsServeComplete status m clients bytes i o journal served)
-  serve_complete m path clients i o journal served status e is says = by_case i.told refl
+  pub serve_complete : (m : Outside G L S K) (path : List ℕ) (clients : ℕ) (i : Given) (o : Seen) (journal : List Event) (served : List (Served G L S K)) (status : Status) (e : ServeEnd)
+      → status ≡ serve_status e → SaysServe m path clients i o journal served e → IfSome i.input.before.bytes (λ bytes. IsServeComplete status m clients bytes i o journal served)
+  serve_complete m path clients i o journal served status e is says = by_case i.input.before.bytes refl
     where
-      by_case : (t : Option (List ℕ)) → i.told ≡ t → IfSome t (λ bytes. IsServeComplete status m clients bytes i o journal served)
+      by_case : (t : Option (List ℕ)) → i.input.before.bytes ≡ t → IfSome t (λ bytes. IsServeComplete status m clients bytes i o journal served)
       by_case None told = tt
       by_case (Some bytes) told = complete_as m clients bytes i o journal served status e is (says_complete m path clients bytes i o journal served e told says)
 
-  pub none_complete : (m : Outside G L S K) (clients : ℕ) (told : Option (List ℕ)) (i : Given) (o : put.Output) (journal : List Event) (served : List (Served G L S K)) (status : Status)
+  pub none_complete : (m : Outside G L S K) (clients : ℕ) (told : Option (List ℕ)) (i : Given) (o : Seen) (journal : List Event) (served : List (Served G L S K)) (status : Status)
       → status ≡ exit.NoMemory → IfSome told (λ bytes. IsServeComplete status m clients bytes i o journal served)
   none_complete m clients None i o journal served status is = tt
   none_complete m clients (Some bytes) i o journal served status is = λ h. inr is
 
-  pub complete_at : (m : Outside G L S K) (a b : ℕ) (told : Option (List ℕ)) (i : Given) (o : put.Output) (journal : List Event) (served : List (Served G L S K)) (status : Status)
+  pub complete_at : (m : Outside G L S K) (a b : ℕ) (told : Option (List ℕ)) (i : Given) (o : Seen) (journal : List Event) (served : List (Served G L S K)) (status : Status)
       → a ≡ b → IfSome told (λ bytes. IsServeComplete status m a bytes i o journal served) → IfSome told (λ bytes. IsServeComplete status m b bytes i o journal served)
   complete_at m a b told i o journal served status same h = subst (λ (n : ℕ). IfSome told (λ bytes. IsServeComplete status m n bytes i o journal served)) same h
 
 module _ {G L S K : Type 0} where
   -- a status of serving, and what it says
-  abbrev pub Said : Outside G L S K → List ℕ → ℕ → Given → put.Output → List Event → List (Served G L S K) → Status → Type 0
+  abbrev pub Said : Outside G L S K → List ℕ → ℕ → Given → Seen → List Event → List (Served G L S K) → Status → Type 0
   Said m path clients i o journal served status = (e : ServeEnd) × (status ≡ serve_status e) × SaysServe m path clients i o journal served e
 
-  pub at_path : (m : Outside G L S K) (p q : List ℕ) (a b : ℕ) (i : Given) (o : put.Output) (journal : List Event) (served : List (Served G L S K)) (status : Status)
+  pub at_path : (m : Outside G L S K) (p q : List ℕ) (a b : ℕ) (i : Given) (o : Seen) (journal : List Event) (served : List (Served G L S K)) (status : Status)
       → p ≡ q → a ≡ b → Said m p a i o journal served status → Said m q b i o journal served status
   at_path m p q a b i o journal served status e f s =
       subst (λ (x : List ℕ). Said m x b i o journal served status) e (subst (λ (x : ℕ). Said m p x i o journal served status) f s)

@@ -1,8 +1,8 @@
 -- What a trace comes to, from how it ended.
 use Rattle.std.proofs.Common.{◌≡◌, ◌⊎◌, inl, inr, ℕ, List, [], Option, Some, None, refl, sym, ap, subst, arith}
 use Rattle.std.specs.Prelude.{IfSome}
-use Rattle.am_base.specs.Outside.{AreTold, HasRisen}
-use Rattle.am_base.specs.Written.{Output}
+use Rattle.am_base.specs.Outside.{BytesTold, AreTold, HasRisen}
+use Rattle.am_base.specs.Seen.{Seen, seen}
 use Rattle.am_journal.specs.declared.event.Event.{Event}
 use Rattle.am_counter.specs.Played.{IsPlayed}
 use Rattle.acme_core.specs.Run.{enabled}
@@ -23,56 +23,56 @@ use Rattle.acmefs.specs.Statuses.{number_of}
 
 -- ---- its statuses
 
-pub usage : (end : End) (status : Status) (told : Option (List ℕ)) (before now : ℕ) (o : Output) (journal : List Event)
-    → status ≡ status_of end → TraceSays end told before now o journal → status ≡ exit.Usage → ⊥
-usage Done status told before now o journal e p h = absurd (omega (arith, ap number_of e, ap number_of h))
-usage Usage status told before now o journal e p h = absurd p
-usage Script status told before now o journal e p h = absurd (omega (arith, ap number_of e, ap number_of h))
-usage ReadFault status told before now o journal e p h = absurd (omega (arith, ap number_of e, ap number_of h))
-usage WriteFault status told before now o journal e p h = absurd (omega (arith, ap number_of e, ap number_of h))
-usage NoMemory status told before now o journal e p h = absurd (omega (arith, ap number_of e, ap number_of h))
+pub usage : (end : End) (status : Status) (before now : BytesTold) (o : Seen) (journal : List Event)
+    → status ≡ status_of end → TraceSays end before now o journal → status ≡ exit.Usage → ⊥
+usage Done status before now o journal e p h = absurd (omega (arith, ap number_of e, ap number_of h))
+usage Usage status before now o journal e p h = absurd p
+usage Script status before now o journal e p h = absurd (omega (arith, ap number_of e, ap number_of h))
+usage ReadFault status before now o journal e p h = absurd (omega (arith, ap number_of e, ap number_of h))
+usage WriteFault status before now o journal e p h = absurd (omega (arith, ap number_of e, ap number_of h))
+usage NoMemory status before now o journal e p h = absurd (omega (arith, ap number_of e, ap number_of h))
 
-pub read_fault : (end : End) (status : Status) (told : Option (List ℕ)) (before now : ℕ) (o : Output) (journal : List Event)
-    → status ≡ status_of end → TraceSays end told before now o journal → status ≡ exit.ReadFault → IsIdle o journal × HasRisen before now
-read_fault Done status told before now o journal e p h = absurd (omega (arith, ap number_of e, ap number_of h))
-read_fault Usage status told before now o journal e p h = absurd p
-read_fault Script status told before now o journal e p h = absurd (omega (arith, ap number_of e, ap number_of h))
-read_fault ReadFault status told before now o journal e p h = p
-read_fault WriteFault status told before now o journal e p h = absurd (omega (arith, ap number_of e, ap number_of h))
-read_fault NoMemory status told before now o journal e p h = absurd (omega (arith, ap number_of e, ap number_of h))
+pub read_fault : (end : End) (status : Status) (before now : BytesTold) (o : Seen) (journal : List Event)
+    → status ≡ status_of end → TraceSays end before now o journal → status ≡ exit.ReadFault → IsIdle o journal × HasRisen before.faults now.faults
+read_fault Done status before now o journal e p h = absurd (omega (arith, ap number_of e, ap number_of h))
+read_fault Usage status before now o journal e p h = absurd p
+read_fault Script status before now o journal e p h = absurd (omega (arith, ap number_of e, ap number_of h))
+read_fault ReadFault status before now o journal e p h = p
+read_fault WriteFault status before now o journal e p h = absurd (omega (arith, ap number_of e, ap number_of h))
+read_fault NoMemory status before now o journal e p h = absurd (omega (arith, ap number_of e, ap number_of h))
 
-pub write_cause : (end : End) (status : Status) (told : Option (List ℕ)) (before now : ℕ) (o : Output) (journal : List Event)
-    → status ≡ status_of end → TraceSays end told before now o journal → status ≡ exit.WriteFault → HasRisen o.faults o.faults_now
-write_cause Done status told before now o journal e p h = absurd (omega (arith, ap number_of e, ap number_of h))
-write_cause Usage status told before now o journal e p h = absurd p
-write_cause Script status told before now o journal e p h = absurd (omega (arith, ap number_of e, ap number_of h))
-write_cause ReadFault status told before now o journal e p h = absurd (omega (arith, ap number_of e, ap number_of h))
-write_cause WriteFault status told before now o journal e p h = p.2.2.risen
-write_cause NoMemory status told before now o journal e p h = absurd (omega (arith, ap number_of e, ap number_of h))
+pub write_cause : (end : End) (status : Status) (before now : BytesTold) (o : Seen) (journal : List Event)
+    → status ≡ status_of end → TraceSays end before now o journal → status ≡ exit.WriteFault → HasRisen o.before.faults o.now.faults
+write_cause Done status before now o journal e p h = absurd (omega (arith, ap number_of e, ap number_of h))
+write_cause Usage status before now o journal e p h = absurd p
+write_cause Script status before now o journal e p h = absurd (omega (arith, ap number_of e, ap number_of h))
+write_cause ReadFault status before now o journal e p h = absurd (omega (arith, ap number_of e, ap number_of h))
+write_cause WriteFault status before now o journal e p h = p.2.2.risen
+write_cause NoMemory status before now o journal e p h = absurd (omega (arith, ap number_of e, ap number_of h))
 
 -- ---- completeness
 
-told_part : (end : End) (status : Status) (told : Option (List ℕ)) (before now : ℕ) (o : Output) (journal : List Event) → TracesSome end told o journal
+told_part : (end : End) (status : Status) (told : Option (List ℕ)) (before now : BytesTold) (o : Seen) (journal : List Event) → TracesSome end told o journal
     → ((script : scripts.Script) → Traces end script o journal → IsTraced status script before now o journal) → IfSome told (λ bytes. IsTraced status (script_of bytes) before now o journal)
 told_part end status None before now o journal r f = tt
 told_part end status (Some bytes) before now o journal r f = f (script_of bytes) (subst (λ (x : List ℕ). Traces end (script_of x) o journal) (sym r.1) r.2)
 
-risen_in : (told : Option (List ℕ)) (status : Status) (before now : ℕ) (o : Output) (journal : List Event) → HasRisen before now → IfSome told (λ bytes. IsTraced status (script_of bytes) before now o journal)
+risen_in : (told : Option (List ℕ)) (status : Status) (before now : BytesTold) (o : Seen) (journal : List Event) → HasRisen before.faults now.faults → IfSome told (λ bytes. IsTraced status (script_of bytes) before now o journal)
 risen_in None status before now o journal r = tt
 risen_in (Some bytes) status before now o journal r = λ none in_ok out_ok. absurd (in_ok r)
 
-complete : (end : End) (status : Status) (told : Option (List ℕ)) (before now : ℕ) (o : Output) (journal : List Event)
-    → status ≡ status_of end → TraceSays end told before now o journal → IfSome told (λ bytes. IsTraced status (script_of bytes) before now o journal)
-complete Done status told before now o journal e p = told_part Done status told before now o journal p (λ s r none in_ok out_ok. inl (e, r))
-complete Usage status told before now o journal e p = absurd p
-complete Script status told before now o journal e p = told_part Script status told before now o journal p (λ s r none in_ok out_ok. absurd (let a = r.1.1 in cc))
-complete ReadFault status told before now o journal e p = risen_in told status before now o journal p.1
-complete WriteFault status told before now o journal e p = told_part WriteFault status told before now o journal p (λ s r none in_ok out_ok. absurd (out_ok r.2.risen))
-complete NoMemory status told before now o journal e p = told_part NoMemory status told before now o journal p (λ s r none in_ok out_ok. inr e)
+complete : (end : End) (status : Status) (before now : BytesTold) (o : Seen) (journal : List Event)
+    → status ≡ status_of end → TraceSays end before now o journal → IfSome before.bytes (λ bytes. IsTraced status (script_of bytes) before now o journal)
+complete Done status before now o journal e p = told_part Done status before.bytes before now o journal p (λ s r none in_ok out_ok. inl (e, r))
+complete Usage status before now o journal e p = absurd p
+complete Script status before now o journal e p = told_part Script status before.bytes before now o journal p (λ s r none in_ok out_ok. absurd (let a = r.1.1 in cc))
+complete ReadFault status before now o journal e p = risen_in before.bytes status before now o journal p.1
+complete WriteFault status before now o journal e p = told_part WriteFault status before.bytes before now o journal p (λ s r none in_ok out_ok. absurd (out_ok r.2.risen))
+complete NoMemory status before now o journal e p = told_part NoMemory status before.bytes before now o journal p (λ s r none in_ok out_ok. inr e)
 
 -- ---- its events were done
 
-traces-done : (end : End) (script : scripts.Script) (o : Output) (journal : List Event) → AreDone [] script.events → Traces end script o journal → AreDone [] journal
+traces-done : (end : End) (script : scripts.Script) (o : Seen) (journal : List Event) → AreDone [] script.events → Traces end script o journal → AreDone [] journal
 traces-done Done script o journal d h = subst (AreDone []) (sym h.0) d
 traces-done Usage script o journal d h = absurd h
 traces-done Script script o journal d h = subst (AreDone []) (sym h.0) d
@@ -80,42 +80,42 @@ traces-done ReadFault script o journal d h = absurd h
 traces-done WriteFault script o journal d h = subst (AreDone []) (sym h.0) d
 traces-done NoMemory script o journal d h = front-done journal h.0.0 [] (subst (AreDone []) (sym h.0.1) d)
 
-says-done : (end : End) (told : Option (List ℕ)) (before now : ℕ) (o : Output) (journal : List Event) → TraceSays end told before now o journal → AreDone [] journal
-says-done Done told before now o journal h = traces-done Done (script_of h.0) o journal (script-done h.0) h.2
-says-done Usage told before now o journal h = absurd h
-says-done Script told before now o journal h = traces-done Script (script_of h.0) o journal (script-done h.0) h.2
-says-done ReadFault told before now o journal h = none-done journal h.0.empty
-says-done WriteFault told before now o journal h = traces-done WriteFault (script_of h.0) o journal (script-done h.0) h.2
-says-done NoMemory told before now o journal h = traces-done NoMemory (script_of h.0) o journal (script-done h.0) h.2
+says-done : (end : End) (before now : BytesTold) (o : Seen) (journal : List Event) → TraceSays end before now o journal → AreDone [] journal
+says-done Done before now o journal h = traces-done Done (script_of h.0) o journal (script-done h.0) h.2
+says-done Usage before now o journal h = absurd h
+says-done Script before now o journal h = traces-done Script (script_of h.0) o journal (script-done h.0) h.2
+says-done ReadFault before now o journal h = none-done journal h.0.empty
+says-done WriteFault before now o journal h = traces-done WriteFault (script_of h.0) o journal (script-done h.0) h.2
+says-done NoMemory before now o journal h = traces-done NoMemory (script_of h.0) o journal (script-done h.0) h.2
 
-pub says_trips : (end : End) (told : Option (List ℕ)) (before now : ℕ) (o : Output) (journal : List Event) → TraceSays end told before now o journal → RoundTrips journal
-says_trips end told before now o journal h = trips journal (says-done end told before now o journal h)
+pub says_trips : (end : End) (before now : BytesTold) (o : Seen) (journal : List Event) → TraceSays end before now o journal → RoundTrips journal
+says_trips end before now o journal h = trips journal (says-done end before now o journal h)
 
-pub says_played : (end : End) (told : Option (List ℕ)) (before now : ℕ) (o : Output) (journal : List Event) → TraceSays end told before now o journal → IsPlayed enabled journal
-says_played end told before now o journal h = played-done [] journal (says-done end told before now o journal h)
+pub says_played : (end : End) (before now : BytesTold) (o : Seen) (journal : List Event) → TraceSays end before now o journal → IsPlayed enabled journal
+says_played end before now o journal h = played-done [] journal (says-done end before now o journal h)
 
-done_back : (end : End) (status : Status) (told : Option (List ℕ)) (before now : ℕ) (o : Output) (journal : List Event)
-    → status ≡ status_of end → TraceSays end told before now o journal → status ≡ exit.Done → PacksBack journal
-done_back Done status told before now o journal e p h = packs_back journal (says-done Done told before now o journal p) p.2.3
-done_back Usage status told before now o journal e p h = absurd p
-done_back Script status told before now o journal e p h = absurd (omega (arith, ap number_of e, ap number_of h))
-done_back ReadFault status told before now o journal e p h = absurd (omega (arith, ap number_of e, ap number_of h))
-done_back WriteFault status told before now o journal e p h = absurd (omega (arith, ap number_of e, ap number_of h))
-done_back NoMemory status told before now o journal e p h = absurd (omega (arith, ap number_of e, ap number_of h))
+done_back : (end : End) (status : Status) (before now : BytesTold) (o : Seen) (journal : List Event)
+    → status ≡ status_of end → TraceSays end before now o journal → status ≡ exit.Done → PacksBack journal
+done_back Done status before now o journal e p h = packs_back journal (says-done Done before now o journal p) p.2.3
+done_back Usage status before now o journal e p h = absurd p
+done_back Script status before now o journal e p h = absurd (omega (arith, ap number_of e, ap number_of h))
+done_back ReadFault status before now o journal e p h = absurd (omega (arith, ap number_of e, ap number_of h))
+done_back WriteFault status before now o journal e p h = absurd (omega (arith, ap number_of e, ap number_of h))
+done_back NoMemory status before now o journal e p h = absurd (omega (arith, ap number_of e, ap number_of h))
 
 -- ---- the whole
 
-pub ends : (end : End) (status : Status) (told : Option (List ℕ)) (before now : ℕ) (o : Output) (journal : List Event)
-    → status ≡ status_of end → TraceSays end told before now o journal → TraceEnds status told before now o journal
-ends end status told before now o journal e p = record {
+pub ends : (end : End) (status : Status) (before now : BytesTold) (o : Seen) (journal : List Event)
+    → status ≡ status_of end → TraceSays end before now o journal → TraceEnds status before now o journal
+ends end status before now o journal e p = record {
   says = (end, e, p);
-  complete = complete end status told before now o journal e p;
-  packs_back = done_back end status told before now o journal e p;
+  complete = complete end status before now o journal e p;
+  packs_back = done_back end status before now o journal e p;
 }
 
 -- memory ran out before the words were read
-pub idle : (status : Status) (told : Option (List ℕ)) (before now : ℕ) (h : Option (List ℕ)) (f : ℕ) (journal : List Event) → status ≡ exit.NoMemory → journal ≡ []
-    → TraceEnds status told before now (record { held = h; held_now = h; faults = f; faults_now = f }) journal
-idle status told before now h f journal e none =
-    ends NoMemory status told before now (record { held = h; held_now = h; faults = f; faults_now = f }) journal e
-    (subst (λ (j : List Event). TraceSays NoMemory told before now (record { held = h; held_now = h; faults = f; faults_now = f }) j) (sym none) (says_none told before now h f))
+pub idle : (status : Status) (before now first : BytesTold) (journal : List Event) → status ≡ exit.NoMemory → journal ≡ []
+    → TraceEnds status before now (seen first first) journal
+idle status before now first journal e none =
+    ends NoMemory status before now (seen first first) journal e
+    (subst (λ (j : List Event). TraceSays NoMemory before now (seen first first) j) (sym none) (says_none before now first))

@@ -6,9 +6,10 @@ use Rattle.std.proofs.lemmas.List.{append-nil, take_more}
 use Rattle.std.proofs.lemmas.Grind.{flat_map-append, fold-append}
 use Rattle.std.proofs.lemmas.Option.{slice_get_within, get_or_from_slice_get}
 use Rattle.am_text.specs.Lines.{lines_of}
-use Rattle.am_base.specs.Outside.{AreTold, PutsFront, told_then}
+use Rattle.am_base.specs.Outside.{BytesTold, AreTold, PutsFront, told_then}
 use Rattle.am_base.specs.Stops.{input_limit}
-use Rattle.am_base.specs.Written.{Output, IsWhole, IsCut}
+use Rattle.am_base.specs.Seen.{Seen, seen}
+use Rattle.am_base.specs.Written.{IsWhole, IsCut}
 use Rattle.am_counter.specs.Played.{ArePlayed}
 use Rattle.am_journal.specs.declared.event.Event.{Event}
 use Rattle.am_journal.specs.Lawful.{IsLawful}
@@ -20,7 +21,8 @@ use Rattle.acmefs.specs.declared.replay.End.{End}
 use Rattle.acmefs.specs.declared.replay.End.TheVariants as ends
 use Rattle.acmefs.specs.declared.script.Stop.{Stop}
 use Rattle.acmefs.specs.declared.script.Stop.TheVariants as stop
-use Rattle.acmefs.specs.Playing.{Put, Stops, EndText, end_at, fault_word}
+use Rattle.am_serve.specs.Faults.{fault_word}
+use Rattle.acmefs.specs.Playing.{Put, Stops, EndText, end_at}
 use Rattle.acmefs.specs.Scripts.{Script, ended, refused_at, play, script_of, end_of}
 use Rattle.acmefs.specs.Traces.{event_line, reply_words, replies_words, entry_words, traced_from, traced, trace_of, HasWords, AllHaveWords, Shown, Traces, TraceSays}
 use Rattle.acmefs.specs.Written.{Wrote, IsFront}
@@ -127,75 +129,75 @@ unfolding AllHaveWords
 words_start events e = subst (AllHaveWords start) (sym e) tt
 
 -- the lines of one entry were put behind those of the entries before
-pub wrote_entry : (failed failed' : Bool) (h m n : Option (List ℕ)) (f g k : ℕ) (before now : List Event) (text : List ℕ)
+pub wrote_entry : (failed failed' : Bool) (first mid last : BytesTold) (before now : List Event) (text : List ℕ)
     → (e : Event) × (now ≡ before ++ e ∷ []) → ((before : List Event) (e : Event) → now ≡ before ++ e ∷ [] → text ≡ event_line e ++ replies_words (run now).replies)
-    → Wrote failed (record { held = h; held_now = m; faults = f; faults_now = g }) (traced before)
-    → Put failed failed' (record { held = m; held_now = n; faults = g; faults_now = k }) text
-    → Wrote failed' (record { held = h; held_now = n; faults = f; faults_now = k }) (traced now)
-wrote_entry failed failed' h m n f g k before now text did is w put =
-    let o : Output = record { held = h; held_now = n; faults = f; faults_now = k } in
-    let both : Wrote failed' o (traced before ++ text) = wrote_on failed failed' h m n f g k (traced before) text w put in
+    → Wrote failed (seen first mid) (traced before)
+    → Put failed failed' (seen mid last) text
+    → Wrote failed' (seen first last) (traced now)
+wrote_entry failed failed' first mid last before now text did is w put =
+    let o : Seen = seen first last in
+    let both : Wrote failed' o (traced before ++ text) = wrote_on failed failed' first mid last (traced before) text w put in
     let one : event_line did.0 ++ replies_words (run (before ++ did.0 ∷ [])).replies ≡ text =
     ap (λ (x : List Event). event_line did.0 ++ replies_words (run x).replies) (sym did.1) ∙ sym (is before did.0 did.1)
     in
     let all : traced now ≡ traced before ++ text = ap traced did.1 ∙ traced-push before did.0 ∙ ap (λ (x : List ℕ). traced before ++ x) one in
     subst (λ (x : List ℕ). Wrote failed' o x) (sym all) both
 
-pub traced_start : (h : Option (List ℕ)) (f : ℕ) (events : List Event) → events ≡ [] → Wrote false (record { held = h; held_now = h; faults = f; faults_now = f }) (traced events)
+pub traced_start : (first : BytesTold) (events : List Event) → events ≡ [] → Wrote false (seen first first) (traced events)
 unfolding traced_from
-traced_start h f events e = subst (λ (x : List Event). Wrote false (record { held = h; held_now = h; faults = f; faults_now = f }) (traced x)) (sym e) (wrote_none h f)
+traced_start first events e = subst (λ (x : List Event). Wrote false (seen first first) (traced x)) (sym e) (wrote_none first)
 
 front_traced : (a b : List Event) → IsFront a b → (rest : List ℕ) × (traced a ++ rest ≡ traced b)
 front_traced a b f = (traced_from (fold step start a) f.0, sym (traced-append start a f.0) ∙ ap traced f.1)
 
 -- what was put where the lines of the last entry were not
-pub short_of : (before now : List Event) (failed : Bool) (o : Output) → (e : Event) × (now ≡ before ++ e ∷ []) → Wrote failed o (traced before) → Shown stop.NoMemory failed o now
+pub short_of : (before now : List Event) (failed : Bool) (o : Seen) → (e : Event) × (now ≡ before ++ e ∷ []) → Wrote failed o (traced before) → Shown stop.NoMemory failed o now
 short_of before now failed o did w =
     let f : IsFront before now = (did.0 ∷ [], sym did.1) in
     (traced before, front_traced before now f, w)
 
-all_of_them : (journal : List Event) (failed : Bool) (o : Output) → Wrote failed o (traced journal) → Shown stop.NoMemory failed o journal
+all_of_them : (journal : List Event) (failed : Bool) (o : Seen) → Wrote failed o (traced journal) → Shown stop.NoMemory failed o journal
 all_of_them journal failed o w = (traced journal, ([], append-nil (traced journal)), w)
 
 -- memory ran out before the next event
-pub none_done : (before now : List Event) (failed : Bool) (o : Output) → now ≡ before → Wrote failed o (traced before) → Shown stop.NoMemory failed o now
+pub none_done : (before now : List Event) (failed : Bool) (o : Seen) → now ≡ before → Wrote failed o (traced before) → Shown stop.NoMemory failed o now
 none_done before now failed o same w = subst (λ (x : List Event). Shown stop.NoMemory failed o x) (sym same) (all_of_them before failed o w)
 
 -- ---- the whole
 
-at_report : (failed : Bool) (journal : List Event) (o : Output) → Wrote failed o (trace_of (ended journal)) → AllHaveWords start journal → Traces (end_at stop.Report failed) (ended journal) o journal
+at_report : (failed : Bool) (journal : List Event) (o : Seen) → Wrote failed o (trace_of (ended journal)) → AllHaveWords start journal → Traces (end_at stop.Report failed) (ended journal) o journal
 at_report false journal o w words = (refl, refl, w.holds, words)
 at_report true journal o w words = (refl, refl, w.holds)
 
 -- the text of the end was put behind the entries
-pub traces_ok : (s : Stop) (failed failed' : Bool) (script : Script) (journal : List Event) (h m n : Option (List ℕ)) (f g k : ℕ) (text : List ℕ)
-    → Stops s script journal → Shown s failed (record { held = h; held_now = m; faults = f; faults_now = g }) journal → EndText s journal text
-    → Put failed failed' (record { held = m; held_now = n; faults = g; faults_now = k }) text
-    → Traces (end_at s failed') script (record { held = h; held_now = n; faults = f; faults_now = k }) journal
-traces_ok stop.Report failed failed' script journal h m n f g k text stops shown e put =
-    let o : Output = record { held = h; held_now = n; faults = f; faults_now = k } in
-    let w : Wrote failed' o (traced journal ++ text) = wrote_on failed failed' h m n f g k (traced journal) text shown.0 put in
+pub traces_ok : (s : Stop) (failed failed' : Bool) (script : Script) (journal : List Event) (first mid last : BytesTold) (text : List ℕ)
+    → Stops s script journal → Shown s failed (seen first mid) journal → EndText s journal text
+    → Put failed failed' (seen mid last) text
+    → Traces (end_at s failed') script (seen first last) journal
+traces_ok stop.Report failed failed' script journal first mid last text stops shown e put =
+    let o : Seen = seen first last in
+    let w : Wrote failed' o (traced journal ++ text) = wrote_on failed failed' first mid last (traced journal) text shown.0 put in
     let w' : Wrote failed' o (trace_of (ended journal)) = subst (λ (x : List ℕ). Wrote failed' o (traced journal ++ x)) e w in
     subst (λ (x : Script). Traces (end_at stop.Report failed') x o journal) (sym stops) (at_report failed' journal o w' shown.1)
-traces_ok (stop.Refused line fault) failed failed' script journal h m n f g k text stops shown e put =
-    let o : Output = record { held = h; held_now = n; faults = f; faults_now = k } in
-    let w : Wrote failed' o (traced journal ++ text) = wrote_on failed failed' h m n f g k (traced journal) text shown put in
+traces_ok (stop.Refused line fault) failed failed' script journal first mid last text stops shown e put =
+    let o : Seen = seen first last in
+    let w : Wrote failed' o (traced journal ++ text) = wrote_on failed failed' first mid last (traced journal) text shown put in
     let w' : Wrote failed' o (trace_of (refused_at journal line (fault_word fault))) = subst (λ (x : List ℕ). Wrote failed' o (traced journal ++ x)) e w in
     subst (λ (x : Script). Traces ends.Script x o journal) (sym stops) (refl, (record { line = line; word = fault_word fault }, refl), whole_or_cut failed' o _ w')
-traces_ok stop.NoMemory failed failed' script journal h m n f g k text stops shown e put = absurd e
+traces_ok stop.NoMemory failed failed' script journal first mid last text stops shown e put = absurd e
 
 -- a front of the text, where a front of the events was done
-traces_out : (failed : Bool) (script : Script) (journal : List Event) (o : Output) (text : List ℕ) → IsFront journal script.events → IsFront text (traced journal) → Wrote failed o text → Traces ends.NoMemory script o journal
+traces_out : (failed : Bool) (script : Script) (journal : List Event) (o : Seen) (text : List ℕ) → IsFront journal script.events → IsFront text (traced journal) → Wrote failed o text → Traces ends.NoMemory script o journal
 traces_out failed script journal o text front part w =
     let r = front_traced journal script.events front in
     let end : List ℕ = end_of script.events script.refused in
     let whole : IsFront text (trace_of script) =
     (part.0 ++ (r.0 ++ end), sym (append_assoc text part.0 (r.0 ++ end)) ∙ ap (λ (x : List ℕ). x ++ (r.0 ++ end)) part.1 ∙ sym (append_assoc (traced journal) r.0 end) ∙ ap (λ (x : List ℕ). x ++ end) r.1)
     in
-    (front, front_more o.held o.held_now text (trace_of script) whole (put_front o text (whole_or_cut failed o text w)))
+    (front, front_more o.before.bytes o.now.bytes text (trace_of script) whole (put_front o text (whole_or_cut failed o text w)))
 
 -- memory ran out by then
-pub traces_err : (s : Stop) (failed : Bool) (script : Script) (journal : List Event) (o : Output) → Stops s script journal → Shown s failed o journal → Traces ends.NoMemory script o journal
+pub traces_err : (s : Stop) (failed : Bool) (script : Script) (journal : List Event) (o : Seen) → Stops s script journal → Shown s failed o journal → Traces ends.NoMemory script o journal
 traces_err stop.Report failed script journal o stops shown =
     traces_out failed script journal o (traced journal) (subst (λ (x : Script). IsFront journal x.events) (sym stops) (front_whole journal)) ([], append-nil (traced journal)) shown.0
 traces_err (stop.Refused line fault) failed script journal o stops shown =
@@ -203,34 +205,34 @@ traces_err (stop.Refused line fault) failed script journal o stops shown =
 traces_err stop.NoMemory failed script journal o stops (text, part, w) = traces_out failed script journal o text stops part w
 
 -- memory ran out before the first line
-pub traces_none : (script : Script) (h : Option (List ℕ)) (f : ℕ) → Traces ends.NoMemory script (record { held = h; held_now = h; faults = f; faults_now = f }) []
-traces_none script h f = traces_out false script [] _ [] (script.events, refl) (traced [], refl) (wrote_none h f)
+pub traces_none : (script : Script) (first : BytesTold) → Traces ends.NoMemory script (seen first first) []
+traces_none script first = traces_out false script [] _ [] (script.events, refl) (traced [], refl) (wrote_none first)
 
 -- the whole input is refused
-pub traces_refused : (failed : Bool) (o : Output) (text : List ℕ) → text ≡ refused_text 0 (codes "input") → Put false failed o text → Traces ends.Script (refused_at [] 0 (codes "input")) o []
+pub traces_refused : (failed : Bool) (o : Seen) (text : List ℕ) → text ≡ refused_text 0 (codes "input") → Put false failed o text → Traces ends.Script (refused_at [] 0 (codes "input")) o []
 unfolding traced_from
 traces_refused failed o text e put = (refl, (record { line = 0; word = codes "input" }, refl), whole_or_cut failed o _ (subst (λ (x : List ℕ). Wrote failed o x) e put))
 
 -- a script that was traced is that of some bytes
-trace_says : (end : End) (script : Script) (bytes : List ℕ) (told : Option (List ℕ)) (before now : ℕ) (o : Output) (journal : List Event)
-    → script ≡ script_of bytes → AreTold told bytes → Traces end script o journal → TraceSays end told before now o journal
-trace_says ends.Done script bytes told before now o journal e t r = (bytes, t, subst (λ (x : Script). Traces ends.Done x o journal) e r)
-trace_says ends.Usage script bytes told before now o journal e t r = r
-trace_says ends.Script script bytes told before now o journal e t r = (bytes, t, subst (λ (x : Script). Traces ends.Script x o journal) e r)
-trace_says ends.ReadFault script bytes told before now o journal e t r = absurd r
-trace_says ends.WriteFault script bytes told before now o journal e t r = (bytes, t, subst (λ (x : Script). Traces ends.WriteFault x o journal) e r)
-trace_says ends.NoMemory script bytes told before now o journal e t r = (bytes, t, subst (λ (x : Script). Traces ends.NoMemory x o journal) e r)
+trace_says : (end : End) (script : Script) (bytes : List ℕ) (before now : BytesTold) (o : Seen) (journal : List Event)
+    → script ≡ script_of bytes → AreTold before.bytes bytes → Traces end script o journal → TraceSays end before now o journal
+trace_says ends.Done script bytes before now o journal e t r = (bytes, t, subst (λ (x : Script). Traces ends.Done x o journal) e r)
+trace_says ends.Usage script bytes before now o journal e t r = r
+trace_says ends.Script script bytes before now o journal e t r = (bytes, t, subst (λ (x : Script). Traces ends.Script x o journal) e r)
+trace_says ends.ReadFault script bytes before now o journal e t r = absurd r
+trace_says ends.WriteFault script bytes before now o journal e t r = (bytes, t, subst (λ (x : Script). Traces ends.WriteFault x o journal) e r)
+trace_says ends.NoMemory script bytes before now o journal e t r = (bytes, t, subst (λ (x : Script). Traces ends.NoMemory x o journal) e r)
 
-pub says_short : (end : End) (bytes : List ℕ) (told : Option (List ℕ)) (before now : ℕ) (o : Output) (journal : List Event)
-    → length bytes ≤ input_limit → AreTold told bytes → Traces end (play [] 1 (lines_of bytes)) o journal → TraceSays end told before now o journal
-says_short end bytes told before now o journal h t r = trace_says end (play [] 1 (lines_of bytes)) bytes told before now o journal (short_script bytes h) t r
+pub says_short : (end : End) (bytes : List ℕ) (before now : BytesTold) (o : Seen) (journal : List Event)
+    → length bytes ≤ input_limit → AreTold before.bytes bytes → Traces end (play [] 1 (lines_of bytes)) o journal → TraceSays end before now o journal
+says_short end bytes before now o journal h t r = trace_says end (play [] 1 (lines_of bytes)) bytes before now o journal (short_script bytes h) t r
 
-pub says_long : (end : End) (told : Option (List ℕ)) (before now : ℕ) (o : Output) (journal : List Event)
-    → IfSome told (λ bytes. input_limit < length bytes) → Traces end (refused_at [] 0 (codes "input")) o journal → TraceSays end told before now o journal
-says_long end told before now o journal h r =
-    let b = long_bytes told h in
-    trace_says end (refused_at [] 0 (codes "input")) b.0 told before now o journal (long_script b.0 b.1) b.2 r
+pub says_long : (end : End) (before now : BytesTold) (o : Seen) (journal : List Event)
+    → IfSome before.bytes (λ bytes. input_limit < length bytes) → Traces end (refused_at [] 0 (codes "input")) o journal → TraceSays end before now o journal
+says_long end before now o journal h r =
+    let b = long_bytes before.bytes h in
+    trace_says end (refused_at [] 0 (codes "input")) b.0 before now o journal (long_script b.0 b.1) b.2 r
 
 -- memory ran out before all was read
-pub says_none : (told : Option (List ℕ)) (before now : ℕ) (h : Option (List ℕ)) (f : ℕ) → TraceSays ends.NoMemory told before now (record { held = h; held_now = h; faults = f; faults_now = f }) []
-says_none told before now h f = let b = some_bytes told in (b.0, b.1, traces_none (script_of b.0) h f)
+pub says_none : (before now first : BytesTold) → TraceSays ends.NoMemory before now (seen first first) []
+says_none before now first = let b = some_bytes before.bytes in (b.0, b.1, traces_none (script_of b.0) first)

@@ -1,8 +1,8 @@
 -- What an output got of a text, and then of more.
 use Rattle.std.proofs.Common.{◌≡◌, inl, inr, ℕ, ◌+◌, ◌≤◌, Bool, true, false, List, [], ◌∷◌, ◌++◌, length, take, suc, zero, Option, Some, None, refl, sym, ap, subst, ◌∙◌, append_assoc, arith}
 use Rattle.std.proofs.lemmas.List.{append-nil, length-append}
-use Rattle.am_base.specs.Outside.{told_then, HasRisen}
-use Rattle.am_base.specs.Written.{Output}
+use Rattle.am_base.specs.Outside.{BytesTold, told_then, HasRisen}
+use Rattle.am_base.specs.Seen.{Seen, seen}
 use Rattle.acmefs.specs.Written.{Wrote}
 use Rattle.acmefs.specs.Playing.{Put}
 
@@ -27,46 +27,43 @@ risen_from : (a b c : ℕ) → a ≤ b → HasRisen b c → HasRisen a c
 risen_from a b c h (inl r) = inl (omega arith)
 risen_from a b c h (inr r) = inr r
 
-outputs : Option (List ℕ) → Option (List ℕ) → ℕ → ℕ → Output
-outputs h n f g = record { held = h; held_now = n; faults = f; faults_now = g }
-
 -- nothing was put yet
-pub wrote_none : (h : Option (List ℕ)) (f : ℕ) → Wrote false (record { held = h; held_now = h; faults = f; faults_now = f }) []
-wrote_none h f = record { holds = sym (told_then-nil h); later = omega arith }
+pub wrote_none : (first : BytesTold) → Wrote false (seen first first) []
+wrote_none first = record { holds = sym (told_then-nil first.bytes); later = omega arith }
 
 -- a text, and then more of it
-pub wrote_on : (failed failed' : Bool) (h m n : Option (List ℕ)) (f g k : ℕ) (text more : List ℕ)
-    → Wrote failed (record { held = h; held_now = m; faults = f; faults_now = g }) text
-    → Put failed failed' (record { held = m; held_now = n; faults = g; faults_now = k }) more
-    → Wrote failed' (record { held = h; held_now = n; faults = f; faults_now = k }) (text ++ more)
-wrote_on false false h m n f g k text more w p = record {
-  holds = p.holds ∙ ap (λ (x : Option (List ℕ)). told_then x more) w.holds ∙ told_then-then h text more;
+pub wrote_on : (failed failed' : Bool) (first mid last : BytesTold) (text more : List ℕ)
+    → Wrote failed (seen first mid) text
+    → Put failed failed' (seen mid last) more
+    → Wrote failed' (seen first last) (text ++ more)
+wrote_on false false first mid last text more w p = record {
+  holds = p.holds ∙ ap (λ (x : Option (List ℕ)). told_then x more) w.holds ∙ told_then-then first.bytes text more;
   later = omega (arith, w.later, p.later);
 }
-wrote_on false true h m n f g k text more w p =
+wrote_on false true first mid last text more w p =
     let i = p.holds.front.0 in
     record {
       holds = record {
         front = (
           length text + i,
           omega (arith, length-append text more, p.holds.front.1),
-          p.holds.front.2 ∙ ap (λ (x : Option (List ℕ)). told_then x (take i more)) w.holds ∙ told_then-then h text (take i more) ∙ ap (told_then h) (sym (take-join text more i)),
+          p.holds.front.2 ∙ ap (λ (x : Option (List ℕ)). told_then x (take i more)) w.holds ∙ told_then-then first.bytes text (take i more) ∙ ap (told_then first.bytes) (sym (take-join text more i)),
         );
-        risen = risen_from f g k w.later p.holds.risen;
+        risen = risen_from first.faults mid.faults last.faults w.later p.holds.risen;
       };
       later = omega (arith, w.later, p.later);
     }
-wrote_on true false h m n f g k text more w p = absurd p
-wrote_on true true h m n f g k text more w p =
+wrote_on true false first mid last text more w p = absurd p
+wrote_on true true first mid last text more w p =
     let i = w.holds.front.0 in
     record {
       holds = record {
         front = (
           i,
           omega (arith, length-append text more, w.holds.front.1),
-          p.0 ∙ w.holds.front.2 ∙ ap (told_then h) (sym (take-within text more i w.holds.front.1)),
+          p.0 ∙ w.holds.front.2 ∙ ap (told_then first.bytes) (sym (take-within text more i w.holds.front.1)),
         );
-        risen = subst (λ (x : ℕ). HasRisen f x) (sym p.1) w.holds.risen;
+        risen = subst (λ (x : ℕ). HasRisen first.faults x) (sym p.1) w.holds.risen;
       };
-      later = subst (λ (x : ℕ). f ≤ x) (sym p.1) w.later;
+      later = subst (λ (x : ℕ). first.faults ≤ x) (sym p.1) w.later;
     }

@@ -1,6 +1,6 @@
 -- What doing lines over a connection comes to.
 use Rattle.std.specs.Prelude.{◌≡◌, ◌⊎◌, ℕ, Bool, true, false, List, [], ◌∷◌, Option, Some, None, is_some, IfSome, if◌then◌else◌}
-use Rattle.am_base.specs.Written.{Output}
+use Rattle.am_base.specs.Seen.{Given, Seen}
 use Rattle.ninep_client.specs.declared.fault.CallFault.{CallFault}
 use Rattle.ninep_client.specs.declared.fault.CallFault.TheVariants as fault
 use Rattle.am_do.specs.declared.running.DoEnd.{DoEnd}
@@ -9,10 +9,8 @@ use Rattle.am_do.specs.declared.running.Doing.{Doing}
 use Rattle.am_do.specs.declared.stop.Stop.{Stop}
 use Rattle.am_do.specs.declared.stop.Stop.TheVariants as stop
 use Rattle.am_do.specs.Complete.{NothingFails}
-use Rattle.am_do.specs.Ends as talks
 use Rattle.am_do.specs.Ends.{Peer, Says, peer}
 use Rattle.am_slots.specs.Slots.{Outside}
-use Rattle.am_server.specs.Ends.{Given}
 use Rattle.am_server.specs.declared.served.Served.{Served}
 use Rattle.am_server.specs.declared.served.ServedEnd.{ServedEnd}
 use Rattle.am_server.specs.declared.served.ServedEnd.TheVariants as end
@@ -28,9 +26,6 @@ do_status doing.HostFault = exit.HostFault
 do_status doing.Talk = exit.Talk
 do_status doing.NoMemory = exit.NoMemory
 do_status doing.WriteFault = exit.WriteFault
-
-abbrev pub given_of : Given → talks.Given
-given_of i = talks.given i.told i.faults i.faults_now i.host_faults i.host_faults_now
 
 -- ---- the entry of a client
 
@@ -85,13 +80,13 @@ module _ {G L S K : Type 0} where
   -- ---- what it comes to
 
   abbrev pub peer_of : Outside G L S K → Peer L S K
-  peer_of m = peer m.begins m.link_faults m.left m.reader_faults m.held m.writer_faults
+  peer_of m = peer m.link m.reader m.writer
 
   -- What doing lines over a tree comes to: the exit status and the entry of the client are those of one doing, which is as the lines and
   -- the replies to them say. Where nothing outside fails and all is answered, all is done and written, or memory runs out.
-  pub record Does (status : Status) (m : Outside G L S K) (tree : List ℕ) (i : Given) (o : Output) (served : List (Served G L S K)) : Type 0 where
+  pub record Does (status : Status) (m : Outside G L S K) (tree : List ℕ) (i : Given) (o : Seen) (served : List (Served G L S K)) : Type 0 where
     pub doing : Doing L S K
     pub coded : status ≡ do_status doing.end
     pub told : served ≡ listed (entry_of doing)
-    pub says : Says (peer_of m) tree (given_of i) o doing
-    pub complete : IfSome i.told (λ bytes. NothingFails (peer_of m) tree bytes (given_of i) o doing → (status ≡ exit.Done) ⊎ (status ≡ exit.NoMemory))
+    pub says : Says (peer_of m) tree i o doing
+    pub complete : IfSome i.input.before.bytes (λ bytes. NothingFails (peer_of m) tree bytes i o doing → (status ≡ exit.Done) ⊎ (status ≡ exit.NoMemory))

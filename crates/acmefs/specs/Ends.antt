@@ -1,11 +1,11 @@
 -- How a replay ends.
 use Rattle.std.specs.Prelude.{◌≡◌, ◌⊎◌, ℕ, List, [], Option, Some, None, IfSome}
-use Rattle.am_base.specs.Outside.{AreTold, HasRisen}
-use Rattle.am_base.specs.Written.{Output, IsWhole, IsCut}
+use Rattle.am_base.specs.Outside.{BytesTold, AreTold, HasRisen}
+use Rattle.am_base.specs.Seen.{Given, Seen}
+use Rattle.am_base.specs.Written.{IsWhole, IsCut}
 use Rattle.am_journal.specs.declared.event.Event.{Event}
 use Rattle.am_slots.specs.Slots.{Outside}
 use Rattle.am_server.specs.Complete.{NothingFails, whole_text}
-use Rattle.am_server.specs.Ends.{Given}
 use Rattle.am_server.specs.declared.served.Served.{Served}
 use Rattle.am_server.specs.declared.writing.ServeEnd.{ServeEnd}
 use Rattle.am_server.specs.declared.writing.ServeEnd.TheVariants as serving
@@ -47,13 +47,13 @@ drill_status drilling.WriteFault = exit.WriteFault
 drill_status drilling.NoMemory = exit.NoMemory
 
 -- Memory ran out: a front of the events was done, and what was put is the lines of their replies, but perhaps those of the last.
-pub record RanOut (script : scripts.Script) (o : Output) (journal : List Event) : Type 0 where
+pub record RanOut (script : scripts.Script) (o : Seen) (journal : List Event) : Type 0 where
   pub events : IsFront journal script.events
   pub put : (text : List ℕ) × IsCaughtUp journal text × IsFront text (text_of script) × (IsWhole o text ⊎ IsCut o text)
 
 -- nothing was written and nothing was done
-pub record IsIdle (o : Output) (journal : List Event) : Type 0 where
-  pub silent : o.held_now ≡ o.held
+pub record IsIdle (o : Seen) (journal : List Event) : Type 0 where
+  pub silent : o.now.bytes ≡ o.before.bytes
   pub empty : journal ≡ []
 
 -- a line, or the whole input, is refused
@@ -61,7 +61,7 @@ abbrev pub IsRefused : scripts.Script → Type 0
 IsRefused script = (refusal : scripts.Refusal) × (script.refused ≡ Some refusal)
 
 -- what each end says of a script, the output and the journal
-abbrev pub Ran : End → scripts.Script → Output → List Event → Type 0
+abbrev pub Ran : End → scripts.Script → Seen → List Event → Type 0
 Ran Done script o journal = (journal ≡ script.events) × (script.refused ≡ None) × IsWhole o (text_of script)
 Ran Usage script o journal = ⊥
 Ran Script script o journal = (journal ≡ script.events) × IsRefused script × (IsWhole o (text_of script) ⊎ IsCut o (text_of script))
@@ -70,37 +70,37 @@ Ran WriteFault script o journal = (journal ≡ script.events) × (script.refused
 Ran NoMemory script o journal = RanOut script o journal
 
 -- Some bytes, those that the input told where it tells them, were replayed so.
-abbrev pub Replays : End → Option (List ℕ) → Output → List Event → Type 0
+abbrev pub Replays : End → Option (List ℕ) → Seen → List Event → Type 0
 Replays end told o journal = (bytes : List ℕ) × AreTold told bytes × Ran end (script_of bytes) o journal
 
 -- what each end says of an input, by what it told and its count of faults, the output and the journal
-abbrev pub Says : End → Option (List ℕ) → ℕ → ℕ → Output → List Event → Type 0
-Says Done told before now o journal = Replays Done told o journal
-Says Usage told before now o journal = ⊥
-Says Script told before now o journal = Replays Script told o journal
-Says ReadFault told before now o journal = IsIdle o journal × HasRisen before now
-Says WriteFault told before now o journal = Replays WriteFault told o journal
-Says NoMemory told before now o journal = Replays NoMemory told o journal
+abbrev pub Says : End → BytesTold → BytesTold → Seen → List Event → Type 0
+Says Done before now o journal = Replays Done before.bytes o journal
+Says Usage before now o journal = ⊥
+Says Script before now o journal = Replays Script before.bytes o journal
+Says ReadFault before now o journal = IsIdle o journal × HasRisen before.faults now.faults
+Says WriteFault before now o journal = Replays WriteFault before.bytes o journal
+Says NoMemory before now o journal = Replays NoMemory before.bytes o journal
 
 -- where the input tells its bytes, their script ran so
-abbrev pub RanTold : End → Option (List ℕ) → Output → List Event → Type 0
+abbrev pub RanTold : End → Option (List ℕ) → Seen → List Event → Type 0
 RanTold end told o journal = IfSome told (λ bytes. Ran end (script_of bytes) o journal)
 
 -- Completeness: where no event is refused and no count of faults rises, the whole text is written, or memory runs out.
-abbrev pub IsComplete : Status → scripts.Script → ℕ → ℕ → Output → List Event → Type 0
-IsComplete status script before now o journal = script.refused ≡ None → ¬ HasRisen before now → ¬ HasRisen o.faults o.faults_now
+abbrev pub IsComplete : Status → scripts.Script → BytesTold → BytesTold → Seen → List Event → Type 0
+IsComplete status script before now o journal = script.refused ≡ None → ¬ HasRisen before.faults now.faults → ¬ HasRisen o.before.faults o.now.faults
     → ((status ≡ exit.Done) × Ran Done script o journal) ⊎ (status ≡ exit.NoMemory)
 
 -- what a drill of so many rounds comes to, by its status
-abbrev pub Drilled : Status → ℕ → Output → List Event → Type 0
+abbrev pub Drilled : Status → ℕ → Seen → List Event → Type 0
 Drilled status rounds o journal = (end : DrillEnd) × (status ≡ drill_status end) × DrillSays end rounds o journal
 
 -- Completeness of a drill: where the output's count of faults doesn't rise, the whole summary is written, or memory runs out.
-abbrev pub IsDrilled : Status → ℕ → Output → List Event → Type 0
-IsDrilled status rounds o journal = ¬ HasRisen o.faults o.faults_now
+abbrev pub IsDrilled : Status → ℕ → Seen → List Event → Type 0
+IsDrilled status rounds o journal = ¬ HasRisen o.before.faults o.now.faults
     → ((status ≡ exit.Done) × (journal ≡ events rounds) × IsWhole o (summary (events rounds))) ⊎ (status ≡ exit.NoMemory)
 
 -- Completeness of serving: where no line is refused and no count of faults rises, the whole text is written, or memory runs out.
-abbrev pub IsServeComplete : {G L S K : Type 0} → Status → Outside G L S K → ℕ → List ℕ → Given → Output → List Event → List (Served G L S K) → Type 0
+abbrev pub IsServeComplete : {G L S K : Type 0} → Status → Outside G L S K → ℕ → List ℕ → Given → Seen → List Event → List (Served G L S K) → Type 0
 IsServeComplete status m clients script i o journal served =
     NothingFails m clients script i o journal served → ((status ≡ exit.Done) × IsWhole o (whole_text journal)) ⊎ (status ≡ exit.NoMemory)

@@ -3,7 +3,8 @@ use Rattle.std.specs.Prelude.{◌≡◌, ◌⊎◌, ℕ, ◌≤◌, List, [], �
 use Rattle.am_text.specs.Lines.{lines_of}
 use Rattle.am_base.specs.Outside.{PutsFront}
 use Rattle.am_base.specs.Stops.{input_limit}
-use Rattle.am_base.specs.Written.{Output, IsWhole, IsCut}
+use Rattle.am_base.specs.Seen.{Seen}
+use Rattle.am_base.specs.Written.{IsWhole, IsCut}
 use Rattle.am_journal.specs.declared.event.Event.{Event}
 use Rattle.am_journal.specs.Journal.{journal_text}
 use Rattle.am_journal.specs.Report.{report_text}
@@ -22,13 +23,13 @@ abbrev pub refused_after : List Event → Refusal → List ℕ
 refused_after journal refusal = text_of (refused_at journal refusal.line refusal.word)
 
 -- What the output got is the journal's own text: whole, or a front of it where the count of faults has risen or memory ran out.
-abbrev pub PutsOwn : End → Output → List Event → Type 0
+abbrev pub PutsOwn : End → Seen → List Event → Type 0
 PutsOwn Done o journal = IsWhole o (told_text journal)
 PutsOwn Usage o journal = IsIdle o journal
 PutsOwn Script o journal = (refusal : Refusal) × (IsWhole o (refused_after journal refusal) ⊎ IsCut o (refused_after journal refusal))
 PutsOwn ReadFault o journal = IsIdle o journal
 PutsOwn WriteFault o journal = IsCut o (told_text journal)
-PutsOwn NoMemory o journal = PutsFront o.held (told_text journal) o.held_now
+PutsOwn NoMemory o journal = PutsFront o.before.bytes (told_text journal) o.now.bytes
 
 -- the journal's lines, and then the report of its run
 abbrev pub transcript_of : List Event → List ℕ

@@ -1,11 +1,10 @@
 -- The steps of a replay.
-use Rattle.std.specs.Prelude.{◌≡◌, ℕ, Bool, true, false, List, [], ◌∷◌, ◌++◌, None, if◌then◌else◌, codes}
+use Rattle.std.specs.Prelude.{◌≡◌, ℕ, Bool, true, false, List, [], ◌∷◌, ◌++◌, None, if◌then◌else◌}
 use Rattle.am_journal.specs.declared.event.Event.{Event}
 use Rattle.am_journal.specs.Journal.{is_report}
 use Rattle.am_journal.specs.Line.{event_of}
-use Rattle.am_journal.specs.Texts.{word_of, refused_text}
-use Rattle.acmefs.specs.declared.script.Fault.{Fault}
-use Rattle.acmefs.specs.declared.script.Fault.TheVariants as fault
+use Rattle.am_journal.specs.Texts.{refused_text}
+use Rattle.am_serve.specs.Faults.{fault_word}
 use Rattle.acmefs.specs.declared.script.Did.{Did}
 use Rattle.acmefs.specs.declared.script.Did.TheVariants as did
 use Rattle.acmefs.specs.declared.script.Stop.{Stop}
@@ -13,14 +12,8 @@ use Rattle.acmefs.specs.declared.script.Stop.TheVariants as stop
 use Rattle.acmefs.specs.declared.replay.End.{End}
 use Rattle.acmefs.specs.declared.replay.End.TheVariants as ends
 use Rattle.acmefs.specs.Scripts.{Script, ended, refused_at, play_line, end_of}
-use Rattle.am_base.specs.Written.{Output}
+use Rattle.am_base.specs.Seen.{Seen}
 use Rattle.acmefs.specs.Written.{Wrote, IsFront, IsCaughtUp}
-
--- the word for a refused line
-abbrev pub fault_word : Fault → List ℕ
-fault_word fault.Line = codes "line"
-fault_word fault.Input = codes "input"
-fault_word (fault.NotEnabled why) = word_of why
 
 -- one line of a script, whatever comes behind it
 abbrev pub line_script : List Event → ℕ → List ℕ → (List Event → Script) → Script
@@ -34,8 +27,8 @@ DidLine (did.Refused f) before k line now = ((go : List Event → Script) → li
 DidLine did.NoMemory before k line now = now ≡ before
 
 -- what putting a text does, by whether the output failed before and fails now
-abbrev pub Put : Bool → Bool → Output → List ℕ → Type 0
-Put true true o text = (o.held_now ≡ o.held) × (o.faults_now ≡ o.faults)
+abbrev pub Put : Bool → Bool → Seen → List ℕ → Type 0
+Put true true o text = (o.now.bytes ≡ o.before.bytes) × (o.now.faults ≡ o.before.faults)
 Put true false o text = ⊥
 Put false failed o text = Wrote failed o text
 
@@ -46,7 +39,7 @@ Stops (stop.Refused line f) script journal = script ≡ refused_at journal line 
 Stops stop.NoMemory script journal = IsFront journal script.events
 
 -- what was put by then
-abbrev pub Shows : Stop → Bool → Output → List Event → List ℕ → Type 0
+abbrev pub Shows : Stop → Bool → Seen → List Event → List ℕ → Type 0
 Shows stop.Report failed o journal replied = Wrote failed o replied
 Shows (stop.Refused line f) failed o journal replied = Wrote failed o replied
 Shows stop.NoMemory failed o journal replied = (text : List ℕ) × IsCaughtUp journal text × Wrote failed o text

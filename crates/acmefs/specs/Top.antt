@@ -3,7 +3,7 @@
 use Rattle.std.specs.Prelude.{◌≡◌, ◌⊎◌, ℕ, true, false, List, [], Option, Some, None, IfSome}
 use Rattle.std.specs.List.{AllByRecursion}
 use Rattle.am_base.specs.Outside.{HasRisen}
-use Rattle.am_base.specs.Written.{Output}
+use Rattle.am_base.specs.Seen.{Given, Seen}
 use Rattle.am_counter.specs.Played.{IsPlayed}
 use Rattle.am_journal.specs.declared.event.Event.{Event}
 use Rattle.am_words.specs.Words.{are_pack, are_replay, are_trace, asks_do, asks_drill, asks_serve, tree_name, AreKnown, AskDo, AskServe}
@@ -11,7 +11,7 @@ use Rattle.am_words.specs.declared.asked.Tree.{Tree}
 use Rattle.acme_core.specs.Run.{enabled}
 use Rattle.core_laws.specs.Journals.{JournalLaws}
 use Rattle.am_slots.specs.Slots.{Outside}
-use Rattle.am_server.specs.Ends.{Given, SaysServe}
+use Rattle.am_server.specs.Ends.{SaysServe}
 use Rattle.am_server.specs.Replied.{GotAll}
 use Rattle.am_server.specs.Sound.{EndsWell}
 use Rattle.am_server.specs.declared.served.Served.{Served}
@@ -27,35 +27,34 @@ use Rattle.acmefs.specs.Traces.{TraceEnds}
 use Rattle.acmefs.specs.declared.status.Status.{Status}
 use Rattle.acmefs.specs.declared.status.Status.TheVariants as exit
 
--- All that is seen of a run: the words after the program's name and the exit status, what the outside's objects tell, what was given (the
--- bytes that the input told, and counts of faults), the bytes that the input tells afterwards, the output, the journal and the connections.
+-- All that is seen of a run: the words after the program's name and the exit status, what the outside's objects tell, what was given (what
+-- the input tells, and the host's counts of faults), the output, the journal and the connections.
 pub record Run (G L S K : Type 0) : Type 0 where
   pub words : List (List ℕ)
   pub status : Status
   pub objects : Outside G L S K
   pub given : Given
-  pub left_now : Option (List ℕ)
-  pub output : Output
+  pub output : Seen
   pub journal : List Event
   pub served : List (Served G L S K)
 
 module _ {G L S K : Type 0} where
-  abbrev pub run : List (List ℕ) → Status → Outside G L S K → Given → Option (List ℕ) → Output → List Event → List (Served G L S K) → Run G L S K
-  run words status objects given left_now output journal served =
-      record { words = words; status = status; objects = objects; given = given; left_now = left_now; output = output; journal = journal; served = served }
+  abbrev pub run : List (List ℕ) → Status → Outside G L S K → Given → Seen → List Event → List (Served G L S K) → Run G L S K
+  run words status objects given output journal served =
+      record { words = words; status = status; objects = objects; given = given; output = output; journal = journal; served = served }
 
   -- of all words
   pub record OfWords (r : Run G L S K) : Type 0 where
     -- Status 1 comes exactly where the words ask for nothing that is known; then nothing is read, written or done.
     pub usage : r.status ≡ exit.Usage → ¬ AreKnown r.words
     pub other_words : ¬ AreKnown r.words → r.status ≡ exit.Usage
-    pub unread : r.status ≡ exit.Usage → r.left_now ≡ r.given.told
+    pub unread : r.status ≡ exit.Usage → r.given.input.now.bytes ≡ r.given.input.before.bytes
     pub idle_words : r.status ≡ exit.Usage → IsIdle r.output r.journal
     -- Status 3 comes only where the input's count of faults rose; then nothing is written or done.
-    pub read_fault : r.status ≡ exit.ReadFault → HasRisen r.given.faults r.given.faults_now
+    pub read_fault : r.status ≡ exit.ReadFault → HasRisen r.given.input.before.faults r.given.input.now.faults
     pub idle_fault : r.status ≡ exit.ReadFault → IsIdle r.output r.journal
     -- Status 4 comes only where the output's count rose.
-    pub write_cause : r.status ≡ exit.WriteFault → HasRisen r.output.faults r.output.faults_now
+    pub write_cause : r.status ≡ exit.WriteFault → HasRisen r.output.before.faults r.output.now.faults
     -- Only words that ask for serving, or for doing lines, tell of connections.
     pub none_served : asks_serve r.words ≡ None → asks_do r.words ≡ None → r.served ≡ []
     -- Each event of the journal is lawful, and was enabled at its place. The events of packing needn't be enabled.
@@ -69,31 +68,31 @@ module _ {G L S K : Type 0} where
   -- of replays, traces and packing
   pub record OfReplay (r : Run G L S K) : Type 0 where
     -- A replay with status 0: no line is refused, the journal is the events of the script, and the whole text is written.
-    pub done : are_replay r.words ≡ true → r.status ≡ exit.Done → RanTold ends.Done r.given.told r.output r.journal
+    pub done : are_replay r.words ≡ true → r.status ≡ exit.Done → RanTold ends.Done r.given.input.before.bytes r.output r.journal
     -- Status 2: a line, or the whole input, is refused; all events before it are done and written.
-    pub script : are_replay r.words ≡ true → r.status ≡ exit.Refused → RanTold ends.Script r.given.told r.output r.journal
+    pub script : are_replay r.words ≡ true → r.status ≡ exit.Refused → RanTold ends.Script r.given.input.before.bytes r.output r.journal
     -- Status 4: all events are done, a front of the text is written.
-    pub write_fault : are_replay r.words ≡ true → r.status ≡ exit.WriteFault → RanTold ends.WriteFault r.given.told r.output r.journal
+    pub write_fault : are_replay r.words ≡ true → r.status ≡ exit.WriteFault → RanTold ends.WriteFault r.given.input.before.bytes r.output r.journal
     -- Status 6: a front of the events is done, and the lines of their replies are written.
-    pub no_memory : are_replay r.words ≡ true → r.status ≡ exit.NoMemory → RanTold ends.NoMemory r.given.told r.output r.journal
+    pub no_memory : are_replay r.words ≡ true → r.status ≡ exit.NoMemory → RanTold ends.NoMemory r.given.input.before.bytes r.output r.journal
     -- No line refused and no fault outside: the whole text, or want of memory.
-    pub complete : are_replay r.words ≡ true → IfSome r.given.told (λ bytes. IsComplete r.status (script_of bytes) r.given.faults r.given.faults_now r.output r.journal)
+    pub complete : are_replay r.words ≡ true → IfSome r.given.input.before.bytes (λ bytes. IsComplete r.status (script_of bytes) r.given.input.before r.given.input.now r.output r.journal)
     -- The same of any input, also of one that doesn't tell its bytes: some bytes were replayed so.
-    pub headline : are_replay r.words ≡ true → (end : End) × (r.status ≡ status_of end) × Says end r.given.told r.given.faults r.given.faults_now r.output r.journal
+    pub headline : are_replay r.words ≡ true → (end : End) × (r.status ≡ status_of end) × Says end r.given.input.before r.given.input.now r.output r.journal
     -- The output got the lines of the journal's replies, and then the report of its run or a line `refused`: by the status all of it, or a
     -- front.
     pub own_text : are_replay r.words ≡ true → (end : End) × (r.status ≡ status_of end) × PutsOwn end r.output r.journal
     -- A trace: a replay whose text is in words.
-    pub traces : are_trace r.words ≡ true → TraceEnds r.status r.given.told r.given.faults r.given.faults_now r.output r.journal
+    pub traces : are_trace r.words ≡ true → TraceEnds r.status r.given.input.before r.given.input.now r.output r.journal
     -- Packing: the events that a text in words spells, and their lines.
-    pub packs : are_pack r.words ≡ true → PackEnds r.status r.given.told r.given.faults r.given.faults_now r.output r.journal
+    pub packs : are_pack r.words ≡ true → PackEnds r.status r.given.input.before r.given.input.now r.output r.journal
 
   -- of drills
   pub record OfDrill (r : Run G L S K) : Type 0 where
     -- The drill's events, and the summary of their run. The input isn't read.
     pub drills : (rounds : ℕ) → asks_drill r.words ≡ Some rounds → Drilled r.status rounds r.output r.journal
     pub drilled : (rounds : ℕ) → asks_drill r.words ≡ Some rounds → IsDrilled r.status rounds r.output r.journal
-    pub drill_reads_none : (rounds : ℕ) → asks_drill r.words ≡ Some rounds → r.left_now ≡ r.given.told
+    pub drill_reads_none : (rounds : ℕ) → asks_drill r.words ≡ Some rounds → r.given.input.now.bytes ≡ r.given.input.before.bytes
 
   -- of serving
   pub record OfServing (r : Run G L S K) : Type 0 where
@@ -109,7 +108,7 @@ module _ {G L S K : Type 0} where
     pub sound : AllByRecursion (EndsWell r.objects r.journal) r.served
     -- No line of the script refused and no fault outside: the whole text, or want of memory.
     pub serve_complete : (path : List ℕ) (clients : ℕ) → AskServe r.words path clients
-        → IfSome r.given.told (λ bytes. IsServeComplete r.status r.objects clients bytes r.given r.output r.journal r.served)
+        → IfSome r.given.input.before.bytes (λ bytes. IsServeComplete r.status r.objects clients bytes r.given r.output r.journal r.served)
 
   -- of doing lines
   pub record OfDoing (r : Run G L S K) : Type 0 where

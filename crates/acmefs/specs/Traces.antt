@@ -5,8 +5,9 @@ use Rattle.ninep_types.specs.declared.fault.WireFault.{WireFault}
 use Rattle.ninep_types.specs.declared.message.RMsg.{RMsg}
 use Rattle.ninep_types.specs.Reading.{r_of}
 use Rattle.ninep_types.specs.Spelling.{spelling_r}
-use Rattle.am_base.specs.Outside.{AreTold, HasRisen, PutsFront}
-use Rattle.am_base.specs.Written.{Output, IsWhole, IsCut, IsPut}
+use Rattle.am_base.specs.Outside.{BytesTold, AreTold, HasRisen, PutsFront}
+use Rattle.am_base.specs.Seen.{Seen}
+use Rattle.am_base.specs.Written.{IsWhole, IsCut, IsPut}
 use Rattle.am_journal.specs.declared.event.Event.{Event}
 use Rattle.am_journal.specs.Journal.{journal_text}
 use Rattle.ninep_trace.specs.Words.{event_words, words_r, IsReply, IsReplyInRange}
@@ -71,36 +72,36 @@ AllHaveWords s (e ∷ es) = AllByRecursion HasWords (step s e).replies × AllHav
 -- ---- how a trace ends
 
 -- what was put where a script stopped
-abbrev pub Shown : Stop → Bool → Output → List Event → Type 0
+abbrev pub Shown : Stop → Bool → Seen → List Event → Type 0
 Shown stop.Report failed o journal = Wrote failed o (traced journal) × AllHaveWords start journal
 Shown (stop.Refused line f) failed o journal = Wrote failed o (traced journal)
 Shown stop.NoMemory failed o journal = (text : List ℕ) × IsFront text (traced journal) × Wrote failed o text
 
 -- what each end says of a script, the output and the journal
-abbrev pub Traces : End → scripts.Script → Output → List Event → Type 0
+abbrev pub Traces : End → scripts.Script → Seen → List Event → Type 0
 Traces Done script o journal = (journal ≡ script.events) × (script.refused ≡ None) × IsWhole o (trace_of script) × AllHaveWords start journal
 Traces Usage script o journal = ⊥
 Traces Script script o journal = (journal ≡ script.events) × IsRefused script × IsPut o (trace_of script)
 Traces ReadFault script o journal = ⊥
 Traces WriteFault script o journal = (journal ≡ script.events) × (script.refused ≡ None) × IsCut o (trace_of script)
-Traces NoMemory script o journal = IsFront journal script.events × PutsFront o.held (trace_of script) o.held_now
+Traces NoMemory script o journal = IsFront journal script.events × PutsFront o.before.bytes (trace_of script) o.now.bytes
 
 -- Some bytes, those that the input told where it tells them, were traced so.
-abbrev pub TracesSome : End → Option (List ℕ) → Output → List Event → Type 0
+abbrev pub TracesSome : End → Option (List ℕ) → Seen → List Event → Type 0
 TracesSome end told o journal = (bytes : List ℕ) × AreTold told bytes × Traces end (script_of bytes) o journal
 
 -- what each end says of an input, by what it told and its count of faults, the output and the journal
-abbrev pub TraceSays : End → Option (List ℕ) → ℕ → ℕ → Output → List Event → Type 0
-TraceSays Done told before now o journal = TracesSome Done told o journal
-TraceSays Usage told before now o journal = ⊥
-TraceSays Script told before now o journal = TracesSome Script told o journal
-TraceSays ReadFault told before now o journal = IsIdle o journal × HasRisen before now
-TraceSays WriteFault told before now o journal = TracesSome WriteFault told o journal
-TraceSays NoMemory told before now o journal = TracesSome NoMemory told o journal
+abbrev pub TraceSays : End → BytesTold → BytesTold → Seen → List Event → Type 0
+TraceSays Done before now o journal = TracesSome Done before.bytes o journal
+TraceSays Usage before now o journal = ⊥
+TraceSays Script before now o journal = TracesSome Script before.bytes o journal
+TraceSays ReadFault before now o journal = IsIdle o journal × HasRisen before.faults now.faults
+TraceSays WriteFault before now o journal = TracesSome WriteFault before.bytes o journal
+TraceSays NoMemory before now o journal = TracesSome NoMemory before.bytes o journal
 
 -- Where no event is refused and no count of faults rises, the whole text is written, or memory runs out.
-abbrev pub IsTraced : Status → scripts.Script → ℕ → ℕ → Output → List Event → Type 0
-IsTraced status script before now o journal = script.refused ≡ None → ¬ HasRisen before now → ¬ HasRisen o.faults o.faults_now
+abbrev pub IsTraced : Status → scripts.Script → BytesTold → BytesTold → Seen → List Event → Type 0
+IsTraced status script before now o journal = script.refused ≡ None → ¬ HasRisen before.faults now.faults → ¬ HasRisen o.before.faults o.now.faults
     → ((status ≡ exit.Done) × Traces Done script o journal) ⊎ (status ≡ exit.NoMemory)
 
 -- the text of a trace of which nothing is refused
@@ -114,7 +115,7 @@ pub record PacksBack (journal : List Event) : Type 0 where
 
 -- What a trace comes to, by its status: what it says of the input, the output and the journal; that it is done and written whole unless
 -- something outside it failed; and that its text is packed back.
-pub record TraceEnds (status : Status) (told : Option (List ℕ)) (before now : ℕ) (o : Output) (journal : List Event) : Type 0 where
-  pub says : (end : End) × (status ≡ status_of end) × TraceSays end told before now o journal
-  pub complete : IfSome told (λ bytes. IsTraced status (script_of bytes) before now o journal)
+pub record TraceEnds (status : Status) (before now : BytesTold) (o : Seen) (journal : List Event) : Type 0 where
+  pub says : (end : End) × (status ≡ status_of end) × TraceSays end before now o journal
+  pub complete : IfSome before.bytes (λ bytes. IsTraced status (script_of bytes) before now o journal)
   pub packs_back : status ≡ exit.Done → PacksBack journal

@@ -3,7 +3,7 @@
 ghost use Rattle.std.specs.Prelude.{◌≡◌, ◌⊎◌, ◌≤◌, ℕ, List, [], Some, None, true, false, IfSome};
 ghost use Rattle.std.specs.List.{AllByRecursion};
 ghost use Rattle.am_base.specs.Outside.{HasRisen};
-ghost use Rattle.am_base.specs.Written.{seen};
+ghost use Rattle.am_base.specs.Seen.{given, seen};
 ghost use Rattle.am_counter.specs.Played.{IsPlayed};
 ghost use Rattle.acme_core.specs.Run.{enabled};
 ghost use Rattle.acmefs.specs.declared.status.Status.TheVariants as exit;
@@ -18,7 +18,7 @@ ghost use Rattle.am_pack.specs.Ends.{PackSays};
 ghost use Rattle.am_journal.specs.Journal.{AreSpelled};
 ghost use Rattle.am_words.specs.Words.{are_pack, are_replay, are_trace, asks_do, asks_drill, asks_serve, tree_name, AskDo, AskServe, AreKnown};
 ghost use Rattle.am_words.specs.declared.asked.Tree.{Tree};
-ghost use Rattle.am_server.specs.Ends.{SaysServe, given};
+ghost use Rattle.am_server.specs.Ends.{SaysServe};
 ghost use Rattle.am_server.specs.Replied.{GotAll};
 ghost use Rattle.am_server.specs.Sound.{EndsWell};
 ghost use Rattle.am_slots.specs.Slots.{outside};
@@ -33,6 +33,7 @@ use crate::status::Status;
 use crate::trace::trace;
 use am_base::{Host, Sink, Source};
 use am_pack::{PackEnd, pack};
+use am_slots::Site;
 use am_text::{Items, NoMemory, Words};
 use am_words::{Asked, read_words};
 use std::alloc::Global;
@@ -42,8 +43,8 @@ use std::thread::Threads;
 // What a replay comes to.
 fn replayed<I: Source, O: Sink, H: Host>(alloc: Global, input: &mut I, output: &mut O) -> Outcome<H>
     ensures says { (end : _) × (result.status ≡ status_of end)
-        × Says end (I.left input.old) (I.faults input.old) (I.faults input.new)
-        (seen (O.held output.old) (O.held output.new) (O.faults output.old) (O.faults output.new)) result.journal }
+        × Says end (I.told input.old) (I.told input.new)
+        (seen (O.told output.old) (O.told output.new)) result.journal }
     ensures played { IsPlayed enabled result.journal }
     ensures round_trip { RoundTrips result.journal }
     ensures laws { JournalLaws result.journal }
@@ -60,8 +61,8 @@ fn replayed<I: Source, O: Sink, H: Host>(alloc: Global, input: &mut I, output: &
 // What a trace comes to.
 fn traced<I: Source, O: Sink, H: Host>(alloc: Global, input: &mut I, output: &mut O) -> Outcome<H>
     ensures says { (end : _) × (result.status ≡ status_of end)
-        × TraceSays end (I.left input.old) (I.faults input.old) (I.faults input.new)
-        (seen (O.held output.old) (O.held output.new) (O.faults output.old) (O.faults output.new)) result.journal }
+        × TraceSays end (I.told input.old) (I.told input.new)
+        (seen (O.told output.old) (O.told output.new)) result.journal }
     ensures played { IsPlayed enabled result.journal }
     ensures round_trip { RoundTrips result.journal }
     ensures laws { JournalLaws result.journal }
@@ -91,8 +92,8 @@ fn pack_status(end: PackEnd) -> Status
 // What packing comes to.
 fn packed<I: Source, O: Sink, H: Host>(alloc: Global, input: &mut I, output: &mut O) -> Outcome<H>
     ensures says { (end : _) × (result.status ≡ pack_status end)
-        × PackSays end (I.left input.old) (I.faults input.old) (I.faults input.new)
-        (seen (O.held output.old) (O.held output.new) (O.faults output.old) (O.faults output.new)) result.journal }
+        × PackSays end (I.told input.old) (I.told input.new)
+        (seen (O.told output.old) (O.told output.new)) result.journal }
     ensures spelled { AreSpelled result.journal }
     ensures none_served { result.served ≡ [] }
 {
@@ -108,7 +109,7 @@ fn packed<I: Source, O: Sink, H: Host>(alloc: Global, input: &mut I, output: &mu
 fn drilled<O: Sink, H: Host>(alloc: Global, rounds: u64, output: &mut O) -> Outcome<H>
     requires rounds { (1 ≤ rounds) × (rounds ≤ 100000) }
     ensures drills { Drilled result.status rounds
-        (seen (O.held output.old) (O.held output.new) (O.faults output.old) (O.faults output.new)) result.journal }
+        (seen (O.told output.old) (O.told output.new)) result.journal }
     ensures played { IsPlayed enabled result.journal }
     ensures round_trip { RoundTrips result.journal }
     ensures laws { JournalLaws result.journal }
@@ -133,59 +134,59 @@ pub(crate) fn do_asked<I: Source, O: Sink, H: Host, R: Threads + Wait + Sync>(
 ) -> Outcome<H>
     ensures usage { result.status ≡ exit.Usage → ¬ AreKnown words.now }
     ensures other_words { ¬ AreKnown words.now → result.status ≡ exit.Usage }
-    ensures unread { result.status ≡ exit.Usage → I.left input.new ≡ I.left input.old }
+    ensures unread { result.status ≡ exit.Usage → (I.told input.new).bytes ≡ (I.told input.old).bytes }
     ensures idle_words { result.status ≡ exit.Usage → IsIdle
-        (seen (O.held output.old) (O.held output.new) (O.faults output.old) (O.faults output.new)) result.journal }
-    ensures read_fault { result.status ≡ exit.ReadFault → HasRisen (I.faults input.old) (I.faults input.new) }
+        (seen (O.told output.old) (O.told output.new)) result.journal }
+    ensures read_fault { result.status ≡ exit.ReadFault → HasRisen (I.told input.old).faults (I.told input.new).faults }
     ensures idle_fault { result.status ≡ exit.ReadFault → IsIdle
-        (seen (O.held output.old) (O.held output.new) (O.faults output.old) (O.faults output.new)) result.journal }
-    ensures done { are_replay words.now ≡ true → result.status ≡ exit.Done → RanTold ends.Done (I.left input.old)
-        (seen (O.held output.old) (O.held output.new) (O.faults output.old) (O.faults output.new)) result.journal }
-    ensures script { are_replay words.now ≡ true → result.status ≡ exit.Refused → RanTold ends.Script (I.left input.old)
-        (seen (O.held output.old) (O.held output.new) (O.faults output.old) (O.faults output.new)) result.journal }
-    ensures write_fault { are_replay words.now ≡ true → result.status ≡ exit.WriteFault → RanTold ends.WriteFault (I.left input.old)
-        (seen (O.held output.old) (O.held output.new) (O.faults output.old) (O.faults output.new)) result.journal }
-    ensures write_cause { result.status ≡ exit.WriteFault → HasRisen (O.faults output.old) (O.faults output.new) }
-    ensures no_memory { are_replay words.now ≡ true → result.status ≡ exit.NoMemory → RanTold ends.NoMemory (I.left input.old)
-        (seen (O.held output.old) (O.held output.new) (O.faults output.old) (O.faults output.new)) result.journal }
-    ensures complete { are_replay words.now ≡ true → IfSome (I.left input.old) (λ bytes.
-        IsComplete result.status (script_of bytes) (I.faults input.old) (I.faults input.new)
-        (seen (O.held output.old) (O.held output.new) (O.faults output.old) (O.faults output.new)) result.journal) }
+        (seen (O.told output.old) (O.told output.new)) result.journal }
+    ensures done { are_replay words.now ≡ true → result.status ≡ exit.Done → RanTold ends.Done (I.told input.old).bytes
+        (seen (O.told output.old) (O.told output.new)) result.journal }
+    ensures script { are_replay words.now ≡ true → result.status ≡ exit.Refused → RanTold ends.Script (I.told input.old).bytes
+        (seen (O.told output.old) (O.told output.new)) result.journal }
+    ensures write_fault { are_replay words.now ≡ true → result.status ≡ exit.WriteFault → RanTold ends.WriteFault (I.told input.old).bytes
+        (seen (O.told output.old) (O.told output.new)) result.journal }
+    ensures write_cause { result.status ≡ exit.WriteFault → HasRisen (O.told output.old).faults (O.told output.new).faults }
+    ensures no_memory { are_replay words.now ≡ true → result.status ≡ exit.NoMemory → RanTold ends.NoMemory (I.told input.old).bytes
+        (seen (O.told output.old) (O.told output.new)) result.journal }
+    ensures complete { are_replay words.now ≡ true → IfSome (I.told input.old).bytes (λ bytes.
+        IsComplete result.status (script_of bytes) (I.told input.old) (I.told input.new)
+        (seen (O.told output.old) (O.told output.new)) result.journal) }
     ensures headline { are_replay words.now ≡ true → (end : _) × (result.status ≡ status_of end)
-        × Says end (I.left input.old) (I.faults input.old) (I.faults input.new)
-        (seen (O.held output.old) (O.held output.new) (O.faults output.old) (O.faults output.new)) result.journal }
+        × Says end (I.told input.old) (I.told input.new)
+        (seen (O.told output.old) (O.told output.new)) result.journal }
     ensures own_text { are_replay words.now ≡ true → (end : _) × (result.status ≡ status_of end) × PutsOwn end
-        (seen (O.held output.old) (O.held output.new) (O.faults output.old) (O.faults output.new)) result.journal }
-    ensures traces { are_trace words.now ≡ true → TraceEnds result.status (I.left input.old) (I.faults input.old) (I.faults input.new)
-        (seen (O.held output.old) (O.held output.new) (O.faults output.old) (O.faults output.new)) result.journal }
-    ensures packs { are_pack words.now ≡ true → PackEnds result.status (I.left input.old) (I.faults input.old) (I.faults input.new)
-        (seen (O.held output.old) (O.held output.new) (O.faults output.old) (O.faults output.new)) result.journal }
+        (seen (O.told output.old) (O.told output.new)) result.journal }
+    ensures traces { are_trace words.now ≡ true → TraceEnds result.status (I.told input.old) (I.told input.new)
+        (seen (O.told output.old) (O.told output.new)) result.journal }
+    ensures packs { are_pack words.now ≡ true → PackEnds result.status (I.told input.old) (I.told input.new)
+        (seen (O.told output.old) (O.told output.new)) result.journal }
     ensures drills { (rounds : ℕ) → asks_drill words.now ≡ Some rounds → Drilled result.status rounds
-        (seen (O.held output.old) (O.held output.new) (O.faults output.old) (O.faults output.new)) result.journal }
+        (seen (O.told output.old) (O.told output.new)) result.journal }
     ensures drilled { (rounds : ℕ) → asks_drill words.now ≡ Some rounds → IsDrilled result.status rounds
-        (seen (O.held output.old) (O.held output.new) (O.faults output.old) (O.faults output.new)) result.journal }
-    ensures drill_reads_none { (rounds : ℕ) → asks_drill words.now ≡ Some rounds → I.left input.new ≡ I.left input.old }
+        (seen (O.told output.old) (O.told output.new)) result.journal }
+    ensures drill_reads_none { (rounds : ℕ) → asks_drill words.now ≡ Some rounds → (I.told input.new).bytes ≡ (I.told input.old).bytes }
     ensures none_served { asks_serve words.now ≡ None → asks_do words.now ≡ None → result.served ≡ [] }
     ensures serves { (path : List ℕ) (clients : ℕ) → AskServe words.now path clients → (end : _) × (result.status ≡ serve_status end)
-        × SaysServe (outside H.G.name H.G.faults H.G.L.begins H.G.L.faults H.G.L.R.left H.G.L.R.faults H.G.L.W.held H.G.L.W.faults) path clients
-        (given (I.left input.old) (I.faults input.old) (I.faults input.new) (H.faults host.old) (H.faults host.new))
-        (seen (O.held output.old) (O.held output.new) (O.faults output.old) (O.faults output.new))
+        × SaysServe (outside H.G.told H.G.L.told H.G.L.R.told H.G.L.W.told) path clients
+        (given (I.told input.old) (I.told input.new) (H.faults host.old) (H.faults host.new))
+        (seen (O.told output.old) (O.told output.new))
         result.journal result.served end }
     ensures replied { (result.status ≡ exit.Done) ⊎ (result.status ≡ exit.WriteFault) → AllByRecursion
-        (GotAll (outside H.G.name H.G.faults H.G.L.begins H.G.L.faults H.G.L.R.left H.G.L.R.faults H.G.L.W.held H.G.L.W.faults) result.journal)
+        (GotAll (outside H.G.told H.G.L.told H.G.L.R.told H.G.L.W.told) result.journal)
         result.served }
     ensures sound { AllByRecursion
-        (EndsWell (outside H.G.name H.G.faults H.G.L.begins H.G.L.faults H.G.L.R.left H.G.L.R.faults H.G.L.W.held H.G.L.W.faults) result.journal)
+        (EndsWell (outside H.G.told H.G.L.told H.G.L.R.told H.G.L.W.told) result.journal)
         result.served }
-    ensures serve_complete { (path : List ℕ) (clients : ℕ) → AskServe words.now path clients → IfSome (I.left input.old) (λ bytes. IsServeComplete result.status
-        (outside H.G.name H.G.faults H.G.L.begins H.G.L.faults H.G.L.R.left H.G.L.R.faults H.G.L.W.held H.G.L.W.faults) clients bytes
-        (given (I.left input.old) (I.faults input.old) (I.faults input.new) (H.faults host.old) (H.faults host.new))
-        (seen (O.held output.old) (O.held output.new) (O.faults output.old) (O.faults output.new))
+    ensures serve_complete { (path : List ℕ) (clients : ℕ) → AskServe words.now path clients → IfSome (I.told input.old).bytes (λ bytes. IsServeComplete result.status
+        (outside H.G.told H.G.L.told H.G.L.R.told H.G.L.W.told) clients bytes
+        (given (I.told input.old) (I.told input.new) (H.faults host.old) (H.faults host.new))
+        (seen (O.told output.old) (O.told output.new))
         result.journal result.served) }
     ensures does { (path : List ℕ) (tree : Tree) → AskDo words.now path tree → Does result.status
-        (outside H.G.name H.G.faults H.G.L.begins H.G.L.faults H.G.L.R.left H.G.L.R.faults H.G.L.W.held H.G.L.W.faults) (tree_name tree)
-        (given (I.left input.old) (I.faults input.old) (I.faults input.new) (H.faults host.old) (H.faults host.new))
-        (seen (O.held output.old) (O.held output.new) (O.faults output.old) (O.faults output.new)) result.served }
+        (outside H.G.told H.G.L.told H.G.L.R.told H.G.L.W.told) (tree_name tree)
+        (given (I.told input.old) (I.told input.new) (H.faults host.old) (H.faults host.new))
+        (seen (O.told output.old) (O.told output.new)) result.served }
     ensures untouched { asks_serve words.now ≡ None → asks_do words.now ≡ None → host.new ≡ host.old }
     ensures played { are_pack words.now ≡ false → IsPlayed enabled result.journal }
     ensures round_trip { are_pack words.now ≡ false → RoundTrips result.journal }
@@ -197,7 +198,11 @@ pub(crate) fn do_asked<I: Source, O: Sink, H: Host, R: Threads + Wait + Sync>(
         Ok(Some(Asked::Pack)) => packed(alloc, input, output),
         Ok(Some(Asked::Drill { rounds })) => drilled(alloc, rounds, output),
         Ok(Some(Asked::Serve { path, clients })) => {
-            serve_main(rt, alloc, &path, clients, input, output, host)
+            let site = Site {
+                path: &path,
+                clients,
+            };
+            serve_main(rt, alloc, &site, input, output, host)
         }
         Ok(Some(Asked::Do { path, tree })) => do_main(alloc, &path, tree, input, output, host),
         Ok(None) => idle(alloc, End::Usage),

@@ -1,10 +1,9 @@
 //! Doing lines over a connection, by its exit status.
 
 ghost use Rattle.std.specs.Prelude.{◌≡◌, ◌≤◌, [], vec_capacity};
-ghost use Rattle.am_base.specs.Written.{seen};
+ghost use Rattle.am_base.specs.Seen.{given, seen};
 ghost use Rattle.ninep_types.specs.Spelling.{IsString};
 ghost use Rattle.am_slots.specs.Slots.{outside};
-ghost use Rattle.am_server.specs.Ends.{given};
 ghost use Rattle.am_words.specs.Words.{tree_name};
 ghost use Rattle.core_laws.specs.Journals.{JournalLaws};
 ghost use Rattle.acmefs.specs.Does.{Does, closed_by, do_status, ended_by, entry_of, how_ended, listed, undialled};
@@ -148,9 +147,9 @@ pub fn do_main<I: Source, O: Sink, H: Host>(
     host: &mut H,
 ) -> Outcome<H>
     ensures does { Does result.status
-        (outside H.G.name H.G.faults H.G.L.begins H.G.L.faults H.G.L.R.left H.G.L.R.faults H.G.L.W.held H.G.L.W.faults) (tree_name tree)
-        (given (I.left input.old) (I.faults input.old) (I.faults input.new) (H.faults host.old) (H.faults host.new))
-        (seen (O.held output.old) (O.held output.new) (O.faults output.old) (O.faults output.new)) result.served }
+        (outside H.G.told H.G.L.told H.G.L.R.told H.G.L.W.told) (tree_name tree)
+        (given (I.told input.old) (I.told input.new) (H.faults host.old) (H.faults host.new))
+        (seen (O.told output.old) (O.told output.new)) result.served }
     ensures journal { result.journal ≡ [] }
     ensures laws { JournalLaws result.journal }
 {

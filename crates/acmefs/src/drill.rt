@@ -1,13 +1,14 @@
 //! A drill, by its exit status.
 
 ghost use Rattle.std.specs.Prelude.{◌≡◌, ◌≤◌};
-ghost use Rattle.am_base.specs.Written.{seen};
+ghost use Rattle.am_base.specs.Seen.{seen};
 ghost use Rattle.am_counter.specs.Played.{IsPlayed};
 ghost use Rattle.acme_core.specs.Run.{enabled};
 ghost use Rattle.acmefs.specs.Ends.{drill_status, Drilled};
 ghost use Rattle.acmefs.specs.Own.{RoundTrips};
 ghost use Rattle.core_laws.specs.Journals.{JournalLaws};
 ghost use Rattle.event_laws.specs.Laws.{EventLaws};
+ghost use Rattle.port_laws.specs.Laws.{PortLaws};
 
 use crate::replay::ReplayEnd;
 use crate::status::Status;
@@ -15,6 +16,7 @@ use am_base::Sink;
 use am_drill::{DrillEnd, drill, drill_is_played};
 use core_laws::journals_are_lawful;
 use event_laws::events_are_lawful;
+use port_laws::ports_are_lawful;
 use std::alloc::Global;
 
 fn drill_status(end: DrillEnd) -> Status
@@ -32,7 +34,7 @@ fn drill_status(end: DrillEnd) -> Status
 pub fn drill_main<O: Sink>(alloc: Global, rounds: u64, output: &mut O) -> ReplayEnd
     requires rounds { (1 ≤ rounds) × (rounds ≤ 100000) }
     ensures drills { Drilled result.status rounds
-        (seen (O.held output.old) (O.held output.new) (O.faults output.old) (O.faults output.new)) result.journal }
+        (seen (O.told output.old) (O.told output.new)) result.journal }
     // Each event of the journal is lawful, and was enabled at its place.
     ensures played { IsPlayed enabled result.journal }
     // The journal's lines and then its report ask for the journal's events again, and are a transcript, where they aren't too long, that
@@ -42,9 +44,12 @@ pub fn drill_main<O: Sink>(alloc: Global, rounds: u64, output: &mut O) -> Replay
     ensures laws { JournalLaws result.journal }
     // What came of the items of event files.
     ensures events { EventLaws result.journal }
+    // What each opening of a port got of the messages that came to it.
+    ensures ports { PortLaws result.journal }
 {
     drill_is_played();
     events_are_lawful();
+    ports_are_lawful();
     journals_are_lawful();
     let drilled = drill(alloc, rounds, output);
     ReplayEnd {

@@ -1,7 +1,7 @@
 //! All that the program does.
 
 ghost use Rattle.std.specs.Prelude.{◌≡◌, None};
-ghost use Rattle.am_base.specs.Written.{seen};
+ghost use Rattle.am_base.specs.Seen.{given, seen};
 ghost use Rattle.am_counter.specs.Played.{IsPlayed};
 ghost use Rattle.acme_core.specs.Run.{enabled};
 ghost use Rattle.acme_core.specs.Laws.{EachIsAnswered};
@@ -11,7 +11,7 @@ ghost use Rattle.acmefs.specs.Top.{OfDoing, OfDrill, OfReplay, OfServing, OfWord
 ghost use Rattle.am_words.specs.Words.{asks_do, asks_serve};
 ghost use Rattle.core_laws.specs.Journals.{JournalLaws};
 ghost use Rattle.event_laws.specs.Laws.{EventLaws};
-ghost use Rattle.am_server.specs.Ends.{given};
+ghost use Rattle.port_laws.specs.Laws.{PortLaws};
 ghost use Rattle.am_slots.specs.Slots.{outside};
 
 use crate::asked::do_asked;
@@ -21,6 +21,7 @@ use acme_core::messages_are_answered;
 use am_base::{Host, Sink, Source};
 use am_text::Words;
 use event_laws::events_are_lawful;
+use port_laws::ports_are_lawful;
 use std::alloc::Global;
 use std::sync::Wait;
 use std::thread::Threads;
@@ -45,29 +46,29 @@ pub fn acmefs<I: Source, O: Sink, H: Host, R: Threads + Wait + Sync>(
 ) -> Outcome<H>
     // Which words are known, what statuses 1, 3 and 4 say of any words, and what holds of every journal.
     ensures words { OfWords (run words.now result.status
-        (outside H.G.name H.G.faults H.G.L.begins H.G.L.faults H.G.L.R.left H.G.L.R.faults H.G.L.W.held H.G.L.W.faults)
-        (given (I.left input.old) (I.faults input.old) (I.faults input.new) (H.faults host.old) (H.faults host.new)) (I.left input.new)
-        (seen (O.held output.old) (O.held output.new) (O.faults output.old) (O.faults output.new)) result.journal result.served) }
+        (outside H.G.told H.G.L.told H.G.L.R.told H.G.L.W.told)
+        (given (I.told input.old) (I.told input.new) (H.faults host.old) (H.faults host.new))
+        (seen (O.told output.old) (O.told output.new)) result.journal result.served) }
     // A replay, a trace and packing.
     ensures replay { OfReplay (run words.now result.status
-        (outside H.G.name H.G.faults H.G.L.begins H.G.L.faults H.G.L.R.left H.G.L.R.faults H.G.L.W.held H.G.L.W.faults)
-        (given (I.left input.old) (I.faults input.old) (I.faults input.new) (H.faults host.old) (H.faults host.new)) (I.left input.new)
-        (seen (O.held output.old) (O.held output.new) (O.faults output.old) (O.faults output.new)) result.journal result.served) }
+        (outside H.G.told H.G.L.told H.G.L.R.told H.G.L.W.told)
+        (given (I.told input.old) (I.told input.new) (H.faults host.old) (H.faults host.new))
+        (seen (O.told output.old) (O.told output.new)) result.journal result.served) }
     // A drill.
     ensures drill { OfDrill (run words.now result.status
-        (outside H.G.name H.G.faults H.G.L.begins H.G.L.faults H.G.L.R.left H.G.L.R.faults H.G.L.W.held H.G.L.W.faults)
-        (given (I.left input.old) (I.faults input.old) (I.faults input.new) (H.faults host.old) (H.faults host.new)) (I.left input.new)
-        (seen (O.held output.old) (O.held output.new) (O.faults output.old) (O.faults output.new)) result.journal result.served) }
+        (outside H.G.told H.G.L.told H.G.L.R.told H.G.L.W.told)
+        (given (I.told input.old) (I.told input.new) (H.faults host.old) (H.faults host.new))
+        (seen (O.told output.old) (O.told output.new)) result.journal result.served) }
     // Serving.
     ensures serve { OfServing (run words.now result.status
-        (outside H.G.name H.G.faults H.G.L.begins H.G.L.faults H.G.L.R.left H.G.L.R.faults H.G.L.W.held H.G.L.W.faults)
-        (given (I.left input.old) (I.faults input.old) (I.faults input.new) (H.faults host.old) (H.faults host.new)) (I.left input.new)
-        (seen (O.held output.old) (O.held output.new) (O.faults output.old) (O.faults output.new)) result.journal result.served) }
+        (outside H.G.told H.G.L.told H.G.L.R.told H.G.L.W.told)
+        (given (I.told input.old) (I.told input.new) (H.faults host.old) (H.faults host.new))
+        (seen (O.told output.old) (O.told output.new)) result.journal result.served) }
     // Doing lines.
     ensures doing { OfDoing (run words.now result.status
-        (outside H.G.name H.G.faults H.G.L.begins H.G.L.faults H.G.L.R.left H.G.L.R.faults H.G.L.W.held H.G.L.W.faults)
-        (given (I.left input.old) (I.faults input.old) (I.faults input.new) (H.faults host.old) (H.faults host.new)) (I.left input.new)
-        (seen (O.held output.old) (O.held output.new) (O.faults output.old) (O.faults output.new)) result.journal result.served) }
+        (outside H.G.told H.G.L.told H.G.L.R.told H.G.L.W.told)
+        (given (I.told input.old) (I.told input.new) (H.faults host.old) (H.faults host.new))
+        (seen (O.told output.old) (O.told output.new)) result.journal result.served) }
     // Only words that ask for serving, or for doing lines, touch the host.
     ensures untouched { asks_serve words.now ≡ None → asks_do words.now ≡ None → host.new ≡ host.old }
     // Each message of the journal is answered by its own R message, unless one of the named refusals applies, whose
@@ -75,22 +76,25 @@ pub fn acmefs<I: Source, O: Sink, H: Host, R: Threads + Wait + Sync>(
     ensures answered { EachIsAnswered }
     // What came of the items of event files: their order, what each opening got of them, and when they were dropped.
     ensures events { EventLaws result.journal }
+    // What each opening of a port got of the messages that came to it.
+    ensures ports { PortLaws result.journal }
 {
     messages_are_answered();
     events_are_lawful();
+    ports_are_lawful();
     do_asked(rt, alloc, words, input, output, host)
 }
 
 /// Replays the transcript that the input gives, and writes a line for each reply and the report.
 pub fn replay_main<I: Source, O: Sink>(alloc: Global, input: &mut I, output: &mut O) -> ReplayEnd
     ensures headline { (end : _) × (result.status ≡ status_of end)
-        × Says end (I.left input.old) (I.faults input.old) (I.faults input.new)
-        (seen (O.held output.old) (O.held output.new) (O.faults output.old) (O.faults output.new))
+        × Says end (I.told input.old) (I.told input.new)
+        (seen (O.told output.old) (O.told output.new))
         result.journal }
     // The output got the lines of the journal's replies, and then the report of its run or a line `refused`: by the
     // status all of it, or a front.
     ensures own_text { (end : _) × (result.status ≡ status_of end)
-        × PutsOwn end (seen (O.held output.old) (O.held output.new) (O.faults output.old) (O.faults output.new)) result.journal }
+        × PutsOwn end (seen (O.told output.old) (O.told output.new)) result.journal }
     // Each event of the journal is lawful, and was enabled at its place.
     ensures played { IsPlayed enabled result.journal }
     // The journal's lines and then its report ask for the journal's events again, and are a transcript, where they aren't too long, that
@@ -100,8 +104,11 @@ pub fn replay_main<I: Source, O: Sink>(alloc: Global, input: &mut I, output: &mu
     ensures laws { JournalLaws result.journal }
     // What came of the items of event files.
     ensures events { EventLaws result.journal }
+    // What each opening of a port got of the messages that came to it.
+    ensures ports { PortLaws result.journal }
 {
     events_are_lawful();
+    ports_are_lawful();
     let ended = replay(alloc, input, output);
     ReplayEnd {
         status: status_of(ended.end),

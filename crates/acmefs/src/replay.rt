@@ -2,18 +2,19 @@
 
 ghost use Rattle.std.specs.Prelude.{◌≡◌, [], None, codes, IfOk};
 ghost use Rattle.am_text.specs.Lines.{lines_of};
-ghost use Rattle.am_base.specs.Written.{seen};
+ghost use Rattle.am_base.specs.Seen.{seen};
 ghost use Rattle.acme_core.specs.Run.{settled};
 ghost use Rattle.core_laws.specs.Journals.{JournalLaws};
 ghost use Rattle.acmefs.specs.Scripts.{play, end_of, refused_at};
 ghost use Rattle.acmefs.specs.Ends.{Ran, Says, status_of};
 ghost use Rattle.acmefs.specs.Playing.{EndText, end_at};
 
-use crate::script::{Fault, Played, Stop, fault_word, play, put};
+use crate::script::{Played, Stop, play, put};
 use crate::status::Status;
 use acme_core::{Core, Journal};
 use am_base::{INPUT_LIMIT, ReadStop, Sink, Source, read_to_end};
 use am_journal::{refused_line, report};
+use am_serve::fault_word;
 use am_text::{Bytes, Items, NoMemory};
 use core_laws::journals_are_lawful;
 use std::alloc::Global;
@@ -107,7 +108,7 @@ pub(crate) fn end_at(stop: Stop, failed: bool) -> End
 /// Replays a transcript of lawful length.
 fn replay_lines<O: Sink>(alloc: Global, bytes: &[u8], output: &mut O) -> Ended
     ensures ran { Ran result.end (play [] 1 (lines_of bytes.now))
-        (seen (O.held output.old) (O.held output.new) (O.faults output.old) (O.faults output.new))
+        (seen (O.told output.old) (O.told output.new))
         result.journal }
     ensures laws { JournalLaws result.journal }
 {
@@ -133,11 +134,11 @@ fn replay_lines<O: Sink>(alloc: Global, bytes: &[u8], output: &mut O) -> Ended
 /// Refuses a transcript that is too long.
 fn refuse_input<O: Sink>(alloc: Global, output: &mut O) -> Ended
     ensures ran { Ran result.end (refused_at [] 0 (codes "input"))
-        (seen (O.held output.old) (O.held output.new) (O.faults output.old) (O.faults output.new))
+        (seen (O.told output.old) (O.told output.new))
         result.journal }
     ensures laws { JournalLaws result.journal }
 {
-    match refused_line(alloc, 0, fault_word(Fault::Input)) {
+    match refused_line(alloc, 0, b"input") {
         Ok(text) => {
             let _failed = put(output, false, text.as_slice());
             no_events(alloc, End::Script)
@@ -148,8 +149,8 @@ fn refuse_input<O: Sink>(alloc: Global, output: &mut O) -> Ended
 
 /// Replays the transcript that the input gives.
 pub(crate) fn replay<I: Source, O: Sink>(alloc: Global, input: &mut I, output: &mut O) -> Ended
-    ensures says { Says result.end (I.left input.old) (I.faults input.old) (I.faults input.new)
-        (seen (O.held output.old) (O.held output.new) (O.faults output.old) (O.faults output.new))
+    ensures says { Says result.end (I.told input.old) (I.told input.new)
+        (seen (O.told output.old) (O.told output.new))
         result.journal }
     ensures laws { JournalLaws result.journal }
 {

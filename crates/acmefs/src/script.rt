@@ -2,28 +2,18 @@
 
 ghost use Rattle.std.specs.Prelude.{◌≡◌, [], IfOk, OnOk, OnErr};
 ghost use Rattle.am_text.specs.Lines.{lines_of};
-ghost use Rattle.am_base.specs.Written.{seen};
+ghost use Rattle.am_base.specs.Seen.{seen};
 ghost use Rattle.am_journal.specs.Journal.{is_report};
 ghost use Rattle.acme_core.specs.Run.{run, settled};
 ghost use Rattle.acmefs.specs.Scripts.{play, reply_lines, replied};
-ghost use Rattle.acmefs.specs.Playing.{fault_word, DidLine, Put, Stops, Shows};
+ghost use Rattle.acmefs.specs.Playing.{DidLine, Put, Stops, Shows};
 
-use acme_core::{Core, Refused, Why};
+use acme_core::{Core, Refused};
 use am_base::{Sink, write_all};
-use am_journal::{read_line, reply_line, word};
+use am_journal::{read_line, reply_line};
+use am_serve::LineFault;
 use am_text::{Bytes, Items, NoMemory, split_line};
 use std::alloc::Global;
-
-/// Why a line is refused.
-#[derive(Clone, Copy, Debug, PartialEq, Eq)]
-pub enum Fault {
-    /// It isn't in the grammar.
-    Line,
-    /// The input is too long.
-    Input,
-    /// Its event isn't enabled.
-    NotEnabled(Why),
-}
 
 /// What a line did.
 #[derive(Clone, Copy, Debug, PartialEq, Eq)]
@@ -33,7 +23,7 @@ pub enum Did {
     /// It ends the script.
     Report,
     /// It is refused.
-    Refused(Fault),
+    Refused(LineFault),
     /// There was no memory for it.
     NoMemory,
 }
@@ -44,7 +34,7 @@ pub enum Stop {
     /// At its end.
     Report,
     /// At a line that is refused.
-    Refused { line: u64, fault: Fault },
+    Refused { line: u64, fault: LineFault },
     /// For want of memory.
     NoMemory,
 }
@@ -54,17 +44,6 @@ pub enum Stop {
 pub struct Played {
     pub stop: Stop,
     pub failed: bool,
-}
-
-/// The word for a refused line.
-pub(crate) fn fault_word(fault: Fault) -> &'static [u8]
-    ensures { result.now ≡ fault_word fault }
-{
-    match fault {
-        Fault::Line => b"line",
-        Fault::Input => b"input",
-        Fault::NotEnabled(why) => word(why),
-    }
 }
 
 fn is_report(line: &[u8]) -> bool
@@ -84,10 +63,10 @@ pub(crate) fn do_line(alloc: Global, core: &mut Core, k: u64, line: &[u8]) -> Di
     }
     match read_line(alloc, line) {
         Err(NoMemory) => Did::NoMemory,
-        Ok(None) => Did::Refused(Fault::Line),
+        Ok(None) => Did::Refused(LineFault::Line),
         Ok(Some(event)) => match core.step(event) {
             Ok(_) => Did::Event,
-            Err(Refused::NotEnabled(why)) => Did::Refused(Fault::NotEnabled(why)),
+            Err(Refused::NotEnabled(why)) => Did::Refused(LineFault::NotEnabled(why)),
             Err(Refused::NoMemory) => Did::NoMemory,
         },
     }
@@ -109,7 +88,7 @@ fn replies_text(alloc: Global, core: &Core) -> Result<Bytes, NoMemory>
 /// Writes a text, unless the output has failed before, and answers whether it has failed by now.
 pub(crate) fn put<O: Sink>(output: &mut O, failed: bool, text: &[u8]) -> bool
     ensures { Put failed result
-        (seen (O.held output.old) (O.held output.new) (O.faults output.old) (O.faults output.new))
+        (seen (O.told output.old) (O.told output.new))
         text.now }
 {
     if failed {
@@ -127,7 +106,7 @@ pub(crate) fn play<O: Sink>(alloc: Global, core: &mut Core, output: &mut O, inpu
     ensures settled { core.new ≡ settled core.new.journal }
     ensures stops { Stops result.stop (play [] 1 (lines_of input.now)) core.new.journal }
     ensures shows { Shows result.stop result.failed
-        (seen (O.held output.old) (O.held output.new) (O.faults output.old) (O.faults output.new))
+        (seen (O.told output.old) (O.told output.new))
         core.new.journal (replied core.new.journal) }
 {
     let mut failed = false;

@@ -2,25 +2,28 @@
 
 ghost use Rattle.std.specs.Prelude.{◌≡◌, ◌⊎◌, ◌≤◌, IfSome};
 ghost use Rattle.std.specs.List.{AllByRecursion};
-ghost use Rattle.am_base.specs.Written.{seen};
+ghost use Rattle.am_base.specs.Seen.{given, seen};
 ghost use Rattle.am_counter.specs.Played.{IsPlayed};
 ghost use Rattle.acme_core.specs.Run.{enabled};
 ghost use Rattle.acmefs.specs.declared.status.Status.TheVariants as exit;
 ghost use Rattle.acmefs.specs.Ends.{IsServeComplete, serve_status};
 ghost use Rattle.acmefs.specs.Own.{RoundTrips};
-ghost use Rattle.am_server.specs.Ends.{SaysServe, given};
+ghost use Rattle.am_server.specs.Ends.{SaysServe};
 ghost use Rattle.am_server.specs.Replied.{GotAll};
 ghost use Rattle.am_server.specs.Sound.{EndsWell};
 ghost use Rattle.am_slots.specs.Slots.{outside};
 ghost use Rattle.core_laws.specs.Journals.{JournalLaws};
 ghost use Rattle.event_laws.specs.Laws.{EventLaws};
+ghost use Rattle.port_laws.specs.Laws.{PortLaws};
 
 use crate::outcome::Outcome;
 use crate::status::Status;
 use am_base::{Host, Sink, Source};
 use am_server::{HostServing, ServeEnd, Serving, serve};
+use am_slots::Site;
 use core_laws::journals_are_lawful;
 use event_laws::events_are_lawful;
+use port_laws::ports_are_lawful;
 use std::alloc::Global;
 use std::sync::Wait;
 use std::thread::Threads;
@@ -60,28 +63,27 @@ fn outcome_of<H: Host>(serving: HostServing<H>) -> Outcome<H>
 pub fn serve_main<I: Source, O: Sink, H: Host, R: Threads + Wait + Sync>(
     rt: &R,
     alloc: Global,
-    path: &str,
-    clients: u32,
+    site: &Site<'_>,
     input: &mut I,
     output: &mut O,
     host: &mut H,
 ) -> Outcome<H>
-    requires clients { (1 ≤ clients) × (clients ≤ 64) }
+    requires clients { (1 ≤ site.now.clients) × (site.now.clients ≤ 64) }
     ensures serves { (end : _) × (result.status ≡ serve_status end)
-        × SaysServe (outside H.G.name H.G.faults H.G.L.begins H.G.L.faults H.G.L.R.left H.G.L.R.faults H.G.L.W.held H.G.L.W.faults) path.now clients
-        (given (I.left input.old) (I.faults input.old) (I.faults input.new) (H.faults host.old) (H.faults host.new))
-        (seen (O.held output.old) (O.held output.new) (O.faults output.old) (O.faults output.new))
+        × SaysServe (outside H.G.told H.G.L.told H.G.L.R.told H.G.L.W.told) site.now.path.now site.now.clients
+        (given (I.told input.old) (I.told input.new) (H.faults host.old) (H.faults host.new))
+        (seen (O.told output.old) (O.told output.new))
         result.journal result.served end }
     ensures replied { (result.status ≡ exit.Done) ⊎ (result.status ≡ exit.WriteFault) → AllByRecursion
-        (GotAll (outside H.G.name H.G.faults H.G.L.begins H.G.L.faults H.G.L.R.left H.G.L.R.faults H.G.L.W.held H.G.L.W.faults) result.journal)
+        (GotAll (outside H.G.told H.G.L.told H.G.L.R.told H.G.L.W.told) result.journal)
         result.served }
     ensures sound { AllByRecursion
-        (EndsWell (outside H.G.name H.G.faults H.G.L.begins H.G.L.faults H.G.L.R.left H.G.L.R.faults H.G.L.W.held H.G.L.W.faults) result.journal)
+        (EndsWell (outside H.G.told H.G.L.told H.G.L.R.told H.G.L.W.told) result.journal)
         result.served }
-    ensures complete { IfSome (I.left input.old) (λ bytes. IsServeComplete result.status
-        (outside H.G.name H.G.faults H.G.L.begins H.G.L.faults H.G.L.R.left H.G.L.R.faults H.G.L.W.held H.G.L.W.faults) clients bytes
-        (given (I.left input.old) (I.faults input.old) (I.faults input.new) (H.faults host.old) (H.faults host.new))
-        (seen (O.held output.old) (O.held output.new) (O.faults output.old) (O.faults output.new))
+    ensures complete { IfSome (I.told input.old).bytes (λ bytes. IsServeComplete result.status
+        (outside H.G.told H.G.L.told H.G.L.R.told H.G.L.W.told) site.now.clients bytes
+        (given (I.told input.old) (I.told input.new) (H.faults host.old) (H.faults host.new))
+        (seen (O.told output.old) (O.told output.new))
         result.journal result.served) }
     ensures played { IsPlayed enabled result.journal }
     ensures round_trip { RoundTrips result.journal }
@@ -89,8 +91,11 @@ pub fn serve_main<I: Source, O: Sink, H: Host, R: Threads + Wait + Sync>(
     ensures laws { JournalLaws result.journal }
     // What came of the items of event files.
     ensures events { EventLaws result.journal }
+    // What each opening of a port got of the messages that came to it.
+    ensures ports { PortLaws result.journal }
 {
     journals_are_lawful();
     events_are_lawful();
-    outcome_of(serve(rt, alloc, path, clients, input, output, host))
+    ports_are_lawful();
+    outcome_of(serve(rt, alloc, site, input, output, host))
 }

@@ -3,7 +3,7 @@
 ghost use Rattle.std.specs.Prelude.{◌≡◌, ◌++◌, ◌<◌, ◌∷◌, [], List, length, codes, IfOk, OnOk};
 ghost use Rattle.std.specs.List.{AllByRecursion};
 ghost use Rattle.am_text.specs.Lines.{lines_of};
-ghost use Rattle.am_base.specs.Written.{seen};
+ghost use Rattle.am_base.specs.Seen.{seen};
 ghost use Rattle.am_journal.specs.declared.event.Event.{Event};
 ghost use Rattle.ninep_types.specs.Reading.{r_of};
 ghost use Rattle.acme_core.specs.Run.{run, settled};
@@ -13,7 +13,7 @@ ghost use Rattle.acmefs.specs.Scripts.{play, refused_at};
 ghost use Rattle.acmefs.specs.Traces.{event_line, message_line, replies_words, HasWords, Shown, Traces, TraceSays};
 
 use crate::replay::{End, Ended, end_at, end_text, journal_of, no_events};
-use crate::script::{Did, Fault, Played, Stop, do_line, fault_word, put};
+use crate::script::{Did, Played, Stop, do_line, put};
 use acme_core::Core;
 use am_base::{INPUT_LIMIT, ReadStop, Sink, Source, read_to_end};
 use am_journal::{CONNECTIONS, refused_line};
@@ -42,7 +42,7 @@ fn reply_words(alloc: Global, conn: u32, bytes: &[u8]) -> Result<Bytes, NoMemory
     ensures line { IfOk result (λ line. line ≡ message_line conn (r_of bytes.now)) }
     ensures worded { IfOk result (λ line. HasWords (record { conn = conn; bytes = bytes.now })) }
 {
-    if conn >= CONNECTIONS as u32 || bytes.len() > MAX_MSIZE as usize {
+    if conn as usize >= CONNECTIONS || bytes.len() > MAX_MSIZE as usize {
         return Err(NoMemory);
     }
     match read_r(alloc, bytes) {
@@ -95,7 +95,7 @@ fn play_words<O: Sink>(alloc: Global, core: &mut Core, output: &mut O, input: &[
     ensures settled { core.new ≡ settled core.new.journal }
     ensures stops { Stops result.stop (play [] 1 (lines_of input.now)) core.new.journal }
     ensures shown { Shown result.stop result.failed
-        (seen (O.held output.old) (O.held output.new) (O.faults output.old) (O.faults output.new))
+        (seen (O.told output.old) (O.told output.new))
         core.new.journal }
 {
     let mut failed = false;
@@ -128,7 +128,7 @@ fn play_words<O: Sink>(alloc: Global, core: &mut Core, output: &mut O, input: &[
 /// Traces a transcript of lawful length.
 fn trace_lines<O: Sink>(alloc: Global, bytes: &[u8], output: &mut O) -> Ended
     ensures traces { Traces result.end (play [] 1 (lines_of bytes.now))
-        (seen (O.held output.old) (O.held output.new) (O.faults output.old) (O.faults output.new))
+        (seen (O.told output.old) (O.told output.new))
         result.journal }
     ensures laws { JournalLaws result.journal }
 {
@@ -154,11 +154,11 @@ fn trace_lines<O: Sink>(alloc: Global, bytes: &[u8], output: &mut O) -> Ended
 /// Refuses a transcript that is too long.
 fn refuse_trace<O: Sink>(alloc: Global, output: &mut O) -> Ended
     ensures traces { Traces result.end (refused_at [] 0 (codes "input"))
-        (seen (O.held output.old) (O.held output.new) (O.faults output.old) (O.faults output.new))
+        (seen (O.told output.old) (O.told output.new))
         result.journal }
     ensures laws { JournalLaws result.journal }
 {
-    match refused_line(alloc, 0, fault_word(Fault::Input)) {
+    match refused_line(alloc, 0, b"input") {
         Ok(text) => {
             let _failed = put(output, false, text.as_slice());
             no_events(alloc, End::Script)
@@ -169,8 +169,8 @@ fn refuse_trace<O: Sink>(alloc: Global, output: &mut O) -> Ended
 
 /// Traces the transcript that the input gives.
 pub(crate) fn trace<I: Source, O: Sink>(alloc: Global, input: &mut I, output: &mut O) -> Ended
-    ensures says { TraceSays result.end (I.left input.old) (I.faults input.old) (I.faults input.new)
-        (seen (O.held output.old) (O.held output.new) (O.faults output.old) (O.faults output.new))
+    ensures says { TraceSays result.end (I.told input.old) (I.told input.new)
+        (seen (O.told output.old) (O.told output.new))
         result.journal }
     ensures laws { JournalLaws result.journal }
 {

@@ -1,5 +1,29 @@
 -- What an object of the outside tells, and how often it has failed.
-use Rattle.std.specs.Prelude.{◌≡◌, ◌⊎◌, ℕ, ◌+◌, ◌^◌, ◌<◌, ◌≤◌, List, ◌++◌, length, take, Option, Some, None, Result, IsErr}
+use Rattle.std.specs.Prelude.{◌≡◌, ◌⊎◌, ℕ, ◌+◌, ◌^◌, ◌<◌, ◌≤◌, Bool, List, ◌++◌, length, take, Option, Some, None, Result, IsErr}
+
+-- What a source or a sink tells: the bytes that are left of it or that it holds, where it tells them, and how often it has failed.
+pub record BytesTold : Type 0 where
+  pub bytes : Option (List ℕ)
+  pub faults : ℕ
+
+abbrev pub bytes_told : Option (List ℕ) → ℕ → BytesTold
+bytes_told bytes faults = record { bytes = bytes; faults = faults }
+
+-- nothing is told, and nothing has failed
+abbrev pub untold : BytesTold
+untold = bytes_told None 0
+
+-- What a link tells: the bytes that its source begins with, where it tells them, also after its halves were handed out, whether they were,
+-- and how often it has failed.
+pub record LinkTold : Type 0 where
+  pub begins : Option (List ℕ)
+  pub is_halved : Bool
+  pub faults : ℕ
+
+-- What a gate tells: its path and slot, where it tells them, and how often it has failed.
+pub record GateTold : Type 0 where
+  pub name : Option (List ℕ × ℕ)
+  pub faults : ℕ
 
 -- these bytes, and then those that are told
 abbrev pub then_told : List ℕ → Option (List ℕ) → Option (List ℕ)

@@ -1,7 +1,7 @@
 //! What connections come from.
 
-ghost use Rattle.std.specs.Prelude.{◌≡◌, ℕ, List, [], Option, Bool, true, false, OnOk, OnErr, IfOk};
-ghost use Rattle.am_base.specs.Outside.{AreTold, IsNamed, HasCause};
+ghost use Rattle.std.specs.Prelude.{◌≡◌, ℕ, [], true, false, OnOk, OnErr, IfOk};
+ghost use Rattle.am_base.specs.Outside.{GateTold, LinkTold, AreTold, IsNamed, HasCause};
 
 use crate::sink::Sink;
 use crate::source::{Failed, Source};
@@ -12,41 +12,32 @@ pub trait Link: Drop + Send {
 
     type W: Sink + Drop + Send;
 
-    /// The bytes that its source begins with, where it tells them, also after `halves`.
-    ghost begins: { Self → Option (List ℕ) };
-
-    /// Whether `halves` has succeeded.
-    ghost is_halved: { Self → Bool };
-
-    /// How often it has failed.
-    ghost faults: { Self → ℕ };
+    /// The bytes that its source begins with, where it tells them, whether `halves` has succeeded, and how often it has failed.
+    ghost told: { Self → LinkTold };
 
     /// Hands out the source and the sink, at most once. A sink that tells its bytes begins empty.
     fn halves(&mut self) -> Result<(Self::R, Self::W), Failed>
-        ensures source { IfOk result (λ h. Self.R.left h.0 ≡ begins self.old) }
-        ensures sink { IfOk result (λ h. AreTold (Self.W.held h.1) []) }
-        ensures fresh { IfOk result (λ h. (Self.R.faults h.0 ≡ 0) × (Self.W.faults h.1 ≡ 0)) }
-        ensures begins { begins self.new ≡ begins self.old }
-        ensures once { OnOk result ((is_halved self.old ≡ false) × (is_halved self.new ≡ true)) }
-        ensures err { OnErr result (is_halved self.new ≡ is_halved self.old) }
-        ensures cause { HasCause (faults self.old) (faults self.new) result };
+        ensures source { IfOk result (λ h. (Self.R.told h.0).bytes ≡ (told self.old).begins) }
+        ensures sink { IfOk result (λ h. AreTold (Self.W.told h.1).bytes []) }
+        ensures fresh { IfOk result (λ h. ((Self.R.told h.0).faults ≡ 0) × ((Self.W.told h.1).faults ≡ 0)) }
+        ensures begins { (told self.new).begins ≡ (told self.old).begins }
+        ensures once { OnOk result (((told self.old).is_halved ≡ false) × ((told self.new).is_halved ≡ true)) }
+        ensures err { OnErr result ((told self.new).is_halved ≡ (told self.old).is_halved) }
+        ensures cause { HasCause (told self.old).faults (told self.new).faults result };
 }
 
 /// Where connections are taken.
 pub trait Gate: Drop + Send {
     type L: Link;
 
-    /// Its path and slot, where it tells them.
-    ghost name: { Self → Option (List ℕ × ℕ) };
-
-    /// How often it has failed.
-    ghost faults: { Self → ℕ };
+    /// Its path and slot, where it tells them, and how often it has failed.
+    ghost told: { Self → GateTold };
 
     /// Waits for a connection and hands it out.
     fn accept(&mut self) -> Result<Self::L, Failed>
-        ensures fresh { IfOk result (λ link. Self.L.faults link ≡ 0) }
-        ensures name { name self.new ≡ name self.old }
-        ensures cause { HasCause (faults self.old) (faults self.new) result };
+        ensures fresh { IfOk result (λ link. (Self.L.told link).faults ≡ 0) }
+        ensures name { (told self.new).name ≡ (told self.old).name }
+        ensures cause { HasCause (told self.old).faults (told self.new).faults result };
 }
 
 /// What gates are made by, and what the gates of others are dialled by.
@@ -58,12 +49,12 @@ pub trait Host {
 
     /// Makes the gate of a path and a slot.
     fn bind(&mut self, path: &str, slot: u32) -> Result<Self::G, Failed>
-        ensures named { IfOk result (λ gate. IsNamed (Self.G.name gate) path.now slot) }
-        ensures fresh { IfOk result (λ gate. Self.G.faults gate ≡ 0) }
+        ensures named { IfOk result (λ gate. IsNamed (Self.G.told gate).name path.now slot) }
+        ensures fresh { IfOk result (λ gate. (Self.G.told gate).faults ≡ 0) }
         ensures cause { HasCause (faults self.old) (faults self.new) result };
 
     /// Connects to the gate of a path, which is taken as it stands.
     fn dial(&mut self, path: &str) -> Result<<Self::G as Gate>::L, Failed>
-        ensures fresh { IfOk result (λ link. Self.G.L.faults link ≡ 0) }
+        ensures fresh { IfOk result (λ link. (Self.G.L.told link).faults ≡ 0) }
         ensures cause { HasCause (faults self.old) (faults self.new) result };
 }

@@ -71,9 +71,7 @@ impl MemGate {
 impl Gate for MemGate {
     type L = MemLink;
 
-    ghost name = { λ g. Some (name_of g) };
-
-    ghost faults = { λ g. g.faults };
+    ghost told = { λ g. record { name = Some (name_of g); faults = g.faults } };
 
     fn accept(&mut self) -> Result<MemLink, Failed>
         ensures fresh { IfOk result (λ link. link.faults ≡ 0) }

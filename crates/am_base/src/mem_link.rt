@@ -62,11 +62,7 @@ impl Link for MemLink {
 
     type W = MemSink;
 
-    ghost begins = { λ l. Some l.begins };
-
-    ghost is_halved = { λ l. is_none l.halves };
-
-    ghost faults = { λ l. l.faults };
+    ghost told = { λ l. record { begins = Some l.begins; is_halved = is_none l.halves; faults = l.faults } };
 
     fn halves(&mut self) -> Result<(MemSource, MemSink), Failed>
         ensures source { IfOk result (λ h. Some h.0.left ≡ Some self.old.begins) }

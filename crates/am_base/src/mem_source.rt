@@ -66,9 +66,7 @@ impl MemSource {
 }
 
 impl Source for MemSource {
-    ghost left = { λ s. Some s.left };
-
-    ghost faults = { λ s. s.calls.faults };
+    ghost told = { λ s. record { bytes = Some s.left; faults = s.calls.faults } };
 
     #[tactic(auto, using(crate::proofs::Told::moves))]
     fn read(&mut self, buf: &mut [u8]) -> Result<usize, Failed>

@@ -36,9 +36,7 @@ impl NeverFails {
 }
 
 impl Source for NeverFails {
-    ghost left = { λ s. Some s.left };
-
-    ghost faults = { λ _. 0 };
+    ghost told = { λ s. record { bytes = Some s.left; faults = 0 } };
 
     fn read(&mut self, buf: &mut [u8]) -> Result<usize, Failed>
         requires { 0 < length buf.old }

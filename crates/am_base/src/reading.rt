@@ -54,12 +54,12 @@ pub fn read_to_end<S: Source>(
     source: &mut S,
     limit: usize,
 ) -> Result<Bytes, ReadStop>
-    ensures told { IfOk result (AreTold (S.left source.old)) }
-    ensures end { OnOk result (AreTold (S.left source.new) []) }
+    ensures told { IfOk result (AreTold (S.told source.old).bytes) }
+    ensures end { OnOk result (AreTold (S.told source.new).bytes []) }
     ensures fits { IfOk result (λ bytes. length bytes ≤ limit) }
-    ensures later { S.faults source.old ≤ S.faults source.new }
-    ensures stops { TakesAtMost (limit + 1) (S.left source.old) (S.left source.new) }
-    ensures err { IfErr result (λ e. StopsFor e (S.faults source.old) (S.faults source.new) (S.left source.old) (S.left source.new) limit) }
+    ensures later { (S.told source.old).faults ≤ (S.told source.new).faults }
+    ensures stops { TakesAtMost (limit + 1) (S.told source.old).bytes (S.told source.new).bytes }
+    ensures err { IfErr result (λ e. StopsFor e (S.told source.old) (S.told source.new) limit) }
 {
     let mut bytes = Items::new(alloc);
     let mut room = limit;

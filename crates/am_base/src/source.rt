@@ -1,7 +1,7 @@
 //! Where bytes come from.
 
-ghost use Rattle.std.specs.Prelude.{◌≡◌, ◌<◌, ◌≤◌, List, ℕ, Option, [], length, take, IfOk, OnErr};
-ghost use Rattle.am_base.specs.Outside.{then_told, AreTold, HasCause};
+ghost use Rattle.std.specs.Prelude.{◌≡◌, ◌<◌, ◌≤◌, [], length, take, IfOk, OnErr};
+ghost use Rattle.am_base.specs.Outside.{BytesTold, then_told, AreTold, HasCause};
 
 /// An object of the outside has failed.
 #[derive(Clone, Copy, Debug, PartialEq, Eq)]
@@ -9,19 +9,16 @@ pub struct Failed;
 
 /// Bytes that come to an end.
 pub trait Source {
-    /// The bytes not read yet, where it tells them.
-    ghost left: { Self → Option (List ℕ) };
-
-    /// How often it has failed.
-    ghost faults: { Self → ℕ };
+    /// The bytes not read yet, where it tells them, and how often it has failed.
+    ghost told: { Self → BytesTold };
 
     /// Reads some bytes into the front of `buf` and answers how many; none at the end alone. A
     /// failure reads none, and comes only where the count of faults rises.
     fn read(&mut self, buf: &mut [u8]) -> Result<usize, Failed>
         requires { 0 < length buf.old }
         ensures within { IfOk result (λ n. n ≤ length buf.old) }
-        ensures moved { IfOk result (λ n. left self.old ≡ then_told (take n buf.new) (left self.new)) }
-        ensures end { IfOk result (λ n. n ≡ 0 → AreTold (left self.new) []) }
-        ensures err { OnErr result (left self.new ≡ left self.old) }
-        ensures cause { HasCause (faults self.old) (faults self.new) result };
+        ensures moved { IfOk result (λ n. (told self.old).bytes ≡ then_told (take n buf.new) (told self.new).bytes) }
+        ensures end { IfOk result (λ n. n ≡ 0 → AreTold (told self.new).bytes []) }
+        ensures err { OnErr result ((told self.new).bytes ≡ (told self.old).bytes) }
+        ensures cause { HasCause (told self.old).faults (told self.new).faults result };
 }

@@ -35,9 +35,7 @@ impl<R> InputSource<R> {
 }
 
 impl<R: Read> Source for InputSource<R> {
-    ghost left = { λ _. None };
-
-    ghost faults = { λ s. s };
+    ghost told = { λ s. record { bytes = None; faults = s } };
 
     fn read(&mut self, buf: &mut [u8]) -> Result<usize, Failed>
         requires { 0 < length buf.old }
@@ -84,9 +82,7 @@ impl<W> OutputSink<W> {
 }
 
 impl<W: Write> Sink for OutputSink<W> {
-    ghost held = { λ _. None };
-
-    ghost faults = { λ s. s };
+    ghost told = { λ s. record { bytes = None; faults = s } };
 
     fn write(&mut self, buf: &[u8]) -> Result<usize, Failed>
         requires { 0 < length buf.now }

@@ -53,11 +53,7 @@ impl Link for UnixLink {
 
     type W = UnixSink;
 
-    ghost begins = { λ _. None };
-
-    ghost is_halved = { λ l. l.is_halved };
-
-    ghost faults = { λ l. l.faults };
+    ghost told = { λ l. record { begins = None; is_halved = l.is_halved; faults = l.faults } };
 
     fn halves(&mut self) -> Result<(UnixSource, UnixSink), Failed>
         ensures fresh { IfOk result (λ h. (h.0 ≡ 0) × (h.1 ≡ 0)) }
@@ -95,9 +91,7 @@ impl Model for UnixGate {
 impl Gate for UnixGate {
     type L = UnixLink;
 
-    ghost name = { λ _. None };
-
-    ghost faults = { λ g. g };
+    ghost told = { λ g. record { name = None; faults = g } };
 
     fn accept(&mut self) -> Result<UnixLink, Failed>
         ensures fresh { IfOk result (λ link. link.faults ≡ 0) }

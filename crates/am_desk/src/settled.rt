@@ -170,7 +170,7 @@ impl Settled {
             × (answer_at (journal_of self.old) (ask.Ended conn) ≡ true) × (output_at (journal_of self.old) conn ≡ []) }
         ensures err { OnErr result ((journal_of self.new ≡ journal_of self.old) × (into.new ≡ into.old)) }
     {
-        if conn >= CONNECTIONS as u32 {
+        if conn as usize >= CONNECTIONS {
             self.core.events_were_enabled();
             return Ok(Taken::NothingYet);
         }

@@ -1,5 +1,6 @@
 -- The beginning of a talk.
 use Rattle.std.proofs.Common.{◌≡◌, ◌&&◌, ℕ, ◌≤◌, Bool, true, false, cond, List, [], min, Option, Some, None, refl, sym, ap, subst, arith}
+use Rattle.am_base.specs.Outside.{bytes_told}
 use Rattle.std.specs.Prelude.{Result, Ok, Err, OnOk, IfOk, IfErr, is_some, nat_le, codes}
 use Rattle.std.proofs.lemmas.Bool.{leb-true}
 use Rattle.std.specs.Str.{bytes_eq, is_utf8, chars}
@@ -100,7 +101,7 @@ went_attached most now tree body {t} {m} {h} {i} {l} {n} reply is same w =
     let asked : Went (asks most (attach_of tree)) t m h i l n [] (Ok reply) = subst (λ (b : TBody). Went (asks most b) t m h i l n [] (Ok reply)) is w in
     subst (λ (x : ℕ). Went (attach_told most tree) t m h i l n [] x) (sym same) (went_same (attach_is most tree) (went_then (after_attach most) asked (went_gives most m i n)))
 
-pub halted_unattached : (most : ℕ) (tree : List ℕ) (body : TBody) {t m : Talk} {h i l n : Option (List ℕ)} (text : List ℕ) (f g a b : ℕ) → body ≡ attach_of tree → f ≤ g → a ≤ b → Went (asks most body) t m h i l n [] (Err text) → Halted stop.Refused (attach_told most tree) t (ends h i f g l n a b) []
+pub halted_unattached : (most : ℕ) (tree : List ℕ) (body : TBody) {t m : Talk} {h i l n : Option (List ℕ)} (text : List ℕ) (f g a b : ℕ) → body ≡ attach_of tree → f ≤ g → a ≤ b → Went (asks most body) t m h i l n [] (Err text) → Halted stop.Refused (attach_told most tree) t (ends (bytes_told h f) (bytes_told i g) (bytes_told l a) (bytes_told n b)) []
 halted_unattached most tree body {t} {m} {h} {i} {l} {n} text f g a b is s r w =
     let asked : Went (asks most (attach_of tree)) t m h i l n [] (Err text) = subst (λ (x : TBody). Went (asks most x) t m h i l n [] (Err text)) is w in
     halted_same (attach_is most tree) (halted_then (after_attach most) f a asked refl refl s r (halted_refused m i n g b))
@@ -121,7 +122,7 @@ halted_version {end} most tree body {talk} {e} size is h =
     (subst (λ (x : ℕ). Halted end (asks x (t.Version 8192 (codes "9P2000"))) talk e []) size (subst (λ (b : TBody). Halted end (asks most b) talk e []) is h)))
 
 pub halted_unversioned : (most : ℕ) (tree : List ℕ) (body : TBody) {talk m : Talk} {h i l n : Option (List ℕ)} (reply : Reply) (f g a b : ℕ) → most ≡ 65560 → body ≡ t.Version 8192 (codes "9P2000") → agreed reply ≡ None → f ≤ g → a ≤ b → Went (asks most body) talk m h i l n [] reply
-    → Halted stop.Refused (begins tree) talk (ends h i f g l n a b) []
+    → Halted stop.Refused (begins tree) talk (ends (bytes_told h f) (bytes_told i g) (bytes_told l a) (bytes_told n b)) []
 halted_unversioned most tree body {talk} {m} {h} {i} {l} {n} reply f g a b size is none s r w =
     halted_same (begins_is tree) (halted_then (after_version tree) f a (begun_with most body reply size is w) refl refl s r
     (halted_same (λ bytes. sym (ap (λ (o : Option ℕ). attached tree o bytes) none)) (halted_refused m i n g b)))
@@ -136,6 +137,6 @@ went_attaching most now last tree body reply size is agrees w v =
     went_same (begins_is tree) (went_then (after_version tree) (begun_with most body reply size is w) (went_same (λ bytes. same_talk tree reply now bytes agrees) v))
 
 pub halted_then_attaching : {end : Stop} (most now : ℕ) (tree : List ℕ) (body : TBody) {talk m : Talk} {h i l n : Option (List ℕ)} (reply : Reply) (f a : ℕ) {e : Ends} → most ≡ 65560 → body ≡ t.Version 8192 (codes "9P2000") → agreed reply ≡ Some now → Went (asks most body) talk m h i l n [] reply
-    → e.held ≡ i → e.left ≡ n → f ≤ e.sink_faults → a ≤ e.source_faults → Halted end (attach_told now tree) m e [] → Halted end (begins tree) talk (before h f l a e) []
+    → e.sink.before.bytes ≡ i → e.source.before.bytes ≡ n → f ≤ e.sink.before.faults → a ≤ e.source.before.faults → Halted end (attach_told now tree) m e [] → Halted end (begins tree) talk (before h f l a e) []
 halted_then_attaching most now tree body reply f a size is agrees w held left s r h =
     halted_same (begins_is tree) (halted_then (after_version tree) f a (begun_with most body reply size is w) held left s r (halted_same (λ bytes. same_talk tree reply now bytes agrees) h))

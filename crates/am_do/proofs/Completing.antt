@@ -4,7 +4,7 @@ use Rattle.std.specs.Prelude.{Result, Ok, Err, IfSome}
 use Rattle.std.proofs.lemmas.List.{append-nil}
 use Rattle.am_base.specs.Outside.{AreTold, HasRisen, then_told}
 use Rattle.am_base.specs.Stops.{input_limit}
-use Rattle.am_base.specs.Written.{Output}
+use Rattle.am_base.specs.Seen.{Given, Seen}
 use Rattle.am_text.specs.Lines.{lines_of}
 use Rattle.ninep_client.specs.Asking.{begun}
 use Rattle.ninep_client.specs.Hearing.{Came}
@@ -18,7 +18,7 @@ use Rattle.am_do.specs.declared.running.Doing.{Doing}
 use Rattle.am_do.specs.declared.stop.Stop.{Stop}
 use Rattle.am_do.specs.declared.stop.Stop.TheVariants as stop
 use Rattle.am_do.specs.Complete.{Answers, IsValue, NothingFails}
-use Rattle.am_do.specs.Ends.{Peer, Given, IsUnhalved, Lined, Says, Talked, end_at}
+use Rattle.am_do.specs.Ends.{Peer, IsUnhalved, Lined, Says, Talked, end_at}
 use Rattle.am_do.specs.Talks.{Got, Value, Lacks, Faulty, Refused, Told, told_of}
 use Rattle.am_do.specs.Went.{Ends, ends, Halted}
 use Rattle.am_do.specs.Written.{Comes}
@@ -73,15 +73,15 @@ module _ (talk : List ℕ → Told (Unit {0})) (stays : Stays talk) (bytes : Lis
   not_lacking : (used : List ℕ) → bytes ≡ used → (talk used).got ≡ Lacks → ⊥
   not_lacking used is e = no_value (talk bytes).got Lacks (ap (λ (x : List ℕ). (talk x).got) is ∙ e) (λ v. v) all
 
-  module _ (e : Ends) (told : e.left ≡ Some bytes) (calm_source : HasRisen e.source_faults e.source_faults_now → ⊥) (calm_sink : HasRisen e.sink_faults e.sink_faults_now → ⊥) where
-    parts : (f : Stop) (text : List ℕ) (h : Halted f talk begun e text) → Split bytes (h.used ++ h.unread) e.left_now
-    parts f text h = split e.left e.left_now bytes (h.used ++ h.unread) told h.came
+  module _ (e : Ends) (told : e.source.before.bytes ≡ Some bytes) (calm_source : HasRisen e.source.before.faults e.source.now.faults → ⊥) (calm_sink : HasRisen e.sink.before.faults e.sink.now.faults → ⊥) where
+    parts : (f : Stop) (text : List ℕ) (h : Halted f talk begun e text) → Split bytes (h.used ++ h.unread) e.source.now.bytes
+    parts f text h = split e.source.before.bytes e.source.now.bytes bytes (h.used ++ h.unread) told h.came
 
     -- nothing is left where a told source has nothing left
-    whole : (f : Stop) (text : List ℕ) (h : Halted f talk begun e text) → AreTold e.left_now [] → bytes ≡ h.used ++ h.unread
+    whole : (f : Stop) (text : List ℕ) (h : Halted f talk begun e text) → AreTold e.source.now.bytes [] → bytes ≡ h.used ++ h.unread
     whole f text h none =
         let p = parts f text h in
-        p.joined ∙ ap (λ (x : List ℕ). (h.used ++ h.unread) ++ x) (none_left e.left_now p.rest p.still none) ∙ append-nil (h.used ++ h.unread)
+        p.joined ∙ ap (λ (x : List ℕ). (h.used ++ h.unread) ++ x) (none_left e.source.now.bytes p.rest p.still none) ∙ append-nil (h.used ++ h.unread)
 
     memory_alone : (f : Stop) (failed : Bool) (text : List ℕ) → Halted f talk begun e text → IsGood (end_at (Some f) failed)
     memory_alone stop.Refused failed text h =
@@ -106,33 +106,34 @@ module _ (talk : List ℕ → Told (Unit {0})) (stays : Stays talk) (bytes : Lis
     memory_alone (stop.Fault fault.Large) failed text h = absurd h.cause
     memory_alone (stop.Fault (fault.Remote t)) failed text h = absurd h.cause
 
-    good_at : (why : Option Stop) (failed : Bool) (o : Output) → (HasRisen o.faults o.faults_now → ⊥) → Comes why talk begun e failed o → IsGood (end_at why failed)
+    good_at : (why : Option Stop) (failed : Bool) (o : Seen) → (HasRisen o.before.faults o.now.faults → ⊥) → Comes why talk begun e failed o → IsGood (end_at why failed)
     good_at None false o calm comes = inl refl
     good_at None true o calm comes = absurd (calm comes.wrote.holds.risen)
     good_at (Some f) failed o calm comes = memory_alone f failed comes.text comes.halted
 
 -- ---- from the input to the end
 
-module _ {L S K : Type 0} (m : Peer L S K) (tree bytes : List ℕ) (i : Given) (o : Output) (d : Doing L S K) where
+module _ {L S K : Type 0} (m : Peer L S K) (tree bytes : List ℕ) (i : Given) (o : Seen) (d : Doing L S K) where
   there : {A : Type 0} (P : A → Type 0) (x : Option A) (a : A) → x ≡ Some a → IfSome x P → P a
   there {A} P x a is h = subst (λ (y : Option A). IfSome y P) is h
 
-  talked_well : (lines : List DoLine) → (HasRisen o.faults o.faults_now → ⊥) → IfSome d.link (λ link. Answers m tree lines link) → IfSome d.reader (λ reader. m.source_faults reader ≡ 0)
-      → IfSome d.writer (λ writer. m.sink_faults writer ≡ 0) → Talked m tree lines o d → IsGood d.end
+  talked_well : (lines : List DoLine) → (HasRisen o.before.faults o.now.faults → ⊥) → IfSome d.link (λ link. Answers m tree lines link) → IfSome d.reader (λ reader. (m.source reader).faults ≡ 0)
+      → IfSome d.writer (λ writer. (m.sink writer).faults ≡ 0) → Talked m tree lines o d → IsGood d.end
   talked_well lines calm link reader writer x =
       let answers = there (λ (l : L). Answers m tree lines l) d.link x.link (ap (λ (y : Doing L S K). y.link) x.objects) link in
-      let reads = there (λ (s : S). m.source_faults s ≡ 0) d.reader x.reader (ap (λ (y : Doing L S K). y.reader) x.objects) reader in
-      let writes = there (λ (k : K). m.sink_faults k ≡ 0) d.writer x.writer (ap (λ (y : Doing L S K). y.writer) x.objects) writer in
+      let reads = there (λ (s : S). (m.source s).faults ≡ 0) d.reader x.reader (ap (λ (y : Doing L S K). y.reader) x.objects) reader in
+      let writes = there (λ (k : K). (m.sink k).faults ≡ 0) d.writer x.writer (ap (λ (y : Doing L S K). y.writer) x.objects) writer in
       subst IsGood (sym x.ended)
       (good_at (told_of tree lines) (stays_told tree lines) answers.bytes answers.all
-      (ends x.held (m.held x.writer) 0 (m.sink_faults x.writer) (m.begins x.link) (m.left x.reader) 0 (m.source_faults x.reader)) answers.told
-      (never_risen (m.source_faults x.reader) reads) (never_risen (m.sink_faults x.writer) writes)
+      (ends x.sink (m.sink x.writer) x.source (m.source x.reader)) (x.begins ∙ answers.told)
+      (subst (λ (n : ℕ). HasRisen n (m.source x.reader).faults → ⊥) (sym x.fresh.0) (never_risen (m.source x.reader).faults reads))
+      (subst (λ (n : ℕ). HasRisen n (m.sink x.writer).faults → ⊥) (sym x.fresh.1) (never_risen (m.sink x.writer).faults writes))
       d.stop x.failed o calm x.comes)
 
   unhalved_never : (lines : List DoLine) → IfSome d.link (λ link. Answers m tree lines link) → IsUnhalved m o d → ⊥
   unhalved_never lines link u =
       let answers = there (λ (l : L). Answers m tree lines l) d.link u.link (ap (λ (y : Doing L S K). y.link) u.none) link in
-      never_risen (m.link_faults u.link) answers.calm u.risen
+      never_risen (m.link u.link).faults answers.calm u.risen
 
   lined_well : (read : Result (List DoLine) ℕ) → NothingFails m tree bytes i o d → read ≡ lines_from 1 (lines_of bytes) → Lined m tree read i o d → IsGood d.end
   lined_well (Err k) n is l = absurd (let e = is ∙ n.read in cc)
@@ -144,11 +145,11 @@ module _ {L S K : Type 0} (m : Peer L S K) (tree bytes : List ℕ) (i : Given) (
       let same : lines ≡ n.lines = (let e = is ∙ n.read in cc) in
       talked_well lines n.output (subst (λ (l : List DoLine). IfSome d.link (λ link. Answers m tree l link)) (sym same) n.link) n.reader n.writer x
 
-  too_long_never : i.told ≡ Some bytes → length bytes ≤ input_limit → IfSome i.told (λ bytes. input_limit < length bytes) → ⊥
+  too_long_never : i.input.before.bytes ≡ Some bytes → length bytes ≤ input_limit → IfSome i.input.before.bytes (λ bytes. input_limit < length bytes) → ⊥
   too_long_never told fits long =
-      let above = there (λ (b : List ℕ). input_limit < length b) i.told bytes told long in absurd (omega (arith, fits, above))
+      let above = there (λ (b : List ℕ). input_limit < length b) i.input.before.bytes bytes told long in absurd (omega (arith, fits, above))
 
-  pub says_complete : i.told ≡ Some bytes → Says m tree i o d → NothingFails m tree bytes i o d → (d.end ≡ end.Done) ⊎ (d.end ≡ end.NoMemory)
+  pub says_complete : i.input.before.bytes ≡ Some bytes → Says m tree i o d → NothingFails m tree bytes i o d → (d.end ≡ end.Done) ⊎ (d.end ≡ end.NoMemory)
   says_complete told (inl s) n = absurd (n.input s.1)
   says_complete told (inr (inl (long, r))) n = absurd (too_long_never told n.fits long)
   says_complete told (inr (inr (inl w))) n = inr (ap (λ (y : Doing L S K). y.end) w.nothing)

@@ -1,8 +1,8 @@
 -- Lines of a talk, one after another.
 use Rattle.std.proofs.Common.{◌≡◌, ℕ, ◌≤◌, Bool, true, false, List, [], ◌∷◌, ◌++◌, Option, Some, None, refl, sym, ◌∙◌, subst, arith, append_assoc}
 use Rattle.std.proofs.lemmas.List.{append-nil}
-use Rattle.am_base.specs.Outside.{PutsFront, HasRisen}
-use Rattle.am_base.specs.Written.{Output, seen}
+use Rattle.am_base.specs.Outside.{BytesTold, PutsFront, HasRisen}
+use Rattle.am_base.specs.Seen.{Seen, seen}
 use Rattle.ninep_client.specs.Asking.{Talk}
 use Rattle.do_lines.specs.declared.line.DoLine.{DoLine}
 use Rattle.do_lines.specs.Lawful.{AreLawful}
@@ -80,7 +80,7 @@ went_line most made line a b =
     went_same (λ bytes. sym (lines_append most made (line ∷ []) bytes)) (went_then (λ _ bytes. lines_told most (line ∷ []) bytes) a (went_same (lines_one most line) b))
 
 -- a line at which the talk stops
-pub halted_line : {end : Stop} (most : ℕ) (made : List DoLine) (line : DoLine) (rest : List DoLine) {t m : Talk} {h i l n : Option (List ℕ)} {v said : List ℕ} (f a : ℕ) {e : Ends} → Went (lines_told most made) t m h i l n v tt → e.held ≡ i → e.left ≡ n → f ≤ e.sink_faults → a ≤ e.source_faults
+pub halted_line : {end : Stop} (most : ℕ) (made : List DoLine) (line : DoLine) (rest : List DoLine) {t m : Talk} {h i l n : Option (List ℕ)} {v said : List ℕ} (f a : ℕ) {e : Ends} → Went (lines_told most made) t m h i l n v tt → e.sink.before.bytes ≡ i → e.source.before.bytes ≡ n → f ≤ e.sink.before.faults → a ≤ e.source.before.faults
     → Halted end (line_told most line) m e said → Halted end (lines_told most (made ++ line ∷ rest)) t (before h f l a e) (v ++ said)
 halted_line {end} most made line rest f a w held left s r d =
     halted_same (λ bytes. sym (lines_append most made (line ∷ rest) bytes))
@@ -88,23 +88,23 @@ halted_line {end} most made line rest f a w held left s r d =
 
 -- ---- the output
 
-pub wrote_none : (h : Option (List ℕ)) (f : ℕ) → Wrote false (seen h h f f) []
-wrote_none h f = record { holds = put_none h; later = omega arith }
+pub wrote_none : (first : BytesTold) → Wrote false (seen first first) []
+wrote_none first = record { holds = put_none first.bytes; later = omega arith }
 
 -- a text more was put
-pub wrote_more : (failed now : Bool) (h i j : Option (List ℕ)) (f g k : ℕ) (v w : List ℕ) → Wrote failed (seen h i f g) v → Put failed now (seen i j g k) w → Wrote now (seen h j f k) (v ++ w)
-wrote_more false false h i j f g k v w a b = record { holds = put_then h i j v w a.holds b.holds; later = omega (arith, a.later, b.later) }
-wrote_more false true h i j f g k v w a b = record {
-  holds = record { front = front_then h i j v w a.holds b.holds.front; risen = risen_later f g k a.later b.holds.risen };
+pub wrote_more : (failed now : Bool) (first mid last : BytesTold) (v w : List ℕ) → Wrote failed (seen first mid) v → Put failed now (seen mid last) w → Wrote now (seen first last) (v ++ w)
+wrote_more false false first mid last v w a b = record { holds = put_then first.bytes mid.bytes last.bytes v w a.holds b.holds; later = omega (arith, a.later, b.later) }
+wrote_more false true first mid last v w a b = record {
+  holds = record { front = front_then first.bytes mid.bytes last.bytes v w a.holds b.holds.front; risen = risen_later first.faults mid.faults last.faults a.later b.holds.risen };
   later = omega (arith, a.later, b.later);
 }
-wrote_more true true h i j f g k v w a b =
-    let front : PutsFront h (v ++ w) j = subst (λ (o : Option (List ℕ)). PutsFront h (v ++ w) o) (sym b.held) (front_longer h i v w a.holds.front) in
-    record { holds = record { front = front; risen = subst (λ (n : ℕ). HasRisen f n) (sym b.faults) a.holds.risen }; later = subst (λ (n : ℕ). f ≤ n) (sym b.faults) a.later }
-wrote_more true false h i j f g k v w a b = absurd b
+wrote_more true true first mid last v w a b =
+    let front : PutsFront first.bytes (v ++ w) last.bytes = subst (λ (o : Option (List ℕ)). PutsFront first.bytes (v ++ w) o) (sym b.held) (front_longer first.bytes mid.bytes v w a.holds.front) in
+    record { holds = record { front = front; risen = subst (λ (n : ℕ). HasRisen first.faults n) (sym b.faults) a.holds.risen }; later = subst (λ (n : ℕ). first.faults ≤ n) (sym b.faults) a.later }
+wrote_more true false first mid last v w a b = absurd b
 
 -- a text that is another's
-pub put_of : (failed now : Bool) (o : Output) {v w : List ℕ} → v ≡ w → Put failed now o v → Put failed now o w
+pub put_of : (failed now : Bool) (o : Seen) {v w : List ℕ} → v ≡ w → Put failed now o v → Put failed now o w
 put_of failed now o is put = subst (λ (x : List ℕ). Put failed now o x) is put
 
 pub lawful_rest : (line : DoLine) (rest : List DoLine) → AreLawful (line ∷ rest) → AreLawful rest
@@ -112,41 +112,41 @@ lawful_rest line rest all = all.1
 
 -- ---- as far as the lines were done
 
-pub record SoFar (most : ℕ) (lines rest : List DoLine) (t now : Talk) (h i l n : Option (List ℕ)) (failed : Bool) (o : Output) : Type 0 where
+pub record SoFar (most : ℕ) (lines rest : List DoLine) (t now : Talk) (h i l n : Option (List ℕ)) (failed : Bool) (o : Seen) : Type 0 where
   pub made : List DoLine
   pub joined : made ++ rest ≡ lines
   pub text : List ℕ
   pub went : Went (lines_told most made) t now h i l n text tt
   pub wrote : Wrote failed o text
 
-pub far_none : (most : ℕ) (lines : List DoLine) (t : Talk) (h l k : Option (List ℕ)) (f : ℕ) → SoFar most lines lines t t h h l l false (seen k k f f)
-far_none most lines t h l k f = record { made = []; joined = refl; text = []; went = went_none most t h l; wrote = wrote_none k f }
+pub far_none : (most : ℕ) (lines : List DoLine) (t : Talk) (h l : Option (List ℕ)) (k : BytesTold) → SoFar most lines lines t t h h l l false (seen k k)
+far_none most lines t h l k = record { made = []; joined = refl; text = []; went = went_none most t h l; wrote = wrote_none k }
 
-pub far_more : {most : ℕ} {lines rest : List DoLine} (line : DoLine) {t m after : Talk} {h i j l n p : Option (List ℕ)} {failed now : Bool} {u v w : Option (List ℕ)} {a b c : ℕ} {text : List ℕ} → SoFar most lines (line ∷ rest) t m h i l n failed (seen u v a b) → Went (line_told most line) m after i j n p text tt → Put failed now (seen v w b c) text
-    → SoFar most lines rest t after h j l p now (seen u w a c)
-far_more {most} {lines} {rest} line {t} {m} {after} {h} {i} {j} {l} {n} {p} {failed} {now} {u} {v} {w} {a} {b} {c} {text} far went put = record {
+pub far_more : {most : ℕ} {lines rest : List DoLine} (line : DoLine) {t m after : Talk} {h i j l n p : Option (List ℕ)} {failed now : Bool} {u v w : BytesTold} {text : List ℕ} → SoFar most lines (line ∷ rest) t m h i l n failed (seen u v) → Went (line_told most line) m after i j n p text tt → Put failed now (seen v w) text
+    → SoFar most lines rest t after h j l p now (seen u w)
+far_more {most} {lines} {rest} line {t} {m} {after} {h} {i} {j} {l} {n} {p} {failed} {now} {u} {v} {w} {text} far went put = record {
   made = far.made ++ line ∷ [];
   joined = append_assoc far.made (line ∷ []) rest ∙ far.joined;
   text = far.text ++ text;
   went = went_line most far.made line far.went went;
-  wrote = wrote_more failed now u v w a b c far.text text far.wrote put;
+  wrote = wrote_more failed now u v w far.text text far.wrote put;
 }
 
 -- all lines were done
-pub far_all : {most : ℕ} {lines : List DoLine} {t now : Talk} {h i l n : Option (List ℕ)} {failed : Bool} {o : Output} (e : Ends) → e.held ≡ h → e.held_now ≡ i → e.left ≡ l → e.left_now ≡ n → SoFar most lines [] t now h i l n failed o → WentWell (lines_told most lines) t e failed o
+pub far_all : {most : ℕ} {lines : List DoLine} {t now : Talk} {h i l n : Option (List ℕ)} {failed : Bool} {o : Seen} (e : Ends) → e.sink.before.bytes ≡ h → e.sink.now.bytes ≡ i → e.source.before.bytes ≡ l → e.source.now.bytes ≡ n → SoFar most lines [] t now h i l n failed o → WentWell (lines_told most lines) t e failed o
 far_all {most} {lines} {t} {now} {h} {i} {l} {n} {failed} {o} e a b c d far = record {
   after = now;
   text = far.text;
-  went = subst (λ (x : Option (List ℕ)). Went (lines_told most lines) t now x e.held_now e.left e.left_now far.text tt) (sym a)
-      (subst (λ (x : Option (List ℕ)). Went (lines_told most lines) t now h x e.left e.left_now far.text tt) (sym b)
-      (subst (λ (x : Option (List ℕ)). Went (lines_told most lines) t now h i x e.left_now far.text tt) (sym c)
+  went = subst (λ (x : Option (List ℕ)). Went (lines_told most lines) t now x e.sink.now.bytes e.source.before.bytes e.source.now.bytes far.text tt) (sym a)
+      (subst (λ (x : Option (List ℕ)). Went (lines_told most lines) t now h x e.source.before.bytes e.source.now.bytes far.text tt) (sym b)
+      (subst (λ (x : Option (List ℕ)). Went (lines_told most lines) t now h i x e.source.now.bytes far.text tt) (sym c)
       (subst (λ (x : Option (List ℕ)). Went (lines_told most lines) t now h i l x far.text tt) (sym d)
       (subst (λ (x : List DoLine). Went (lines_told most x) t now h i l n far.text tt) (sym (append-nil far.made) ∙ far.joined) far.went))));
   wrote = far.wrote;
 }
 
 -- a line at which the talk stops
-pub far_halted : {end : Stop} {most : ℕ} {lines : List DoLine} (line : DoLine) {rest : List DoLine} {t m : Talk} {h i l n : Option (List ℕ)} {failed : Bool} {o : Output} (f a : ℕ) {e : Ends} → SoFar most lines (line ∷ rest) t m h i l n failed o → e.held ≡ i → e.left ≡ n → f ≤ e.sink_faults → a ≤ e.source_faults
+pub far_halted : {end : Stop} {most : ℕ} {lines : List DoLine} (line : DoLine) {rest : List DoLine} {t m : Talk} {h i l n : Option (List ℕ)} {failed : Bool} {o : Seen} (f a : ℕ) {e : Ends} → SoFar most lines (line ∷ rest) t m h i l n failed o → e.sink.before.bytes ≡ i → e.source.before.bytes ≡ n → f ≤ e.sink.before.faults → a ≤ e.source.before.faults
     → Halted end (line_told most line) m e [] → HasHalted end (lines_told most lines) t (before h f l a e) failed o
 far_halted {end} {most} {lines} line {rest} {t} {m} {h} {i} {l} {n} {failed} {o} f a {e} far held left s r d = record {
   text = far.text;
@@ -161,17 +161,17 @@ pub told_is : (tree : List ℕ) (lines : List DoLine) (bytes : List ℕ) → and
 unfolding told_of
 told_is tree lines bytes = refl
 
-pub well_begun : (tree : List ℕ) (lines : List DoLine) {most : ℕ} {t m : Talk} {h i l n : Option (List ℕ)} {failed : Bool} {o : Output} {f a : ℕ} {e : Ends} → Went (begins tree) t m h i l n [] most → e.held ≡ i → e.left ≡ n → WentWell (lines_told most lines) m e failed o → WentWell (told_of tree lines) t (before h f l a e) failed o
+pub well_begun : (tree : List ℕ) (lines : List DoLine) {most : ℕ} {t m : Talk} {h i l n : Option (List ℕ)} {failed : Bool} {o : Seen} {f a : ℕ} {e : Ends} → Went (begins tree) t m h i l n [] most → e.sink.before.bytes ≡ i → e.source.before.bytes ≡ n → WentWell (lines_told most lines) m e failed o → WentWell (told_of tree lines) t (before h f l a e) failed o
 well_begun tree lines {most} {t} {m} {h} {i} {l} {n} {failed} {o} {f} {a} {e} w held left well = record {
   after = well.after;
   text = well.text;
   went = went_same (told_is tree lines) (went_then (λ most rest. lines_told most lines rest) w
-      (subst (λ (x : Option (List ℕ)). Went (lines_told most lines) m well.after x e.held_now n e.left_now well.text tt) held
-      (subst (λ (x : Option (List ℕ)). Went (lines_told most lines) m well.after e.held e.held_now x e.left_now well.text tt) left well.went)));
+      (subst (λ (x : Option (List ℕ)). Went (lines_told most lines) m well.after x e.sink.now.bytes n e.source.now.bytes well.text tt) held
+      (subst (λ (x : Option (List ℕ)). Went (lines_told most lines) m well.after e.sink.before.bytes e.sink.now.bytes x e.source.now.bytes well.text tt) left well.went)));
   wrote = well.wrote;
 }
 
-pub halted_begun : {end : Stop} (tree : List ℕ) (lines : List DoLine) {most : ℕ} {t m : Talk} {h i l n : Option (List ℕ)} {failed : Bool} {o : Output} (f a : ℕ) {e : Ends} → Went (begins tree) t m h i l n [] most → e.held ≡ i → e.left ≡ n → f ≤ e.sink_faults → a ≤ e.source_faults
+pub halted_begun : {end : Stop} (tree : List ℕ) (lines : List DoLine) {most : ℕ} {t m : Talk} {h i l n : Option (List ℕ)} {failed : Bool} {o : Seen} (f a : ℕ) {e : Ends} → Went (begins tree) t m h i l n [] most → e.sink.before.bytes ≡ i → e.source.before.bytes ≡ n → f ≤ e.sink.before.faults → a ≤ e.source.before.faults
     → HasHalted end (lines_told most lines) m e failed o → HasHalted end (told_of tree lines) t (before h f l a e) failed o
 halted_begun {end} tree lines {most} f a w held left s r has = record {
   text = has.text;
@@ -180,7 +180,7 @@ halted_begun {end} tree lines {most} f a w held left s r has = record {
 }
 
 -- by whether it has stopped
-pub comes_begun : (end : Option Stop) (tree : List ℕ) (lines : List DoLine) {most : ℕ} {t m : Talk} {h i l n : Option (List ℕ)} (failed : Bool) (o : Output) (f a : ℕ) (e : Ends) → Went (begins tree) t m h i l n [] most → e.held ≡ i → e.left ≡ n → f ≤ e.sink_faults → a ≤ e.source_faults
+pub comes_begun : (end : Option Stop) (tree : List ℕ) (lines : List DoLine) {most : ℕ} {t m : Talk} {h i l n : Option (List ℕ)} (failed : Bool) (o : Seen) (f a : ℕ) (e : Ends) → Went (begins tree) t m h i l n [] most → e.sink.before.bytes ≡ i → e.source.before.bytes ≡ n → f ≤ e.sink.before.faults → a ≤ e.source.before.faults
     → Comes end (lines_told most lines) m e failed o → Comes end (told_of tree lines) t (before h f l a e) failed o
 comes_begun None tree lines failed o f a e w held left s r comes = well_begun tree lines w held left comes
 comes_begun (Some end) tree lines failed o f a e w held left s r comes = halted_begun tree lines f a w held left s r comes

@@ -1,5 +1,6 @@
 -- The parts of a talk by its lines.
 use Rattle.std.proofs.Common.{◌≡◌, ℕ, suc, ◌*◌, ◌<◌, ◌≤◌, List, [], ◌∷◌, length, Option, refl, sym, subst, arith}
+use Rattle.am_base.specs.Outside.{bytes_told}
 use Rattle.std.specs.Prelude.{Result, Ok, Err, IfOk, IfErr, All, codes}
 use Rattle.std.specs.List.{flat_map}
 use Rattle.std.specs.Int.{w16, to_le_bytes}
@@ -40,7 +41,7 @@ module _ {A : Type 0} where
 
   -- a part, and then memory runs out
   pub halted_saying : {one : List ℕ → Told A} {whole : List ℕ → Told (Unit {0})} (two : A → List ℕ → Told (Unit {0})) {t m : Talk} {h i l n : Option (List ℕ)} (f g a b : ℕ) {x : A} → ((bytes : List ℕ) → and_then (one bytes) two ≡ whole bytes) → f ≤ g → a ≤ b
-      → Went one t m h i l n [] x → Halted (stop.Fault fault.NoMemory) whole t (ends h i f g l n a b) []
+      → Went one t m h i l n [] x → Halted (stop.Fault fault.NoMemory) whole t (ends (bytes_told h f) (bytes_told i g) (bytes_told l a) (bytes_told n b)) []
   halted_saying two {t} {m} {h} {i} {l} {n} f g a b {x} is s r w = halted_same is (halted_then two f a w refl refl s r (halted_memory (two x) m i n g b))
 
   -- the talk stops in its first part
@@ -54,7 +55,7 @@ module _ {A : Type 0} where
 
   -- the talk stops in its second part
   pub halted_going : {end : Stop} {one : List ℕ → Told A} {next whole : List ℕ → Told (Unit {0})} (two : A → List ℕ → Told (Unit {0})) {t m : Talk} {h i l n : Option (List ℕ)} (f a : ℕ) {e : Ends} {x : A} → ((bytes : List ℕ) → and_then (one bytes) two ≡ whole bytes) → ((bytes : List ℕ) → next bytes ≡ two x bytes)
-      → Went one t m h i l n [] x → e.held ≡ i → e.left ≡ n → f ≤ e.sink_faults → a ≤ e.source_faults → Halted end next m e [] → Halted end whole t (before h f l a e) []
+      → Went one t m h i l n [] x → e.sink.before.bytes ≡ i → e.source.before.bytes ≡ n → f ≤ e.sink.before.faults → a ≤ e.source.before.faults → Halted end next m e [] → Halted end whole t (before h f l a e) []
   halted_going two f a is same w held left s r h = halted_same is (halted_then two f a w held left s r (halted_same same h))
 
 -- ---- the lines

@@ -1,6 +1,6 @@
 -- Parts of a talk, one after another.
 use Rattle.std.proofs.Common.{◌≡◌, ℕ, ◌≤◌, List, [], ◌++◌, Option, refl, sym, ap, ◌∙◌, subst, append_assoc}
-use Rattle.am_base.specs.Outside.{told_then, PutsFront}
+use Rattle.am_base.specs.Outside.{bytes_told, told_then, PutsFront}
 use Rattle.ninep_client.specs.declared.fault.CallFault.{CallFault}
 use Rattle.ninep_client.specs.declared.fault.CallFault.TheVariants as fault
 use Rattle.ninep_client.specs.Asking.{Talk}
@@ -59,9 +59,9 @@ module _ {A B : Type 0} where
   cut_first : (told : Told A) (two : A → List ℕ → Told B) (e : Ends) (text : List ℕ) → IsCutOff told e text → IsCutOff (and_then told two) e text
   cut_first told two e text h = subst (λ (x : Told B). IsCutOff x e text) (sym (got_first told two Lacks h.lacks)) (record { lacks = refl; front = h.front; risen = h.risen; said = h.said })
 
-  starved_got : (sent told text rest : List ℕ) (g : Got A) (two : A → List ℕ → Told B) (e : Ends) → PutsFront e.held sent e.held_now → text ++ rest ≡ told → IsStarved (then_got sent told g two) e text
+  starved_got : (sent told text rest : List ℕ) (g : Got A) (two : A → List ℕ → Told B) (e : Ends) → PutsFront e.sink.before.bytes sent e.sink.now.bytes → text ++ rest ≡ told → IsStarved (then_got sent told g two) e text
   starved_got sent told text rest (Value a r) two e f said = record {
-    front = front_longer e.held e.held_now sent (two a r).sent f;
+    front = front_longer e.sink.before.bytes e.sink.now.bytes sent (two a r).sent f;
     rest = rest ++ (two a r).text;
     said = sym (append_assoc text rest (two a r).text) ∙ ap (λ (x : List ℕ). x ++ (two a r).text) said;
   }
@@ -96,33 +96,33 @@ module _ {A B : Type 0} where
 
 -- what a sink and a source were before
 abbrev pub before : Option (List ℕ) → ℕ → Option (List ℕ) → ℕ → Ends → Ends
-before held sink left source e = record e { held = held; sink_faults = sink; left = left; source_faults = source }
+before held sink left source e = ends (bytes_told held sink) e.sink.now (bytes_told left source) e.source.now
 
 module _ {B : Type 0} where
-  left_behind : (sent text : List ℕ) (told : Told B) (h l : Option (List ℕ)) (f a : ℕ) (e : Ends) (said : List ℕ) → e.held ≡ told_then h sent → IsLeft told e said → IsLeft (behind sent text told) (before h f l a e) (text ++ said)
-  left_behind sent text told h l f a e said p x = record { lacks = x.lacks; put = put_then h e.held e.held_now sent told.sent p x.put; said = ap (λ (u : List ℕ). text ++ u) x.said }
+  left_behind : (sent text : List ℕ) (told : Told B) (h l : Option (List ℕ)) (f a : ℕ) (e : Ends) (said : List ℕ) → e.sink.before.bytes ≡ told_then h sent → IsLeft told e said → IsLeft (behind sent text told) (before h f l a e) (text ++ said)
+  left_behind sent text told h l f a e said p x = record { lacks = x.lacks; put = put_then h e.sink.before.bytes e.sink.now.bytes sent told.sent p x.put; said = ap (λ (u : List ℕ). text ++ u) x.said }
 
-  faulty_behind : (c : CallFault) (sent text : List ℕ) (told : Told B) (h l : Option (List ℕ)) (f a : ℕ) (e : Ends) (said : List ℕ) → e.held ≡ told_then h sent → IsFaulty c told e said → IsFaulty c (behind sent text told) (before h f l a e) (text ++ said)
-  faulty_behind c sent text told h l f a e said p x = record { faulty = x.faulty; put = put_then h e.held e.held_now sent told.sent p x.put; said = ap (λ (u : List ℕ). text ++ u) x.said }
+  faulty_behind : (c : CallFault) (sent text : List ℕ) (told : Told B) (h l : Option (List ℕ)) (f a : ℕ) (e : Ends) (said : List ℕ) → e.sink.before.bytes ≡ told_then h sent → IsFaulty c told e said → IsFaulty c (behind sent text told) (before h f l a e) (text ++ said)
+  faulty_behind c sent text told h l f a e said p x = record { faulty = x.faulty; put = put_then h e.sink.before.bytes e.sink.now.bytes sent told.sent p x.put; said = ap (λ (u : List ℕ). text ++ u) x.said }
 
-  stops_behind : (end : Stop) (sent text : List ℕ) (used all : Told B) (unread : List ℕ) (h l : Option (List ℕ)) (f a : ℕ) (e : Ends) (said : List ℕ) → e.held ≡ told_then h sent → f ≤ e.sink_faults → a ≤ e.source_faults
+  stops_behind : (end : Stop) (sent text : List ℕ) (used all : Told B) (unread : List ℕ) (h l : Option (List ℕ)) (f a : ℕ) (e : Ends) (said : List ℕ) → e.sink.before.bytes ≡ told_then h sent → f ≤ e.sink.before.faults → a ≤ e.source.before.faults
       → StopsFor end used all unread e said → StopsFor end (behind sent text used) (behind sent text all) unread (before h f l a e) (text ++ said)
-  stops_behind stop.Refused sent text used all unread h l f a e said p s r x = record { refused = x.refused; put = put_then h e.held e.held_now sent used.sent p x.put; said = ap (λ (u : List ℕ). text ++ u) x.said }
+  stops_behind stop.Refused sent text used all unread h l f a e said p s r x = record { refused = x.refused; put = put_then h e.sink.before.bytes e.sink.now.bytes sent used.sent p x.put; said = ap (λ (u : List ℕ). text ++ u) x.said }
   stops_behind (stop.Fault fault.Ended) sent text used all unread h l f a e said p s r x = (left_behind sent text used h l f a e said p x.0, x.1, x.2)
   stops_behind (stop.Fault fault.Torn) sent text used all unread h l f a e said p s r x =
       (left_behind sent text used h l f a e said p x.0, left_behind sent text all h l f a e said p x.1, x.2, x.3, x.4)
-  stops_behind (stop.Fault fault.ReadFault) sent text used all unread h l f a e said p s r x = (left_behind sent text used h l f a e said p x.0, x.1, risen_later a e.source_faults e.source_faults_now r x.2)
+  stops_behind (stop.Fault fault.ReadFault) sent text used all unread h l f a e said p s r x = (left_behind sent text used h l f a e said p x.0, x.1, risen_later a e.source.before.faults e.source.now.faults r x.2)
   stops_behind (stop.Fault fault.WriteFault) sent text used all unread h l f a e said p s r x = record {
     lacks = x.lacks;
-    front = front_then h e.held e.held_now sent used.sent p x.front;
-    risen = risen_later f e.sink_faults e.sink_faults_now s x.risen;
+    front = front_then h e.sink.before.bytes e.sink.now.bytes sent used.sent p x.front;
+    risen = risen_later f e.sink.before.faults e.sink.now.faults s x.risen;
     said = ap (λ (u : List ℕ). text ++ u) x.said;
   }
   stops_behind (stop.Fault (fault.Wire w)) sent text used all unread h l f a e said p s r x = faulty_behind (fault.Wire w) sent text all h l f a e said p x
   stops_behind (stop.Fault (fault.Unasked n)) sent text used all unread h l f a e said p s r x = faulty_behind (fault.Unasked n) sent text all h l f a e said p x
   stops_behind (stop.Fault (fault.Kind kind)) sent text used all unread h l f a e said p s r x = faulty_behind (fault.Kind kind) sent text all h l f a e said p x
   stops_behind (stop.Fault fault.NoMemory) sent text used all unread h l f a e said p s r x = record {
-    front = front_then h e.held e.held_now sent used.sent p x.front;
+    front = front_then h e.sink.before.bytes e.sink.now.bytes sent used.sent p x.front;
     rest = x.rest;
     said = append_assoc text said x.rest ∙ ap (λ (u : List ℕ). text ++ u) x.said;
   }
@@ -132,7 +132,7 @@ module _ {B : Type 0} where
   stops_behind (stop.Fault (fault.Remote t)) sent text used all unread h l f a e said p s r x = absurd x
 
 module _ {A B : Type 0} where
-  pub halted_then : {end : Stop} {one : List ℕ → Told A} (two : A → List ℕ → Told B) {t m : Talk} {h i l n : Option (List ℕ)} {v said : List ℕ} {x : A} (f a : ℕ) {e : Ends} → Went one t m h i l n v x → e.held ≡ i → e.left ≡ n → f ≤ e.sink_faults → a ≤ e.source_faults
+  pub halted_then : {end : Stop} {one : List ℕ → Told A} (two : A → List ℕ → Told B) {t m : Talk} {h i l n : Option (List ℕ)} {v said : List ℕ} {x : A} (f a : ℕ) {e : Ends} → Went one t m h i l n v x → e.sink.before.bytes ≡ i → e.source.before.bytes ≡ n → f ≤ e.sink.before.faults → a ≤ e.source.before.faults
       → Halted end (two x) m e said → Halted end (λ bytes. and_then (one bytes) two) t (before h f l a e) (v ++ said)
   halted_then {end} {one} two {t} {m} {h} {i} {l} {n} {v} {said} {x} f a {e} w held left s r d =
       let used : and_then (one (w.used ++ d.used)) two ≡ behind w.sent v (two x d.used) = part_then one two w.used w.sent v d.used x w.goes in
@@ -143,14 +143,14 @@ module _ {A B : Type 0} where
       record {
         used = w.used ++ d.used;
         unread = d.unread;
-        came = subst (λ (b : List ℕ). Came l e.left_now t.unread b) (sym (append_assoc w.used d.used d.unread)) (came_then l n e.left_now t.unread m.unread (d.used ++ d.unread) w.used w.came (subst (λ (o : Option (List ℕ)). Came o e.left_now m.unread (d.used ++ d.unread)) left d.came));
+        came = subst (λ (b : List ℕ). Came l e.source.now.bytes t.unread b) (sym (append_assoc w.used d.used d.unread)) (came_then l n e.source.now.bytes t.unread m.unread (d.used ++ d.unread) w.used w.came (subst (λ (o : Option (List ℕ)). Came o e.source.now.bytes m.unread (d.used ++ d.unread)) left d.came));
         cause = subst (λ (u : Told B). StopsFor end u (and_then (one ((w.used ++ d.used) ++ d.unread)) two) d.unread (before h f l a e) (v ++ said)) (sym used)
             (subst (λ (u : Told B). StopsFor end (behind w.sent v (two x d.used)) u d.unread (before h f l a e) (v ++ said)) (sym all) cause);
       }
 
 -- ---- a talk that stops where it stands
 
-pub halted_memory : {A : Type 0} (talk : List ℕ → Told A) (t : Talk) (held left : Option (List ℕ)) (f a : ℕ) → Halted (stop.Fault fault.NoMemory) talk t (ends held held f f left left a a) []
+pub halted_memory : {A : Type 0} (talk : List ℕ → Told A) (t : Talk) (held left : Option (List ℕ)) (f a : ℕ) → Halted (stop.Fault fault.NoMemory) talk t (ends (bytes_told held f) (bytes_told held f) (bytes_told left a) (bytes_told left a)) []
 halted_memory talk t held left f a = record {
   used = [];
   unread = t.unread;
@@ -158,7 +158,7 @@ halted_memory talk t held left f a = record {
   cause = record { front = front_none held (talk []).sent; rest = (talk []).text; said = refl };
 }
 
-pub halted_refused : {A : Type 0} (t : Talk) (held left : Option (List ℕ)) (f a : ℕ) → Halted stop.Refused (λ (bytes : List ℕ). let told : Told A = refuses in told) t (ends held held f f left left a a) []
+pub halted_refused : {A : Type 0} (t : Talk) (held left : Option (List ℕ)) (f a : ℕ) → Halted stop.Refused (λ (bytes : List ℕ). let told : Told A = refuses in told) t (ends (bytes_told held f) (bytes_told held f) (bytes_told left a) (bytes_told left a)) []
 halted_refused t held left f a = record {
   used = [];
   unread = t.unread;

@@ -2,12 +2,12 @@
 use Rattle.std.specs.Prelude.{◌≡◌, ℕ, ◌≤◌, List, length, Some, IfSome, Ok}
 use Rattle.am_base.specs.Outside.{HasRisen}
 use Rattle.am_base.specs.Stops.{input_limit}
-use Rattle.am_base.specs.Written.{Output}
+use Rattle.am_base.specs.Seen.{Given, Seen}
 use Rattle.am_text.specs.Lines.{lines_of}
 use Rattle.do_lines.specs.declared.line.DoLine.{DoLine}
 use Rattle.do_lines.specs.Lines.{lines_from}
 use Rattle.am_do.specs.declared.running.Doing.{Doing}
-use Rattle.am_do.specs.Ends.{Peer, Given}
+use Rattle.am_do.specs.Ends.{Peer}
 use Rattle.am_do.specs.Talks.{Got, Value, Lacks, Faulty, Refused, told_of}
 
 -- a value came: no reply is missing, none is at fault, and the server takes the talk
@@ -20,19 +20,19 @@ IsValue {A} Refused = ⊥
 module _ {L S K : Type 0} where
   -- The link has not failed, and begins with bytes that answer all that is asked for the tree and the lines.
   pub record Answers (m : Peer L S K) (tree : List ℕ) (lines : List DoLine) (link : L) : Type 0 where
-    pub calm : m.link_faults link ≡ 0
+    pub calm : (m.link link).faults ≡ 0
     pub bytes : List ℕ
-    pub told : m.begins link ≡ Some bytes
+    pub told : (m.link link).begins ≡ Some bytes
     pub all : IsValue (told_of tree lines bytes).got
 
   -- The input is within its limit, its lines are in the grammar, no count of faults rises, and all is answered.
-  pub record NothingFails (m : Peer L S K) (tree bytes : List ℕ) (i : Given) (o : Output) (d : Doing L S K) : Type 0 where
+  pub record NothingFails (m : Peer L S K) (tree bytes : List ℕ) (i : Given) (o : Seen) (d : Doing L S K) : Type 0 where
     pub fits : length bytes ≤ input_limit
     pub lines : List DoLine
     pub read : lines_from 1 (lines_of bytes) ≡ Ok lines
-    pub input : ¬ HasRisen i.faults i.faults_now
+    pub input : ¬ HasRisen i.input.before.faults i.input.now.faults
     pub host : ¬ HasRisen i.host_faults i.host_faults_now
-    pub output : ¬ HasRisen o.faults o.faults_now
+    pub output : ¬ HasRisen o.before.faults o.now.faults
     pub link : IfSome d.link (λ link. Answers m tree lines link)
-    pub reader : IfSome d.reader (λ reader. m.source_faults reader ≡ 0)
-    pub writer : IfSome d.writer (λ writer. m.sink_faults writer ≡ 0)
+    pub reader : IfSome d.reader (λ reader. (m.source reader).faults ≡ 0)
+    pub writer : IfSome d.writer (λ writer. (m.sink writer).faults ≡ 0)

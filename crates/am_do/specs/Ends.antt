@@ -1,8 +1,9 @@
 -- How `do` ends.
 use Rattle.std.specs.Prelude.{◌≡◌, ◌⊎◌, ℕ, ◌<◌, ◌≤◌, Bool, true, false, List, [], length, Option, Some, None, IfSome, Result, Ok, Err, codes}
-use Rattle.am_base.specs.Outside.{AreTold, HasRisen}
+use Rattle.am_base.specs.Outside.{BytesTold, LinkTold, AreTold, HasRisen}
 use Rattle.am_base.specs.Stops.{input_limit}
-use Rattle.am_base.specs.Written.{Output, IsPut}
+use Rattle.am_base.specs.Seen.{Given, Seen}
+use Rattle.am_base.specs.Written.{IsPut}
 use Rattle.am_text.specs.Lines.{lines_of}
 use Rattle.am_journal.specs.Texts.{refused_text}
 use Rattle.ninep_client.specs.declared.fault.CallFault.TheVariants as fault
@@ -18,25 +19,14 @@ use Rattle.am_do.specs.Talks.{told_of}
 use Rattle.am_do.specs.Went.{ends}
 use Rattle.am_do.specs.Written.{Comes}
 
--- what a link, its source and its sink tell: what the source begins with, the bytes left and held, and the counts of faults
+-- what links, sources and sinks tell
 pub record Peer (L S K : Type 0) : Type 0 where
-  pub begins : L → Option (List ℕ)
-  pub link_faults : L → ℕ
-  pub left : S → Option (List ℕ)
-  pub source_faults : S → ℕ
-  pub held : K → Option (List ℕ)
-  pub sink_faults : K → ℕ
+  pub link : L → LinkTold
+  pub source : S → BytesTold
+  pub sink : K → BytesTold
 
-module _ {L S K : Type 0} where
-  abbrev pub peer : (L → Option (List ℕ)) → (L → ℕ) → (S → Option (List ℕ)) → (S → ℕ) → (K → Option (List ℕ)) → (K → ℕ) → Peer L S K
-  peer begins link_faults left source_faults held sink_faults = record {
-    begins = begins;
-    link_faults = link_faults;
-    left = left;
-    source_faults = source_faults;
-    held = held;
-    sink_faults = sink_faults;
-  }
+abbrev pub peer : {L S K : Type 0} → (L → LinkTold) → (S → BytesTold) → (K → BytesTold) → Peer L S K
+peer link source sink = record { link = link; source = source; sink = sink }
 
 -- how a talk ends the command: want of memory, another stop, an output that has failed, or all done
 abbrev pub end_at : Option Stop → Bool → DoEnd
@@ -56,76 +46,68 @@ end_at (Some (stop.Fault fault.Tags)) failed = end.Talk
 end_at (Some (stop.Fault fault.Large)) failed = end.Talk
 end_at (Some (stop.Fault (fault.Remote text))) failed = end.Talk
 
--- what is given: the bytes that the input tells, and the counts of faults of the input and the host, before and after
-pub record Given : Type 0 where
-  pub told : Option (List ℕ)
-  pub faults : ℕ
-  pub faults_now : ℕ
-  pub host_faults : ℕ
-  pub host_faults_now : ℕ
-
-abbrev pub given : Option (List ℕ) → ℕ → ℕ → ℕ → ℕ → Given
-given told faults faults_now host_faults host_faults_now =
-    record { told = told; faults = faults; faults_now = faults_now; host_faults = host_faults; host_faults_now = host_faults_now }
-
 module _ {L S K : Type 0} where
   -- nothing was dialled
   abbrev pub unlinked : DoEnd → Doing L S K
   unlinked e = record { end = e; link = None; reader = None; writer = None; stop = None }
 
   -- nothing was dialled, and nothing was written
-  pub record IsIdle (e : DoEnd) (o : Output) (d : Doing L S K) : Type 0 where
+  pub record IsIdle (e : DoEnd) (o : Seen) (d : Doing L S K) : Type 0 where
     pub nothing : d ≡ unlinked e
-    pub silent : o.held_now ≡ o.held
+    pub silent : o.now.bytes ≡ o.before.bytes
 
   -- a line, or the whole input, is refused, and nothing was dialled; or there was no memory to say so
-  pub record IsRefused (line : ℕ) (word : List ℕ) (o : Output) (d : Doing L S K) : Type 0 where
+  pub record IsRefused (line : ℕ) (word : List ℕ) (o : Seen) (d : Doing L S K) : Type 0 where
     pub nothing : d ≡ unlinked end.Script
     pub put : IsPut o (refused_text line word)
 
-  abbrev pub Refuses : ℕ → List ℕ → Output → Doing L S K → Type 0
+  abbrev pub Refuses : ℕ → List ℕ → Seen → Doing L S K → Type 0
   Refuses line word o d = IsRefused line word o d ⊎ IsIdle end.NoMemory o d
 
   -- the link gave no halves, and has counted it
-  pub record IsUnhalved (m : Peer L S K) (o : Output) (d : Doing L S K) : Type 0 where
+  pub record IsUnhalved (m : Peer L S K) (o : Seen) (d : Doing L S K) : Type 0 where
     pub link : L
     pub none : d ≡ record { end = end.HostFault; link = Some link; reader = None; writer = None; stop = None }
-    pub risen : HasRisen 0 (m.link_faults link)
-    pub silent : o.held_now ≡ o.held
+    pub risen : HasRisen 0 (m.link link).faults
+    pub silent : o.now.bytes ≡ o.before.bytes
 
-  -- The lines were done over a link, from its beginning on.
-  pub record Talked (m : Peer L S K) (tree : List ℕ) (lines : List DoLine) (o : Output) (d : Doing L S K) : Type 0 where
+  -- The lines were done over a link, whose source and sink were as the link gives them: with what it begins with, and empty, and without
+  -- a fault.
+  pub record Talked (m : Peer L S K) (tree : List ℕ) (lines : List DoLine) (o : Seen) (d : Doing L S K) : Type 0 where
     pub link : L
     pub reader : S
     pub writer : K
     pub objects : d ≡ record { end = d.end; link = Some link; reader = Some reader; writer = Some writer; stop = d.stop }
-    pub held : Option (List ℕ)
-    pub empty : AreTold held []
+    pub source : BytesTold
+    pub begins : source.bytes ≡ (m.link link).begins
+    pub sink : BytesTold
+    pub empty : AreTold sink.bytes []
+    pub fresh : (source.faults ≡ 0) × (sink.faults ≡ 0)
     pub failed : Bool
-    pub comes : Comes d.stop (told_of tree lines) begun (ends held (m.held writer) 0 (m.sink_faults writer) (m.begins link) (m.left reader) 0 (m.source_faults reader)) failed o
+    pub comes : Comes d.stop (told_of tree lines) begun (ends sink (m.sink writer) source (m.source reader)) failed o
     pub ended : d.end ≡ end_at d.stop failed
 
   -- over a link: it gave no halves, or the lines were done
-  abbrev pub TalksOver : Peer L S K → List ℕ → List DoLine → Output → Doing L S K → Type 0
+  abbrev pub TalksOver : Peer L S K → List ℕ → List DoLine → Seen → Doing L S K → Type 0
   TalksOver m tree lines o d = IsUnhalved m o d ⊎ Talked m tree lines o d
 
   -- lines in the grammar: the host has failed, or there was a link
-  abbrev pub Dials : Peer L S K → List ℕ → List DoLine → Given → Output → Doing L S K → Type 0
+  abbrev pub Dials : Peer L S K → List ℕ → List DoLine → Given → Seen → Doing L S K → Type 0
   Dials m tree lines i o d = (IsIdle end.HostFault o d × HasRisen i.host_faults i.host_faults_now) ⊎ TalksOver m tree lines o d
 
   -- what came of lines that were read: the first outside the grammar is refused
-  abbrev pub Lined : Peer L S K → List ℕ → Result (List DoLine) ℕ → Given → Output → Doing L S K → Type 0
+  abbrev pub Lined : Peer L S K → List ℕ → Result (List DoLine) ℕ → Given → Seen → Doing L S K → Type 0
   Lined m tree (Err k) i o d = Refuses k (codes "line") o d
   Lined m tree (Ok lines) i o d = Dials m tree lines i o d
 
   -- lines of lawful length: they were read, or there was no memory for it
-  abbrev pub Reads : Peer L S K → List ℕ → Result (List DoLine) ℕ → Given → Output → Doing L S K → Type 0
+  abbrev pub Reads : Peer L S K → List ℕ → Result (List DoLine) ℕ → Given → Seen → Doing L S K → Type 0
   Reads m tree read i o d = IsIdle end.NoMemory o d ⊎ Lined m tree read i o d
 
   -- How `do` ends: the input could not be read, or was too long, or there was no memory for it, or its lines were read.
-  abbrev pub Says : Peer L S K → List ℕ → Given → Output → Doing L S K → Type 0
+  abbrev pub Says : Peer L S K → List ℕ → Given → Seen → Doing L S K → Type 0
   Says m tree i o d =
-      (IsIdle end.ReadFault o d × HasRisen i.faults i.faults_now)
-      ⊎ (IfSome i.told (λ bytes. input_limit < length bytes) × Refuses 0 (codes "input") o d)
+      (IsIdle end.ReadFault o d × HasRisen i.input.before.faults i.input.now.faults)
+      ⊎ (IfSome i.input.before.bytes (λ bytes. input_limit < length bytes) × Refuses 0 (codes "input") o d)
       ⊎ IsIdle end.NoMemory o d
-      ⊎ ((bytes : List ℕ) × AreTold i.told bytes × (length bytes ≤ input_limit) × Lined m tree (lines_from 1 (lines_of bytes)) i o d)
+      ⊎ ((bytes : List ℕ) × AreTold i.input.before.bytes bytes × (length bytes ≤ input_limit) × Lined m tree (lines_from 1 (lines_of bytes)) i o d)

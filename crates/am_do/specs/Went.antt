@@ -1,6 +1,7 @@
 -- How far a client has come with its part of a talk.
 use Rattle.std.specs.Prelude.{◌≡◌, ◌≢◌, ℕ, false, List, [], ◌++◌, Option, Ok, Err}
-use Rattle.am_base.specs.Outside.{told_then, AreTold, PutsFront, HasRisen}
+use Rattle.am_base.specs.Outside.{BytesTold, told_then, AreTold, PutsFront, HasRisen}
+use Rattle.am_base.specs.Seen.{Seen, seen}
 use Rattle.ninep_cut.specs.declared.cut.Cut.TheVariants.{More}
 use Rattle.ninep_cut.specs.Cuts.{cut_of}
 use Rattle.ninep_client.specs.declared.fault.CallFault.{CallFault}
@@ -21,28 +22,14 @@ abbrev pub most_behind : Reply → ℕ → ℕ
 most_behind (Ok reply) most = msize_after reply most
 most_behind (Err text) most = most
 
--- a sink and a source, before and after: the bytes that each tells, and its count of faults
+-- what is seen of a sink and of a source
 pub record Ends : Type 0 where
-  pub held : Option (List ℕ)
-  pub held_now : Option (List ℕ)
-  pub sink_faults : ℕ
-  pub sink_faults_now : ℕ
-  pub left : Option (List ℕ)
-  pub left_now : Option (List ℕ)
-  pub source_faults : ℕ
-  pub source_faults_now : ℕ
+  pub sink : Seen
+  pub source : Seen
 
-abbrev pub ends : Option (List ℕ) → Option (List ℕ) → ℕ → ℕ → Option (List ℕ) → Option (List ℕ) → ℕ → ℕ → Ends
-ends held held_now sink_faults sink_faults_now left left_now source_faults source_faults_now = record {
-  held = held;
-  held_now = held_now;
-  sink_faults = sink_faults;
-  sink_faults_now = sink_faults_now;
-  left = left;
-  left_now = left_now;
-  source_faults = source_faults;
-  source_faults_now = source_faults_now;
-}
+-- those of what the sink tells, before and now, and of what the source tells
+abbrev pub ends : BytesTold → BytesTold → BytesTold → BytesTold → Ends
+ends held held_now left left_now = record { sink = seen held held_now; source = seen left left_now }
 
 module _ {A : Type 0} where
   -- The part was done: bytes came and were used, what was sent for them is put behind what the sink held, and text and value are what they
@@ -57,40 +44,40 @@ module _ {A : Type 0} where
   -- all was sent, and the next reply isn't there
   pub record IsLeft (told : Told A) (e : Ends) (text : List ℕ) : Type 0 where
     pub lacks : told.got ≡ Lacks
-    pub put : e.held_now ≡ told_then e.held told.sent
+    pub put : e.sink.now.bytes ≡ told_then e.sink.before.bytes told.sent
     pub said : text ≡ told.text
 
   -- all was sent, and the next message is at fault
   pub record IsFaulty (f : CallFault) (told : Told A) (e : Ends) (text : List ℕ) : Type 0 where
     pub faulty : told.got ≡ Faulty f
-    pub put : e.held_now ≡ told_then e.held told.sent
+    pub put : e.sink.now.bytes ≡ told_then e.sink.before.bytes told.sent
     pub said : text ≡ told.text
 
   -- all was sent, and the server doesn't take the talk
   pub record IsRefused (told : Told A) (e : Ends) (text : List ℕ) : Type 0 where
     pub refused : told.got ≡ Refused
-    pub put : e.held_now ≡ told_then e.held told.sent
+    pub put : e.sink.now.bytes ≡ told_then e.sink.before.bytes told.sent
     pub said : text ≡ told.text
 
   -- a front of what is sent was put, and the sink's count of faults has risen
   pub record IsCutOff (told : Told A) (e : Ends) (text : List ℕ) : Type 0 where
     pub lacks : told.got ≡ Lacks
-    pub front : PutsFront e.held told.sent e.held_now
-    pub risen : HasRisen e.sink_faults e.sink_faults_now
+    pub front : PutsFront e.sink.before.bytes told.sent e.sink.now.bytes
+    pub risen : HasRisen e.sink.before.faults e.sink.now.faults
     pub said : text ≡ told.text
 
   -- memory ran out: a front of what is sent was put, and a front of what is written was said
   pub record IsStarved (told : Told A) (e : Ends) (text : List ℕ) : Type 0 where
-    pub front : PutsFront e.held told.sent e.held_now
+    pub front : PutsFront e.sink.before.bytes told.sent e.sink.now.bytes
     pub rest : List ℕ
     pub said : text ++ rest ≡ told.text
 
   -- Why a talk has stopped, by what is told of the bytes that were used, and of those and the unread ones.
   abbrev pub StopsFor : Stop → Told A → Told A → List ℕ → Ends → List ℕ → Type 0
   StopsFor stop.Refused used all unread e text = IsRefused used e text
-  StopsFor (stop.Fault fault.Ended) used all unread e text = IsLeft used e text × (unread ≡ []) × AreTold e.left_now []
-  StopsFor (stop.Fault fault.Torn) used all unread e text = IsLeft used e text × IsLeft all e text × (unread ≢ []) × (cut_of unread ≡ More) × AreTold e.left_now []
-  StopsFor (stop.Fault fault.ReadFault) used all unread e text = IsLeft used e text × (cut_of unread ≡ More) × HasRisen e.source_faults e.source_faults_now
+  StopsFor (stop.Fault fault.Ended) used all unread e text = IsLeft used e text × (unread ≡ []) × AreTold e.source.now.bytes []
+  StopsFor (stop.Fault fault.Torn) used all unread e text = IsLeft used e text × IsLeft all e text × (unread ≢ []) × (cut_of unread ≡ More) × AreTold e.source.now.bytes []
+  StopsFor (stop.Fault fault.ReadFault) used all unread e text = IsLeft used e text × (cut_of unread ≡ More) × HasRisen e.source.before.faults e.source.now.faults
   StopsFor (stop.Fault fault.WriteFault) used all unread e text = IsCutOff used e text
   StopsFor (stop.Fault (fault.Wire f)) used all unread e text = IsFaulty (fault.Wire f) all e text
   StopsFor (stop.Fault (fault.Unasked n)) used all unread e text = IsFaulty (fault.Unasked n) all e text
@@ -105,5 +92,5 @@ module _ {A : Type 0} where
   pub record Halted (end : Stop) (talk : List ℕ → Told A) (t : Talk) (e : Ends) (text : List ℕ) : Type 0 where
     pub used : List ℕ
     pub unread : List ℕ
-    pub came : Came e.left e.left_now t.unread (used ++ unread)
+    pub came : Came e.source.before.bytes e.source.now.bytes t.unread (used ++ unread)
     pub cause : StopsFor end (talk used) (talk (used ++ unread)) unread e text

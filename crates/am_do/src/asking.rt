@@ -47,15 +47,15 @@ pub(crate) fn ask<R: Source, W: Sink>(
     requires ready { IsReady client.old.talk }
     requires may { MaySend [] body }
     ensures ok { IfOk result (λ reply. Went (asks client.old.talk.msize body) client.old.talk client.new.talk
-        (W.held client.old.sink) (W.held client.new.sink) (R.left client.old.source) (R.left client.new.source) [] reply) }
+        (W.told client.old.sink).bytes (W.told client.new.sink).bytes (R.told client.old.source).bytes (R.told client.new.source).bytes [] reply) }
     ensures ready { OnOk result (IsReady client.new.talk) }
     ensures most { IfOk result (λ reply. client.new.talk.msize ≡ most_behind reply client.old.talk.msize) }
     ensures same { is_version body ≡ false → OnOk result (client.new.talk.msize ≡ client.old.talk.msize) }
     ensures err { IfErr result (λ stop. Halted stop (asks client.old.talk.msize body) client.old.talk
-        (ends (W.held client.old.sink) (W.held client.new.sink) (W.faults client.old.sink) (W.faults client.new.sink)
-        (R.left client.old.source) (R.left client.new.source) (R.faults client.old.source) (R.faults client.new.source)) []) }
-    ensures later_sink { W.faults client.old.sink ≤ W.faults client.new.sink }
-    ensures later_source { R.faults client.old.source ≤ R.faults client.new.source }
+        (ends (W.told client.old.sink) (W.told client.new.sink)
+        (R.told client.old.source) (R.told client.new.source)) []) }
+    ensures later_sink { (W.told client.old.sink).faults ≤ (W.told client.new.sink).faults }
+    ensures later_source { (R.told client.old.source).faults ≤ (R.told client.new.source).faults }
 {
     answers_are_exact();
     match client.call(body) {

@@ -69,13 +69,13 @@ fn attach<R: Source, W: Sink>(
     requires ready { IsReady client.old.talk }
     requires tree { IsString tree.now }
     ensures ok { OnOk result (Went (attach_told client.old.talk.msize tree.now) client.old.talk client.new.talk
-        (W.held client.old.sink) (W.held client.new.sink) (R.left client.old.source) (R.left client.new.source) [] client.new.talk.msize) }
+        (W.told client.old.sink).bytes (W.told client.new.sink).bytes (R.told client.old.source).bytes (R.told client.new.source).bytes [] client.new.talk.msize) }
     ensures ready { OnOk result (IsReady client.new.talk) }
     ensures err { IfErr result (λ stop. Halted stop (attach_told client.old.talk.msize tree.now) client.old.talk
-        (ends (W.held client.old.sink) (W.held client.new.sink) (W.faults client.old.sink) (W.faults client.new.sink)
-        (R.left client.old.source) (R.left client.new.source) (R.faults client.old.source) (R.faults client.new.source)) []) }
-    ensures later_sink { W.faults client.old.sink ≤ W.faults client.new.sink }
-    ensures later_source { R.faults client.old.source ≤ R.faults client.new.source }
+        (ends (W.told client.old.sink) (W.told client.new.sink)
+        (R.told client.old.source) (R.told client.new.source)) []) }
+    ensures later_sink { (W.told client.old.sink).faults ≤ (W.told client.new.sink).faults }
+    ensures later_source { (R.told client.old.source).faults ≤ (R.told client.new.source).faults }
 {
     let Ok(message) = attach_message(alloc, tree) else {
         return Err(Stop::Fault(CallFault::NoMemory));
@@ -97,13 +97,13 @@ pub(crate) fn begin<R: Source, W: Sink>(
     requires most { client.old.talk.msize ≡ 65560 }
     requires tree { IsString tree.now }
     ensures ok { OnOk result (Went (begins tree.now) client.old.talk client.new.talk
-        (W.held client.old.sink) (W.held client.new.sink) (R.left client.old.source) (R.left client.new.source) [] client.new.talk.msize) }
+        (W.told client.old.sink).bytes (W.told client.new.sink).bytes (R.told client.old.source).bytes (R.told client.new.source).bytes [] client.new.talk.msize) }
     ensures ready { OnOk result (IsReady client.new.talk) }
     ensures err { IfErr result (λ stop. Halted stop (begins tree.now) client.old.talk
-        (ends (W.held client.old.sink) (W.held client.new.sink) (W.faults client.old.sink) (W.faults client.new.sink)
-        (R.left client.old.source) (R.left client.new.source) (R.faults client.old.source) (R.faults client.new.source)) []) }
-    ensures later_sink { W.faults client.old.sink ≤ W.faults client.new.sink }
-    ensures later_source { R.faults client.old.source ≤ R.faults client.new.source }
+        (ends (W.told client.old.sink) (W.told client.new.sink)
+        (R.told client.old.source) (R.told client.new.source)) []) }
+    ensures later_sink { (W.told client.old.sink).faults ≤ (W.told client.new.sink).faults }
+    ensures later_source { (R.told client.old.source).faults ≤ (R.told client.new.source).faults }
 {
     let Ok(message) = version_message(alloc, MOST) else {
         return Err(Stop::Fault(CallFault::NoMemory));

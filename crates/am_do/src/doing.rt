@@ -1,7 +1,7 @@
 //! All lines.
 
 ghost use Rattle.std.specs.Prelude.{◌≡◌, ◌≤◌, OnOk};
-ghost use Rattle.am_base.specs.Written.{seen};
+ghost use Rattle.am_base.specs.Seen.{seen};
 ghost use Rattle.ninep_types.specs.Spelling.{IsString};
 ghost use Rattle.ninep_client.specs.Asking.{begun};
 ghost use Rattle.do_lines.specs.Lawful.{AreLawful};
@@ -27,7 +27,7 @@ pub struct Done {
 // Writes a text, unless the output has failed before, and answers whether it has failed by now.
 fn put<O: Sink>(output: &mut O, failed: bool, text: &[u8]) -> bool
     ensures { Put failed result
-        (seen (O.held output.old) (O.held output.new) (O.faults output.old) (O.faults output.new)) text.now }
+        (seen (O.told output.old) (O.told output.new)) text.now }
 {
     if failed {
         return true;
@@ -48,11 +48,11 @@ fn do_all<R: Source, W: Sink, O: Sink>(
     requires ready { IsReady client.old.talk }
     requires lawful { AreLawful lines }
     ensures comes { Comes result.stop (lines_told client.old.talk.msize lines) client.old.talk
-        (ends (W.held client.old.sink) (W.held client.new.sink) (W.faults client.old.sink) (W.faults client.new.sink)
-        (R.left client.old.source) (R.left client.new.source) (R.faults client.old.source) (R.faults client.new.source))
-        result.failed (seen (O.held output.old) (O.held output.new) (O.faults output.old) (O.faults output.new)) }
-    ensures later_sink { W.faults client.old.sink ≤ W.faults client.new.sink }
-    ensures later_source { R.faults client.old.source ≤ R.faults client.new.source }
+        (ends (W.told client.old.sink) (W.told client.new.sink)
+        (R.told client.old.source) (R.told client.new.source))
+        result.failed (seen (O.told output.old) (O.told output.new)) }
+    ensures later_sink { (W.told client.old.sink).faults ≤ (W.told client.new.sink).faults }
+    ensures later_source { (R.told client.old.source).faults ≤ (R.told client.new.source).faults }
 {
     let mut failed = false;
     for line in lines.into_vec() {
@@ -82,9 +82,9 @@ pub fn do_lines<R: Source, W: Sink, O: Sink>(
     requires tree { IsString tree.now }
     requires lawful { AreLawful lines }
     ensures comes { Comes result.stop (told_of tree.now lines) client.old.talk
-        (ends (W.held client.old.sink) (W.held client.new.sink) (W.faults client.old.sink) (W.faults client.new.sink)
-        (R.left client.old.source) (R.left client.new.source) (R.faults client.old.source) (R.faults client.new.source))
-        result.failed (seen (O.held output.old) (O.held output.new) (O.faults output.old) (O.faults output.new)) }
+        (ends (W.told client.old.sink) (W.told client.new.sink)
+        (R.told client.old.source) (R.told client.new.source))
+        result.failed (seen (O.told output.old) (O.told output.new)) }
 {
     match begin(alloc, client, tree) {
         Ok(()) => do_all(alloc, client, lines, output),

@@ -41,14 +41,14 @@ fn give_back<R: Source, W: Sink>(
 ) -> Result<Bytes, Stop>
     requires ready { IsReady client.old.talk }
     ensures ok { IfOk result (λ line. Went (back_told client.old.talk.msize fid text.now) client.old.talk client.new.talk
-        (W.held client.old.sink) (W.held client.new.sink) (R.left client.old.source) (R.left client.new.source) line tt) }
+        (W.told client.old.sink).bytes (W.told client.new.sink).bytes (R.told client.old.source).bytes (R.told client.new.source).bytes line tt) }
     ensures ready { OnOk result (IsReady client.new.talk) }
     ensures most { OnOk result (client.new.talk.msize ≡ client.old.talk.msize) }
     ensures err { IfErr result (λ stop. Halted stop (back_told client.old.talk.msize fid text.now) client.old.talk
-        (ends (W.held client.old.sink) (W.held client.new.sink) (W.faults client.old.sink) (W.faults client.new.sink)
-        (R.left client.old.source) (R.left client.new.source) (R.faults client.old.source) (R.faults client.new.source)) []) }
-    ensures later_sink { W.faults client.old.sink ≤ W.faults client.new.sink }
-    ensures later_source { R.faults client.old.source ≤ R.faults client.new.source }
+        (ends (W.told client.old.sink) (W.told client.new.sink)
+        (R.told client.old.source) (R.told client.new.source)) []) }
+    ensures later_sink { (W.told client.old.sink).faults ≤ (W.told client.new.sink).faults }
+    ensures later_source { (R.told client.old.source).faults ≤ (R.told client.new.source).faults }
 {
     match ask(alloc, client, TBody::Clunk { fid }) {
         Ok(_) => said(error_line(alloc, text)),
@@ -65,14 +65,14 @@ fn open_walked<R: Source, W: Sink>(
 ) -> Result<Bytes, Stop>
     requires ready { IsReady client.old.talk }
     ensures ok { IfOk result (λ text. Went (open_told client.old.talk.msize fid mode) client.old.talk client.new.talk
-        (W.held client.old.sink) (W.held client.new.sink) (R.left client.old.source) (R.left client.new.source) text tt) }
+        (W.told client.old.sink).bytes (W.told client.new.sink).bytes (R.told client.old.source).bytes (R.told client.new.source).bytes text tt) }
     ensures ready { OnOk result (IsReady client.new.talk) }
     ensures most { OnOk result (client.new.talk.msize ≡ client.old.talk.msize) }
     ensures err { IfErr result (λ stop. Halted stop (open_told client.old.talk.msize fid mode) client.old.talk
-        (ends (W.held client.old.sink) (W.held client.new.sink) (W.faults client.old.sink) (W.faults client.new.sink)
-        (R.left client.old.source) (R.left client.new.source) (R.faults client.old.source) (R.faults client.new.source)) []) }
-    ensures later_sink { W.faults client.old.sink ≤ W.faults client.new.sink }
-    ensures later_source { R.faults client.old.source ≤ R.faults client.new.source }
+        (ends (W.told client.old.sink) (W.told client.new.sink)
+        (R.told client.old.source) (R.told client.new.source)) []) }
+    ensures later_sink { (W.told client.old.sink).faults ≤ (W.told client.new.sink).faults }
+    ensures later_source { (R.told client.old.source).faults ≤ (R.told client.new.source).faults }
 {
     match ask(alloc, client, TBody::Open { fid, mode }) {
         Ok(Ok(_)) => said(ok_line(alloc)),
@@ -92,14 +92,14 @@ fn walk_and_open<R: Source, W: Sink>(
     requires ready { IsReady client.old.talk }
     requires names { AreNames names }
     ensures ok { IfOk result (λ text. Went (walk_told client.old.talk.msize fid names mode) client.old.talk client.new.talk
-        (W.held client.old.sink) (W.held client.new.sink) (R.left client.old.source) (R.left client.new.source) text tt) }
+        (W.told client.old.sink).bytes (W.told client.new.sink).bytes (R.told client.old.source).bytes (R.told client.new.source).bytes text tt) }
     ensures ready { OnOk result (IsReady client.new.talk) }
     ensures most { OnOk result (client.new.talk.msize ≡ client.old.talk.msize) }
     ensures err { IfErr result (λ stop. Halted stop (walk_told client.old.talk.msize fid names mode) client.old.talk
-        (ends (W.held client.old.sink) (W.held client.new.sink) (W.faults client.old.sink) (W.faults client.new.sink)
-        (R.left client.old.source) (R.left client.new.source) (R.faults client.old.source) (R.faults client.new.source)) []) }
-    ensures later_sink { W.faults client.old.sink ≤ W.faults client.new.sink }
-    ensures later_source { R.faults client.old.source ≤ R.faults client.new.source }
+        (ends (W.told client.old.sink) (W.told client.new.sink)
+        (R.told client.old.source) (R.told client.new.source)) []) }
+    ensures later_sink { (W.told client.old.sink).faults ≤ (W.told client.new.sink).faults }
+    ensures later_source { (R.told client.old.source).faults ≤ (R.told client.new.source).faults }
 {
     let wanted = names.len();
     match ask(
@@ -131,14 +131,14 @@ fn read<R: Source, W: Sink>(
 ) -> Result<Bytes, Stop>
     requires ready { IsReady client.old.talk }
     ensures ok { IfOk result (λ text. Went (read_told client.old.talk.msize fid offset count) client.old.talk client.new.talk
-        (W.held client.old.sink) (W.held client.new.sink) (R.left client.old.source) (R.left client.new.source) text tt) }
+        (W.told client.old.sink).bytes (W.told client.new.sink).bytes (R.told client.old.source).bytes (R.told client.new.source).bytes text tt) }
     ensures ready { OnOk result (IsReady client.new.talk) }
     ensures most { OnOk result (client.new.talk.msize ≡ client.old.talk.msize) }
     ensures err { IfErr result (λ stop. Halted stop (read_told client.old.talk.msize fid offset count) client.old.talk
-        (ends (W.held client.old.sink) (W.held client.new.sink) (W.faults client.old.sink) (W.faults client.new.sink)
-        (R.left client.old.source) (R.left client.new.source) (R.faults client.old.source) (R.faults client.new.source)) []) }
-    ensures later_sink { W.faults client.old.sink ≤ W.faults client.new.sink }
-    ensures later_source { R.faults client.old.source ≤ R.faults client.new.source }
+        (ends (W.told client.old.sink) (W.told client.new.sink)
+        (R.told client.old.source) (R.told client.new.source)) []) }
+    ensures later_sink { (W.told client.old.sink).faults ≤ (W.told client.new.sink).faults }
+    ensures later_source { (R.told client.old.source).faults ≤ (R.told client.new.source).faults }
 {
     match ask(alloc, client, TBody::Read { fid, offset, count }) {
         Ok(reply) => said(read_answer(alloc, reply)),
@@ -156,14 +156,14 @@ fn write<R: Source, W: Sink>(
     requires ready { IsReady client.old.talk }
     requires few { length bytes ≤ 8000 }
     ensures ok { IfOk result (λ text. Went (write_told client.old.talk.msize fid offset bytes) client.old.talk client.new.talk
-        (W.held client.old.sink) (W.held client.new.sink) (R.left client.old.source) (R.left client.new.source) text tt) }
+        (W.told client.old.sink).bytes (W.told client.new.sink).bytes (R.told client.old.source).bytes (R.told client.new.source).bytes text tt) }
     ensures ready { OnOk result (IsReady client.new.talk) }
     ensures most { OnOk result (client.new.talk.msize ≡ client.old.talk.msize) }
     ensures err { IfErr result (λ stop. Halted stop (write_told client.old.talk.msize fid offset bytes) client.old.talk
-        (ends (W.held client.old.sink) (W.held client.new.sink) (W.faults client.old.sink) (W.faults client.new.sink)
-        (R.left client.old.source) (R.left client.new.source) (R.faults client.old.source) (R.faults client.new.source)) []) }
-    ensures later_sink { W.faults client.old.sink ≤ W.faults client.new.sink }
-    ensures later_source { R.faults client.old.source ≤ R.faults client.new.source }
+        (ends (W.told client.old.sink) (W.told client.new.sink)
+        (R.told client.old.source) (R.told client.new.source)) []) }
+    ensures later_sink { (W.told client.old.sink).faults ≤ (W.told client.new.sink).faults }
+    ensures later_source { (R.told client.old.source).faults ≤ (R.told client.new.source).faults }
 {
     match ask(alloc, client, TBody::Write { fid, offset, bytes }) {
         Ok(reply) => said(write_answer(alloc, reply)),
@@ -178,14 +178,14 @@ fn close<R: Source, W: Sink>(
 ) -> Result<Bytes, Stop>
     requires ready { IsReady client.old.talk }
     ensures ok { IfOk result (λ text. Went (close_told client.old.talk.msize fid) client.old.talk client.new.talk
-        (W.held client.old.sink) (W.held client.new.sink) (R.left client.old.source) (R.left client.new.source) text tt) }
+        (W.told client.old.sink).bytes (W.told client.new.sink).bytes (R.told client.old.source).bytes (R.told client.new.source).bytes text tt) }
     ensures ready { OnOk result (IsReady client.new.talk) }
     ensures most { OnOk result (client.new.talk.msize ≡ client.old.talk.msize) }
     ensures err { IfErr result (λ stop. Halted stop (close_told client.old.talk.msize fid) client.old.talk
-        (ends (W.held client.old.sink) (W.held client.new.sink) (W.faults client.old.sink) (W.faults client.new.sink)
-        (R.left client.old.source) (R.left client.new.source) (R.faults client.old.source) (R.faults client.new.source)) []) }
-    ensures later_sink { W.faults client.old.sink ≤ W.faults client.new.sink }
-    ensures later_source { R.faults client.old.source ≤ R.faults client.new.source }
+        (ends (W.told client.old.sink) (W.told client.new.sink)
+        (R.told client.old.source) (R.told client.new.source)) []) }
+    ensures later_sink { (W.told client.old.sink).faults ≤ (W.told client.new.sink).faults }
+    ensures later_source { (R.told client.old.source).faults ≤ (R.told client.new.source).faults }
 {
     match ask(alloc, client, TBody::Clunk { fid }) {
         Ok(reply) => said(ok_or_error(alloc, reply)),
@@ -202,14 +202,14 @@ pub(crate) fn do_line<R: Source, W: Sink>(
     requires ready { IsReady client.old.talk }
     requires lawful { IsLawful line }
     ensures ok { IfOk result (λ text. Went (line_told client.old.talk.msize line) client.old.talk client.new.talk
-        (W.held client.old.sink) (W.held client.new.sink) (R.left client.old.source) (R.left client.new.source) text tt) }
+        (W.told client.old.sink).bytes (W.told client.new.sink).bytes (R.told client.old.source).bytes (R.told client.new.source).bytes text tt) }
     ensures ready { OnOk result (IsReady client.new.talk) }
     ensures most { OnOk result (client.new.talk.msize ≡ client.old.talk.msize) }
     ensures err { IfErr result (λ stop. Halted stop (line_told client.old.talk.msize line) client.old.talk
-        (ends (W.held client.old.sink) (W.held client.new.sink) (W.faults client.old.sink) (W.faults client.new.sink)
-        (R.left client.old.source) (R.left client.new.source) (R.faults client.old.source) (R.faults client.new.source)) []) }
-    ensures later_sink { W.faults client.old.sink ≤ W.faults client.new.sink }
-    ensures later_source { R.faults client.old.source ≤ R.faults client.new.source }
+        (ends (W.told client.old.sink) (W.told client.new.sink)
+        (R.told client.old.source) (R.told client.new.source)) []) }
+    ensures later_sink { (W.told client.old.sink).faults ≤ (W.told client.new.sink).faults }
+    ensures later_source { (R.told client.old.source).faults ≤ (R.told client.new.source).faults }
 {
     match line {
         DoLine::Open { fid, names, mode } => walk_and_open(alloc, client, fid, names, mode),

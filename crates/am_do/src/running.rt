@@ -1,9 +1,10 @@
 //! What `do` does, from its input to its end.
 
 ghost use Rattle.std.specs.Prelude.{◌≡◌, None, Some};
-ghost use Rattle.am_base.specs.Written.{seen};
+ghost use Rattle.am_base.specs.Outside.{untold};
+ghost use Rattle.am_base.specs.Seen.{given, seen};
 ghost use Rattle.ninep_types.specs.Spelling.{IsString};
-ghost use Rattle.am_do.specs.Ends.{Says, Reads, Dials, TalksOver, Refuses, end_at, given, peer};
+ghost use Rattle.am_do.specs.Ends.{Says, Reads, Dials, TalksOver, Refuses, end_at, peer};
 ghost use Rattle.do_lines.specs.Lines.{lines_from};
 ghost use Rattle.do_lines.specs.Lawful.{AreLawful};
 ghost use Rattle.am_text.specs.Lines.{lines_of};
@@ -90,11 +91,11 @@ fn talk<O: Sink, L: Link>(
     lines: DoLines,
     output: &mut O,
 ) -> Doing<L, L::R, L::W>
-    requires fresh { L.faults link ≡ 0 }
+    requires fresh { (L.told link).faults ≡ 0 }
     requires tree { IsString tree.now }
     requires lawful { AreLawful lines }
-    ensures { TalksOver (peer L.begins L.faults L.R.left L.R.faults L.W.held L.W.faults) tree.now lines
-        (seen (O.held output.old) (O.held output.new) (O.faults output.old) (O.faults output.new)) result }
+    ensures { TalksOver (peer L.told L.R.told L.W.told) tree.now lines
+        (seen (O.told output.old) (O.told output.new)) result }
 {
     let mut link = link;
     match link.halves() {
@@ -125,8 +126,8 @@ fn dial_and_talk<O: Sink, H: Host>(
 ) -> HostDoing<H>
     requires tree { IsString tree.now }
     requires lawful { AreLawful lines }
-    ensures { Dials (peer H.G.L.begins H.G.L.faults H.G.L.R.left H.G.L.R.faults H.G.L.W.held H.G.L.W.faults) tree.now lines
-        (given None 0 0 (H.faults host.old) (H.faults host.new)) (seen (O.held output.old) (O.held output.new) (O.faults output.old) (O.faults output.new)) result }
+    ensures { Dials (peer H.G.L.told H.G.L.R.told H.G.L.W.told) tree.now lines
+        (given untold untold (H.faults host.old) (H.faults host.new)) (seen (O.told output.old) (O.told output.new)) result }
 {
     match host.dial(path) {
         Ok(link) => talk(alloc, link, tree, lines, output),
@@ -136,7 +137,7 @@ fn dial_and_talk<O: Sink, H: Host>(
 
 // Refuses a line, or the whole input.
 fn refuse<O: Sink, L, S, K>(alloc: Global, line: u64, word: &[u8], output: &mut O) -> Doing<L, S, K>
-    ensures { Refuses line word.now (seen (O.held output.old) (O.held output.new) (O.faults output.old) (O.faults output.new)) result }
+    ensures { Refuses line word.now (seen (O.told output.old) (O.told output.new)) result }
 {
     match refused_line(alloc, line, word) {
         Ok(text) => {
@@ -157,8 +158,8 @@ fn do_input<O: Sink, H: Host>(
     host: &mut H,
 ) -> HostDoing<H>
     requires tree { IsString tree.now }
-    ensures { Reads (peer H.G.L.begins H.G.L.faults H.G.L.R.left H.G.L.R.faults H.G.L.W.held H.G.L.W.faults) tree.now (lines_from 1 (lines_of input.now))
-        (given None 0 0 (H.faults host.old) (H.faults host.new)) (seen (O.held output.old) (O.held output.new) (O.faults output.old) (O.faults output.new)) result }
+    ensures { Reads (peer H.G.L.told H.G.L.R.told H.G.L.W.told) tree.now (lines_from 1 (lines_of input.now))
+        (given untold untold (H.faults host.old) (H.faults host.new)) (seen (O.told output.old) (O.told output.new)) result }
 {
     match read_do_lines(alloc, input) {
         Ok(lines) => dial_and_talk(alloc, path, tree, lines, output, host),
@@ -178,8 +179,8 @@ pub fn do_path<I: Source, O: Sink, H: Host>(
     host: &mut H,
 ) -> HostDoing<H>
     requires tree { IsString tree.now }
-    ensures { Says (peer H.G.L.begins H.G.L.faults H.G.L.R.left H.G.L.R.faults H.G.L.W.held H.G.L.W.faults) tree.now
-        (given (I.left input.old) (I.faults input.old) (I.faults input.new) (H.faults host.old) (H.faults host.new)) (seen (O.held output.old) (O.held output.new) (O.faults output.old) (O.faults output.new)) result }
+    ensures { Says (peer H.G.L.told H.G.L.R.told H.G.L.W.told) tree.now
+        (given (I.told input.old) (I.told input.new) (H.faults host.old) (H.faults host.new)) (seen (O.told output.old) (O.told output.new)) result }
 {
     match read_to_end(alloc, input, INPUT_LIMIT) {
         Ok(bytes) => do_input(alloc, path, tree, bytes.as_slice(), output, host),

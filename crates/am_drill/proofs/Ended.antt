@@ -1,23 +1,25 @@
 -- The summary of a drill, and its end, which is how the summary was written.
 use Rattle.std.proofs.Common.{◌≡◌, ℕ, List, [], ◌∷◌, ◌++◌, refl, ap, subst, ◌∙◌, append_assoc, Option}
+use Rattle.am_base.specs.Outside.{BytesTold}
 use Rattle.std.specs.Fmt.{decimal}
 use Rattle.am_journal.specs.declared.event.Event.{Event}
 use Rattle.am_drill.specs.declared.driving.DrillEnd.{DrillEnd}
 use Rattle.am_drill.specs.declared.driving.DrillEnd.TheVariants.{Done, WriteFault, NoMemory}
 use Rattle.am_drill.specs.Drill.{events}
-use Rattle.am_base.specs.Written.{Output, IsWhole, IsCut}
+use Rattle.am_base.specs.Seen.{Seen, seen}
+use Rattle.am_base.specs.Written.{IsWhole, IsCut}
 use Rattle.am_drill.specs.Ends.{Wrote, DrillSays}
 use Rattle.am_drill.specs.Summary.{line, summary}
 
-pub says : (end : DrillEnd) (rounds : ℕ) (o : Output) (journal : List Event) (text : List ℕ) → Wrote end o text → journal ≡ events rounds → text ≡ summary (events rounds)
+pub says : (end : DrillEnd) (rounds : ℕ) (o : Seen) (journal : List Event) (text : List ℕ) → Wrote end o text → journal ≡ events rounds → text ≡ summary (events rounds)
     → DrillSays end rounds o journal
 says Done rounds o journal text wrote done is = (done, subst (λ (x : List ℕ). IsWhole o x) is wrote.0, wrote.1)
 says WriteFault rounds o journal text wrote done is = (done, subst (λ (x : List ℕ). IsCut o x) is wrote)
 says NoMemory rounds o journal text wrote done is = absurd wrote
 
 -- nothing was done and put
-pub none : (rounds : ℕ) (held : Option (List ℕ)) (faults : ℕ) → DrillSays NoMemory rounds (record { held = held; held_now = held; faults = faults; faults_now = faults }) []
-none rounds held faults = ((events rounds, refl), (refl, refl))
+pub none : (rounds : ℕ) (first : BytesTold) → DrillSays NoMemory rounds (seen first first) []
+none rounds first = ((events rounds, refl), (refl, refl))
 
 -- a line more
 pub line_put : (out a b c name : List ℕ) (n : ℕ) → a ≡ out ++ name → b ≡ a ++ decimal n → c ≡ b ++ 10 ∷ [] → c ≡ out ++ line name n

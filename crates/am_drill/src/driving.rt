@@ -1,7 +1,7 @@
 //! A drill from its first event to its summary.
 
 ghost use Rattle.std.specs.Prelude.{◌≡◌, ◌≤◌, ◌<◌, ◌+◌, [], None, IfOk, OnOk, OnErr};
-ghost use Rattle.am_base.specs.Written.{seen};
+ghost use Rattle.am_base.specs.Seen.{seen};
 ghost use Rattle.acme_core.specs.Run.{IsPossible};
 ghost use Rattle.am_drill.specs.Brief.{IsCounted, IsFront};
 ghost use Rattle.am_drill.specs.Drill.{events, seed_of};
@@ -105,7 +105,7 @@ fn run(alloc: Global, rounds: u64, runner: &mut Runner) -> Result<Bytes, NoMemor
 // Writes a text, and answers how that ended.
 fn put<O: Sink>(output: &mut O, text: &[u8]) -> DrillEnd
     ensures { Wrote result
-        (seen (O.held output.old) (O.held output.new) (O.faults output.old) (O.faults output.new))
+        (seen (O.told output.old) (O.told output.new))
         text.now }
 {
     match write_all(output, text) {
@@ -126,7 +126,7 @@ fn run_and_write<O: Sink>(
     requires idle { runner.old.core.planned ≡ None }
     requires counted { IsCounted runner.old.count runner.old.core.journal }
     ensures { DrillSays result rounds
-        (seen (O.held output.old) (O.held output.new) (O.faults output.old) (O.faults output.new))
+        (seen (O.told output.old) (O.told output.new))
         runner.new.core.journal }
 {
     match run(alloc, rounds, runner) {
@@ -151,7 +151,7 @@ fn nothing_done(alloc: Global) -> Drilled
 pub fn drill<O: Sink>(alloc: Global, rounds: u64, output: &mut O) -> Drilled
     requires { (1 ≤ rounds) × (rounds ≤ 100000) }
     ensures says { DrillSays result.end rounds
-        (seen (O.held output.old) (O.held output.new) (O.faults output.old) (O.faults output.new))
+        (seen (O.told output.old) (O.told output.new))
         result.journal }
     // What each event of the journal does could be done at its place.
     ensures possible { IsPossible result.journal }

@@ -2,7 +2,7 @@
 
 ghost use Rattle.std.specs.Prelude.{◌≡◌, ◌≤◌, ◌<◌, [], length};
 ghost use Rattle.am_base.specs.Outside.{AreTold};
-ghost use Rattle.am_base.specs.Written.{seen};
+ghost use Rattle.am_base.specs.Seen.{seen};
 ghost use Rattle.am_journal.specs.Journal.{AreSpelled};
 ghost use Rattle.std.specs.List.{AllByRecursion};
 ghost use Rattle.am_journal.specs.Lawful.{IsLawful, IsInRange};
@@ -70,7 +70,7 @@ fn write_packing<O: Sink>(alloc: Global, packing: Packing, output: &mut O) -> Pa
     requires lawful { AllByRecursion IsLawful packing.journal }
     requires in_range { AllByRecursion IsInRange packing.journal }
     ensures packs { Packs result.end packing
-        (seen (O.held output.old) (O.held output.new) (O.faults output.old) (O.faults output.new))
+        (seen (O.told output.old) (O.told output.new))
         result.journal }
     ensures spelled { AreSpelled result.journal }
 {
@@ -88,7 +88,7 @@ fn write_packing<O: Sink>(alloc: Global, packing: Packing, output: &mut O) -> Pa
 fn pack_lines<O: Sink>(alloc: Global, bytes: &[u8], output: &mut O) -> Packed
     requires { length bytes.now ≤ 67108864 }
     ensures packs { Packs result.end (packing_of bytes.now)
-        (seen (O.held output.old) (O.held output.new) (O.faults output.old) (O.faults output.new))
+        (seen (O.told output.old) (O.told output.new))
         result.journal }
     ensures spelled { AreSpelled result.journal }
 {
@@ -100,7 +100,7 @@ fn pack_lines<O: Sink>(alloc: Global, bytes: &[u8], output: &mut O) -> Packed
 
 fn refuse_input<O: Sink>(alloc: Global, output: &mut O) -> Packed
     ensures packs { Packs result.end too_long
-        (seen (O.held output.old) (O.held output.new) (O.faults output.old) (O.faults output.new))
+        (seen (O.told output.old) (O.told output.new))
         result.journal }
     ensures spelled { AreSpelled result.journal }
 {
@@ -112,8 +112,8 @@ fn refuse_input<O: Sink>(alloc: Global, output: &mut O) -> Packed
 /// events that its lines spell, and the output gets that journal's lines. Messages to connections are read and dropped. At a line that
 /// isn't in words the text is refused, after the lines before it. No event is done, so that one that isn't enabled passes.
 pub fn pack<I: Source, O: Sink>(alloc: Global, input: &mut I, output: &mut O) -> Packed
-    ensures says { PackSays result.end (I.left input.old) (I.faults input.old) (I.faults input.new)
-        (seen (O.held output.old) (O.held output.new) (O.faults output.old) (O.faults output.new))
+    ensures says { PackSays result.end (I.told input.old) (I.told input.new)
+        (seen (O.told output.old) (O.told output.new))
         result.journal }
     // Each event has a line in a transcript.
     ensures spelled { AreSpelled result.journal }

@@ -9,8 +9,8 @@ use Rattle.am_serve.specs.Gained.{Rule, Answers, Gains, gained, plain}
 use Rattle.am_serve.specs.Script.{Passes, PassesLine, Passed, RefusedAt, IsRefused, HaveEnded, asked_by, asked_by_lines, asked_by_script, asked_events, then_asked}
 use Rattle.am_serve.specs.declared.asked.Asked.{Asked}
 use Rattle.am_serve.specs.declared.asked.Asked.TheVariants.{Does, Awaits, Ends, Faulty}
-use Rattle.am_serve.specs.declared.scripting.LineFault.{LineFault}
-use Rattle.am_serve.specs.declared.scripting.LineFault.TheVariants as fault
+use Rattle.am_serve.specs.declared.fault.LineFault.{LineFault}
+use Rattle.am_serve.specs.declared.fault.LineFault.TheVariants as fault
 use Rattle.am_journal.specs.declared.event.Event.TheVariants.{Msg}
 use Rattle.am_serve.specs.Sending.{Sends}
 use Rattle.am_serve.proofs.Gaining.{grown, gains_more, gains_look, gains_entry, gained_is, gains_gained}

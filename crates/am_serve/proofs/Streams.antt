@@ -20,7 +20,8 @@ use Rattle.am_serve.specs.Gained.{Rule, Answers, Gains, gained, hang_up, HangsUp
 use Rattle.am_serve.specs.declared.budget.Budget.{Budget}
 use Rattle.am_serve.specs.Budget.{whole, has_message, after_message, IsLeft}
 use Rattle.am_serve.specs.Reading.{AreMessages, spelling_of, spellings, AreRead, AreFront, IsNext, IsDue, StandAmong, messages_of as came, IsTurn, IsBroken, EndsAfter, piece_limit, HadRoom, HadRoomEach, IsOfRead, GivesOf}
-use Rattle.am_serve.specs.Sending.{StopsAt, Sends, Keeps, IsFed, StopsIn, source_with, StopsAfter, cause_of, ReadSoFar, ReadUntil}
+use Rattle.am_base.specs.Seen.{Seen}
+use Rattle.am_serve.specs.Sending.{StopsAt, Sends, Keeps, IsFed, StopsIn, StopsAfter, cause_of, ReadSoFar, ReadUntil}
 use Rattle.am_serve.specs.declared.sending.Stop.{Stop}
 use Rattle.am_serve.specs.declared.sending.Stop.TheVariants as stop
 use Rattle.am_serve.proofs.Gaining.{grown, gains_nothing, gains_more, gains_look, gains_entry, gained_is, gains_gained, gains_then_look}
@@ -223,24 +224,24 @@ stops_at_budget enabled answer conn v u before after m b first now h t may_not =
 }
 
 -- at a piece
-pub stops_at_piece : (enabled : Rule) (answer : Answers) (conn : ℕ) (v u w : Known) (left : List ℕ) (b : Budget) (s : Stop) (first mid now : Option (List ℕ)) (faults faults_now : ℕ)
-    → ReadSoFar answer conn v u left b first mid → cut_stream left ≡ record { messages = []; rest = left } → cut_of left ≡ cut.More → JoinsPieces → Looks u w
-    → StopsIn enabled answer conn w.seen (source_with mid now faults faults_now left) s
-    → ReadUntil enabled answer conn v w s first now
-stops_at_piece enabled answer conn v u w left b s first mid now faults faults_now h e more joins l k = by_cases s k
+pub stops_at_piece : (enabled : Rule) (answer : Answers) (conn : ℕ) (v u w : Known) (left : List ℕ) (b : Budget) (s : Stop) (first : Option (List ℕ)) (i : Seen)
+    → ReadSoFar answer conn v u left b first i.before.bytes → cut_stream left ≡ record { messages = []; rest = left } → cut_of left ≡ cut.More → JoinsPieces → Looks u w
+    → StopsIn enabled answer conn w.seen i left s
+    → ReadUntil enabled answer conn v w s first i.now.bytes
+stops_at_piece enabled answer conn v u w left b s first i h e more joins l k = by_cases s k
   where
     all : spellings h.entries ≡ (cut_stream h.bytes).messages
-    all = sym (messages_of (cut_stream h.bytes) (record { messages = spellings h.entries; rest = left }) (none_left answer conn v u left b first mid h e))
+    all = sym (messages_of (cut_stream h.bytes) (record { messages = spellings h.entries; rest = left }) (none_left answer conn v u left b first i.before.bytes h e))
 
     rest : (cut_stream h.bytes).rest ≡ left
-    rest = rest_of (cut_stream h.bytes) (record { messages = spellings h.entries; rest = left }) (none_left answer conn v u left b first mid h e)
+    rest = rest_of (cut_stream h.bytes) (record { messages = spellings h.entries; rest = left }) (none_left answer conn v u left b first i.before.bytes h e)
 
     less : cut_of (cut_stream h.bytes).rest ≡ cut.More
     less = ap cut_of rest ∙ more
 
     -- nothing more was read
-    same : (s : Stop) → now ≡ mid → StopsAfter enabled conn w.seen (spellings h.entries) (cut_stream h.bytes) s → (IsOfRead (cause_of s) → HadRoom answer conn w.seen h.bytes)
-        → ReadUntil enabled answer conn v w s first now
+    same : (s : Stop) → i.now.bytes ≡ i.before.bytes → StopsAfter enabled conn w.seen (spellings h.entries) (cut_stream h.bytes) s → (IsOfRead (cause_of s) → HadRoom answer conn w.seen h.bytes)
+        → ReadUntil enabled answer conn v w s first i.now.bytes
     same s t stops last = record {
       entries = h.entries;
       gains = gains_then_look v u w h.entries h.gains l;
@@ -249,13 +250,13 @@ stops_at_piece enabled answer conn v u w left b s first mid now faults faults_no
       bytes = h.bytes;
       told = h.told ∙ ap (then_told h.bytes) (sym t);
       stops = stops;
-      with_room = record { pieces = h.pieces; are = h.are; each = still_each answer conn v u w left b first mid h l; last = last };
+      with_room = record { pieces = h.pieces; are = h.are; each = still_each answer conn v u w left b first i.before.bytes h l; last = last };
     }
 
     at_turn : (cause : Ending) → answer w.seen (Room conn) ≡ true → IsOfRead (Some cause) → HadRoom answer conn w.seen h.bytes
-    at_turn cause room x = has_room answer conn v u w left b first mid h e l room
+    at_turn cause room x = has_room answer conn v u w left b first i.before.bytes h e l room
 
-    by_cases : (s : Stop) → StopsIn enabled answer conn w.seen (source_with mid now faults faults_now left) s → ReadUntil enabled answer conn v w s first now
+    by_cases : (s : Stop) → StopsIn enabled answer conn w.seen i left s → ReadUntil enabled answer conn v w s first i.now.bytes
     by_cases stop.Ended k = same stop.Ended k.0 ([], sym all ∙ sym (append-nil (spellings h.entries))) (λ x. absurd x)
     by_cases (stop.Ends ending.End) k = same (stop.Ends ending.End) k.0.0 (all, rest ∙ k.0.2) (at_turn ending.End k.1)
     by_cases (stop.Ends ending.Torn) k = same (stop.Ends ending.Torn) k.0.0 (all, less, λ x. k.0.2 (sym rest ∙ x)) (at_turn ending.Torn k.1)
@@ -271,15 +272,15 @@ stops_at_piece enabled answer conn v u w left b s first mid now faults faults_no
           messages = h.messages;
           fits = left_fits b (spellings h.entries) h.budget;
           bytes = h.bytes ++ piece;
-          told = h.told ∙ ap (then_told h.bytes) k.0.2 ∙ then_told-then now h.bytes piece;
+          told = h.told ∙ ap (then_told h.bytes) k.0.2 ∙ then_told-then i.now.bytes h.bytes piece;
           stops = (
             (cut_stream (left ++ piece)).messages,
-            messages_of (cut_stream (h.bytes ++ piece)) (then_cut (spellings h.entries) (cut_stream (left ++ piece))) (piece_behind answer conn v u left piece b first mid h e joins),
+            messages_of (cut_stream (h.bytes ++ piece)) (then_cut (spellings h.entries) (cut_stream (left ++ piece))) (piece_behind answer conn v u left piece b first i.before.bytes h e joins),
           );
           with_room = record {
             pieces = h.pieces ++ piece ∷ [];
             are = pieces_more h.bytes h.pieces piece h.are;
-            each = one_more answer conn v u w left piece b first mid h e l k.0.1 k.1;
+            each = one_more answer conn v u w left piece b first i.before.bytes h e l k.0.1 k.1;
             last = λ x. absurd x;
           };
         }
@@ -350,13 +351,13 @@ reads_on answer conn v u w left stayed after had given b first mid now h t joins
     let P : List ℕ → Type 0 = λ x. ReadSoFar answer conn v w x b first now in
     subst P (sym (p.3 ∙ ap (λ (x : List ℕ). x ++ p.0) t.stays)) (read_piece answer conn v u w left p.0 b first mid now h t.stream joins p.2 l p.1 room)
 
-pub stops_reading : (enabled : Rule) (answer : Answers) (conn : ℕ) (v u w : Known) (left stayed had given : List ℕ) (b : Budget) (s : Stop) (first mid now : Option (List ℕ)) (faults faults_now : ℕ)
-    → ReadSoFar answer conn v u left b first mid → TakesNone left stayed had given → cut.More ≡ cut_of left → JoinsPieces → Looks u w
-    → StopsIn enabled answer conn w.seen (source_with mid now faults faults_now stayed) s
-    → ReadUntil enabled answer conn v w s first now
-stops_reading enabled answer conn v u w left stayed had given b s first mid now faults faults_now h t more joins l k =
-    let P : List ℕ → Type 0 = λ x. StopsIn enabled answer conn w.seen (source_with mid now faults faults_now x) s in
-    stops_at_piece enabled answer conn v u w left b s first mid now faults faults_now h t.stream (sym more) joins l (subst P t.stays k)
+pub stops_reading : (enabled : Rule) (answer : Answers) (conn : ℕ) (v u w : Known) (left stayed had given : List ℕ) (b : Budget) (s : Stop) (first : Option (List ℕ)) (i : Seen)
+    → ReadSoFar answer conn v u left b first i.before.bytes → TakesNone left stayed had given → cut.More ≡ cut_of left → JoinsPieces → Looks u w
+    → StopsIn enabled answer conn w.seen i stayed s
+    → ReadUntil enabled answer conn v w s first i.now.bytes
+stops_reading enabled answer conn v u w left stayed had given b s first i h t more joins l k =
+    let P : List ℕ → Type 0 = λ x. StopsIn enabled answer conn w.seen i x s in
+    stops_at_piece enabled answer conn v u w left b s first i h t.stream (sym more) joins l (subst P t.stays k)
 
 -- ---- the end
 

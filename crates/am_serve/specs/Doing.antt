@@ -7,8 +7,8 @@ use Rattle.am_serve.specs.Gained.{Rule, Answers}
 use Rattle.am_serve.specs.Script.{PassesLine, IsRefused}
 use Rattle.am_serve.specs.declared.asked.Asked.{Asked}
 use Rattle.am_serve.specs.declared.asked.Asked.TheVariants.{Ends}
-use Rattle.am_serve.specs.declared.scripting.LineFault.{LineFault}
-use Rattle.am_serve.specs.declared.scripting.LineFault.TheVariants as fault
+use Rattle.am_serve.specs.declared.fault.LineFault.{LineFault}
+use Rattle.am_serve.specs.declared.fault.LineFault.TheVariants as fault
 use Rattle.am_serve.specs.declared.scripting.LineEnd.{LineEnd}
 use Rattle.am_serve.specs.declared.scripting.LineEnd.TheVariants as end
 

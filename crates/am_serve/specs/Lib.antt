@@ -1,3 +1,4 @@
+pub mod Faults
 pub mod Gained
 pub mod Writing
 pub mod Script

@@ -13,8 +13,8 @@ use Rattle.am_counter.specs.Played.{has_hang}
 use Rattle.am_serve.specs.Gained.{Rule, Answers, gained, plain}
 use Rattle.am_serve.specs.declared.asked.Asked.{Asked}
 use Rattle.am_serve.specs.declared.asked.Asked.TheVariants.{Does, Awaits, Ends, Faulty}
-use Rattle.am_serve.specs.declared.scripting.LineFault.{LineFault}
-use Rattle.am_serve.specs.declared.scripting.LineFault.TheVariants as fault
+use Rattle.am_serve.specs.declared.fault.LineFault.{LineFault}
+use Rattle.am_serve.specs.declared.fault.LineFault.TheVariants as fault
 use Rattle.am_serve.specs.declared.scripting.ScriptEnd.{ScriptEnd}
 use Rattle.am_serve.specs.declared.scripting.ScriptEnd.TheVariants as end
 

@@ -2,6 +2,7 @@
 use Rattle.std.specs.Prelude.{◌≡◌, ◌≢◌, ℕ, ◌≤◌, true, List, [], ◌++◌, length, Option, Some, None, Ok, Err}
 use Rattle.std.specs.List.{concat}
 use Rattle.am_base.specs.Outside.{then_told, AreTold, HasRisen}
+use Rattle.am_base.specs.Seen.{Seen}
 use Rattle.ninep_types.specs.declared.message.TMsg.{TMsg}
 use Rattle.ninep_types.specs.Reading.{t_of}
 use Rattle.ninep_types.specs.Spelling.{spelling_t}
@@ -86,34 +87,24 @@ sent_for why.Tree = sent.Stops stop.Ended
 
 -- ---- one piece
 
--- A source that is read: what it told before and tells now, its counts of faults, and the bytes that were left of what was read before.
-pub record Source : Type 0 where
-  pub told : Option (List ℕ)
-  pub told_now : Option (List ℕ)
-  pub faults : ℕ
-  pub faults_now : ℕ
-  pub left : List ℕ
-
-abbrev pub source_with : Option (List ℕ) → Option (List ℕ) → ℕ → ℕ → List ℕ → Source
-source_with told told_now faults faults_now left = record { told = told; told_now = told_now; faults = faults; faults_now = faults_now; left = left }
-
-abbrev pub EndsIn : Source → Ending → Type 0
-EndsIn s ending.End = (s.told_now ≡ s.told) × AreTold s.told_now [] × (s.left ≡ [])
-EndsIn s ending.Torn = (s.told_now ≡ s.told) × AreTold s.told_now [] × (s.left ≢ [])
-EndsIn s ending.ReadFault = (s.told_now ≡ s.told) × HasRisen s.faults s.faults_now
-EndsIn s (ending.Broken b) = ⊥
-EndsIn s ending.Spent = ⊥
-EndsIn s ending.Gone = ⊥
-EndsIn s ending.NoMemory = (piece : List ℕ) × (length piece ≤ piece_limit) × (s.told ≡ then_told piece s.told_now)
+-- why reading a piece ends the connection, by what is seen of the source and by the bytes that were left of what was read before
+abbrev pub EndsIn : Seen → List ℕ → Ending → Type 0
+EndsIn s left ending.End = (s.now.bytes ≡ s.before.bytes) × AreTold s.now.bytes [] × (left ≡ [])
+EndsIn s left ending.Torn = (s.now.bytes ≡ s.before.bytes) × AreTold s.now.bytes [] × (left ≢ [])
+EndsIn s left ending.ReadFault = (s.now.bytes ≡ s.before.bytes) × HasRisen s.before.faults s.now.faults
+EndsIn s left (ending.Broken b) = ⊥
+EndsIn s left ending.Spent = ⊥
+EndsIn s left ending.Gone = ⊥
+EndsIn s left ending.NoMemory = (piece : List ℕ) × (length piece ≤ piece_limit) × (s.before.bytes ≡ then_told piece s.now.bytes)
 
 -- a piece was read and fed to a cutter that had these bytes
 abbrev pub IsFed : Option (List ℕ) → Option (List ℕ) → List ℕ → List ℕ → Type 0
 IsFed told told_now left left_now = (piece : List ℕ) × (length piece ≤ piece_limit) × (told ≡ then_told piece told_now) × (left_now ≡ left ++ piece)
 
 -- why reading stops at a piece, which is read once there is room
-abbrev pub StopsIn : Rule → Answers → ℕ → List Event → Source → Stop → Type 0
-StopsIn enabled answer conn seen s stop.Ended = (s.told_now ≡ s.told) × HasEnded enabled conn seen
-StopsIn enabled answer conn seen s (stop.Ends cause) = EndsIn s cause × (answer seen (Room conn) ≡ true)
+abbrev pub StopsIn : Rule → Answers → ℕ → List Event → Seen → List ℕ → Stop → Type 0
+StopsIn enabled answer conn seen s left stop.Ended = (s.now.bytes ≡ s.before.bytes) × HasEnded enabled conn seen
+StopsIn enabled answer conn seen s left (stop.Ends cause) = EndsIn s left cause × (answer seen (Room conn) ≡ true)
 
 -- ---- all so far
 

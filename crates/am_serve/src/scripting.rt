@@ -9,23 +9,13 @@ ghost use Rattle.am_serve.specs.Script.{HaveEnded, EndsScript, asked_by_script, 
 ghost use Rattle.am_serve.specs.Doing.{DoesLine, DoesEvent, GoesOn};
 
 use crate::asked::{Asked, asked_by};
-use crate::bells::Bells;
+use crate::fault::LineFault;
+use crate::station::Script;
 use am_counter::{Ask, Counter, Told};
-use am_journal::{Event, Refused, Why};
+use am_journal::{Event, Refused};
 use am_text::{NoMemory, split_line};
 use std::alloc::Global;
 use std::sync::Wait;
-
-/// Why a line of a script is refused.
-#[derive(Clone, Copy, Debug, PartialEq, Eq)]
-pub enum LineFault {
-    /// It isn't in the grammar.
-    Line,
-    /// It awaits an event file that isn't open, and all connections have ended.
-    Alone,
-    /// Its event isn't enabled.
-    NotEnabled(Why),
-}
 
 /// Where a script ended.
 #[derive(Clone, Copy, Debug, PartialEq, Eq)]
@@ -67,51 +57,48 @@ fn have_ended<C: Counter, R: Wait>(rt: &R, desk: &C, seat: &mut C::Seat, clients
 // Waits until a window's event file is open, or it can't be opened since all connections have ended.
 fn await_window<C: Counter, R: Wait>(
     rt: &R,
-    desk: &C,
+    script: &Script<'_, C>,
     seat: &mut C::Seat,
-    bells: &Bells,
     window: u32,
-    clients: u32,
 ) -> bool
-    requires fits { C.fits desk.now seat.old }
-    requires clients { clients ≤ 64 }
-    ensures fits { C.fits desk.now seat.new }
+    requires fits { C.fits script.now.desk.now seat.old }
+    requires clients { script.now.clients ≤ 64 }
+    ensures fits { C.fits script.now.desk.now seat.new }
     ensures looks { Looks (C.known seat.old) (C.known seat.new) }
     ensures open { result ≡ C.answer (C.known seat.new).seen (EventOpen window) }
-    ensures ended { result ≡ false → HaveEnded clients (C.known seat.new).seen }
+    ensures ended { result ≡ false → HaveEnded script.now.clients (C.known seat.new).seen }
 {
     let mut rung = 0;
     for _ in rt.forever() {
         // They are asked first: none can open the file later.
-        let alone = have_ended(rt, desk, seat, clients);
-        if desk.look(rt, seat, Ask::EventOpen(window)) {
+        let alone = have_ended(rt, script.desk, seat, script.clients);
+        if script.desk.look(rt, seat, Ask::EventOpen(window)) {
             return true;
         }
         if alone {
             return false;
         }
-        rung = bells.wait_for_script(rt, rung);
+        rung = script.bells.wait_for_script(rt, rung);
     }
     unreachable!()
 }
 
 fn submit<C: Counter, R: Wait>(
     rt: &R,
-    desk: &C,
+    script: &Script<'_, C>,
     seat: &mut C::Seat,
-    bells: &Bells,
     event: Event,
 ) -> LineEnd
-    requires fits { C.fits desk.now seat.old }
+    requires fits { C.fits script.now.desk.now seat.old }
     requires lawful { IsLawful event }
     requires in_range { IsInRange event }
-    ensures fits { C.fits desk.now seat.new }
+    ensures fits { C.fits script.now.desk.now seat.new }
     ensures does { DoesEvent C.enabled (C.known seat.old) event result (C.known seat.new) }
 {
     let mut told = Told::none();
-    match desk.submit(rt, seat, event, &mut told) {
+    match script.desk.submit(rt, seat, event, &mut told) {
         Ok(_) => {
-            bells.replied(&told);
+            script.bells.replied(&told);
             LineEnd::Passed
         }
         Err(Refused::NotEnabled(why)) => LineEnd::Refused(LineFault::NotEnabled(why)),
@@ -122,21 +109,19 @@ fn submit<C: Counter, R: Wait>(
 fn do_line<C: Counter, R: Wait>(
     rt: &R,
     alloc: Global,
-    desk: &C,
+    script: &Script<'_, C>,
     seat: &mut C::Seat,
-    bells: &Bells,
     line: &[u8],
-    clients: u32,
 ) -> LineEnd
-    requires fits { C.fits desk.now seat.old }
-    requires clients { clients ≤ 64 }
-    ensures fits { C.fits desk.now seat.new }
-    ensures does { DoesLine C.enabled C.answer clients (C.known seat.old) (asked_by line.now) result (C.known seat.new) }
+    requires fits { C.fits script.now.desk.now seat.old }
+    requires clients { script.now.clients ≤ 64 }
+    ensures fits { C.fits script.now.desk.now seat.new }
+    ensures does { DoesLine C.enabled C.answer script.now.clients (C.known seat.old) (asked_by line.now) result (C.known seat.new) }
 {
     match asked_by(alloc, line) {
-        Ok(Asked::Does(event)) => submit(rt, desk, seat, bells, event),
+        Ok(Asked::Does(event)) => submit(rt, script, seat, event),
         Ok(Asked::Awaits(window)) => {
-            if await_window(rt, desk, seat, bells, window, clients) {
+            if await_window(rt, script, seat, window) {
                 LineEnd::Passed
             } else {
                 LineEnd::Refused(LineFault::Alone)
@@ -155,23 +140,20 @@ fn do_line<C: Counter, R: Wait>(
 pub fn script_side<C: Counter, R: Wait>(
     rt: &R,
     alloc: Global,
-    desk: &C,
+    script: &Script<'_, C>,
     seat: &mut C::Seat,
-    bells: &Bells,
-    script: &[u8],
-    clients: u32,
 ) -> ScriptEnd
-    requires fits { C.fits desk.now seat.old }
-    requires clients { clients ≤ 64 }
-    ensures fits { C.fits desk.now seat.new }
+    requires fits { C.fits script.now.desk.now seat.old }
+    requires clients { script.now.clients ≤ 64 }
+    ensures fits { C.fits script.now.desk.now seat.new }
     ensures gains { Gains (C.known seat.old) (gained (C.known seat.old) (C.known seat.new)) (C.known seat.new) }
-    ensures ends { EndsScript C.enabled C.answer clients (C.known seat.old) (asked_by_script script.now) result (C.known seat.new) }
+    ensures ends { EndsScript C.enabled C.answer script.now.clients (C.known seat.old) (asked_by_script script.now.lines.now) result (C.known seat.new) }
 {
-    let mut rest = script;
+    let mut rest = script.lines;
     let mut line: u64 = 1;
     while !rest.is_empty() {
         let (first, after) = split_line(rest);
-        match do_line(rt, alloc, desk, seat, bells, first, clients) {
+        match do_line(rt, alloc, script, seat, first) {
             LineEnd::Passed => {
                 rest = after;
                 line += 1;

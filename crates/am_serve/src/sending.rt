@@ -5,9 +5,11 @@ ghost use Rattle.ninep_cut.specs.Cuts.{IsMessage};
 ghost use Rattle.am_counter.specs.declared.ask.Ask.TheVariants as ask;
 ghost use Rattle.am_counter.specs.Known.{Looks};
 ghost use Rattle.am_counter.specs.Played.{has_dial};
-ghost use Rattle.am_serve.specs.Sending.{HasEnded, Sends, Keeps, Tries, sent_for, EndsIn, IsFed, StopsIn, source_with};
+ghost use Rattle.am_base.specs.Seen.{seen};
+ghost use Rattle.am_serve.specs.Sending.{HasEnded, Sends, Keeps, Tries, sent_for, EndsIn, IsFed};
 
 use crate::due::Due;
+use crate::station::Station;
 use am_base::Source;
 use am_counter::{Ask, Counter};
 use am_journal::{Bad, Ending, Event, Refused, Why};
@@ -39,29 +41,28 @@ pub(crate) enum Sent {
 /// turn that the seat may have kept behind messages. Only then does it ring for what is due, so that who wakes finds the turn free.
 pub(crate) fn wait_for_room<C: Counter, R: Wait>(
     rt: &R,
-    desk: &C,
+    at: &Station<'_, C>,
     seat: &mut C::Seat,
-    due: &mut Due<'_>,
-    conn: u32,
+    due: &mut Due,
 ) -> bool
-    requires fits { C.fits desk.now seat.old }
-    requires conn { conn < 64 }
-    ensures fits { C.fits desk.now seat.new }
+    requires fits { C.fits at.now.desk.now seat.old }
+    requires conn { at.now.conn < 64 }
+    ensures fits { C.fits at.now.desk.now seat.new }
     ensures looks { Looks (C.known seat.old) (C.known seat.new) }
-    ensures room { result ≡ true → C.answer (C.known seat.new).seen (ask.Room conn) ≡ true }
-    ensures ended { result ≡ false → HasEnded C.enabled conn (C.known seat.new).seen }
+    ensures room { result ≡ true → C.answer (C.known seat.new).seen (ask.Room at.now.conn) ≡ true }
+    ensures ended { result ≡ false → HasEnded C.enabled at.now.conn (C.known seat.new).seen }
 {
     let mut rung = 0;
     for _ in rt.forever() {
-        if due.bells().is_over(conn) && desk.look(rt, seat, Ask::Ended(conn)) {
+        if at.bells.is_over(at.conn) && at.desk.look(rt, seat, Ask::Ended(at.conn)) {
             return false;
         }
-        let has_room = desk.look(rt, seat, Ask::Room(conn));
-        due.ring();
+        let has_room = at.desk.look(rt, seat, Ask::Room(at.conn));
+        due.ring(at.bells);
         if has_room {
             return true;
         }
-        rung = due.bells().wait_for_room(rt, conn, rung);
+        rung = at.bells.wait_for_room(rt, at.conn, rung);
     }
     unreachable!()
 }
@@ -82,23 +83,23 @@ fn sent_for(why: Why) -> Sent
 fn try_message<C: Counter, R: Wait>(
     rt: &R,
     alloc: Global,
-    desk: &C,
+    at: &Station<'_, C>,
     seat: &mut C::Seat,
-    due: &mut Due<'_>,
-    conn: u32,
+    due: &mut Due,
     message: &[u8],
 ) -> Sent
-    requires fits { C.fits desk.now seat.old }
-    requires conn { conn < 64 }
-    requires dialled { has_dial (C.known seat.old).seen conn ≡ true }
+    requires fits { C.fits at.now.desk.now seat.old }
+    requires conn { at.now.conn < 64 }
+    requires dialled { has_dial (C.known seat.old).seen at.now.conn ≡ true }
     requires message { IsMessage message.now }
-    ensures fits { C.fits desk.now seat.new }
-    ensures tries { Tries C.enabled conn (C.known seat.old) message.now result (C.known seat.new) }
+    ensures fits { C.fits at.now.desk.now seat.new }
+    ensures tries { Tries C.enabled at.now.conn (C.known seat.old) message.now result (C.known seat.new) }
 {
     match read_t(alloc, message) {
         Ok(msg) => {
             let opens = matches!(&msg.body, TBody::Open { .. });
-            match desk.submit(rt, seat, Event::Msg { conn, msg }, &mut due.told) {
+            let event = Event::Msg { conn: at.conn, msg };
+            match at.desk.submit(rt, seat, event, &mut due.told) {
                 Ok(_) => {
                     due.opened |= opens;
                     Sent::Done
@@ -116,28 +117,27 @@ fn try_message<C: Counter, R: Wait>(
 pub(crate) fn send_message<C: Counter, R: Wait>(
     rt: &R,
     alloc: Global,
-    desk: &C,
+    at: &Station<'_, C>,
     seat: &mut C::Seat,
-    due: &mut Due<'_>,
-    conn: u32,
+    due: &mut Due,
     message: &[u8],
 ) -> Result<(), Stop>
-    requires fits { C.fits desk.now seat.old }
-    requires conn { conn < 64 }
-    requires dialled { has_dial (C.known seat.old).seen conn ≡ true }
+    requires fits { C.fits at.now.desk.now seat.old }
+    requires conn { at.now.conn < 64 }
+    requires dialled { has_dial (C.known seat.old).seen at.now.conn ≡ true }
     requires message { IsMessage message.now }
-    ensures fits { C.fits desk.now seat.new }
-    ensures ok { OnOk result (Sends C.enabled conn (C.known seat.old) message.now (C.known seat.new)) }
-    ensures err { IfErr result (λ stop. Keeps C.enabled conn (C.known seat.old) message.now stop (C.known seat.new)) }
+    ensures fits { C.fits at.now.desk.now seat.new }
+    ensures ok { OnOk result (Sends C.enabled at.now.conn (C.known seat.old) message.now (C.known seat.new)) }
+    ensures err { IfErr result (λ stop. Keeps C.enabled at.now.conn (C.known seat.old) message.now stop (C.known seat.new)) }
 {
     for _ in rt.forever() {
-        match try_message(rt, alloc, desk, seat, due, conn, message) {
+        match try_message(rt, alloc, at, seat, due, message) {
             Sent::Done => return Ok(()),
             Sent::Stops(stop) => return Err(stop),
             Sent::Waits => {}
         }
         // The event was dropped, and is read anew.
-        if !wait_for_room(rt, desk, seat, due, conn) {
+        if !wait_for_room(rt, at, seat, due) {
             return Err(Stop::Ended);
         }
     }
@@ -147,11 +147,11 @@ pub(crate) fn send_message<C: Counter, R: Wait>(
 /// How many bytes one read asks for at most.
 const PIECE: usize = 8192;
 
-// Reads a piece, and feeds it.
-fn read_piece<S: Source>(source: &mut S, cutter: &mut Cutter) -> Result<(), Ending>
-    ensures ok { OnOk result (IsFed (S.left source.old) (S.left source.new) cutter.old cutter.new) }
-    ensures err { IfErr result (EndsIn (source_with (S.left source.old) (S.left source.new) (S.faults source.old) (S.faults source.new) cutter.old)) }
-    ensures later { S.faults source.old ≤ S.faults source.new }
+/// Reads a piece, and feeds it.
+pub(crate) fn read_piece<S: Source>(source: &mut S, cutter: &mut Cutter) -> Result<(), Ending>
+    ensures ok { OnOk result (IsFed (S.told source.old).bytes (S.told source.new).bytes cutter.old cutter.new) }
+    ensures err { IfErr result (EndsIn (seen (S.told source.old) (S.told source.new)) cutter.old) }
+    ensures later { (S.told source.old).faults ≤ (S.told source.new).faults }
 {
     let mut buf = [0; PIECE];
     let Ok(n) = source.read(&mut buf) else {
@@ -167,34 +167,5 @@ fn read_piece<S: Source>(source: &mut S, cutter: &mut Cutter) -> Result<(), Endi
     match cutter.feed(&buf[..n]) {
         Ok(()) => Ok(()),
         Err(_) => Err(Ending::NoMemory),
-    }
-}
-
-/// Reads a piece, once there is room for a reply.
-pub(crate) fn read_more<C: Counter, S: Source, R: Wait>(
-    rt: &R,
-    desk: &C,
-    seat: &mut C::Seat,
-    due: &mut Due<'_>,
-    conn: u32,
-    source: &mut S,
-    cutter: &mut Cutter,
-) -> Result<(), Stop>
-    requires fits { C.fits desk.now seat.old }
-    requires conn { conn < 64 }
-    ensures fits { C.fits desk.now seat.new }
-    ensures looks { Looks (C.known seat.old) (C.known seat.new) }
-    ensures ok { OnOk result (IsFed (S.left source.old) (S.left source.new) cutter.old cutter.new) }
-    ensures room { OnOk result (C.answer (C.known seat.new).seen (ask.Room conn) ≡ true) }
-    ensures err { IfErr result (StopsIn C.enabled C.answer conn (C.known seat.new).seen
-        (source_with (S.left source.old) (S.left source.new) (S.faults source.old) (S.faults source.new) cutter.old)) }
-    ensures later { S.faults source.old ≤ S.faults source.new }
-{
-    if !wait_for_room(rt, desk, seat, due, conn) {
-        return Err(Stop::Ended);
-    }
-    match read_piece(source, cutter) {
-        Ok(()) => Ok(()),
-        Err(why) => Err(Stop::Ends(why)),
     }
 }

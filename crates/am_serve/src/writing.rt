@@ -7,8 +7,8 @@ ghost use Rattle.am_serve.specs.Gained.{Gains, gained};
 ghost use Rattle.am_serve.specs.Writing.{AreWritten, Gets, taken_bytes, Wrote};
 ghost use Rattle.am_serve.specs.declared.writing.WriteEnd.TheVariants as end;
 
-use crate::bells::Bells;
 use crate::hanging::hang_up;
+use crate::station::Station;
 use am_base::{Sink, write_all};
 use am_counter::{Counter, Taken};
 use am_journal::Ending;
@@ -31,36 +31,34 @@ pub enum WriteEnd {
 fn write_replies<C: Counter, K: Sink, R: Wait>(
     rt: &R,
     alloc: Global,
-    desk: &C,
+    at: &Station<'_, C>,
     seat: &mut C::Seat,
-    bells: &Bells,
-    conn: u32,
     sink: &mut K,
 ) -> WriteEnd
-    requires fits { C.fits desk.now seat.old }
-    requires conn { conn < 64 }
-    ensures fits { C.fits desk.now seat.new }
+    requires fits { C.fits at.now.desk.now seat.old }
+    requires conn { at.now.conn < 64 }
+    ensures fits { C.fits at.now.desk.now seat.new }
     ensures played { result ≡ end.Ended → IsPlayed C.enabled (C.known seat.new).seen }
-    ensures wrote { Wrote C.unsent conn (C.known seat.old) (C.known seat.new) result (K.held sink.old) (K.held sink.new) }
-    ensures ended { result ≡ end.Ended → (has_hang (C.known seat.new).seen conn ≡ true) × (C.unsent (C.known seat.new).seen conn ≡ []) }
-    ensures later { K.faults sink.old ≤ K.faults sink.new }
-    ensures gone { result ≡ end.Gone → HasRisen (K.faults sink.old) (K.faults sink.new) }
+    ensures wrote { Wrote C.unsent at.now.conn (C.known seat.old) (C.known seat.new) result (K.told sink.old).bytes (K.told sink.new).bytes }
+    ensures ended { result ≡ end.Ended → (has_hang (C.known seat.new).seen at.now.conn ≡ true) × (C.unsent (C.known seat.new).seen at.now.conn ≡ []) }
+    ensures later { (K.told sink.old).faults ≤ (K.told sink.new).faults }
+    ensures gone { result ≡ end.Gone → HasRisen (K.told sink.old).faults (K.told sink.new).faults }
 {
     let mut replies = Items::new(alloc);
     let mut rung = 0;
     for _ in rt.forever() {
-        match desk.take(rt, seat, conn, &mut replies) {
+        match at.desk.take(rt, seat, at.conn, &mut replies) {
             Ok(Taken::Bytes) => {
-                bells.taken(conn);
+                at.bells.taken(at.conn);
                 if write_all(sink, replies.as_slice()).is_err() {
                     return WriteEnd::Gone;
                 }
                 // An ended connection gets no ring any more.
-                if !bells.is_over(conn) {
-                    rung = bells.wait_for_replies(rt, conn, rung);
+                if !at.bells.is_over(at.conn) {
+                    rung = at.bells.wait_for_replies(rt, at.conn, rung);
                 }
             }
-            Ok(Taken::NothingYet) => rung = bells.wait_for_replies(rt, conn, rung),
+            Ok(Taken::NothingYet) => rung = at.bells.wait_for_replies(rt, at.conn, rung),
             Ok(Taken::Ended) => return WriteEnd::Ended,
             Err(NoMemory) => return WriteEnd::NoMemory,
         }
@@ -74,35 +72,33 @@ fn write_replies<C: Counter, K: Sink, R: Wait>(
 pub fn write_side<C: Counter, K: Sink, R: Wait>(
     rt: &R,
     alloc: Global,
-    desk: &C,
+    at: &Station<'_, C>,
     seat: &mut C::Seat,
-    bells: &Bells,
-    conn: u32,
     sink: &mut K,
 ) -> WriteEnd
-    requires fits { C.fits desk.now seat.old }
-    requires conn { conn < 64 }
-    requires dialled { has_dial (C.known seat.old).seen conn ≡ true }
-    ensures fits { C.fits desk.now seat.new }
+    requires fits { C.fits at.now.desk.now seat.old }
+    requires conn { at.now.conn < 64 }
+    requires dialled { has_dial (C.known seat.old).seen at.now.conn ≡ true }
+    ensures fits { C.fits at.now.desk.now seat.new }
     ensures played { IsPlayed C.enabled (C.known seat.new).seen }
     ensures gains { Gains (C.known seat.old) (gained (C.known seat.old) (C.known seat.new)) (C.known seat.new) }
-    ensures entries { AreWritten conn result (C.known seat.old) (C.known seat.new) }
+    ensures entries { AreWritten at.now.conn result (C.known seat.old) (C.known seat.new) }
     // The sink got the bytes that they took.
-    ensures gets { Gets result (K.held sink.old)
-        (taken_bytes C.unsent (C.known seat.new).seen (gained (C.known seat.old) (C.known seat.new))) (K.held sink.new) }
-    ensures ended { has_hang (C.known seat.new).seen conn ≡ true }
-    ensures nothing_unsent { result ≡ end.Ended → C.unsent (C.known seat.new).seen conn ≡ [] }
-    ensures later { K.faults sink.old ≤ K.faults sink.new }
-    ensures gone { result ≡ end.Gone → HasRisen (K.faults sink.old) (K.faults sink.new) }
+    ensures gets { Gets result (K.told sink.old).bytes
+        (taken_bytes C.unsent (C.known seat.new).seen (gained (C.known seat.old) (C.known seat.new))) (K.told sink.new).bytes }
+    ensures ended { has_hang (C.known seat.new).seen at.now.conn ≡ true }
+    ensures nothing_unsent { result ≡ end.Ended → C.unsent (C.known seat.new).seen at.now.conn ≡ [] }
+    ensures later { (K.told sink.old).faults ≤ (K.told sink.new).faults }
+    ensures gone { result ≡ end.Gone → HasRisen (K.told sink.old).faults (K.told sink.new).faults }
 {
-    let end = write_replies(rt, alloc, desk, seat, bells, conn, sink);
+    let end = write_replies(rt, alloc, at, seat, sink);
     match end {
         WriteEnd::Ended => {}
         WriteEnd::Gone => {
-            hang_up(rt, desk, seat, bells, conn, Ending::Gone);
+            hang_up(rt, at, seat, Ending::Gone);
         }
         WriteEnd::NoMemory => {
-            hang_up(rt, desk, seat, bells, conn, Ending::NoMemory);
+            hang_up(rt, at, seat, Ending::NoMemory);
         }
     }
     end

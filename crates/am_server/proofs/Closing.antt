@@ -6,7 +6,8 @@ use Rattle.turn_lock.specs.Journal.{AllStand}
 use Rattle.turn_lock.specs.Kinds.{KeepsOrder}
 use Rattle.am_base.specs.Outside.{AreTold, PutsFront, HasCause}
 use Rattle.am_base.specs.Stops.{input_limit}
-use Rattle.am_base.specs.Written.{Output, IsWhole, IsCut, IsPut}
+use Rattle.am_base.specs.Seen.{Given, Seen}
+use Rattle.am_base.specs.Written.{IsWhole, IsCut, IsPut}
 use Rattle.am_journal.specs.declared.event.Event.{Event}
 use Rattle.ninep_cut.specs.Laws.{JoinsPieces, CutsNoMore}
 use Rattle.am_journal.specs.Lawful.{IsLawful, IsInRange}
@@ -26,7 +27,7 @@ use Rattle.am_server.proofs.Replying.{got_all, wrote_well}
 use Rattle.am_server.proofs.Sounds.{sound_all}
 use Rattle.am_server.specs.Replied.{GotAll}
 use Rattle.am_server.specs.Sound.{EndsWell}
-use Rattle.am_server.specs.Ends.{Given, Writes, IsTooLong, ServesLines, SaysServe, end_at}
+use Rattle.am_server.specs.Ends.{Writes, IsTooLong, ServesLines, SaysServe, end_at}
 use Rattle.am_server.specs.Served.{served_from}
 use Rattle.am_server.specs.Texts.{served_text}
 use Rattle.am_server.specs.declared.served.Served.{Served}
@@ -42,18 +43,18 @@ pub lawful_played : (seen journal : List Event) → journal ≡ seen → IsPlaye
 lawful_played seen journal is p = subst (λ (l : List Event). AllByRecursion IsLawful l) (sym is) (lawful_from [] seen p)
 
 -- what an output got of a text, by what writing it answered
-got : {T E : Type 0} (o : Output) (text whole : List ℕ) (r : Result T E) → text ≡ whole → OnOk r (IsWhole o text) → OnErr r (PutsFront o.held text o.held_now) → HasCause o.faults o.faults_now r
+got : {T E : Type 0} (o : Seen) (text whole : List ℕ) (r : Result T E) → text ≡ whole → OnOk r (IsWhole o text) → OnErr r (PutsFront o.before.bytes text o.now.bytes) → HasCause o.before.faults o.now.faults r
     → ((is_err r ≡ false) × IsWhole o whole) ⊎ ((is_err r ≡ true) × IsCut o whole)
 got o text whole (Ok x) is ok err cause = inl (refl, subst (IsWhole o) is ok)
 got o text whole (Err e) is ok err cause = inr (
   refl,
   record {
-    front = subst (λ (l : List ℕ). PutsFront o.held l o.held_now) is err;
+    front = subst (λ (l : List ℕ). PutsFront o.before.bytes l o.now.bytes) is err;
     risen = cause.risen refl;
   },
 )
 
-pub put_one : {T E : Type 0} (o : Output) (text whole : List ℕ) (r : Result T E) → text ≡ whole → OnOk r (IsWhole o text) → OnErr r (PutsFront o.held text o.held_now) → HasCause o.faults o.faults_now r
+pub put_one : {T E : Type 0} (o : Seen) (text whole : List ℕ) (r : Result T E) → text ≡ whole → OnOk r (IsWhole o text) → OnErr r (PutsFront o.before.bytes text o.now.bytes) → HasCause o.before.faults o.now.faults r
     → IsPut o whole
 put_one o text whole r is ok err cause = by_cases (got o text whole r is ok err cause)
   where
@@ -62,8 +63,8 @@ put_one o text whole r is ok err cause = by_cases (got o text whole r is ok err 
     by_cases (inr c) = inr c.1
 
 module _ {G L S K : Type 0} where
-  pub wrote : {T E : Type 0} (slots : List (Slot G L S K)) (script : ScriptEnd) (o : Output) (text whole : List ℕ) (r : Result T E) (e : ServeEnd) → text ≡ whole
-      → OnOk r (IsWhole o text) → OnErr r (PutsFront o.held text o.held_now) → HasCause o.faults o.faults_now r → e ≡ end_at slots script (is_err r) → Writes slots script o whole e
+  pub wrote : {T E : Type 0} (slots : List (Slot G L S K)) (script : ScriptEnd) (o : Seen) (text whole : List ℕ) (r : Result T E) (e : ServeEnd) → text ≡ whole
+      → OnOk r (IsWhole o text) → OnErr r (PutsFront o.before.bytes text o.now.bytes) → HasCause o.before.faults o.now.faults r → e ≡ end_at slots script (is_err r) → Writes slots script o whole e
   wrote slots script o text whole r e is ok err cause at = by_cases (got o text whole r is ok err cause)
     where
       by_cases : ((is_err r ≡ false) × IsWhole o whole) ⊎ ((is_err r ≡ true) × IsCut o whole) → Writes slots script o whole e
@@ -71,7 +72,7 @@ module _ {G L S K : Type 0} where
       by_cases (inr c) = inr (inl (at ∙ ap (end_at slots script) c.0, c.1))
 
   -- the slots of one seat, which has all entries at the end
-  pub served_lines : (law : EndedGetAllReplies) (joins : JoinsPieces) (breaks : CutsNoMore) (m : Outside G L S K) (path : List ℕ) (clients : ℕ) (lines : List ℕ) (before now : ℕ) (o : Output) (slots : List (Slot G L S K)) (script : ScriptEnd) (w : Known)
+  pub served_lines : (law : EndedGetAllReplies) (joins : JoinsPieces) (breaks : CutsNoMore) (m : Outside G L S K) (path : List ℕ) (clients : ℕ) (lines : List ℕ) (before now : ℕ) (o : Seen) (slots : List (Slot G L S K)) (script : ScriptEnd) (w : Known)
       (core journal : List Event) (served : List (Served G L S K)) (e : ServeEnd)
       → length slots ≡ clients → clients ≤ 64 → IsPlayed enabled w.seen → AllByRecursion IsInRange w.seen → AllStand w.seen (lists_of w) → EachOnce w → KeepsOrder w.seen (lists_of w)
       → ServesAll m enabled output_at answer_at clients lines slots script w → EachTells m path 0 slots → HasRisenBy (unbound slots) before now
@@ -99,12 +100,12 @@ module _ {G L S K : Type 0} where
         sound = subst (λ (l : List (Served G L S K)). AllByRecursion (EndsWell m journal) l) (sym now_told) (sound_all joins breaks m journal path 0 slots run.each tells);
       }
 
-  pub says_lines : (m : Outside G L S K) (path : List ℕ) (clients : ℕ) (i : Given) (o : Output) (journal : List Event) (served : List (Served G L S K)) (e : ServeEnd) (lines : List ℕ)
-      → AreTold i.told lines → length lines ≤ input_limit → ServesLines m path clients lines i.host_faults i.host_faults_now o journal served e
+  pub says_lines : (m : Outside G L S K) (path : List ℕ) (clients : ℕ) (i : Given) (o : Seen) (journal : List Event) (served : List (Served G L S K)) (e : ServeEnd) (lines : List ℕ)
+      → AreTold i.input.before.bytes lines → length lines ≤ input_limit → ServesLines m path clients lines i.host_faults i.host_faults_now o journal served e
       → SaysServe m path clients i o journal served e
   says_lines m path clients i o journal served e lines told fits (inl s) = inr (inr (inr (lines, told, fits, s)))
   says_lines m path clients i o journal served e lines told fits (inr t) = inr (inr (inl t))
 
-  pub says_long : (m : Outside G L S K) (path : List ℕ) (clients : ℕ) (i : Given) (o : Output) (journal : List Event) (served : List (Served G L S K)) (e : ServeEnd)
-      → IfSome i.told (λ bytes. input_limit < length bytes) → IsTooLong o journal served e → SaysServe m path clients i o journal served e
+  pub says_long : (m : Outside G L S K) (path : List ℕ) (clients : ℕ) (i : Given) (o : Seen) (journal : List Event) (served : List (Served G L S K)) (e : ServeEnd)
+      → IfSome i.input.before.bytes (λ bytes. input_limit < length bytes) → IsTooLong o journal served e → SaysServe m path clients i o journal served e
   says_long m path clients i o journal served e long t = inr (inl (long, t))

@@ -7,7 +7,8 @@ use Rattle.std.proofs.lemmas.List.{append-nil, length-append}
 use Rattle.std.proofs.lemmas.List.Elements.{filter-append}
 use Rattle.am_base.specs.Outside.{AreTold, HasRisen}
 use Rattle.am_base.specs.Stops.{input_limit}
-use Rattle.am_base.specs.Written.{Output, IsWhole}
+use Rattle.am_base.specs.Seen.{Given, Seen}
+use Rattle.am_base.specs.Written.{IsWhole}
 use Rattle.am_journal.specs.declared.event.Event.{Event}
 use Rattle.am_journal.specs.Journal.{journal_text}
 use Rattle.am_journal.specs.Report.{report_text}
@@ -20,7 +21,7 @@ use Rattle.am_serve.specs.Gained.{plain}
 use Rattle.am_serve.specs.Script.{PassesLine, Passes, asked_by_script, asked_events, is_scripted}
 use Rattle.am_serve.specs.declared.asked.Asked.{Asked}
 use Rattle.am_serve.specs.declared.asked.Asked.TheVariants.{Does, Awaits, Ends, Faulty}
-use Rattle.am_serve.specs.declared.scripting.LineFault.{LineFault}
+use Rattle.am_serve.specs.declared.fault.LineFault.{LineFault}
 use Rattle.am_serve.specs.declared.scripting.ScriptEnd.{ScriptEnd}
 use Rattle.am_serve.specs.declared.scripting.ScriptEnd.TheVariants as script
 use Rattle.am_text.specs.Lines.{lines_of}
@@ -31,7 +32,7 @@ use Rattle.am_slots.specs.declared.slot.Slot.{Slot}
 use Rattle.am_slots.specs.declared.slot.Slot.TheVariants as slot
 use Rattle.am_server.proofs.Replying.{risen_above}
 use Rattle.am_server.specs.Complete.{IsCalm, IsComplete, NoneRefused, whole_text}
-use Rattle.am_server.specs.Ends.{Given, SaysServe, Serves, Writes, end_at, end_done, wants_untold}
+use Rattle.am_server.specs.Ends.{SaysServe, Serves, Writes, end_at, end_done, wants_untold}
 use Rattle.am_server.specs.Served.{served_from}
 use Rattle.am_server.specs.Texts.{has_failed, host_line, host_text, served_text}
 use Rattle.am_server.specs.declared.served.Served.{Served}
@@ -103,18 +104,18 @@ module _ {G L S K : Type 0} (m : Outside G L S K) (journal : List Event) where
   none_failed path n [] tells calm bound = refl
   none_failed path n (slot.Unbound ∷ slots) tells calm bound = absurd (omega (arith, bound))
   none_failed path n (slot.Bound gate ∷ slots) tells calm bound = absurd tells.1
-  none_failed path n (slot.Unlinked gate ∷ slots) tells calm bound = absurd (risen_above (m.gate_faults gate) tells.1 calm.0.0)
-  none_failed path n (slot.Unhalved gate link ∷ slots) tells calm bound = absurd (risen_above (m.link_faults link) tells.1 calm.0.1)
+  none_failed path n (slot.Unlinked gate ∷ slots) tells calm bound = absurd (risen_above (m.gate gate).faults tells.1 calm.0.0)
+  none_failed path n (slot.Unhalved gate link ∷ slots) tells calm bound = absurd (risen_above (m.link link).faults tells.1 calm.0.1)
   none_failed path n (slot.Undialled x refused ∷ slots) tells calm bound = none_failed path (n + 1) slots tells.2 calm.1 bound
   none_failed path n (slot.Served x read wrote ∷ slots) tells calm bound = none_failed path (n + 1) slots tells.2 calm.1 bound
 
 -- ---- what is written
 
 -- all is done and written, or memory ran out
-Well : Output → List Event → ServeEnd → Type 0
+Well : Seen → List Event → ServeEnd → Type 0
 Well o journal e = ((e ≡ end.Done) × IsWhole o (whole_text journal)) ⊎ (e ≡ end.NoMemory)
 
-whole_or_out : (o : Output) (journal : List Event) (untold : Bool) (e : ServeEnd) → e ≡ end_done untold false → IsWhole o (whole_text journal) → Well o journal e
+whole_or_out : (o : Seen) (journal : List Event) (untold : Bool) (e : ServeEnd) → e ≡ end_done untold false → IsWhole o (whole_text journal) → Well o journal e
 unfolding Well
 whole_or_out o journal true e is whole = inr is
 whole_or_out o journal false e is whole = inl (is, whole)
@@ -139,7 +140,7 @@ module _ {G L S K : Type 0} where
   done_at : (slots : List (Slot G L S K)) → list_any has_failed slots ≡ false → end_at slots script.Done false ≡ end_done (list_any wants_untold slots) false
   done_at slots none = ap (λ (b : Bool). cond b end.HostFault (end_done (list_any wants_untold slots) false)) none
 
-  wrote_well : (o : Output) (journal : List Event) (slots : List (Slot G L S K)) (done : ScriptEnd) (e : ServeEnd) → ¬ HasRisen o.faults o.faults_now
+  wrote_well : (o : Seen) (journal : List Event) (slots : List (Slot G L S K)) (done : ScriptEnd) (e : ServeEnd) → ¬ HasRisen o.before.faults o.now.faults
       → list_any has_failed slots ≡ false → ((line : ℕ) (fault : LineFault) → done ≡ script.Refused line fault → ⊥) → Writes slots done o (served_text journal slots done) e → Well o journal e
   unfolding Well
   wrote_well o journal slots (script.Refused line fault) e calm none unrefused w = absurd (unrefused line fault refl)
@@ -151,7 +152,7 @@ module _ {G L S K : Type 0} where
   wrote_well o journal slots script.Done e calm none unrefused (inr (inl w)) = absurd (calm w.1.risen)
   wrote_well o journal slots script.Done e calm none unrefused (inr (inr w)) = inr w.0
 
-  pub served_complete : (m : Outside G L S K) (path : List ℕ) (clients : ℕ) (lines : List ℕ) (i : Given) (o : Output) (journal : List Event) (served : List (Served G L S K)) (e : ServeEnd)
+  pub served_complete : (m : Outside G L S K) (path : List ℕ) (clients : ℕ) (lines : List ℕ) (i : Given) (o : Seen) (journal : List Event) (served : List (Served G L S K)) (e : ServeEnd)
       → Serves m path clients lines i.host_faults i.host_faults_now o journal served e → IsComplete m clients lines i o journal served e
   unfolding Well
   served_complete m path clients lines i o journal served e s = λ h.
@@ -162,8 +163,8 @@ module _ {G L S K : Type 0} where
       wrote_well o journal s.slots s.done e h.output failed unrefused s.writes
 
   -- where the script tells its bytes
-  pub says_complete : (m : Outside G L S K) (path : List ℕ) (clients : ℕ) (lines : List ℕ) (i : Given) (o : Output) (journal : List Event) (served : List (Served G L S K)) (e : ServeEnd)
-      → i.told ≡ Some lines → SaysServe m path clients i o journal served e → IsComplete m clients lines i o journal served e
+  pub says_complete : (m : Outside G L S K) (path : List ℕ) (clients : ℕ) (lines : List ℕ) (i : Given) (o : Seen) (journal : List Event) (served : List (Served G L S K)) (e : ServeEnd)
+      → i.input.before.bytes ≡ Some lines → SaysServe m path clients i o journal served e → IsComplete m clients lines i o journal served e
   says_complete m path clients lines i o journal served e told (inl s) = λ h. absurd (h.input s.1)
   says_complete m path clients lines i o journal served e told (inr (inl s)) = λ h.
       let long : input_limit < length lines = subst (λ (x : Option (List ℕ)). IfSome x (λ bytes. input_limit < length bytes)) told s.0 in

@@ -3,7 +3,7 @@ use Rattle.std.proofs.Common.{◌≡◌, ◌≢◌, inl, inr, ℕ, ◌+◌, ◌<
 use Rattle.std.specs.Prelude.{◌||◌}
 use Rattle.std.specs.List.{list_any, AllByRecursion}
 use Rattle.am_base.specs.Outside.{AreTold, HasRisen, told_then}
-use Rattle.am_base.specs.Written.{Output}
+use Rattle.am_base.specs.Seen.{Seen}
 use Rattle.am_journal.specs.declared.ending.Ending.{Ending}
 use Rattle.am_journal.specs.declared.ending.Ending.TheVariants as ending
 use Rattle.am_journal.specs.declared.event.Event.{Event}
@@ -61,13 +61,13 @@ neither false b h = (refl, h)
 
 module _ {G L S K : Type 0} (m : Outside G L S K) (journal : List Event) (law : EndedGetAllReplies) (played : IsPlayed enabled journal) where
   got_served : (n : ℕ) (x : Objects G L S K) (read : Option Ending) (wrote : WriteEnd) (why : Ending) → n < 64
-      → IsServed enabled output_at answer_at journal n (m.begins x.link) (m.left x.reader) read wrote (m.held x.writer) → Tells m (slot.Served x read wrote)
-      → wants_untold (slot.Served x read wrote) ≡ false → IsCause read wrote why → why ≢ ending.NoMemory → m.writer_faults x.writer ≡ 0
-      → AreTold (m.held x.writer) (replies journal n)
+      → IsServed enabled output_at answer_at journal n (m.link x.link).begins (m.reader x.reader).bytes read wrote (m.writer x.writer).bytes → Tells m (slot.Served x read wrote)
+      → wants_untold (slot.Served x read wrote) ≡ false → IsCause read wrote why → why ≢ ending.NoMemory → (m.writer x.writer).faults ≡ 0
+      → AreTold (m.writer x.writer).bytes (replies journal n)
   got_served n x read write.Ended why low is tells told caused other fine =
       let d = is.drained refl in
-      told_whole (m.held x.writer) is.empty (replies journal n) is.begins_empty (is.gets ∙ ap (told_then is.empty) (law d.0 journal n low played d.1 d.2 d.3))
-  got_served n x read write.Gone why low is tells told caused other fine = absurd (risen_above (m.writer_faults x.writer) (tells.3 refl) fine)
+      told_whole (m.writer x.writer).bytes is.empty (replies journal n) is.begins_empty (is.gets ∙ ap (told_then is.empty) (law d.0 journal n low played d.1 d.2 d.3))
+  got_served n x read write.Gone why low is tells told caused other fine = absurd (risen_above (m.writer x.writer).faults (tells.3 refl) fine)
   got_served n x None write.NoMemory why low is tells told caused other fine = absurd (other caused)
   got_served n x (Some read) write.NoMemory why low is tells told caused other fine = absurd (other (caused ∙ for_memory read told))
 
@@ -81,8 +81,8 @@ module _ {G L S K : Type 0} (m : Outside G L S K) (journal : List Event) (law : 
       let cause : is.cause ≡ why = cause_told (endings_of journal n) is.cause why is.ended ended in
       let same : x.writer ≡ sink = cc in
       let caused : IsCause read wrote why = subst (λ (c : Ending). IsCause read wrote c) cause is.caused in
-      subst (λ (k : K). AreTold (m.held k) (replies journal n)) same
-      (got_served n x read wrote why low is tells told caused other (ap m.writer_faults same ∙ fine))
+      subst (λ (k : K). AreTold (m.writer k).bytes (replies journal n)) same
+      (got_served n x read wrote why low is tells told caused other (ap (λ (x : K). (m.writer x).faults) same ∙ fine))
 
   -- ---- all slots
 
@@ -106,7 +106,7 @@ module _ {G L S K : Type 0} (slots : List (Slot G L S K)) where
   well_at script.NoMemory failed h = let never : true ≡ false = done_well (list_any has_failed slots) true failed h in absurd cc
   well_at script.Done failed h = done_well (list_any has_failed slots) (list_any wants_untold slots) failed h
 
-  pub wrote_well : (done : ScriptEnd) (o : Output) (text : List ℕ) (e : ServeEnd) → Writes slots done o text e → AllDone e → list_any wants_untold slots ≡ false
+  pub wrote_well : (done : ScriptEnd) (o : Seen) (text : List ℕ) (e : ServeEnd) → Writes slots done o text e → AllDone e → list_any wants_untold slots ≡ false
   wrote_well done o text e (inl w) h = well_at done false (subst AllDone w.0 h)
   wrote_well done o text e (inr (inl w)) h = well_at done true (subst AllDone w.0 h)
   wrote_well done o text e (inr (inr w)) h = absurd (subst AllDone w.0 h)

@@ -162,12 +162,12 @@ told_parts first (Some more) piece bytes told read = let same : Some bytes ≡ S
 
 module _ {G L S K : Type 0} (joins : JoinsPieces) (breaks : CutsNoMore) (m : Outside G L S K) (journal : List Event) where
   served_soundly : (n : ℕ) (x : Objects G L S K) (read : Option Ending) (wrote : WriteEnd) (cause : Ending) (bytes : List ℕ)
-      → IsServed enabled output_at answer_at journal n (m.begins x.link) (m.left x.reader) read wrote (m.held x.writer) → Tells m (slot.Served x read wrote) → IsCause read wrote cause
-      → m.begins x.link ≡ Some bytes → m.reader_faults x.reader ≡ 0 → m.writer_faults x.writer ≡ 0 → (cut_stream bytes).rest ≡ []
+      → IsServed enabled output_at answer_at journal n (m.link x.link).begins (m.reader x.reader).bytes read wrote (m.writer x.writer).bytes → Tells m (slot.Served x read wrote) → IsCause read wrote cause
+      → (m.link x.link).begins ≡ Some bytes → (m.reader x.reader).faults ≡ 0 → (m.writer x.writer).faults ≡ 0 → (cut_stream bytes).rest ≡ []
       → fits_budget (cut_stream bytes).messages ≡ true → MayCome journal n (cut_stream bytes).messages
       → (cause ≡ ending.End) ⊎ (cause ≡ ending.NoMemory)
   served_soundly n x None write.Ended cause bytes is tells caused told reads writes whole fits may = absurd caused
-  served_soundly n x None write.Gone cause bytes is tells caused told reads writes whole fits may = absurd (risen_above (m.writer_faults x.writer) (tells.3 refl) writes)
+  served_soundly n x None write.Gone cause bytes is tells caused told reads writes whole fits may = absurd (risen_above (m.writer x.writer).faults (tells.3 refl) writes)
   served_soundly n x None write.NoMemory cause bytes is tells caused told reads writes whole fits may = inr caused
   served_soundly n x (Some r) wrote cause bytes is tells caused told reads writes whole fits may =
       let given = messages_of journal n in
@@ -175,10 +175,10 @@ module _ {G L S K : Type 0} (joins : JoinsPieces) (breaks : CutsNoMore) (m : Out
       let piece : List ℕ = g.0 in
       let before : List Event = g.3.0 in
       let turn = g.3.1 in
-      let parts = told_parts (m.begins x.link) (m.left x.reader) piece bytes told g.1 in
+      let parts = told_parts (m.link x.link).begins (m.reader x.reader).bytes piece bytes told g.1 in
       let split : bytes ≡ piece ++ parts.0 = parts.2 in
       let torn : r ≡ ending.Torn → parts.0 ≡ [] = λ e. subst (λ (o : Option (List ℕ)). AreTold o []) parts.1 (tells.2 (ap Some e)) in
-      let fault : r ≡ ending.ReadFault → ⊥ = λ e. risen_above (m.reader_faults x.reader) (tells.0 (ap Some e)) reads in
+      let fault : r ≡ ending.ReadFault → ⊥ = λ e. risen_above (m.reader x.reader).faults (tells.0 (ap Some e)) reads in
       let ends = ends_soundly joins breaks journal n piece parts.0
       (subst (λ (l : List ℕ). (cut_stream l).rest ≡ []) split whole)
       (subst (λ (l : List ℕ). fits_budget (cut_stream l).messages ≡ true) split fits)
@@ -198,7 +198,7 @@ module _ {G L S K : Type 0} (joins : JoinsPieces) (breaks : CutsNoMore) (m : Out
       let reads : x.reader ≡ sound.reader = let e = sound.read in cc in
       let writes : x.writer ≡ sound.writer = let e = sound.written in cc in
       served_soundly n x read wrote cause sound.bytes is tells (subst (λ (c : Ending). IsCause read wrote c) same is.caused)
-      (ap m.begins linked ∙ sound.told) (ap m.reader_faults reads ∙ sound.reads) (ap m.writer_faults writes ∙ sound.writes) sound.whole sound.fits sound.may_come
+      (ap (λ (x : L). (m.link x).begins) linked ∙ sound.told) (ap (λ (x : S). (m.reader x).faults) reads ∙ sound.reads) (ap (λ (x : K). (m.writer x).faults) writes ∙ sound.writes) sound.whole sound.fits sound.may_come
 
   pub sound_all : (path : List ℕ) (n : ℕ) (slots : List (Slot G L S K)) → EachIs m enabled output_at answer_at journal n slots → EachTells m path n slots
       → AllByRecursion (EndsWell m journal) (served_from journal n slots)

@@ -3,7 +3,8 @@ use Rattle.std.specs.Prelude.{◌≡◌, ◌⊎◌, ℕ, ◌≤◌, List, ◌∷
 use Rattle.std.specs.List.{AllByRecursion}
 use Rattle.am_base.specs.Outside.{HasRisen}
 use Rattle.am_base.specs.Stops.{input_limit}
-use Rattle.am_base.specs.Written.{Output, IsWhole}
+use Rattle.am_base.specs.Seen.{Given, Seen}
+use Rattle.am_base.specs.Written.{IsWhole}
 use Rattle.am_journal.specs.declared.event.Event.{Event}
 use Rattle.am_journal.specs.Journal.{journal_text}
 use Rattle.am_journal.specs.Report.{report_text}
@@ -13,9 +14,8 @@ use Rattle.acme_core.specs.Run.{enabled}
 use Rattle.acme_core.specs.Views.{view_of}
 use Rattle.am_serve.specs.Script.{IsRefused, asked_by_script, asked_events, is_scripted}
 use Rattle.am_serve.specs.declared.asked.Asked.{Asked}
-use Rattle.am_serve.specs.declared.scripting.LineFault.{LineFault}
+use Rattle.am_serve.specs.declared.fault.LineFault.{LineFault}
 use Rattle.am_slots.specs.Slots.{Outside}
-use Rattle.am_server.specs.Ends.{Given}
 use Rattle.am_server.specs.declared.served.Served.{Served}
 use Rattle.am_server.specs.declared.writing.ServeEnd.{ServeEnd}
 use Rattle.am_server.specs.declared.writing.ServeEnd.TheVariants as end
@@ -34,18 +34,18 @@ whole_text journal = journal_text journal ++ report_text (view_of journal)
 module _ {G L S K : Type 0} where
   -- neither the slot's gate nor its link has failed
   abbrev pub IsCalm : Outside G L S K → Served G L S K → Type 0
-  IsCalm m s = IfSome s.gate (λ g. m.gate_faults g ≡ 0) × IfSome s.link (λ l. m.link_faults l ≡ 0)
+  IsCalm m s = IfSome s.gate (λ g. (m.gate g).faults ≡ 0) × IfSome s.link (λ l. (m.link l).faults ≡ 0)
 
   -- The script is within its limit, no line of it is refused, and no count of faults rises.
-  pub record NothingFails (m : Outside G L S K) (clients : ℕ) (script : List ℕ) (i : Given) (o : Output) (journal : List Event) (served : List (Served G L S K)) : Type 0 where
+  pub record NothingFails (m : Outside G L S K) (clients : ℕ) (script : List ℕ) (i : Given) (o : Seen) (journal : List Event) (served : List (Served G L S K)) : Type 0 where
     pub fits : length script ≤ input_limit
     pub none_refused : NoneRefused clients script journal
-    pub input : ¬ HasRisen i.faults i.faults_now
-    pub output : ¬ HasRisen o.faults o.faults_now
+    pub input : ¬ HasRisen i.input.before.faults i.input.now.faults
+    pub output : ¬ HasRisen o.before.faults o.now.faults
     pub host : ¬ HasRisen i.host_faults i.host_faults_now
     pub slots : AllByRecursion (IsCalm m) served
 
   -- then all is done, and the whole text written, or memory runs out
-  abbrev pub IsComplete : Outside G L S K → ℕ → List ℕ → Given → Output → List Event → List (Served G L S K) → ServeEnd → Type 0
+  abbrev pub IsComplete : Outside G L S K → ℕ → List ℕ → Given → Seen → List Event → List (Served G L S K) → ServeEnd → Type 0
   IsComplete m clients script i o journal served e =
       NothingFails m clients script i o journal served → ((e ≡ end.Done) × IsWhole o (whole_text journal)) ⊎ (e ≡ end.NoMemory)

@@ -3,7 +3,8 @@ use Rattle.std.specs.Prelude.{◌≡◌, ◌⊎◌, ℕ, ◌<◌, ◌≤◌, Boo
 use Rattle.std.specs.List.{list_any, AllByRecursion}
 use Rattle.am_base.specs.Outside.{AreTold, HasRisen}
 use Rattle.am_base.specs.Stops.{input_limit}
-use Rattle.am_base.specs.Written.{Output, IsWhole, IsCut, IsPut}
+use Rattle.am_base.specs.Seen.{Given, Seen}
+use Rattle.am_base.specs.Written.{IsWhole, IsCut, IsPut}
 use Rattle.am_journal.specs.declared.ending.Ending.{Ending}
 use Rattle.am_journal.specs.declared.ending.Ending.TheVariants as ending
 use Rattle.am_journal.specs.declared.event.Event.{Event}
@@ -63,23 +64,23 @@ module _ {G L S K : Type 0} where
 
   -- The slots were served, and what came of it was written: whole, but where the output has failed. Without memory for the text nothing
   -- was written.
-  abbrev pub Writes : List (Slot G L S K) → ScriptEnd → Output → List ℕ → ServeEnd → Type 0
+  abbrev pub Writes : List (Slot G L S K) → ScriptEnd → Seen → List ℕ → ServeEnd → Type 0
   Writes slots done o text e =
       ((e ≡ end_at slots done false) × IsWhole o text)
       ⊎ ((e ≡ end_at slots done true) × IsCut o text)
-      ⊎ ((e ≡ end.NoMemory) × (o.held_now ≡ o.held))
+      ⊎ ((e ≡ end.NoMemory) × (o.now.bytes ≡ o.before.bytes))
 
 -- what an output got, nothing was done, and no slot is told of
-pub record IsIdle {G L S K : Type 0} (o : Output) (journal : List Event) (served : List (Served G L S K)) : Type 0 where
-  pub silent : o.held_now ≡ o.held
+pub record IsIdle {G L S K : Type 0} (o : Seen) (journal : List Event) (served : List (Served G L S K)) : Type 0 where
+  pub silent : o.now.bytes ≡ o.before.bytes
   pub empty : journal ≡ []
   pub none : served ≡ []
 
 -- a script that is too long is refused whole
-pub record IsTooLong {G L S K : Type 0} (o : Output) (journal : List Event) (served : List (Served G L S K)) (e : ServeEnd) : Type 0 where
+pub record IsTooLong {G L S K : Type 0} (o : Seen) (journal : List Event) (served : List (Served G L S K)) (e : ServeEnd) : Type 0 where
   pub empty : journal ≡ []
   pub none : served ≡ []
-  pub put : ((e ≡ end.Script) × IsPut o (refused_text 0 (codes "input"))) ⊎ ((e ≡ end.NoMemory) × (o.held_now ≡ o.held))
+  pub put : ((e ≡ end.Script) × IsPut o (refused_text 0 (codes "input"))) ⊎ ((e ≡ end.NoMemory) × (o.now.bytes ≡ o.before.bytes))
 
 -- all was done, and there was memory for all that no hang-up tells of
 abbrev pub AllDone : ServeEnd → Type 0
@@ -92,7 +93,7 @@ AllDone end.WriteFault = Unit {0}
 
 -- A script was served: its slots, the script's end, and one journal that has just their entries. Where all was done, each sink that has
 -- not failed got all replies. A connection with sound objects ends well.
-pub record Serves {G L S K : Type 0} (m : Outside G L S K) (path : List ℕ) (clients : ℕ) (lines : List ℕ) (before now : ℕ) (o : Output) (journal : List Event) (served : List (Served G L S K)) (e : ServeEnd) : Type 0 where
+pub record Serves {G L S K : Type 0} (m : Outside G L S K) (path : List ℕ) (clients : ℕ) (lines : List ℕ) (before now : ℕ) (o : Seen) (journal : List Event) (served : List (Served G L S K)) (e : ServeEnd) : Type 0 where
   pub slots : List (Slot G L S K)
   pub done : ScriptEnd
   pub count : length slots ≡ clients
@@ -107,26 +108,14 @@ pub record Serves {G L S K : Type 0} (m : Outside G L S K) (path : List ℕ) (cl
   pub sound : AllByRecursion (EndsWell m journal) served
 
 -- what came of a script of lawful length: it was served, or there was no memory to begin
-abbrev pub ServesLines : {G L S K : Type 0} → Outside G L S K → List ℕ → ℕ → List ℕ → ℕ → ℕ → Output → List Event → List (Served G L S K) → ServeEnd → Type 0
+abbrev pub ServesLines : {G L S K : Type 0} → Outside G L S K → List ℕ → ℕ → List ℕ → ℕ → ℕ → Seen → List Event → List (Served G L S K) → ServeEnd → Type 0
 ServesLines m path clients lines before now o journal served e =
     Serves m path clients lines before now o journal served e ⊎ ((e ≡ end.NoMemory) × IsIdle o journal served)
 
--- what the script tells, and the counts of faults of the input and the host, before and after
-pub record Given : Type 0 where
-  pub told : Option (List ℕ)
-  pub faults : ℕ
-  pub faults_now : ℕ
-  pub host_faults : ℕ
-  pub host_faults_now : ℕ
-
-abbrev pub given : Option (List ℕ) → ℕ → ℕ → ℕ → ℕ → Given
-given told faults faults_now host_faults host_faults_now =
-    record { told = told; faults = faults; faults_now = faults_now; host_faults = host_faults; host_faults_now = host_faults_now }
-
 -- How serving ends: the input could not be read, or was too long, or there was no memory for it, or its lines were served.
-abbrev pub SaysServe : {G L S K : Type 0} → Outside G L S K → List ℕ → ℕ → Given → Output → List Event → List (Served G L S K) → ServeEnd → Type 0
+abbrev pub SaysServe : {G L S K : Type 0} → Outside G L S K → List ℕ → ℕ → Given → Seen → List Event → List (Served G L S K) → ServeEnd → Type 0
 SaysServe m path clients i o journal served e =
-    ((e ≡ end.ReadFault) × HasRisen i.faults i.faults_now × IsIdle o journal served)
-    ⊎ (IfSome i.told (λ bytes. input_limit < length bytes) × IsTooLong o journal served e)
+    ((e ≡ end.ReadFault) × HasRisen i.input.before.faults i.input.now.faults × IsIdle o journal served)
+    ⊎ (IfSome i.input.before.bytes (λ bytes. input_limit < length bytes) × IsTooLong o journal served e)
     ⊎ ((e ≡ end.NoMemory) × IsIdle o journal served)
-    ⊎ ((lines : List ℕ) × AreTold i.told lines × (length lines ≤ input_limit) × Serves m path clients lines i.host_faults i.host_faults_now o journal served e)
+    ⊎ ((lines : List ℕ) × AreTold i.input.before.bytes lines × (length lines ≤ input_limit) × Serves m path clients lines i.host_faults i.host_faults_now o journal served e)

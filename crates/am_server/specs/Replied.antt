@@ -13,5 +13,5 @@ module _ {G L S K : Type 0} where
   -- Where the connection didn't end for want of memory, and its sink has not failed, that holds all replies that the journal makes to it.
   abbrev pub GotAll : Outside G L S K → List Event → Served G L S K → Type 0
   GotAll m journal s =
-      (why : Ending) (sink : K) → s.end ≡ served.Ended why → why ≢ ending.NoMemory → s.writer ≡ Some sink → m.writer_faults sink ≡ 0
-      → AreTold (m.held sink) (replies journal s.slot)
+      (why : Ending) (sink : K) → s.end ≡ served.Ended why → why ≢ ending.NoMemory → s.writer ≡ Some sink → (m.writer sink).faults ≡ 0
+      → AreTold (m.writer sink).bytes (replies journal s.slot)

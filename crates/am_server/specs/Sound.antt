@@ -39,9 +39,9 @@ module _ {G L S K : Type 0} where
     pub writer : K
     pub written : s.writer ≡ Some writer
     pub bytes : List ℕ
-    pub told : m.begins link ≡ Some bytes
-    pub reads : m.reader_faults reader ≡ 0
-    pub writes : m.writer_faults writer ≡ 0
+    pub told : (m.link link).begins ≡ Some bytes
+    pub reads : (m.reader reader).faults ≡ 0
+    pub writes : (m.writer writer).faults ≡ 0
     pub whole : (cut_stream bytes).rest ≡ []
     pub fits : fits_budget (cut_stream bytes).messages ≡ true
     pub may_come : MayCome journal s.slot (cut_stream bytes).messages

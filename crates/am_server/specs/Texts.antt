@@ -4,20 +4,13 @@ use Rattle.std.specs.Fmt.{decimal}
 use Rattle.am_journal.specs.declared.event.Event.{Event}
 use Rattle.am_journal.specs.Journal.{journal_text}
 use Rattle.am_journal.specs.Report.{report_text}
-use Rattle.am_journal.specs.Texts.{refused_text, word_of}
-use Rattle.am_serve.specs.declared.scripting.LineFault.{LineFault}
-use Rattle.am_serve.specs.declared.scripting.LineFault.TheVariants as fault
+use Rattle.am_journal.specs.Texts.{refused_text}
+use Rattle.am_serve.specs.Faults.{fault_word}
 use Rattle.am_serve.specs.declared.scripting.ScriptEnd.{ScriptEnd}
 use Rattle.am_serve.specs.declared.scripting.ScriptEnd.TheVariants as script
 use Rattle.acme_core.specs.Views.{view_of}
 use Rattle.am_slots.specs.declared.slot.Slot.{Slot}
 use Rattle.am_slots.specs.declared.slot.Slot.TheVariants as slot
-
--- the word for a line of a script that is refused
-abbrev pub fault_word : LineFault → List ℕ
-fault_word fault.Line = codes "line"
-fault_word fault.Alone = codes "alone"
-fault_word (fault.NotEnabled why) = word_of why
 
 -- the line `refused`, where a line of the script is
 abbrev pub refusal_text : ScriptEnd → List ℕ

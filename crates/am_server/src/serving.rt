@@ -1,16 +1,16 @@
 //! Serving connections, with a script beside them.
 
 ghost use Rattle.std.specs.Prelude.{◌≡◌, ◌≤◌};
-ghost use Rattle.am_base.specs.Written.{seen};
+ghost use Rattle.am_base.specs.Seen.{given, seen};
 ghost use Rattle.acme_core.specs.Run.{IsPossible};
 ghost use Rattle.am_slots.specs.Slots.{outside};
-ghost use Rattle.am_server.specs.Ends.{ServesLines, IsTooLong, SaysServe, given};
+ghost use Rattle.am_server.specs.Ends.{ServesLines, IsTooLong, SaysServe};
 
 use crate::writing::{ServeEnd, Serving, finish, idle};
 use am_base::{Gate, Host, INPUT_LIMIT, Link, ReadStop, Sink, Source, read_to_end, write_all};
 use am_desk::Desk;
 use am_journal::refused_line;
-use am_slots::serve_slots;
+use am_slots::{Service, Site, serve_slots};
 use am_text::NoMemory;
 use core_laws::ended_connections_get_nothing_more;
 use ninep_cut::pieces_are_joined;
@@ -30,29 +30,27 @@ pub type HostServing<H> = Serving<
 fn serve_lines<O: Sink, H: Host, R: Threads + Wait + Sync>(
     rt: &R,
     alloc: Global,
-    path: &str,
-    clients: u32,
-    script: &[u8],
+    service: &Service<'_>,
     output: &mut O,
     host: &mut H,
 ) -> HostServing<H>
-    requires clients { (1 ≤ clients) × (clients ≤ 64) }
-    ensures serves { ServesLines (outside H.G.name H.G.faults H.G.L.begins H.G.L.faults H.G.L.R.left H.G.L.R.faults H.G.L.W.held H.G.L.W.faults)
-        path.now clients script.now (H.faults host.old) (H.faults host.new)
-        (seen (O.held output.old) (O.held output.new) (O.faults output.old) (O.faults output.new))
+    requires clients { (1 ≤ service.now.clients) × (service.now.clients ≤ 64) }
+    ensures serves { ServesLines (outside H.G.told H.G.L.told H.G.L.R.told H.G.L.W.told)
+        service.now.path.now service.now.clients service.now.script.now (H.faults host.old) (H.faults host.new)
+        (seen (O.told output.old) (O.told output.new))
         result.journal result.served result.end }
     ensures possible { IsPossible result.journal }
 {
-    let Ok(served) = Vec::with_capacity(alloc, clients as usize) else {
+    let Ok(served) = Vec::with_capacity(alloc, service.clients as usize) else {
         return idle(alloc, ServeEnd::NoMemory);
     };
-    let Ok((desk, mut seat)) = Desk::new(alloc, 2 * u64::from(clients) + 1) else {
+    let Ok((desk, mut seat)) = Desk::new(alloc, 2 * u64::from(service.clients) + 1) else {
         return idle(alloc, ServeEnd::NoMemory);
     };
     // An ended connection is replied nothing more, and its messages don't depend on the pieces that were read.
     ended_connections_get_nothing_more();
     pieces_are_joined();
-    match serve_slots(rt, alloc, &desk, &mut seat, host, path, clients, script) {
+    match serve_slots(rt, alloc, &desk, &mut seat, host, service) {
         Ok((slots, end)) => finish(alloc, desk.close(seat), slots, end, served, output),
         Err(NoMemory) => idle(alloc, ServeEnd::NoMemory),
     }
@@ -61,7 +59,7 @@ fn serve_lines<O: Sink, H: Host, R: Threads + Wait + Sync>(
 // Refuses a script that is too long.
 fn refuse_input<O: Sink, G, L, S, K>(alloc: Global, output: &mut O) -> Serving<G, L, S, K>
     ensures long { IsTooLong
-        (seen (O.held output.old) (O.held output.new) (O.faults output.old) (O.faults output.new)) result.journal result.served result.end }
+        (seen (O.told output.old) (O.told output.new)) result.journal result.served result.end }
     ensures possible { IsPossible result.journal }
 {
     match refused_line(alloc, 0, b"input") {
@@ -73,27 +71,33 @@ fn refuse_input<O: Sink, G, L, S, K>(alloc: Global, output: &mut O) -> Serving<G
     }
 }
 
-/// Reads a script to its end, binds the gates of a path's slots, serves a connection of each at once, and does the script beside them.
+/// Reads a script to its end, binds the gates of a site's slots, serves a connection of each at once, and does the script beside them.
 /// Writes the journal and the report once all have ended.
 pub fn serve<I: Source, O: Sink, H: Host, R: Threads + Wait + Sync>(
     rt: &R,
     alloc: Global,
-    path: &str,
-    clients: u32,
+    site: &Site<'_>,
     input: &mut I,
     output: &mut O,
     host: &mut H,
 ) -> HostServing<H>
-    requires clients { (1 ≤ clients) × (clients ≤ 64) }
-    ensures says { SaysServe (outside H.G.name H.G.faults H.G.L.begins H.G.L.faults H.G.L.R.left H.G.L.R.faults H.G.L.W.held H.G.L.W.faults)
-        path.now clients (given (I.left input.old) (I.faults input.old) (I.faults input.new) (H.faults host.old) (H.faults host.new))
-        (seen (O.held output.old) (O.held output.new) (O.faults output.old) (O.faults output.new))
+    requires clients { (1 ≤ site.now.clients) × (site.now.clients ≤ 64) }
+    ensures says { SaysServe (outside H.G.told H.G.L.told H.G.L.R.told H.G.L.W.told)
+        site.now.path.now site.now.clients (given (I.told input.old) (I.told input.new) (H.faults host.old) (H.faults host.new))
+        (seen (O.told output.old) (O.told output.new))
         result.journal result.served result.end }
     // What each event of the journal does could be done at its place.
     ensures possible { IsPossible result.journal }
 {
     match read_to_end(alloc, input, INPUT_LIMIT) {
-        Ok(script) => serve_lines(rt, alloc, path, clients, script.as_slice(), output, host),
+        Ok(script) => {
+            let service = Service {
+                path: site.path,
+                clients: site.clients,
+                script: script.as_slice(),
+            };
+            serve_lines(rt, alloc, &service, output, host)
+        }
         Err(ReadStop::TooLong) => refuse_input(alloc, output),
         Err(ReadStop::ReadFault) => idle(alloc, ServeEnd::ReadFault),
         Err(ReadStop::NoMemory) => idle(alloc, ServeEnd::NoMemory),

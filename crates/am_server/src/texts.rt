@@ -7,11 +7,11 @@ ghost use Rattle.am_journal.specs.Lawful.{IsLawful};
 ghost use Rattle.am_journal.specs.Report.{report_text};
 ghost use Rattle.acme_core.specs.Run.{settled};
 ghost use Rattle.acme_core.specs.Views.{view_of};
-ghost use Rattle.am_server.specs.Texts.{has_failed, host_text, fault_word, refusal_text, served_text};
+ghost use Rattle.am_server.specs.Texts.{has_failed, host_text, refusal_text, served_text};
 
 use acme_core::{Core, Event};
-use am_journal::{refused_line, report, word, write_line};
-use am_serve::{LineFault, ScriptEnd};
+use am_journal::{refused_line, report, write_line};
+use am_serve::{ScriptEnd, fault_word};
 use am_slots::Slot;
 use am_text::{Bytes, Items, NoMemory, decimal};
 use std::alloc::Global;
@@ -63,16 +63,6 @@ fn put_hosts<G, L, S, K>(
         number += 1;
     }
     Ok(())
-}
-
-fn fault_word(why: LineFault) -> &'static [u8]
-    ensures { result.now ≡ fault_word why }
-{
-    match why {
-        LineFault::Line => b"line",
-        LineFault::Alone => b"alone",
-        LineFault::NotEnabled(why) => word(why),
-    }
 }
 
 fn put_refusal(alloc: Global, text: &mut Bytes, end: ScriptEnd) -> Result<(), NoMemory>

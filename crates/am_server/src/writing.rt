@@ -2,7 +2,7 @@
 
 ghost use Rattle.std.specs.Prelude.{◌≡◌, ◌<◌, ◌≤◌, ◌^◌, [], length, vec_capacity};
 ghost use Rattle.std.specs.List.{AllByRecursion, list_any};
-ghost use Rattle.am_base.specs.Written.{seen};
+ghost use Rattle.am_base.specs.Seen.{seen};
 ghost use Rattle.am_journal.specs.Lawful.{IsLawful};
 ghost use Rattle.acme_core.specs.Run.{settled, IsPossible};
 ghost use Rattle.am_server.specs.Ends.{ended_otherwise, wants_untold, end_done, end_at, Writes};
@@ -132,7 +132,7 @@ fn write_served<G, L, S, K, O: Sink>(
     requires lawful { AllByRecursion IsLawful core.now.journal }
     requires few { length slots.now < 2 ^ 32 }
     ensures { Writes slots.now script
-        (seen (O.held output.old) (O.held output.new) (O.faults output.old) (O.faults output.new))
+        (seen (O.told output.old) (O.told output.new))
         (served_text core.now.journal slots.now script) result }
 {
     match whole_text(alloc, core, slots, script) {
@@ -176,7 +176,7 @@ pub(crate) fn finish<G: Drop, L: Drop, S: Drop, K: Drop, O: Sink>(
     ensures possible { IsPossible result.journal }
     ensures served { result.served ≡ served_from core.journal 0 slots }
     ensures writes { Writes slots script
-        (seen (O.held output.old) (O.held output.new) (O.faults output.old) (O.faults output.new))
+        (seen (O.told output.old) (O.told output.new))
         (served_text core.journal slots script) result.end }
 {
     let end = write_served(alloc, &core, slots.as_slice(), script, output);

@@ -108,9 +108,9 @@ module _ {G L S K : Type 0} (o : Outside G L S K) (enabled : Rule) (unsent : Lis
       let P : List (List (ℕ × Event)) → Type 0 = λ l. NoneHas p l in
       let here : (conn == conn) ≡ true = eq-eqb conn conn refl in
       let hang : (why : Ending) → p (event.Hang conn why) ≡ false = λ why. h (event.Hang conn why) here in
-      let reads = reads_fail enabled answer conn journal (o.begins x.link) (o.left x.reader) read has.reads has.reading p
+      let reads = reads_fail enabled answer conn journal (o.link x.link).begins (o.reader x.reader).bytes read has.reads has.reading p
       (h (event.Dial conn) here) (λ msg. h (event.Msg conn msg) here) (λ why e. hang why) in
-      let writes = writes_fail unsent conn journal wrote (o.held x.writer) has.writes has.writing p (h (event.Took conn) here) hang in
+      let writes = writes_fail unsent conn journal wrote (o.writer x.writer).bytes has.writes has.writing p (h (event.Took conn) here) hang in
       subst P (sym has.are) (reads, (writes, tt))
 
   none_of_slots : (p : Event → Bool) (conn : ℕ) (slots : List (Slot G L S K)) (lists : List (List (ℕ × Event)))
@@ -151,7 +151,7 @@ module _ {G L S K : Type 0} (o : Outside G L S K) (enabled : Rule) (unsent : Lis
         by_cases (slot.Served x read wrote) has =
             let all : mine ∷ own ≡ (mine ∷ before) ++ has.reads ∷ has.writes ∷ after = ap (λ l. mine ∷ l) are ∙ ap (λ l. (mine ∷ before) ++ (l ++ after)) has.are in
             served journal (mine ∷ own) order conn (mine ∷ before) after has.reads has.writes all (scripted_fails conn mine scripted, nb) na
-            enabled unsent answer (o.begins x.link) (o.left x.reader) wrote (o.held x.writer) has.writing laws played stand each_once low has.ended read has.reading
+            enabled unsent answer (o.link x.link).begins (o.reader x.reader).bytes wrote (o.writer x.writer).bytes has.writing laws played stand each_once low has.ended read has.reading
 
     -- slots from this connection on
     each_is : (conn : ℕ) (slots : List (Slot G L S K)) (before lists : List (List (ℕ × Event))) → own ≡ before ++ lists → conn + length slots ≤ 64

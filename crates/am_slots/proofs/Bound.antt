@@ -1,5 +1,6 @@
 -- Slots whose gates are tried one after another.
 use Rattle.std.proofs.Common.{◌≡◌, inl, inr, ℕ, ◌+◌, ◌≤◌, List, [], ◌∷◌, ◌++◌, length, length-append, Option, sym, ap, subst, ◌∙◌, arith}
+use Rattle.am_base.specs.Outside.{GateTold}
 use Rattle.am_slots.specs.Binding.{AreWaiting, HaveNames}
 use Rattle.am_slots.specs.Slots.{HasRisenBy, HasName, IsWaiting, unbound}
 use Rattle.am_slots.specs.declared.slot.Slot.{Slot}
@@ -14,18 +15,18 @@ risen_more n m a b c (inl p) (inr q) le = inr q
 risen_more n m a b c (inr p) q le = inr (omega (arith, p, le))
 
 module _ {G L S K : Type 0} where
-  pub waiting-append : (faults : G → ℕ) (xs ys : List (Slot G L S K)) → AreWaiting faults xs → AreWaiting faults ys → AreWaiting faults (xs ++ ys)
-  waiting-append faults [] ys p q = q
-  waiting-append faults (x ∷ xs) ys p q = (p.0, waiting-append faults xs ys p.1 q)
+  pub waiting-append : (told : G → GateTold) (xs ys : List (Slot G L S K)) → AreWaiting told xs → AreWaiting told ys → AreWaiting told (xs ++ ys)
+  waiting-append told [] ys p q = q
+  waiting-append told (x ∷ xs) ys p q = (p.0, waiting-append told xs ys p.1 q)
 
-  pub waiting_front : (faults : G → ℕ) (xs ys : List (Slot G L S K)) → AreWaiting faults (xs ++ ys) → AreWaiting faults xs × AreWaiting faults ys
-  waiting_front faults [] ys p = (tt, p)
-  waiting_front faults (x ∷ xs) ys p = let h = waiting_front faults xs ys p.1 in ((p.0, h.0), h.1)
+  pub waiting_front : (told : G → GateTold) (xs ys : List (Slot G L S K)) → AreWaiting told (xs ++ ys) → AreWaiting told xs × AreWaiting told ys
+  waiting_front told [] ys p = (tt, p)
+  waiting_front told (x ∷ xs) ys p = let h = waiting_front told xs ys p.1 in ((p.0, h.0), h.1)
 
-  pub named-append : (name : G → Option (List ℕ × ℕ)) (path : List ℕ) (conn n : ℕ) (xs ys : List (Slot G L S K)) → n ≡ conn + length xs → HaveNames name path conn xs → HaveNames name path n ys
-      → HaveNames name path conn (xs ++ ys)
-  named-append name path conn n [] ys e p q = let P : ℕ → Type 0 = λ k. HaveNames name path k ys in subst P (let h : n ≡ conn = omega (arith, e) in h) q
-  named-append name path conn n (x ∷ xs) ys e p q = (p.0, named-append name path (conn + 1) n xs ys (omega (arith, e)) p.1 q)
+  pub named-append : (told : G → GateTold) (path : List ℕ) (conn n : ℕ) (xs ys : List (Slot G L S K)) → n ≡ conn + length xs → HaveNames told path conn xs → HaveNames told path n ys
+      → HaveNames told path conn (xs ++ ys)
+  named-append told path conn n [] ys e p q = let P : ℕ → Type 0 = λ k. HaveNames told path k ys in subst P (let h : n ≡ conn = omega (arith, e) in h) q
+  named-append told path conn n (x ∷ xs) ys e p q = (p.0, named-append told path (conn + 1) n xs ys (omega (arith, e)) p.1 q)
 
   pub unbound-cons : (s : Slot G L S K) (slots : List (Slot G L S K)) → unbound (s ∷ slots) ≡ unbound (s ∷ []) + unbound slots
   unbound-cons slot.Unbound slots = omega arith
@@ -44,15 +45,15 @@ module _ {G L S K : Type 0} where
     pub count_next : length now ≡ length slots + 1
     count_next = omega (arith, ap length e, length-append slots (s ∷ []))
 
-    pub waiting_next : (faults : G → ℕ) → AreWaiting faults slots → IsWaiting faults s → AreWaiting faults now
-    waiting_next faults p q =
-        let P : List (Slot G L S K) → Type 0 = λ l. AreWaiting faults l in
-        subst P (sym e) (waiting-append faults slots (s ∷ []) p (q, tt))
+    pub waiting_next : (told : G → GateTold) → AreWaiting told slots → IsWaiting told s → AreWaiting told now
+    waiting_next told p q =
+        let P : List (Slot G L S K) → Type 0 = λ l. AreWaiting told l in
+        subst P (sym e) (waiting-append told slots (s ∷ []) p (q, tt))
 
-    pub named_next : (name : G → Option (List ℕ × ℕ)) (path : List ℕ) (n : ℕ) → length slots ≡ n → HaveNames name path 0 slots → HasName name path n s → HaveNames name path 0 now
-    named_next name path n count p q =
-        let P : List (Slot G L S K) → Type 0 = λ l. HaveNames name path 0 l in
-        subst P (sym e) (named-append name path 0 n slots (s ∷ []) (omega (arith, count)) p (q, tt))
+    pub named_next : (told : G → GateTold) (path : List ℕ) (n : ℕ) → length slots ≡ n → HaveNames told path 0 slots → HasName told path n s → HaveNames told path 0 now
+    named_next told path n count p q =
+        let P : List (Slot G L S K) → Type 0 = λ l. HaveNames told path 0 l in
+        subst P (sym e) (named-append told path 0 n slots (s ∷ []) (omega (arith, count)) p (q, tt))
 
     pub risen_next : (a b c : ℕ) → HasRisenBy (unbound slots) a b → HasRisenBy (unbound (s ∷ [])) b c → b ≤ c → HasRisenBy (unbound now) a c
     risen_next a b c p q le =

@@ -19,7 +19,8 @@ use Rattle.am_serve.specs.Writing.{AreWritten, AreTakings}
 use Rattle.am_serve.specs.declared.writing.WriteEnd.{WriteEnd}
 use Rattle.am_serve.specs.declared.writing.WriteEnd.TheVariants as end
 use Rattle.am_slots.specs.Sides.{WasRefused, IsHangUp, HangsAfterReading, HangsAfterWriting, Reads, Writes, Serves}
-use Rattle.am_slots.specs.Working.{Read, DidRead, DidWrite, HasDialled, IsFresh}
+use Rattle.am_base.specs.Seen.{Seen}
+use Rattle.am_slots.specs.Working.{DidRead, DidWrite, HasDialled, IsFresh}
 use Rattle.am_serve.proofs.Gaining.{stands_lower}
 use Rattle.am_serve.proofs.HangUps.{has_hang_kept}
 use Rattle.am_slots.proofs.Longer.{reads_later, writes_later}
@@ -100,10 +101,10 @@ written_entries conn v w end.NoMemory a = (a.0, hang_up a.1 conn ending.NoMemory
 -- ---- both sides
 
 module _ (enabled : Rule) (unsent : List Event → ℕ → List ℕ) (answer : Answers) (conn : ℕ) where
-  read_side : (v w : Known) (s : Read) (read : Option Ending) (number : ℕ) → DidRead enabled answer conn v w s read → Reads enabled answer conn w.seen s.first s.now read ((number, Dial conn) ∷ gained v w)
+  read_side : (v w : Known) (s : Seen) (read : Option Ending) (number : ℕ) → DidRead enabled answer conn v w s read → Reads enabled answer conn w.seen s.before.bytes s.now.bytes read ((number, Dial conn) ∷ gained v w)
   read_side v w s read number d =
       let e = read_entries conn v w read d.entries in
-      let P : List (List ℕ) → Type 0 = λ l. GivesOf enabled answer conn w.seen l s.first s.now read in
+      let P : List (List ℕ) → Type 0 = λ l. GivesOf enabled answer conn w.seen l s.before.bytes s.now.bytes read in
       record {
         number = number;
         messages = e.0;
@@ -114,13 +115,13 @@ module _ (enabled : Rule) (unsent : List Event → ℕ → List ℕ) (answer : A
         gives = subst P e.5 d.gives;
       }
 
-  write_side : (v w : Known) (s : Read) (wrote : WriteEnd) → AreTold s.first [] → DidWrite unsent conn v w s wrote → Writes unsent conn w.seen wrote s.now (gained v w)
+  write_side : (v w : Known) (s : Seen) (wrote : WriteEnd) → AreTold s.before.bytes [] → DidWrite unsent conn v w s wrote → Writes unsent conn w.seen wrote s.now.bytes (gained v w)
   write_side v w s wrote empty d =
       let e = written_entries conn v w wrote d.entries in
       record {
         takings = e.0;
         hang = e.1;
-        first = s.first;
+        first = s.before.bytes;
         are = e.4;
         are_takings = e.2;
         hangs = e.3;
@@ -140,7 +141,7 @@ module _ (enabled : Rule) (unsent : List Event → ℕ → List ℕ) (answer : A
       ∙ ap (λ (n : List (ℕ × Event)). F ((number, Dial conn) ∷ xs) [] n wrote.ended) c
       ∙ ap (λ (f : List (List (ℕ × Event))). F ((number, Dial conn) ∷ xs) [] ys f) d
 
-  module _ (v first second read wrote u : Known) (s t : Read) (told : Option Ending) (end : WriteEnd)
+  module _ (v first second read wrote u : Known) (s t : Seen) (told : Option Ending) (end : WriteEnd)
       (h : HasDialled conn v) (left : first ≡ without_parts 1 v) (new : second ≡ new_known 1 v)
       (d : DidRead enabled answer conn first read s told) (e : DidWrite unsent conn second wrote t end) (k : TakesIn read wrote u) where
     pub served_parts : v.parts ≡ 2 → u.parts ≡ 2
@@ -162,16 +163,16 @@ module _ (enabled : Rule) (unsent : List Event → ℕ → List ℕ) (answer : A
         ∙ all_lists v read wrote h.number (gained first read) (gained second wrote)
         reads_mine (d.gains.ended ∙ ap (λ (x : Known). x.ended) left ∙ h.ended) writes_mine (e.gains.ended ∙ ap (λ (x : Known). x.ended) new)
 
-    pub served : AreTold t.first [] → Serves enabled unsent answer conn u.seen s.first s.now told end t.now (lists_of u)
+    pub served : AreTold t.before.bytes [] → Serves enabled unsent answer conn u.seen s.before.bytes s.now.bytes told end t.now.bytes (lists_of u)
     served empty =
         let now : List Event = k.0 in
         let at : u.seen ≡ now = ap (λ (x : Known). x.seen) k.3 in
-        let P : List Event → Type 0 = λ l. Serves enabled unsent answer conn l s.first s.now told end t.now (lists_of u) in
+        let P : List Event → Type 0 = λ l. Serves enabled unsent answer conn l s.before.bytes s.now.bytes told end t.now.bytes (lists_of u) in
         subst P (sym at) (record {
           reads = (h.number, Dial conn) ∷ gained first read;
           writes = gained second wrote;
           are = lists;
-          reading = reads_later enabled answer conn read.seen now s.first s.now told _ k.1 (read_side first read s told h.number d);
-          writing = writes_later unsent conn wrote.seen now end t.now _ k.2 (write_side second wrote t end empty e);
+          reading = reads_later enabled answer conn read.seen now s.before.bytes s.now.bytes told _ k.1 (read_side first read s told h.number d);
+          writing = writes_later unsent conn wrote.seen now end t.now.bytes _ k.2 (write_side second wrote t end empty e);
           ended = has_hang_kept read.seen now conn k.1 d.ended;
         })

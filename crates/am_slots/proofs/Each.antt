@@ -1,5 +1,6 @@
 -- Workers whose slots were served, one after another.
 use Rattle.std.proofs.Common.{◌≡◌, ℕ, suc, ◌+◌, ◌*◌, ◌<◌, List, [], ◌∷◌, ◌++◌, length, take, drop, All, get_or, take_all, drop_of_length-le, append-nil, refl, sym, ap, subst, ◌∙◌, arith}
+use Rattle.am_base.specs.Outside.{GateTold}
 use Rattle.std.specs.List.{flat_map, AllByRecursion}
 use Rattle.std.proofs.lemmas.List.Elements.{All-nil, All-cons}
 use Rattle.turn_lock.specs.Journal.{total}
@@ -24,13 +25,13 @@ whole_written n old lent new e same count =
     ∙ take_all n new (omega (arith, e, f))
 
 -- a worker of those that are ready
-pub ready_at : {T G L S K : Type 0} (Fits : T → Type 0) (known : T → Known) (faults : G → ℕ) (workers : List (Worker T G L S K)) (i : ℕ) (x : Worker T G L S K)
-    → All (IsReady Fits known faults) workers → i < length workers → x ≡ get_or workers i x → IsReady Fits known faults x
-ready_at {T} {G} {L} {S} {K} Fits known faults workers i x h lt e = let P : Worker T G L S K → Type 0 = λ w. IsReady Fits known faults w in subst P (sym e) (h i x lt)
+pub ready_at : {T G L S K : Type 0} (Fits : T → Type 0) (known : T → Known) (told : G → GateTold) (workers : List (Worker T G L S K)) (i : ℕ) (x : Worker T G L S K)
+    → All (IsReady Fits known told) workers → i < length workers → x ≡ get_or workers i x → IsReady Fits known told x
+ready_at {T} {G} {L} {S} {K} Fits known told workers i x h lt e = let P : Worker T G L S K → Type 0 = λ w. IsReady Fits known told w in subst P (sym e) (h i x lt)
 
-pub ready_same : {T G L S K : Type 0} (Fits : T → Type 0) (known : T → Known) (faults : G → ℕ) (workers now : List (Worker T G L S K)) → now ≡ workers
-    → All (IsReady Fits known faults) workers → All (IsReady Fits known faults) now
-ready_same {T} {G} {L} {S} {K} Fits known faults workers now e h = let P : List (Worker T G L S K) → Type 0 = λ l. All (IsReady Fits known faults) l in subst P (sym e) h
+pub ready_same : {T G L S K : Type 0} (Fits : T → Type 0) (known : T → Known) (told : G → GateTold) (workers now : List (Worker T G L S K)) → now ≡ workers
+    → All (IsReady Fits known told) workers → All (IsReady Fits known told) now
+ready_same {T} {G} {L} {S} {K} Fits known told workers now e h = let P : List (Worker T G L S K) → Type 0 = λ l. All (IsReady Fits known told) l in subst P (sym e) h
 
 module _ {T G L S K : Type 0} (Fits : T → Type 0) (known : T → Known) (o : Outside G L S K) (enabled : Rule) (unsent : List Event → ℕ → List ℕ) (answer : Answers) where
   -- what a call with a worker at its place says of that place
@@ -87,7 +88,7 @@ module _ {T G L S K : Type 0} (Fits : T → Type 0) (known : T → Known) (o : O
     has_on seen (conn + 1) xs ys h.1 a.1,
   )
 
-  tells_on : (path : List ℕ) (conn : ℕ) (xs ys : List (Worker T G L S K)) → WorkOn conn xs ys → HaveNames o.name path conn (slots_of xs) → EachTells o path conn (slots_of ys)
+  tells_on : (path : List ℕ) (conn : ℕ) (xs ys : List (Worker T G L S K)) → WorkOn conn xs ys → HaveNames o.gate path conn (slots_of xs) → EachTells o path conn (slots_of ys)
   tells_on path conn [] [] h n = tt
   tells_on path conn [] (y ∷ ys) h n = absurd h
   tells_on path conn (x ∷ xs) [] h n = absurd h
@@ -121,7 +122,7 @@ module _ {T G L S K : Type 0} (Fits : T → Type 0) (known : T → Known) (o : O
     pub each_has : (seen : List Event) → AllByRecursion (λ w. IsPrefix (known w.seat).seen seen) ys → EachHas o enabled unsent answer 0 seen (slots_of ys) (flat_map (λ w. lists_of (known w.seat)) ys)
     each_has seen a = has_on seen 0 xs ys all_work a
 
-    pub each_tells : (path : List ℕ) → HaveNames o.name path 0 (slots_of xs) → EachTells o path 0 (slots_of ys)
+    pub each_tells : (path : List ℕ) → HaveNames o.gate path 0 (slots_of xs) → EachTells o path 0 (slots_of ys)
     each_tells path n = tells_on path 0 xs ys all_work n
 
     pub each_unbound : unbound (slots_of ys) ≡ unbound (slots_of xs)

@@ -1,5 +1,6 @@
 -- Seats that are split off for slots, and taken in again.
 use Rattle.std.proofs.Common.{◌≡◌, ℕ, ◌+◌, ◌-◌, ◌*◌, ◌<◌, List, [], ◌∷◌, ◌++◌, length, length-append, map, map-id, get_or, All, refl, sym, ap, subst, ◌∙◌, append_assoc, arith}
+use Rattle.am_base.specs.Outside.{GateTold}
 use Rattle.std.specs.List.{flat_map, AllByRecursion}
 use Rattle.std.specs.Vec.Iter.{into_iter_items, into_iter_len, into_iter_steps}
 use Rattle.std.proofs.lemmas.Iterator.{YieldsList}
@@ -53,17 +54,17 @@ new_fresh n v w e = record {
 
 module _ {T G L S K : Type 0} (Fits : T → Type 0) (known : T → Known) where
   abbrev pub AreReady : List (Slot G L S K) → List (Worker T G L S K) → Type 0
-  AreReady slots workers = (faults : G → ℕ) → AreWaiting faults slots → All (IsReady Fits known faults) workers
+  AreReady slots workers = (told : G → GateTold) → AreWaiting told slots → All (IsReady Fits known told) workers
 
   pub ready_none : AreReady [] []
-  ready_none = λ faults waiting. All-nil (IsReady Fits known faults)
+  ready_none = λ told waiting. All-nil (IsReady Fits known told)
 
   pub ready_more : (slots : List (Slot G L S K)) (workers : List (Worker T G L S K)) (s : Slot G L S K) (seat : T) (v : Known)
       → AreReady slots workers → Fits seat → known seat ≡ new_known 2 v → AreReady (slots ++ s ∷ []) (workers ++ record { seat = seat; slot = s } ∷ [])
-  ready_more slots workers s seat v h fit new = λ faults waiting.
-      let both = waiting_front faults slots (s ∷ []) waiting in
-      All-append (IsReady Fits known faults) workers (record { seat = seat; slot = s } ∷ []) (h faults both.0)
-      (All-cons (IsReady Fits known faults) (record { seat = seat; slot = s }) [] (record { fits = fit; fresh = new_fresh 2 v (known seat) new; waits = both.1.0 }) (All-nil (IsReady Fits known faults)))
+  ready_more slots workers s seat v h fit new = λ told waiting.
+      let both = waiting_front told slots (s ∷ []) waiting in
+      All-append (IsReady Fits known told) workers (record { seat = seat; slot = s } ∷ []) (h told both.0)
+      (All-cons (IsReady Fits known told) (record { seat = seat; slot = s }) [] (record { fits = fit; fresh = new_fresh 2 v (known seat) new; waits = both.1.0 }) (All-nil (IsReady Fits known told)))
 
   -- one seat more was split off
   module _ (slots : List (Slot G L S K)) (workers now : List (Worker T G L S K)) (s : Slot G L S K) (seat : T) (e : now ≡ workers ++ record { seat = seat; slot = s } ∷ []) where

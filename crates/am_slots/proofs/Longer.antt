@@ -73,4 +73,4 @@ module _ (enabled : Rule) (unsent : List Event → ℕ → List ℕ) (answer : A
   has_later o xs ys (slot.Unlinked gate) lists p h = h
   has_later o xs ys (slot.Unhalved gate link) lists p h = h
   has_later o xs ys (slot.Undialled x refused) lists p h = (h.0, (h.1.0, grown h.1.0 xs ys h.1.1 p, h.1.2))
-  has_later o xs ys (slot.Served x read wrote) lists p h = serves_later xs ys (o.begins x.link) (o.left x.reader) read wrote (o.held x.writer) lists p h
+  has_later o xs ys (slot.Served x read wrote) lists p h = serves_later xs ys (o.link x.link).begins (o.reader x.reader).bytes read wrote (o.writer x.writer).bytes lists p h

@@ -27,9 +27,9 @@ unseen_is v f e =
 module _ {T G L S K : Type 0} (Fits : T → Type 0) (known : T → Known) (o : Outside G L S K) (enabled : Rule) (unsent : List Event → ℕ → List ℕ) (answer : Answers)
     (bound slots : List (Slot G L S K)) (xs ys : List (Worker T G L S K))
     (before : slots_of xs ≡ bound) (h : EachWorks Fits known o enabled unsent answer xs ys) (after : slots ≡ slots_of ys) where
-  pub all_tells : (path : List ℕ) → HaveNames o.name path 0 bound → EachTells o path 0 slots
+  pub all_tells : (path : List ℕ) → HaveNames o.gate path 0 bound → EachTells o path 0 slots
   all_tells path n =
-      let P : List (Slot G L S K) → Type 0 = λ l. HaveNames o.name path 0 l in
+      let P : List (Slot G L S K) → Type 0 = λ l. HaveNames o.gate path 0 l in
       let Q : List (Slot G L S K) → Type 0 = λ l. EachTells o path 0 l in
       subst Q (sym after) (each_tells Fits known o enabled unsent answer xs ys h path (subst P (sym before) n))
 

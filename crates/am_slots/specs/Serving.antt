@@ -14,7 +14,7 @@ module _ {G L S K : Type 0} (o : Outside G L S K) where
   -- slots one after another, from this connection on: their names and what they tell
   abbrev pub EachTells : List ℕ → ℕ → List (Slot G L S K) → Type 0
   EachTells path conn [] = Unit {0}
-  EachTells path conn (s ∷ slots) = HasName o.name path conn s × Tells o s × EachTells path (conn + 1) slots
+  EachTells path conn (s ∷ slots) = HasName o.gate path conn s × Tells o s × EachTells path (conn + 1) slots
 
   -- and what a journal has of them
   abbrev pub EachIs : Rule → (List Event → ℕ → List ℕ) → Answers → List Event → ℕ → List (Slot G L S K) → Type 0

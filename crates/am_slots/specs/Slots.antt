@@ -1,7 +1,7 @@
 -- Slots, what their objects tell, and what a journal has of them.
 use Rattle.std.specs.Prelude.{◌≡◌, ◌⊎◌, ℕ, ◌+◌, ◌^◌, ◌≤◌, List, [], ◌∷◌, ◌++◌, Option, Some, None}
 use Rattle.std.specs.Prelude.{filter}
-use Rattle.am_base.specs.Outside.{AreTold, HasRisen, IsNamed}
+use Rattle.am_base.specs.Outside.{BytesTold, GateTold, LinkTold, AreTold, HasRisen, IsNamed}
 use Rattle.am_journal.specs.declared.ending.Ending.{Ending}
 use Rattle.am_journal.specs.declared.ending.Ending.TheVariants as ending
 use Rattle.am_journal.specs.declared.event.Event.{Event}
@@ -21,14 +21,10 @@ use Rattle.am_slots.specs.declared.slot.Slot.TheVariants as slot
 
 -- what gates, links, sources and sinks tell
 pub record Outside (G L S K : Type 0) : Type 0 where
-  pub name : G → Option (List ℕ × ℕ)
-  pub gate_faults : G → ℕ
-  pub begins : L → Option (List ℕ)
-  pub link_faults : L → ℕ
-  pub left : S → Option (List ℕ)
-  pub reader_faults : S → ℕ
-  pub held : K → Option (List ℕ)
-  pub writer_faults : K → ℕ
+  pub gate : G → GateTold
+  pub link : L → LinkTold
+  pub reader : S → BytesTold
+  pub writer : K → BytesTold
 
 -- a cause of a connection's end that its sides answered: the side that reads, or else the one that writes
 abbrev pub IsCause : Option Ending → WriteEnd → Ending → Type 0
@@ -37,9 +33,8 @@ IsCause None end.Ended cause = ⊥
 IsCause None end.Gone cause = cause ≡ ending.Gone
 IsCause None end.NoMemory cause = cause ≡ ending.NoMemory
 
-abbrev pub outside : {G L S K : Type 0} → (G → Option (List ℕ × ℕ)) → (G → ℕ) → (L → Option (List ℕ)) → (L → ℕ) → (S → Option (List ℕ)) → (S → ℕ) → (K → Option (List ℕ)) → (K → ℕ) → Outside G L S K
-outside name gate_faults begins link_faults left reader_faults held writer_faults =
-    record { name = name; gate_faults = gate_faults; begins = begins; link_faults = link_faults; left = left; reader_faults = reader_faults; held = held; writer_faults = writer_faults }
+abbrev pub outside : {G L S K : Type 0} → (G → GateTold) → (L → LinkTold) → (S → BytesTold) → (K → BytesTold) → Outside G L S K
+outside gate link reader writer = record { gate = gate; link = link; reader = reader; writer = writer }
 
 -- A connection that was served: it was dialled once and has ended once, its messages are those of its source, which was read on only while
 -- there was room for replies, and its sink got what was sent to it. Where writing ended with it, nothing was left unsent.
@@ -58,35 +53,35 @@ pub record IsServed (enabled : Rule) (unsent : List Event → ℕ → List ℕ) 
 
 module _ {G L S K : Type 0} where
   -- the slot's gate was tried, and no connection was taken
-  abbrev pub IsWaiting : (G → ℕ) → Slot G L S K → Type 0
-  IsWaiting faults slot.Unbound = Unit {0}
-  IsWaiting faults (slot.Bound gate) = faults gate ≡ 0
-  IsWaiting faults (slot.Unlinked gate) = ⊥
-  IsWaiting faults (slot.Unhalved gate link) = ⊥
-  IsWaiting faults (slot.Undialled x refused) = ⊥
-  IsWaiting faults (slot.Served x read wrote) = ⊥
+  abbrev pub IsWaiting : (G → GateTold) → Slot G L S K → Type 0
+  IsWaiting told slot.Unbound = Unit {0}
+  IsWaiting told (slot.Bound gate) = (told gate).faults ≡ 0
+  IsWaiting told (slot.Unlinked gate) = ⊥
+  IsWaiting told (slot.Unhalved gate link) = ⊥
+  IsWaiting told (slot.Undialled x refused) = ⊥
+  IsWaiting told (slot.Served x read wrote) = ⊥
 
   -- its gate is of this path and of the slot's number, where it tells a name
-  abbrev pub HasName : (G → Option (List ℕ × ℕ)) → List ℕ → ℕ → Slot G L S K → Type 0
-  HasName name path conn slot.Unbound = Unit {0}
-  HasName name path conn (slot.Bound gate) = IsNamed (name gate) path conn
-  HasName name path conn (slot.Unlinked gate) = IsNamed (name gate) path conn
-  HasName name path conn (slot.Unhalved gate link) = IsNamed (name gate) path conn
-  HasName name path conn (slot.Undialled x refused) = IsNamed (name x.gate) path conn
-  HasName name path conn (slot.Served x read wrote) = IsNamed (name x.gate) path conn
+  abbrev pub HasName : (G → GateTold) → List ℕ → ℕ → Slot G L S K → Type 0
+  HasName told path conn slot.Unbound = Unit {0}
+  HasName told path conn (slot.Bound gate) = IsNamed (told gate).name path conn
+  HasName told path conn (slot.Unlinked gate) = IsNamed (told gate).name path conn
+  HasName told path conn (slot.Unhalved gate link) = IsNamed (told gate).name path conn
+  HasName told path conn (slot.Undialled x refused) = IsNamed (told x.gate).name path conn
+  HasName told path conn (slot.Served x read wrote) = IsNamed (told x.gate).name path conn
 
   -- what its objects tell once it was served: one that failed has counted it, and a source that has ended has nothing left; none waits
   abbrev pub Tells : Outside G L S K → Slot G L S K → Type 0
   Tells o slot.Unbound = Unit {0}
   Tells o (slot.Bound gate) = ⊥
-  Tells o (slot.Unlinked gate) = HasRisen 0 (o.gate_faults gate)
-  Tells o (slot.Unhalved gate link) = HasRisen 0 (o.link_faults link)
+  Tells o (slot.Unlinked gate) = HasRisen 0 (o.gate gate).faults
+  Tells o (slot.Unhalved gate link) = HasRisen 0 (o.link link).faults
   Tells o (slot.Undialled x refused) = Unit {0}
   Tells o (slot.Served x read wrote) =
-      (read ≡ Some ending.ReadFault → HasRisen 0 (o.reader_faults x.reader))
-      × (read ≡ Some ending.End → AreTold (o.left x.reader) [])
-      × (read ≡ Some ending.Torn → AreTold (o.left x.reader) [])
-      × (wrote ≡ end.Gone → HasRisen 0 (o.writer_faults x.writer))
+      (read ≡ Some ending.ReadFault → HasRisen 0 (o.reader x.reader).faults)
+      × (read ≡ Some ending.End → AreTold (o.reader x.reader).bytes [])
+      × (read ≡ Some ending.Torn → AreTold (o.reader x.reader).bytes [])
+      × (wrote ≡ end.Gone → HasRisen 0 (o.writer x.writer).faults)
 
   -- the slots whose gates could not be bound
   abbrev pub unbound : List (Slot G L S K) → ℕ
@@ -112,7 +107,7 @@ module _ {G L S K : Type 0} (o : Outside G L S K) (enabled : Rule) (unsent : Lis
   Has conn seen (slot.Unlinked gate) lists = lists ≡ [] ∷ []
   Has conn seen (slot.Unhalved gate link) lists = lists ≡ [] ∷ []
   Has conn seen (slot.Undialled x refused) lists = (lists ≡ [] ∷ []) × WasRefused enabled conn seen refused
-  Has conn seen (slot.Served x read wrote) lists = Serves enabled unsent answer conn seen (o.begins x.link) (o.left x.reader) read wrote (o.held x.writer) lists
+  Has conn seen (slot.Served x read wrote) lists = Serves enabled unsent answer conn seen (o.link x.link).begins (o.reader x.reader).bytes read wrote (o.writer x.writer).bytes lists
 
   -- the same of slots one after another, from this connection on
   abbrev pub EachHas : ℕ → List Event → List (Slot G L S K) → List (List (ℕ × Event)) → Type 0
@@ -128,4 +123,4 @@ module _ {G L S K : Type 0} (o : Outside G L S K) (enabled : Rule) (unsent : Lis
   IsOf journal conn (slot.Unlinked gate) = IsSilent journal conn
   IsOf journal conn (slot.Unhalved gate link) = IsSilent journal conn
   IsOf journal conn (slot.Undialled x refused) = IsSilent journal conn × (refused ≡ why.NoMemory)
-  IsOf journal conn (slot.Served x read wrote) = IsServed enabled unsent answer journal conn (o.begins x.link) (o.left x.reader) read wrote (o.held x.writer)
+  IsOf journal conn (slot.Served x read wrote) = IsServed enabled unsent answer journal conn (o.link x.link).begins (o.reader x.reader).bytes read wrote (o.writer x.writer).bytes

@@ -5,7 +5,8 @@ use denote.Ref.{MutBor}
 use denote.Param.Members.{Shared}
 use Rattle.std.specs.Fork.{ChangesEach}
 use Rattle.turn_lock.specs.Journal.{total}
-use Rattle.am_base.specs.Outside.{AreTold, HasRisen}
+use Rattle.am_base.specs.Outside.{GateTold, AreTold, HasRisen}
+use Rattle.am_base.specs.Seen.{Seen}
 use Rattle.am_journal.specs.declared.ending.Ending.{Ending}
 use Rattle.am_journal.specs.declared.ending.Ending.TheVariants as ending
 use Rattle.am_journal.specs.declared.event.Event.{Event}
@@ -21,31 +22,24 @@ use Rattle.am_slots.specs.Slots.{Outside, IsWaiting, HasName, Tells, Has, unboun
 use Rattle.am_slots.specs.declared.slot.Slot.{Slot}
 use Rattle.am_slots.specs.declared.working.Worker.{Worker}
 
--- what a source told before and tells now, and its counts of faults
-pub record Read : Type 0 where
-  pub first : Option (List ℕ)
-  pub now : Option (List ℕ)
-  pub faults : ℕ
-  pub faults_now : ℕ
-
 -- what a side that reads does
-pub record DidRead (enabled : Rule) (answer : Answers) (conn : ℕ) (v w : Known) (s : Read) (read : Option Ending) : Type 0 where
+pub record DidRead (enabled : Rule) (answer : Answers) (conn : ℕ) (v w : Known) (s : Seen) (read : Option Ending) : Type 0 where
   pub gains : Gains v (gained v w) w
   pub entries : AreRead conn read v w
-  pub gives : GivesOf enabled answer conn w.seen (spellings (gained v w)) s.first s.now read
+  pub gives : GivesOf enabled answer conn w.seen (spellings (gained v w)) s.before.bytes s.now.bytes read
   pub ended : has_hang w.seen conn ≡ true
-  pub end : read ≡ Some ending.End → AreTold s.now []
-  pub torn : read ≡ Some ending.Torn → AreTold s.now []
-  pub fault : read ≡ Some ending.ReadFault → HasRisen s.faults s.faults_now
+  pub end : read ≡ Some ending.End → AreTold s.now.bytes []
+  pub torn : read ≡ Some ending.Torn → AreTold s.now.bytes []
+  pub fault : read ≡ Some ending.ReadFault → HasRisen s.before.faults s.now.faults
 
 -- what a side that writes does
-pub record DidWrite (unsent : List Event → ℕ → List ℕ) (conn : ℕ) (v w : Known) (s : Read) (wrote : WriteEnd) : Type 0 where
+pub record DidWrite (unsent : List Event → ℕ → List ℕ) (conn : ℕ) (v w : Known) (s : Seen) (wrote : WriteEnd) : Type 0 where
   pub gains : Gains v (gained v w) w
   pub entries : AreWritten conn wrote v w
-  pub gets : Gets wrote s.first (taken_bytes unsent w.seen (gained v w)) s.now
+  pub gets : Gets wrote s.before.bytes (taken_bytes unsent w.seen (gained v w)) s.now.bytes
   pub ended : has_hang w.seen conn ≡ true
   pub nothing_unsent : wrote ≡ end.Ended → unsent w.seen conn ≡ []
-  pub gone : wrote ≡ end.Gone → HasRisen s.faults s.faults_now
+  pub gone : wrote ≡ end.Gone → HasRisen s.before.faults s.now.faults
 
 -- a seat has dialled a connection, and has no other entry
 pub record HasDialled (conn : ℕ) (v : Known) : Type 0 where
@@ -62,10 +56,10 @@ pub record IsFresh (n : ℕ) (v : Known) : Type 0 where
 
 module _ {T G L S K : Type 0} (Fits : T → Type 0) (known : T → Known) where
   -- a worker whose slot waits
-  pub record IsReady (faults : G → ℕ) (w : Worker T G L S K) : Type 0 where
+  pub record IsReady (told : G → GateTold) (w : Worker T G L S K) : Type 0 where
     pub fits : Fits w.seat
     pub fresh : IsFresh 2 (known w.seat)
-    pub waits : IsWaiting faults w.slot
+    pub waits : IsWaiting told w.slot
 
   -- a worker whose slot was served
   pub record Works (o : Outside G L S K) (enabled : Rule) (unsent : List Event → ℕ → List ℕ) (answer : Answers) (conn : ℕ) (before after : Worker T G L S K) : Type 0 where
@@ -73,7 +67,7 @@ module _ {T G L S K : Type 0} (Fits : T → Type 0) (known : T → Known) where
     pub parts : (known after.seat).parts ≡ 2
     pub has : Has o enabled unsent answer conn (known after.seat).seen after.slot (lists_of (known after.seat))
     pub tells : Tells o after.slot
-    pub named : (path : List ℕ) → HasName o.name path conn before.slot → HasName o.name path conn after.slot
+    pub named : (path : List ℕ) → HasName o.gate path conn before.slot → HasName o.gate path conn after.slot
     pub bound : unbound (after.slot ∷ []) ≡ unbound (before.slot ∷ [])
 
   -- the same of each, from connection 0 on

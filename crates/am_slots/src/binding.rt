@@ -10,8 +10,8 @@ use am_text::{Items, NoMemory};
 use std::alloc::Global;
 
 fn bind_slot<H: Host>(host: &mut H, path: &str, slot: u32) -> HostSlot<H>
-    ensures waits { IsWaiting H.G.faults result }
-    ensures named { HasName H.G.name path.now slot result }
+    ensures waits { IsWaiting H.G.told result }
+    ensures named { HasName H.G.told path.now slot result }
     ensures risen { HasRisenBy (unbound (result ∷ [])) (H.faults host.old) (H.faults host.new) }
     ensures later { H.faults host.old ≤ H.faults host.new }
 {
@@ -29,8 +29,8 @@ pub(crate) fn bind_all<H: Host>(
     clients: u32,
 ) -> Result<HostSlots<H>, NoMemory>
     ensures count { IfOk result (λ slots. length slots ≡ clients) }
-    ensures waiting { IfOk result (λ slots. AreWaiting H.G.faults slots) }
-    ensures named { IfOk result (λ slots. HaveNames H.G.name path.now 0 slots) }
+    ensures waiting { IfOk result (λ slots. AreWaiting H.G.told slots) }
+    ensures named { IfOk result (λ slots. HaveNames H.G.told path.now 0 slots) }
     ensures risen { IfOk result (λ slots. HasRisenBy (unbound slots) (H.faults host.old) (H.faults host.new)) }
     ensures later { H.faults host.old ≤ H.faults host.new }
 {

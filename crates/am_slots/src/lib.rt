@@ -2,11 +2,12 @@
 #![tactic(auto)]
 
 mod binding;
-mod means;
+mod service;
 mod serving;
 mod slot;
 mod slots;
 mod working;
 
+pub use service::{Service, Site};
 pub use slot::{HostSlot, HostSlots, Objects, Slot, Slots};
 pub use slots::serve_slots;

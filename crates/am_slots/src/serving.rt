@@ -2,18 +2,19 @@
 
 ghost use Rattle.std.specs.Prelude.{◌≡◌, ℕ, ◌<◌, true, List, [], ◌∷◌};
 ghost use Rattle.am_base.specs.Outside.{AreTold, IsNamed};
+ghost use Rattle.am_base.specs.Seen.{seen};
 ghost use Rattle.am_counter.specs.Known.{lists_of};
 ghost use Rattle.am_counter.specs.Played.{has_dial};
 ghost use Rattle.am_slots.specs.Slots.{Has, Tells, HasName, outside, unbound};
 ghost use Rattle.am_slots.specs.Working.{DidRead, DidWrite, HasDialled, IsFresh, IsReady, Works};
 
-use crate::means::Means;
 use crate::slot::{Objects, Slot};
 use crate::working::Worker;
 use am_base::{Gate, Link, Sink, Source};
 use am_counter::{Counter, Seats, Told};
 use am_journal::{Ending, Event};
-use am_serve::{WriteEnd, read_side, write_side};
+use am_serve::{Station, WriteEnd, read_side, write_side};
+use std::alloc::Global;
 use std::mem;
 use std::sync::Wait;
 use std::thread::{Threads, join_mut};
@@ -22,34 +23,38 @@ use std::thread::{Threads, join_mut};
 fn serve_sides<
     C: Seats<Seat = T> + Sync,
     T: Send,
+    G,
+    L,
     S: Source + Drop + Send,
     K: Sink + Drop + Send,
     R: Threads + Wait + Sync,
 >(
     rt: &R,
-    desk: &C,
-    means: Means<'_>,
+    alloc: Global,
+    at: &Station<'_, C>,
     seat: &mut T,
     other: &mut T,
-    conn: u32,
-    reader: &mut S,
-    writer: &mut K,
+    objects: &mut Objects<G, L, S, K>,
 ) -> (Option<Ending>, WriteEnd)
-    requires fits { C.fits desk.now seat.old × C.fits desk.now other.old }
-    requires conn { conn < 64 }
-    requires dialled { (has_dial (C.known seat.old).seen conn ≡ true) × (has_dial (C.known other.old).seen conn ≡ true) }
-    ensures fits { C.fits desk.now seat.new × C.fits desk.now other.new }
-    ensures read { DidRead C.enabled C.answer conn (C.known seat.old) (C.known seat.new)
-        (record { first = S.left reader.old; now = S.left reader.new; faults = S.faults reader.old; faults_now = S.faults reader.new }) result.0 }
-    ensures wrote { DidWrite C.unsent conn (C.known other.old) (C.known other.new)
-        (record { first = K.held writer.old; now = K.held writer.new; faults = K.faults writer.old; faults_now = K.faults writer.new }) result.1 }
+    requires fits { C.fits at.now.desk.now seat.old × C.fits at.now.desk.now other.old }
+    requires conn { at.now.conn < 64 }
+    requires dialled { (has_dial (C.known seat.old).seen at.now.conn ≡ true) × (has_dial (C.known other.old).seen at.now.conn ≡ true) }
+    ensures fits { C.fits at.now.desk.now seat.new × C.fits at.now.desk.now other.new }
+    ensures read { DidRead C.enabled C.answer at.now.conn (C.known seat.old) (C.known seat.new)
+        (seen (S.told objects.old.reader) (S.told objects.new.reader))
+        result.0 }
+    ensures wrote { DidWrite C.unsent at.now.conn (C.known other.old) (C.known other.new)
+        (seen (K.told objects.old.writer) (K.told objects.new.writer))
+        result.1 }
+    ensures others { (objects.new.gate ≡ objects.old.gate) × (objects.new.link ≡ objects.old.link) }
 {
-    let Means { alloc, bells } = means;
+    let reader = &mut objects.reader;
+    let writer = &mut objects.writer;
     // Where no thread can be made the side that writes comes last: it would wait for the other.
     let (wrote, read) = join_mut(
         rt,
-        &mut || write_side(rt, alloc, desk, other, bells, conn, writer),
-        &mut || read_side(rt, alloc, desk, seat, bells, conn, reader),
+        &mut || write_side(rt, alloc, at, other, writer),
+        &mut || read_side(rt, alloc, at, seat, reader),
     );
     (read, wrote)
 }
@@ -65,39 +70,29 @@ fn serve_connection<
     R: Threads + Wait + Sync,
 >(
     rt: &R,
-    desk: &C,
-    means: Means<'_>,
+    alloc: Global,
+    at: &Station<'_, C>,
     seat: &mut T,
-    conn: u32,
     objects: Objects<G, L, S, K>,
 ) -> Slot<G, L, S, K>
-    requires fits { C.fits desk.now seat.old }
-    requires conn { conn < 64 }
-    requires dialled { HasDialled conn (C.known seat.old) }
+    requires fits { C.fits at.now.desk.now seat.old }
+    requires conn { at.now.conn < 64 }
+    requires dialled { HasDialled at.now.conn (C.known seat.old) }
     requires parts { (C.known seat.old).parts ≡ 2 }
-    requires begins { (S.left objects.reader ≡ L.begins objects.link) × AreTold (K.held objects.writer) [] }
-    requires fresh { (S.faults objects.reader ≡ 0) × (K.faults objects.writer ≡ 0) }
-    ensures fits { C.fits desk.now seat.new }
+    requires begins { ((S.told objects.reader).bytes ≡ (L.told objects.link).begins) × AreTold (K.told objects.writer).bytes [] }
+    requires fresh { ((S.told objects.reader).faults ≡ 0) × ((K.told objects.writer).faults ≡ 0) }
+    ensures fits { C.fits at.now.desk.now seat.new }
     ensures parts { (C.known seat.new).parts ≡ 2 }
-    ensures has { Has (outside G.name G.faults L.begins L.faults S.left S.faults K.held K.faults)
-        C.enabled C.unsent C.answer conn (C.known seat.new).seen result (lists_of (C.known seat.new)) }
-    ensures tells { Tells (outside G.name G.faults L.begins L.faults S.left S.faults K.held K.faults) result }
-    ensures named { (path : List ℕ) → IsNamed (G.name objects.gate) path conn → HasName G.name path conn result }
+    ensures has { Has (outside G.told L.told S.told K.told)
+        C.enabled C.unsent C.answer at.now.conn (C.known seat.new).seen result (lists_of (C.known seat.new)) }
+    ensures tells { Tells (outside G.told L.told S.told K.told) result }
+    ensures named { (path : List ℕ) → IsNamed (G.told objects.gate).name path at.now.conn → HasName G.told path at.now.conn result }
     ensures bound { unbound (result ∷ []) ≡ 0 }
 {
     let mut objects = objects;
-    let mut other = desk.split(seat, 1);
-    let (read, wrote) = serve_sides(
-        rt,
-        desk,
-        means,
-        seat,
-        &mut other,
-        conn,
-        &mut objects.reader,
-        &mut objects.writer,
-    );
-    desk.take_in(rt, seat, other);
+    let mut other = at.desk.split(seat, 1);
+    let (read, wrote) = serve_sides(rt, alloc, at, seat, &mut other, &mut objects);
+    at.desk.take_in(rt, seat, other);
     Slot::Served(objects, read, wrote)
 }
 
@@ -110,17 +105,17 @@ fn serve_gate<
     S: Source + Drop + Send,
     K: Sink + Drop + Send,
     R: Threads + Wait + Sync,
->(rt: &R, desk: &C, means: Means<'_>, seat: &mut T, conn: u32, gate: G) -> Slot<G, L, S, K>
-    requires fits { C.fits desk.now seat.old }
-    requires conn { conn < 64 }
+>(rt: &R, alloc: Global, at: &Station<'_, C>, seat: &mut T, gate: G) -> Slot<G, L, S, K>
+    requires fits { C.fits at.now.desk.now seat.old }
+    requires conn { at.now.conn < 64 }
     requires fresh { IsFresh 2 (C.known seat.old) }
-    requires waits { G.faults gate ≡ 0 }
-    ensures fits { C.fits desk.now seat.new }
+    requires waits { (G.told gate).faults ≡ 0 }
+    ensures fits { C.fits at.now.desk.now seat.new }
     ensures parts { (C.known seat.new).parts ≡ 2 }
-    ensures has { Has (outside G.name G.faults L.begins L.faults S.left S.faults K.held K.faults)
-        C.enabled C.unsent C.answer conn (C.known seat.new).seen result (lists_of (C.known seat.new)) }
-    ensures tells { Tells (outside G.name G.faults L.begins L.faults S.left S.faults K.held K.faults) result }
-    ensures named { (path : List ℕ) → IsNamed (G.name gate) path conn → HasName G.name path conn result }
+    ensures has { Has (outside G.told L.told S.told K.told)
+        C.enabled C.unsent C.answer at.now.conn (C.known seat.new).seen result (lists_of (C.known seat.new)) }
+    ensures tells { Tells (outside G.told L.told S.told K.told) result }
+    ensures named { (path : List ℕ) → IsNamed (G.told gate).name path at.now.conn → HasName G.told path at.now.conn result }
     ensures bound { unbound (result ∷ []) ≡ 0 }
 {
     let mut gate = gate;
@@ -136,9 +131,10 @@ fn serve_gate<
         reader,
         writer,
     };
+    let event = Event::Dial { conn: at.conn };
     // Nobody waits for a dialling, and it replies to none.
-    match desk.submit(rt, seat, Event::Dial { conn }, &mut Told::none()) {
-        Ok(_) => serve_connection(rt, desk, means, seat, conn, objects),
+    match at.desk.submit(rt, seat, event, &mut Told::none()) {
+        Ok(_) => serve_connection(rt, alloc, at, seat, objects),
         Err(refused) => Slot::Undialled(objects, refused),
     }
 }
@@ -152,15 +148,15 @@ pub(crate) fn serve_slot<
     S: Source + Drop + Send,
     K: Sink + Drop + Send,
     R: Threads + Wait + Sync,
->(rt: &R, desk: &C, means: Means<'_>, conn: u32, worker: &mut Worker<T, G, L, S, K>)
-    requires ready { IsReady (C.fits desk.now) C.known G.faults worker.old }
-    requires conn { conn < 64 }
-    ensures { Works (C.fits desk.now) C.known (outside G.name G.faults L.begins L.faults S.left S.faults K.held K.faults)
-        C.enabled C.unsent C.answer conn worker.old worker.new }
+>(rt: &R, alloc: Global, at: &Station<'_, C>, worker: &mut Worker<T, G, L, S, K>)
+    requires ready { IsReady (C.fits at.now.desk.now) C.known G.told worker.old }
+    requires conn { at.now.conn < 64 }
+    ensures { Works (C.fits at.now.desk.now) C.known (outside G.told L.told S.told K.told)
+        C.enabled C.unsent C.answer at.now.conn worker.old worker.new }
 {
     let slot = mem::replace(&mut worker.slot, Slot::Unbound);
     worker.slot = match slot {
-        Slot::Bound(gate) => serve_gate(rt, desk, means, &mut worker.seat, conn, gate),
+        Slot::Bound(gate) => serve_gate(rt, alloc, at, &mut worker.seat, gate),
         slot => slot,
     };
 }

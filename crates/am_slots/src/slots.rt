@@ -10,13 +10,13 @@ ghost use Rattle.am_slots.specs.Working.{IsReady, Works, ServesEach, EachWorks, 
 ghost use Rattle.am_slots.specs.Serving.{ServesAll, EachTells};
 
 use crate::binding::bind_all;
-use crate::means::{Means, Script};
+use crate::service::Service;
 use crate::serving::serve_slot;
 use crate::slot::{HostSlots, Slots};
 use crate::working::{Worker, gather, hire};
 use am_base::{Gate, Host, Link, Sink, Source};
 use am_counter::{Counter, Seats};
-use am_serve::{Bells, ScriptEnd, script_side};
+use am_serve::{Bells, Script, ScriptEnd, Station, script_side};
 use am_text::NoMemory;
 use std::alloc::Global;
 use std::sync::Wait;
@@ -38,24 +38,6 @@ fn serve_each<W: Send, F: Fn(usize, &mut W) + Sync, R: Threads + Sync>(
     for_each_mut(rt, workers, count, serve);
 }
 
-// The side of the script.
-fn do_script<C: Seats<Seat = T>, T, R: Wait>(
-    rt: &R,
-    desk: &C,
-    means: Means<'_>,
-    script: Script<'_>,
-    seat: &mut T,
-) -> ScriptEnd
-    requires fits { C.fits desk.now seat.old }
-    requires clients { script.clients ≤ 64 }
-    ensures fits { C.fits desk.now seat.new }
-    ensures gains { Gains (C.known seat.old) (gained (C.known seat.old) (C.known seat.new)) (C.known seat.new) }
-    ensures ends { EndsScript C.enabled C.answer script.entry.clients (C.known seat.old) (asked_by_script script.entry.lines.now) result (C.known seat.new) }
-{
-    let Script { lines, clients } = script;
-    script_side(rt, means.alloc, desk, seat, means.bells, lines, clients)
-}
-
 // Serves each worker, and does the script beside them.
 fn serve_beside<
     C: Seats<Seat = T> + Sync,
@@ -65,25 +47,24 @@ fn serve_beside<
     R: Threads + Wait + Sync,
 >(
     rt: &R,
-    desk: &C,
-    means: Means<'_>,
-    script: Script<'_>,
+    alloc: Global,
+    script: &Script<'_, C>,
+    seat: &mut T,
     serve: &F,
     workers: &mut [W],
-    seat: &mut T,
 ) -> ScriptEnd
-    requires fits { C.fits desk.now seat.old }
-    requires clients { script.clients ≤ 64 }
+    requires fits { C.fits script.now.desk.now seat.old }
+    requires clients { script.now.clients ≤ 64 }
     requires accepts { AcceptsEach F.Fn serve.now workers.old }
-    ensures fits { C.fits desk.now seat.new }
+    ensures fits { C.fits script.now.desk.now seat.new }
     ensures gains { Gains (C.known seat.old) (gained (C.known seat.old) (C.known seat.new)) (C.known seat.new) }
-    ensures ends { EndsScript C.enabled C.answer script.entry.clients (C.known seat.old) (asked_by_script script.entry.lines.now) result (C.known seat.new) }
+    ensures ends { EndsScript C.enabled C.answer script.now.clients (C.known seat.old) (asked_by_script script.now.lines.now) result (C.known seat.new) }
     ensures each { ServesEach F.Fn serve.now workers.old workers.new }
 {
     // Where no thread can be made the script comes last: it may wait for connections.
     let (end, _) = join_mut(
         rt,
-        &mut || do_script(rt, desk, means, script, seat),
+        &mut || script_side(rt, alloc, script, seat),
         &mut ||
             requires { AcceptsEach F.Fn serve.now workers.now }
             ensures { ServesEach F.Fn serve.entry.now workers.entry.now workers.exit.now }
@@ -103,28 +84,34 @@ fn serve_workers<
     R: Threads + Wait + Sync,
 >(
     rt: &R,
-    desk: &C,
-    means: Means<'_>,
-    script: Script<'_>,
+    alloc: Global,
+    script: &Script<'_, C>,
     seat: &mut T,
     workers: &mut [Worker<T, G, L, S, K>],
 ) -> ScriptEnd
-    requires fits { C.fits desk.now seat.old }
-    requires clients { script.clients ≤ 64 }
-    requires ready { All (IsReady (C.fits desk.now) C.known G.faults) workers.old }
+    requires fits { C.fits script.now.desk.now seat.old }
+    requires clients { script.now.clients ≤ 64 }
+    requires ready { All (IsReady (C.fits script.now.desk.now) C.known G.told) workers.old }
     requires few { length workers.old ≤ 64 }
-    ensures fits { C.fits desk.now seat.new }
+    ensures fits { C.fits script.now.desk.now seat.new }
     ensures gains { Gains (C.known seat.old) (gained (C.known seat.old) (C.known seat.new)) (C.known seat.new) }
-    ensures ends { EndsScript C.enabled C.answer script.entry.clients (C.known seat.old) (asked_by_script script.entry.lines.now) result (C.known seat.new) }
-    ensures works { EachWorks (C.fits desk.now) C.known (outside G.name G.faults L.begins L.faults S.left S.faults K.held K.faults)
+    ensures ends { EndsScript C.enabled C.answer script.now.clients (C.known seat.old) (asked_by_script script.now.lines.now) result (C.known seat.new) }
+    ensures works { EachWorks (C.fits script.now.desk.now) C.known (outside G.told L.told S.told K.told)
         C.enabled C.unsent C.answer workers.old workers.new }
 {
     let serve = |conn: usize, worker: &mut Worker<T, G, L, S, K>|
-        requires { (conn < 64) × IsReady (C.fits desk.now) C.known G.faults worker.now }
-        ensures { Works (C.fits desk.entry.now) C.known (outside G.name G.faults L.begins L.faults S.left S.faults K.held K.faults)
+        requires { (conn < 64) × IsReady (C.fits script.now.desk.now) C.known G.told worker.now }
+        ensures { Works (C.fits script.entry.now.desk.now) C.known (outside G.told L.told S.told K.told)
             C.enabled C.unsent C.answer conn worker.entry.now worker.exit.now }
-    { serve_slot(rt, desk, means, conn as u32, worker) };
-    serve_beside(rt, desk, means, script, &serve, workers, seat)
+    {
+        let at = Station {
+            desk: script.desk,
+            bells: script.bells,
+            conn: conn as u32,
+        };
+        serve_slot(rt, alloc, &at, worker)
+    };
+    serve_beside(rt, alloc, script, seat, &serve, workers)
 }
 
 // Serves slots whose gates were tried, and does the script beside them.
@@ -142,19 +129,19 @@ fn serve_bound<
     desk: &C,
     seat: &mut T,
     bound: Slots<G, L, S, K>,
-    script: Script<'_>,
+    service: &Service<'_>,
 ) -> Result<(Slots<G, L, S, K>, ScriptEnd), NoMemory>
     requires fits { C.fits desk.now seat.old }
-    requires clients { (script.clients ≤ 64) × (length bound ≡ script.clients) }
-    requires fresh { IsFresh (2 * script.clients + 1) (C.known seat.old) × ((C.known seat.old).seen ≡ []) }
-    requires waiting { AreWaiting G.faults bound }
+    requires clients { (service.now.clients ≤ 64) × (length bound ≡ service.now.clients) }
+    requires fresh { IsFresh (2 * service.now.clients + 1) (C.known seat.old) × ((C.known seat.old).seen ≡ []) }
+    requires waiting { AreWaiting G.told bound }
     ensures fits { C.fits desk.now seat.new }
     ensures parts { (C.known seat.new).parts ≡ (C.known seat.old).parts }
-    ensures count { IfOk result (λ r. length r.0 ≡ script.entry.clients) }
-    ensures serves { IfOk result (λ r. ServesAll (outside G.name G.faults L.begins L.faults S.left S.faults K.held K.faults)
-        C.enabled C.unsent C.answer script.entry.clients script.entry.lines.now r.0 r.1 (C.known seat.new)) }
-    ensures tells { IfOk result (λ r. (path : List ℕ) → HaveNames G.name path 0 bound
-        → EachTells (outside G.name G.faults L.begins L.faults S.left S.faults K.held K.faults) path 0 r.0) }
+    ensures count { IfOk result (λ r. length r.0 ≡ service.now.clients) }
+    ensures serves { IfOk result (λ r. ServesAll (outside G.told L.told S.told K.told)
+        C.enabled C.unsent C.answer service.now.clients service.now.script.now r.0 r.1 (C.known seat.new)) }
+    ensures tells { IfOk result (λ r. (path : List ℕ) → HaveNames G.told path 0 bound
+        → EachTells (outside G.told L.told S.told K.told) path 0 r.0) }
     ensures unbound { IfOk result (λ r. unbound r.0 ≡ unbound bound) }
     ensures err { OnErr result (C.known seat.new ≡ C.known seat.old) }
 {
@@ -162,11 +149,13 @@ fn serve_bound<
     let workers = Vec::with_capacity(alloc, bound.len())?;
     let bells = Bells::new(alloc)?;
     let mut workers = hire(desk, seat, bound, workers);
-    let means = Means {
-        alloc,
+    let script = Script {
+        desk,
         bells: &bells,
+        lines: service.script,
+        clients: service.clients,
     };
-    let end = serve_workers(rt, desk, means, script, seat, workers.as_mut_slice());
+    let end = serve_workers(rt, alloc, &script, seat, workers.as_mut_slice());
     Ok((gather(rt, desk, seat, workers, slots), end))
 }
 
@@ -179,29 +168,23 @@ pub fn serve_slots<H: Host, C: Seats<Seat = T> + Sync, T: Send + Drop, R: Thread
     desk: &C,
     seat: &mut T,
     host: &mut H,
-    path: &str,
-    clients: u32,
-    script: &[u8],
+    service: &Service<'_>,
 ) -> Result<(HostSlots<H>, ScriptEnd), NoMemory>
     requires fits { C.fits desk.now seat.old }
-    requires clients { clients ≤ 64 }
-    requires fresh { IsFresh (2 * clients + 1) (C.known seat.old) × ((C.known seat.old).seen ≡ []) }
+    requires clients { service.now.clients ≤ 64 }
+    requires fresh { IsFresh (2 * service.now.clients + 1) (C.known seat.old) × ((C.known seat.old).seen ≡ []) }
     ensures fits { C.fits desk.now seat.new }
     ensures parts { (C.known seat.new).parts ≡ (C.known seat.old).parts }
-    ensures count { IfOk result (λ r. length r.0 ≡ clients) }
+    ensures count { IfOk result (λ r. length r.0 ≡ service.now.clients) }
     ensures serves { IfOk result (λ r. ServesAll
-        (outside H.G.name H.G.faults H.G.L.begins H.G.L.faults H.G.L.R.left H.G.L.R.faults H.G.L.W.held H.G.L.W.faults)
-        C.enabled C.unsent C.answer clients script.now r.0 r.1 (C.known seat.new)) }
+        (outside H.G.told H.G.L.told H.G.L.R.told H.G.L.W.told)
+        C.enabled C.unsent C.answer service.now.clients service.now.script.now r.0 r.1 (C.known seat.new)) }
     ensures tells { IfOk result (λ r. EachTells
-        (outside H.G.name H.G.faults H.G.L.begins H.G.L.faults H.G.L.R.left H.G.L.R.faults H.G.L.W.held H.G.L.W.faults) path.now 0 r.0) }
+        (outside H.G.told H.G.L.told H.G.L.R.told H.G.L.W.told) service.now.path.now 0 r.0) }
     ensures risen { IfOk result (λ r. HasRisenBy (unbound r.0) (H.faults host.old) (H.faults host.new)) }
     ensures later { H.faults host.old ≤ H.faults host.new }
     ensures err { OnErr result (C.known seat.new ≡ C.known seat.old) }
 {
-    let bound = bind_all(alloc, host, path, clients)?;
-    let script = Script {
-        lines: script,
-        clients,
-    };
-    serve_bound(rt, alloc, desk, seat, bound, script)
+    let bound = bind_all(alloc, host, service.path, service.clients)?;
+    serve_bound(rt, alloc, desk, seat, bound, service)
 }

@@ -1,6 +1,7 @@
 //! Slots, each with a seat of its own.
 
 ghost use Rattle.std.specs.Prelude.{◌≡◌, ℕ, ◌*◌, ◌+◌, ◌≤◌, [], length, vec_len, vec_capacity, All};
+ghost use Rattle.am_base.specs.Outside.{GateTold};
 ghost use Rattle.am_slots.specs.Binding.{AreWaiting};
 ghost use Rattle.am_slots.specs.Working.{IsFresh, IsReady, TakesInEach, slots_of};
 
@@ -31,7 +32,7 @@ pub(crate) fn hire<C: Seats<Seat = T>, T: Drop, G: Drop, L: Drop, S: Drop, K: Dr
     ensures fresh { IsFresh 1 (C.known seat.new) }
     ensures seen { (C.known seat.new).seen ≡ (C.known seat.old).seen }
     ensures slots { slots_of result.items ≡ slots }
-    ensures ready { (faults : G → ℕ) → AreWaiting faults slots → All (IsReady (C.fits desk.now) C.known faults) result.items }
+    ensures ready { (told : G → GateTold) → AreWaiting told slots → All (IsReady (C.fits desk.now) C.known told) result.items }
 {
     let mut workers = workers;
     for slot in slots.into_vec() {

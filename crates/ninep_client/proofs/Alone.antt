@@ -4,7 +4,8 @@ use Rattle.std.specs.Prelude.{Result, Ok, Err, IfOk, IfErr, is_some, ◌==◌, �
 use Rattle.std.specs.List.{concat}
 use Rattle.std.proofs.lemmas.List.{append-nil}
 use Rattle.std.proofs.lemmas.Bool.{eqb-true}
-use Rattle.am_base.specs.Written.{Output, IsWhole, IsCut}
+use Rattle.am_base.specs.Seen.{Seen}
+use Rattle.am_base.specs.Written.{IsWhole, IsCut}
 use Rattle.ninep_types.specs.declared.fault.WireFault.{WireFault}
 use Rattle.ninep_types.specs.declared.message.TBody.{TBody}
 use Rattle.ninep_types.specs.declared.message.RMsg.{RMsg}
@@ -18,7 +19,7 @@ use Rattle.ninep_client.specs.declared.asked.Asked.{Asked}
 use Rattle.ninep_client.specs.declared.fault.CallFault.{CallFault}
 use Rattle.ninep_client.specs.declared.fault.CallFault.TheVariants as fault
 use Rattle.ninep_client.specs.Asking.{Talk, is_version, HasTag, IsTagFor, IsLeastFree, refusal, asking, after_sent, closed, reply_place, reply_of}
-use Rattle.ninep_client.specs.Hearing.{Input, Came, Hears, StopsAt, fault_in, fault_at, front_fault, answers, answered, heard, judged, heard_as, heard_reply, heard_read, heard_next, heard_until, msize_after}
+use Rattle.ninep_client.specs.Hearing.{Came, Hears, StopsAt, fault_in, fault_at, front_fault, answers, answered, heard, judged, heard_as, heard_reply, heard_read, heard_next, heard_until, msize_after}
 use Rattle.ninep_client.specs.Calls.{Sends, IsIdle, Cuts, Gives, Stops, Calls, IsUnsent, IsUnanswered, CallFails, message_of}
 use Rattle.ninep_client.proofs.Streams.{came_none}
 use Rattle.ninep_client.specs.Alone.{tag_alone, spelled, outcome, reply_for, reply_read, reply_to, reply_fault, front_at, front_reply, AloneStops, msize_behind, Replies, IsRefused, IsTorn, HasStopped, IsStarved, AloneFails}
@@ -192,13 +193,13 @@ no_error (r.Stat stat) h = refl
 no_error r.Wstat h = refl
 
 -- the message that was heard, with what is unread behind it
-replies_with : (t after : Talk) (body : TBody) (o : Output) (i : Input) (tag : ℕ) (given : RBody) (got : Result RBody CallFault) → t.asked ≡ [] → Sends t body tag (after_sent t tag body) o → Gives tag (after_sent t tag body) i given after
+replies_with : (t after : Talk) (body : TBody) (o i : Seen) (tag : ℕ) (given : RBody) (got : Result RBody CallFault) → t.asked ≡ [] → Sends t body tag (after_sent t tag body) o → Gives tag (after_sent t tag body) i given after
     → outcome given ≡ got → msize_after given t.msize ≡ msize_behind got t.msize → Replies t body o i got after
 unfolding replied reply_to
 replies_with t after body o i tag given got none sends gives out size =
     let tagged : tag ≡ tag_alone body = tag_is body tag (subst (λ (x : List Asked). IsTagFor body x tag) none sends.tagged) in
-    let hears : Hears tag (asking tag body ∷ []) t.unread i.left i.left_now gives.asked after.unread
-    = subst (λ (x : List Asked). Hears tag (x ++ asking tag body ∷ []) t.unread i.left i.left_now gives.asked after.unread) none gives.hears in
+    let hears : Hears tag (asking tag body ∷ []) t.unread i.before.bytes i.now.bytes gives.asked after.unread
+    = subst (λ (x : List Asked). Hears tag (x ++ asking tag body ∷ []) t.unread i.before.bytes i.now.bytes gives.asked after.unread) none gives.hears in
     let one : HeardOne tag body hears.messages gives.asked = heard_just_one tag body hears.messages gives.asked given hears.heard gives.reply in
     let reply : one.heard.reply ≡ given = let e : Some one.heard.reply ≡ Some given = sym (reply_there tag body one.heard.reply) ∙ ap (reply_of tag) (sym one.heard.state) ∙ gives.reply in cc in
     let empty : answered tag gives.asked ≡ [] = ap (answered tag) one.heard.state ∙ none_left tag body one.heard.reply in
@@ -207,13 +208,13 @@ replies_with t after body o i tag given got none sends gives out size =
       message = one.message;
       allowed = sends.allowed;
       put = subst (λ (x : ℕ). IsWhole o (message_of x body)) tagged sends.put;
-      came = subst (λ (x : List ℕ). Came i.left i.left_now t.unread (x ++ after.unread)) (append-nil one.message) (subst (λ (x : List (List ℕ)). Came i.left i.left_now t.unread (concat x ++ after.unread)) one.is hears.came);
+      came = subst (λ (x : List ℕ). Came i.before.bytes i.now.bytes t.unread (x ++ after.unread)) (append-nil one.message) (subst (λ (x : List (List ℕ)). Came i.before.bytes i.now.bytes t.unread (concat x ++ after.unread)) one.is hears.came);
       whole = whole;
       reply = subst (λ (x : ℕ). reply_read x (kind_t body) (r_of one.message) ≡ got) tagged (one.heard.got ∙ ap outcome reply ∙ out);
       state = gives.state ∙ (λ j. let s : Talk = record { unread = after.unread; asked = empty j; msize = size j; is_closed = t.is_closed } in s);
     }
 
-pub alone_ok : (t after : Talk) (body : TBody) (o : Output) (i : Input) (reply : RBody) → t.asked ≡ [] → kind_r reply ≢ 107 → Calls t body o i reply after → Replies t body o i (Ok reply) after
+pub alone_ok : (t after : Talk) (body : TBody) (o i : Seen) (reply : RBody) → t.asked ≡ [] → kind_r reply ≢ 107 → Calls t body o i reply after → Replies t body o i (Ok reply) after
 alone_ok t after body o i reply none kind calls = replies_with t after body o i calls.tag reply (Ok reply) none calls.sends calls.gives (no_error reply kind) refl
 
 -- ---- no reply
@@ -251,7 +252,7 @@ not_front tag body unread e tagged h =
       | Broken size ↦ λ w. w
     ] h
 
-alone_stops : (e : CallFault) (tag : ℕ) (body : TBody) (unread : List ℕ) (i : Input) → tag ≡ tag_alone body → StopsAt e (asking tag body ∷ []) unread i → AloneStops e body unread i
+alone_stops : (e : CallFault) (tag : ℕ) (body : TBody) (unread : List ℕ) (i : Seen) → tag ≡ tag_alone body → StopsAt e (asking tag body ∷ []) unread i → AloneStops e body unread i
 alone_stops fault.ReadFault tag body unread i tagged h = h
 alone_stops fault.Ended tag body unread i tagged h = h
 alone_stops fault.Torn tag body unread i tagged h = h
@@ -265,18 +266,18 @@ alone_stops fault.Large tag body unread i tagged h = absurd h
 alone_stops fault.WriteFault tag body unread i tagged h = absurd h
 alone_stops (fault.Remote text) tag body unread i tagged h = absurd h
 
-stopped : (e : CallFault) (t mid after : Talk) (body : TBody) (o : Output) (i : Input) (tag : ℕ) → t.asked ≡ [] → Sends t body tag (after_sent t tag body) o → Stops e tag (after_sent t tag body) i mid → after ≡ mid → HasStopped e t body o i after
+stopped : (e : CallFault) (t mid after : Talk) (body : TBody) (o i : Seen) (tag : ℕ) → t.asked ≡ [] → Sends t body tag (after_sent t tag body) o → Stops e tag (after_sent t tag body) i mid → after ≡ mid → HasStopped e t body o i after
 stopped e t mid after body o i tag none sends stops same =
     let tagged : tag ≡ tag_alone body = tag_is body tag (subst (λ (x : List Asked). IsTagFor body x tag) none sends.tagged) in
-    let hears : Hears tag (asking tag body ∷ []) t.unread i.left i.left_now mid.asked mid.unread
-    = subst (λ (x : List Asked). Hears tag (x ++ asking tag body ∷ []) t.unread i.left i.left_now mid.asked mid.unread) none stops.hears in
+    let hears : Hears tag (asking tag body ∷ []) t.unread i.before.bytes i.now.bytes mid.asked mid.unread
+    = subst (λ (x : List Asked). Hears tag (x ++ asking tag body ∷ []) t.unread i.before.bytes i.now.bytes mid.asked mid.unread) none stops.hears in
     let nothing : (hears.messages ≡ []) × (mid.asked ≡ asking tag body ∷ []) = heard_nothing tag body hears.messages mid.asked hears.heard stops.none in
-    let came : Came i.left i.left_now t.unread mid.unread = subst (λ (x : List (List ℕ)). Came i.left i.left_now t.unread (concat x ++ mid.unread)) nothing.0 hears.came in
+    let came : Came i.before.bytes i.now.bytes t.unread mid.unread = subst (λ (x : List (List ℕ)). Came i.before.bytes i.now.bytes t.unread (concat x ++ mid.unread)) nothing.0 hears.came in
     let cause : AloneStops e body mid.unread i = alone_stops e tag body mid.unread i tagged (subst (λ (x : List Asked). StopsAt e x mid.unread i) nothing.1 stops.cause) in
     record {
       allowed = sends.allowed;
       put = subst (λ (x : ℕ). IsWhole o (message_of x body)) tagged sends.put;
-      came = subst (λ (x : Talk). Came i.left i.left_now t.unread x.unread) (sym same) came;
+      came = subst (λ (x : Talk). Came i.before.bytes i.now.bytes t.unread x.unread) (sym same) came;
       cause = subst (λ (x : Talk). AloneStops e body x.unread i) (sym same) cause;
     }
 
@@ -284,35 +285,35 @@ stopped e t mid after body o i tag none sends stops same =
 never_closed : (t : Talk) (body : TBody) → refusal t body ≡ None → t.is_closed ≡ true → ⊥
 never_closed t body allowed shut = let e = rw shut at allowed in (cc)
 
-refused : (e : CallFault) (t mid after : Talk) (body : TBody) (o : Output) (i : Input) → refusal t body ≡ Some e → IsIdle t mid o → after ≡ mid → i.left_now ≡ i.left → IsRefused e t body o i after
+refused : (e : CallFault) (t mid after : Talk) (body : TBody) (o i : Seen) → refusal t body ≡ Some e → IsIdle t mid o → after ≡ mid → i.now.bytes ≡ i.before.bytes → IsRefused e t body o i after
 refused e t mid after body o i why idle same unread = record {
   refused = why;
   idle = record { same = same ∙ idle.same; silent = idle.silent };
   unread = unread;
 }
 
-torn : (t mid : Talk) (body : TBody) (o : Output) (i : Input) → t.asked ≡ [] → refusal t body ≡ None → Cuts t body mid o → i.left_now ≡ i.left → IsTorn t body o i
+torn : (t mid : Talk) (body : TBody) (o i : Seen) → t.asked ≡ [] → refusal t body ≡ None → Cuts t body mid o → i.now.bytes ≡ i.before.bytes → IsTorn t body o i
 torn t mid body o i none allowed cuts unread =
     let tagged : cuts.tag ≡ tag_alone body = tag_is body cuts.tag (subst (λ (x : List Asked). IsTagFor body x cuts.tag) none cuts.for) in
     record { allowed = allowed; cut = subst (λ (x : ℕ). IsCut o (message_of x body)) tagged cuts.cut; unread = unread }
 
-starved_before : (t mid after : Talk) (body : TBody) (o : Output) (i : Input) → refusal t body ≡ None → IsIdle t mid o → after ≡ closed mid → i.left_now ≡ i.left → IsStarved t body o i after
+starved_before : (t mid after : Talk) (body : TBody) (o i : Seen) → refusal t body ≡ None → IsIdle t mid o → after ≡ closed mid → i.now.bytes ≡ i.before.bytes → IsStarved t body o i after
 starved_before t mid after body o i allowed idle same unread =
     let kept : after.unread ≡ t.unread = ap (λ (x : Talk). x.unread) same ∙ ap (λ (x : Talk). x.unread) idle.same in
     record {
       allowed = allowed;
       put = inr idle.silent;
-      came = subst (λ (x : List ℕ). Came i.left i.left_now t.unread x) (sym kept) (subst (λ (x : Option (List ℕ)). Came i.left x t.unread t.unread) (sym unread) (came_none i.left t.unread));
+      came = subst (λ (x : List ℕ). Came i.before.bytes i.now.bytes t.unread x) (sym kept) (subst (λ (x : Option (List ℕ)). Came i.before.bytes x t.unread t.unread) (sym unread) (came_none i.before.bytes t.unread));
     }
 
-starved_behind : (t mid after : Talk) (body : TBody) (o : Output) (i : Input) → HasStopped fault.NoMemory t body o i mid → after ≡ closed mid → IsStarved t body o i after
+starved_behind : (t mid after : Talk) (body : TBody) (o i : Seen) → HasStopped fault.NoMemory t body o i mid → after ≡ closed mid → IsStarved t body o i after
 starved_behind t mid after body o i stopped same = record {
   allowed = stopped.allowed;
   put = inl stopped.put;
-  came = subst (λ (x : List ℕ). Came i.left i.left_now t.unread x) (sym (ap (λ (x : Talk). x.unread) same)) stopped.came;
+  came = subst (λ (x : List ℕ). Came i.before.bytes i.now.bytes t.unread x) (sym (ap (λ (x : Talk). x.unread) same)) stopped.came;
 }
 
-unsent : (e : CallFault) (t after : Talk) (body : TBody) (o : Output) (i : Input) → t.asked ≡ [] → IsUnsent e t body o i after → AloneFails e t body o i after
+unsent : (e : CallFault) (t after : Talk) (body : TBody) (o i : Seen) → t.asked ≡ [] → IsUnsent e t body o i after → AloneFails e t body o i after
 unsent fault.Closed t after body o i none u = refused fault.Closed t u.mid after body o i u.fails.0 u.fails.1 u.state u.unread
 unsent fault.Tags t after body o i none u = refused fault.Tags t u.mid after body o i u.fails.0 u.fails.1 u.state u.unread
 unsent fault.Large t after body o i none u = refused fault.Large t u.mid after body o i u.fails.0 u.fails.1 u.state u.unread
@@ -326,7 +327,7 @@ unsent (fault.Wire f) t after body o i none u = absurd u.fails
 unsent (fault.Unasked n) t after body o i none u = absurd u.fails
 unsent (fault.Kind kind) t after body o i none u = absurd u.fails
 
-unanswered : (e : CallFault) (t after : Talk) (body : TBody) (o : Output) (i : Input) → t.asked ≡ [] → IsUnanswered e t body o i after → AloneFails e t body o i after
+unanswered : (e : CallFault) (t after : Talk) (body : TBody) (o i : Seen) → t.asked ≡ [] → IsUnanswered e t body o i after → AloneFails e t body o i after
 unanswered (fault.Remote text) t after body o i none u =
     replies_with t after body o i u.tag (r.Error text) (Err (fault.Remote text)) none u.sends (subst (λ (x : Talk). Gives u.tag (after_sent t u.tag body) i (r.Error text) x) (sym u.state) u.fails) refl refl
 unanswered fault.Closed t after body o i none u = absurd (never_closed t body u.sends.allowed u.fails.shut)
@@ -341,7 +342,7 @@ unanswered (fault.Wire f) t after body o i none u = stopped (fault.Wire f) t u.m
 unanswered (fault.Unasked n) t after body o i none u = stopped (fault.Unasked n) t u.mid after body o i u.tag none u.sends u.fails u.state
 unanswered (fault.Kind kind) t after body o i none u = stopped (fault.Kind kind) t u.mid after body o i u.tag none u.sends u.fails u.state
 
-pub alone_fails : (e : CallFault) (t after : Talk) (body : TBody) (o : Output) (i : Input) → t.asked ≡ [] → CallFails e t body o i after → AloneFails e t body o i after
+pub alone_fails : (e : CallFault) (t after : Talk) (body : TBody) (o i : Seen) → t.asked ≡ [] → CallFails e t body o i after → AloneFails e t body o i after
 alone_fails e t after body o i none fails =
     elim fails [
       | inl u ↦ unsent e t after body o i none u
@@ -350,25 +351,25 @@ alone_fails e t after body o i none fails =
 
 -- ---- the type of a reply
 
-pub reply_kind : (t after : Talk) (body : TBody) (o : Output) (i : Input) (reply : RBody) → t.asked ≡ [] → kind_r reply ≢ 107 → Calls t body o i reply after → kind_r reply ≡ kind_t body + 1
+pub reply_kind : (t after : Talk) (body : TBody) (o i : Seen) (reply : RBody) → t.asked ≡ [] → kind_r reply ≢ 107 → Calls t body o i reply after → kind_r reply ≡ kind_t body + 1
 reply_kind t after body o i reply none kind calls =
     let tag = calls.tag in
-    let hears : Hears tag (asking tag body ∷ []) t.unread i.left i.left_now calls.gives.asked after.unread
-    = subst (λ (x : List Asked). Hears tag (x ++ asking tag body ∷ []) t.unread i.left i.left_now calls.gives.asked after.unread) none calls.gives.hears in
+    let hears : Hears tag (asking tag body ∷ []) t.unread i.before.bytes i.now.bytes calls.gives.asked after.unread
+    = subst (λ (x : List Asked). Hears tag (x ++ asking tag body ∷ []) t.unread i.before.bytes i.now.bytes calls.gives.asked after.unread) none calls.gives.hears in
     let one : HeardOne tag body hears.messages calls.gives.asked = heard_just_one tag body hears.messages calls.gives.asked reply hears.heard calls.gives.reply in
     let same : one.heard.reply ≡ reply = let e : Some one.heard.reply ≡ Some reply = sym (reply_there tag body one.heard.reply) ∙ ap (reply_of tag) (sym one.heard.state) ∙ calls.gives.reply in cc in
     answer_kind (kind_t body) reply kind (subst (λ (x : RBody). answers (kind_t body) x ≡ true) same one.heard.answer)
 
 -- ---- of all answers
 
-pub alone_oks : (t after : Talk) (body : TBody) (o : Output) (i : Input) (r : Result RBody CallFault) → IfOk r (λ reply. kind_r reply ≢ 107) → IfOk r (λ reply. Calls t body o i reply after) → t.asked ≡ [] → IfOk r (λ reply. Replies t body o i (Ok reply) after)
+pub alone_oks : (t after : Talk) (body : TBody) (o i : Seen) (r : Result RBody CallFault) → IfOk r (λ reply. kind_r reply ≢ 107) → IfOk r (λ reply. Calls t body o i reply after) → t.asked ≡ [] → IfOk r (λ reply. Replies t body o i (Ok reply) after)
 alone_oks t after body o i (Ok reply) kind calls none = alone_ok t after body o i reply none kind calls
 alone_oks t after body o i (Err e) kind calls none = tt
 
-pub alone_kinds : (t after : Talk) (body : TBody) (o : Output) (i : Input) (r : Result RBody CallFault) → IfOk r (λ reply. kind_r reply ≢ 107) → IfOk r (λ reply. Calls t body o i reply after) → t.asked ≡ [] → IfOk r (λ reply. kind_r reply ≡ kind_t body + 1)
+pub alone_kinds : (t after : Talk) (body : TBody) (o i : Seen) (r : Result RBody CallFault) → IfOk r (λ reply. kind_r reply ≢ 107) → IfOk r (λ reply. Calls t body o i reply after) → t.asked ≡ [] → IfOk r (λ reply. kind_r reply ≡ kind_t body + 1)
 alone_kinds t after body o i (Ok reply) kind calls none = reply_kind t after body o i reply none kind calls
 alone_kinds t after body o i (Err e) kind calls none = tt
 
-pub alone_errs : (t after : Talk) (body : TBody) (o : Output) (i : Input) (r : Result RBody CallFault) → IfErr r (λ e. CallFails e t body o i after) → t.asked ≡ [] → IfErr r (λ e. AloneFails e t body o i after)
+pub alone_errs : (t after : Talk) (body : TBody) (o i : Seen) (r : Result RBody CallFault) → IfErr r (λ e. CallFails e t body o i after) → t.asked ≡ [] → IfErr r (λ e. AloneFails e t body o i after)
 alone_errs t after body o i (Ok reply) fails none = tt
 alone_errs t after body o i (Err e) fails none = alone_fails e t after body o i none fails

@@ -1,5 +1,6 @@
 -- Bytes and messages that come, one after another.
 use Rattle.std.proofs.Common.{◌≡◌, ◌≢◌, ◌⊎◌, ℕ, zero, suc, inl, inr, ◌+◌, ◌<◌, ◌≤◌, Bool, true, false, cond, List, [], ◌∷◌, ◌++◌, length, Option, Some, None, refl, sym, ap, ◌∙◌, subst, arith, append_assoc, length-append}
+use Rattle.am_base.specs.Seen.{Seen}
 use Rattle.std.specs.Prelude.{Result, Ok, Err, is_some, All}
 use Rattle.std.specs.List.{concat}
 use Rattle.std.proofs.lemmas.List.{append-nil}
@@ -15,7 +16,7 @@ use Rattle.ninep_client.specs.declared.fault.CallFault.{CallFault}
 use Rattle.ninep_client.specs.declared.fault.CallFault.TheVariants as faults
 use Rattle.ninep_client.specs.Asking.{Talk, reply_place}
 use Rattle.ninep_client.specs.Calls.{Stops, WaitFails}
-use Rattle.ninep_client.specs.Hearing.{Came, HearsOne, Hears, Input, StopsAt, ReadFails, HeardFails, end_of, heard, heard_next, heard_until, front_fault, got}
+use Rattle.ninep_client.specs.Hearing.{Came, HearsOne, Hears, StopsAt, ReadFails, HeardFails, end_of, heard, heard_next, heard_until, front_fault}
 
 -- ---- bytes
 
@@ -109,7 +110,7 @@ hears_came tag a b u v w l m n before more = record {
 front_is : (asked : List Asked) (unread : List ℕ) (e : CallFault) → cut_of unread ≡ Whole → heard asked (first_of unread) ≡ Err e → front_fault asked unread ≡ Some e
 front_is asked unread e whole h = rw (whole, h) refl
 
-pub stops_heard : (e : CallFault) (asked : List Asked) (unread : List ℕ) (i : Input) → cut_of unread ≡ Whole → HeardFails e (heard asked (first_of unread)) → StopsAt e asked unread i
+pub stops_heard : (e : CallFault) (asked : List Asked) (unread : List ℕ) (i : Seen) → cut_of unread ≡ Whole → HeardFails e (heard asked (first_of unread)) → StopsAt e asked unread i
 stops_heard (faults.Wire f) asked unread i whole h = front_is asked unread (faults.Wire f) whole h
 stops_heard (faults.Unasked n) asked unread i whole h = front_is asked unread (faults.Unasked n) whole h
 stops_heard (faults.Kind kind) asked unread i whole h = front_is asked unread (faults.Kind kind) whole h
@@ -124,24 +125,24 @@ stops_heard faults.WriteFault asked unread i whole h = absurd h
 stops_heard (faults.Remote text) asked unread i whole h = absurd h
 
 -- the source has ended
-pub stops_end : (asked : List Asked) (unread : List ℕ) (i : Input) → cut_of unread ≡ More → AreTold i.left_now [] → StopsAt (end_of unread) asked unread i
+pub stops_end : (asked : List Asked) (unread : List ℕ) (i : Seen) → cut_of unread ≡ More → AreTold i.now.bytes [] → StopsAt (end_of unread) asked unread i
 stops_end asked [] i more told = (refl, told)
 stops_end asked (b ∷ unread) i more told = ((λ e. cc), more, told)
 
 -- reading has failed inside a message
-pub stops_read : (e : CallFault) (asked : List Asked) (unread : List ℕ) (left left_now : Option (List ℕ)) (faults faults_now : ℕ) → cut_of unread ≡ More → ReadFails e faults faults_now → StopsAt e asked unread (got left left_now faults faults_now)
-stops_read faults.ReadFault asked unread l m n o more h = (more, h)
-stops_read faults.NoMemory asked unread l m n o more h = tt
-stops_read (faults.Wire f) asked unread l m n o more h = absurd h
-stops_read (faults.Unasked k) asked unread l m n o more h = absurd h
-stops_read (faults.Kind kind) asked unread l m n o more h = absurd h
-stops_read faults.Ended asked unread l m n o more h = absurd h
-stops_read faults.Torn asked unread l m n o more h = absurd h
-stops_read faults.Closed asked unread l m n o more h = absurd h
-stops_read faults.Tags asked unread l m n o more h = absurd h
-stops_read faults.Large asked unread l m n o more h = absurd h
-stops_read faults.WriteFault asked unread l m n o more h = absurd h
-stops_read (faults.Remote text) asked unread l m n o more h = absurd h
+pub stops_read : (e : CallFault) (asked : List Asked) (unread : List ℕ) (i : Seen) → cut_of unread ≡ More → ReadFails e i.before.faults i.now.faults → StopsAt e asked unread i
+stops_read faults.ReadFault asked unread i more h = (more, h)
+stops_read faults.NoMemory asked unread i more h = tt
+stops_read (faults.Wire f) asked unread i more h = absurd h
+stops_read (faults.Unasked k) asked unread i more h = absurd h
+stops_read (faults.Kind kind) asked unread i more h = absurd h
+stops_read faults.Ended asked unread i more h = absurd h
+stops_read faults.Torn asked unread i more h = absurd h
+stops_read faults.Closed asked unread i more h = absurd h
+stops_read faults.Tags asked unread i more h = absurd h
+stops_read faults.Large asked unread i more h = absurd h
+stops_read faults.WriteFault asked unread i more h = absurd h
+stops_read (faults.Remote text) asked unread i more h = absurd h
 
 -- a reply that isn't kept at the end wasn't at the beginning
 pub first_none : (tag : ℕ) (a b : List Asked) → (is_some (reply_place tag a) ≡ true → b ≡ a) → reply_place tag b ≡ None → reply_place tag a ≡ None
@@ -151,7 +152,7 @@ first_none tag a b kept none =
       | Some at ↦ λ e. sym e ∙ ap (reply_place tag) (sym (kept (ap is_some e))) ∙ none
     ] refl
 
-pub wait_fails : (e : CallFault) (tag : ℕ) (t : Talk) (i : Input) (after : Talk) → Stops e tag t i after → WaitFails e tag t i after
+pub wait_fails : (e : CallFault) (tag : ℕ) (t : Talk) (i : Seen) (after : Talk) → Stops e tag t i after → WaitFails e tag t i after
 wait_fails faults.ReadFault tag t i after s = s
 wait_fails faults.Ended tag t i after s = s
 wait_fails faults.Torn tag t i after s = s

@@ -1,7 +1,8 @@
 -- A call that is made while no tag is asked: the next message is its reply, or there is a fault.
 use Rattle.std.specs.Prelude.{◌≡◌, ◌≢◌, ◌⊎◌, ◌+◌, ℕ, true, false, List, [], ◌∷◌, ◌++◌, Option, Some, None, Result, Ok, Err, ◌==◌, if◌then◌else◌}
 use Rattle.am_base.specs.Outside.{AreTold, HasRisen}
-use Rattle.am_base.specs.Written.{Output, IsWhole, IsCut}
+use Rattle.am_base.specs.Seen.{Seen}
+use Rattle.am_base.specs.Written.{IsWhole, IsCut}
 use Rattle.ninep_types.specs.declared.fault.WireFault.{WireFault}
 use Rattle.ninep_types.specs.declared.fault.WireFault.TheVariants.{Size}
 use Rattle.ninep_types.specs.declared.message.TBody.{TBody}
@@ -16,7 +17,7 @@ use Rattle.ninep_cut.specs.Cuts.{IsMessage, cut_of, first_of}
 use Rattle.ninep_client.specs.declared.fault.CallFault.{CallFault}
 use Rattle.ninep_client.specs.declared.fault.CallFault.TheVariants as fault
 use Rattle.ninep_client.specs.Asking.{Talk, is_version, refusal}
-use Rattle.ninep_client.specs.Hearing.{Input, Came, answers, msize_after}
+use Rattle.ninep_client.specs.Hearing.{Came, answers, msize_after}
 use Rattle.ninep_client.specs.Calls.{IsIdle, message_of}
 
 -- the tag of a message
@@ -63,26 +64,26 @@ msize_behind (Ok reply) most = msize_after reply most
 msize_behind (Err e) most = most
 
 -- The message was sent, and the next message is its reply, or the text of an error.
-pub record Replies (t : Talk) (body : TBody) (o : Output) (i : Input) (got : Result RBody CallFault) (after : Talk) : Type 0 where
+pub record Replies (t : Talk) (body : TBody) (o i : Seen) (got : Result RBody CallFault) (after : Talk) : Type 0 where
   pub message : List ℕ
   pub allowed : refusal t body ≡ None
   pub put : IsWhole o (spelled body)
-  pub came : Came i.left i.left_now t.unread (message ++ after.unread)
+  pub came : Came i.before.bytes i.now.bytes t.unread (message ++ after.unread)
   pub whole : IsMessage message
   pub reply : reply_to body message ≡ got
   pub state : after ≡ record { unread = after.unread; asked = []; msize = msize_behind got t.msize; is_closed = t.is_closed }
 
 -- nothing was sent and nothing was read
-pub record IsRefused (e : CallFault) (t : Talk) (body : TBody) (o : Output) (i : Input) (after : Talk) : Type 0 where
+pub record IsRefused (e : CallFault) (t : Talk) (body : TBody) (o i : Seen) (after : Talk) : Type 0 where
   pub refused : refusal t body ≡ Some e
   pub idle : IsIdle t after o
-  pub unread : i.left_now ≡ i.left
+  pub unread : i.now.bytes ≡ i.before.bytes
 
 -- a front of the message was sent, and the sink has failed
-pub record IsTorn (t : Talk) (body : TBody) (o : Output) (i : Input) : Type 0 where
+pub record IsTorn (t : Talk) (body : TBody) (o i : Seen) : Type 0 where
   pub allowed : refusal t body ≡ None
   pub cut : IsCut o (spelled body)
-  pub unread : i.left_now ≡ i.left
+  pub unread : i.now.bytes ≡ i.before.bytes
 
 -- what is wrong with the message, or its size, that stands at the front
 abbrev pub reply_fault : Result RBody CallFault → Option CallFault
@@ -98,10 +99,10 @@ abbrev pub front_reply : TBody → List ℕ → Option CallFault
 front_reply body bytes = front_at (cut_of bytes) body bytes
 
 -- Why there is no reply, by what is unread then.
-abbrev pub AloneStops : CallFault → TBody → List ℕ → Input → Type 0
-AloneStops fault.ReadFault body unread i = (cut_of unread ≡ More) × HasRisen i.faults i.faults_now
-AloneStops fault.Ended body unread i = (unread ≡ []) × AreTold i.left_now []
-AloneStops fault.Torn body unread i = (unread ≢ []) × (cut_of unread ≡ More) × AreTold i.left_now []
+abbrev pub AloneStops : CallFault → TBody → List ℕ → Seen → Type 0
+AloneStops fault.ReadFault body unread i = (cut_of unread ≡ More) × HasRisen i.before.faults i.now.faults
+AloneStops fault.Ended body unread i = (unread ≡ []) × AreTold i.now.bytes []
+AloneStops fault.Torn body unread i = (unread ≢ []) × (cut_of unread ≡ More) × AreTold i.now.bytes []
 AloneStops (fault.Wire f) body unread i = front_reply body unread ≡ Some (fault.Wire f)
 AloneStops (fault.Unasked n) body unread i = front_reply body unread ≡ Some (fault.Unasked n)
 AloneStops (fault.Kind kind) body unread i = front_reply body unread ≡ Some (fault.Kind kind)
@@ -113,20 +114,20 @@ AloneStops fault.WriteFault body unread i = ⊥
 AloneStops (fault.Remote text) body unread i = ⊥
 
 -- The message was sent, and there is no reply for a cause.
-pub record HasStopped (e : CallFault) (t : Talk) (body : TBody) (o : Output) (i : Input) (after : Talk) : Type 0 where
+pub record HasStopped (e : CallFault) (t : Talk) (body : TBody) (o i : Seen) (after : Talk) : Type 0 where
   pub allowed : refusal t body ≡ None
   pub put : IsWhole o (spelled body)
-  pub came : Came i.left i.left_now t.unread after.unread
+  pub came : Came i.before.bytes i.now.bytes t.unread after.unread
   pub cause : AloneStops e body after.unread i
 
 -- The message was sent, or not, and there was no memory for the rest.
-pub record IsStarved (t : Talk) (body : TBody) (o : Output) (i : Input) (after : Talk) : Type 0 where
+pub record IsStarved (t : Talk) (body : TBody) (o i : Seen) (after : Talk) : Type 0 where
   pub allowed : refusal t body ≡ None
-  pub put : IsWhole o (spelled body) ⊎ (o.held_now ≡ o.held)
-  pub came : Came i.left i.left_now t.unread after.unread
+  pub put : IsWhole o (spelled body) ⊎ (o.now.bytes ≡ o.before.bytes)
+  pub came : Came i.before.bytes i.now.bytes t.unread after.unread
 
 -- why there is no reply
-abbrev pub AloneFails : CallFault → Talk → TBody → Output → Input → Talk → Type 0
+abbrev pub AloneFails : CallFault → Talk → TBody → Seen → Seen → Talk → Type 0
 AloneFails (fault.Remote text) t body o i after = Replies t body o i (Err (fault.Remote text)) after
 AloneFails fault.Closed t body o i after = IsRefused fault.Closed t body o i after
 AloneFails fault.Tags t body o i after = IsRefused fault.Tags t body o i after

@@ -1,6 +1,7 @@
 -- What each answer of a client's calls says.
 use Rattle.std.specs.Prelude.{◌≡◌, ◌⊎◌, ℕ, Bool, true, false, List, Some, None}
-use Rattle.am_base.specs.Written.{Output, IsWhole, IsCut}
+use Rattle.am_base.specs.Seen.{Seen}
+use Rattle.am_base.specs.Written.{IsWhole, IsCut}
 use Rattle.ninep_types.specs.declared.message.TMsg.{TMsg}
 use Rattle.ninep_types.specs.declared.message.TBody.{TBody}
 use Rattle.ninep_types.specs.declared.message.RBody.{RBody}
@@ -10,7 +11,7 @@ use Rattle.ninep_client.specs.declared.asked.Asked.{Asked}
 use Rattle.ninep_client.specs.declared.fault.CallFault.{CallFault}
 use Rattle.ninep_client.specs.declared.fault.CallFault.TheVariants as fault
 use Rattle.ninep_client.specs.Asking.{Talk, IsTagFor, refusal, after_sent, closed, reply_of, reply_place}
-use Rattle.ninep_client.specs.Hearing.{Input, Hears, StopsAt, answered, msize_after}
+use Rattle.ninep_client.specs.Hearing.{Hears, StopsAt, answered, msize_after}
 
 -- ---- send
 
@@ -19,26 +20,26 @@ abbrev pub message_of : ℕ → TBody → List ℕ
 message_of tag body = let m : TMsg = record { tag = tag; body = body } in spelling_t m
 
 -- A message was sent: it is whole in the sink, and its tag is asked.
-pub record Sends (t : Talk) (body : TBody) (tag : ℕ) (after : Talk) (o : Output) : Type 0 where
+pub record Sends (t : Talk) (body : TBody) (tag : ℕ) (after : Talk) (o : Seen) : Type 0 where
   pub allowed : refusal t body ≡ None
   pub tagged : IsTagFor body t.asked tag
   pub state : after ≡ after_sent t tag body
   pub put : IsWhole o (message_of tag body)
 
 -- nothing was sent, and nothing has changed
-pub record IsIdle (t after : Talk) (o : Output) : Type 0 where
+pub record IsIdle (t after : Talk) (o : Seen) : Type 0 where
   pub same : after ≡ t
-  pub silent : o.held_now ≡ o.held
+  pub silent : o.now.bytes ≡ o.before.bytes
 
 -- The sink has failed: a front of the message stands in it, and the client is closed.
-pub record Cuts (t : Talk) (body : TBody) (after : Talk) (o : Output) : Type 0 where
+pub record Cuts (t : Talk) (body : TBody) (after : Talk) (o : Seen) : Type 0 where
   pub tag : ℕ
   pub for : IsTagFor body t.asked tag
   pub state : after ≡ closed t
   pub cut : IsCut o (message_of tag body)
 
 -- why a message wasn't sent
-abbrev pub SendFails : CallFault → Talk → TBody → Talk → Output → Type 0
+abbrev pub SendFails : CallFault → Talk → TBody → Talk → Seen → Type 0
 SendFails fault.Closed t body after o = (refusal t body ≡ Some fault.Closed) × IsIdle t after o
 SendFails fault.Tags t body after o = (refusal t body ≡ Some fault.Tags) × IsIdle t after o
 SendFails fault.Large t body after o = (refusal t body ≡ Some fault.Large) × IsIdle t after o
@@ -55,22 +56,22 @@ SendFails (fault.Kind kind) t body after o = ⊥
 -- ---- wait
 
 -- messages were heard until the reply to a tag was kept, or as far as they came
-abbrev pub HearsFor : ℕ → Talk → Input → List Asked → List ℕ → Type 0
-HearsFor tag t i asked unread = Hears tag t.asked t.unread i.left i.left_now asked unread
+abbrev pub HearsFor : ℕ → Talk → Seen → List Asked → List ℕ → Type 0
+HearsFor tag t i asked unread = Hears tag t.asked t.unread i.before.bytes i.now.bytes asked unread
 
 -- The first reply to the tag was given, and the tag is free again.
-pub record Gives (tag : ℕ) (t : Talk) (i : Input) (body : RBody) (after : Talk) : Type 0 where
+pub record Gives (tag : ℕ) (t : Talk) (i : Seen) (body : RBody) (after : Talk) : Type 0 where
   pub asked : List Asked
   pub hears : HearsFor tag t i asked after.unread
   pub reply : reply_of tag asked ≡ Some body
   pub state : after ≡ record { unread = after.unread; asked = answered tag asked; msize = msize_after body t.msize; is_closed = t.is_closed }
 
 -- nothing was read, and nothing has changed
-pub record IsClosed (tag : ℕ) (t : Talk) (i : Input) (after : Talk) : Type 0 where
+pub record IsClosed (tag : ℕ) (t : Talk) (i : Seen) (after : Talk) : Type 0 where
   pub shut : t.is_closed ≡ true
   pub none : reply_place tag t.asked ≡ None
   pub same : after ≡ t
-  pub unread : i.left_now ≡ i.left
+  pub unread : i.now.bytes ≡ i.before.bytes
 
 -- whether a fault closes the client, where it comes while it waits
 abbrev pub closes : CallFault → Bool
@@ -89,7 +90,7 @@ closes (fault.Kind kind) = true
 
 -- Messages were heard, none of which is a reply to the tag, and then reading has stopped for a cause, which closes the client, unless it is
 -- want of memory.
-pub record Stops (e : CallFault) (tag : ℕ) (t : Talk) (i : Input) (after : Talk) : Type 0 where
+pub record Stops (e : CallFault) (tag : ℕ) (t : Talk) (i : Seen) (after : Talk) : Type 0 where
   pub live : t.is_closed ≡ false
   pub hears : HearsFor tag t i after.asked after.unread
   pub none : reply_place tag after.asked ≡ None
@@ -97,7 +98,7 @@ pub record Stops (e : CallFault) (tag : ℕ) (t : Talk) (i : Input) (after : Tal
   pub state : after ≡ record { unread = after.unread; asked = after.asked; msize = t.msize; is_closed = closes e }
 
 -- why there is no reply to give
-abbrev pub WaitFails : CallFault → ℕ → Talk → Input → Talk → Type 0
+abbrev pub WaitFails : CallFault → ℕ → Talk → Seen → Talk → Type 0
 WaitFails (fault.Remote text) tag t i after = Gives tag t i (r.Error text) after
 WaitFails fault.Closed tag t i after = IsClosed tag t i after
 WaitFails fault.ReadFault tag t i after = Stops fault.ReadFault tag t i after
@@ -114,7 +115,7 @@ WaitFails fault.WriteFault tag t i after = ⊥
 -- ---- call
 
 -- The message was sent, and the reply to it was given.
-pub record Calls (t : Talk) (body : TBody) (o : Output) (i : Input) (reply : RBody) (after : Talk) : Type 0 where
+pub record Calls (t : Talk) (body : TBody) (o i : Seen) (reply : RBody) (after : Talk) : Type 0 where
   pub tag : ℕ
   pub sends : Sends t body tag (after_sent t tag body) o
   pub gives : Gives tag (after_sent t tag body) i reply after
@@ -135,19 +136,19 @@ shut (fault.Unasked n) t = t
 shut (fault.Kind kind) t = t
 
 -- The message wasn't sent, and nothing was read.
-pub record IsUnsent (e : CallFault) (t : Talk) (body : TBody) (o : Output) (i : Input) (after : Talk) : Type 0 where
+pub record IsUnsent (e : CallFault) (t : Talk) (body : TBody) (o i : Seen) (after : Talk) : Type 0 where
   pub mid : Talk
   pub fails : SendFails e t body mid o
   pub state : after ≡ shut e mid
-  pub unread : i.left_now ≡ i.left
+  pub unread : i.now.bytes ≡ i.before.bytes
 
 -- The message was sent, and there is no reply to give.
-pub record IsUnanswered (e : CallFault) (t : Talk) (body : TBody) (o : Output) (i : Input) (after : Talk) : Type 0 where
+pub record IsUnanswered (e : CallFault) (t : Talk) (body : TBody) (o i : Seen) (after : Talk) : Type 0 where
   pub tag : ℕ
   pub mid : Talk
   pub sends : Sends t body tag (after_sent t tag body) o
   pub fails : WaitFails e tag (after_sent t tag body) i mid
   pub state : after ≡ shut e mid
 
-abbrev pub CallFails : CallFault → Talk → TBody → Output → Input → Talk → Type 0
+abbrev pub CallFails : CallFault → Talk → TBody → Seen → Seen → Talk → Type 0
 CallFails e t body o i after = IsUnsent e t body o i after ⊎ IsUnanswered e t body o i after

@@ -1,5 +1,6 @@
 -- What a client makes of the messages that come.
 use Rattle.std.specs.Prelude.{◌≡◌, ◌≢◌, ◌+◌, ℕ, Bool, ◌||◌, List, [], ◌∷◌, ◌++◌, Option, Some, None, is_some, Result, Ok, Err, ◌==◌, if◌then◌else◌, slice_get, slice_set, remove, min, length, All}
+use Rattle.am_base.specs.Seen.{Seen}
 use Rattle.std.specs.List.{concat}
 use Rattle.am_base.specs.Outside.{then_told, AreTold, HasRisen}
 use Rattle.ninep_types.specs.declared.fault.WireFault.{WireFault}
@@ -88,17 +89,6 @@ unfoldable pub heard_until : ℕ → List Asked → List (List ℕ) → Option (
 heard_until tag asked [] = Some asked
 heard_until tag asked (m ∷ ms) = if is_some (reply_place tag asked) then None else heard_next (λ next. heard_until tag next ms) (heard asked m)
 
--- a source before and after: the bytes that it tells, and its count of faults
-pub record Input : Type 0 where
-  pub left : Option (List ℕ)
-  pub left_now : Option (List ℕ)
-  pub faults : ℕ
-  pub faults_now : ℕ
-
--- a source by what it tells and by its count of faults, before and after
-abbrev pub got : Option (List ℕ) → Option (List ℕ) → ℕ → ℕ → Input
-got left left_now faults faults_now = record { left = left; left_now = left_now; faults = faults; faults_now = faults_now }
-
 -- Bytes came from a source, behind those that were unread.
 pub record Came (left left_now : Option (List ℕ)) (unread now : List ℕ) : Type 0 where
   pub bytes : List ℕ
@@ -150,10 +140,10 @@ pub record Reads (n : ℕ) (left left_now : Option (List ℕ)) (unread now : Lis
 
 -- Why reading has stopped, by what is unread then: the count of faults has risen inside a message; the source has nothing left, between two messages or
 -- inside one; what stands at the front is no reply to a tag that waits. Want of memory shows nothing.
-abbrev pub StopsAt : CallFault → List Asked → List ℕ → Input → Type 0
-StopsAt faults.ReadFault asked unread i = (cut_of unread ≡ More) × HasRisen i.faults i.faults_now
-StopsAt faults.Ended asked unread i = (unread ≡ []) × AreTold i.left_now []
-StopsAt faults.Torn asked unread i = (unread ≢ []) × (cut_of unread ≡ More) × AreTold i.left_now []
+abbrev pub StopsAt : CallFault → List Asked → List ℕ → Seen → Type 0
+StopsAt faults.ReadFault asked unread i = (cut_of unread ≡ More) × HasRisen i.before.faults i.now.faults
+StopsAt faults.Ended asked unread i = (unread ≡ []) × AreTold i.now.bytes []
+StopsAt faults.Torn asked unread i = (unread ≢ []) × (cut_of unread ≡ More) × AreTold i.now.bytes []
 StopsAt (Wire f) asked unread i = front_fault asked unread ≡ Some (Wire f)
 StopsAt (Unasked n) asked unread i = front_fault asked unread ≡ Some (Unasked n)
 StopsAt (Kind kind) asked unread i = front_fault asked unread ≡ Some (Kind kind)

@@ -1,10 +1,9 @@
 //! A client of 9P2000.
 
 ghost use Rattle.std.specs.Prelude.{◌≡◌, ◌≢◌, ◌≤◌, ◌+◌, ◌==◌, [], length, Ok, true, is_some, nat_lt, IfOk, IfErr};
-ghost use Rattle.am_base.specs.Written.{seen};
+ghost use Rattle.am_base.specs.Seen.{seen};
 ghost use Rattle.ninep_types.specs.Spelling.{kind_r, kind_t, size_t, Fits_t};
 ghost use Rattle.ninep_client.specs.Asking.{begun, MaySend, is_asked, reply_place};
-ghost use Rattle.ninep_client.specs.Hearing.{got};
 ghost use Rattle.ninep_client.specs.Calls.{Sends, SendFails, Gives, WaitFails, Calls, CallFails, shut};
 ghost use Rattle.ninep_client.specs.Alone.{Replies, AloneFails};
 
@@ -114,10 +113,10 @@ impl<R: Source, W: Sink> Client<R, W> {
     pub fn send(&mut self, body: TBody) -> Result<u16, CallFault>
         requires { MaySend self.old.talk.asked body }
         ensures ok { IfOk result (λ tag. Sends self.old.talk body tag self.new.talk
-            (seen (W.held self.old.sink) (W.held self.new.sink) (W.faults self.old.sink) (W.faults self.new.sink))) }
+            (seen (W.told self.old.sink) (W.told self.new.sink))) }
         ensures err { IfErr result (λ e. SendFails e self.old.talk body self.new.talk
-            (seen (W.held self.old.sink) (W.held self.new.sink) (W.faults self.old.sink) (W.faults self.new.sink))) }
-        ensures later { W.faults self.old.sink ≤ W.faults self.new.sink }
+            (seen (W.told self.old.sink) (W.told self.new.sink))) }
+        ensures later { (W.told self.old.sink).faults ≤ (W.told self.new.sink).faults }
         ensures source { self.new.source ≡ self.old.source }
     {
         if self.is_closed {
@@ -164,12 +163,12 @@ impl<R: Source, W: Sink> Client<R, W> {
     pub fn wait(&mut self, tag: u16) -> Result<RBody, CallFault>
         requires { is_asked tag self.old.talk.asked ≡ true }
         ensures ok { IfOk result (λ body. Gives tag self.old.talk
-            (got (R.left self.old.source) (R.left self.new.source) (R.faults self.old.source) (R.faults self.new.source)) body self.new.talk) }
+            (seen (R.told self.old.source) (R.told self.new.source)) body self.new.talk) }
         ensures no_error { IfOk result (λ body. kind_r body ≢ 107) }
         ensures err { IfErr result (λ e. WaitFails e tag self.old.talk
-            (got (R.left self.old.source) (R.left self.new.source) (R.faults self.old.source) (R.faults self.new.source)) self.new.talk) }
-        ensures kept { is_some (reply_place tag self.old.talk.asked) ≡ true → R.left self.new.source ≡ R.left self.old.source }
-        ensures later { R.faults self.old.source ≤ R.faults self.new.source }
+            (seen (R.told self.old.source) (R.told self.new.source)) self.new.talk) }
+        ensures kept { is_some (reply_place tag self.old.talk.asked) ≡ true → (R.told self.new.source).bytes ≡ (R.told self.old.source).bytes }
+        ensures later { (R.told self.old.source).faults ≤ (R.told self.new.source).faults }
         ensures sink { self.new.sink ≡ self.old.sink }
     {
         if self.is_closed && reply_place(self.asked.as_slice(), tag).is_none() {
@@ -209,14 +208,14 @@ impl<R: Source, W: Sink> Client<R, W> {
     fn send_and_wait(&mut self, body: TBody) -> Result<RBody, CallFault>
         requires { MaySend self.old.talk.asked body }
         ensures ok { IfOk result (λ reply. Calls self.old.talk body
-            (seen (W.held self.old.sink) (W.held self.new.sink) (W.faults self.old.sink) (W.faults self.new.sink))
-            (got (R.left self.old.source) (R.left self.new.source) (R.faults self.old.source) (R.faults self.new.source)) reply self.new.talk) }
+            (seen (W.told self.old.sink) (W.told self.new.sink))
+            (seen (R.told self.old.source) (R.told self.new.source)) reply self.new.talk) }
         ensures no_error { IfOk result (λ reply. kind_r reply ≢ 107) }
         ensures err { IfErr result (λ e. CallFails e self.old.talk body
-            (seen (W.held self.old.sink) (W.held self.new.sink) (W.faults self.old.sink) (W.faults self.new.sink))
-            (got (R.left self.old.source) (R.left self.new.source) (R.faults self.old.source) (R.faults self.new.source)) self.new.talk) }
-        ensures later_sink { W.faults self.old.sink ≤ W.faults self.new.sink }
-        ensures later_source { R.faults self.old.source ≤ R.faults self.new.source }
+            (seen (W.told self.old.sink) (W.told self.new.sink))
+            (seen (R.told self.old.source) (R.told self.new.source)) self.new.talk) }
+        ensures later_sink { (W.told self.old.sink).faults ≤ (W.told self.new.sink).faults }
+        ensures later_source { (R.told self.old.source).faults ≤ (R.told self.new.source).faults }
     {
         let tag = match self.send(body) {
             Ok(tag) => tag,
@@ -234,22 +233,22 @@ impl<R: Source, W: Sink> Client<R, W> {
     pub fn call(&mut self, body: TBody) -> Result<RBody, CallFault>
         requires { MaySend self.old.talk.asked body }
         ensures ok { IfOk result (λ reply. Calls self.old.talk body
-            (seen (W.held self.old.sink) (W.held self.new.sink) (W.faults self.old.sink) (W.faults self.new.sink))
-            (got (R.left self.old.source) (R.left self.new.source) (R.faults self.old.source) (R.faults self.new.source)) reply self.new.talk) }
+            (seen (W.told self.old.sink) (W.told self.new.sink))
+            (seen (R.told self.old.source) (R.told self.new.source)) reply self.new.talk) }
         ensures no_error { IfOk result (λ reply. kind_r reply ≢ 107) }
         ensures err { IfErr result (λ e. CallFails e self.old.talk body
-            (seen (W.held self.old.sink) (W.held self.new.sink) (W.faults self.old.sink) (W.faults self.new.sink))
-            (got (R.left self.old.source) (R.left self.new.source) (R.faults self.old.source) (R.faults self.new.source)) self.new.talk) }
+            (seen (W.told self.old.sink) (W.told self.new.sink))
+            (seen (R.told self.old.source) (R.told self.new.source)) self.new.talk) }
         // While no tag is asked the next message is the reply, or there is a fault.
         ensures alone { self.old.talk.asked ≡ [] → IfOk result (λ reply. Replies self.old.talk body
-            (seen (W.held self.old.sink) (W.held self.new.sink) (W.faults self.old.sink) (W.faults self.new.sink))
-            (got (R.left self.old.source) (R.left self.new.source) (R.faults self.old.source) (R.faults self.new.source)) (Ok reply) self.new.talk) }
+            (seen (W.told self.old.sink) (W.told self.new.sink))
+            (seen (R.told self.old.source) (R.told self.new.source)) (Ok reply) self.new.talk) }
         ensures alone_err { self.old.talk.asked ≡ [] → IfErr result (λ e. AloneFails e self.old.talk body
-            (seen (W.held self.old.sink) (W.held self.new.sink) (W.faults self.old.sink) (W.faults self.new.sink))
-            (got (R.left self.old.source) (R.left self.new.source) (R.faults self.old.source) (R.faults self.new.source)) self.new.talk) }
+            (seen (W.told self.old.sink) (W.told self.new.sink))
+            (seen (R.told self.old.source) (R.told self.new.source)) self.new.talk) }
         ensures kind { self.old.talk.asked ≡ [] → IfOk result (λ reply. kind_r reply ≡ kind_t body + 1) }
-        ensures later_sink { W.faults self.old.sink ≤ W.faults self.new.sink }
-        ensures later_source { R.faults self.old.source ≤ R.faults self.new.source }
+        ensures later_sink { (W.told self.old.sink).faults ≤ (W.told self.new.sink).faults }
+        ensures later_source { (R.told self.old.source).faults ≤ (R.told self.new.source).faults }
     {
         self.send_and_wait(body)
     }

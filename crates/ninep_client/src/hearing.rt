@@ -1,10 +1,11 @@
 //! Reading the messages that come, and keeping the replies.
 
 ghost use Rattle.std.specs.Prelude.{◌≡◌, ◌≤◌, ◌<◌, Some, None, Ok, true, is_some, IfOk, IfErr, OnOk, OnErr};
+ghost use Rattle.am_base.specs.Seen.{seen};
 ghost use Rattle.ninep_cut.specs.declared.cut.Cut.TheVariants.{Whole};
 ghost use Rattle.ninep_cut.specs.Cuts.{cut_of};
 ghost use Rattle.ninep_client.specs.Asking.{reply_place};
-ghost use Rattle.ninep_client.specs.Hearing.{Came, Hears, HearsOne, StopsAt, HeardFails, heard, end_of, got, waiting};
+ghost use Rattle.ninep_client.specs.Hearing.{Came, Hears, HearsOne, StopsAt, HeardFails, heard, end_of, waiting};
 
 use crate::asked::{Asked, keep, reply_place};
 use crate::fault::CallFault;
@@ -29,10 +30,10 @@ fn end_at(unread: &Unread) -> CallFault
 
 // Reads bytes until a whole message stands at the front.
 fn fill<R: Source>(unread: &mut Unread, source: &mut R) -> Result<(), CallFault>
-    ensures came { Came (R.left source.old) (R.left source.new) unread.old unread.new }
+    ensures came { Came (R.told source.old).bytes (R.told source.new).bytes unread.old unread.new }
     ensures ok { OnOk result (cut_of unread.new ≡ Whole) }
-    ensures err { IfErr result (λ e. (asked : _) → StopsAt e asked unread.new (got (R.left source.old) (R.left source.new) (R.faults source.old) (R.faults source.new))) }
-    ensures later { R.faults source.old ≤ R.faults source.new }
+    ensures err { IfErr result (λ e. (asked : _) → StopsAt e asked unread.new (seen (R.told source.old) (R.told source.new))) }
+    ensures later { (R.told source.old).faults ≤ (R.told source.new).faults }
 {
     answers_are_exact();
     'pieces: loop {
@@ -69,12 +70,12 @@ fn hear<R: Source>(
     unread: &mut Unread,
     source: &mut R,
 ) -> Result<(), CallFault>
-    ensures ok { OnOk result (HearsOne asked.old.items unread.old (R.left source.old) (R.left source.new) asked.new.items unread.new) }
+    ensures ok { OnOk result (HearsOne asked.old.items unread.old (R.told source.old).bytes (R.told source.new).bytes asked.new.items unread.new) }
     ensures fewer { OnOk result (waiting asked.new.items < waiting asked.old.items) }
-    ensures came { OnErr result (Came (R.left source.old) (R.left source.new) unread.old unread.new) }
+    ensures came { OnErr result (Came (R.told source.old).bytes (R.told source.new).bytes unread.old unread.new) }
     ensures same { OnErr result (asked.new ≡ asked.old) }
-    ensures err { IfErr result (λ e. StopsAt e asked.old.items unread.new (got (R.left source.old) (R.left source.new) (R.faults source.old) (R.faults source.new))) }
-    ensures later { R.faults source.old ≤ R.faults source.new }
+    ensures err { IfErr result (λ e. StopsAt e asked.old.items unread.new (seen (R.told source.old) (R.told source.new))) }
+    ensures later { (R.told source.old).faults ≤ (R.told source.new).faults }
 {
     if let Err(fault) = fill(unread, source) {
         return Err(fault);
@@ -98,13 +99,13 @@ pub(crate) fn bring<R: Source>(
     source: &mut R,
     tag: u16,
 ) -> Result<usize, CallFault>
-    ensures hears { Hears tag asked.old.items unread.old (R.left source.old) (R.left source.new) asked.new.items unread.new }
+    ensures hears { Hears tag asked.old.items unread.old (R.told source.old).bytes (R.told source.new).bytes asked.new.items unread.new }
     ensures ok { IfOk result (λ at. reply_place tag asked.new.items ≡ Some at) }
     ensures none { OnErr result (reply_place tag asked.new.items ≡ None) }
-    ensures err { IfErr result (λ e. StopsAt e asked.new.items unread.new (got (R.left source.old) (R.left source.new) (R.faults source.old) (R.faults source.new))) }
+    ensures err { IfErr result (λ e. StopsAt e asked.new.items unread.new (seen (R.told source.old) (R.told source.new))) }
     ensures first { OnErr result (reply_place tag asked.old.items ≡ None) }
-    ensures kept { is_some (reply_place tag asked.old.items) ≡ true → R.left source.new ≡ R.left source.old }
-    ensures later { R.faults source.old ≤ R.faults source.new }
+    ensures kept { is_some (reply_place tag asked.old.items) ≡ true → (R.told source.new).bytes ≡ (R.told source.old).bytes }
+    ensures later { (R.told source.old).faults ≤ (R.told source.new).faults }
 {
     'messages: loop {
         if let Some(at) = reply_place(asked.as_slice(), tag) {

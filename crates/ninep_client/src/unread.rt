@@ -73,11 +73,11 @@ impl Unread {
     /// Reads bytes from a source, and answers how many came; none at its end alone. Room is taken first, so that no byte
     /// is lost for want of memory.
     pub(crate) fn read<S: Source>(&mut self, source: &mut S) -> Result<usize, CallFault>
-        ensures ok { IfOk result (λ n. Reads n (S.left source.old) (S.left source.new) self.old self.new) }
+        ensures ok { IfOk result (λ n. Reads n (S.told source.old).bytes (S.told source.new).bytes self.old self.new) }
         ensures err { OnErr result (self.new ≡ self.old) }
-        ensures left { OnErr result (S.left source.new ≡ S.left source.old) }
-        ensures later { S.faults source.old ≤ S.faults source.new }
-        ensures cause { IfErr result (λ e. ReadFails e (S.faults source.old) (S.faults source.new)) }
+        ensures left { OnErr result ((S.told source.new).bytes ≡ (S.told source.old).bytes) }
+        ensures later { (S.told source.old).faults ≤ (S.told source.new).faults }
+        ensures cause { IfErr result (λ e. ReadFails e (S.told source.old).faults (S.told source.new).faults) }
     {
         let mut piece = [0; PIECE];
         self.drop_read();

@@ -1,5 +1,6 @@
 use Rattle.std.proofs.Common.{inl, inr, ℕ, List, ◌∙◌, refl, sym, subst}
 use Rattle.std.specs.Prelude.{string_bytes}
+use Rattle.am_base.specs.Seen.{given}
 use Rattle.am_slots.specs.Slots.{outside}
 use Rattle.am_words.specs.declared.asked.Asked.TheVariants as asked
 use Rattle.am_words.specs.Words.{AreKnown}
@@ -18,34 +19,34 @@ use Rattle.acmefs.proofs.asked.do_asked.Goals as goal
 -- ---- a replay
 
 pub returns-in-Ok-Some-Replay-clause-idle_fault : goal.returns-in-Ok-Some-Replay-clause-idle_fault
-returns-in-Ok-Some-Replay-clause-idle_fault g c = let s = c.replayed.ensures.says in promised.idle_fault s.0 _ _ _ _ _ _ s.1 s.2
+returns-in-Ok-Some-Replay-clause-idle_fault g c = let s = c.replayed.ensures.says in promised.idle_fault s.0 _ _ _ _ _ s.1 s.2
 
 pub returns-in-Ok-Some-Replay-clause-read_fault : goal.returns-in-Ok-Some-Replay-clause-read_fault
-returns-in-Ok-Some-Replay-clause-read_fault g c = let s = c.replayed.ensures.says in promised.read_fault s.0 _ _ _ _ _ _ s.1 s.2
+returns-in-Ok-Some-Replay-clause-read_fault g c = let s = c.replayed.ensures.says in promised.read_fault s.0 _ _ _ _ _ s.1 s.2
 
 pub returns-in-Ok-Some-Replay-clause-write_cause : goal.returns-in-Ok-Some-Replay-clause-write_cause
-returns-in-Ok-Some-Replay-clause-write_cause g c = let s = c.replayed.ensures.says in promised.write_cause s.0 _ _ _ _ _ _ s.1 s.2
+returns-in-Ok-Some-Replay-clause-write_cause g c = let s = c.replayed.ensures.says in promised.write_cause s.0 _ _ _ _ _ s.1 s.2
 
 pub returns-in-Ok-Some-Replay-clause-idle_words : goal.returns-in-Ok-Some-Replay-clause-idle_words
-returns-in-Ok-Some-Replay-clause-idle_words g c = let s = c.replayed.ensures.says in λ h. absurd (promised.usage s.0 _ _ _ _ _ _ s.1 s.2 h)
+returns-in-Ok-Some-Replay-clause-idle_words g c = let s = c.replayed.ensures.says in λ h. absurd (promised.usage s.0 _ _ _ _ _ s.1 s.2 h)
 
 pub returns-in-Ok-Some-Replay-clause-done : goal.returns-in-Ok-Some-Replay-clause-done
-returns-in-Ok-Some-Replay-clause-done g c = let s = c.replayed.ensures.says in λ r. promised.done s.0 _ _ _ _ _ _ s.1 s.2
+returns-in-Ok-Some-Replay-clause-done g c = let s = c.replayed.ensures.says in λ r. promised.done s.0 _ _ _ _ _ s.1 s.2
 
 pub returns-in-Ok-Some-Replay-clause-script : goal.returns-in-Ok-Some-Replay-clause-script
-returns-in-Ok-Some-Replay-clause-script g c = let s = c.replayed.ensures.says in λ r. promised.script s.0 _ _ _ _ _ _ s.1 s.2
+returns-in-Ok-Some-Replay-clause-script g c = let s = c.replayed.ensures.says in λ r. promised.script s.0 _ _ _ _ _ s.1 s.2
 
 pub returns-in-Ok-Some-Replay-clause-write_fault : goal.returns-in-Ok-Some-Replay-clause-write_fault
-returns-in-Ok-Some-Replay-clause-write_fault g c = let s = c.replayed.ensures.says in λ r. promised.write_fault s.0 _ _ _ _ _ _ s.1 s.2
+returns-in-Ok-Some-Replay-clause-write_fault g c = let s = c.replayed.ensures.says in λ r. promised.write_fault s.0 _ _ _ _ _ s.1 s.2
 
 pub returns-in-Ok-Some-Replay-clause-no_memory : goal.returns-in-Ok-Some-Replay-clause-no_memory
-returns-in-Ok-Some-Replay-clause-no_memory g c = let s = c.replayed.ensures.says in λ r. promised.no_memory s.0 _ _ _ _ _ _ s.1 s.2
+returns-in-Ok-Some-Replay-clause-no_memory g c = let s = c.replayed.ensures.says in λ r. promised.no_memory s.0 _ _ _ _ _ s.1 s.2
 
 pub returns-in-Ok-Some-Replay-clause-complete : goal.returns-in-Ok-Some-Replay-clause-complete
-returns-in-Ok-Some-Replay-clause-complete g c = let s = c.replayed.ensures.says in λ r. promised.complete s.0 _ _ _ _ _ _ s.1 s.2
+returns-in-Ok-Some-Replay-clause-complete g c = let s = c.replayed.ensures.says in λ r. promised.complete s.0 _ _ _ _ _ s.1 s.2
 
 pub returns-in-Ok-Some-Replay-clause-own_text : goal.returns-in-Ok-Some-Replay-clause-own_text
-returns-in-Ok-Some-Replay-clause-own_text g c = let s = c.replayed.ensures.says in λ r. (s.0, s.1, says_own s.0 _ _ _ _ _ s.2)
+returns-in-Ok-Some-Replay-clause-own_text g c = let s = c.replayed.ensures.says in λ r. (s.0, s.1, says_own s.0 _ _ _ _ s.2)
 
 pub returns-in-Ok-Some-Replay-clause-drills : goal.returns-in-Ok-Some-Replay-clause-drills
 returns-in-Ok-Some-Replay-clause-drills g c = λ n a. absurd (let e = sym (replay_no_drill c.args.words.now (asked_at c.args.words.now _ c.in-Ok-Some-Replay.field-0 c.in-Ok-Some-Replay.field-0-0 asked.Replay c.in-Ok-Some-Replay.field-0-is c.in-Ok-Some-Replay.field-0-0-is c.as_slice.ensures c.in-Ok-Some-Replay.ensures.asked)) ∙ a in cc)
@@ -61,12 +62,12 @@ returns-in-Ok-Some-Replay-clause-serves g c = λ path clients a. absurd (let e =
 
 pub returns-in-Ok-Some-Replay-clause-replied : goal.returns-in-Ok-Some-Replay-clause-replied
 returns-in-Ok-Some-Replay-clause-replied g c = λ h. none_replied {G = g.row.H-G.Denot} {L = g.row.H-G-L.Denot} {S = g.row.H-G-L-R.Denot} {K = g.row.H-G-L-W.Denot}
-    (outside g.H.G.Gate.name g.H.G.Gate.faults g.H.G.L.Link.begins g.H.G.L.Link.faults g.H.G.L.R.Source.left g.H.G.L.R.Source.faults g.H.G.L.W.Sink.held g.H.G.L.W.Sink.faults)
+    (outside g.H.G.Gate.told g.H.G.L.Link.told g.H.G.L.R.Source.told g.H.G.L.W.Sink.told)
     _ _ c.replayed.ensures.none_served
 
 pub returns-in-Ok-Some-Replay-clause-sound : goal.returns-in-Ok-Some-Replay-clause-sound
 returns-in-Ok-Some-Replay-clause-sound g c = none_ended {G = g.row.H-G.Denot} {L = g.row.H-G-L.Denot} {S = g.row.H-G-L-R.Denot} {K = g.row.H-G-L-W.Denot}
-    (outside g.H.G.Gate.name g.H.G.Gate.faults g.H.G.L.Link.begins g.H.G.L.Link.faults g.H.G.L.R.Source.left g.H.G.L.R.Source.faults g.H.G.L.W.Sink.held g.H.G.L.W.Sink.faults)
+    (outside g.H.G.Gate.told g.H.G.L.Link.told g.H.G.L.R.Source.told g.H.G.L.W.Sink.told)
     _ _ c.replayed.ensures.none_served
 
 pub returns-in-Ok-Some-Replay-clause-serve_complete : goal.returns-in-Ok-Some-Replay-clause-serve_complete
@@ -112,12 +113,12 @@ returns-in-Ok-Some-Drill-clause-serves g c = λ path clients a. absurd (let e = 
 
 pub returns-in-Ok-Some-Drill-clause-replied : goal.returns-in-Ok-Some-Drill-clause-replied
 returns-in-Ok-Some-Drill-clause-replied g c = λ h. none_replied {G = g.row.H-G.Denot} {L = g.row.H-G-L.Denot} {S = g.row.H-G-L-R.Denot} {K = g.row.H-G-L-W.Denot}
-    (outside g.H.G.Gate.name g.H.G.Gate.faults g.H.G.L.Link.begins g.H.G.L.Link.faults g.H.G.L.R.Source.left g.H.G.L.R.Source.faults g.H.G.L.W.Sink.held g.H.G.L.W.Sink.faults)
+    (outside g.H.G.Gate.told g.H.G.L.Link.told g.H.G.L.R.Source.told g.H.G.L.W.Sink.told)
     _ _ c.drilled.ensures.none_served
 
 pub returns-in-Ok-Some-Drill-clause-sound : goal.returns-in-Ok-Some-Drill-clause-sound
 returns-in-Ok-Some-Drill-clause-sound g c = none_ended {G = g.row.H-G.Denot} {L = g.row.H-G-L.Denot} {S = g.row.H-G-L-R.Denot} {K = g.row.H-G-L-W.Denot}
-    (outside g.H.G.Gate.name g.H.G.Gate.faults g.H.G.L.Link.begins g.H.G.L.Link.faults g.H.G.L.R.Source.left g.H.G.L.R.Source.faults g.H.G.L.W.Sink.held g.H.G.L.W.Sink.faults)
+    (outside g.H.G.Gate.told g.H.G.L.Link.told g.H.G.L.R.Source.told g.H.G.L.W.Sink.told)
     _ _ c.drilled.ensures.none_served
 
 pub returns-in-Ok-Some-Drill-clause-serve_complete : goal.returns-in-Ok-Some-Drill-clause-serve_complete
@@ -139,18 +140,21 @@ returns-in-Ok-Some-Serve-clause-idle_words g c = λ h. let s = c.serve_main.ensu
 
 pub returns-in-Ok-Some-Serve-clause-read_fault : goal.returns-in-Ok-Some-Serve-clause-read_fault
 returns-in-Ok-Some-Serve-clause-read_fault g c = λ h. let s = c.serve_main.ensures.serves in (serve_read_fault {G = g.row.H-G.Denot} {L = g.row.H-G-L.Denot} {S = g.row.H-G-L-R.Denot} {K = g.row.H-G-L-W.Denot}
-    (outside g.H.G.Gate.name g.H.G.Gate.faults g.H.G.L.Link.begins g.H.G.L.Link.faults g.H.G.L.R.Source.left g.H.G.L.R.Source.faults g.H.G.L.W.Sink.held g.H.G.L.W.Sink.faults)
-    _ _ _ _ _ _ _ s.0 s.1 s.2 h).0
+    (outside g.H.G.Gate.told g.H.G.L.Link.told g.H.G.L.R.Source.told g.H.G.L.W.Sink.told)
+    _ _ (given (g.I.Source.told c.args.input.now) (g.I.Source.told c.serve_main.new.input) (g.H.Host.faults c.args.host.now) (g.H.Host.faults c.serve_main.new.host))
+    _ _ _ _ s.0 s.1 s.2 h).0
 
 pub returns-in-Ok-Some-Serve-clause-idle_fault : goal.returns-in-Ok-Some-Serve-clause-idle_fault
 returns-in-Ok-Some-Serve-clause-idle_fault g c = λ h. let s = c.serve_main.ensures.serves in let idle = (serve_read_fault {G = g.row.H-G.Denot} {L = g.row.H-G-L.Denot} {S = g.row.H-G-L-R.Denot} {K = g.row.H-G-L-W.Denot}
-    (outside g.H.G.Gate.name g.H.G.Gate.faults g.H.G.L.Link.begins g.H.G.L.Link.faults g.H.G.L.R.Source.left g.H.G.L.R.Source.faults g.H.G.L.W.Sink.held g.H.G.L.W.Sink.faults)
-    _ _ _ _ _ _ _ s.0 s.1 s.2 h).1 in record { silent = idle.silent; empty = idle.empty }
+    (outside g.H.G.Gate.told g.H.G.L.Link.told g.H.G.L.R.Source.told g.H.G.L.W.Sink.told)
+    _ _ (given (g.I.Source.told c.args.input.now) (g.I.Source.told c.serve_main.new.input) (g.H.Host.faults c.args.host.now) (g.H.Host.faults c.serve_main.new.host))
+    _ _ _ _ s.0 s.1 s.2 h).1 in record { silent = idle.silent; empty = idle.empty }
 
 pub returns-in-Ok-Some-Serve-clause-write_cause : goal.returns-in-Ok-Some-Serve-clause-write_cause
 returns-in-Ok-Some-Serve-clause-write_cause g c = λ h. let s = c.serve_main.ensures.serves in serve_write_fault {G = g.row.H-G.Denot} {L = g.row.H-G-L.Denot} {S = g.row.H-G-L-R.Denot} {K = g.row.H-G-L-W.Denot}
-    (outside g.H.G.Gate.name g.H.G.Gate.faults g.H.G.L.Link.begins g.H.G.L.Link.faults g.H.G.L.R.Source.left g.H.G.L.R.Source.faults g.H.G.L.W.Sink.held g.H.G.L.W.Sink.faults)
-    _ _ _ _ _ _ _ s.0 s.1 s.2 h
+    (outside g.H.G.Gate.told g.H.G.L.Link.told g.H.G.L.R.Source.told g.H.G.L.W.Sink.told)
+    _ _ (given (g.I.Source.told c.args.input.now) (g.I.Source.told c.serve_main.new.input) (g.H.Host.faults c.args.host.now) (g.H.Host.faults c.serve_main.new.host))
+    _ _ _ _ s.0 s.1 s.2 h
 
 pub returns-in-Ok-Some-Serve-clause-done : goal.returns-in-Ok-Some-Serve-clause-done
 returns-in-Ok-Some-Serve-clause-done g c = λ r. absurd (let a = sym (replay_alone c.args.words.now r) ∙ (asked_at c.args.words.now _ c.in-Ok-Some-Serve.field-0 c.in-Ok-Some-Serve.field-0-0 (asked.Serve c.in-Ok-Some-Serve.path c.in-Ok-Some-Serve.clients) c.in-Ok-Some-Serve.field-0-is c.in-Ok-Some-Serve.field-0-0-is c.as_slice.ensures c.in-Ok-Some-Serve.ensures.asked).0 in cc)
@@ -188,14 +192,15 @@ returns-in-Ok-Some-Serve-clause-none_served g c = λ n d. absurd (let a = sym n 
 pub returns-in-Ok-Some-Serve-clause-serves : goal.returns-in-Ok-Some-Serve-clause-serves
 returns-in-Ok-Some-Serve-clause-serves g c = λ path clients a. let same = asked_once c.args.words.now (string_bytes c.in-Ok-Some-Serve.path) path c.in-Ok-Some-Serve.clients clients (asked_at c.args.words.now _ c.in-Ok-Some-Serve.field-0 c.in-Ok-Some-Serve.field-0-0 (asked.Serve c.in-Ok-Some-Serve.path c.in-Ok-Some-Serve.clients) c.in-Ok-Some-Serve.field-0-is c.in-Ok-Some-Serve.field-0-0-is c.as_slice.ensures c.in-Ok-Some-Serve.ensures.asked).0 a.0 in
     at_path {G = g.row.H-G.Denot} {L = g.row.H-G-L.Denot} {S = g.row.H-G-L-R.Denot} {K = g.row.H-G-L-W.Denot}
-    (outside g.H.G.Gate.name g.H.G.Gate.faults g.H.G.L.Link.begins g.H.G.L.Link.faults g.H.G.L.R.Source.left g.H.G.L.R.Source.faults g.H.G.L.W.Sink.held g.H.G.L.W.Sink.faults)
-    c.deref.result.now path c.in-Ok-Some-Serve.clients clients _ _ _ _ _ (c.deref.ensures ∙ same.0) same.1 c.serve_main.ensures.serves
+    (outside g.H.G.Gate.told g.H.G.L.Link.told g.H.G.L.R.Source.told g.H.G.L.W.Sink.told)
+    c.deref.result.now path c.in-Ok-Some-Serve.clients clients (given (g.I.Source.told c.args.input.now) (g.I.Source.told c.serve_main.new.input) (g.H.Host.faults c.args.host.now) (g.H.Host.faults c.serve_main.new.host))
+    _ _ _ _ (c.deref.ensures ∙ same.0) same.1 c.serve_main.ensures.serves
 
 pub returns-in-Ok-Some-Serve-clause-serve_complete : goal.returns-in-Ok-Some-Serve-clause-serve_complete
 returns-in-Ok-Some-Serve-clause-serve_complete g c = λ path clients a.
     let same = asked_once c.args.words.now (string_bytes c.in-Ok-Some-Serve.path) path c.in-Ok-Some-Serve.clients clients (asked_at c.args.words.now _ c.in-Ok-Some-Serve.field-0 c.in-Ok-Some-Serve.field-0-0 (asked.Serve c.in-Ok-Some-Serve.path c.in-Ok-Some-Serve.clients) c.in-Ok-Some-Serve.field-0-is c.in-Ok-Some-Serve.field-0-0-is c.as_slice.ensures c.in-Ok-Some-Serve.ensures.asked).0 a.0 in
     complete_at {G = g.row.H-G.Denot} {L = g.row.H-G-L.Denot} {S = g.row.H-G-L-R.Denot} {K = g.row.H-G-L-W.Denot}
-    (outside g.H.G.Gate.name g.H.G.Gate.faults g.H.G.L.Link.begins g.H.G.L.Link.faults g.H.G.L.R.Source.left g.H.G.L.R.Source.faults g.H.G.L.W.Sink.held g.H.G.L.W.Sink.faults)
+    (outside g.H.G.Gate.told g.H.G.L.Link.told g.H.G.L.R.Source.told g.H.G.L.W.Sink.told)
     c.in-Ok-Some-Serve.clients clients _ _ _ _ _ _ same.1 c.serve_main.ensures.complete
 
 pub returns-in-Ok-Some-Serve-clause-untouched : goal.returns-in-Ok-Some-Serve-clause-untouched
@@ -238,12 +243,12 @@ returns-in-Ok-None-clause-serves g c = λ path clients a. absurd ((none_at c.arg
 
 pub returns-in-Ok-None-clause-replied : goal.returns-in-Ok-None-clause-replied
 returns-in-Ok-None-clause-replied g c = λ h. none_replied {G = g.row.H-G.Denot} {L = g.row.H-G-L.Denot} {S = g.row.H-G-L-R.Denot} {K = g.row.H-G-L-W.Denot}
-    (outside g.H.G.Gate.name g.H.G.Gate.faults g.H.G.L.Link.begins g.H.G.L.Link.faults g.H.G.L.R.Source.left g.H.G.L.R.Source.faults g.H.G.L.W.Sink.held g.H.G.L.W.Sink.faults)
+    (outside g.H.G.Gate.told g.H.G.L.Link.told g.H.G.L.R.Source.told g.H.G.L.W.Sink.told)
     _ _ c.idle.ensures.none_served
 
 pub returns-in-Ok-None-clause-sound : goal.returns-in-Ok-None-clause-sound
 returns-in-Ok-None-clause-sound g c = none_ended {G = g.row.H-G.Denot} {L = g.row.H-G-L.Denot} {S = g.row.H-G-L-R.Denot} {K = g.row.H-G-L-W.Denot}
-    (outside g.H.G.Gate.name g.H.G.Gate.faults g.H.G.L.Link.begins g.H.G.L.Link.faults g.H.G.L.R.Source.left g.H.G.L.R.Source.faults g.H.G.L.W.Sink.held g.H.G.L.W.Sink.faults)
+    (outside g.H.G.Gate.told g.H.G.L.Link.told g.H.G.L.R.Source.told g.H.G.L.W.Sink.told)
     _ _ c.idle.ensures.none_served
 
 pub returns-in-Ok-None-clause-serve_complete : goal.returns-in-Ok-None-clause-serve_complete
@@ -258,7 +263,7 @@ pub returns-in-Err-clause-no_memory : goal.returns-in-Err-clause-no_memory
 returns-in-Err-clause-no_memory g c = λ r is. idle.no_memory _ _ _ refl c.idle-in-Err.ensures.journal
 
 pub returns-in-Err-clause-headline : goal.returns-in-Err-clause-headline
-returns-in-Err-clause-headline g c = λ r. idle.headline _ _ _ _ _ _ refl c.idle-in-Err.ensures.status c.idle-in-Err.ensures.journal
+returns-in-Err-clause-headline g c = λ r. idle.headline _ _ _ _ _ refl c.idle-in-Err.ensures.status c.idle-in-Err.ensures.journal
 
 pub returns-in-Err-clause-own_text : goal.returns-in-Err-clause-own_text
 returns-in-Err-clause-own_text g c = λ r. idle.own_text _ _ _ refl c.idle-in-Err.ensures.status
@@ -268,43 +273,44 @@ returns-in-Err-clause-drills g c = λ n a. idle.drills _ n _ _ refl refl c.idle-
 
 pub returns-in-Err-clause-serves : goal.returns-in-Err-clause-serves
 returns-in-Err-clause-serves g c = λ path clients a. idle.serves {G = g.row.H-G.Denot} {L = g.row.H-G-L.Denot} {S = g.row.H-G-L-R.Denot} {K = g.row.H-G-L-W.Denot}
-    (outside g.H.G.Gate.name g.H.G.Gate.faults g.H.G.L.Link.begins g.H.G.L.Link.faults g.H.G.L.R.Source.left g.H.G.L.R.Source.faults g.H.G.L.W.Sink.held g.H.G.L.W.Sink.faults)
-    path clients _ _ _ _ _ refl c.idle-in-Err.ensures.status c.idle-in-Err.ensures.journal c.idle-in-Err.ensures.none_served
+    (outside g.H.G.Gate.told g.H.G.L.Link.told g.H.G.L.R.Source.told g.H.G.L.W.Sink.told)
+    path clients (given (g.I.Source.told c.args.input.now) (g.I.Source.told c.args.input.now) (g.H.Host.faults c.args.host.now) (g.H.Host.faults c.args.host.now))
+    _ _ _ _ refl c.idle-in-Err.ensures.status c.idle-in-Err.ensures.journal c.idle-in-Err.ensures.none_served
 
 pub returns-in-Err-clause-replied : goal.returns-in-Err-clause-replied
 returns-in-Err-clause-replied g c = λ h. none_replied {G = g.row.H-G.Denot} {L = g.row.H-G-L.Denot} {S = g.row.H-G-L-R.Denot} {K = g.row.H-G-L-W.Denot}
-    (outside g.H.G.Gate.name g.H.G.Gate.faults g.H.G.L.Link.begins g.H.G.L.Link.faults g.H.G.L.R.Source.left g.H.G.L.R.Source.faults g.H.G.L.W.Sink.held g.H.G.L.W.Sink.faults)
+    (outside g.H.G.Gate.told g.H.G.L.Link.told g.H.G.L.R.Source.told g.H.G.L.W.Sink.told)
     _ _ c.idle-in-Err.ensures.none_served
 
 pub returns-in-Err-clause-sound : goal.returns-in-Err-clause-sound
 returns-in-Err-clause-sound g c = none_ended {G = g.row.H-G.Denot} {L = g.row.H-G-L.Denot} {S = g.row.H-G-L-R.Denot} {K = g.row.H-G-L-W.Denot}
-    (outside g.H.G.Gate.name g.H.G.Gate.faults g.H.G.L.Link.begins g.H.G.L.Link.faults g.H.G.L.R.Source.left g.H.G.L.R.Source.faults g.H.G.L.W.Sink.held g.H.G.L.W.Sink.faults)
+    (outside g.H.G.Gate.told g.H.G.L.Link.told g.H.G.L.R.Source.told g.H.G.L.W.Sink.told)
     _ _ c.idle-in-Err.ensures.none_served
 
 pub returns-in-Err-clause-serve_complete : goal.returns-in-Err-clause-serve_complete
 returns-in-Err-clause-serve_complete g c = λ path clients a. none_complete {G = g.row.H-G.Denot} {L = g.row.H-G-L.Denot} {S = g.row.H-G-L-R.Denot} {K = g.row.H-G-L-W.Denot}
-    (outside g.H.G.Gate.name g.H.G.Gate.faults g.H.G.L.Link.begins g.H.G.L.Link.faults g.H.G.L.R.Source.left g.H.G.L.R.Source.faults g.H.G.L.W.Sink.held g.H.G.L.W.Sink.faults)
+    (outside g.H.G.Gate.told g.H.G.L.Link.told g.H.G.L.R.Source.told g.H.G.L.W.Sink.told)
     clients _ _ _ _ _ _ c.idle-in-Err.ensures.status
 
 -- ---- a trace
 
 pub returns-in-Ok-Some-Trace-clause-usage : goal.returns-in-Ok-Some-Trace-clause-usage
-returns-in-Ok-Some-Trace-clause-usage g c = let s = c.traced.ensures.says in λ h. absurd (traces.usage s.0 _ _ _ _ _ _ s.1 s.2 h)
+returns-in-Ok-Some-Trace-clause-usage g c = let s = c.traced.ensures.says in λ h. absurd (traces.usage s.0 _ _ _ _ _ s.1 s.2 h)
 
 pub returns-in-Ok-Some-Trace-clause-unread : goal.returns-in-Ok-Some-Trace-clause-unread
-returns-in-Ok-Some-Trace-clause-unread g c = let s = c.traced.ensures.says in λ h. absurd (traces.usage s.0 _ _ _ _ _ _ s.1 s.2 h)
+returns-in-Ok-Some-Trace-clause-unread g c = let s = c.traced.ensures.says in λ h. absurd (traces.usage s.0 _ _ _ _ _ s.1 s.2 h)
 
 pub returns-in-Ok-Some-Trace-clause-idle_words : goal.returns-in-Ok-Some-Trace-clause-idle_words
-returns-in-Ok-Some-Trace-clause-idle_words g c = let s = c.traced.ensures.says in λ h. absurd (traces.usage s.0 _ _ _ _ _ _ s.1 s.2 h)
+returns-in-Ok-Some-Trace-clause-idle_words g c = let s = c.traced.ensures.says in λ h. absurd (traces.usage s.0 _ _ _ _ _ s.1 s.2 h)
 
 pub returns-in-Ok-Some-Trace-clause-read_fault : goal.returns-in-Ok-Some-Trace-clause-read_fault
-returns-in-Ok-Some-Trace-clause-read_fault g c = let s = c.traced.ensures.says in λ h. (traces.read_fault s.0 _ _ _ _ _ _ s.1 s.2 h).1
+returns-in-Ok-Some-Trace-clause-read_fault g c = let s = c.traced.ensures.says in λ h. (traces.read_fault s.0 _ _ _ _ _ s.1 s.2 h).1
 
 pub returns-in-Ok-Some-Trace-clause-idle_fault : goal.returns-in-Ok-Some-Trace-clause-idle_fault
-returns-in-Ok-Some-Trace-clause-idle_fault g c = let s = c.traced.ensures.says in λ h. (traces.read_fault s.0 _ _ _ _ _ _ s.1 s.2 h).0
+returns-in-Ok-Some-Trace-clause-idle_fault g c = let s = c.traced.ensures.says in λ h. (traces.read_fault s.0 _ _ _ _ _ s.1 s.2 h).0
 
 pub returns-in-Ok-Some-Trace-clause-write_cause : goal.returns-in-Ok-Some-Trace-clause-write_cause
-returns-in-Ok-Some-Trace-clause-write_cause g c = let s = c.traced.ensures.says in traces.write_cause s.0 _ _ _ _ _ _ s.1 s.2
+returns-in-Ok-Some-Trace-clause-write_cause g c = let s = c.traced.ensures.says in traces.write_cause s.0 _ _ _ _ _ s.1 s.2
 
 pub returns-in-Ok-Some-Trace-clause-done : goal.returns-in-Ok-Some-Trace-clause-done
 returns-in-Ok-Some-Trace-clause-done g c = λ r. absurd (trace_no_replay c.args.words.now (asked_at c.args.words.now _ c.in-Ok-Some-Trace.field-0 c.in-Ok-Some-Trace.field-0-0 asked.Trace c.in-Ok-Some-Trace.field-0-is c.in-Ok-Some-Trace.field-0-0-is c.as_slice.ensures c.in-Ok-Some-Trace.ensures.asked) r)
@@ -328,7 +334,7 @@ pub returns-in-Ok-Some-Trace-clause-own_text : goal.returns-in-Ok-Some-Trace-cla
 returns-in-Ok-Some-Trace-clause-own_text g c = λ r. absurd (trace_no_replay c.args.words.now (asked_at c.args.words.now _ c.in-Ok-Some-Trace.field-0 c.in-Ok-Some-Trace.field-0-0 asked.Trace c.in-Ok-Some-Trace.field-0-is c.in-Ok-Some-Trace.field-0-0-is c.as_slice.ensures c.in-Ok-Some-Trace.ensures.asked) r)
 
 pub returns-in-Ok-Some-Trace-clause-traces : goal.returns-in-Ok-Some-Trace-clause-traces
-returns-in-Ok-Some-Trace-clause-traces g c = let s = c.traced.ensures.says in λ t. traces.ends s.0 _ _ _ _ _ _ s.1 s.2
+returns-in-Ok-Some-Trace-clause-traces g c = let s = c.traced.ensures.says in λ t. traces.ends s.0 _ _ _ _ _ s.1 s.2
 
 pub returns-in-Ok-Some-Trace-clause-packs : goal.returns-in-Ok-Some-Trace-clause-packs
 returns-in-Ok-Some-Trace-clause-packs g c = λ p. absurd (trace_no_pack c.args.words.now (asked_at c.args.words.now _ c.in-Ok-Some-Trace.field-0 c.in-Ok-Some-Trace.field-0-0 asked.Trace c.in-Ok-Some-Trace.field-0-is c.in-Ok-Some-Trace.field-0-0-is c.as_slice.ensures c.in-Ok-Some-Trace.ensures.asked) p)
@@ -347,7 +353,7 @@ returns-in-Ok-Some-Trace-clause-serves g c = λ path clients a. absurd (let e = 
 
 pub returns-in-Ok-Some-Trace-clause-replied : goal.returns-in-Ok-Some-Trace-clause-replied
 returns-in-Ok-Some-Trace-clause-replied g c = λ h. none_replied {G = g.row.H-G.Denot} {L = g.row.H-G-L.Denot} {S = g.row.H-G-L-R.Denot} {K = g.row.H-G-L-W.Denot}
-    (outside g.H.G.Gate.name g.H.G.Gate.faults g.H.G.L.Link.begins g.H.G.L.Link.faults g.H.G.L.R.Source.left g.H.G.L.R.Source.faults g.H.G.L.W.Sink.held g.H.G.L.W.Sink.faults)
+    (outside g.H.G.Gate.told g.H.G.L.Link.told g.H.G.L.R.Source.told g.H.G.L.W.Sink.told)
     _ _ c.traced.ensures.none_served
 
 -- ---- packing
@@ -362,13 +368,13 @@ pub returns-in-Ok-Some-Pack-clause-idle_words : goal.returns-in-Ok-Some-Pack-cla
 returns-in-Ok-Some-Pack-clause-idle_words g c = let s = c.packed.ensures.says in λ h. absurd (packs.usage s.0 _ s.1 h)
 
 pub returns-in-Ok-Some-Pack-clause-read_fault : goal.returns-in-Ok-Some-Pack-clause-read_fault
-returns-in-Ok-Some-Pack-clause-read_fault g c = let s = c.packed.ensures.says in λ h. (packs.read_fault s.0 _ _ _ _ _ _ s.1 s.2 h).1
+returns-in-Ok-Some-Pack-clause-read_fault g c = let s = c.packed.ensures.says in λ h. (packs.read_fault s.0 _ _ _ _ _ s.1 s.2 h).1
 
 pub returns-in-Ok-Some-Pack-clause-idle_fault : goal.returns-in-Ok-Some-Pack-clause-idle_fault
-returns-in-Ok-Some-Pack-clause-idle_fault g c = let s = c.packed.ensures.says in λ h. (packs.read_fault s.0 _ _ _ _ _ _ s.1 s.2 h).0
+returns-in-Ok-Some-Pack-clause-idle_fault g c = let s = c.packed.ensures.says in λ h. (packs.read_fault s.0 _ _ _ _ _ s.1 s.2 h).0
 
 pub returns-in-Ok-Some-Pack-clause-write_cause : goal.returns-in-Ok-Some-Pack-clause-write_cause
-returns-in-Ok-Some-Pack-clause-write_cause g c = let s = c.packed.ensures.says in packs.write_cause s.0 _ _ _ _ _ _ s.1 s.2
+returns-in-Ok-Some-Pack-clause-write_cause g c = let s = c.packed.ensures.says in packs.write_cause s.0 _ _ _ _ _ s.1 s.2
 
 pub returns-in-Ok-Some-Pack-clause-done : goal.returns-in-Ok-Some-Pack-clause-done
 returns-in-Ok-Some-Pack-clause-done g c = λ r. absurd (pack_no_replay c.args.words.now (asked_at c.args.words.now _ c.in-Ok-Some-Pack.field-0 c.in-Ok-Some-Pack.field-0-0 asked.Pack c.in-Ok-Some-Pack.field-0-is c.in-Ok-Some-Pack.field-0-0-is c.as_slice.ensures c.in-Ok-Some-Pack.ensures.asked) r)
@@ -395,7 +401,7 @@ pub returns-in-Ok-Some-Pack-clause-traces : goal.returns-in-Ok-Some-Pack-clause-
 returns-in-Ok-Some-Pack-clause-traces g c = λ t. absurd (trace_no_pack c.args.words.now t (asked_at c.args.words.now _ c.in-Ok-Some-Pack.field-0 c.in-Ok-Some-Pack.field-0-0 asked.Pack c.in-Ok-Some-Pack.field-0-is c.in-Ok-Some-Pack.field-0-0-is c.as_slice.ensures c.in-Ok-Some-Pack.ensures.asked))
 
 pub returns-in-Ok-Some-Pack-clause-packs : goal.returns-in-Ok-Some-Pack-clause-packs
-returns-in-Ok-Some-Pack-clause-packs g c = let s = c.packed.ensures.says in λ p. packs.ends s.0 _ _ _ _ _ _ s.1 s.2 c.packed.ensures.spelled
+returns-in-Ok-Some-Pack-clause-packs g c = let s = c.packed.ensures.says in λ p. packs.ends s.0 _ _ _ _ _ s.1 s.2 c.packed.ensures.spelled
 
 pub returns-in-Ok-Some-Pack-clause-drills : goal.returns-in-Ok-Some-Pack-clause-drills
 returns-in-Ok-Some-Pack-clause-drills g c = λ n a. absurd (let e = sym (pack_no_drill c.args.words.now (asked_at c.args.words.now _ c.in-Ok-Some-Pack.field-0 c.in-Ok-Some-Pack.field-0-0 asked.Pack c.in-Ok-Some-Pack.field-0-is c.in-Ok-Some-Pack.field-0-0-is c.as_slice.ensures c.in-Ok-Some-Pack.ensures.asked)) ∙ a in cc)
@@ -411,7 +417,7 @@ returns-in-Ok-Some-Pack-clause-serves g c = λ path clients a. absurd (let e = s
 
 pub returns-in-Ok-Some-Pack-clause-replied : goal.returns-in-Ok-Some-Pack-clause-replied
 returns-in-Ok-Some-Pack-clause-replied g c = λ h. none_replied {G = g.row.H-G.Denot} {L = g.row.H-G-L.Denot} {S = g.row.H-G-L-R.Denot} {K = g.row.H-G-L-W.Denot}
-    (outside g.H.G.Gate.name g.H.G.Gate.faults g.H.G.L.Link.begins g.H.G.L.Link.faults g.H.G.L.R.Source.left g.H.G.L.R.Source.faults g.H.G.L.W.Sink.held g.H.G.L.W.Sink.faults)
+    (outside g.H.G.Gate.told g.H.G.L.Link.told g.H.G.L.R.Source.told g.H.G.L.W.Sink.told)
     _ _ c.packed.ensures.none_served
 
 -- ---- words that ask for neither
@@ -438,16 +444,16 @@ pub returns-in-Ok-None-clause-packs : goal.returns-in-Ok-None-clause-packs
 returns-in-Ok-None-clause-packs g c = λ p. absurd ((none_at c.args.words.now _ c.in-Ok-None.field-0 c.in-Ok-None.field-0-is c.as_slice.ensures c.in-Ok-None.ensures.other) (inl (inr (inr p))))
 
 pub returns-in-Err-clause-traces : goal.returns-in-Err-clause-traces
-returns-in-Err-clause-traces g c = λ t. traces.idle _ _ _ _ _ _ _ c.idle-in-Err.ensures.status c.idle-in-Err.ensures.journal
+returns-in-Err-clause-traces g c = λ t. traces.idle _ _ _ _ _ c.idle-in-Err.ensures.status c.idle-in-Err.ensures.journal
 
 pub returns-in-Err-clause-packs : goal.returns-in-Err-clause-packs
-returns-in-Err-clause-packs g c = λ p. packs.idle _ _ _ _ _ _ _ c.idle-in-Err.ensures.status c.idle-in-Err.ensures.journal
+returns-in-Err-clause-packs g c = λ p. packs.idle _ _ _ _ _ c.idle-in-Err.ensures.status c.idle-in-Err.ensures.journal
 
 -- ---- what words for a trace and for packing come to beside
 
 pub returns-in-Ok-Some-Trace-clause-sound : goal.returns-in-Ok-Some-Trace-clause-sound
 returns-in-Ok-Some-Trace-clause-sound g c = none_ended {G = g.row.H-G.Denot} {L = g.row.H-G-L.Denot} {S = g.row.H-G-L-R.Denot} {K = g.row.H-G-L-W.Denot}
-    (outside g.H.G.Gate.name g.H.G.Gate.faults g.H.G.L.Link.begins g.H.G.L.Link.faults g.H.G.L.R.Source.left g.H.G.L.R.Source.faults g.H.G.L.W.Sink.held g.H.G.L.W.Sink.faults)
+    (outside g.H.G.Gate.told g.H.G.L.Link.told g.H.G.L.R.Source.told g.H.G.L.W.Sink.told)
     _ _ c.traced.ensures.none_served
 
 pub returns-in-Ok-Some-Trace-clause-serve_complete : goal.returns-in-Ok-Some-Trace-clause-serve_complete
@@ -455,7 +461,7 @@ returns-in-Ok-Some-Trace-clause-serve_complete g c = λ path clients a. absurd (
 
 pub returns-in-Ok-Some-Pack-clause-sound : goal.returns-in-Ok-Some-Pack-clause-sound
 returns-in-Ok-Some-Pack-clause-sound g c = none_ended {G = g.row.H-G.Denot} {L = g.row.H-G-L.Denot} {S = g.row.H-G-L-R.Denot} {K = g.row.H-G-L-W.Denot}
-    (outside g.H.G.Gate.name g.H.G.Gate.faults g.H.G.L.Link.begins g.H.G.L.Link.faults g.H.G.L.R.Source.left g.H.G.L.R.Source.faults g.H.G.L.W.Sink.held g.H.G.L.W.Sink.faults)
+    (outside g.H.G.Gate.told g.H.G.L.Link.told g.H.G.L.R.Source.told g.H.G.L.W.Sink.told)
     _ _ c.packed.ensures.none_served
 
 pub returns-in-Ok-Some-Pack-clause-serve_complete : goal.returns-in-Ok-Some-Pack-clause-serve_complete
@@ -474,7 +480,7 @@ returns-in-Ok-Some-Pack-clause-laws g c = λ p. absurd (let a = sym p ∙ (asked
 
 pub returns-in-Ok-Some-Do-clause-usage : goal.returns-in-Ok-Some-Do-clause-usage
 returns-in-Ok-Some-Do-clause-usage g c = λ h. absurd (does.usage {G = g.row.H-G.Denot} {L = g.row.H-G-L.Denot} {S = g.row.H-G-L-R.Denot} {K = g.row.H-G-L-W.Denot}
-    _ (outside g.H.G.Gate.name g.H.G.Gate.faults g.H.G.L.Link.begins g.H.G.L.Link.faults g.H.G.L.R.Source.left g.H.G.L.R.Source.faults g.H.G.L.W.Sink.held g.H.G.L.W.Sink.faults)
+    _ (outside g.H.G.Gate.told g.H.G.L.Link.told g.H.G.L.R.Source.told g.H.G.L.W.Sink.told)
     _ _ _ _ c.do_main.ensures.does h)
 
 pub returns-in-Ok-Some-Do-clause-other_words : goal.returns-in-Ok-Some-Do-clause-other_words
@@ -482,30 +488,30 @@ returns-in-Ok-Some-Do-clause-other_words g c = λ unknown. absurd (unknown (inr 
 
 pub returns-in-Ok-Some-Do-clause-unread : goal.returns-in-Ok-Some-Do-clause-unread
 returns-in-Ok-Some-Do-clause-unread g c = λ h. absurd (does.usage {G = g.row.H-G.Denot} {L = g.row.H-G-L.Denot} {S = g.row.H-G-L-R.Denot} {K = g.row.H-G-L-W.Denot}
-    _ (outside g.H.G.Gate.name g.H.G.Gate.faults g.H.G.L.Link.begins g.H.G.L.Link.faults g.H.G.L.R.Source.left g.H.G.L.R.Source.faults g.H.G.L.W.Sink.held g.H.G.L.W.Sink.faults)
+    _ (outside g.H.G.Gate.told g.H.G.L.Link.told g.H.G.L.R.Source.told g.H.G.L.W.Sink.told)
     _ _ _ _ c.do_main.ensures.does h)
 
 pub returns-in-Ok-Some-Do-clause-idle_words : goal.returns-in-Ok-Some-Do-clause-idle_words
 returns-in-Ok-Some-Do-clause-idle_words g c = λ h. absurd (does.usage {G = g.row.H-G.Denot} {L = g.row.H-G-L.Denot} {S = g.row.H-G-L-R.Denot} {K = g.row.H-G-L-W.Denot}
-    _ (outside g.H.G.Gate.name g.H.G.Gate.faults g.H.G.L.Link.begins g.H.G.L.Link.faults g.H.G.L.R.Source.left g.H.G.L.R.Source.faults g.H.G.L.W.Sink.held g.H.G.L.W.Sink.faults)
+    _ (outside g.H.G.Gate.told g.H.G.L.Link.told g.H.G.L.R.Source.told g.H.G.L.W.Sink.told)
     _ _ _ _ c.do_main.ensures.does h)
 
 pub returns-in-Ok-Some-Do-clause-read_fault : goal.returns-in-Ok-Some-Do-clause-read_fault
 returns-in-Ok-Some-Do-clause-read_fault g c = λ h. (does.read_fault {G = g.row.H-G.Denot} {L = g.row.H-G-L.Denot} {S = g.row.H-G-L-R.Denot} {K = g.row.H-G-L-W.Denot}
-    _ (outside g.H.G.Gate.name g.H.G.Gate.faults g.H.G.L.Link.begins g.H.G.L.Link.faults g.H.G.L.R.Source.left g.H.G.L.R.Source.faults g.H.G.L.W.Sink.held g.H.G.L.W.Sink.faults)
+    _ (outside g.H.G.Gate.told g.H.G.L.Link.told g.H.G.L.R.Source.told g.H.G.L.W.Sink.told)
     _ _ _ _ c.do_main.ensures.does h).0
 
 pub returns-in-Ok-Some-Do-clause-idle_fault : goal.returns-in-Ok-Some-Do-clause-idle_fault
 returns-in-Ok-Some-Do-clause-idle_fault g c = λ h. record {
   silent = (does.read_fault {G = g.row.H-G.Denot} {L = g.row.H-G-L.Denot} {S = g.row.H-G-L-R.Denot} {K = g.row.H-G-L-W.Denot}
-      _ (outside g.H.G.Gate.name g.H.G.Gate.faults g.H.G.L.Link.begins g.H.G.L.Link.faults g.H.G.L.R.Source.left g.H.G.L.R.Source.faults g.H.G.L.W.Sink.held g.H.G.L.W.Sink.faults)
+      _ (outside g.H.G.Gate.told g.H.G.L.Link.told g.H.G.L.R.Source.told g.H.G.L.W.Sink.told)
       _ _ _ _ c.do_main.ensures.does h).1;
   empty = c.do_main.ensures.journal;
 }
 
 pub returns-in-Ok-Some-Do-clause-write_cause : goal.returns-in-Ok-Some-Do-clause-write_cause
 returns-in-Ok-Some-Do-clause-write_cause g c = does.write_cause {G = g.row.H-G.Denot} {L = g.row.H-G-L.Denot} {S = g.row.H-G-L-R.Denot} {K = g.row.H-G-L-W.Denot}
-    _ (outside g.H.G.Gate.name g.H.G.Gate.faults g.H.G.L.Link.begins g.H.G.L.Link.faults g.H.G.L.R.Source.left g.H.G.L.R.Source.faults g.H.G.L.W.Sink.held g.H.G.L.W.Sink.faults)
+    _ (outside g.H.G.Gate.told g.H.G.L.Link.told g.H.G.L.R.Source.told g.H.G.L.W.Sink.told)
     _ _ _ _ c.do_main.ensures.does
 
 pub returns-in-Ok-Some-Do-clause-done : goal.returns-in-Ok-Some-Do-clause-done
@@ -558,17 +564,17 @@ returns-in-Ok-Some-Do-clause-serve_complete g c = λ path clients a. absurd (let
 
 pub returns-in-Ok-Some-Do-clause-replied : goal.returns-in-Ok-Some-Do-clause-replied
 returns-in-Ok-Some-Do-clause-replied g c = λ h. does.replied {G = g.row.H-G.Denot} {L = g.row.H-G-L.Denot} {S = g.row.H-G-L-R.Denot} {K = g.row.H-G-L-W.Denot}
-    _ (outside g.H.G.Gate.name g.H.G.Gate.faults g.H.G.L.Link.begins g.H.G.L.Link.faults g.H.G.L.R.Source.left g.H.G.L.R.Source.faults g.H.G.L.W.Sink.held g.H.G.L.W.Sink.faults)
+    _ (outside g.H.G.Gate.told g.H.G.L.Link.told g.H.G.L.R.Source.told g.H.G.L.W.Sink.told)
     _ _ _ _ c.do_main.ensures.does _
 
 pub returns-in-Ok-Some-Do-clause-sound : goal.returns-in-Ok-Some-Do-clause-sound
 returns-in-Ok-Some-Do-clause-sound g c = does.sound {G = g.row.H-G.Denot} {L = g.row.H-G-L.Denot} {S = g.row.H-G-L-R.Denot} {K = g.row.H-G-L-W.Denot}
-    _ (outside g.H.G.Gate.name g.H.G.Gate.faults g.H.G.L.Link.begins g.H.G.L.Link.faults g.H.G.L.R.Source.left g.H.G.L.R.Source.faults g.H.G.L.W.Sink.held g.H.G.L.W.Sink.faults)
+    _ (outside g.H.G.Gate.told g.H.G.L.Link.told g.H.G.L.R.Source.told g.H.G.L.W.Sink.told)
     _ _ _ _ c.do_main.ensures.does _
 
 pub returns-in-Ok-Some-Do-clause-does : goal.returns-in-Ok-Some-Do-clause-does
 returns-in-Ok-Some-Do-clause-does g c = λ path tree a. does.of_tree {G = g.row.H-G.Denot} {L = g.row.H-G-L.Denot} {S = g.row.H-G-L-R.Denot} {K = g.row.H-G-L-W.Denot}
-    _ (outside g.H.G.Gate.name g.H.G.Gate.faults g.H.G.L.Link.begins g.H.G.L.Link.faults g.H.G.L.R.Source.left g.H.G.L.R.Source.faults g.H.G.L.W.Sink.held g.H.G.L.W.Sink.faults)
+    _ (outside g.H.G.Gate.told g.H.G.L.Link.told g.H.G.L.R.Source.told g.H.G.L.W.Sink.told)
     c.in-Ok-Some-Do.tree tree _ _ _ (tree_once c.args.words.now (string_bytes c.in-Ok-Some-Do.path) path c.in-Ok-Some-Do.tree tree (asked_at c.args.words.now _ c.in-Ok-Some-Do.field-0 c.in-Ok-Some-Do.field-0-0 (asked.Do c.in-Ok-Some-Do.path c.in-Ok-Some-Do.tree) c.in-Ok-Some-Do.field-0-is c.in-Ok-Some-Do.field-0-0-is c.as_slice.ensures c.in-Ok-Some-Do.ensures.asked).0 a.0) c.do_main.ensures.does
 
 pub returns-in-Ok-Some-Do-clause-played : goal.returns-in-Ok-Some-Do-clause-played
@@ -597,14 +603,14 @@ returns-in-Ok-None-clause-does g c = λ path tree a. absurd ((none_at c.args.wor
 
 pub returns-in-Err-clause-does : goal.returns-in-Err-clause-does
 returns-in-Err-clause-does g c = λ path tree a. does.idle {G = g.row.H-G.Denot} {L = g.row.H-G-L.Denot} {S = g.row.H-G-L-R.Denot} {K = g.row.H-G-L-W.Denot}
-    _ (outside g.H.G.Gate.name g.H.G.Gate.faults g.H.G.L.Link.begins g.H.G.L.Link.faults g.H.G.L.R.Source.left g.H.G.L.R.Source.faults g.H.G.L.W.Sink.held g.H.G.L.W.Sink.faults)
+    _ (outside g.H.G.Gate.told g.H.G.L.Link.told g.H.G.L.R.Source.told g.H.G.L.W.Sink.told)
     _ _ _ _ refl c.idle-in-Err.ensures.status c.idle-in-Err.ensures.none_served
 
 pub returns-in-Ok-Some-Replay-clause-usage : goal.returns-in-Ok-Some-Replay-clause-usage
-returns-in-Ok-Some-Replay-clause-usage g c = let s = c.replayed.ensures.says in λ h. absurd (promised.usage s.0 _ _ _ _ _ _ s.1 s.2 h)
+returns-in-Ok-Some-Replay-clause-usage g c = let s = c.replayed.ensures.says in λ h. absurd (promised.usage s.0 _ _ _ _ _ s.1 s.2 h)
 
 pub returns-in-Ok-Some-Replay-clause-unread : goal.returns-in-Ok-Some-Replay-clause-unread
-returns-in-Ok-Some-Replay-clause-unread g c = let s = c.replayed.ensures.says in λ h. absurd (promised.usage s.0 _ _ _ _ _ _ s.1 s.2 h)
+returns-in-Ok-Some-Replay-clause-unread g c = let s = c.replayed.ensures.says in λ h. absurd (promised.usage s.0 _ _ _ _ _ s.1 s.2 h)
 
 pub returns-in-Err-clause-complete : goal.returns-in-Err-clause-complete
-returns-in-Err-clause-complete g c = λ r. idle.complete _ _ _ _ _ _ c.idle-in-Err.ensures.status
+returns-in-Err-clause-complete g c = λ r. idle.complete _ _ (g.I.Source.told c.args.input.now) (g.I.Source.told c.args.input.now) _ _ c.idle-in-Err.ensures.status

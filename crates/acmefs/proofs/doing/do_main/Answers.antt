@@ -8,13 +8,13 @@ use Rattle.acmefs.proofs.doing.do_main.Goals as goal
 pub returns-in_default-clause-does : goal.returns-in_default-clause-does
 returns-in_default-clause-does g c =
     idle {G = g.row.H-G.Denot} {L = g.row.H-G-L.Denot} {S = g.row.H-G-L-R.Denot} {K = g.row.H-G-L-W.Denot}
-    _ (outside g.H.G.Gate.name g.H.G.Gate.faults g.H.G.L.Link.begins g.H.G.L.Link.faults g.H.G.L.R.Source.left g.H.G.L.R.Source.faults g.H.G.L.W.Sink.held g.H.G.L.W.Sink.faults)
+    _ (outside g.H.G.Gate.told g.H.G.L.Link.told g.H.G.L.R.Source.told g.H.G.L.W.Sink.told)
     (tree_name c.args.tree) _ _ _ refl c.idle.ensures.status c.idle.ensures.none_served
 
 pub returns-clause-does : goal.returns-clause-does
 returns-clause-does g c =
     done {G = g.row.H-G.Denot} {L = g.row.H-G-L.Denot} {S = g.row.H-G-L-R.Denot} {K = g.row.H-G-L-W.Denot}
-    _ (outside g.H.G.Gate.name g.H.G.Gate.faults g.H.G.L.Link.begins g.H.G.L.Link.faults g.H.G.L.R.Source.left g.H.G.L.R.Source.faults g.H.G.L.W.Sink.held g.H.G.L.W.Sink.faults)
+    _ (outside g.H.G.Gate.told g.H.G.L.Link.told g.H.G.L.R.Source.told g.H.G.L.W.Sink.told)
     c.name_of.result.now (tree_name c.args.tree) _ _ _ c.do_path-doing.result c.entry_of.result c.do_status.ensures c.listed.ensures c.entry_of.ensures c.name_of.ensures.name c.do_path-doing.ensures
 
 pub returns-clause-laws : goal.returns-clause-laws

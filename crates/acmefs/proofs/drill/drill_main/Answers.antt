@@ -18,3 +18,6 @@ returns-clause-laws g c = c.journals_are_lawful.ensures _ (record {
 
 pub returns-clause-events : goal.returns-clause-events
 returns-clause-events g c = c.events_are_lawful.ensures _
+
+pub returns-clause-ports : goal.returns-clause-ports
+returns-clause-ports g c = c.ports_are_lawful.ensures _

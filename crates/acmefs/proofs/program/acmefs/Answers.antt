@@ -60,3 +60,6 @@ returns-clause-doing g c =
 
 pub returns-clause-events : goal.returns-clause-events
 returns-clause-events g c = c.events_are_lawful.ensures _
+
+pub returns-clause-ports : goal.returns-clause-ports
+returns-clause-ports g c = c.ports_are_lawful.ensures _

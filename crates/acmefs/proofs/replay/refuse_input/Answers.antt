@@ -1,12 +1,11 @@
-use Rattle.std.proofs.Common.{ap, ◌∙◌}
-use Rattle.am_journal.specs.Texts.{refused_text}
+use Rattle.std.proofs.Common.{◌∙◌}
 use Rattle.acmefs.proofs.Ran.{ran_refused, ran_none}
 use Rattle.acmefs.proofs.replay.refuse_input.Goals as goal
 
 pub returns-in-Ok-clause-ran : goal.returns-in-Ok-clause-ran
 returns-in-Ok-clause-ran g c =
     rw (c.no_events.ensures.end, c.no_events.ensures.journal)
-    (ran_refused c.put-failed.result _ c.as_slice.result.now (c.as_slice.ensures ∙ c.in-Ok.ensures ∙ ap (refused_text 0) c.fault_word.ensures) c.put-failed.ensures)
+    (ran_refused c.put-failed.result _ c.as_slice.result.now (c.as_slice.ensures ∙ c.in-Ok.ensures) c.put-failed.ensures)
 
 pub returns-in-Err-clause-ran : goal.returns-in-Err-clause-ran
-returns-in-Err-clause-ran g c = rw (c.no_events-in-Err.ensures.end, c.no_events-in-Err.ensures.journal) (ran_none _ _ _)
+returns-in-Err-clause-ran g c = rw (c.no_events-in-Err.ensures.end, c.no_events-in-Err.ensures.journal) (ran_none _ _)

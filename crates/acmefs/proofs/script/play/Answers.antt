@@ -15,7 +15,7 @@ loop-rest-init g c =
       count = omega arith;
       settled = c.requires ∙ ap settled (sym e);
       script = ap (λ (x : List Event). play x 1 (lines_of c.args.input.now)) e;
-      wrote = wrote_start _ _ _ e;
+      wrote = wrote_start _ _ e;
     }
 
 pub loop-rest-preserved : goal.loop-rest-preserved
@@ -24,7 +24,7 @@ loop-rest-preserved g c = record {
   settled = c.do_line.ensures.settled;
   script = goes_on c.loop-rest.core.journal c.do_line.new.core.journal c.loop-rest.k c.split_line.result.0.now c.loop-rest.rest.now c.split_line.result.1.now _
       c.split_line.ensures.lines c.in-Event.ensures.did c.loop-rest.invariant.script;
-  wrote = wrote_event c.loop-rest.failed c.put-failed.result _ _ _ _ _ _ c.loop-rest.core.journal c.do_line.new.core.journal c.as_slice.result.now
+  wrote = wrote_event c.loop-rest.failed c.put-failed.result _ _ _ c.loop-rest.core.journal c.do_line.new.core.journal c.as_slice.result.now
       c.in-Event.ensures.did.1 (c.as_slice.ensures ∙ c.in-Ok.ensures) c.loop-rest.invariant.wrote c.put-failed.ensures;
 }
 

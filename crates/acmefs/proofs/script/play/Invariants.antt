@@ -1,4 +1,5 @@
 use Rattle.std.proofs.Common.{◌≡◌, ◌≤◌, ◌+◌, [], length}
+use Rattle.am_base.specs.Seen.{seen}
 use Rattle.am_text.specs.Lines.{lines_of}
 use Rattle.acme_core.specs.Run.{settled}
 use Rattle.acmefs.specs.Scripts.{play, replied}
@@ -10,12 +11,7 @@ invariant-loop-rest g l = record {
   count : l.k + length l.rest ≤ length l.input + 1;
   settled : l.core ≡ settled l.core.journal;
   script : play l.core.journal l.k (lines_of l.rest) ≡ play [] 1 (lines_of l.input);
-  wrote : Wrote l.failed (record {
-    held = g.O.Sink.held l.fn.output;
-    held_now = g.O.Sink.held l.output;
-    faults = g.O.Sink.faults l.fn.output;
-    faults_now = g.O.Sink.faults l.output;
-  }) (replied l.core.journal);
+  wrote : Wrote l.failed (seen (g.O.Sink.told l.fn.output) (g.O.Sink.told l.output)) (replied l.core.journal);
 }
 
 abbrev pub decreases-loop-rest : goal.decreases-loop-rest

@@ -8,19 +8,19 @@ use Rattle.acmefs.proofs.trace.trace.Goals as goal
 
 pub returns-in-Ok-clause-says : goal.returns-in-Ok-clause-says
 returns-in-Ok-clause-says g c =
-    let T : List ℕ → Type 0 = λ x. AreTold (g.I.Source.left c.args.input.now) x in
+    let T : List ℕ → Type 0 = λ x. AreTold (g.I.Source.told c.args.input.now).bytes x in
     let F : List ℕ → Type 0 = λ x. length x ≤ input_limit in
     let told = subst T (sym c.as_slice.ensures) c.in-Ok.ensures.told in
     let fits = subst F (sym c.as_slice.ensures) c.in-Ok.ensures.fits in
-    says_short c.trace_lines.result.end c.as_slice.result.now _ _ _ _ _ fits told c.trace_lines.ensures.traces
+    says_short c.trace_lines.result.end c.as_slice.result.now _ _ _ _ fits told c.trace_lines.ensures.traces
 
 pub returns-in-Err-TooLong-clause-says : goal.returns-in-Err-TooLong-clause-says
 returns-in-Err-TooLong-clause-says g c =
-    let P : ReadStop → Type 0 = λ x. StopsFor x (g.I.Source.faults c.args.input.now) (g.I.Source.faults c.read_to_end.new.source) (g.I.Source.left c.args.input.now) (g.I.Source.left c.read_to_end.new.source) input_limit in
+    let P : ReadStop → Type 0 = λ x. StopsFor x (g.I.Source.told c.args.input.now) (g.I.Source.told c.read_to_end.new.source) input_limit in
     let stopped = subst P c.in-Err-TooLong.field-0-is c.in-Err-TooLong.ensures.err in
-    says_long c.refuse_trace.result.end (g.I.Source.left c.args.input.now) _ _ _ _ stopped.0 c.refuse_trace.ensures.traces
+    says_long c.refuse_trace.result.end (g.I.Source.told c.args.input.now) _ _ _ stopped.0 c.refuse_trace.ensures.traces
 
 pub returns-in-Err-NoMemory-clause-says : goal.returns-in-Err-NoMemory-clause-says
 returns-in-Err-NoMemory-clause-says g c =
     rw (c.no_events-in-Err-NoMemory.ensures.end, c.no_events-in-Err-NoMemory.ensures.journal)
-    (says_none (g.I.Source.left c.args.input.now) (g.I.Source.faults c.args.input.now) (g.I.Source.faults c.read_to_end.new.source) _ (g.O.Sink.faults c.args.output.now))
+    (says_none (g.I.Source.told c.args.input.now) (g.I.Source.told c.read_to_end.new.source) (g.O.Sink.told c.args.output.now))

@@ -6,7 +6,7 @@ use Rattle.am_do.proofs.Begun.{onok_of, iferr_of, some_of, none_of, agreed_most,
 use Rattle.am_do.proofs.beginning.begin.Goals as goal
 
 pub returns-in_default-clause-err : goal.returns-in_default-clause-err
-returns-in_default-clause-err g c = halted_memory (begins c.args.tree.now) c.args.client.now.talk (g.W.Sink.held c.args.client.now.sink) (g.R.Source.left c.args.client.now.source) (g.W.Sink.faults c.args.client.now.sink) (g.R.Source.faults c.args.client.now.source)
+returns-in_default-clause-err g c = halted_memory (begins c.args.tree.now) c.args.client.now.talk (g.W.Sink.told c.args.client.now.sink).bytes (g.R.Source.told c.args.client.now.source).bytes (g.W.Sink.told c.args.client.now.sink).faults (g.R.Source.told c.args.client.now.source).faults
 
 pub returns-in-Err-clause-err : goal.returns-in-Err-clause-err
 returns-in-Err-clause-err g c = halted_version c.args.client.now.talk.msize c.args.tree.now c.in-Ok.message c.requires.most c.in-Ok.ensures.message c.in-Err.ensures.err
@@ -14,7 +14,7 @@ returns-in-Err-clause-err g c = halted_version c.args.client.now.talk.msize c.ar
 pub returns-then-is_none-clause-err : goal.returns-then-is_none-clause-err
 returns-then-is_none-clause-err g c =
     let none : agreed c.in-Ok-ask.reply ≡ None = sym c.agreed.ensures ∙ none_of c.agreed.result (c.is_none.ensures ∙ ap not c.if-is_none.true) in
-    halted_unversioned c.args.client.now.talk.msize c.args.tree.now c.in-Ok.message c.in-Ok-ask.reply (g.W.Sink.faults c.args.client.now.sink) (g.W.Sink.faults c.ask.new.client.sink) (g.R.Source.faults c.args.client.now.source) (g.R.Source.faults c.ask.new.client.source) c.requires.most c.in-Ok.ensures.message none c.ask.ensures.later_sink c.ask.ensures.later_source c.in-Ok-ask.ensures.ok
+    halted_unversioned c.args.client.now.talk.msize c.args.tree.now c.in-Ok.message c.in-Ok-ask.reply (g.W.Sink.told c.args.client.now.sink).faults (g.W.Sink.told c.ask.new.client.sink).faults (g.R.Source.told c.args.client.now.source).faults (g.R.Source.told c.ask.new.client.source).faults c.requires.most c.in-Ok.ensures.message none c.ask.ensures.later_sink c.ask.ensures.later_source c.in-Ok-ask.ensures.ok
 
 pub returns-else-is_none-clause-ok : goal.returns-else-is_none-clause-ok
 returns-else-is_none-clause-ok g c =
@@ -30,4 +30,4 @@ returns-else-is_none-clause-err g c =
     let agrees : agreed c.in-Ok-ask.reply ≡ Some some.0 = sym c.agreed.ensures ∙ some.1 in
     let size : c.ask.new.client.talk.msize ≡ some.0 = c.in-Ok-ask.ensures.most ∙ ap (most_behind c.in-Ok-ask.reply) c.requires.most ∙ agreed_most c.in-Ok-ask.reply some.0 agrees in
     let same : agreed c.in-Ok-ask.reply ≡ Some c.ask.new.client.talk.msize = agrees ∙ ap (λ (x : ℕ). Some x) (sym size) in
-    iferr_of c.attach.result (λ e h. halted_then_attaching c.args.client.now.talk.msize c.ask.new.client.talk.msize c.args.tree.now c.in-Ok.message c.in-Ok-ask.reply (g.W.Sink.faults c.args.client.now.sink) (g.R.Source.faults c.args.client.now.source) c.requires.most c.in-Ok.ensures.message same c.in-Ok-ask.ensures.ok refl refl c.ask.ensures.later_sink c.ask.ensures.later_source h) c.attach.ensures.err
+    iferr_of c.attach.result (λ e h. halted_then_attaching c.args.client.now.talk.msize c.ask.new.client.talk.msize c.args.tree.now c.in-Ok.message c.in-Ok-ask.reply (g.W.Sink.told c.args.client.now.sink).faults (g.R.Source.told c.args.client.now.source).faults c.requires.most c.in-Ok.ensures.message same c.in-Ok-ask.ensures.ok refl refl c.ask.ensures.later_sink c.ask.ensures.later_source h) c.attach.ensures.err

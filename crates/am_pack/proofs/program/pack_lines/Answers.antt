@@ -1,5 +1,5 @@
 use Rattle.std.proofs.Common.{◌∙◌, subst}
-use Rattle.am_base.specs.Written.{seen}
+use Rattle.am_base.specs.Seen.{seen}
 use Rattle.am_pack.specs.declared.packing.Packing.{Packing}
 use Rattle.am_pack.specs.Ends.{Packs}
 use Rattle.am_pack.proofs.Packings.{short_text}
@@ -8,6 +8,6 @@ use Rattle.am_pack.proofs.program.pack_lines.Goals as goal
 pub returns-in-Ok-clause-packs : goal.returns-in-Ok-clause-packs
 returns-in-Ok-clause-packs g c =
     let P : Packing → Type 0 = λ p. Packs c.write_packing.result.end p
-    (seen (g.O.Sink.held c.args.output.now) (g.O.Sink.held c.write_packing.new.output) (g.O.Sink.faults c.args.output.now) (g.O.Sink.faults c.write_packing.new.output))
+    (seen (g.O.Sink.told c.args.output.now) (g.O.Sink.told c.write_packing.new.output))
     c.write_packing.result.journal in
     subst P (c.in-Ok.ensures.exact ∙ short_text c.args.bytes.now c.requires) c.write_packing.ensures.packs

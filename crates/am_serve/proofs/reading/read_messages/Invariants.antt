@@ -4,7 +4,7 @@ use Rattle.am_serve.proofs.reading.read_messages.Given as goal
 
 abbrev pub invariant-loop : goal.invariant-loop
 invariant-loop g l = record {
-  fits : g.C.Counter.fits l.desk l.seat;
-  so_far : ReadSoFar g.C.Counter.answer l.conn (g.C.Counter.known l.fn.seat) (g.C.Counter.known l.seat) l.cutter l.budget (g.S.Source.left l.fn.source) (g.S.Source.left l.source);
-  later : g.S.Source.faults l.fn.source ≤ g.S.Source.faults l.source;
+  fits : g.C.Counter.fits l.at.desk.now l.seat;
+  so_far : ReadSoFar g.C.Counter.answer l.at.conn (g.C.Counter.known l.fn.seat) (g.C.Counter.known l.seat) l.cutter l.budget (g.S.Source.told l.fn.source).bytes (g.S.Source.told l.source).bytes;
+  later : (g.S.Source.told l.fn.source).faults ≤ (g.S.Source.told l.source).faults;
 }

@@ -9,7 +9,7 @@ pub loop-rest-init : goal.loop-rest-init
 loop-rest-init g c = record {
   fits = c.requires.fits;
   count = omega arith;
-  so_far = none_so_far g.C.Counter.enabled g.C.Counter.answer (g.C.Counter.known c.args.seat.now) (asked_by_script c.args.script.now);
+  so_far = none_so_far g.C.Counter.enabled g.C.Counter.answer (g.C.Counter.known c.args.seat.now) (asked_by_script c.args.script.now.lines.now);
 }
 
 pub loop-rest-preserved : goal.loop-rest-preserved
@@ -27,7 +27,7 @@ returns-in-Report-clause-gains g c =
 
 pub returns-in-Report-clause-ends : goal.returns-in-Report-clause-ends
 returns-in-Report-clause-ends g c =
-    let P : Known → Type 0 = λ w. Passed g.C.Counter.enabled g.C.Counter.answer (g.C.Counter.known c.args.seat.now) (asked_by_script c.args.script.now) w in
+    let P : Known → Type 0 = λ w. Passed g.C.Counter.enabled g.C.Counter.answer (g.C.Counter.known c.args.seat.now) (asked_by_script c.args.script.now.lines.now) w in
     subst P (sym c.in-Report.ensures.does.1)
     (reported g.C.Counter.enabled g.C.Counter.answer _ _ _ c.loop-rest.rest.now c.split_line.result.1.now c.split_line.result.0.now _ c.split_line.ensures.lines c.loop-rest.invariant.so_far c.in-Report.ensures.does.0)
 
@@ -37,7 +37,7 @@ returns-in-Refused-clause-gains g c =
 
 pub returns-in-Refused-clause-ends : goal.returns-in-Refused-clause-ends
 returns-in-Refused-clause-ends g c =
-    refused g.C.Counter.enabled g.C.Counter.answer c.args.clients _ (g.C.Counter.known c.loop-rest.seat) _ _ c.loop-rest.rest.now c.split_line.result.1.now c.split_line.result.0.now _ _
+    refused g.C.Counter.enabled g.C.Counter.answer c.args.script.now.clients _ (g.C.Counter.known c.loop-rest.seat) _ _ c.loop-rest.rest.now c.split_line.result.1.now c.split_line.result.0.now _ _
     c.split_line.ensures.lines c.loop-rest.invariant.so_far c.in-Refused.ensures.does.0 c.in-Refused.ensures.does.1
 
 pub returns-in-NoMemory-clause-gains : goal.returns-in-NoMemory-clause-gains

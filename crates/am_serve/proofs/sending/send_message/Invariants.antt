@@ -3,6 +3,6 @@ use Rattle.am_serve.proofs.sending.send_message.Given as goal
 
 abbrev pub invariant-loop : goal.invariant-loop
 invariant-loop g l = record {
-  fits : g.C.Counter.fits l.desk l.seat;
+  fits : g.C.Counter.fits l.at.desk.now l.seat;
   looks : Looks (g.C.Counter.known l.fn.seat) (g.C.Counter.known l.seat);
 }

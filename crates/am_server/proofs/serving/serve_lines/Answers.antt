@@ -11,8 +11,8 @@ finish-requires-clause-lawful g c = lawful_played (known_of c.serve_slots.new.se
 pub returns-in-Ok-serve_slots-clause-serves : goal.returns-in-Ok-serve_slots-clause-serves
 returns-in-Ok-serve_slots-clause-serves g c =
     served_lines {G = g.row.H-G.Denot} {L = g.row.H-G-L.Denot} {S = g.row.H-G-L-R.Denot} {K = g.row.H-G-L-W.Denot} c.ended_connections_get_nothing_more.ensures.all c.pieces_are_joined.ensures.pieces c.pieces_are_joined.ensures.broken
-    (outside g.H.G.Gate.name g.H.G.Gate.faults g.H.G.L.Link.begins g.H.G.L.Link.faults g.H.G.L.R.Source.left g.H.G.L.R.Source.faults g.H.G.L.W.Sink.held g.H.G.L.W.Sink.faults)
-    c.args.path.now c.args.clients c.args.script.now _ _ _ c.in-Ok-serve_slots.slots c.in-Ok-serve_slots.end (known_of c.serve_slots.new.seat)
+    (outside g.H.G.Gate.told g.H.G.L.Link.told g.H.G.L.R.Source.told g.H.G.L.W.Sink.told)
+    c.args.service.now.path.now c.args.service.now.clients c.args.service.now.script.now _ _ _ c.in-Ok-serve_slots.slots c.in-Ok-serve_slots.end (known_of c.serve_slots.new.seat)
     c.close.result.journal c.finish.result.journal c.finish.result.served c.finish.result.end
     c.in-Ok-serve_slots.ensures.count c.requires.clients.1 c.close.ensures.played c.close.ensures.in_range c.close.ensures.own c.close.ensures.once c.close.ensures.order
     c.in-Ok-serve_slots.ensures.serves c.in-Ok-serve_slots.ensures.tells c.in-Ok-serve_slots.ensures.risen

@@ -1,4 +1,5 @@
 use Rattle.std.proofs.Common.{List, subst}
+use Rattle.am_base.specs.Seen.{seen}
 use Rattle.am_slots.specs.declared.slot.Slot.{Slot}
 use Rattle.am_server.specs.Ends.{Writes}
 use Rattle.am_server.specs.Texts.{served_text}
@@ -7,6 +8,6 @@ use Rattle.am_server.proofs.writing.finish.Goals as goal
 pub returns-clause-writes : goal.returns-clause-writes
 returns-clause-writes g c =
     subst (λ (l : List (Slot g.row.G.Denot g.row.L.Denot g.row.S.Denot g.row.K.Denot)). Writes l c.args.script
-    record { held = g.O.Sink.held c.args.output.now; held_now = g.O.Sink.held c.write_served-end.new.output; faults = g.O.Sink.faults c.args.output.now; faults_now = g.O.Sink.faults c.write_served-end.new.output }
+    (seen (g.O.Sink.told c.args.output.now) (g.O.Sink.told c.write_served-end.new.output))
     (served_text c.args.core.journal l c.args.script) c.write_served-end.result)
     c.as_slice.ensures c.write_served-end.ensures

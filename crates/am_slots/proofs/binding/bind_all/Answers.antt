@@ -9,8 +9,8 @@ loop-slot-preserved g c =
     let before = c.loop-slot.invariant in
     record {
       count = omega (arith, count_next slots c.push.new.self s c.in_ok-push.ensures.ok, before.count);
-      waiting = waiting_next slots c.push.new.self s c.in_ok-push.ensures.ok g.H.G.Gate.faults before.waiting c.bind_slot.ensures.waits;
-      named = named_next slots c.push.new.self s c.in_ok-push.ensures.ok g.H.G.Gate.name c.args.path.now c.loop-slot.slot before.count before.named c.bind_slot.ensures.named;
+      waiting = waiting_next slots c.push.new.self s c.in_ok-push.ensures.ok g.H.G.Gate.told before.waiting c.bind_slot.ensures.waits;
+      named = named_next slots c.push.new.self s c.in_ok-push.ensures.ok g.H.G.Gate.told c.args.path.now c.loop-slot.slot before.count before.named c.bind_slot.ensures.named;
       risen = risen_next slots c.push.new.self s c.in_ok-push.ensures.ok _ _ _ before.risen c.bind_slot.ensures.risen c.bind_slot.ensures.later;
       later = omega (arith, before.later, c.bind_slot.ensures.later);
     }

@@ -6,8 +6,8 @@ use Rattle.am_slots.proofs.binding.bind_all.Given as goal
 abbrev pub invariant-loop-slot : goal.invariant-loop-slot
 invariant-loop-slot g l = record {
   count : length l.slots ≡ l.slot;
-  waiting : AreWaiting g.H.G.Gate.faults l.slots;
-  named : HaveNames g.H.G.Gate.name l.path 0 l.slots;
+  waiting : AreWaiting g.H.G.Gate.told l.slots;
+  named : HaveNames g.H.G.Gate.told l.path 0 l.slots;
   risen : HasRisenBy (unbound l.slots) (g.H.Host.faults l.fn.host) (g.H.Host.faults l.host);
   later : g.H.Host.faults l.fn.host ≤ g.H.Host.faults l.host;
 }

@@ -7,7 +7,7 @@ use Rattle.ninep_client.proofs.hearing.bring.Goals as goal
 pub messages-init : goal.messages-init
 messages-init g c = record {
   later = omega arith;
-  hears = hears_none c.args.tag c.args.asked.now.items c.args.unread.now (g.R.Source.left c.args.source.now);
+  hears = hears_none c.args.tag c.args.asked.now.items c.args.unread.now (g.R.Source.told c.args.source.now).bytes;
   kept = λ h. refl;
   unread = λ h. refl;
 }
@@ -18,7 +18,7 @@ messages-preserved g c =
     record {
       later = omega arith;
       hears = hears_more c.args.tag c.args.asked.now.items c.messages.asked.items c.hear.new.asked.items c.args.unread.now c.messages.unread c.hear.new.unread
-          (g.R.Source.left c.args.source.now) (g.R.Source.left c.messages.source) (g.R.Source.left c.hear.new.source) c.messages.invariant.hears none c.in_default-hear.ensures.ok;
+          (g.R.Source.told c.args.source.now).bytes (g.R.Source.told c.messages.source).bytes (g.R.Source.told c.hear.new.source).bytes c.messages.invariant.hears none c.in_default-hear.ensures.ok;
       kept = λ h. absurd (let first = first_none c.args.tag c.args.asked.now.items c.messages.asked.items c.messages.invariant.kept none in let no = sym (ap is_some first) ∙ h in cc);
       unread = λ h. absurd (let first = first_none c.args.tag c.args.asked.now.items c.messages.asked.items c.messages.invariant.kept none in let no = sym (ap is_some first) ∙ h in cc);
     }

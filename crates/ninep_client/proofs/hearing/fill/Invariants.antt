@@ -4,8 +4,8 @@ use Rattle.ninep_client.proofs.hearing.fill.Given as goal
 
 abbrev pub invariant-pieces : goal.invariant-pieces
 invariant-pieces g l = record {
-  later : g.R.Source.faults l.fn.source ≤ g.R.Source.faults l.source;
-  came : Came (g.R.Source.left l.fn.source) (g.R.Source.left l.source) l.fn.unread l.unread;
+  later : (g.R.Source.told l.fn.source).faults ≤ (g.R.Source.told l.source).faults;
+  came : Came (g.R.Source.told l.fn.source).bytes (g.R.Source.told l.source).bytes l.fn.unread l.unread;
 }
 
 abbrev pub decreases-pieces : goal.decreases-pieces
