@@ -1,31 +1,23 @@
 """A client of 9P2000 for one slot of `acmefs serve`, in the standard library alone. A refusal raises Refused.
 
     acme = Client("/tmp/acme.0")    a connection with a session, attached to the editor's tree (tree="plumb": the plumber's)
-    body = acme.open("new/body")    walks and opens; "r" to read, "w" to write, "rw" (if none is given) for both,
-                                    "t" to write from nothing on
+    body = acme.open("new/body")    walks and opens: "r" to read, "w" to write, "rw" for both, "t" to write from nothing on
     body.write("hello\n")           one Twrite; its offset is 0, since no file of the editor looks at it
     body.read()                     one Tread, from where the last one ended; of an event file it waits for an event
     body.close(); acme.close()      a clunk; the end of the connection
 """
-
 import socket
 import time
+from struct import pack
 
 VERSION, ATTACH, ERROR, WALK, OPEN, READ, WRITE, CLUNK = 100, 104, 107, 110, 112, 116, 118, 120
 NO_FID, NO_TAG, MODES = 0xFFFFFFFF, 0xFFFF, {"r": 0, "w": 1, "rw": 2, "t": 17}
 
-
 class Refused(Exception):
     pass
 
-
-def number(size, value):
-    return value.to_bytes(size, "little")
-
-
 def text(value):
-    return number(2, len(value.encode())) + value.encode()
-
+    return pack("<H", len(value.encode())) + value.encode()
 
 class Client:
     def __init__(self, path, seconds=300, tree=""):
@@ -35,12 +27,11 @@ class Client:
                 raise OSError(fault, "no server", path)
             time.sleep(0.05)
         self.replies = self.socket.makefile("rb")
-        self.ask(VERSION, number(4, 8192) + text("9P2000"), NO_TAG)
-        self.ask(ATTACH, number(4, 0) + number(4, NO_FID) + text("glenda") + text(tree))
+        self.ask(VERSION, pack("<I", 8192) + text("9P2000"), NO_TAG)
+        self.ask(ATTACH, pack("<II", 0, NO_FID) + text("glenda") + text(tree))
 
-    def ask(self, kind, fields, tag=1):
-        """Sends a message, and answers the fields of its reply."""
-        self.socket.sendall(number(4, 7 + len(fields)) + number(1, kind) + number(2, tag) + fields)
+    def ask(self, kind, fields, tag=1):  # sends a message, and answers the fields of its reply
+        self.socket.sendall(pack("<IBH", 7 + len(fields), kind, tag) + fields)
         reply = self.replies.read(max(0, int.from_bytes(self.replies.read(4), "little") - 4))
         if not reply:
             raise ConnectionError("the server ended the connection")
@@ -49,30 +40,28 @@ class Client:
         return reply[3:]
 
     def open(self, name, mode="rw"):
-        self.last += 1
-        names = name.split("/")
-        found = self.ask(WALK, number(4, 0) + number(4, self.last) + number(2, len(names)) + b"".join(map(text, names)))
+        self.last, names = self.last + 1, name.split("/")
+        found = self.ask(WALK, pack("<IIH", 0, self.last, len(names)) + b"".join(map(text, names)))
         if found[0] < len(names):
             raise Refused(f"{names[found[0]]}: file not found")
-        self.ask(OPEN, number(4, self.last) + number(1, MODES[mode]))
+        self.ask(OPEN, pack("<IB", self.last, MODES[mode]))
         return File(self, self.last)
 
     def close(self):
         self.replies.close()
         self.socket.close()
 
-
 class File:
     def __init__(self, client, fid):
-        self.client, self.fid, self.offset = client, number(4, fid), 0
+        self.client, self.fid, self.offset = client, fid, 0
 
     def read(self, count=4096):
-        data = self.client.ask(READ, self.fid + number(8, self.offset) + number(4, count))[4:]
+        data = self.client.ask(READ, pack("<IQI", self.fid, self.offset, count))[4:]
         self.offset += len(data)
         return data.decode()
 
     def write(self, value):
-        self.client.ask(WRITE, self.fid + number(8, 0) + number(4, len(value.encode())) + value.encode())
+        self.client.ask(WRITE, pack("<IQI", self.fid, 0, len(value.encode())) + value.encode())
 
     def close(self):
-        self.client.ask(CLUNK, self.fid)
+        self.client.ask(CLUNK, pack("<I", self.fid))

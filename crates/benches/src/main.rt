@@ -2,14 +2,10 @@
 // word each bench runs over a part of its texts and prints no time, so that all runs print the same.
 #![tactic(auto)]
 
-mod addr;
-mod edit;
 mod list;
-mod names;
 mod pairs;
 mod queue;
 mod re;
-mod rules;
 mod size;
 mod tape;
 mod texts;
@@ -21,15 +17,7 @@ use std::sync::Wait;
 use std::thread::Threads;
 use std::{env, io};
 
-const BENCHES: [&str; 7] = [
-    "addr",
-    "edit",
-    "names",
-    "re",
-    "rules",
-    "turn_lock",
-    "wait_queue",
-];
+const BENCHES: [&str; 3] = ["re", "turn_lock", "wait_queue"];
 
 fn run<R: Threads + Wait + Sync + Clock + Print>(
     rt: &R,
@@ -38,16 +26,10 @@ fn run<R: Threads + Wait + Sync + Clock + Print>(
     number: Option<usize>,
 ) -> io::Result<()> {
     match bench {
-        "addr" => addr::run(rt, alloc, number),
-        "edit" => edit::run(rt, alloc, number),
-        "names" => names::run(rt, alloc, number),
         "re" => re::run(rt, alloc, number),
-        "rules" => rules::run(rt, alloc, number),
         "turn_lock" => turns::run(rt, alloc, number),
         "wait_queue" => queue::run(rt, alloc, number),
-        _ => println!(rt;
-            "usage: benches [addr|edit|names|re|rules|turn_lock|wait_queue [NUMBER]]"
-        ),
+        _ => println!(rt; "usage: benches [re|turn_lock|wait_queue [NUMBER]]"),
     }
 }
 

@@ -1,7 +1,7 @@
 -- Each message is answered in its step, or is a read that waits.
-use Rattle.std.proofs.Common.{◌≡◌, ◌⊎◌, inl, inr, ℕ, ◌+◌, Bool, true, false, cond, eqb, ◌&&◌, ◌||◌, List, [], ◌∷◌, ◌++◌, length, slice_index_or, Option, Some, None, All, refl, sym, ap, subst, ◌∙◌, append_assoc, append-nil, arith}
+use Rattle.std.proofs.Common.{◌≡◌, ◌⊎◌, inl, inr, ℕ, ◌+◌, Bool, true, false, cond, eqb, ◌&&◌, ◌||◌, List, [], ◌∷◌, ◌++◌, slice_index_or, Option, Some, None, All, refl, sym, ap, subst, ◌∙◌, append_assoc, append-nil, arith}
 use Rattle.std.specs.List.{list_any}
-use Rattle.std.proofs.lemmas.Bool.{both_ways, false_from_ne_true, or_from}
+use Rattle.std.proofs.lemmas.Bool.{both_ways, false_from_ne_true, true_from_ne_false, or_from}
 use Rattle.std.proofs.lemmas.Bool.Decides.{nat_tests}
 use Rattle.std.proofs.lemmas.List.Elements.{All-nil, All-append, All-weaker}
 use Rattle.std.proofs.lemmas.List.Folds.{list_any_at, list_any-append}
@@ -61,7 +61,7 @@ use Rattle.core_intents.specs.States.{Present, State, present, next_entry}
 use Rattle.acme_core.proofs.Goes.{run-push}
 use Rattle.acme_core.proofs.Idling.{run_idle, ports_idle_after}
 use Rattle.core_steps.proofs.Idling.{silent}
-use Rattle.core_laws.specs.Answered.{IsAnswerTo, waits_with, TellsAWait, SaysOnce, ReadsOnce, IsAnsweredBy, MessagesAreAnswered}
+use Rattle.core_laws.specs.Answered.{IsAnswerTo, TellsAWait, SaysOnce, ReadsOnce, IsAnsweredBy, MessagesAreAnswered}
 use Rattle.core_laws.specs.Saying.{said_after, is_told}
 use Rattle.core_laws.specs.Waits.{WaitsAreTied}
 use Rattle.core_laws.proofs.Answering.{message_reads, message_reads_port}
@@ -86,6 +86,10 @@ or_second false b h = h
 or_first : (a b : Bool) → a ≡ true → (a || b) ≡ true
 or_first true b h = refl
 or_first false b h = absurd cc
+
+-- a read with this tag waits on this connection, in one of the three lists
+abbrev waits_with : State → ℕ → ℕ → Bool
+waits_with s conn tag = list_any (is_waiting conn tag) s.tables.waiting || (list_any (is_read conn tag) s.scene.book.reads || list_any (is_read conn tag) s.scene.ports.reads)
 
 abbrev Waited : State → ℕ → ℕ → Type 0
 Waited s conn tag = waits_with s conn tag ≡ true
@@ -140,23 +144,37 @@ front_of s conn d = clunked s.tables conn d.effect
 abbrev rest_of : Present → ℕ → ℕ → Doing → List Response
 rest_of s conn tag d = deletions s.tables (deleted_by d.deeds) ++ served_all (next_entry s) (put_book s (kind.Asks conn tag) d) ++ ports_served (open_ports s (kind.Asks conn tag) d)
 
+-- the event files and the ports have no others than the sessions
+waited_there : (s : State) (conn tag : ℕ) → WaitsAreTied s → Waited s conn tag → list_any (is_waiting conn tag) s.tables.waiting ≡ true
+waited_there s conn tag tied waits =
+    true_from_ne_false (list_any (is_waiting conn tag) s.tables.waiting) (λ none. both_ways (waits_with s conn tag)
+    (or_from (list_any (is_waiting conn tag) s.tables.waiting) (list_any (is_read conn tag) s.scene.book.reads || list_any (is_read conn tag) s.scene.ports.reads) none
+    (or_from (list_any (is_read conn tag) s.scene.book.reads) (list_any (is_read conn tag) s.scene.ports.reads)
+    (none_asks event_opening s.tables conn tag s.tables.waiting s.scene.book.reads tied.events none)
+    (none_asks port_opening s.tables conn tag s.tables.waiting s.scene.ports.reads tied.ports none)))
+    waits)
+
+abbrev TellsAny : State → Response → Type 0
+TellsAny s x = Waited s x.conn x.message.tag
+
 -- with a tag that no read has which waits, or where nothing else is said
 abbrev IsAlone : State → ℕ → ℕ → Doing → Type 0
-IsAlone s conn tag d = (waits_with s conn tag ≡ false) ⊎ (front_of (present s) conn d ++ rest_of (present s) conn tag d ≡ [])
+IsAlone s conn tag d = (list_any (is_waiting conn tag) s.tables.waiting ≡ false) ⊎ (front_of (present s) conn d ++ rest_of (present s) conn tag d ≡ [])
 
-not_told : (s : State) (conn tag : ℕ) → waits_with s conn tag ≡ false → (x : Response) → TellsAWait s x → is_told conn tag x ≡ false
+not_told : (s : State) (conn tag : ℕ) → list_any (is_waiting conn tag) s.tables.waiting ≡ false → (x : Response) → TellsAWait s x → is_told conn tag x ≡ false
 not_told s conn tag none x tells =
     false_from_ne_true (is_told conn tag x) (λ is. let key : (x.conn ≡ conn) × (x.message.tag ≡ tag) = key_parts x.conn x.message.tag conn tag is in
-    both_ways (waits_with s conn tag) none (subst (λ (g : ℕ). waits_with s conn g ≡ true) key.1 (subst (λ (c : ℕ). waits_with s c x.message.tag ≡ true) key.0 tells)))
+    both_ways (list_any (is_waiting conn tag) s.tables.waiting) none
+    (subst (λ (g : ℕ). list_any (is_waiting conn g) s.tables.waiting ≡ true) key.1 (subst (λ (c : ℕ). list_any (is_waiting c x.message.tag) s.tables.waiting ≡ true) key.0 tells)))
 
 none_told : (s : State) (conn tag : ℕ) (d : Doing) → IsAlone s conn tag d → All (TellsAWait s) (front_of (present s) conn d ++ rest_of (present s) conn tag d)
     → All (λ x. is_told conn tag x ≡ false) (front_of (present s) conn d ++ rest_of (present s) conn tag d)
 none_told s conn tag d (inl none) others = All-weaker (TellsAWait s) (λ x. is_told conn tag x ≡ false) (not_told s conn tag none) (front_of (present s) conn d ++ rest_of (present s) conn tag d) others
 none_told s conn tag d (inr empty) others = subst (All (λ (x : Response). is_told conn tag x ≡ false)) (sym empty) (All-nil (λ (x : Response). is_told conn tag x ≡ false))
 
-says_once : (s : State) (conn tag : ℕ) (d : Doing) (body : RBody) → d.answer ≡ Some (Says body) → AreIdle [] s.entries s.scene.book → IsAlone s conn tag d
+says_once : (s : State) (conn tag : ℕ) (d : Doing) (body : RBody) → WaitsAreTied s → d.answer ≡ Some (Says body) → AreIdle [] s.entries s.scene.book → IsAlone s conn tag d
     → SaysOnce s conn tag body (said (present s) (kind.Asks conn tag) d)
-says_once s conn tag d body is idle alone =
+says_once s conn tag d body tied is idle alone =
     let p : Present = present s in
     let k = kind.Asks conn tag in
     let front : List Response = clunked s.tables conn d.effect in
@@ -164,12 +182,15 @@ says_once s conn tag d body is idle alone =
     let served : List Response = served_all (next_entry p) (put_book p k d) in
     let later : List Response = ports_served (open_ports p k d) in
     let one : List Response = front ++ response conn tag body ∷ [] in
-    let told_gone : All (TellsAWait s) gone = tell_deletions (Waited s) s.tables (deleted_by d.deeds) (waiting_waits s) in
-    let told_served : All (TellsAWait s) served = tell_served (Waited s) (next_entry p) (put_book p k d) (waited_put s conn tag d body is idle) in
-    let told_later : All (TellsAWait s) later = tell_ports (Waited s) (open_ports p k d) (waited_open s conn tag d body is) in
+    let told_gone : All (TellsAny s) gone = tell_deletions (Waited s) s.tables (deleted_by d.deeds) (waiting_waits s) in
+    let told_served : All (TellsAny s) served = tell_served (Waited s) (next_entry p) (put_book p k d) (waited_put s conn tag d body is idle) in
+    let told_later : All (TellsAny s) later = tell_ports (Waited s) (open_ports p k d) (waited_open s conn tag d body is) in
+    let any : All (TellsAny s) (front ++ (gone ++ served ++ later)) =
+    All-append (TellsAny s) front (gone ++ served ++ later) (tell_clunked (Waited s) s.tables conn d.effect (waiting_waits s))
+    (All-append (TellsAny s) (gone ++ served) later (All-append (TellsAny s) gone served told_gone told_served) told_later)
+    in
     let others : All (TellsAWait s) (front ++ (gone ++ served ++ later)) =
-    All-append (TellsAWait s) front (gone ++ served ++ later) (tell_clunked (Waited s) s.tables conn d.effect (waiting_waits s))
-    (All-append (TellsAWait s) (gone ++ served) later (All-append (TellsAWait s) gone served told_gone told_served) told_later)
+    All-weaker (TellsAny s) (TellsAWait s) (λ x waits. waited_there s x.conn x.message.tag tied waits) (front ++ (gone ++ served ++ later)) any
     in
     record {
       front = front;
@@ -189,19 +210,13 @@ version_alone : (before : List Event) (conn tag : ℕ) (o : Origin) (msize : Opt
 unfolding task_deeds task_refusal
 version_alone before conn tag o msize body = silent_after before (next_entry (present_after before))
 
-free_key : (s : State) (conn tag : ℕ) → WaitsAreTied s → list_any (is_waiting conn tag) s.tables.waiting ≡ false → waits_with s conn tag ≡ false
-free_key s conn tag tied none =
-    or_from (list_any (is_waiting conn tag) s.tables.waiting) (list_any (is_read conn tag) s.scene.book.reads || list_any (is_read conn tag) s.scene.ports.reads) none
-    (or_from (list_any (is_read conn tag) s.scene.book.reads) (list_any (is_read conn tag) s.scene.ports.reads)
-    (none_asks event_opening s.tables conn tag s.tables.waiting s.scene.book.reads tied.events none) (none_asks port_opening s.tables conn tag s.tables.waiting s.scene.ports.reads tied.ports none))
-
 alone_by : (before : List Event) (conn : ℕ) (msg : TMsg) → IsPlayed enabled before → enabled before (event.Msg conn msg) ≡ None → IsAlone (run before) conn msg.tag (doing_of (present_after before) (event.Msg conn msg))
 alone_by before conn msg played allowed =
     let s : State = run before in
     let p : Present = present s in
     let o : Origin = message_origin s.tables conn msg.body in
     elim (tag_or_version p conn msg allowed) as (λ z. IsAlone s conn msg.tag (doing_of p (event.Msg conn msg))) [
-      | inl none ↦ inl (free_key s conn msg.tag (waits_tied before played) none)
+      | inl none ↦ inl none
       | inr version ↦
           inr (on_version p conn (λ d. front_of p conn (message_doing p d o) ++ rest_of p conn msg.tag (message_doing p d o) ≡ []) (λ msize body. version_alone before conn msg.tag o msize body) msg.body version)
     ]
@@ -419,16 +434,16 @@ reads_port_by before conn msg fid opening count well asks is =
 
 -- ---- all messages
 
-answered_by : (before : List Event) (conn : ℕ) (msg : TMsg) (a : Option Answer) → IsWell (run before) → IsAlone (run before) conn msg.tag (doing_of (present_after before) (event.Msg conn msg)) → (doing_of (present_after before) (event.Msg conn msg)).answer ≡ a
+answered_by : (before : List Event) (conn : ℕ) (msg : TMsg) (a : Option Answer) → IsWell (run before) → WaitsAreTied (run before) → IsAlone (run before) conn msg.tag (doing_of (present_after before) (event.Msg conn msg)) → (doing_of (present_after before) (event.Msg conn msg)).answer ≡ a
     → HasAnswer msg.body a → IsAnsweredBy before conn msg a
-answered_by before conn msg None well alone is has = has
-answered_by before conn msg (Some (Says body)) well alone is has =
-    (has, says_once (run before) conn msg.tag (doing_of (present_after before) (event.Msg conn msg)) body is (run_idle before) alone)
-answered_by before conn msg (Some (Reads fid opening count)) well alone is has = reads_by before conn msg fid opening count well has is
-answered_by before conn msg (Some (ReadsPort fid opening count)) well alone is has = reads_port_by before conn msg fid opening count well has is
+answered_by before conn msg None well tied alone is has = has
+answered_by before conn msg (Some (Says body)) well tied alone is has =
+    (has, says_once (run before) conn msg.tag (doing_of (present_after before) (event.Msg conn msg)) body tied is (run_idle before) alone)
+answered_by before conn msg (Some (Reads fid opening count)) well tied alone is has = reads_by before conn msg fid opening count well has is
+answered_by before conn msg (Some (ReadsPort fid opening count)) well tied alone is has = reads_port_by before conn msg fid opening count well has is
 
 pub messages_answered : EachIsAnswered → (journal : List Event) → IsPlayed enabled journal → MessagesAreAnswered journal
 messages_answered law journal played before behind conn msg is =
     let e : Event = event.Msg conn msg in
     let parts : ArePlayed enabled [] before × ArePlayed enabled ([] ++ before) (e ∷ behind) = played_parts [] before (e ∷ behind) (subst (IsPlayed enabled) (sym is) played) in
-    answered_by before conn msg (doing_of (present_after before) e).answer (well_after before parts.0) (alone_by before conn msg parts.0 (played_first before behind e parts.1).0) refl (law (present_after before) conn msg)
+    answered_by before conn msg (doing_of (present_after before) e).answer (well_after before parts.0) (waits_tied before parts.0) (alone_by before conn msg parts.0 (played_first before behind e parts.1).0) refl (law (present_after before) conn msg)

@@ -1,8 +1,7 @@
 -- What a step ends, in the sessions, the event files and the ports: the same reads.
-use Rattle.std.proofs.Common.{◌≡◌, ◌≢◌, ◌⊎◌, inl, inr, ℕ, Bool, true, false, not, cond, eqb, ◌&&◌, ◌||◌, List, [], ◌∷◌, ◌++◌, length, find, nat_eq, Option, Some, None, refl, sym, ap, subst, ◌∙◌}
-use Rattle.std.specs.List.{list_any}
+use Rattle.std.proofs.Common.{◌≡◌, ◌≢◌, ℕ, Bool, true, false, eqb, ◌&&◌, ◌||◌, List, find, nat_eq, Option, Some, None, refl, sym, ap, subst, ◌∙◌}
 use Rattle.std.specs.Map.{lookup}
-use Rattle.std.proofs.lemmas.Bool.{eqb-true, eqb-false, or_parts, both_ways, false_from_ne_true}
+use Rattle.std.proofs.lemmas.Bool.{eqb-true, eqb-false, both_ways}
 use Rattle.fid_table.specs.declared.types.Fid.{Fid}
 use Rattle.fid_table.specs.declared.session.Session.{Session}
 use Rattle.fid_table.specs.declared.session.Waiting.{Waiting}
@@ -18,20 +17,19 @@ use Rattle.core_fids.specs.declared.effect.EventChange.{EventChange}
 use Rattle.core_fids.specs.declared.effect.EventChange.TheVariants as events
 use Rattle.core_fids.specs.declared.refusal.Refusal.TheVariants as refusal
 use Rattle.core_events.specs.declared.response.Response.{Response}
-use Rattle.core_events.specs.Closing.{freed, cancelled, opening_in, without_fids}
+use Rattle.core_events.specs.Closing.{freed, cancelled, opening_in}
 use Rattle.core_events.specs.Waits.{is_of_fid, clunked, ended, without_cancelled}
-use Rattle.core_ports.specs.Closing.{ports_freed, ports_cancelled, ports_without_fids, opening_in as port_in}
+use Rattle.core_ports.specs.Closing.{ports_freed, ports_cancelled, opening_in as port_in}
 use Rattle.core_intents.specs.declared.kind.Kind.{Kind}
 use Rattle.core_intents.specs.declared.kind.Kind.TheVariants as kind
 use Rattle.core_intents.specs.Connections.{ended_with}
 use Rattle.core_intents.specs.Doings.{Doing}
-use Rattle.core_intents.specs.Kinds.{conn_of}
 use Rattle.core_steps.specs.Stages.{left_book, left_ports, ended_tables}
 use Rattle.core_laws.specs.Waits.{opening_by, AreApart}
-use Rattle.core_laws.proofs.Books.{IsBook, book_without}
+use Rattle.core_laws.proofs.Books.{IsBook}
 use Rattle.core_laws.proofs.Lists.{without, without_both, without_none, IsIn}
 use Rattle.core_laws.proofs.Zips.{by_waiting, by_asker, same_key}
-use Rattle.core_laws.proofs.Holders.{Has, take_has, version_has, same_has, AreFewer}
+use Rattle.core_laws.proofs.Holders.{take_has, version_has, same_has, AreFewer}
 use Rattle.core_laws.proofs.Staying.{heard, ended_without, heard_by, is_there, is_of_one, left_without, left_owners, fids_without, fids_owners, port_left, port_left_joined, port_fids_without, port_fids_joined}
 use Rattle.core_laws.proofs.Wells.{done_sessions, cancelled_sessions}
 

@@ -1,7 +1,7 @@
 -- What a step makes before it ends anything, in the sessions, the event files and the ports: the same reads.
-use Rattle.std.proofs.Common.{◌≡◌, ◌≢◌, ◌⊎◌, inl, inr, ℕ, zero, suc, ◌+◌, ◌≤◌, ◌<◌, Bool, true, false, not, cond, eqb, nat_lt, ◌&&◌, ◌||◌, List, [], ◌∷◌, ◌++◌, length, map, Option, Some, None, refl, sym, ap, subst, ◌∙◌, arith}
+use Rattle.std.proofs.Common.{◌≡◌, ℕ, zero, suc, ◌+◌, ◌≤◌, ◌<◌, Bool, true, false, not, cond, nat_lt, ◌&&◌, ◌||◌, List, [], ◌∷◌, ◌++◌, length, map, Option, Some, None, refl, sym, ap, subst, ◌∙◌, arith}
 use Rattle.std.specs.List.{list_any}
-use Rattle.std.proofs.lemmas.Bool.{eqb-true, ltb-true, and_parts, or_parts, both_ways, false_from_ne_true, not_from_false}
+use Rattle.std.proofs.lemmas.Bool.{ltb-true, false_from_ne_true}
 use Rattle.std.proofs.lemmas.Bool.Decides.{nat_tests}
 use Rattle.std.proofs.lemmas.List.{length-append}
 use Rattle.acme_tree.specs.declared.node.Node.{Node}
@@ -12,16 +12,15 @@ use Rattle.acme_tree.specs.declared.node.WinFile.TheVariants as file
 use Rattle.ninep_types.specs.declared.message.RBody.{RBody}
 use Rattle.ninep_types.specs.declared.message.RBody.TheVariants as answer
 use Rattle.fid_table.specs.declared.types.Fid.{Fid}
-use Rattle.fid_table.specs.declared.session.Waiting.{Waiting}
-use Rattle.fid_table.specs.Tables.{Tables, fid_of, is_waiting, after_wait}
+use Rattle.fid_table.specs.Tables.{Tables}
 use Rattle.wait_queue.specs.declared.types.Asked.TheVariants.{Now, Waits}
 use Rattle.wait_queue.specs.declared.types.Asker.{Asker}
-use Rattle.event_book.specs.BookState.{BookState, is_living, read_waits, piece_for, asked_of, after_add, after_ask, after_answer, is_on_window}
+use Rattle.event_book.specs.BookState.{BookState, is_living, read_waits, piece_for, asked_of, after_add, after_answer, is_on_window}
 use Rattle.plumb_ports.specs.PortList.{Port, named, names_of, number_of, with_name, kept_of, with_kept}
 use Rattle.plumb_ports.specs.Inboxes.{delivered}
 use Rattle.plumb_ports.specs.PortsState.{PortsState, is_open, has_joined, read_waits as port_waits, piece_for as port_piece, asked_of as port_asked, after_ask as after_port_ask, after_answer as after_port_answer, after_join, delivered_at, delivered_on}
 use Rattle.plumb_ports.specs.Laws.{AreNumbered, Join}
-use Rattle.plumb_ports.proofs.NumberLemmas.{numbered, on_numbers, ask_numbers, call_numbers, next_numbers, left_numbers}
+use Rattle.plumb_ports.proofs.NumberLemmas.{numbered, on_numbers, ask_numbers, call_numbers}
 use Rattle.core_scene.specs.declared.deed.Deed.{Deed}
 use Rattle.core_scene.specs.declared.deed.Deed.TheVariants as deed
 use Rattle.core_scene.specs.declared.deed.Entry.{Entry}
@@ -38,10 +37,10 @@ use Rattle.core_fids.specs.Refusals.{refusal_text}
 use Rattle.core_events.specs.Asking.{opened, reads_are_full, said_to, book_asked, read_said, book_read}
 use Rattle.core_events.specs.Waits.{is_of_window, deletions}
 use Rattle.core_ports.specs.Asking.{next_opening, can_join, joined_with, read_refusal, said_unless, read_unless, port_said, ports_read}
-use Rattle.core_laws.specs.Waits.{told, AreApart}
+use Rattle.core_laws.specs.Waits.{told}
 use Rattle.core_laws.proofs.Lists.{IsIn}
 use Rattle.core_laws.proofs.Zips.{HasWaiting, asker_waits}
-use Rattle.core_laws.proofs.Holders.{AreOfWindows, owner_pushed, owner_last}
+use Rattle.core_laws.proofs.Holders.{AreOfWindows, owner_pushed}
 use Rattle.core_laws.proofs.Reactions.{IsNew}
 use Rattle.core_laws.proofs.Staying.{heard, heard_deleted}
 use Rattle.core_laws.proofs.Ties.{Ties, KeepOwners, by_window, by_no_window}

@@ -1,5 +1,5 @@
 -- Each opening is that of one fid, with a number that was given, and of the window whose event file the fid is.
-use Rattle.std.proofs.Common.{◌≡◌, ◌≢◌, ◌⊎◌, inl, inr, ℕ, zero, suc, ◌+◌, ◌≤◌, Bool, true, false, not, cond, eqb, List, [], ◌∷◌, ◌++◌, length, find, nat_eq, slice_get, Option, Some, None, option_map, refl, sym, ap, subst, ◌∙◌, arith}
+use Rattle.std.proofs.Common.{◌≡◌, ◌⊎◌, inl, inr, ℕ, zero, suc, ◌+◌, ◌≤◌, Bool, true, false, cond, eqb, List, [], ◌∷◌, ◌++◌, length, find, nat_eq, slice_get, Option, Some, None, option_map, refl, sym, ap, subst, ◌∙◌, arith}
 use Rattle.std.specs.Map.{lookup}
 use Rattle.std.proofs.lemmas.Bool.{eqb-true, eqb-false}
 use Rattle.acme_tree.specs.declared.node.Node.TheVariants as node
@@ -7,14 +7,13 @@ use Rattle.acme_tree.specs.declared.node.WinFile.TheVariants as file
 use Rattle.fid_table.specs.declared.types.Fid.{Fid}
 use Rattle.fid_table.specs.declared.session.Session.{Session}
 use Rattle.fid_table.specs.declared.session.Waiting.{Waiting}
-use Rattle.fid_table.specs.Fids.{with_fid, without_fid}
+use Rattle.fid_table.specs.Fids.{with_fid}
 use Rattle.fid_table.specs.Tables.{Tables, is_session, fids_in, fids_of, fid_of, put_in, taken_from, after_join, after_put, after_take, after_version}
 use Rattle.fid_table.proofs.LawLemmas.{leaves, drops}
 use Rattle.fid_table.proofs.PlaceLemmas.{find_changed}
 use Rattle.fid_table.proofs.FidLemmas.{lookup_put}
 use Rattle.event_book.specs.BookState.{owner_of}
-use Rattle.core_fids.specs.Fids.{at_event, at_port, event_opening, port_opening}
-use Rattle.core_laws.specs.Waits.{opening_by}
+use Rattle.core_fids.specs.Fids.{event_opening, port_opening}
 use Rattle.core_laws.proofs.Fids.{fids_joined}
 use Rattle.core_laws.proofs.Lists.{IsIn, in_without}
 

@@ -1,6 +1,6 @@
 -- Which reads of the event files and of the ports wait on after each part of a step: all but those that it answers or ends.
-use Rattle.std.proofs.Common.{◌≡◌, ◌≢◌, ℕ, zero, suc, ◌+◌, Bool, true, false, not, cond, eqb, ◌&&◌, ◌||◌, List, [], ◌∷◌, ◌++◌, length, map, fold, nat_lt, Option, Some, None, option_map, All, refl, sym, ap, subst, ◌∙◌}
-use Rattle.std.specs.List.{filter, find, list_any, list_all}
+use Rattle.std.proofs.Common.{◌≡◌, ℕ, zero, suc, Bool, true, false, not, cond, eqb, ◌&&◌, ◌||◌, List, [], ◌∷◌, ◌++◌, length, fold, nat_lt, Option, Some, None, option_map, refl, sym, ap, subst, ◌∙◌}
+use Rattle.std.specs.List.{filter, list_any, list_all}
 use Rattle.std.proofs.lemmas.Bool.{eqb-true, and_parts, or_parts, both_ways, false_from_ne_true}
 use Rattle.std.proofs.lemmas.List.Folds.{list_any-append}
 use Rattle.fid_table.specs.declared.types.Fid.{Fid}

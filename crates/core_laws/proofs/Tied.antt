@@ -1,5 +1,5 @@
 -- After each journal of enabled events the reads that wait in the sessions are those of the event files and of the ports, in order.
-use Rattle.std.proofs.Common.{◌≡◌, ◌≢◌, ◌⊎◌, inl, inr, ℕ, ◌+◌, ◌≤◌, Bool, true, false, not, cond, eqb, nat_lt, ◌&&◌, ◌||◌, min, zero, suc, fold, List, [], ◌∷◌, ◌++◌, length, codes, map, Option, Some, None, All, refl, sym, ap, subst, ◌∙◌, append_assoc, append-nil, arith}
+use Rattle.std.proofs.Common.{◌≡◌, ◌⊎◌, inl, inr, ℕ, ◌+◌, ◌≤◌, Bool, true, false, not, cond, eqb, nat_lt, ◌&&◌, ◌||◌, min, zero, suc, fold, List, [], ◌∷◌, ◌++◌, length, codes, Option, Some, None, refl, sym, ap, subst, ◌∙◌, append_assoc, append-nil, arith}
 use Rattle.std.specs.List.{list_any}
 use Rattle.std.proofs.lemmas.List.{length-append}
 use Rattle.std.proofs.lemmas.Bool.{and_parts, and_cases, or_parts, not-false, cases_Bool, false≢true}
@@ -17,7 +17,6 @@ use Rattle.fid_table.specs.declared.session.Waiting.{Waiting}
 use Rattle.fid_table.specs.Tables.{Tables, fid_of, fids_of, msize_of, is_waiting, after_join}
 use Rattle.wait_queue.specs.declared.types.Asker.{Asker}
 use Rattle.event_book.specs.BookState.{BookState, owner_of, is_on_window}
-use Rattle.plumb_ports.specs.PortList.{names_of}
 use Rattle.plumb_ports.specs.Inboxes.{is_of}
 use Rattle.plumb_ports.specs.PortsState.{PortsState, next_of, after_serve}
 use Rattle.plumb_ports.specs.Laws.{AreNumbered}
@@ -30,7 +29,7 @@ use Rattle.am_journal.specs.declared.event.Why.{Why}
 use Rattle.am_counter.specs.Played.{ArePlayed, IsPlayed}
 use Rattle.core_windows.specs.declared.change.Change.{Change}
 use Rattle.core_windows.specs.Windows.{world_of}
-use Rattle.core_scene.specs.Scenes.{SceneState, deleted_by}
+use Rattle.core_scene.specs.Scenes.{deleted_by}
 use Rattle.core_fids.specs.Fids.{at_event, at_port, event_opening, port_opening, is_there}
 use Rattle.core_fids.specs.Attaching.{is_version as is_asked, agreement}
 use Rattle.core_fids.specs.Plainly.{does}
@@ -61,25 +60,25 @@ use Rattle.core_intents.specs.Connections.{connection_at, grown_with}
 use Rattle.core_intents.specs.Doings.{Doing, enabled_at, doing_of, message_doing, entry_by, entry_of, is_version, is_tag_used}
 use Rattle.core_intents.specs.Enabled.{first_why, live_refusal, size_refusal, tag_refusal, replies_refusal}
 use Rattle.core_intents.specs.Intents.{with_held, demanded_task, reaction_at}
-use Rattle.core_intents.specs.Kinds.{kind_of, conn_of}
+use Rattle.core_intents.specs.Kinds.{kind_of}
 use Rattle.core_intents.specs.Origins.{message_origin}
-use Rattle.core_intents.specs.States.{Present, State, present, start, unsent_count, next_entry}
+use Rattle.core_intents.specs.States.{Present, State, present, unsent_count, next_entry}
 use Rattle.core_steps.specs.declared.reading.PortRead.{PortRead}
 use Rattle.core_steps.specs.PortReads.{port_read_of, port_read_in, if_port_said, asked_said, asked_ports, asked_tables}
-use Rattle.core_steps.specs.Stages.{response, read_response, asker_of, if_said, answer_said, answer_book, answer_tables, message_said, acted, with_fid, read_tables, grown_tables, read_book, grown_book, open_ports, grown_ports, left_ports, tables_after, book_after, ports_after}
+use Rattle.core_steps.specs.Stages.{response, read_response, asker_of, if_said, answer_said, answer_book, answer_tables, acted, read_tables, grown_tables, read_book, grown_book, open_ports, grown_ports, left_ports, tables_after, book_after, ports_after}
 use Rattle.acme_core.specs.Run.{step, run, enabled}
 use Rattle.acme_core.proofs.Goes.{run-push}
-use Rattle.core_laws.specs.Waits.{told, opening_by, AreApart, WaitsAreTied}
+use Rattle.core_laws.specs.Waits.{AreApart, WaitsAreTied}
 use Rattle.core_laws.proofs.Answering.{message_reads, message_reads_port, held_of}
 use Rattle.core_laws.proofs.Books.{IsBook, book_weaker}
 use Rattle.core_laws.proofs.Fids.{IsHeld}
-use Rattle.core_laws.proofs.Holders.{numbered_fid, fid_has, IsItsOpening, owner_last, AreOwn}
+use Rattle.core_laws.proofs.Holders.{numbered_fid, fid_has, IsItsOpening, owner_last}
 use Rattle.core_laws.proofs.Lists.{IsIn, all_by}
-use Rattle.core_laws.proofs.Reactions.{IsStill, IsPut, PutsSane, IsNew, ReadsSane, IsSane, HasOpening, of_event, of_port}
+use Rattle.core_laws.proofs.Reactions.{IsStill, PutsSane, IsNew, ReadsSane, HasOpening, of_event, of_port}
 use Rattle.core_laws.proofs.Staying.{heard}
-use Rattle.core_laws.proofs.Endings.{gone, gone_with, clunks, clunks_with, heard_clunk}
+use Rattle.core_laws.proofs.Endings.{gone_with, clunks_with, heard_clunk}
 use Rattle.core_laws.proofs.Growths.{owners_more, new_event, IsMore, acted_more, joined_more, joined_numbers, new_port, with_asker, read_reads, port_reads, read_numbers, deleted_right, port_deleted_right}
-use Rattle.core_laws.proofs.Ties.{Ties, KeepOwners, event_node, port_at, ties_more, ties_join, ties_put, ties_wait, ties_wait_port}
+use Rattle.core_laws.proofs.Ties.{Ties, event_node, port_at, ties_more, ties_join, ties_put, ties_wait, ties_wait_port}
 use Rattle.core_laws.proofs.Waits.{owners_then, IsToldRight, ties_after}
 use Rattle.core_laws.proofs.Wells.{IsWell, IsOwn, opens_in, own, later, well_read, items_book, sane_in, well_step, no_entries, AreWell}
 

@@ -1,5 +1,5 @@
 -- The two lists of reads that wait are the same reads, in order: what holds with that, and what each part of a step leaves of it.
-use Rattle.std.proofs.Common.{◌≡◌, ◌≢◌, ◌⊎◌, inl, inr, ℕ, ◌+◌, ◌≤◌, Bool, true, false, not, cond, eqb, ◌&&◌, ◌||◌, List, [], ◌∷◌, ◌++◌, length, map, nat_eq, unwrap_or, Option, Some, None, refl, sym, ap, subst, ◌∙◌, append-nil, arith}
+use Rattle.std.proofs.Common.{◌≡◌, ◌⊎◌, inl, inr, ℕ, ◌≤◌, Bool, true, false, eqb, List, [], ◌∷◌, ◌++◌, length, map, nat_eq, unwrap_or, Option, Some, None, refl, sym, ap, subst, ◌∙◌, append-nil, arith}
 use Rattle.std.specs.List.{list_any}
 use Rattle.std.specs.Map.{lookup}
 use Rattle.std.proofs.lemmas.Bool.{eqb-true, eqb-false, and_parts, both_ways, false_from_ne_true}
@@ -10,16 +10,16 @@ use Rattle.acme_tree.specs.declared.node.WinFile.TheVariants as file
 use Rattle.fid_table.specs.declared.types.Fid.{Fid}
 use Rattle.fid_table.specs.declared.session.Waiting.{Waiting}
 use Rattle.fid_table.specs.Tables.{Tables, fid_of, fids_of, is_waiting, after_join, after_put, after_wait}
-use Rattle.wait_queue.specs.Reads.{is_on, is_read}
+use Rattle.wait_queue.specs.Reads.{is_on}
 use Rattle.wait_queue.specs.declared.types.Asker.{Asker}
-use Rattle.event_book.specs.BookState.{window_of, owner_of, is_on_window}
+use Rattle.event_book.specs.BookState.{owner_of, is_on_window}
 use Rattle.core_fids.specs.Fids.{at_event, at_port, event_opening, port_opening}
 use Rattle.core_events.specs.Waits.{is_of_fid, is_event_of, reads_event_of, is_of_window}
 use Rattle.core_laws.specs.Waits.{WaitingRead, told, opening_by, with_read, reads_in, AreApart}
 use Rattle.core_laws.proofs.Fids.{fids_joined}
-use Rattle.core_laws.proofs.Lists.{without, without_same, IsIn, in_without, any_in, which_any, in_push}
+use Rattle.core_laws.proofs.Lists.{without, IsIn, in_without, any_in, which_any, in_push}
 use Rattle.core_laws.proofs.Zips.{by_waiting, by_asker, zip_without, HasWaiting, asker_waits, apart_same, apart_without, apart_push, reads_same, reads_push, same_key}
-use Rattle.core_laws.proofs.Holders.{Has, numbered_fid, fid_has, put_has, join_has, AreFewer, AreOwn, own_fewer, own_more, own_put, IsItsOpening, AreOfWindows, IsFed, fed_same, IsAlike, put_alike}
+use Rattle.core_laws.proofs.Holders.{Has, numbered_fid, fid_has, put_has, join_has, AreFewer, AreOwn, own_fewer, own_more, own_put, IsItsOpening, AreOfWindows, IsFed, fed_same, put_alike}
 use Rattle.core_laws.proofs.Reactions.{of_event, of_port}
 use Rattle.core_laws.proofs.Staying.{is_there, there_is, is_of_one}
 

@@ -1,18 +1,13 @@
 -- After each journal of enabled events the reads that wait in the sessions are those of the event files and of the ports, in order.
-use Rattle.std.proofs.Common.{◌≡◌, ◌≢◌, ◌⊎◌, inl, inr, ℕ, ◌+◌, ◌≤◌, Bool, true, false, not, cond, eqb, nat_lt, ◌&&◌, ◌||◌, List, [], ◌∷◌, ◌++◌, length, map, Option, Some, None, All, refl, sym, ap, subst, ◌∙◌, append_assoc, append-nil, arith}
+use Rattle.std.proofs.Common.{◌≡◌, ◌⊎◌, inl, inr, ℕ, Bool, true, false, ◌||◌, List, ◌++◌, length, Option, refl, sym, ap, subst, ◌∙◌}
 use Rattle.std.specs.List.{list_any}
-use Rattle.std.proofs.lemmas.Bool.{eqb-true, and_parts, or_parts, both_ways, false_from_ne_true, cases_Bool, lt-ltb, not_from_false}
-use Rattle.acme_tree.specs.declared.node.Node.{Node}
-use Rattle.acme_tree.specs.declared.node.Node.TheVariants as node
-use Rattle.acme_tree.specs.declared.node.WinFile.TheVariants as file
-use Rattle.ninep_types.specs.declared.message.RBody.{RBody}
+use Rattle.std.proofs.lemmas.Bool.{or_parts, false_from_ne_true}
 use Rattle.fid_table.specs.declared.types.Fid.{Fid}
 use Rattle.fid_table.specs.declared.session.Waiting.{Waiting}
-use Rattle.fid_table.specs.Tables.{Tables, fid_of, is_waiting}
+use Rattle.fid_table.specs.Tables.{Tables, fid_of}
 use Rattle.wait_queue.specs.Reads.{is_read}
 use Rattle.wait_queue.specs.declared.types.Asker.{Asker}
 use Rattle.event_book.specs.BookState.{BookState, is_on_window}
-use Rattle.plumb_ports.specs.PortsState.{PortsState}
 use Rattle.core_scene.specs.Scenes.{deleted_by}
 use Rattle.core_fids.specs.Fids.{event_opening, port_opening}
 use Rattle.core_fids.specs.declared.effect.Effect.{Effect}
@@ -22,8 +17,8 @@ use Rattle.core_events.specs.Asking.{opened}
 use Rattle.core_events.specs.Closing.{written_back}
 use Rattle.core_events.specs.Putting.{ending}
 use Rattle.core_events.specs.Serving.{served_all, book_served_all}
-use Rattle.core_events.specs.Waits.{is_of_window, clunked, deletions}
-use Rattle.core_ports.specs.Serving.{ports_served, ports_after_serving}
+use Rattle.core_events.specs.Waits.{clunked, deletions}
+use Rattle.core_ports.specs.Serving.{ports_served}
 use Rattle.core_intents.specs.declared.kind.Kind.{Kind}
 use Rattle.core_intents.specs.declared.kind.Kind.TheVariants as kind
 use Rattle.core_intents.specs.Doings.{Doing}
@@ -31,13 +26,13 @@ use Rattle.core_intents.specs.Kinds.{conn_of}
 use Rattle.core_intents.specs.States.{Present, next_entry}
 use Rattle.core_steps.specs.PortReads.{port_read_of, asked_said}
 use Rattle.core_steps.specs.Stages.{message_said, acted, with_fid, read_tables, grown_tables, read_book, put_book, grown_book, open_ports, grown_ports, left_book, said, tables_after, book_after, ports_after}
-use Rattle.core_laws.specs.Waits.{told, AreApart}
-use Rattle.core_laws.proofs.Books.{IsBook, book_weaker, book_written}
+use Rattle.core_laws.specs.Waits.{told}
+use Rattle.core_laws.proofs.Books.{IsBook, book_written}
 use Rattle.core_laws.proofs.Lists.{without, without_both, without_same, IsIn, in_without, which_any}
-use Rattle.core_laws.proofs.Zips.{by_waiting, by_asker, HasWaiting, asker_waits, AsksApart, askers_apart, same_key, key_parts}
+use Rattle.core_laws.proofs.Zips.{by_waiting, by_asker, HasWaiting, asker_waits, AsksApart, askers_apart, key_parts}
 use Rattle.core_laws.proofs.Holders.{AreOwn}
 use Rattle.core_laws.proofs.Staying.{heard, heard_more, IsSame, same_then, opened_reads, put_living_same, put_all_same, written_same, served_without, served_owners, served_silent, ports_without, ports_joined, ports_silent, closed_without, closed_owners}
-use Rattle.core_laws.proofs.Endings.{gone, gone_with, cancels, clunks, closes, closes_with, leaves_read, ends_key, left_book_without, left_book_owners, left_ports_without, left_ports_joined, ended_tables_without, fid_stays, fewer_fids}
+use Rattle.core_laws.proofs.Endings.{gone, cancels, clunks, closes, leaves_read, ends_key, left_book_without, left_book_owners, left_ports_without, left_ports_joined, ended_tables_without, fid_stays, fewer_fids}
 use Rattle.core_laws.proofs.Ties.{Ties, ties_without, by_fid, by_conn, two_keys}
 
 -- ---- tests

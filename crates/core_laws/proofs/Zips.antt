@@ -1,16 +1,15 @@
 -- The reads of a list of the sessions, and those of the event files or ports.
-use Rattle.std.proofs.Common.{◌≡◌, ℕ, ◌⊎◌, inl, inr, Bool, true, false, not, cond, eqb, ◌&&◌, ◌||◌, List, [], ◌∷◌, ◌++◌, map, Option, Some, None, All, refl, sym, ap, subst, ◌∙◌, arith}
-use Rattle.std.specs.List.{filter, list_any, find}
-use Rattle.std.proofs.lemmas.Bool.{eqb-true, eq-eqb, false≢true, both_ways, and_parts, or_parts, false_from_ne_true}
+use Rattle.std.proofs.Common.{◌≡◌, ℕ, inl, inr, Bool, true, false, not, cond, eqb, ◌&&◌, ◌||◌, List, [], ◌∷◌, ◌++◌, map, Option, Some, None, refl, sym, ap, subst, ◌∙◌, arith}
+use Rattle.std.specs.List.{list_any, find}
+use Rattle.std.proofs.lemmas.Bool.{eqb-true, both_ways, and_parts, or_parts, false_from_ne_true}
 use Rattle.std.proofs.lemmas.Bool.Decides.{nat_tests}
-use Rattle.std.proofs.lemmas.List.Elements.{All-nil, All-cons, All-head, All-tail}
 use Rattle.fid_table.specs.declared.types.Fid.{Fid}
 use Rattle.fid_table.specs.declared.session.Waiting.{Waiting}
 use Rattle.fid_table.specs.Tables.{Tables, fid_of, is_waiting}
 use Rattle.wait_queue.specs.declared.types.Asker.{Asker}
 use Rattle.wait_queue.specs.Reads.{is_read, without_first}
 use Rattle.core_laws.specs.Waits.{WaitingRead, told, opening_by, with_read, reads_in, AreApart}
-use Rattle.core_laws.proofs.Lists.{without, without_none, IsIn, in_without, any_in, which_any}
+use Rattle.core_laws.proofs.Lists.{without, IsIn, in_without, any_in, which_any}
 
 -- ---- keys: a connection and a tag
 
@@ -267,5 +266,3 @@ reads_push which t (v ∷ ws) w = by (opening_by which (fid_of t v.conn v.fid)) 
         → with_read o v (reads_in which t (ws ++ w ∷ [])) ≡ with_read o v (reads_in which t ws) ++ with_read (opening_by which (fid_of t w.conn w.fid)) w []
     by None later = later
     by (Some o) later = ap (λ (l : List WaitingRead). record { conn = v.conn; tag = v.tag; opening = o } ∷ l) later
-
-pub ruleset zips = (zip_without, asker_waits, any_apart, first_without, reads_push)

@@ -1,12 +1,11 @@
 -- Each message is answered in its step, or is a read that waits.
-use Rattle.std.specs.Prelude.{◌≡◌, ◌⊎◌, ℕ, ◌+◌, ◌||◌, Bool, true, false, List, [], ◌∷◌, ◌++◌, All, Option, Some, None}
+use Rattle.std.specs.Prelude.{◌≡◌, ◌⊎◌, ℕ, ◌+◌, Bool, true, false, List, [], ◌∷◌, ◌++◌, All, Option, Some, None}
 use Rattle.std.specs.List.{list_any}
 use Rattle.ninep_types.specs.declared.message.RBody.{RBody}
 use Rattle.ninep_types.specs.declared.message.TBody.{TBody}
 use Rattle.ninep_types.specs.declared.message.TMsg.{TMsg}
 use Rattle.ninep_types.specs.Spelling.{kind_t, kind_r}
 use Rattle.fid_table.specs.Tables.{is_waiting}
-use Rattle.wait_queue.specs.Reads.{is_read}
 use Rattle.event_book.specs.BookState.{read_waits}
 use Rattle.plumb_ports.specs.PortsState.{read_waits as port_waits}
 use Rattle.am_journal.specs.declared.event.Event.{Event}
@@ -29,13 +28,9 @@ use Rattle.core_laws.specs.Saying.{said_after, is_told}
 abbrev pub IsAnswerTo : TBody → RBody → Type 0
 IsAnswerTo asked body = (kind_r body ≡ kind_t asked + 1) ⊎ IsRefused body
 
--- a read with this tag waits on this connection
-abbrev pub waits_with : State → ℕ → ℕ → Bool
-waits_with s conn tag = list_any (is_waiting conn tag) s.tables.waiting || (list_any (is_read conn tag) s.scene.book.reads || list_any (is_read conn tag) s.scene.ports.reads)
-
 -- what is said to a read that waited
 abbrev pub TellsAWait : State → Response → Type 0
-TellsAWait s x = waits_with s x.conn x.message.tag ≡ true
+TellsAWait s x = list_any (is_waiting x.conn x.message.tag) s.tables.waiting ≡ true
 
 -- The message is answered by this, and nothing else is said to its tag. All else answers reads that waited before.
 pub record SaysOnce (s : State) (conn tag : ℕ) (body : RBody) (said : List Response) : Type 0 where

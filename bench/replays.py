@@ -1,0 +1,74 @@
+"""What the scripts of bench/ share that measure `acmefs replay`: messages of a transcript, and the processor time of a
+run from file to file."""
+
+import os
+import struct
+import subprocess
+import sys
+import tempfile
+
+TOP = os.path.dirname(os.path.dirname(os.path.realpath(__file__)))
+PROGRAM = f"{TOP}/crates/acmefs/out/acmefs"
+NOTAG, NOFID = 0xFFFF, 0xFFFFFFFF
+TVERSION, TATTACH, TWALK, TOPEN, TREAD, TWRITE, TCLUNK = 100, 104, 110, 112, 116, 118, 120
+# A message is refused at 256 replies that were not taken.
+TAKES = 100
+
+
+def string(text):
+    return struct.pack("<H", len(text)) + text
+
+
+def message(kind, tag, fields):
+    """A line for a message of connection 0."""
+    return b"msg 0 %s\n" % (struct.pack("<IBH", 7 + len(fields), kind, tag) + fields).hex().encode()
+
+
+def dialled(tree=b""):
+    """Connection 0 with a session, and fid 0 the root of a tree."""
+    version = message(TVERSION, NOTAG, struct.pack("<I", 65560) + string(b"9P2000"))
+    return b"dial 0\n" + version + message(TATTACH, 1, struct.pack("<II", 0, NOFID) + string(b"u") + string(tree))
+
+
+def opened(fid, names, mode):
+    """A fid of a file below the root."""
+    walk = struct.pack("<IIH", 0, fid, len(names)) + b"".join(string(name) for name in names)
+    return message(TWALK, 1, walk) + message(TOPEN, 1, struct.pack("<IB", fid, mode))
+
+
+def write(fid, data):
+    return message(TWRITE, 1, struct.pack("<IQI", fid, 0, len(data)) + data)
+
+
+def read(fid, offset, count):
+    return message(TREAD, 1, struct.pack("<IQI", fid, offset, count))
+
+
+def taken(messages):
+    """The messages, with the replies taken again and again."""
+    for k, one in enumerate(messages):
+        yield one
+        if k % TAKES == TAKES - 1:
+            yield b"took 0\n"
+
+
+def processor_time(program, lines, room):
+    """The processor seconds of a replay of these lines, and the bytes that it wrote."""
+    given, made = os.path.join(room, "in"), os.path.join(room, "out")
+    with open(given, "wb") as file:
+        file.writelines(lines)
+    with open(given, "rb") as source, open(made, "wb") as sink:
+        started = subprocess.Popen([program, "replay"], stdin=source, stdout=sink)
+        _, status, usage = os.wait4(started.pid, 0)
+    if status:
+        sys.exit(f"{program} ended with status {os.waitstatus_to_exitcode(status)}")
+    return usage.ru_utime + usage.ru_stime, os.path.getsize(made)
+
+
+def least(program, transcripts, runs):
+    """The least processor seconds of each of the transcripts (functions that give lines), which run in turn."""
+    times = []
+    with tempfile.TemporaryDirectory() as room:
+        for _ in range(runs):
+            times.append([processor_time(program, lines(), room)[0] for lines in transcripts])
+    return [min(of) for of in zip(*times)]
