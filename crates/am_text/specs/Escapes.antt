@@ -3,6 +3,7 @@ use Rattle.std.specs.Prelude.{◌≡◌, ℕ, Bool, true, false, List, [], ◌�
 use Rattle.std.specs.Char.{IsScalar}
 use Rattle.std.specs.List.{AllByRecursion, flat_map}
 use Rattle.std.specs.Str.{is_utf8}
+use Rattle.am_text.specs.Ascii.{newline, backslash, letter_n}
 use Rattle.am_text.specs.Utf8.{decode}
 use Rattle.am_text.specs.Lines.{escaped}
 
@@ -12,9 +13,10 @@ unfoldable pub unescaped_after : List ℕ → Bool → List ℕ → Option (List
 unescaped_after text false [] = Some text
 unescaped_after text true [] = None
 unescaped_after text false (c ∷ cs) =
-    if c == 10 then None else (if c == 92 then unescaped_after text true cs else unescaped_after (text ++ c ∷ []) false cs)
+    if c == newline then None else (if c == backslash then unescaped_after text true cs else unescaped_after (text ++ c ∷ []) false cs)
 unescaped_after text true (c ∷ cs) =
-    if c == 110 then unescaped_after (text ++ 10 ∷ []) false cs else (if c == 92 then unescaped_after (text ++ 92 ∷ []) false cs else None)
+    if c == letter_n then unescaped_after (text ++ newline ∷ []) false cs
+    else (if c == backslash then unescaped_after (text ++ backslash ∷ []) false cs else None)
 
 -- the text whose escape the bytes are, if there is one
 unfoldable pub unescaped : List ℕ → Option (List ℕ)

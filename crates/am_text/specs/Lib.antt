@@ -1,3 +1,4 @@
+pub mod Ascii
 pub mod Column
 pub mod Escapes
 pub mod Front

@@ -1,13 +1,14 @@
 -- Lines, and texts in one line.
 use Rattle.std.specs.Prelude.{ℕ, ◌+◌, List, [], ◌∷◌, ◌==◌, if◌then◌else◌, slice_range}
 use Rattle.std.specs.List.{onto_first}
+use Rattle.am_text.specs.Ascii.{newline, backslash, letter_n}
 use Rattle.am_text.specs.Utf8.{rune_bytes}
 use Rattle.am_text.specs.declared.range.Range.{Range}
 
 -- the spans of the lines, where the bytes are those at a place, and their first line began at from
 abbrev pub spans_after : ℕ → ℕ → List ℕ → List Range
 spans_after from at [] = if from == at then [] else record { q0 = from; q1 = at } ∷ []
-spans_after from at (b ∷ bs) = if b == 10 then record { q0 = from; q1 = at } ∷ spans_after (at + 1) (at + 1) bs else spans_after from (at + 1) bs
+spans_after from at (b ∷ bs) = if b == newline then record { q0 = from; q1 = at } ∷ spans_after (at + 1) (at + 1) bs else spans_after from (at + 1) bs
 
 abbrev pub spans_of : List ℕ → List Range
 spans_of bs = spans_after 0 0 bs
@@ -19,17 +20,17 @@ line_at bytes r = slice_range bytes r.q0 r.q1
 -- the bytes up to the first newline, and those after it
 abbrev pub first_line : List ℕ → List ℕ
 first_line [] = []
-first_line (b ∷ bs) = if b == 10 then [] else b ∷ first_line bs
+first_line (b ∷ bs) = if b == newline then [] else b ∷ first_line bs
 
 abbrev pub after_line : List ℕ → List ℕ
 after_line [] = []
-after_line (b ∷ bs) = if b == 10 then bs else after_line bs
+after_line (b ∷ bs) = if b == newline then bs else after_line bs
 
 -- the lines; a last line without a newline counts
 abbrev pub lines_of : List ℕ → List (List ℕ)
 lines_of [] = []
-lines_of (b ∷ bs) = if b == 10 then [] ∷ lines_of bs else onto_first b (lines_of bs)
+lines_of (b ∷ bs) = if b == newline then [] ∷ lines_of bs else onto_first b (lines_of bs)
 
 -- a rune in a text of one line
 abbrev pub escaped : ℕ → List ℕ
-escaped c = if c == 10 then 92 ∷ 110 ∷ [] else (if c == 92 then 92 ∷ 92 ∷ [] else rune_bytes c)
+escaped c = if c == newline then backslash ∷ letter_n ∷ [] else (if c == backslash then backslash ∷ backslash ∷ [] else rune_bytes c)

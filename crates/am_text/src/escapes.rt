@@ -1,8 +1,9 @@
 //! Reading a text that stands in one line.
 
 ghost use Rattle.std.specs.Prelude.{◌≡◌, ◌<◌, ◌++◌, ◌∷◌, [], List, ℕ, false, length, IfOk, IfSome, IfNone, Some, None};
-ghost use Rattle.am_text.specs.Escapes.{unescaped_after, unescaped, IsEscape, ReadsAgain, ReadsOnly};
+ghost use Rattle.am_text.specs.Escapes.{unescaped_after, unescaped, IsEscape};
 
+use crate::ascii::{BACKSLASH, LETTER_N, NEWLINE};
 use crate::items::{Items, Rune, Runes};
 use crate::memory::NoMemory;
 use crate::utf8::{decode_whole, is_utf8};
@@ -18,10 +19,10 @@ fn first_unescaped(runes: &[Rune]) -> Option<(Rune, &[Rune])>
     ensures shorter { IfSome result (λ first. length first.1.now < length runes.now) }
 {
     match runes {
-        [92, 110, rest @ ..] => Some((10, rest)),
-        [92, 92, rest @ ..] => Some((92, rest)),
-        [92, ..] => None,
-        [10, ..] => None,
+        [BACKSLASH, LETTER_N, rest @ ..] => Some((NEWLINE, rest)),
+        [BACKSLASH, BACKSLASH, rest @ ..] => Some((BACKSLASH, rest)),
+        [BACKSLASH, ..] => None,
+        [NEWLINE, ..] => None,
         [rune, rest @ ..] => Some((*rune, rest)),
         [] => None,
     }
@@ -67,9 +68,3 @@ pub fn unescape(alloc: Global, bytes: &[u8]) -> Result<Option<Runes>, NoMemory>
 {
     text_of_line(alloc, bytes)
 }
-
-/// Reading undoes escaping, and nothing else is read. The function does nothing.
-pub fn escapes_are_read_again()
-    ensures again { ReadsAgain }
-    ensures only { ReadsOnly }
-{}

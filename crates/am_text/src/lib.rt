@@ -1,11 +1,13 @@
 //! Texts as runes and as bytes, lists, and want of memory.
 #![tactic(auto)]
 
+mod ascii;
 mod column;
 mod escapes;
 mod front;
 mod items;
 mod job;
+mod laws;
 mod letters;
 mod line;
 mod memory;
@@ -15,16 +17,23 @@ mod range;
 mod roomy;
 mod utf8;
 
+pub use ascii::{
+    AMPERSAND, AT_SIGN, BACKSLASH, BANG, BAR, CARET, COLON, COMMA, DIGIT_0, DIGIT_9, DOLLAR, DOT,
+    DOUBLE_QUOTE, EQUALS, GREATER, HASH, LEFT_BRACE, LEFT_BRACKET, LEFT_PARENTHESIS, LESS,
+    LETTER_N, MINUS, NEWLINE, PLUS, QUESTION, QUOTE, RIGHT_BRACE, RIGHT_BRACKET, RIGHT_PARENTHESIS,
+    SEMICOLON, SLASH, SPACE, STAR, TAB, UNDERSCORE,
+};
 pub use column::column11;
-pub use escapes::{escapes_are_read_again, unescape};
+pub use escapes::unescape;
 pub use front::{after_front, put_words};
 pub use items::{Bytes, Ids, Items, NameList, Names, Numbers, Rune, Runes, Words};
 pub use job::{Job, JobKind, Jobs};
+pub use laws::{begun_is_front, escapes_are_read_again, pieces_are_joined};
 pub use letters::Letters;
 pub use line::{escape, lines, split_line};
 pub use memory::NoMemory;
 pub use number::{decimal, read_decimal};
-pub use part::{Part, begun_is_front, decode_part, pieces_are_joined};
+pub use part::{Part, decode_part};
 pub use range::{Range, Spans};
 pub use roomy::Roomy;
 pub use utf8::{decode_whole, encode, is_utf8, utf8_slice};

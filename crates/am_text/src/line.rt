@@ -4,6 +4,7 @@ ghost use Rattle.std.specs.Prelude.{◌≡◌, ◌≤◌, ◌<◌, ◌++◌, ◌
 ghost use Rattle.std.specs.List.{flat_map};
 ghost use Rattle.am_text.specs.Lines.{spans_of, line_at, escaped, first_line, after_line, lines_of};
 
+use crate::ascii::{BACKSLASH, NEWLINE};
 use crate::items::{Bytes, Items};
 use crate::memory::NoMemory;
 use crate::range::{Range, Spans};
@@ -72,8 +73,8 @@ pub fn escape(alloc: Global, text: &[u32]) -> Result<Bytes, NoMemory>
     let mut bytes = Items::new(alloc);
     for rune in text {
         match *rune {
-            10 => bytes.append(b"\\n")?,
-            92 => bytes.append(b"\\\\")?,
+            NEWLINE => bytes.append(b"\\n")?,
+            BACKSLASH => bytes.append(b"\\\\")?,
             other => push_rune(&mut bytes, other)?,
         }
     }

@@ -3,7 +3,6 @@
 ghost use Rattle.std.specs.Prelude.{◌≡◌, ◌<◌, ◌≤◌, ◌++◌, ◌==◌, [], length, IfOk, OnOk};
 ghost use Rattle.am_text.specs.Part.{part_bytes, part_of};
 ghost use Rattle.am_text.specs.Pieces.{is_begun, rest_of, whole_of, decode_part};
-ghost use Rattle.am_text.specs.Pieces.{BegunIsFront, JoinsTexts, JoinsRests, EndsWhole, LeavesNone, LeavesFew};
 
 use crate::items::{Bytes, Items, Runes};
 use crate::memory::NoMemory;
@@ -117,17 +116,3 @@ pub fn decode_part(alloc: Global, held: &Part, bytes: &[u8]) -> Result<(Runes, P
     let runes = decode_whole(alloc, whole)?;
     Ok((runes, Part::of(rest)))
 }
-
-/// What is left over is what the next piece may end: the proper front of a sequence. The function does nothing.
-pub fn begun_is_front()
-    ensures { BegunIsFront }
-{}
-
-/// Decoding piece by piece is decoding of the whole. The function does nothing.
-pub fn pieces_are_joined()
-    ensures texts { JoinsTexts }
-    ensures rests { JoinsRests }
-    ensures end { EndsWhole }
-    ensures none { LeavesNone }
-    ensures few { LeavesFew }
-{}
