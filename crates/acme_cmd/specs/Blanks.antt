@@ -1,22 +1,24 @@
 -- Blanks, and texts cut at them.
 use Rattle.std.specs.Prelude.{ℕ, ◌+◌, ◌-◌, ◌≤◌, Bool, ◌||◌, ◌==◌, List, [], ◌∷◌, length, if◌then◌else◌}
 use Rattle.std.specs.List.{suffix_len}
+use Rattle.am_text.specs.Ascii.{tab, newline, space}
 use Rattle.am_text.specs.declared.range.Range.{Range}
 
 -- a blank, a tab or a newline
 abbrev pub is_blank : ℕ → Bool
-is_blank c = c == 32 || c == 9 || c == 10
+is_blank c = c == space || c == tab || c == newline
 
 -- the text after the blanks in front
 abbrev pub after_blanks : List ℕ → List ℕ
 after_blanks [] = []
 after_blanks (c ∷ cs) = if is_blank c then after_blanks cs else c ∷ cs
 
--- the text up to its first blank, and the text from there on
+-- the text up to its first blank
 abbrev pub word : List ℕ → List ℕ
 word [] = []
 word (c ∷ cs) = if is_blank c then [] else c ∷ word cs
 
+-- the text from its first blank on
 abbrev pub after_word : List ℕ → List ℕ
 after_word [] = []
 after_word (c ∷ cs) = if is_blank c then c ∷ cs else after_word cs

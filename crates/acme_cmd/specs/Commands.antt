@@ -1,5 +1,6 @@
 -- What a text that is executed asks for.
 use Rattle.std.specs.Prelude.{ℕ, Bool, true, false, ◌&&◌, ◌==◌, List, [], ◌∷◌, length, drop, Option, Some, None, if◌then◌else◌, codes, ⊤}
+use Rattle.am_text.specs.Ascii.{less, greater, bar}
 use Rattle.am_text.specs.declared.job.JobKind.{JobKind}
 use Rattle.am_text.specs.declared.job.JobKind.TheVariants as kind
 use Rattle.acme_cmd.specs.declared.command.Builtin.{Builtin}
@@ -39,18 +40,21 @@ is_idle text = is_one_of (
     ∷ codes "Load" ∷ codes "Local" ∷ codes "Newcol" ∷ codes "Putall" ∷ codes "Send" ∷ codes "Sort" ∷ codes "Tab" ∷ codes "Zerox"
     ∷ []) text
 
+-- the command that does something, or the one that does nothing
 abbrev pub or_idle : Option Builtin → List ℕ → Option Builtin
 or_idle (Some b) text = Some b
 or_idle None text = if is_idle text then Some builtin.Idle else None
 
+-- the built-in command of a word
 abbrev pub builtin_of : List ℕ → Option Builtin
 builtin_of text = or_idle (done_of text) text
 
 -- the kind of request of a text that begins with this sign: `|`, `<` or `>`
 abbrev pub sign_of : List ℕ → Option JobKind
 sign_of [] = None
-sign_of (c ∷ cs) = if c == 124 then Some kind.Pipe else (if c == 60 then Some kind.From else (if c == 62 then Some kind.To else None))
+sign_of (c ∷ cs) = if c == bar then Some kind.Pipe else (if c == less then Some kind.From else (if c == greater then Some kind.To else None))
 
+-- the command, by the sign in front and by the built-in command
 abbrev pub command_of : List ℕ → Option JobKind → Option Builtin → Command
 command_of text (Some k) b = command.Pipe k (trimmed text (drop 1 text))
 command_of text None (Some b) = command.Builtin b (trimmed text (after_word (after_blanks text)))

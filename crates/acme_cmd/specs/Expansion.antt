@@ -2,6 +2,7 @@
 use Rattle.std.specs.Prelude.{ℕ, ◌+◌, ◌-◌, ◌<◌, ◌≤◌, Bool, ◌&&◌, ◌||◌, ◌==◌, List, take, drop, nat_lt, nat_le, not, Option, Some, None, if◌then◌else◌}
 use Rattle.std.specs.Char.{is_ascii_alphanumeric}
 use Rattle.std.specs.List.{prefix_len, suffix_len}
+use Rattle.am_text.specs.Ascii.{hash, dollar, plus, minus, dot, slash, colon, underscore}
 use Rattle.am_text.specs.declared.range.Range.{Range}
 use Rattle.acme_cmd.specs.declared.expansion.Click.{Click}
 use Rattle.acme_cmd.specs.declared.expansion.Click.TheVariants as click
@@ -9,11 +10,15 @@ use Rattle.acme_cmd.specs.Blanks.{is_blank}
 
 -- one of `_` `.` `-` `+` `/` `:` `#` `$`
 abbrev pub is_sign : ℕ → Bool
-is_sign c = c == 95 || c == 46 || c == 45 || c == 43 || c == 47 || c == 58 || c == 35 || c == 36
+is_sign c = c == underscore || c == dot || c == minus || c == plus || c == slash || c == colon || c == hash || c == dollar
+
+-- the last rune of ASCII
+abbrev pub last_ascii : ℕ
+last_ascii = 127
 
 -- a letter or a digit, a sign, or a rune past ASCII
 abbrev pub is_look : ℕ → Bool
-is_look c = nat_lt 0x7F c || is_ascii_alphanumeric c || is_sign c
+is_look c = nat_lt last_ascii c || is_ascii_alphanumeric c || is_sign c
 
 -- a character that a click of this kind is expanded over
 unfoldable pub is_over : Click → ℕ → Bool
@@ -37,6 +42,7 @@ abbrev pub holding : Option Range → ℕ → Option Range
 holding None at = None
 holding (Some r) at = if nat_lt r.q0 r.q1 && nat_le r.q0 at && nat_le at r.q1 then Some r else None
 
+-- the first range, or the other where there is none
 abbrev pub or_else : Option Range → Option Range → Option Range
 or_else (Some r) other = Some r
 or_else None other = other

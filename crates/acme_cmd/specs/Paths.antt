@@ -1,11 +1,12 @@
 -- Paths of files.
 use Rattle.std.specs.Prelude.{ℕ, ◌==◌, ◌&&◌, nat_lt, not, Bool, false, List, [], ◌∷◌, length}
 use Rattle.std.specs.List.{list_all, slice_split}
+use Rattle.am_text.specs.Ascii.{space, backslash}
 use Rattle.acme_cmd.specs.Names.{is_slash, is_here, is_up}
 
 -- neither a blank nor a control character, nor a backslash
 abbrev pub is_path_rune : ℕ → Bool
-is_path_rune c = nat_lt 0x20 c && not (c == 0x5C)
+is_path_rune c = nat_lt space c && not (c == backslash)
 
 -- a part of a path: not empty, not `.` and not `..`
 abbrev pub is_part : List ℕ → Bool

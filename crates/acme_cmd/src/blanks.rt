@@ -3,18 +3,12 @@
 ghost use Rattle.std.specs.Prelude.{◌≡◌, ◌+◌, ◌-◌, ◌≤◌, length};
 ghost use Rattle.acme_cmd.specs.Blanks.{is_blank, after_blanks, word, after_word, end_of, trimmed, IsIn};
 
-use am_text::{Range, Rune};
-
-const BLANK: Rune = 0x20;
-
-const TAB: Rune = 0x09;
-
-const NEWLINE: Rune = 0x0A;
+use am_text::{NEWLINE, Range, Rune, SPACE, TAB};
 
 pub(crate) fn is_blank(rune: Rune) -> bool
     ensures { result ≡ is_blank rune }
 {
-    rune == BLANK || rune == TAB || rune == NEWLINE
+    rune == SPACE || rune == TAB || rune == NEWLINE
 }
 
 // The text after the blanks in front.

@@ -7,6 +7,9 @@ ghost use Rattle.acme_cmd.specs.Expansion.{is_sign, is_look, is_over, not_null, 
 use crate::blanks::is_blank;
 use am_text::{Letters, Range, Rune};
 
+/// The last rune of ASCII.
+const LAST_ASCII: Rune = 0x7F;
+
 /// The command of a click: it says over which characters the click is expanded.
 #[derive(Clone, Copy, Debug, PartialEq, Eq)]
 pub enum Click {
@@ -32,7 +35,7 @@ fn is_sign(byte: u8) -> bool
 fn is_look(rune: Rune) -> bool
     ensures { result ≡ is_look rune }
 {
-    if rune > 0x7F {
+    if rune > LAST_ASCII {
         return true;
     }
     let byte = rune as u8;

@@ -2,14 +2,11 @@
 
 ghost use Rattle.std.specs.Prelude.{◌≡◌, ◌<◌, ◌≤◌, ◌++◌, ◌∷◌, [], length, IfOk, OnOk, IfSome, IfNone};
 ghost use Rattle.std.specs.List.{slice_split, join_with_byte, position_or_len};
+ghost use Rattle.am_text.specs.Ascii.{slash};
 ghost use Rattle.acme_cmd.specs.Names.{is_slash, begins_in_slash, ends_in_slash, with_slash, joined, is_here, is_up, but_last, after_part, left_of, path, resolved, whole_name};
 
-use am_text::{NoMemory, Rune, Runes};
+use am_text::{DOT, NoMemory, Rune, Runes, SLASH};
 use std::alloc::Global;
-
-pub(crate) const SLASH: Rune = 0x2F;
-
-pub(crate) const DOT: Rune = 0x2E;
 
 fn begins_in_slash(text: &[Rune]) -> bool
     ensures { result ≡ begins_in_slash text.now }
@@ -132,7 +129,7 @@ fn left_of(alloc: Global, text: &[Rune]) -> Result<Vec<Runes>, NoMemory>
 
 // The parts with a `/` between any two.
 fn with_slashes(alloc: Global, parts: &[Runes]) -> Result<Runes, NoMemory>
-    ensures { IfOk result (λ text. text ≡ join_with_byte 47 parts.now) }
+    ensures { IfOk result (λ text. text ≡ join_with_byte slash parts.now) }
 {
     let [first, others @ ..] = parts else {
         return Ok(Runes::new(alloc));
@@ -153,7 +150,7 @@ fn path(alloc: Global, text: &[Rune]) -> Result<Runes, NoMemory>
 }
 
 fn rooted(alloc: Global, text: &[Rune]) -> Result<Runes, NoMemory>
-    ensures { IfOk result (λ whole. whole ≡ 47 ∷ path text.now) }
+    ensures { IfOk result (λ whole. whole ≡ slash ∷ path text.now) }
 {
     let mut whole = Runes::new(alloc);
     whole.push(SLASH)?;

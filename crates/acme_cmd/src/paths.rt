@@ -5,15 +5,13 @@ ghost use Rattle.std.specs.List.{list_all, slice_split};
 ghost use Rattle.acme_cmd.specs.Names.{is_slash};
 ghost use Rattle.acme_cmd.specs.Paths.{is_path_rune, is_part, is_path};
 
-use crate::names::{SLASH, cut_part, is_here, is_up};
-use am_text::Rune;
-
-const BACKSLASH: Rune = 0x5C;
+use crate::names::{cut_part, is_here, is_up};
+use am_text::{BACKSLASH, Rune, SLASH, SPACE};
 
 fn is_path_rune(rune: Rune) -> bool
     ensures { result ≡ is_path_rune rune }
 {
-    rune > 0x20 && rune != BACKSLASH
+    rune > SPACE && rune != BACKSLASH
 }
 
 // Whether all runes may stand in a path.

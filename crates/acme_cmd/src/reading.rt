@@ -5,13 +5,7 @@ ghost use Rattle.acme_cmd.specs.Commands.{is_name, done_of, is_idle, builtin_of,
 
 use crate::blanks::{after_blanks, split_word, trimmed};
 use crate::command::{Builtin, Command};
-use am_text::{JobKind, Rune};
-
-const BAR: Rune = 0x7C;
-
-const LESS: Rune = 0x3C;
-
-const GREATER: Rune = 0x3E;
+use am_text::{BAR, GREATER, JobKind, LESS, Rune};
 
 // Whether a text is this name.
 #[tactic(auto, unfolding(crate::specs::Commands::is_name))]

@@ -11,6 +11,7 @@ abbrev pub addr_of : Option WindowStory → Option Range
 addr_of None = None
 addr_of (Some s) = Some (range_now s.body.edits s.body.addr)
 
+-- the address of a window after a journal
 abbrev pub addr_at : List Event → ℕ → Option Range
 addr_at journal w = addr_of (story_at (run journal).windows w)
 
@@ -19,5 +20,6 @@ abbrev pub body_of : Option WindowStory → List ℕ
 body_of None = []
 body_of (Some s) = story_text s.body
 
+-- the text of a window after a journal
 abbrev pub body_at : List Event → ℕ → List ℕ
 body_at journal w = body_of (story_at (run journal).windows w)

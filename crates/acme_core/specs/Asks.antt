@@ -7,9 +7,11 @@ use Rattle.event_book.specs.BookState.{is_open_window}
 use Rattle.core_intents.specs.declared.connection.Connection.{Connection}
 use Rattle.core_intents.specs.declared.connection.Connection.TheVariants.{Undialed, Live, Ended}
 use Rattle.core_intents.specs.Connections.{connection_at}
+use Rattle.core_intents.specs.Limits.{max_replies}
 use Rattle.acme_core.specs.Run.{present_after}
 use Rattle.core_intents.specs.States.{Present, unsent_count}
 
+-- whether a connection has ended
 abbrev pub is_ended : Connection → Bool
 is_ended Undialed = false
 is_ended Live = false
@@ -17,7 +19,7 @@ is_ended (Ended why) = true
 
 -- a message may come while fewer than 256 replies are unsent
 abbrev pub has_room : ℕ → Bool
-has_room count = nat_lt count 256
+has_room count = nat_lt count max_replies
 
 -- the answer as the editor stands
 abbrev pub answer_in : Present → Ask → Bool

@@ -14,6 +14,7 @@ use Rattle.core_intents.specs.Doings.{enabled_at, doing_of, CanBeDone}
 use Rattle.core_intents.specs.Kinds.{kind_of}
 use Rattle.core_intents.specs.Parts.{present_of, AreSteady}
 use Rattle.core_steps.specs.Ready.{HasReady}
+use Rattle.am_journal.specs.Limits.{connection_count}
 use Rattle.acme_core.specs.Run.{run, present_after, enabled, IsPossible}
 use Rattle.core_intents.specs.States.{Present}
 
@@ -42,7 +43,7 @@ IsReady s spare parts (Some prepared) = IsPrepared s spare parts prepared
 
 -- what holds of the tables themselves
 pub record AreSound (parts : Parts) : Type 0 where
-  pub conns : length parts.connections.items ≡ 64
+  pub conns : length parts.connections.items ≡ connection_count
   pub joined : AreJoined parts.connections.items parts.sessions.kept
   pub book : IsSound parts.entries parts.scene.book.kept
   pub idle : IsIdle parts.scene.book.kept

@@ -8,6 +8,7 @@ use Rattle.core_answers.specs.Laws.{IsAnswered}
 use Rattle.core_intents.specs.Doings.{doing_of}
 use Rattle.core_intents.specs.States.{Present}
 
+-- a message has an answer, of its type or a refusal
 abbrev pub HasAnswer : TBody → Option Answer → Type 0
 HasAnswer asked None = ⊥
 HasAnswer asked (Some answer) = IsAnswered asked answer

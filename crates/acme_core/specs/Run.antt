@@ -49,6 +49,7 @@ Refuses NoMemory enabled = enabled ≡ None
 abbrev pub IsHang : Event → Type 0
 IsHang e = is_hang e ≡ true
 
+-- an event was refused for a reason, and not for want of memory
 abbrev pub IsWhy : Refused → Type 0
 IsWhy (NotEnabled why) = Unit {0}
 IsWhy NoMemory = ⊥

@@ -13,6 +13,7 @@ use Rattle.event_book.specs.WindowFiles.{ledger_of}
 use Rattle.acme_core.specs.Run.{run, present_after}
 use Rattle.core_intents.specs.States.{Present}
 
+-- what the report tells of a connection
 abbrev pub conn_view : ℕ → Option Ending → ConnView
 conn_view c ending = record { conn = c; ending = ending }
 
@@ -23,6 +24,7 @@ conn_views c (Undialed ∷ cs) = conn_views (c + 1) cs
 conn_views c (Live ∷ cs) = conn_view c None ∷ conn_views (c + 1) cs
 conn_views c (Ended why ∷ cs) = conn_view c (Some why) ∷ conn_views (c + 1) cs
 
+-- what the report tells of a window
 abbrev pub window_view : ℕ → Window → WindowView
 window_view w window = record { id = w; modified = window.modified; dot = window.body.dot; name = window.name; body = window.body.text }
 
@@ -36,8 +38,10 @@ window_views w (Some window ∷ ws) = window_view w window ∷ window_views (w +
 abbrev pub ledger : List Event → List ItemView
 ledger journal = ledger_of (run journal).scene.book.files
 
+-- what the report tells
 abbrev pub view_at : ℕ → Present → View
 view_at entries s = record { entries = entries; conns = conn_views 0 s.connections; windows = window_views 1 s.scene.windows; items = ledger_of s.scene.book.files; jobs = s.scene.jobs }
 
+-- what the report tells after a journal
 unfoldable pub view_of : List Event → View
 view_of journal = view_at (length journal) (present_after journal)

@@ -3,6 +3,7 @@
 ghost use Rattle.std.specs.Prelude.{◌≡◌, ◌<◌, ◌+◌, ◌^◌, IfOk, length};
 ghost use Rattle.core_windows.specs.Panes.{windows_of, window_of};
 ghost use Rattle.core_intents.specs.Parts.{present_of, AreSteady};
+ghost use Rattle.am_journal.specs.Limits.{connection_count};
 ghost use Rattle.acme_core.specs.Views.{conn_views, window_views, window_view, view_at};
 
 use am_journal::{ConnView, ConnViews, View, WindowView, WindowViews};
@@ -91,7 +92,7 @@ fn jobs_of(alloc: Global, jobs: &[Job]) -> Result<Jobs, NoMemory>
 
 /// The view of the tables after so many entries.
 pub(crate) fn view_of(alloc: Global, entries: u64, parts: &Parts) -> Result<View, NoMemory>
-    requires conns { length parts.now.connections.items ≡ 64 }
+    requires conns { length parts.now.connections.items ≡ connection_count }
     requires steady { AreSteady parts.now }
     ensures { IfOk result (λ view. view ≡ view_at entries (present_of parts.now)) }
 {

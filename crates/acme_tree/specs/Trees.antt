@@ -4,6 +4,8 @@ use Rattle.std.specs.Fmt.{decimal}
 use Rattle.std.specs.List.{list_any}
 use Rattle.ninep_types.specs.declared.message.Qid.{Qid}
 use Rattle.ninep_frame.specs.declared.stat.Stat.{Stat}
+use Rattle.acme_tree.specs.Limits.{max_windows, never_given, window_paths, first_port_path}
+use Rattle.acme_tree.specs.Modes.{reads, writes, reads_and_writes, append_mode, dir_mode, append_kind, dir_kind}
 use Rattle.acme_tree.specs.declared.node.Node.{Node}
 use Rattle.acme_tree.specs.declared.node.Node.TheVariants.{Root, Cons, ConsCtl, Index, Label, NewDir, Window, File, PlumbRoot, Send, Rules, Port}
 use Rattle.acme_tree.specs.declared.node.WinFile.{WinFile}
@@ -12,6 +14,7 @@ use Rattle.acme_tree.specs.declared.node.World.{World}
 
 -- ---- what is there
 
+-- whether a window of this number is live
 abbrev pub is_window : World → ℕ → Bool
 is_window world w = list_any (λ v. v == w) world.windows
 
@@ -24,10 +27,11 @@ is_live world ports node = true
 
 -- No window can be made: 4,096 are live, or the next number is the one that is never given.
 abbrev pub world_is_full : World → Bool
-world_is_full world = nat_le 4096 (length world.windows) || (world.next == 4294967295)
+world_is_full world = nat_le max_windows (length world.windows) || (world.next == never_given)
 
 -- ---- qids and modes
 
+-- whether a node is a directory
 abbrev pub is_dir : Node → Bool
 is_dir Root = true
 is_dir NewDir = true
@@ -46,6 +50,7 @@ file_number Event = 6
 file_number Tag = 7
 file_number Xdata = 8
 
+-- the path of a node's qid
 abbrev pub path_of : Node → ℕ
 path_of Root = 0
 path_of Cons = 1
@@ -53,54 +58,57 @@ path_of ConsCtl = 2
 path_of Index = 3
 path_of Label = 4
 path_of NewDir = 5
-path_of (Window w) = w * 256
-path_of (File w file) = w * 256 + file_number file
+path_of (Window w) = w * window_paths
+path_of (File w file) = w * window_paths + file_number file
 path_of PlumbRoot = 16
 path_of Send = 17
 path_of Rules = 18
-path_of (Port k) = 2 ^ 40 + k
+path_of (Port k) = first_port_path + k
 
--- The bits of a mode (stat(5)): 0x80000000 is a directory, 0x40000000 append-only, 0x100 is read by its owner, 0x80
--- written, and 0x40 walked.
+-- the mode of a window's file
 abbrev pub file_mode : WinFile → ℕ
-file_mode Body = 0x40000180
-file_mode Tag = 0x40000180
-file_mode Errors = 0x80
-file_mode file = 0x180
+file_mode Body = append_mode
+file_mode Tag = append_mode
+file_mode Errors = writes
+file_mode file = reads_and_writes
 
+-- the mode of a node
 abbrev pub mode_of : Node → ℕ
-mode_of Root = 0x80000140
-mode_of Cons = 0x180
-mode_of ConsCtl = 0x100
-mode_of Index = 0x100
-mode_of Label = 0x180
-mode_of NewDir = 0x80000140
-mode_of (Window w) = 0x80000140
+mode_of Root = dir_mode
+mode_of Cons = reads_and_writes
+mode_of ConsCtl = reads
+mode_of Index = reads
+mode_of Label = reads_and_writes
+mode_of NewDir = dir_mode
+mode_of (Window w) = dir_mode
 mode_of (File w file) = file_mode file
-mode_of PlumbRoot = 0x80000140
-mode_of Send = 0x80
-mode_of Rules = 0x180
-mode_of (Port k) = 0x100
+mode_of PlumbRoot = dir_mode
+mode_of Send = writes
+mode_of Rules = reads_and_writes
+mode_of (Port k) = reads
 
--- the type of a qid: 128 of a directory, 64 of an append-only file
+-- the type of the qid of a window's file
 abbrev pub file_kind : WinFile → ℕ
-file_kind Body = 64
-file_kind Tag = 64
+file_kind Body = append_kind
+file_kind Tag = append_kind
 file_kind file = 0
 
+-- the type of the qid of a node
 abbrev pub kind_of : Node → ℕ
-kind_of Root = 128
-kind_of NewDir = 128
-kind_of (Window w) = 128
+kind_of Root = dir_kind
+kind_of NewDir = dir_kind
+kind_of (Window w) = dir_kind
 kind_of (File w file) = file_kind file
-kind_of PlumbRoot = 128
+kind_of PlumbRoot = dir_kind
 kind_of node = 0
 
+-- the qid of a node
 unfoldable pub qid_of : Node → Qid
 qid_of node = record { kind = kind_of node; vers = 0; path = path_of node }
 
 -- ---- names
 
+-- the name of a window's file
 abbrev pub file_name : WinFile → List ℕ
 file_name Addr = codes "addr"
 file_name Body = codes "body"
@@ -116,6 +124,7 @@ abbrev pub IsNamed : List (List ℕ) → Node → Type 0
 IsNamed ports (Port k) = k < length ports
 IsNamed ports node = Unit {0}
 
+-- the name of a node
 abbrev pub name_of : List (List ℕ) → Node → List ℕ
 name_of ports Root = codes "acme"
 name_of ports Cons = codes "cons"
@@ -136,6 +145,7 @@ stat_of ports node = record { qid = qid_of node; mode = mode_of node; length = 0
 
 -- ---- what directories list, in order
 
+-- the files of a window's directory
 abbrev pub files : List WinFile
 files = Addr ∷ Body ∷ Ctl ∷ Data ∷ Errors ∷ Event ∷ Tag ∷ Xdata ∷ []
 
@@ -144,6 +154,7 @@ abbrev pub ports_from : ℕ → List (List ℕ) → List Node
 ports_from k [] = []
 ports_from k (name ∷ names) = Port k ∷ ports_from (k + 1) names
 
+-- what the root of the editor's tree lists
 abbrev pub root_entries : World → List Node
 root_entries world = Cons ∷ ConsCtl ∷ Index ∷ Label ∷ NewDir ∷ map Window world.windows
 

@@ -17,9 +17,11 @@ named_in ports nodes name = find (λ node. bytes_eq name (name_of ports node)) n
 unfoldable pub entry_named : World → List (List ℕ) → Node → List ℕ → Option Node
 entry_named world ports dir name = named_in ports (entries world ports dir) name
 
+-- the file of this name
 unfoldable pub file_named : List ℕ → Option WinFile
 file_named name = find (λ file. bytes_eq name (file_name file)) files
 
+-- a step to the entry, if there is one
 abbrev pub to_entry : Option Node → Step
 to_entry None = NotFound
 to_entry (Some node) = Found node

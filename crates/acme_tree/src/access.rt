@@ -4,22 +4,8 @@ ghost use Rattle.std.specs.Prelude.{◌≡◌};
 ghost use Rattle.acme_tree.specs.Access.{is_open_mode, how, truncates, removes, is_readable, is_writable, allows, file_allows, is_allowed, may_open};
 
 use crate::listing::mode_of;
+use crate::modes::{HOW_BITS, READS, REMOVE_BIT, TRUNCATE_BIT, WRITES};
 use crate::node::{Node, is_dir};
-
-/// The bits of an open mode that say how: 0 to read, 1 to write, 2 for both, 3 to execute.
-const HOW: u8 = 3;
-
-/// The bit of an open mode that empties the file.
-const TRUNCATE: u8 = 0x10;
-
-/// The bit of an open mode that removes the file when its fid is clunked.
-const REMOVE: u8 = 0x40;
-
-/// The bit of a file's mode that lets its owner read.
-const READ: u32 = 0x100;
-
-/// The bit of a file's mode that lets its owner write.
-const WRITE: u32 = 0x80;
 
 /// Whether a node may be opened with a mode.
 #[derive(Clone, Copy, Debug, PartialEq, Eq)]
@@ -34,32 +20,32 @@ pub enum May {
 fn is_open_mode(mode: u8) -> bool
     ensures { result ≡ is_open_mode mode }
 {
-    mode & (HOW | TRUNCATE | REMOVE) == mode
+    mode & (HOW_BITS | TRUNCATE_BIT | REMOVE_BIT) == mode
 }
 
 /// Whether a mode has the bit 0x10, which empties the file.
 pub fn truncates(mode: u8) -> bool
     ensures { result ≡ truncates mode }
 {
-    mode & TRUNCATE != 0
+    mode & TRUNCATE_BIT != 0
 }
 
 fn removes(mode: u8) -> bool
     ensures { result ≡ removes mode }
 {
-    mode & REMOVE != 0
+    mode & REMOVE_BIT != 0
 }
 
 fn is_readable(node: Node) -> bool
     ensures { result ≡ is_readable node }
 {
-    mode_of(node) & READ != 0
+    mode_of(node) & READS != 0
 }
 
 fn is_writable(node: Node) -> bool
     ensures { result ≡ is_writable node }
 {
-    mode_of(node) & WRITE != 0
+    mode_of(node) & WRITES != 0
 }
 
 fn allows(node: Node, how: u8) -> bool
@@ -76,7 +62,7 @@ fn allows(node: Node, how: u8) -> bool
 fn file_allows(node: Node, mode: u8) -> bool
     ensures { result ≡ file_allows node mode }
 {
-    let how = mode & HOW;
+    let how = mode & HOW_BITS;
     !removes(mode) && !(truncates(mode) && how == 0) && allows(node, how)
 }
 

@@ -6,6 +6,7 @@
 mod access;
 mod entries;
 mod listing;
+mod modes;
 mod names;
 mod node;
 mod walk;

@@ -5,6 +5,7 @@ ghost use Rattle.ninep_frame.specs.Records.{HasName, IsName};
 ghost use Rattle.acme_tree.specs.Trees.{IsNamed, entries, file_kind, file_mode, file_number, is_dir, is_live, kind_of, mode_of, path_of, qid_of, stat_of};
 
 use crate::entries::entries;
+use crate::modes::{APPEND_KIND, APPEND_MODE, DIR_KIND, DIR_MODE, READS, READS_AND_WRITES, WRITES};
 use crate::names::name_of;
 use crate::node::{Node, WinFile, World};
 use am_text::{Bytes, Items, NoMemory};
@@ -12,28 +13,19 @@ use ninep_frame::{Stat, Stats};
 use ninep_types::Qid;
 use std::alloc::Global;
 
-/// The mode of a directory.
-const DIR: u32 = 0x80000140;
+/// How far the paths of two windows with numbers side by side lie apart.
+const WINDOW_PATHS: u64 = 256;
 
-/// The mode of an append-only file, which is read and written.
-const APPEND: u32 = 0x40000180;
-
-/// The mode of a file that is read and written.
-const READ_WRITE: u32 = 0x180;
-
-/// The mode of a file that is read.
-const READ: u32 = 0x100;
-
-/// The mode of a file that is written.
-const WRITE: u32 = 0x80;
+/// The path of the first port.
+const FIRST_PORT_PATH: u64 = 1 << 40;
 
 fn file_mode(file: WinFile) -> u32
     ensures { result ≡ file_mode file }
 {
     match file {
-        WinFile::Body | WinFile::Tag => APPEND,
-        WinFile::Errors => WRITE,
-        _ => READ_WRITE,
+        WinFile::Body | WinFile::Tag => APPEND_MODE,
+        WinFile::Errors => WRITES,
+        _ => READS_AND_WRITES,
     }
 }
 
@@ -41,10 +33,10 @@ pub(crate) fn mode_of(node: Node) -> u32
     ensures { result ≡ mode_of node }
 {
     match node {
-        Node::Root | Node::NewDir | Node::Window(_) | Node::PlumbRoot => DIR,
-        Node::Cons | Node::Label | Node::Rules => READ_WRITE,
-        Node::ConsCtl | Node::Index | Node::Port(_) => READ,
-        Node::Send => WRITE,
+        Node::Root | Node::NewDir | Node::Window(_) | Node::PlumbRoot => DIR_MODE,
+        Node::Cons | Node::Label | Node::Rules => READS_AND_WRITES,
+        Node::ConsCtl | Node::Index | Node::Port(_) => READS,
+        Node::Send => WRITES,
         Node::File(_, file) => file_mode(file),
     }
 }
@@ -74,12 +66,12 @@ fn path_of(node: Node) -> u64
         Node::Index => 3,
         Node::Label => 4,
         Node::NewDir => 5,
-        Node::Window(window) => u64::from(window) * 256,
-        Node::File(window, file) => u64::from(window) * 256 + file_number(file),
+        Node::Window(window) => u64::from(window) * WINDOW_PATHS,
+        Node::File(window, file) => u64::from(window) * WINDOW_PATHS + file_number(file),
         Node::PlumbRoot => 16,
         Node::Send => 17,
         Node::Rules => 18,
-        Node::Port(port) => (1 << 40) + u64::from(port),
+        Node::Port(port) => FIRST_PORT_PATH + u64::from(port),
     }
 }
 
@@ -87,7 +79,7 @@ fn file_kind(file: WinFile) -> u8
     ensures { result ≡ file_kind file }
 {
     match file {
-        WinFile::Body | WinFile::Tag => 64,
+        WinFile::Body | WinFile::Tag => APPEND_KIND,
         _ => 0,
     }
 }
@@ -96,7 +88,7 @@ fn kind_of(node: Node) -> u8
     ensures { result ≡ kind_of node }
 {
     match node {
-        Node::Root | Node::NewDir | Node::Window(_) | Node::PlumbRoot => 128,
+        Node::Root | Node::NewDir | Node::Window(_) | Node::PlumbRoot => DIR_KIND,
         Node::File(_, file) => file_kind(file),
         _ => 0,
     }

@@ -6,10 +6,10 @@ ghost use Rattle.acme_tree.specs.Trees.{is_dir, world_is_full, is_live, is_windo
 use am_text::{Bytes, Ids};
 
 /// The most windows that may be live.
-const WINDOWS: usize = 4096;
+const MAX_WINDOWS: usize = 4096;
 
 /// The number that no window gets.
-const NEVER_GIVEN: u32 = 4294967295;
+const NEVER_GIVEN: u32 = 0xFFFF_FFFF;
 
 /// A file of a window's directory.
 #[derive(Clone, Copy, Debug, PartialEq, Eq)]
@@ -87,5 +87,5 @@ pub fn is_live(world: &World, ports: &[Bytes], node: Node) -> bool
 pub fn world_is_full(world: &World) -> bool
     ensures { result ≡ world_is_full world.now }
 {
-    WINDOWS <= world.windows.len() || world.next == NEVER_GIVEN
+    MAX_WINDOWS <= world.windows.len() || world.next == NEVER_GIVEN
 }

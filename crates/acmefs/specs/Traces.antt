@@ -15,6 +15,7 @@ use Rattle.core_outputs.specs.declared.reply.Reply.{Reply}
 use Rattle.acme_core.specs.Run.{step}
 use Rattle.core_intents.specs.States.{State, start}
 use Rattle.am_pack.specs.Packing.{all_of, pack_limit, packed_text, packing_of}
+use Rattle.am_text.specs.Ascii.{newline}
 use Rattle.acmefs.specs.declared.replay.End.{End}
 use Rattle.acmefs.specs.declared.replay.End.TheVariants.{Done, Usage, Script, ReadFault, WriteFault, NoMemory}
 use Rattle.acmefs.specs.declared.script.Stop.{Stop}
@@ -28,11 +29,11 @@ use Rattle.acmefs.specs.declared.status.Status.TheVariants as exit
 
 -- the line of an event in words, with its newline
 abbrev pub event_line : Event → List ℕ
-event_line e = event_words e ++ 10 ∷ []
+event_line e = event_words e ++ newline ∷ []
 
 -- the line in words of the message that the bytes are, with its newline
 abbrev pub message_line : ℕ → Result RMsg WireFault → List ℕ
-message_line c (Ok m) = words_r c m ++ 10 ∷ []
+message_line c (Ok m) = words_r c m ++ newline ∷ []
 message_line c (Err f) = []
 
 abbrev pub reply_words : Reply → List ℕ

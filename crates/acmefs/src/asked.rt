@@ -6,6 +6,7 @@ ghost use Rattle.am_base.specs.Outside.{HasRisen};
 ghost use Rattle.am_base.specs.Seen.{given, seen};
 ghost use Rattle.am_counter.specs.Played.{IsPlayed};
 ghost use Rattle.acme_core.specs.Run.{enabled};
+ghost use Rattle.am_drill.specs.Drill.{most_rounds};
 ghost use Rattle.acmefs.specs.declared.status.Status.TheVariants as exit;
 ghost use Rattle.acmefs.specs.declared.replay.End.TheVariants as ends;
 ghost use Rattle.acmefs.specs.Scripts.{script_of};
@@ -107,7 +108,7 @@ fn packed<I: Source, O: Sink, H: Host>(alloc: Global, input: &mut I, output: &mu
 
 // What a drill comes to.
 fn drilled<O: Sink, H: Host>(alloc: Global, rounds: u64, output: &mut O) -> Outcome<H>
-    requires rounds { (1 ≤ rounds) × (rounds ≤ 100000) }
+    requires rounds { (1 ≤ rounds) × (rounds ≤ most_rounds) }
     ensures drills { Drilled result.status rounds
         (seen (O.told output.old) (O.told output.new)) result.journal }
     ensures played { IsPlayed enabled result.journal }

@@ -4,6 +4,7 @@ ghost use Rattle.std.specs.Prelude.{◌≡◌, ◌≤◌};
 ghost use Rattle.am_base.specs.Seen.{seen};
 ghost use Rattle.am_counter.specs.Played.{IsPlayed};
 ghost use Rattle.acme_core.specs.Run.{enabled};
+ghost use Rattle.am_drill.specs.Drill.{most_rounds};
 ghost use Rattle.acmefs.specs.Ends.{drill_status, Drilled};
 ghost use Rattle.acmefs.specs.Own.{RoundTrips};
 ghost use Rattle.core_laws.specs.Journals.{JournalLaws};
@@ -32,7 +33,7 @@ fn drill_status(end: DrillEnd) -> Status
 /// Does the events of a drill of so many rounds from the empty editor on, and writes the summary of their run (docs/formats/drill.md). The
 /// status is 0 where all was done and written, 4 where the output failed, 6 where memory ran out.
 pub fn drill_main<O: Sink>(alloc: Global, rounds: u64, output: &mut O) -> ReplayEnd
-    requires rounds { (1 ≤ rounds) × (rounds ≤ 100000) }
+    requires rounds { (1 ≤ rounds) × (rounds ≤ most_rounds) }
     ensures drills { Drilled result.status rounds
         (seen (O.told output.old) (O.told output.new)) result.journal }
     // Each event of the journal is lawful, and was enabled at its place.

@@ -5,6 +5,7 @@ ghost use Rattle.std.specs.List.{AllByRecursion};
 ghost use Rattle.am_base.specs.Seen.{given, seen};
 ghost use Rattle.am_counter.specs.Played.{IsPlayed};
 ghost use Rattle.acme_core.specs.Run.{enabled};
+ghost use Rattle.am_journal.specs.Limits.{connection_count};
 ghost use Rattle.acmefs.specs.declared.status.Status.TheVariants as exit;
 ghost use Rattle.acmefs.specs.Ends.{IsServeComplete, serve_status};
 ghost use Rattle.acmefs.specs.Own.{RoundTrips};
@@ -68,7 +69,7 @@ pub fn serve_main<I: Source, O: Sink, H: Host, R: Threads + Wait + Sync>(
     output: &mut O,
     host: &mut H,
 ) -> Outcome<H>
-    requires clients { (1 ≤ site.now.clients) × (site.now.clients ≤ 64) }
+    requires clients { (1 ≤ site.now.clients) × (site.now.clients ≤ connection_count) }
     ensures serves { (end : _) × (result.status ≡ serve_status end)
         × SaysServe (outside H.G.told H.G.L.told H.G.L.R.told H.G.L.W.told) site.now.path.now site.now.clients
         (given (I.told input.old) (I.told input.new) (H.faults host.old) (H.faults host.new))

@@ -4,7 +4,7 @@ use Rattle.std.specs.Prelude.{nat_lt, if◌then◌else◌}
 use Rattle.std.proofs.lemmas.Bool.{ltb-false}
 use borrow.Author.Tests.{ltb-true}
 use Rattle.addr_syntax.specs.Tree.{Tree, Missing, LineAt, operators, is_large}
-use Rattle.addr_syntax.specs.Joined.{Row, Nothing, Signed, Ended, Reading, added, spanned, first_part, with_part, row_tree, behind, whole, join_part}
+use Rattle.addr_syntax.specs.Joined.{Row, Nothing, Signed, Ended, Reading, by_sign, by_separator, first_part, with_part, row_tree, behind, whole, join_part}
 use Rattle.addr_syntax.specs.Read.{reading_of, ending_of, supplied, Builds}
 use Rattle.addr_syntax.specs.declared.reading.Sides.{Sides}
 use Rattle.addr_syntax.specs.declared.reading.Built.TheVariants.{Whole, Deep}
@@ -13,19 +13,19 @@ use Rattle.addr_syntax.specs.declared.mark.Sign.TheVariants.{Plus, Minus}
 use Rattle.addr_syntax.specs.declared.mark.Separator.{Separator}
 use Rattle.addr_syntax.specs.declared.mark.Separator.TheVariants.{Comma, Semi}
 
-added_count : (k : Sign) (a b : Tree) → operators (added k a b) ≡ operators a + operators b + 1
+added_count : (k : Sign) (a b : Tree) → operators (by_sign k a b) ≡ operators a + operators b + 1
 added_count Plus a b = refl
 added_count Minus a b = refl
 
-added_large : (k : Sign) (a b : Tree) → is_large (added k a b) ≡ is_large a || is_large b
+added_large : (k : Sign) (a b : Tree) → is_large (by_sign k a b) ≡ is_large a || is_large b
 added_large Plus a b = refl
 added_large Minus a b = refl
 
-spanned_count : (k : Separator) (a b : Tree) → operators (spanned k a b) ≡ operators a + operators b + 1
+spanned_count : (k : Separator) (a b : Tree) → operators (by_separator k a b) ≡ operators a + operators b + 1
 spanned_count Comma a b = refl
 spanned_count Semi a b = refl
 
-spanned_large : (k : Separator) (a b : Tree) → is_large (spanned k a b) ≡ is_large a || is_large b
+spanned_large : (k : Separator) (a b : Tree) → is_large (by_separator k a b) ≡ is_large a || is_large b
 spanned_large Comma a b = refl
 spanned_large Semi a b = refl
 

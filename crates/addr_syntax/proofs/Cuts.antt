@@ -6,7 +6,7 @@ use Rattle.std.proofs.lemmas.Bool.Decides.{nat_tests}
 use Rattle.std.specs.Char.{is_ascii_digit}
 use Rattle.am_text.specs.Number.{number_after}
 use Rattle.re_syntax.specs.Tree as expression
-use Rattle.re_syntax.specs.Build.{finished}
+use Rattle.re_syntax.specs.Build.{level_tree}
 use Rattle.re_syntax.specs.Grammar.{IsExpression}
 use Rattle.re_syntax.specs.Read as re
 use Rattle.re_syntax.proofs.Sound.{whole}
@@ -42,7 +42,7 @@ expression_some : (d : ℕ) (text : List ℕ) (r : expression.Tree) → IsExpres
 unfolding expression_of
 expression_some d text r is =
     let c = complete_read (Some d) text r is in
-    ap tree_read c.reads_to ∙ ap (λ (t : Bool). cond t (finished c.reading.stack.top) None) c.complete ∙ c.finished_is
+    ap tree_read c.reads_to ∙ ap (λ (t : Bool). cond t (level_tree c.reading.stack.top) None) c.complete ∙ c.finished_is
 
 expression_only : (d : ℕ) (text : List ℕ) (r : expression.Tree) → expression_of d text ≡ Some r → IsExpression (Some d) text r
 unfolding expression_of
@@ -51,7 +51,7 @@ expression_only d text r e = of (re.reads (Some (re.begin (Some d))) text) refl 
     of : (o : Option re.Reading) → re.reads (Some (re.begin (Some d))) text ≡ o → tree_read o ≡ Some r → IsExpression (Some d) text r
     of None is = λ h. absurd cc
     of (Some m) is =
-        elim (re.is_complete m.scanner) as (λ t. re.is_complete m.scanner ≡ t → cond t (finished m.stack.top) None ≡ Some r → IsExpression (Some d) text r) [
+        elim (re.is_complete m.scanner) as (λ t. re.is_complete m.scanner ≡ t → cond t (level_tree m.stack.top) None ≡ Some r → IsExpression (Some d) text r) [
           | true ↦ λ t h. let w = whole (Some d) text m is t in subst (λ (s : expression.Tree). IsExpression (Some d) text s) (tree_is w.result r (sym w.finished_is ∙ h)) w.written
           | false ↦ λ t h. absurd cc
         ] refl

@@ -80,7 +80,7 @@ number_breaks text from at n digit l m e (inr p) f = record {
   digit = λ k. sym p.1 ∙ f k;
 }
 
--- what `ended` answers
+-- what `number_to` answers
 pub ended_here : (text : List ℕ) (from at n : ℕ) (digit : Bool) → from ≤ at → at ≤ length text → number_after 0 (slice_range text from at) ≡ Some n → Stops text at n digit → (r : Result (ℕ × ℕ) SynFault) → r ≡ (if (from == at) || digit then Err (Bad at) else Ok (n, at)) → IfOk r (λ a. IsNumberAt text from a.0 a.1) × IfErr r (NumberFails text from)
 ended_here text from at n digit l m e s r is = go (from == at) refl digit refl
   where

@@ -8,7 +8,7 @@ use Rattle.re_syntax.specs.Tree as expression
 use Rattle.addr_syntax.specs.Tree.{Tree, Dot, operators, is_large}
 use Rattle.addr_syntax.specs.Marks.{mark_of, next_of, is_digit, is_mark, begins_piece}
 use Rattle.addr_syntax.specs.Pieces.{Piece, Part, IsNumber, IsSearch, GoesOnAs, IsPiece, BeginsWith}
-use Rattle.addr_syntax.specs.Joined.{Reading, Ended, join_part, whole, joined, joined_on, begin}
+use Rattle.addr_syntax.specs.Joined.{Reading, Ended, join_part, whole, after_piece, after_pieces, begin}
 use Rattle.addr_syntax.specs.Grammar.{Begins, IsWritten}
 use Rattle.addr_syntax.specs.Answer.{ReachesFrom, StepFails, LimitedFails, IsLimited, IsAddressAt, IsBadFrom, FailsFrom}
 use Rattle.addr_syntax.specs.Scan.{IsPieceAt, IsBadPiece, Continues}
@@ -83,7 +83,7 @@ begins_once text rest more a b x y = go on.0 on.1 on.2
     go : (z : List Piece) → y.0 ∷ y.1 ≡ (x.0 ∷ x.1) ++ z → BeginsWith z rest more → (a ≡ b) × (rest ≡ more)
     go [] e w =
         let same : y.0 ∷ y.1 ≡ x.0 ∷ x.1 = e ∙ append-nil (x.0 ∷ x.1) in
-        let joins : Some x.2 ≡ Some y.2 = sym x.4 ∙ ap (λ (l : List Piece). joined_on (Some begin) l) (sym same) ∙ y.4 in
+        let joins : Some x.2 ≡ Some y.2 = sym x.4 ∙ ap (λ (l : List Piece). after_pieces (Some begin) l) (sym same) ∙ y.4 in
         let reading : x.2 ≡ y.2 = cc in
         (x.5 ∙ ap whole reading ∙ sym y.5, w)
     go (p ∷ ps) e w = absurd (not_both (begins_piece (next_of rest)) (row_first p ps rest more w) x.6)
@@ -158,7 +158,7 @@ rows_close (p ∷ ps) text rest n f x = go (rows_close ps x.1 rest n f x.4)
 pub begins_from : (text : List ℕ) (from : ℕ) → from ≤ length text → ReachesFrom text from from begin
 begins_from text from l = record { pieces = []; order = omega arith; within = l; cut = refl; joins = refl }
 
-pub step_from : (text : List ℕ) (from at end : ℕ) (r s : Reading) (p : Piece) → ReachesFrom text from at r → IsPieceAt text at p end → joined r p ≡ Some s → ReachesFrom text from end s
+pub step_from : (text : List ℕ) (from at end : ℕ) (r s : Reading) (p : Piece) → ReachesFrom text from at r → IsPieceAt text at p end → after_piece r p ≡ Some s → ReachesFrom text from end s
 step_from text from at end r s p x y e = record {
   pieces = x.pieces ++ p ∷ [];
   order = omega (arith, x.order, y.order);
@@ -171,7 +171,7 @@ step_from text from at end r s p x y e = record {
 pub record Front (text : List ℕ) (from at : ℕ) (r : Reading) : Type 0 where
   pub pieces : List Piece
   pub loose : (y : List ℕ) → next_of y ≡ next_of (drop at text) → BeginsWith pieces (slice_range text from at ++ y) y
-  pub joins : joined_on (Some begin) pieces ≡ Some r
+  pub joins : after_pieces (Some begin) pieces ≡ Some r
 
 pub same_front : (text w : List ℕ) (from at : ℕ) → from ≤ at → drop from text ≡ w ++ drop at text → w ≡ slice_range text from at
 same_front text w from at l e = append_cancel_right w (slice_range text from at) (drop at text) (sym e ∙ slice_behind text from at l)
@@ -186,13 +186,13 @@ front text from at r x =
     }
 
 -- pieces that are joined are an address, where there is one
-an_address : (ps : List Piece) (text rest : List ℕ) (r : Reading) → (ps ≡ [] → ⊥) → BeginsWith ps text rest → joined_on (Some begin) ps ≡ Some r → begins_piece (next_of rest) ≡ false → Begins (whole r) text rest
+an_address : (ps : List Piece) (text rest : List ℕ) (r : Reading) → (ps ≡ [] → ⊥) → BeginsWith ps text rest → after_pieces (Some begin) ps ≡ Some r → begins_piece (next_of rest) ≡ false → Begins (whole r) text rest
 an_address [] text rest r some x e n = absurd (some refl)
 an_address (p ∷ ps) text rest r some x e n = (p, ps, r, x, e, refl, n)
 
-pub some_pieces : (ps : List Piece) (r : Reading) → joined_on (Some begin) ps ≡ Some r → (r ≡ begin → ⊥) → ps ≡ [] → ⊥
+pub some_pieces : (ps : List Piece) (r : Reading) → after_pieces (Some begin) ps ≡ Some r → (r ≡ begin → ⊥) → ps ≡ [] → ⊥
 some_pieces ps r e some f =
-    let none : Some begin ≡ Some r = sym (ap (λ (l : List Piece). joined_on (Some begin) l) f) ∙ e in
+    let none : Some begin ≡ Some r = sym (ap (λ (l : List Piece). after_pieces (Some begin) l) f) ∙ e in
     some (cc)
 
 limited_some : (b : Limited Addr) (r : Reading) → IsLimited b (whole r) → r ≡ begin → ⊥
@@ -260,11 +260,11 @@ pub cut_more : (text : List ℕ) (from at place : ℕ) (more : List ℕ) → fro
 cut_more text from at place more l m n = ap (λ (x : List ℕ). x ++ more) (cut_from text from at place l m n) ∙ append_assoc (slice_range text from at) (slice_range text at place) more
 
 -- the pieces that come behind what is read, where an address begins with that
-next_pieces : (text : List ℕ) (from at : ℕ) (r : Reading) → Front text from at r → (z rest : List ℕ) (a : Tree) → next_of z ≡ next_of (drop at text) → Begins a (slice_range text from at ++ z) rest → (qs : List Piece) × (s : Reading) × BeginsWith qs z rest × (joined_on (Some r) qs ≡ Some s)
+next_pieces : (text : List ℕ) (from at : ℕ) (r : Reading) → Front text from at r → (z rest : List ℕ) (a : Tree) → next_of z ≡ next_of (drop at text) → Begins a (slice_range text from at ++ z) rest → (qs : List Piece) × (s : Reading) × BeginsWith qs z rest × (after_pieces (Some r) qs ≡ Some s)
 next_pieces text from at r f z rest a h x =
     let on = rows_on f.pieces (x.0 ∷ x.1) (slice_range text from at ++ z) z rest (f.loose z h) x.3 x.6 in
-    let joins : joined_on (Some r) on.0 ≡ Some x.2 =
-    ap (λ (o : Option Reading). joined_on o on.0) (sym f.joins) ∙ sym (joined_append (Some begin) f.pieces on.0) ∙ ap (λ (l : List Piece). joined_on (Some begin) l) (sym on.1) ∙ x.4 in
+    let joins : after_pieces (Some r) on.0 ≡ Some x.2 =
+    ap (λ (o : Option Reading). after_pieces o on.0) (sym f.joins) ∙ sym (joined_append (Some begin) f.pieces on.0) ∙ ap (λ (l : List Piece). after_pieces (Some begin) l) (sym on.1) ∙ x.4 in
     (on.0, x.2, on.2, joins)
 
 dead_piece : (text : List ℕ) (from at place : ℕ) (r : Reading) → ReachesFrom text from at r → begins_piece (next_of (drop at text)) ≡ true → IsBadPiece text at place → (more : List ℕ) → next_of more ≡ next_of (drop place text) → (a : Tree) (rest : List ℕ) → Begins a (slice_range text from place ++ more) rest → ⊥
@@ -276,25 +276,25 @@ dead_piece text from at place r x begins bad more next a rest y = go on.0 on.2
     same : next_of z ≡ next_of (drop at text)
     same = next_joined (slice_range text at place) more (drop place text) next ∙ ap next_of (sym (slice_behind text at place bad.order))
 
-    on : (qs : List Piece) × (s : Reading) × BeginsWith qs z rest × (joined_on (Some r) qs ≡ Some s)
+    on : (qs : List Piece) × (s : Reading) × BeginsWith qs z rest × (after_pieces (Some r) qs ≡ Some s)
     on = next_pieces text from at r (front text from at r x) z rest a same (subst (λ (t : List ℕ). Begins a t rest) (cut_more text from at place more x.order bad.order bad.within) y)
 
     go : (qs : List Piece) → BeginsWith qs z rest → ⊥
     go [] e = not_both (begins_piece (next_of z)) (ap begins_piece same ∙ begins) (ap (λ (l : List ℕ). begins_piece (next_of l)) e ∙ y.6)
     go (q ∷ qs) w = bad.dead more q w.0 w.1 (continues text place more bad.within next) w.2 w.3
 
-dead_joined : (text : List ℕ) (from at end : ℕ) (r : Reading) (p : Piece) → ReachesFrom text from at r → at < length text → begins_piece (next_of (drop at text)) ≡ true → IsPieceAt text at p end → joined r p ≡ None → (more : List ℕ) → next_of more ≡ next_of (drop at text) → (a : Tree) (rest : List ℕ) → Begins a (slice_range text from at ++ more) rest → ⊥
+dead_joined : (text : List ℕ) (from at end : ℕ) (r : Reading) (p : Piece) → ReachesFrom text from at r → at < length text → begins_piece (next_of (drop at text)) ≡ true → IsPieceAt text at p end → after_piece r p ≡ None → (more : List ℕ) → next_of more ≡ next_of (drop at text) → (a : Tree) (rest : List ℕ) → Begins a (slice_range text from at ++ more) rest → ⊥
 dead_joined text from at end r p x l begins at_p none more next a rest y = go on.0 on.1 on.2 on.3 (continues text at more (omega (arith, l)) next)
   where
-    on : (qs : List Piece) × (s : Reading) × BeginsWith qs more rest × (joined_on (Some r) qs ≡ Some s)
+    on : (qs : List Piece) × (s : Reading) × BeginsWith qs more rest × (after_pieces (Some r) qs ≡ Some s)
     on = next_pieces text from at r (front text from at r x) more rest a next y
 
-    go : (qs : List Piece) (s : Reading) → BeginsWith qs more rest → joined_on (Some r) qs ≡ Some s → Continues text at more → ⊥
+    go : (qs : List Piece) (s : Reading) → BeginsWith qs more rest → after_pieces (Some r) qs ≡ Some s → Continues text at more → ⊥
     go qs s w e (inl k) = absurd (omega (arith, k.0, l))
     go [] s w e (inr k) = not_both (begins_piece (next_of more)) (ap begins_piece next ∙ begins) (ap (λ (l : List ℕ). begins_piece (next_of l)) w ∙ y.6)
     go (q ∷ qs) s w e (inr k) =
-        let never : joined r q ≡ None = other_piece text at end r p q at_p none w.0 w.1 k.1 (sym k.2 ∙ w.2) w.3 in
-        let all : joined_on (Some r) (q ∷ qs) ≡ None = ap (λ (o : Option Reading). joined_on o qs) never ∙ joined_none qs in
+        let never : after_piece r q ≡ None = other_piece text at end r p q at_p none w.0 w.1 k.1 (sym k.2 ∙ w.2) w.3 in
+        let all : after_pieces (Some r) (q ∷ qs) ≡ None = ap (λ (o : Option Reading). after_pieces o qs) never ∙ joined_none qs in
         absurd cc
 
 -- ---- what may come at such a place
@@ -358,7 +358,7 @@ on_piece text from at place r x l bad some = (more, whole s, written)
     more : List ℕ
     more = (bad.before some).0 ++ ends.0
 
-    joins : joined_on (Some begin) (f.pieces ++ Part q ∷ []) ≡ Some s
+    joins : after_pieces (Some begin) (f.pieces ++ Part q ∷ []) ≡ Some s
     joins = joined_snoc (Some begin) f.pieces (Part q) r f.joins ∙ stands_joins r q (bad.before some).3
 
     first : (rest : List ℕ) → next_of ((v ++ ends.0) ++ rest) ≡ next_of (drop at text)
@@ -391,7 +391,7 @@ bad_piece_from text from at place r x l begins bad = record {
         let here : at ≡ place = omega (arith, bad.order, ltb-false at place e) in
         subst (λ k. GoesOnFrom text from k) here (on_pieces text from at r x l)
 
-bad_joined_from : (text : List ℕ) (from at end : ℕ) (r : Reading) (p : Piece) → ReachesFrom text from at r → at < length text → begins_piece (next_of (drop at text)) ≡ true → IsPieceAt text at p end → joined r p ≡ None → IsBadFrom text from at
+bad_joined_from : (text : List ℕ) (from at end : ℕ) (r : Reading) (p : Piece) → ReachesFrom text from at r → at < length text → begins_piece (next_of (drop at text)) ≡ true → IsPieceAt text at p end → after_piece r p ≡ None → IsBadFrom text from at
 bad_joined_from text from at end r p x l begins at_p none = record {
   order = x.order;
   within = x.within;
@@ -419,7 +419,7 @@ nothing_from text from at r x stop e = record {
       not_both (begins_piece (next_of more)) (row_first y.0 y.1 more rest row) (ap begins_piece next ∙ stop);
 }
   where
-    empty : (ps : List Piece) → BeginsWith ps (drop from text) (drop at text) → joined_on (Some begin) ps ≡ Some r → drop from text ≡ drop at text
+    empty : (ps : List Piece) → BeginsWith ps (drop from text) (drop at text) → after_pieces (Some begin) ps ≡ Some r → drop from text ≡ drop at text
     empty [] w f = w
     empty (p ∷ ps) w f = absurd (joined_on_some ps p begin r f e)
 

@@ -5,7 +5,7 @@ use Rattle.std.proofs.lemmas.List.{take-append-drop, drop-drop, append_cancel_ri
 use Rattle.addr_syntax.specs.Tree.{Tree, Missing, Dot, tree, operators, is_large}
 use Rattle.addr_syntax.specs.Marks.{mark_of, next_of}
 use Rattle.addr_syntax.specs.Pieces.{Piece, Part, Adds, Splits, GoesOnAs, IsPiece, BeginsWith}
-use Rattle.addr_syntax.specs.Joined.{Reading, Row, Nothing, Signed, Ended, with_part, may_follow, is_nothing, row_tree, join_part, join_sign, join_separator, whole, joined, joined_on, begin}
+use Rattle.addr_syntax.specs.Joined.{Reading, Row, Nothing, Signed, Ended, with_part, may_follow, is_nothing, row_tree, join_part, join_sign, join_separator, whole, after_piece, after_pieces, begin}
 use Rattle.addr_syntax.specs.Grammar.{IsAddress, GoesOn}
 use Rattle.addr_syntax.specs.Answer.{IsBad, Refuses, Reaches, StepFails}
 use Rattle.addr_syntax.specs.Scan.{IsPieceAt, IsBadPiece, PieceFails, Continues}
@@ -42,7 +42,7 @@ front_more text at place l m =
 pub record Front (text : List ℕ) (at : ℕ) (r : Reading) : Type 0 where
   pub pieces : List Piece
   pub loose : (y : List ℕ) → ((next_of y ≡ next_of (drop at text)) ⊎ (y ≡ [])) → BeginsWith pieces (take at text ++ y) y
-  pub joins : joined_on (Some begin) pieces ≡ Some r
+  pub joins : after_pieces (Some begin) pieces ≡ Some r
 
 front : (text : List ℕ) (at : ℕ) (r : Reading) → Reaches text at r → Front text at r
 front text at r x =
@@ -55,7 +55,7 @@ front text at r x =
     }
 
 -- pieces that are joined are an address, where there is one
-an_address : (ps : List Piece) (text : List ℕ) (r : Reading) → (ps ≡ [] → ⊥) → BeginsWith ps text [] → joined_on (Some begin) ps ≡ Some r → IsAddress text (whole r)
+an_address : (ps : List Piece) (text : List ℕ) (r : Reading) → (ps ≡ [] → ⊥) → BeginsWith ps text [] → after_pieces (Some begin) ps ≡ Some r → IsAddress text (whole r)
 an_address [] text r some x e = absurd (some refl)
 an_address (p ∷ ps) text r some x e = (p, ps, r, x, e, refl)
 
@@ -87,11 +87,11 @@ goes_on text at r f = go f.pieces refl
         ([], whole r, subst (λ (l : List ℕ). IsAddress l (whole r)) whole_text (an_address f.pieces (take at text ++ []) r (λ g. absurd (let h = sym e ∙ g in cc)) (f.loose [] (inr refl)) f.joins))
 
 -- an address that begins with what is read goes on with pieces behind it
-next_pieces : (text : List ℕ) (at : ℕ) (r : Reading) → Front text at r → (z : List ℕ) (a : Tree) → ((next_of z ≡ next_of (drop at text)) ⊎ (z ≡ [])) → IsAddress (take at text ++ z) a → (qs : List Piece) × (s : Reading) × BeginsWith qs z [] × (joined_on (Some r) qs ≡ Some s)
+next_pieces : (text : List ℕ) (at : ℕ) (r : Reading) → Front text at r → (z : List ℕ) (a : Tree) → ((next_of z ≡ next_of (drop at text)) ⊎ (z ≡ [])) → IsAddress (take at text ++ z) a → (qs : List Piece) × (s : Reading) × BeginsWith qs z [] × (after_pieces (Some r) qs ≡ Some s)
 next_pieces text at r f z a h x =
     let on = rows_same f.pieces (x.0 ∷ x.1) (take at text ++ z) z (f.loose z h) x.3 in
-    let joins : joined_on (Some r) on.0 ≡ Some x.2 =
-    ap (λ (o : Option Reading). joined_on o on.0) (sym f.joins) ∙ sym (joined_append (Some begin) f.pieces on.0) ∙ ap (λ (l : List Piece). joined_on (Some begin) l) (sym on.1) ∙ x.4 in
+    let joins : after_pieces (Some r) on.0 ≡ Some x.2 =
+    ap (λ (o : Option Reading). after_pieces o on.0) (sym f.joins) ∙ sym (joined_append (Some begin) f.pieces on.0) ∙ ap (λ (l : List Piece). after_pieces (Some begin) l) (sym on.1) ∙ x.4 in
     (on.0, x.2, on.2, joins)
 
 -- what stands at the place, and what may come behind
@@ -119,7 +119,7 @@ dead_here text at place r f l bad more next a x = go on.0 on.2
     moved : IsAddress (take at text ++ (slice_range text at place ++ more)) a
     moved = subst (λ (t : List ℕ). IsAddress t a) (cut_at text at place more bad.order bad.within) x
 
-    on : (qs : List Piece) × (s : Reading) × BeginsWith qs (slice_range text at place ++ more) [] × (joined_on (Some r) qs ≡ Some s)
+    on : (qs : List Piece) × (s : Reading) × BeginsWith qs (slice_range text at place ++ more) [] × (after_pieces (Some r) qs ≡ Some s)
     on = next_pieces text at r f (slice_range text at place ++ more) a (inl (ap next_of first.1 ∙ sym (next_at text at l))) moved
 
     go : (qs : List Piece) → BeginsWith qs (slice_range text at place ++ more) [] → ⊥
@@ -136,7 +136,7 @@ bad_before text at place r f l bad (y ∷ ys) e =
     let piece = slice_range text at place ++ on.0 in
     let first : next_of piece ≡ next_of (drop at text) = ap (λ (x : List ℕ). next_of (x ++ on.0)) (slice_front text at place some bad.within) ∙ sym (next_at text at l) in
     let row : BeginsWith (f.pieces ++ Part on.1 ∷ []) (take at text ++ piece) [] = begins_snoc f.pieces (Part on.1) (take at text ++ piece) piece piece [] (f.loose piece (inl first)) (sym (append-nil piece)) on.2 in
-    let joins : joined_on (Some begin) (f.pieces ++ Part on.1 ∷ []) ≡ Some (join_part r on.1) = joined_snoc (Some begin) f.pieces (Part on.1) r f.joins ∙ stands_joins r on.1 on.3 in
+    let joins : after_pieces (Some begin) (f.pieces ++ Part on.1 ∷ []) ≡ Some (join_part r on.1) = joined_snoc (Some begin) f.pieces (Part on.1) r f.joins ∙ stands_joins r on.1 on.3 in
     let address : IsAddress (take at text ++ piece) (whole (join_part r on.1)) = an_address (f.pieces ++ Part on.1 ∷ []) (take at text ++ piece) (join_part r on.1) (snoc_some f.pieces (Part on.1)) row joins in
     (on.0, whole (join_part r on.1), subst (λ (t : List ℕ). IsAddress t (whole (join_part r on.1))) (sym (cut_at text at place on.0 bad.order bad.within)) address)
 
@@ -157,7 +157,7 @@ bad_here text at place r x l bad = record {
 
 -- ---- a token that doesn't go on with what is read
 
-pub other_piece : (text : List ℕ) (at end : ℕ) (r : Reading) (p q : Piece) → IsPieceAt text at p end → joined r p ≡ None → (piece behind rest : List ℕ) → get_or text at 0 ∷ rest ≡ piece ++ behind → IsPiece q piece (next_of behind) → joined r q ≡ None
+pub other_piece : (text : List ℕ) (at end : ℕ) (r : Reading) (p q : Piece) → IsPieceAt text at p end → after_piece r p ≡ None → (piece behind rest : List ℕ) → get_or text at 0 ∷ rest ≡ piece ++ behind → IsPiece q piece (next_of behind) → after_piece r q ≡ None
 other_piece text at end r p q x none [] behind rest e y = absurd y
 other_piece text at end r p q x none (c ∷ cs) behind rest e y =
     let same : c ≡ get_or text at 0 = cc in
@@ -167,14 +167,14 @@ other_piece text at end r p q x none (c ∷ cs) behind rest e y =
     subst (λ (z : ℕ). GoesOnAs (mark_of z) q z cs (next_of behind)) same y in
     same_none (mark_of (get_or text at 0)) r p q (get_or text at 0) (slice_range text (at + 1) end) (next_of (drop end text)) cs (next_of behind) mine other none
 
-unjoined_on : (text : List ℕ) (at end : ℕ) (r : Reading) (p : Piece) → IsPieceAt text at p end → joined r p ≡ None → (rest : List ℕ) (qs : List Piece) (s : Reading) → BeginsWith qs (get_or text at 0 ∷ rest) [] → joined_on (Some r) qs ≡ Some s → ⊥
+unjoined_on : (text : List ℕ) (at end : ℕ) (r : Reading) (p : Piece) → IsPieceAt text at p end → after_piece r p ≡ None → (rest : List ℕ) (qs : List Piece) (s : Reading) → BeginsWith qs (get_or text at 0 ∷ rest) [] → after_pieces (Some r) qs ≡ Some s → ⊥
 unjoined_on text at end r p x none rest [] s y e = absurd cc
 unjoined_on text at end r p x none rest (q ∷ qs) s y e =
-    let never : joined r q ≡ None = other_piece text at end r p q x none y.0 y.1 rest y.2 y.3 in
-    let all : joined_on (Some r) (q ∷ qs) ≡ None = ap (λ (o : Option Reading). joined_on o qs) never ∙ joined_none qs in
+    let never : after_piece r q ≡ None = other_piece text at end r p q x none y.0 y.1 rest y.2 y.3 in
+    let all : after_pieces (Some r) (q ∷ qs) ≡ None = ap (λ (o : Option Reading). after_pieces o qs) never ∙ joined_none qs in
     absurd cc
 
-pub unjoined_here : (text : List ℕ) (at end : ℕ) (r : Reading) (p : Piece) → Reaches text at r → at < length text → IsPieceAt text at p end → joined r p ≡ None → IsBad text at
+pub unjoined_here : (text : List ℕ) (at end : ℕ) (r : Reading) (p : Piece) → Reaches text at r → at < length text → IsPieceAt text at p end → after_piece r p ≡ None → IsBad text at
 unjoined_here text at end r p x l y none = record {
   within = omega (arith, l);
   before = goes_on text at r (front text at r x);
@@ -201,7 +201,7 @@ step_refuses text at r x l Nodes y = absurd y
 step_refuses text at r x l Deep y = absurd y
 step_refuses text at r x l NoMemory y = tt
 
-pub step_reaches : (text : List ℕ) (at end : ℕ) (r s : Reading) (p : Piece) → Reaches text at r → IsPieceAt text at p end → joined r p ≡ Some s → Reaches text end s
+pub step_reaches : (text : List ℕ) (at end : ℕ) (r s : Reading) (p : Piece) → Reaches text at r → IsPieceAt text at p end → after_piece r p ≡ Some s → Reaches text end s
 step_reaches text at end r s p x y e = record {
   pieces = x.pieces ++ p ∷ [];
   within = y.within;
@@ -223,7 +223,7 @@ abbrev is_alone : Option (Tree × Separator) → Bool
 is_alone None = true
 is_alone (Some b) = false
 
-joined_some : (r : Reading) (p : Piece) (s : Reading) → joined r p ≡ Some s → s ≡ begin → ⊥
+joined_some : (r : Reading) (p : Piece) (s : Reading) → after_piece r p ≡ Some s → s ≡ begin → ⊥
 joined_some r (Adds k) s e f =
     let same : join_sign r k ≡ begin = let g : s ≡ join_sign r k = cc in sym g ∙ f in
     let row : Signed (row_tree r.row) k ≡ Nothing = ap (λ (x : Reading). x.row) same in
@@ -241,23 +241,23 @@ joined_some r (Part q) s e f = go (may_follow q || is_nothing r.row) refl
         part_some r.row q (ap (λ (x : Reading). x.row) same)
     go false t = let g : None ≡ Some s = rw t at e in absurd cc
 
-pub joined_on_some : (ps : List Piece) (p : Piece) (r s : Reading) → joined_on (Some r) (p ∷ ps) ≡ Some s → s ≡ begin → ⊥
+pub joined_on_some : (ps : List Piece) (p : Piece) (r s : Reading) → after_pieces (Some r) (p ∷ ps) ≡ Some s → s ≡ begin → ⊥
 joined_on_some [] p r s e f = joined_some r p s e f
-joined_on_some (q ∷ qs) p r s e f = go (joined r p) refl (λ x g. joined_on_some qs q x s g f)
+joined_on_some (q ∷ qs) p r s e f = go (after_piece r p) refl (λ x g. joined_on_some qs q x s g f)
   where
-    go : (o : Option Reading) → joined r p ≡ o → ((x : Reading) → joined_on (Some x) (q ∷ qs) ≡ Some s → ⊥) → ⊥
-    go None t k = let g : joined_on None (q ∷ qs) ≡ Some s = sym (ap (λ (o : Option Reading). joined_on o (q ∷ qs)) t) ∙ e in absurd cc
-    go (Some x) t k = k x (sym (ap (λ (o : Option Reading). joined_on o (q ∷ qs)) t) ∙ e)
+    go : (o : Option Reading) → after_piece r p ≡ o → ((x : Reading) → after_pieces (Some x) (q ∷ qs) ≡ Some s → ⊥) → ⊥
+    go None t k = let g : after_pieces None (q ∷ qs) ≡ Some s = sym (ap (λ (o : Option Reading). after_pieces o (q ∷ qs)) t) ∙ e in absurd cc
+    go (Some x) t k = k x (sym (ap (λ (o : Option Reading). after_pieces o (q ∷ qs)) t) ∙ e)
 
 pub all_read : (text : List ℕ) (r : Reading) → Reaches text (length text) r → (r ≡ begin → ⊥) → IsAddress text (whole r)
 all_read text r x some = an_address x.pieces text r pieces (subst (λ (l : List ℕ). BeginsWith x.pieces text l) (drop_end text) x.cut) x.joins
   where
     pieces : x.pieces ≡ [] → ⊥
     pieces e =
-        let none : Some begin ≡ Some r = sym (ap (λ (l : List Piece). joined_on (Some begin) l) e) ∙ x.joins in
+        let none : Some begin ≡ Some r = sym (ap (λ (l : List Piece). after_pieces (Some begin) l) e) ∙ x.joins in
         some (cc)
 
-nothing_read : (text : List ℕ) (ps : List Piece) → BeginsWith ps text [] → joined_on (Some begin) ps ≡ Some begin → text ≡ []
+nothing_read : (text : List ℕ) (ps : List Piece) → BeginsWith ps text [] → after_pieces (Some begin) ps ≡ Some begin → text ≡ []
 nothing_read text [] x e = x
 nothing_read text (p ∷ ps) x e = absurd (joined_on_some ps p begin begin e refl)
 
@@ -304,6 +304,6 @@ one_address text a b x y =
     let on = rows_same (x.0 ∷ x.1) (y.0 ∷ y.1) text [] x.3 y.3 in
     let none : on.0 ≡ [] = nothing_left on.0 on.2 in
     let same : y.0 ∷ y.1 ≡ x.0 ∷ x.1 = on.1 ∙ ap (λ (l : List Piece). (x.0 ∷ x.1) ++ l) none ∙ append-nil (x.0 ∷ x.1) in
-    let joins : Some x.2 ≡ Some y.2 = sym x.4 ∙ ap (λ (l : List Piece). joined_on (Some begin) l) (sym same) ∙ y.4 in
+    let joins : Some x.2 ≡ Some y.2 = sym x.4 ∙ ap (λ (l : List Piece). after_pieces (Some begin) l) (sym same) ∙ y.4 in
     let reading : x.2 ≡ y.2 = cc in
     x.5 ∙ ap whole reading ∙ sym y.5

@@ -10,7 +10,7 @@ use Rattle.re_syntax.proofs.Complete.{one_tree}
 use Rattle.addr_syntax.specs.Tree.{Tree, RuneAt, LineAt, Forward, Backward}
 use Rattle.addr_syntax.specs.Marks.{mark_of, next_of, is_digit}
 use Rattle.addr_syntax.specs.Pieces.{Piece, Part, Adds, Splits, IsNumber, IsSearch, GoesOnAs, IsPiece, BeginsWith}
-use Rattle.addr_syntax.specs.Joined.{Reading, may_follow, is_nothing, join_part, joined, joined_on}
+use Rattle.addr_syntax.specs.Joined.{Reading, may_follow, is_nothing, join_part, after_piece, after_pieces}
 use Rattle.addr_syntax.specs.Scan.{body_length}
 use Rattle.addr_syntax.specs.declared.mark.Mark.{Mark}
 use Rattle.addr_syntax.specs.declared.mark.Mark.TheVariants as mark
@@ -176,41 +176,41 @@ nothing_left (p ∷ ps) x = absurd (no_piece p x.0 x.1 (next_of x.1) x.2 x.3)
 
 -- ---- joining
 
-pub joined_none : (ps : List Piece) → joined_on None ps ≡ None
+pub joined_none : (ps : List Piece) → after_pieces None ps ≡ None
 joined_none [] = refl
 joined_none (p ∷ ps) = refl
 
-pub joined_append : (o : Option Reading) (ps qs : List Piece) → joined_on o (ps ++ qs) ≡ joined_on (joined_on o ps) qs
+pub joined_append : (o : Option Reading) (ps qs : List Piece) → after_pieces o (ps ++ qs) ≡ after_pieces (after_pieces o ps) qs
 joined_append o [] qs = refl
 joined_append None (p ∷ ps) qs = sym (joined_none qs)
-joined_append (Some r) (p ∷ ps) qs = joined_append (joined r p) ps qs
+joined_append (Some r) (p ∷ ps) qs = joined_append (after_piece r p) ps qs
 
-pub joined_snoc : (o : Option Reading) (ps : List Piece) (p : Piece) (r : Reading) → joined_on o ps ≡ Some r → joined_on o (ps ++ p ∷ []) ≡ joined r p
-joined_snoc o ps p r e = joined_append o ps (p ∷ []) ∙ ap (λ (x : Option Reading). joined_on x (p ∷ [])) e
+pub joined_snoc : (o : Option Reading) (ps : List Piece) (p : Piece) (r : Reading) → after_pieces o ps ≡ Some r → after_pieces o (ps ++ p ∷ []) ≡ after_piece r p
+joined_snoc o ps p r e = joined_append o ps (p ∷ []) ∙ ap (λ (x : Option Reading). after_pieces x (p ∷ [])) e
 
-pub stands_joins : (r : Reading) (q : Tree) → may_follow q ≡ true → joined r (Part q) ≡ Some (join_part r q)
+pub stands_joins : (r : Reading) (q : Tree) → may_follow q ≡ true → after_piece r (Part q) ≡ Some (join_part r q)
 stands_joins r q e = rw e refl
 
-pub begins_joins : (r : Reading) (q : Tree) → is_nothing r.row ≡ true → joined r (Part q) ≡ Some (join_part r q)
+pub begins_joins : (r : Reading) (q : Tree) → is_nothing r.row ≡ true → after_piece r (Part q) ≡ Some (join_part r q)
 begins_joins r q e = go (may_follow q) refl
   where
-    go : (b : Bool) → may_follow q ≡ b → joined r (Part q) ≡ Some (join_part r q)
+    go : (b : Bool) → may_follow q ≡ b → after_piece r (Part q) ≡ Some (join_part r q)
     go true f = rw f refl
     go false f = rw (f, e) refl
 
-pub begins_none : (r : Reading) (q : Tree) → may_follow q ≡ false → is_nothing r.row ≡ false → joined r (Part q) ≡ None
+pub begins_none : (r : Reading) (q : Tree) → may_follow q ≡ false → is_nothing r.row ≡ false → after_piece r (Part q) ≡ None
 begins_none r q e f = rw (e, f) refl
 
 -- a piece that doesn't go on with a row is known by its first rune
-pub same_none : (m : Mark) (r : Reading) (p q : Piece) (c : ℕ) (cs : List ℕ) (next : Option ℕ) (cs' : List ℕ) (next' : Option ℕ) → GoesOnAs m p c cs next → GoesOnAs m q c cs' next' → joined r p ≡ None → joined r q ≡ None
-same_none (mark.Signs k) r p q c cs next cs' next' x y e = let f = x.0 in let g : joined r p ≡ joined r (Adds k) = ap (joined r) f in absurd cc
-same_none (mark.Separates k) r p q c cs next cs' next' x y e = let f = x.0 in let g : joined r p ≡ joined r (Splits k) = ap (joined r) f in absurd cc
-same_none mark.Dot r p q c cs next cs' next' x y e = ap (joined r) (y.0 ∙ sym x.0) ∙ e
-same_none mark.Dollar r p q c cs next cs' next' x y e = ap (joined r) (y.0 ∙ sym x.0) ∙ e
-same_none mark.Digit r p q c cs next cs' next' x y e = let g : joined r p ≡ Some (join_part r (LineAt x.0)) = ap (joined r) x.1 in absurd cc
-same_none mark.Hash r p q c cs next cs' next' x y e = let g : joined r p ≡ Some (join_part r (RuneAt x.0)) = ap (joined r) x.1 in absurd cc
-same_none mark.Slash r p q c cs next cs' next' x y e = let g : joined r p ≡ Some (join_part r (Forward x.0)) = ap (joined r) x.1 in absurd cc
-same_none mark.Query r p q c cs next cs' next' x y e = let g : joined r p ≡ Some (join_part r (Backward x.0)) = ap (joined r) x.1 in absurd cc
+pub same_none : (m : Mark) (r : Reading) (p q : Piece) (c : ℕ) (cs : List ℕ) (next : Option ℕ) (cs' : List ℕ) (next' : Option ℕ) → GoesOnAs m p c cs next → GoesOnAs m q c cs' next' → after_piece r p ≡ None → after_piece r q ≡ None
+same_none (mark.Signs k) r p q c cs next cs' next' x y e = let f = x.0 in let g : after_piece r p ≡ after_piece r (Adds k) = ap (after_piece r) f in absurd cc
+same_none (mark.Separates k) r p q c cs next cs' next' x y e = let f = x.0 in let g : after_piece r p ≡ after_piece r (Splits k) = ap (after_piece r) f in absurd cc
+same_none mark.Dot r p q c cs next cs' next' x y e = ap (after_piece r) (y.0 ∙ sym x.0) ∙ e
+same_none mark.Dollar r p q c cs next cs' next' x y e = ap (after_piece r) (y.0 ∙ sym x.0) ∙ e
+same_none mark.Digit r p q c cs next cs' next' x y e = let g : after_piece r p ≡ Some (join_part r (LineAt x.0)) = ap (after_piece r) x.1 in absurd cc
+same_none mark.Hash r p q c cs next cs' next' x y e = let g : after_piece r p ≡ Some (join_part r (RuneAt x.0)) = ap (after_piece r) x.1 in absurd cc
+same_none mark.Slash r p q c cs next cs' next' x y e = let g : after_piece r p ≡ Some (join_part r (Forward x.0)) = ap (after_piece r) x.1 in absurd cc
+same_none mark.Query r p q c cs next cs' next' x y e = let g : after_piece r p ≡ Some (join_part r (Backward x.0)) = ap (after_piece r) x.1 in absurd cc
 same_none mark.Other r p q c cs next cs' next' x y e = absurd x
 
 pub some_weaker : {X : Type 0} (o : Option X) (P Q : X → Type 0) → ((x : X) → P x → Q x) → IfSome o P → IfSome o Q

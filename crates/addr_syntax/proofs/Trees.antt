@@ -7,7 +7,7 @@ use Rattle.std.proofs.lemmas.List.{take-append-drop, length-append}
 use Rattle.addr_syntax.specs.Tree.{Tree, operators, is_large}
 use Rattle.addr_syntax.specs.Marks.{next_of}
 use Rattle.addr_syntax.specs.Pieces.{Piece, IsPiece, BeginsWith}
-use Rattle.addr_syntax.specs.Joined.{Reading, begin, whole, joined_on}
+use Rattle.addr_syntax.specs.Joined.{Reading, begin, whole, after_pieces}
 use Rattle.addr_syntax.specs.Grammar.{IsAddress, GoesOn}
 use Rattle.addr_syntax.specs.Answer.{IsBad, IsInLimits, Refuses}
 use Rattle.addr_syntax.specs.declared.address.SynFault.TheVariants as fault
@@ -79,14 +79,14 @@ pub address_only : (text : List ℕ) (a : Tree) → address_of text ≡ Some a �
 unfolding address_of
 address_only text a e = go (pieces_of text) refl e
   where
-    joins : (p : Piece) (ps : List Piece) → BeginsWith (p ∷ ps) text [] → (o : Option Reading) → joined_on (Some begin) (p ∷ ps) ≡ o → option_map whole o ≡ Some a → IsAddress text a
+    joins : (p : Piece) (ps : List Piece) → BeginsWith (p ∷ ps) text [] → (o : Option Reading) → after_pieces (Some begin) (p ∷ ps) ≡ o → option_map whole o ≡ Some a → IsAddress text a
     joins p ps x None f h = absurd cc
     joins p ps x (Some r) f h = (p, ps, r, x, f, tree_same (whole r) a h)
 
     go : (o : Option (List Piece)) → pieces_of text ≡ o → tree_of_pieces o ≡ Some a → IsAddress text a
     go None f h = absurd cc
     go (Some []) f h = absurd cc
-    go (Some (p ∷ ps)) f h = joins p ps (pieces_row (length text) text (p ∷ ps) f) (joined_on (Some begin) (p ∷ ps)) refl h
+    go (Some (p ∷ ps)) f h = joins p ps (pieces_row (length text) text (p ∷ ps) f) (after_pieces (Some begin) (p ∷ ps)) refl h
 
 -- ---- what reading answers
 

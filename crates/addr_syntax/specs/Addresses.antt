@@ -3,22 +3,24 @@ use Rattle.std.specs.Prelude.{ℕ, zero, suc, false, ◌+◌, ◌==◌, ◌&&◌
 use Rattle.std.specs.Char.{is_ascii_digit}
 use Rattle.std.specs.Option.{option_map}
 use Rattle.am_text.specs.Number.{number_after}
+use Rattle.am_text.specs.Ascii.{slash, question}
 use Rattle.re_syntax.specs.Tree as expression
-use Rattle.re_syntax.specs.Build.{finished}
+use Rattle.re_syntax.specs.Build.{level_tree}
 use Rattle.re_syntax.specs.Read as re
-use Rattle.addr_syntax.specs.Tree.{Tree, Dot, End, RuneAt, LineAt, Forward, Backward, operators, is_large}
+use Rattle.addr_syntax.specs.Tree.{Tree, Dot, End, RuneAt, LineAt, Forward, Backward, operators, most_operators, is_large}
 use Rattle.addr_syntax.specs.Marks.{mark_of}
 use Rattle.addr_syntax.specs.Pieces.{Piece, Part, Adds, Splits}
-use Rattle.addr_syntax.specs.Joined.{begin, whole, joined_on}
+use Rattle.addr_syntax.specs.Joined.{begin, whole, after_pieces}
 use Rattle.addr_syntax.specs.Scan.{body_length}
 use Rattle.addr_syntax.specs.declared.mark.Mark.{Mark}
 use Rattle.addr_syntax.specs.declared.mark.Mark.TheVariants as mark
 
 -- ---- expressions
 
+-- the tree of all that was read, where an expression may end
 abbrev pub tree_read : Option re.Reading → Option expression.Tree
 tree_read None = None
-tree_read (Some m) = if re.is_complete m.scanner then finished m.stack.top else None
+tree_read (Some m) = if re.is_complete m.scanner then level_tree m.stack.top else None
 
 -- the tree of the expression that a text is before this delimiter, if it is one
 unfoldable pub expression_of : ℕ → List ℕ → Option expression.Tree
@@ -35,6 +37,7 @@ abbrev pub digits : List ℕ → ℕ
 digits [] = 0
 digits (c ∷ cs) = if is_ascii_digit c then digits cs + 1 else 0
 
+-- a part by its number, if there is one, and what stands behind it
 abbrev pub cut_number : (ℕ → Tree) → List ℕ → Option ℕ → Cut
 cut_number part behind None = None
 cut_number part behind (Some n) = Some (Part (part n), behind)
@@ -49,6 +52,7 @@ abbrev pub behind_delimiter : List ℕ → List ℕ
 behind_delimiter [] = []
 behind_delimiter (d ∷ text) = text
 
+-- a part by its expression, if there is one, and what stands behind it
 abbrev pub cut_search : (expression.Tree → Tree) → List ℕ → Option expression.Tree → Cut
 cut_search part behind None = None
 cut_search part behind (Some r) = Some (Part (part r), behind)
@@ -66,14 +70,16 @@ piece_by mark.Dot c cs = Some (Part Dot, cs)
 piece_by mark.Dollar c cs = Some (Part End, cs)
 piece_by mark.Digit c cs = number_piece LineAt (c ∷ cs)
 piece_by mark.Hash c cs = number_piece RuneAt cs
-piece_by mark.Slash c cs = search_piece Forward 47 cs
-piece_by mark.Query c cs = search_piece Backward 63 cs
+piece_by mark.Slash c cs = search_piece Forward slash cs
+piece_by mark.Query c cs = search_piece Backward question cs
 piece_by mark.Other c cs = None
 
+-- the piece that a text begins with
 abbrev pub first_piece : List ℕ → Cut
 first_piece [] = None
 first_piece (c ∷ cs) = piece_by (mark_of c) c cs
 
+-- a piece before those of what stands behind it
 abbrev pub with_piece : Cut → (List ℕ → Option (List Piece)) → Option (List Piece)
 with_piece None pieces = None
 with_piece (Some (p, behind)) pieces = option_map (λ ps. p ∷ ps) (pieces behind)
@@ -90,10 +96,11 @@ pieces_of text = pieces_within (length text) text
 
 -- ---- addresses
 
+-- the tree of pieces, of which there is one at least
 abbrev pub tree_of_pieces : Option (List Piece) → Option Tree
 tree_of_pieces None = None
 tree_of_pieces (Some []) = None
-tree_of_pieces (Some (p ∷ ps)) = option_map whole (joined_on (Some begin) (p ∷ ps))
+tree_of_pieces (Some (p ∷ ps)) = option_map whole (after_pieces (Some begin) (p ∷ ps))
 
 -- the tree of the address that a text is
 unfoldable pub address_of : List ℕ → Option Tree
@@ -102,7 +109,7 @@ address_of text = tree_of_pieces (pieces_of text)
 -- one with no expression of more than 2,048 nodes and at most 1,024 operators
 abbrev pub small_one : Option Tree → Option Tree
 small_one None = None
-small_one (Some a) = if not (is_large a) && nat_le (operators a) 1024 then Some a else None
+small_one (Some a) = if not (is_large a) && nat_le (operators a) most_operators then Some a else None
 
 -- the address that a text is, inside the limits
 abbrev pub small_address : List ℕ → Option Tree

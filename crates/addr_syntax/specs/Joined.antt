@@ -18,13 +18,15 @@ pub record Reading : Type 0 where
   pub before : Option (Tree × Separator)
   pub row : Row
 
-abbrev pub added : Sign → Tree → Tree → Tree
-added Plus a b = Sum a b
-added Minus a b = Difference a b
+-- the sum or the difference
+abbrev pub by_sign : Sign → Tree → Tree → Tree
+by_sign Plus a b = Sum a b
+by_sign Minus a b = Difference a b
 
-abbrev pub spanned : Separator → Tree → Tree → Tree
-spanned Comma a b = Span a b
-spanned Semi a b = MovingSpan a b
+-- the span from one side to the other
+abbrev pub by_separator : Separator → Tree → Tree → Tree
+by_separator Comma a b = Span a b
+by_separator Semi a b = MovingSpan a b
 
 -- line 0 is the beginning of the text where it begins a row
 abbrev pub first_part : Tree → Tree
@@ -34,22 +36,25 @@ first_part p = p
 -- a part begins a row, or stands right of the row's last sign, or of a `+` that isn't written
 abbrev pub with_part : Row → Tree → Row
 with_part Nothing p = Ended (first_part p)
-with_part (Signed a k) p = Ended (added k a p)
-with_part (Ended a) p = Ended (added Plus a p)
+with_part (Signed a k) p = Ended (by_sign k a p)
+with_part (Ended a) p = Ended (by_sign Plus a p)
 
 -- the tree of a row; where nothing follows its last sign, that has no right side
 abbrev pub row_tree : Row → Tree
 row_tree Nothing = Missing
-row_tree (Signed a k) = added k a Missing
+row_tree (Signed a k) = by_sign k a Missing
 row_tree (Ended a) = a
 
+-- a sign behind a row
 abbrev pub with_sign : Row → Sign → Row
 with_sign r k = Signed (row_tree r) k
 
+-- the tree behind what stands before the last separator, if there is one
 abbrev pub behind : Option (Tree × Separator) → Tree → Tree
 behind None a = a
-behind (Some (b, k)) a = spanned k b a
+behind (Some (b, k)) a = by_separator k b a
 
+-- the tree of all so far
 abbrev pub whole : Reading → Tree
 whole r = behind r.before (row_tree r.row)
 
@@ -61,30 +66,36 @@ may_follow (Forward re) = true
 may_follow (Backward re) = true
 may_follow _ = false
 
+-- a row begins here
 abbrev pub is_nothing : Row → Bool
 is_nothing Nothing = true
 is_nothing (Signed a k) = false
 is_nothing (Ended a) = false
 
+-- with a part behind the row
 abbrev pub join_part : Reading → Tree → Reading
 join_part r p = record r { row = with_part r.row p }
 
+-- with a sign behind the row
 abbrev pub join_sign : Reading → Sign → Reading
 join_sign r k = record r { row = with_sign r.row k }
 
+-- with a separator behind the row
 abbrev pub join_separator : Reading → Separator → Reading
 join_separator r k = record { before = Some (whole r, k); row = Nothing }
 
 -- one piece more; None where no address goes on so
-abbrev pub joined : Reading → Piece → Option Reading
-joined r (Part p) = if (may_follow p || is_nothing r.row) then Some (join_part r p) else None
-joined r (Adds k) = Some (join_sign r k)
-joined r (Splits k) = Some (join_separator r k)
+abbrev pub after_piece : Reading → Piece → Option Reading
+after_piece r (Part p) = if (may_follow p || is_nothing r.row) then Some (join_part r p) else None
+after_piece r (Adds k) = Some (join_sign r k)
+after_piece r (Splits k) = Some (join_separator r k)
 
+-- before the first piece
 abbrev pub begin : Reading
 begin = record { before = None; row = Nothing }
 
-abbrev pub joined_on : Option Reading → List Piece → Option Reading
-joined_on r [] = r
-joined_on None (p ∷ ps) = None
-joined_on (Some r) (p ∷ ps) = joined_on (joined r p) ps
+-- all pieces, one after another
+abbrev pub after_pieces : Option Reading → List Piece → Option Reading
+after_pieces r [] = r
+after_pieces None (p ∷ ps) = None
+after_pieces (Some r) (p ∷ ps) = after_pieces (after_piece r p) ps

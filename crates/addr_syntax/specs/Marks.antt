@@ -1,22 +1,24 @@
 -- What the first rune of a piece says.
 use Rattle.std.specs.Prelude.{ℕ, ◌==◌, Bool, true, false, List, [], ◌∷◌, Option, Some, None, if◌then◌else◌}
 use Rattle.std.specs.Char.{is_ascii_digit}
+use Rattle.am_text.specs.Ascii.{hash, dollar, plus, comma, minus, dot, slash, semicolon, question}
 use Rattle.addr_syntax.specs.declared.mark.Sign.TheVariants.{Plus, Minus}
 use Rattle.addr_syntax.specs.declared.mark.Separator.TheVariants.{Comma, Semi}
 use Rattle.addr_syntax.specs.declared.mark.Mark.{Mark}
 use Rattle.addr_syntax.specs.declared.mark.Mark.TheVariants.{Signs, Separates, Dot, Dollar, Digit, Hash, Slash, Query, Other}
 
+-- what the first rune of a piece says
 unfoldable pub mark_of : ℕ → Mark
 mark_of c =
-    if c == 43 then Signs Plus
-    else (if c == 45 then Signs Minus
-    else (if c == 44 then Separates Comma
-    else (if c == 59 then Separates Semi
-    else (if c == 46 then Dot
-    else (if c == 36 then Dollar
-    else (if c == 35 then Hash
-    else (if c == 47 then Slash
-    else (if c == 63 then Query
+    if c == plus then Signs Plus
+    else (if c == minus then Signs Minus
+    else (if c == comma then Separates Comma
+    else (if c == semicolon then Separates Semi
+    else (if c == dot then Dot
+    else (if c == dollar then Dollar
+    else (if c == hash then Hash
+    else (if c == slash then Slash
+    else (if c == question then Query
     else (if is_ascii_digit c then Digit
     else Other)))))))))
 
@@ -25,10 +27,12 @@ abbrev pub next_of : List ℕ → Option ℕ
 next_of [] = None
 next_of (c ∷ cs) = Some c
 
+-- the rune, if there is one, is a decimal digit
 abbrev pub is_digit : Option ℕ → Bool
 is_digit None = false
 is_digit (Some c) = is_ascii_digit c
 
+-- a piece begins with a rune that says this
 abbrev pub is_mark : Mark → Bool
 is_mark (Signs k) = true
 is_mark (Separates k) = true

@@ -1,6 +1,7 @@
 -- How the pieces of an address are written.
 use Rattle.std.specs.Prelude.{◌≡◌, ◌⊎◌, ℕ, false, List, [], ◌∷◌, ◌++◌, Option, Some, None}
 use Rattle.am_text.specs.Number.{number_after}
+use Rattle.am_text.specs.Ascii.{slash, question}
 use Rattle.re_syntax.specs.Tree as expression
 use Rattle.re_syntax.specs.Grammar.{IsExpression}
 use Rattle.addr_syntax.specs.Tree.{Tree, Dot, End, RuneAt, LineAt, Forward, Backward}
@@ -34,8 +35,8 @@ GoesOnAs mark.Dot p c cs next = (p ≡ Part Dot) × (cs ≡ [])
 GoesOnAs mark.Dollar p c cs next = (p ≡ Part End) × (cs ≡ [])
 GoesOnAs mark.Digit p c cs next = (n : ℕ) × (p ≡ Part (LineAt n)) × IsNumber n (c ∷ cs) next
 GoesOnAs mark.Hash p c cs next = (n : ℕ) × (p ≡ Part (RuneAt n)) × IsNumber n cs next
-GoesOnAs mark.Slash p c cs next = (re : expression.Tree) × (p ≡ Part (Forward re)) × IsSearch 47 re cs next
-GoesOnAs mark.Query p c cs next = (re : expression.Tree) × (p ≡ Part (Backward re)) × IsSearch 63 re cs next
+GoesOnAs mark.Slash p c cs next = (re : expression.Tree) × (p ≡ Part (Forward re)) × IsSearch slash re cs next
+GoesOnAs mark.Query p c cs next = (re : expression.Tree) × (p ≡ Part (Backward re)) × IsSearch question re cs next
 GoesOnAs mark.Other p c cs next = ⊥
 
 -- a piece is written so, where this rune comes next

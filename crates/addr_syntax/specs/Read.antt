@@ -1,6 +1,6 @@
 -- What the program has read.
 use Rattle.std.specs.Prelude.{◌≡◌, ◌<◌, ◌+◌, ℕ, true, false, Option, Some, None}
-use Rattle.addr_syntax.specs.Tree.{Tree, tree, tree_of, operators, is_large}
+use Rattle.addr_syntax.specs.Tree.{Tree, tree, tree_of, operators, most_operators, is_large}
 use Rattle.addr_syntax.specs.Joined.{Row, Nothing, Signed, Ended, Reading, begin, whole}
 use Rattle.addr_syntax.specs.declared.address.Addr.{Addr}
 use Rattle.addr_syntax.specs.declared.address.SynFault.{SynFault}
@@ -15,18 +15,22 @@ use Rattle.addr_syntax.specs.declared.reading.Built.{Built}
 use Rattle.addr_syntax.specs.declared.reading.Built.TheVariants.{Whole, Deep, Large}
 use Rattle.addr_syntax.specs.declared.reading.Progress.{Progress}
 
+-- the row of a value of the program
 abbrev pub row_of : row.Row → Row
 row_of rows.Nothing = Nothing
 row_of (rows.Signed a k) = Signed (tree_of a) k
 row_of (rows.Ended a) = Ended (tree a)
 
+-- what stands before the last separator, of a value of the program
 abbrev pub side_of : Option (Option Addr × Separator) → Option (Tree × Separator)
 side_of None = None
 side_of (Some (a, k)) = Some (tree_of a, k)
 
+-- both sides of a value of the program
 abbrev pub reading_of : Sides → Reading
 reading_of s = record { before = side_of s.before; row = row_of s.row }
 
+-- how a row ends
 abbrev pub ending_of : Row → Ending
 ending_of Nothing = ending.Nothing
 ending_of (Signed a k) = ending.Sign
@@ -34,10 +38,11 @@ ending_of (Ended a) = ending.Part
 
 -- the program builds while there is room for more operators; past a limit nothing is built any more
 abbrev pub Builds : Built → Reading → Type 0
-Builds (Whole s room) r = (reading_of s ≡ r) × (operators (whole r) + room ≡ 1024) × (is_large (whole r) ≡ false)
-Builds Deep r = (1024 < operators (whole r)) × (is_large (whole r) ≡ false)
+Builds (Whole s room) r = (reading_of s ≡ r) × (operators (whole r) + room ≡ most_operators) × (is_large (whole r) ≡ false)
+Builds Deep r = (most_operators < operators (whole r)) × (is_large (whole r) ≡ false)
 Builds Large r = is_large (whole r) ≡ true
 
+-- what the program keeps of all that it has read
 pub record Follows (p : Progress) (r : Reading) : Type 0 where
   pub ends : p.ending ≡ ending_of r.row
   pub builds : Builds p.built r
@@ -57,5 +62,5 @@ supplied ending.Part = 1
 abbrev pub FinishFails : ℕ → Reading → SynFault → Type 0
 FinishFails at r (fault.Bad place) = (place ≡ at) × (r ≡ begin)
 FinishFails at r fault.Nodes = is_large (whole r) ≡ true
-FinishFails at r fault.Deep = (is_large (whole r) ≡ false) × (1024 < operators (whole r))
+FinishFails at r fault.Deep = (is_large (whole r) ≡ false) × (most_operators < operators (whole r))
 FinishFails at r fault.NoMemory = Unit {0}

@@ -2,6 +2,7 @@
 use Rattle.std.specs.Prelude.{◌≡◌, ◌≤◌, ◌<◌, ◌+◌, ◌==◌, ◌⊎◌, ℕ, Bool, true, false, List, [], ◌∷◌, ◌++◌, length, drop, slice_range, nat_lt, slice_index, Option, Some, None, if◌then◌else◌}
 use Rattle.std.specs.Char.{is_ascii_digit}
 use Rattle.am_text.specs.Number.{number_after}
+use Rattle.am_text.specs.Ascii.{backslash}
 use Rattle.re_syntax.specs.Tree as expression
 use Rattle.re_syntax.specs.Answer as answer
 use Rattle.re_syntax.specs.declared.re.Re as re
@@ -31,6 +32,7 @@ pub record IsBadNumber (text : List ℕ) (from place : ℕ) : Type 0 where
   pub stops : place < length text → number_after 0 (slice_range text from (place + 1)) ≡ None
   pub digit : from < place → is_ascii_digit (slice_index text place) ≡ true
 
+-- why no number is read
 abbrev pub NumberFails : List ℕ → ℕ → SynFault → Type 0
 NumberFails text from (Bad place) = IsBadNumber text from place
 NumberFails text from Nodes = ⊥
@@ -41,20 +43,21 @@ NumberFails text from NoMemory = ⊥
 abbrev pub body_length : ℕ → Bool → List ℕ → ℕ
 body_length d escaped [] = 0
 body_length d true (c ∷ cs) = body_length d false cs + 1
-body_length d false (c ∷ cs) = if d == c then 0 else body_length d (c == 92) cs + 1
+body_length d false (c ∷ cs) = if d == c then 0 else body_length d (c == backslash) cs + 1
 
 -- no delimiter stands behind no backslash, and no such backslash at the end
 abbrev pub is_whole : ℕ → Bool → List ℕ → Bool
 is_whole d true [] = false
 is_whole d false [] = true
 is_whole d true (c ∷ cs) = is_whole d false cs
-is_whole d false (c ∷ cs) = if d == c then false else is_whole d (c == 92) cs
+is_whole d false (c ∷ cs) = if d == c then false else is_whole d (c == backslash) cs
 
 -- an expression was read; None stands for a large one
 abbrev pub IsExpressionAt : ℕ → List ℕ → ℕ → Option re.Re → ℕ → Type 0
-IsExpressionAt d text from (Some e) end = answer.IsRead (Some d) text from end (expression.tree e) × (expression.nodes (expression.tree e) ≤ 2048)
-IsExpressionAt d text from None end = (r : expression.Tree) × answer.IsRead (Some d) text from end r × (2048 < expression.nodes r)
+IsExpressionAt d text from (Some e) end = answer.IsRead (Some d) text from end (expression.tree e) × (expression.nodes (expression.tree e) ≤ expression.most_nodes)
+IsExpressionAt d text from None end = (r : expression.Tree) × answer.IsRead (Some d) text from end r × (expression.most_nodes < expression.nodes r)
 
+-- why no expression is read
 abbrev pub ExpressionFails : ℕ → List ℕ → ℕ → SynFault → Type 0
 ExpressionFails d text from (Bad place) = answer.IsBad (Some d) text from place
 ExpressionFails d text from Nodes = ⊥
@@ -68,6 +71,7 @@ IsToken (token.Stands a) p = (q : Tree) × (p ≡ Part q) × IsPart a q × (may_
 IsToken (token.Adds k) p = p ≡ Adds k
 IsToken (token.Splits k) p = p ≡ Splits k
 
+-- the piece from one place up to another
 pub record IsPieceAt (text : List ℕ) (from : ℕ) (p : Piece) (end : ℕ) : Type 0 where
   pub order : from < end
   pub within : end ≤ length text
@@ -85,23 +89,27 @@ pub record IsBadPiece (text : List ℕ) (from place : ℕ) : Type 0 where
   pub before : from < place → (more : List ℕ) × (q : Tree) × IsPiece (Part q) (slice_range text from place ++ more) None × (may_follow q ≡ true)
   pub dead : (more : List ℕ) (p : Piece) (piece behind : List ℕ) → Continues text place more → slice_range text from place ++ more ≡ piece ++ behind → IsPiece p piece (next_of behind) → ⊥
 
+-- why no piece is read
 abbrev pub PieceFails : List ℕ → ℕ → SynFault → Type 0
 PieceFails text from (Bad place) = IsBadPiece text from place
 PieceFails text from Nodes = ⊥
 PieceFails text from Deep = ⊥
 PieceFails text from NoMemory = Unit {0}
 
--- the part of an expression, and the place behind its last delimiter
+-- the part of an expression that is searched for forward
 abbrev pub forward_of : Option re.Re → Option Addr
 forward_of None = None
 forward_of (Some e) = Some (Fore e)
 
+-- the part of one that is searched for backward
 abbrev pub backward_of : Option re.Re → Option Addr
 backward_of None = None
 backward_of (Some e) = Some (Back e)
 
+-- the place behind the last delimiter, which may be missing at the end of the text
 abbrev pub behind_at : List ℕ → ℕ → ℕ
 behind_at text end = if nat_lt end (length text) then end + 1 else end
 
+-- the token from one place up to another
 abbrev pub IsTokenAt : List ℕ → ℕ → Token → ℕ → Type 0
 IsTokenAt text at t end = (p : Piece) × IsToken t p × IsPieceAt text at p end

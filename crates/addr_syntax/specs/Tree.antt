@@ -3,6 +3,7 @@ use Rattle.std.specs.Prelude.{ℕ, ◌+◌, ◌||◌, Bool, false, nat_lt, Optio
 use Rattle.re_syntax.specs.Tree as expression
 use Rattle.addr_syntax.specs.declared.address.Addr.{Addr, Here, Zero, Last, Char, Line, Fore, Back, Plus', Minus', Comma', Semi', Held-Addr-Plus-0, None', Some'}
 
+-- The tree of an address.
 pub data Tree : Type 0 where
   -- a side that isn't written
   Missing : Tree
@@ -61,6 +62,10 @@ operators (Difference a b) = operators a + operators b + 1
 operators (Span a b) = operators a + operators b + 1
 operators (MovingSpan a b) = operators a + operators b + 1
 
+-- an address may have so many operators
+abbrev pub most_operators : ℕ
+most_operators = 1024
+
 -- some expression has more than 2,048 nodes
 abbrev pub is_large : Tree → Bool
 is_large Missing = false
@@ -69,8 +74,8 @@ is_large Front = false
 is_large End = false
 is_large (RuneAt n) = false
 is_large (LineAt n) = false
-is_large (Forward re) = nat_lt 2048 (expression.nodes re)
-is_large (Backward re) = nat_lt 2048 (expression.nodes re)
+is_large (Forward re) = nat_lt expression.most_nodes (expression.nodes re)
+is_large (Backward re) = nat_lt expression.most_nodes (expression.nodes re)
 is_large (Sum a b) = is_large a || is_large b
 is_large (Difference a b) = is_large a || is_large b
 is_large (Span a b) = is_large a || is_large b

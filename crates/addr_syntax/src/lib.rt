@@ -11,11 +11,11 @@ mod scan;
 mod token;
 
 pub use address::{Addr, Limited, SynFault};
-pub use laws::addresses_have_trees;
-pub use mark::begins_piece;
-pub use parser::{
-    a_text_begins_with_one_address, addr_at, an_address_has_one_tree, parse_addr,
+pub use laws::{
+    a_text_begins_with_one_address, addresses_have_trees, an_address_has_one_tree,
     separators_join_last, signs_join_from_the_left,
 };
+pub use mark::begins_piece;
+pub use parser::{addr_at, parse_addr};
 pub use reader::read_address;
 pub use scan::{delimiter_at, expression, number};

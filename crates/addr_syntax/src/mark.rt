@@ -3,7 +3,9 @@
 ghost use Rattle.std.specs.Prelude.{◌≡◌};
 ghost use Rattle.addr_syntax.specs.Marks.{mark_of, begins_piece};
 
-use am_text::Rune;
+use am_text::{
+    COMMA, DIGIT_0, DIGIT_9, DOLLAR, DOT, HASH, MINUS, PLUS, QUESTION, Rune, SEMICOLON, SLASH,
+};
 
 /// An operator between parts.
 #[derive(Clone, Copy)]
@@ -37,30 +39,22 @@ pub enum Mark {
     Other,
 }
 
+/// What the first rune of a piece says.
 #[tactic(auto, unfolding(crate::specs::Marks::mark_of))]
 pub fn mark_of(c: Rune) -> Mark
     ensures { result ≡ mark_of c }
 {
     match c {
-        // +
-        43 => Mark::Signs(Sign::Plus),
-        // -
-        45 => Mark::Signs(Sign::Minus),
-        // ,
-        44 => Mark::Separates(Separator::Comma),
-        // ;
-        59 => Mark::Separates(Separator::Semi),
-        // .
-        46 => Mark::Dot,
-        // $
-        36 => Mark::Dollar,
-        // #
-        35 => Mark::Hash,
-        // /
-        47 => Mark::Slash,
-        // ?
-        63 => Mark::Query,
-        48..=57 => Mark::Digit,
+        PLUS => Mark::Signs(Sign::Plus),
+        MINUS => Mark::Signs(Sign::Minus),
+        COMMA => Mark::Separates(Separator::Comma),
+        SEMICOLON => Mark::Separates(Separator::Semi),
+        DOT => Mark::Dot,
+        DOLLAR => Mark::Dollar,
+        HASH => Mark::Hash,
+        SLASH => Mark::Slash,
+        QUESTION => Mark::Query,
+        DIGIT_0..=DIGIT_9 => Mark::Digit,
         _ => Mark::Other,
     }
 }

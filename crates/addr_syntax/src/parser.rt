@@ -1,12 +1,11 @@
 //! Reads an address.
 
-ghost use Rattle.std.specs.Prelude.{◌≡◌, ◌≤◌, ◌<◌, ℕ, List, length, IfOk, IfErr};
-ghost use Rattle.addr_syntax.specs.Tree.{Tree, tree};
+ghost use Rattle.std.specs.Prelude.{◌≡◌, ◌≤◌, ◌<◌, length, IfOk, IfErr};
+ghost use Rattle.addr_syntax.specs.Tree.{tree};
 ghost use Rattle.addr_syntax.specs.Joined.{Reading, whole};
-ghost use Rattle.addr_syntax.specs.Grammar.{IsAddress, Begins};
+ghost use Rattle.addr_syntax.specs.Grammar.{IsAddress};
 ghost use Rattle.addr_syntax.specs.Answer.{IsInLimits, Refuses, IsStep, StepFails, LimitedFails, IsLimited, IsReadAt, FailsFrom};
 ghost use Rattle.addr_syntax.specs.Read.{Follows, FinishFails};
-ghost use Rattle.addr_syntax.specs.Laws.{SeparatorsJoinLast, SignsJoinFromTheLeft};
 
 use crate::address::{Addr, Limited, SynFault};
 use crate::mark::begins_piece;
@@ -70,7 +69,7 @@ pub fn parse_addr(alloc: Global, text: &[Rune]) -> Result<Addr, SynFault>
 }
 
 // What is built of all that is read.
-fn limited(alloc: Global, progress: Progress, place: usize) -> Result<Limited<Addr>, SynFault>
+fn in_limits(alloc: Global, progress: Progress, place: usize) -> Result<Limited<Addr>, SynFault>
     ensures ok { IfOk result (λ a. (r : Reading) → Follows progress r → IsLimited a (whole r)) }
     ensures err { IfErr result (λ e. (r : Reading) → Follows progress r → LimitedFails place r e) }
 {
@@ -105,25 +104,5 @@ pub fn addr_at(
         progress = next;
         at = end;
     }
-    Ok((limited(alloc, progress, at)?, at))
+    Ok((in_limits(alloc, progress, at)?, at))
 }
-
-/// A text has one tree at most.
-pub fn an_address_has_one_tree()
-    ensures { (text : List ℕ) (a b : Tree) → IsAddress text a → IsAddress text b → a ≡ b }
-{}
-
-/// A separator joins all that stands before it to the row of parts and signs behind it.
-pub fn separators_join_last()
-    ensures { SeparatorsJoinLast }
-{}
-
-/// A sign joins the row of parts and signs before it to the part behind it.
-pub fn signs_join_from_the_left()
-    ensures { SignsJoinFromTheLeft }
-{}
-
-/// A text begins with one address at most, where that is as long as it can be.
-pub fn a_text_begins_with_one_address()
-    ensures { (text rest more : List ℕ) (a b : Tree) → Begins a text rest → Begins b text more → (a ≡ b) × (rest ≡ more) }
-{}

@@ -2,7 +2,7 @@
 
 ghost use Rattle.std.specs.Prelude.{◌≡◌, ◌-◌, true, false, nat_lt, Option, Some, None, IfOk, IfSome, IfNone, if◌then◌else◌};
 ghost use Rattle.addr_syntax.specs.Tree.{Tree, tree, side, tree_of, operators, is_large};
-ghost use Rattle.addr_syntax.specs.Joined.{Reading, Nothing, begin, joined, is_nothing, added, spanned, first_part, with_part, row_tree, whole, join_part, join_sign, join_separator};
+ghost use Rattle.addr_syntax.specs.Joined.{Reading, Nothing, begin, after_piece, is_nothing, by_sign, by_separator, first_part, with_part, row_tree, whole, join_part, join_sign, join_separator};
 ghost use Rattle.addr_syntax.specs.Read.{row_of, reading_of, ending_of, Builds, Follows, IsPart, supplied};
 ghost use Rattle.addr_syntax.specs.Pieces.{Piece};
 ghost use Rattle.addr_syntax.specs.Scan.{IsToken};
@@ -14,7 +14,7 @@ use am_text::NoMemory;
 use std::alloc::Global;
 
 // How many operators an address may have.
-const MOST: usize = 1024;
+const MOST_OPERATORS: usize = 1024;
 
 /// A row of parts and signs so far.
 #[derive(Drop)]
@@ -59,7 +59,7 @@ pub struct Progress {
 }
 
 // A side in a box of its own, where there is one.
-fn boxed(alloc: Global, a: Option<Addr>) -> Result<Option<Box<Addr>>, NoMemory>
+fn in_box(alloc: Global, a: Option<Addr>) -> Result<Option<Box<Addr>>, NoMemory>
     ensures { IfOk result (λ b. side (back-Addr-Plus-0 b) ≡ tree_of a) }
 {
     match a {
@@ -68,27 +68,29 @@ fn boxed(alloc: Global, a: Option<Addr>) -> Result<Option<Box<Addr>>, NoMemory>
     }
 }
 
-fn added(alloc: Global, sign: Sign, a: Option<Addr>, b: Option<Addr>) -> Result<Addr, NoMemory>
-    ensures { IfOk result (λ new. tree new ≡ added sign (tree_of a) (tree_of b)) }
+// The sum or the difference.
+fn by_sign(alloc: Global, sign: Sign, a: Option<Addr>, b: Option<Addr>) -> Result<Addr, NoMemory>
+    ensures { IfOk result (λ new. tree new ≡ by_sign sign (tree_of a) (tree_of b)) }
 {
-    let a = boxed(alloc, a)?;
-    let b = boxed(alloc, b)?;
+    let a = in_box(alloc, a)?;
+    let b = in_box(alloc, b)?;
     match sign {
         Sign::Plus => Ok(Addr::Plus(a, b)),
         Sign::Minus => Ok(Addr::Minus(a, b)),
     }
 }
 
-fn spanned(
+// The span from one side to the other.
+fn by_separator(
     alloc: Global,
     separator: Separator,
     a: Option<Addr>,
     b: Option<Addr>,
 ) -> Result<Addr, NoMemory>
-    ensures { IfOk result (λ new. tree new ≡ spanned separator (tree_of a) (tree_of b)) }
+    ensures { IfOk result (λ new. tree new ≡ by_separator separator (tree_of a) (tree_of b)) }
 {
-    let a = boxed(alloc, a)?;
-    let b = boxed(alloc, b)?;
+    let a = in_box(alloc, a)?;
+    let b = in_box(alloc, b)?;
     match separator {
         Separator::Comma => Ok(Addr::Comma(a, b)),
         Separator::Semi => Ok(Addr::Semi(a, b)),
@@ -105,41 +107,43 @@ fn first_part(part: Addr) -> Addr
     }
 }
 
+// A part more behind a row.
 fn with_part(alloc: Global, row: Row, part: Addr) -> Result<Row, NoMemory>
     ensures { IfOk result (λ new. row_of new ≡ with_part (row_of row) (tree part)) }
 {
     match row {
         Row::Nothing => Ok(Row::Ended(first_part(part))),
-        Row::Signed(a, sign) => Ok(Row::Ended(added(alloc, sign, a, Some(part))?)),
-        Row::Ended(a) => Ok(Row::Ended(added(alloc, Sign::Plus, Some(a), Some(part))?)),
+        Row::Signed(a, sign) => Ok(Row::Ended(by_sign(alloc, sign, a, Some(part))?)),
+        Row::Ended(a) => Ok(Row::Ended(by_sign(alloc, Sign::Plus, Some(a), Some(part))?)),
     }
 }
 
 // The tree of a row, where it has one.
-fn closed(alloc: Global, row: Row) -> Result<Option<Addr>, NoMemory>
+fn row_tree(alloc: Global, row: Row) -> Result<Option<Addr>, NoMemory>
     ensures tree { IfOk result (λ new. tree_of new ≡ row_tree (row_of row)) }
     ensures none { IfOk result (λ new. IfNone new (row_of row ≡ Nothing)) }
 {
     match row {
         Row::Nothing => Ok(None),
-        Row::Signed(a, sign) => Ok(Some(added(alloc, sign, a, None)?)),
+        Row::Signed(a, sign) => Ok(Some(by_sign(alloc, sign, a, None)?)),
         Row::Ended(a) => Ok(Some(a)),
     }
 }
 
-// The tree of both sides, where there is one.
+/// The tree of both sides, where there is one.
 pub fn whole(alloc: Global, sides: Sides) -> Result<Option<Addr>, NoMemory>
     ensures tree { IfOk result (λ new. tree_of new ≡ whole (reading_of sides)) }
     ensures none { IfOk result (λ new. IfNone new (reading_of sides ≡ begin)) }
 {
     let Sides { before, row } = sides;
-    let last = closed(alloc, row)?;
+    let last = row_tree(alloc, row)?;
     match before {
-        Some((a, separator)) => Ok(Some(spanned(alloc, separator, a, last)?)),
+        Some((a, separator)) => Ok(Some(by_separator(alloc, separator, a, last)?)),
         None => Ok(last),
     }
 }
 
+// With a part behind the row.
 fn join_part(alloc: Global, sides: Sides, part: Addr) -> Result<Sides, NoMemory>
     ensures { IfOk result (λ new. reading_of new ≡ join_part (reading_of sides) (tree part)) }
 {
@@ -150,16 +154,18 @@ fn join_part(alloc: Global, sides: Sides, part: Addr) -> Result<Sides, NoMemory>
     })
 }
 
+// With a sign behind the row.
 fn join_sign(alloc: Global, sides: Sides, sign: Sign) -> Result<Sides, NoMemory>
     ensures { IfOk result (λ new. reading_of new ≡ join_sign (reading_of sides) sign) }
 {
     let Sides { before, row } = sides;
     Ok(Sides {
         before,
-        row: Row::Signed(closed(alloc, row)?, sign),
+        row: Row::Signed(row_tree(alloc, row)?, sign),
     })
 }
 
+// With a separator behind the row.
 fn join_separator(alloc: Global, sides: Sides, separator: Separator) -> Result<Sides, NoMemory>
     ensures { IfOk result (λ new. reading_of new ≡ join_separator (reading_of sides) separator) }
 {
@@ -170,7 +176,7 @@ fn join_separator(alloc: Global, sides: Sides, separator: Separator) -> Result<S
 }
 
 // What is built, where there was room for so many operators before so many more.
-fn limited(sides: Sides, room: usize, more: usize) -> Built
+fn within_room(sides: Sides, room: usize, more: usize) -> Built
     ensures { result ≡ (if nat_lt room more then Built.Deep else Built.Whole sides (room - more)) }
 {
     if room < more {
@@ -180,6 +186,7 @@ fn limited(sides: Sides, room: usize, more: usize) -> Built
     }
 }
 
+// How many operators come with a part.
 fn supplied(ending: Ending) -> usize
     ensures { result ≡ supplied ending }
 {
@@ -197,6 +204,7 @@ fn too_large(_built: Built) -> Built
     Built::Large
 }
 
+// Nothing is built of the part.
 fn without(built: Built, _part: Addr) -> Built
     ensures { result ≡ built }
 {
@@ -208,7 +216,7 @@ fn build_small_part(alloc: Global, built: Built, part: Addr, more: usize) -> Res
     ensures { IfOk result (λ new. (r : Reading) → Builds built r → is_large (tree part) ≡ false → operators (tree part) ≡ 0 → more ≡ supplied (ending_of r.row) → Builds new (join_part r (tree part))) }
 {
     match built {
-        Built::Whole(sides, room) => Ok(limited(join_part(alloc, sides, part)?, room, more)),
+        Built::Whole(sides, room) => Ok(within_room(join_part(alloc, sides, part)?, room, more)),
         Built::Deep => Ok(without(Built::Deep, part)),
         Built::Large => Ok(without(Built::Large, part)),
     }
@@ -234,7 +242,7 @@ fn build_sign(alloc: Global, built: Built, sign: Sign) -> Result<Built, NoMemory
     ensures { IfOk result (λ new. (r : Reading) → Builds built r → Builds new (join_sign r sign)) }
 {
     match built {
-        Built::Whole(sides, room) => Ok(limited(join_sign(alloc, sides, sign)?, room, 1)),
+        Built::Whole(sides, room) => Ok(within_room(join_sign(alloc, sides, sign)?, room, 1)),
         Built::Deep => Ok(Built::Deep),
         Built::Large => Ok(Built::Large),
     }
@@ -245,7 +253,7 @@ fn build_separator(alloc: Global, built: Built, separator: Separator) -> Result<
 {
     match built {
         Built::Whole(sides, room) => {
-            Ok(limited(join_separator(alloc, sides, separator)?, room, 1))
+            Ok(within_room(join_separator(alloc, sides, separator)?, room, 1))
         }
         Built::Deep => Ok(Built::Deep),
         Built::Large => Ok(Built::Large),
@@ -316,8 +324,8 @@ fn with_begins(alloc: Global, progress: Progress, part: Addr) -> Result<Option<P
 
 /// What is read with one token more; `None` where no address goes on so.
 pub fn join(alloc: Global, progress: Progress, token: Token) -> Result<Option<Progress>, NoMemory>
-    ensures some { IfOk result (λ o. IfSome o (λ new. (r : Reading) (p : Piece) → Follows progress r → IsToken token p → (s : Reading) × (joined r p ≡ Some s) × Follows new s)) }
-    ensures none { IfOk result (λ o. IfNone o ((r : Reading) (p : Piece) → Follows progress r → IsToken token p → joined r p ≡ None)) }
+    ensures some { IfOk result (λ o. IfSome o (λ new. (r : Reading) (p : Piece) → Follows progress r → IsToken token p → (s : Reading) × (after_piece r p ≡ Some s) × Follows new s)) }
+    ensures none { IfOk result (λ o. IfNone o ((r : Reading) (p : Piece) → Follows progress r → IsToken token p → after_piece r p ≡ None)) }
 {
     match token {
         Token::Begins(part) => with_begins(alloc, progress, part),
@@ -338,7 +346,7 @@ pub fn begin() -> Progress
                 before: None,
                 row: Row::Nothing,
             },
-            MOST,
+            MOST_OPERATORS,
         ),
     }
 }

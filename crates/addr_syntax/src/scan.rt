@@ -6,14 +6,15 @@ ghost use Rattle.am_text.specs.Number.{number_after};
 ghost use Rattle.addr_syntax.specs.Scan.{IsNumberAt, NumberFails, body_length, IsExpressionAt, ExpressionFails};
 
 use crate::address::SynFault;
-use am_text::Rune;
+use am_text::{BACKSLASH, DIGIT_0, DIGIT_9, Rune};
 use re_syntax::{Re, ReFault, parse_re};
 use std::alloc::Global;
 
+// The rune is a decimal digit.
 fn is_digit(c: Rune) -> bool
     ensures { result ≡ is_ascii_digit c }
 {
-    48 <= c && c <= 57
+    DIGIT_0 <= c && c <= DIGIT_9
 }
 
 // The number with one digit more; `None` where that is no digit, and where the number is too large.
@@ -24,11 +25,11 @@ fn with_digit(n: u64, c: Rune) -> Option<u64>
     if !is_digit(c) {
         return None;
     }
-    n.checked_mul(10)?.checked_add(u64::from(c - 48))
+    n.checked_mul(10)?.checked_add(u64::from(c - DIGIT_0))
 }
 
 // The number that ends at a place, where a digit of it stands before that and none there.
-fn ended(n: u64, from: usize, at: usize, is_digit: bool) -> Result<(u64, usize), SynFault>
+fn number_to(n: u64, from: usize, at: usize, is_digit: bool) -> Result<(u64, usize), SynFault>
     ensures { result ≡ (if (from == at) || is_digit then Err (SynFault.Bad at) else Ok (n, at)) }
 {
     if from == at || is_digit {
@@ -51,10 +52,10 @@ pub fn number(text: &[Rune], from: usize) -> Result<(u64, usize), SynFault>
         let c = text[at];
         match with_digit(n, c) {
             Some(more) => n = more,
-            None => return ended(n, from, at, is_digit(c)),
+            None => return number_to(n, from, at, is_digit(c)),
         }
     }
-    ended(n, from, text.len(), false)
+    number_to(n, from, text.len(), false)
 }
 
 /// The place of the first delimiter behind no backslash, or the end of the text.
@@ -70,7 +71,7 @@ pub fn delimiter_at(text: &[Rune], from: usize, delimiter: Rune) -> usize
         } else if delimiter == c {
             return at;
         } else {
-            escaped = c == 92;
+            escaped = c == BACKSLASH;
         }
     }
     text.len()

@@ -8,7 +8,7 @@ use crate::address::{Addr, SynFault};
 use crate::mark::{Mark, mark_of};
 use crate::reading::Token;
 use crate::scan::{expression, number};
-use am_text::Rune;
+use am_text::{QUESTION, Rune, SLASH};
 use re_syntax::Re;
 use std::alloc::Global;
 
@@ -34,6 +34,7 @@ fn rune(text: &[Rune], at: usize) -> Result<(Token, usize), SynFault>
     Ok((Token::Stands(Some(Addr::Char(n))), end))
 }
 
+// The part of an expression that is searched for forward.
 fn forward_of(re: Option<Re>) -> Option<Addr>
     ensures { result ≡ forward_of re }
 {
@@ -43,6 +44,7 @@ fn forward_of(re: Option<Re>) -> Option<Addr>
     }
 }
 
+// The part of one that is searched for backward.
 fn backward_of(re: Option<Re>) -> Option<Addr>
     ensures { result ≡ backward_of re }
 {
@@ -59,24 +61,25 @@ fn behind(text: &[Rune], end: usize) -> usize
     if end < text.len() { end + 1 } else { end }
 }
 
-// The search whose expression begins behind this place.
+// The search forward whose expression begins behind this place.
 fn forward(alloc: Global, text: &[Rune], at: usize) -> Result<(Token, usize), SynFault>
     requires within { at < length text.now }
     requires slash { mark_of (slice_index text.now at) ≡ Mark.Slash }
     ensures ok { IfOk result (λ a. IsTokenAt text.now at a.0 a.1) }
     ensures err { IfErr result (PieceFails text.now at) }
 {
-    let (re, end) = expression(alloc, text, at + 1, 47)?;
+    let (re, end) = expression(alloc, text, at + 1, SLASH)?;
     Ok((Token::Stands(forward_of(re)), behind(text, end)))
 }
 
+// The search backward whose expression begins behind this place.
 fn backward(alloc: Global, text: &[Rune], at: usize) -> Result<(Token, usize), SynFault>
     requires within { at < length text.now }
     requires query { mark_of (slice_index text.now at) ≡ Mark.Query }
     ensures ok { IfOk result (λ a. IsTokenAt text.now at a.0 a.1) }
     ensures err { IfErr result (PieceFails text.now at) }
 {
-    let (re, end) = expression(alloc, text, at + 1, 63)?;
+    let (re, end) = expression(alloc, text, at + 1, QUESTION)?;
     Ok((Token::Stands(backward_of(re)), behind(text, end)))
 }
 

@@ -8,6 +8,7 @@ pub record CallLog : Type 0 where
   pub made : ℕ
   pub faults : ℕ
 
+-- no call was made, and those of these numbers will fail
 abbrev pub no_calls : List ℕ → CallLog
 no_calls numbers = record { fail_at = numbers; made = 0; faults = 0 }
 
@@ -37,10 +38,12 @@ pub record SourceState : Type 0 where
 abbrev pub read_count : SourceState → ℕ → Option ℕ
 read_count s room = if fails_next s.calls then None else Some (min (min (length s.left) room) s.piece)
 
+-- a source after a read, which gave so many bytes or failed
 abbrev pub after_read : SourceState → Option ℕ → SourceState
 after_read s None = record s { calls = after_call s.calls true }
 after_read s (Some n) = record s { left = drop n s.left; calls = after_call s.calls false }
 
+-- a source whose faults weren't counted yet
 abbrev pub begun_source : SourceState → SourceState
 begun_source s = record s { calls = begun_calls s.calls }
 
@@ -51,6 +54,7 @@ pub record SinkState : Type 0 where
   pub piece : ℕ
   pub calls : CallLog
 
+-- whether a sink has no room
 abbrev pub is_full : SinkState → Bool
 is_full s = nat_le s.room (length s.held)
 
@@ -58,10 +62,12 @@ is_full s = nat_le s.room (length s.held)
 abbrev pub write_count : SinkState → ℕ → Option ℕ
 write_count s len = if fails_next s.calls || is_full s then None else Some (min (min len s.piece) (s.room - length s.held))
 
+-- a sink after a write, which took so many bytes or failed
 abbrev pub after_write : SinkState → List ℕ → Option ℕ → SinkState
 after_write s bytes None = record s { calls = after_call s.calls true }
 after_write s bytes (Some n) = record s { held = s.held ++ take n bytes; calls = after_call s.calls false }
 
+-- a sink whose faults weren't counted yet
 abbrev pub begun_sink : SinkState → SinkState
 begun_sink s = record s { held = []; calls = begun_calls s.calls }
 
@@ -76,10 +82,12 @@ pub record LinkState : Type 0 where
 abbrev pub halves_of : LinkState → Option (SourceState × SinkState)
 halves_of l = if l.fails then None else option_map (λ h. (begun_source h.0, begun_sink h.1)) l.halves
 
+-- a link after it gave its halves, or failed to
 abbrev pub after_halves : LinkState → Option (SourceState × SinkState) → LinkState
 after_halves l None = record l { faults = one_more l.faults }
 after_halves l (Some h) = record l { halves = None }
 
+-- a link whose faults weren't counted yet
 abbrev pub begun_link : LinkState → LinkState
 begun_link l = record l { faults = 0 }
 
@@ -91,6 +99,7 @@ pub record GateState : Type 0 where
   pub fails : Bool
   pub faults : ℕ
 
+-- what a gate is called
 abbrev pub name_of : GateState → List ℕ × ℕ
 name_of g = (g.path, g.slot)
 
@@ -98,10 +107,12 @@ name_of g = (g.path, g.slot)
 abbrev pub link_of : GateState → Option LinkState
 link_of g = if g.fails then None else option_map begun_link g.link
 
+-- a gate after a link was taken, or none
 abbrev pub after_accept : GateState → Option LinkState → GateState
 after_accept g None = record g { faults = one_more g.faults }
 after_accept g (Some l) = record g { link = None }
 
+-- a gate whose faults weren't counted yet
 abbrev pub begun_gate : GateState → GateState
 begun_gate g = record g { faults = 0 }
 
@@ -122,6 +133,7 @@ place_of h path slot = if fails_next h.calls then None else position (is_gate_of
 abbrev pub gate_of : HostState → List ℕ → ℕ → Option GateState
 gate_of h path slot = option_map begun_gate (option_and_then (slice_get h.gates) (place_of h path slot))
 
+-- a host after a gate was made, or none
 abbrev pub after_bind : HostState → Option ℕ → HostState
 after_bind h None = record h { calls = after_call h.calls true }
 after_bind h (Some at) = record h { gates = remove h.gates at; calls = after_call h.calls false }
@@ -143,5 +155,6 @@ abbrev pub gates_without : List GateState → Option ℕ → List GateState
 gates_without gates None = gates
 gates_without gates (Some at) = remove gates at
 
+-- a host after a dialling
 abbrev pub after_dial : HostState → List ℕ → HostState
 after_dial h path = record h { gates = gates_without h.gates (dialled_place h path); calls = after_call h.calls (is_none (dialled h path)) }

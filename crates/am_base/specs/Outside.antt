@@ -6,6 +6,7 @@ pub record BytesTold : Type 0 where
   pub bytes : Option (List ℕ)
   pub faults : ℕ
 
+-- what an object tells of its bytes and its faults
 abbrev pub bytes_told : Option (List ℕ) → ℕ → BytesTold
 bytes_told bytes faults = record { bytes = bytes; faults = faults }
 

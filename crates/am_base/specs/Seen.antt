@@ -7,6 +7,7 @@ pub record Seen : Type 0 where
   pub before : BytesTold
   pub now : BytesTold
 
+-- what was told before a call, and what is told now
 abbrev pub seen : BytesTold → BytesTold → Seen
 seen before now = record { before = before; now = now }
 
@@ -16,5 +17,6 @@ pub record Given : Type 0 where
   pub host_faults : ℕ
   pub host_faults_now : ℕ
 
+-- what an input told before and tells now, and the counts of faults
 abbrev pub given : BytesTold → BytesTold → ℕ → ℕ → Given
 given before now host_faults host_faults_now = record { input = seen before now; host_faults = host_faults; host_faults_now = host_faults_now }

@@ -8,6 +8,10 @@ use Rattle.am_base.specs.declared.reading.ReadStop.TheVariants.{ReadFault, TooLo
 abbrev pub input_limit : ℕ
 input_limit = 16777216
 
+-- the most bytes that one read of a source asks for
+abbrev pub piece_limit : ℕ
+piece_limit = 8192
+
 -- Why reading stopped: the count of faults has risen; limit + 1 bytes were read, so that more than the limit were told;
 -- want of memory shows nothing.
 abbrev pub StopsFor : ReadStop → BytesTold → BytesTold → ℕ → Type 0

@@ -23,7 +23,7 @@ pub use mem_link::MemLink;
 pub use mem_sink::MemSink;
 pub use mem_source::MemSource;
 pub use never_fails::NeverFails;
-pub use reading::{INPUT_LIMIT, ReadStop, read_to_end};
+pub use reading::{INPUT_LIMIT, PIECE_LIMIT, ReadStop, read_to_end};
 pub use sink::{Sink, write_all};
 pub use source::{Failed, Source};
 pub use streams::{InputSource, OutputSink};

@@ -43,8 +43,8 @@ impl From<am_text::NoMemory> for ReadStop {
 /// The most bytes that a program's input has, a transcript or a script.
 pub const INPUT_LIMIT: usize = 16777216;
 
-/// How many bytes one read asks for at most.
-const PIECE: usize = 8192;
+/// The most bytes that one read of a source asks for.
+pub const PIECE_LIMIT: usize = 8192;
 
 /// All the bytes to the end, where they are at most `limit`. It never reads more than one byte
 /// beyond the limit. What was read before a refusal is lost.
@@ -63,9 +63,9 @@ pub fn read_to_end<S: Source>(
 {
     let mut bytes = Items::new(alloc);
     let mut room = limit;
-    let mut buf = [0; PIECE];
+    let mut buf = [0; PIECE_LIMIT];
     'pieces: loop {
-        let most = PIECE.min(room.saturating_add(1));
+        let most = PIECE_LIMIT.min(room.saturating_add(1));
         let n = source.read(&mut buf[..most])?;
         if n == 0 {
             return Ok(bytes);

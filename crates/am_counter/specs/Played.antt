@@ -24,6 +24,7 @@ IsPlayed enabled journal = ArePlayed enabled [] journal
 
 -- ---- connections
 
+-- whether an event is the dialling of this connection
 abbrev pub is_dial_of : ℕ → Event → Bool
 is_dial_of conn (event.Dial c) = c == conn
 is_dial_of conn (event.Msg c msg) = false
@@ -38,6 +39,7 @@ is_dial_of conn (event.Look at) = false
 is_dial_of conn (event.File path text) = false
 is_dial_of conn (event.Dir path) = false
 
+-- whether an event is the end of this connection
 abbrev pub is_hang_of : ℕ → Event → Bool
 is_hang_of conn (event.Dial c) = false
 is_hang_of conn (event.Msg c msg) = false
@@ -56,11 +58,13 @@ is_hang_of conn (event.Dir path) = false
 abbrev pub has_dial : List Event → ℕ → Bool
 has_dial journal conn = list_any (is_dial_of conn) journal
 
+-- whether a connection has ended in a journal
 abbrev pub has_hang : List Event → ℕ → Bool
 has_hang journal conn = list_any (is_hang_of conn) journal
 
 -- ---- refusals
 
+-- whether an event is the end of a connection
 abbrev pub is_hang : Event → Bool
 is_hang (event.Dial c) = false
 is_hang (event.Msg c msg) = false
@@ -75,9 +79,11 @@ is_hang (event.Look at) = false
 is_hang (event.File path text) = false
 is_hang (event.Dir path) = false
 
+-- an event is the end of a connection
 abbrev pub IsHang : Event → Type 0
 IsHang e = is_hang e ≡ true
 
+-- an event was refused for a reason, and not for want of memory
 abbrev pub IsWhy : Refused → Type 0
 IsWhy (NotEnabled why) = Unit {0}
 IsWhy NoMemory = ⊥

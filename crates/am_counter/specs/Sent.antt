@@ -3,6 +3,7 @@ use Rattle.std.specs.Prelude.{ℕ, ◌==◌, List, [], ◌∷◌, ◌++◌, if�
 use Rattle.am_journal.specs.declared.event.Event.{Event}
 use Rattle.am_journal.specs.declared.event.Event.TheVariants as event
 
+-- what an event sends to a connection
 abbrev pub sent_by : (List Event → ℕ → List ℕ) → ℕ → List Event → Event → List ℕ
 sent_by unsent conn before (event.Dial c) = []
 sent_by unsent conn before (event.Msg c msg) = []

@@ -10,6 +10,7 @@ ghost use Rattle.am_counter.specs.Played.{IsPlayed};
 ghost use Rattle.am_counter.specs.Telling.{with_told};
 ghost use Rattle.acme_core.specs.Asks.{answer_at};
 ghost use Rattle.acme_core.specs.Run.{enabled, output_at, settled, Refuses, IsHang, IsWhy};
+ghost use Rattle.am_journal.specs.Limits.{connection_count};
 ghost use Rattle.am_desk.specs.Knowing.{nothing_taken};
 ghost use Rattle.am_desk.specs.Ranged.{ranged-prop};
 ghost use Rattle.am_desk.specs.Replies.{told_by};
@@ -133,7 +134,7 @@ impl Settled {
 
     // Takes the unsent replies of one of the connections that there are.
     fn take_within(&mut self, conn: u32, into: &mut Bytes) -> Result<Taken, NoMemory>
-        requires { conn < 64 }
+        requires { conn < connection_count }
         ensures played { IsPlayed enabled (journal_of self.new) }
         ensures bytes { result ≡ Ok taken.Bytes → (journal_of self.new ≡ journal_of self.old ++ Took conn ∷ [])
             × (enabled (journal_of self.old) (Took conn) ≡ None)

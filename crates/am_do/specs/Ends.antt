@@ -25,6 +25,7 @@ pub record Peer (L S K : Type 0) : Type 0 where
   pub source : S → BytesTold
   pub sink : K → BytesTold
 
+-- the peer that tells so
 abbrev pub peer : {L S K : Type 0} → (L → LinkTold) → (S → BytesTold) → (K → BytesTold) → Peer L S K
 peer link source sink = record { link = link; source = source; sink = sink }
 
@@ -61,6 +62,7 @@ module _ {L S K : Type 0} where
     pub nothing : d ≡ unlinked end.Script
     pub put : IsPut o (refused_text line word)
 
+  -- a line is refused with this word, or there was no memory to say so
   abbrev pub Refuses : ℕ → List ℕ → Seen → Doing L S K → Type 0
   Refuses line word o d = IsRefused line word o d ⊎ IsIdle end.NoMemory o d
 

@@ -1,3 +1,4 @@
+pub mod Limits
 pub mod Talks
 pub mod Sorting
 pub mod Went

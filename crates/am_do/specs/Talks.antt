@@ -3,6 +3,7 @@ use Rattle.std.specs.Prelude.{ℕ, ◌&&◌, List, [], ◌∷◌, ◌++◌, leng
 use Rattle.std.specs.List.{flat_map}
 use Rattle.std.specs.Fmt.{decimal}
 use Rattle.std.specs.Str.{bytes_eq}
+use Rattle.am_text.specs.Ascii.{newline}
 use Rattle.am_text.specs.Lines.{escaped}
 use Rattle.am_text.specs.Utf8.{decode}
 use Rattle.ninep_types.specs.declared.fault.WireFault.TheVariants.{Size}
@@ -10,6 +11,7 @@ use Rattle.ninep_types.specs.declared.message.TBody.{TBody}
 use Rattle.ninep_types.specs.declared.message.TBody.TheVariants as t
 use Rattle.ninep_types.specs.declared.message.RBody.{RBody}
 use Rattle.ninep_types.specs.declared.message.RBody.TheVariants as r
+use Rattle.ninep_types.specs.Limits.{max_msize, min_msize, no_fid, version_name}
 use Rattle.ninep_types.specs.Spelling.{size_t}
 use Rattle.ninep_cut.specs.declared.cut.Cut.{Cut}
 use Rattle.ninep_cut.specs.declared.cut.Cut.TheVariants.{Whole, More, Broken}
@@ -19,6 +21,7 @@ use Rattle.ninep_client.specs.declared.fault.CallFault.TheVariants as fault
 use Rattle.ninep_client.specs.Alone.{spelled, reply_to}
 use Rattle.do_lines.specs.declared.line.DoLine.{DoLine}
 use Rattle.do_lines.specs.declared.line.DoLine.TheVariants as line
+use Rattle.am_do.specs.Limits.{asked_msize}
 
 -- What came of a part of a talk: a value, with the bytes behind the messages that were read; the next reply isn't there whole; the
 -- next message, or its size, is at fault; the server doesn't take the talk.
@@ -35,6 +38,7 @@ pub record Told (A : Type 0) : Type 0 where
   pub got : Got A
 
 module _ {A B : Type 0} where
+  -- goes on with a value, where there is one
   abbrev pub then_got : List ℕ → List ℕ → Got A → (A → List ℕ → Told B) → Told B
   then_got sent text (Value a rest) go = record { sent = sent ++ (go a rest).sent; text = text ++ (go a rest).text; got = (go a rest).got }
   then_got sent text Lacks go = record { sent = sent; text = text; got = Lacks }
@@ -53,6 +57,7 @@ gives a bytes = record { sent = []; text = []; got = Value a bytes }
 abbrev pub says : List ℕ → List ℕ → Told (Unit {0})
 says text bytes = record { sent = []; text = text; got = Value tt bytes }
 
+-- the server doesn't take the talk
 abbrev pub refuses : {A : Type 0} → Told A
 refuses = record { sent = []; text = []; got = Refused }
 
@@ -62,6 +67,7 @@ refuses = record { sent = []; text = []; got = Refused }
 abbrev pub Reply : Type 0
 Reply = Result RBody (List ℕ)
 
+-- a reply, or why there is none
 abbrev pub reply_got : Result RBody CallFault → List ℕ → Got Reply
 reply_got (Ok reply) rest = Value (Ok reply) rest
 reply_got (Err (fault.Remote text)) rest = Value (Err text) rest
@@ -77,6 +83,7 @@ reply_got (Err (fault.Unasked n)) rest = Faulty (fault.Unasked n)
 reply_got (Err (fault.Kind kind)) rest = Faulty (fault.Kind kind)
 reply_got (Err fault.NoMemory) rest = Faulty fault.NoMemory
 
+-- the reply that stands at the front, by its cut
 abbrev pub front_got : Cut → TBody → List ℕ → Got Reply
 front_got Whole body bytes = reply_got (reply_to body (first_of bytes)) (behind_first bytes)
 front_got More body bytes = Lacks
@@ -90,23 +97,29 @@ asks most body bytes =
 
 -- ---- the lines that are written
 
+-- bytes as a text in one line
 abbrev pub shown : List ℕ → List ℕ
 shown bytes = flat_map escaped (decode bytes)
 
+-- the answer that all went well
 unfoldable pub ok_line : List ℕ
-ok_line = codes "ok" ++ 10 ∷ []
+ok_line = codes "ok" ++ newline ∷ []
 
+-- the answer of a write: how many bytes were written
 unfoldable pub count_line : ℕ → List ℕ
-count_line count = codes "ok " ++ (decimal count ++ 10 ∷ [])
+count_line count = codes "ok " ++ (decimal count ++ newline ∷ [])
 
+-- the answer of a read: the bytes
 unfoldable pub data_line : List ℕ → List ℕ
-data_line bytes = codes "data :" ++ (shown bytes ++ 10 ∷ [])
+data_line bytes = codes "data :" ++ (shown bytes ++ newline ∷ [])
 
+-- the answer of what the server refused
 unfoldable pub error_line : List ℕ → List ℕ
-error_line text = codes "error :" ++ (shown text ++ 10 ∷ [])
+error_line text = codes "error :" ++ (shown text ++ newline ∷ [])
 
 -- ---- what replies hold; one of another type never comes
 
+-- how many names a walk went
 abbrev pub walked : RBody → ℕ
 walked (r.Walk qids) = length qids
 walked (r.Version msize version) = 0
@@ -123,6 +136,7 @@ walked r.Remove = 0
 walked (r.Stat stat) = 0
 walked r.Wstat = 0
 
+-- the bytes that were read
 abbrev pub data_in : RBody → List ℕ
 data_in (r.Read bytes) = bytes
 data_in (r.Version msize version) = []
@@ -139,6 +153,7 @@ data_in r.Remove = []
 data_in (r.Stat stat) = []
 data_in r.Wstat = []
 
+-- how many bytes were written
 abbrev pub written : RBody → ℕ
 written (r.Write count) = count
 written (r.Version msize version) = 0
@@ -157,14 +172,17 @@ written r.Wstat = 0
 
 -- ---- one line
 
+-- the line that answers a reply which holds nothing
 abbrev pub ok_or_error : Reply → List ℕ
 ok_or_error (Ok reply) = ok_line
 ok_or_error (Err text) = error_line text
 
+-- the line that answers the reply to a read
 abbrev pub read_answer : Reply → List ℕ
 read_answer (Ok reply) = data_line (data_in reply)
 read_answer (Err text) = error_line text
 
+-- the line that answers the reply to a write
 abbrev pub write_answer : Reply → List ℕ
 write_answer (Ok reply) = count_line (written reply)
 write_answer (Err text) = error_line text
@@ -173,6 +191,7 @@ write_answer (Err text) = error_line text
 unfoldable pub back_told : ℕ → ℕ → List ℕ → List ℕ → Told (Unit {0})
 back_told most fid text bytes = and_then (asks most (t.Clunk fid) bytes) (λ _ rest. says (error_line text) rest)
 
+-- behind the reply to a Topen: a refusal frees the fid
 abbrev pub after_open : ℕ → ℕ → Reply → List ℕ → Told (Unit {0})
 after_open most fid (Ok reply) bytes = says ok_line bytes
 after_open most fid (Err text) bytes = back_told most fid text bytes
@@ -192,12 +211,15 @@ after_walk most fid names mode (Err text) bytes = says (error_line text) bytes
 unfoldable pub walk_told : ℕ → ℕ → List (List ℕ) → ℕ → List ℕ → Told (Unit {0})
 walk_told most fid names mode bytes = and_then (asks most (t.Walk 0 fid names) bytes) (after_walk most fid names mode)
 
+-- what a line `read` asks and answers
 unfoldable pub read_told : ℕ → ℕ → ℕ → ℕ → List ℕ → Told (Unit {0})
 read_told most fid offset count bytes = and_then (asks most (t.Read fid offset count) bytes) (λ reply rest. says (read_answer reply) rest)
 
+-- what a line `write` asks and answers
 unfoldable pub write_told : ℕ → ℕ → ℕ → List ℕ → List ℕ → Told (Unit {0})
 write_told most fid offset text bytes = and_then (asks most (t.Write fid offset text) bytes) (λ reply rest. says (write_answer reply) rest)
 
+-- what a line `close` asks and answers
 unfoldable pub close_told : ℕ → ℕ → List ℕ → Told (Unit {0})
 close_told most fid bytes = and_then (asks most (t.Clunk fid) bytes) (λ reply rest. says (ok_or_error reply) rest)
 
@@ -212,7 +234,7 @@ line_told most (line.Close fid) = close_told most fid
 
 -- the most bytes of a message on which both agree
 abbrev pub agreed_in : RBody → Option ℕ
-agreed_in (r.Version msize version) = if bytes_eq version (codes "9P2000") && (nat_le 256 msize && nat_le msize 8192) then Some msize else None
+agreed_in (r.Version msize version) = if bytes_eq version version_name && (nat_le min_msize msize && nat_le msize asked_msize) then Some msize else None
 agreed_in (r.Auth aqid) = None
 agreed_in (r.Error text) = None
 agreed_in r.Flush = None
@@ -227,31 +249,36 @@ agreed_in r.Remove = None
 agreed_in (r.Stat stat) = None
 agreed_in r.Wstat = None
 
+-- the most bytes of a message on which a reply agrees
 abbrev pub agreed : Reply → Option ℕ
 agreed (Ok reply) = agreed_in reply
 agreed (Err text) = None
 
+-- behind the reply to a Tattach
 abbrev pub after_attach : ℕ → Reply → List ℕ → Told ℕ
 after_attach most (Ok reply) bytes = gives most bytes
 after_attach most (Err text) bytes = refuses
 
 -- the root of a tree is attached as fid 0, without authentication
 abbrev pub attach_of : List ℕ → TBody
-attach_of tree = t.Attach 0 4294967295 (codes "acmefs") tree
+attach_of tree = t.Attach 0 no_fid (codes "acmefs") tree
 
+-- what the attaching of a tree asks
 unfoldable pub attach_told : ℕ → List ℕ → List ℕ → Told ℕ
 attach_told most tree bytes = and_then (asks most (attach_of tree) bytes) (after_attach most)
 
+-- a tree is attached where the version was agreed on
 abbrev pub attached : List ℕ → Option ℕ → List ℕ → Told ℕ
 attached tree None bytes = refuses
 attached tree (Some most) bytes = attach_told most tree bytes
 
+-- behind the reply to a Tversion
 abbrev pub after_version : List ℕ → Reply → List ℕ → Told ℕ
 after_version tree reply bytes = attached tree (agreed reply) bytes
 
 -- the version is agreed on, and the root of a tree is attached as fid 0
 unfoldable pub begins : List ℕ → List ℕ → Told ℕ
-begins tree bytes = and_then (asks 65560 (t.Version 8192 (codes "9P2000")) bytes) (after_version tree)
+begins tree bytes = and_then (asks max_msize (t.Version asked_msize version_name) bytes) (after_version tree)
 
 -- ---- all lines
 

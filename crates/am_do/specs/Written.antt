@@ -17,11 +17,12 @@ pub record Wrote (failed : Bool) (o : Seen) (text : List ℕ) : Type 0 where
   pub holds : Holds failed o text
   pub later : o.before.faults ≤ o.now.faults
 
--- what putting a text does, by whether the output failed before and fails now
+-- nothing was put, and no fault was counted
 pub record IsSame (o : Seen) : Type 0 where
   pub held : o.now.bytes ≡ o.before.bytes
   pub faults : o.now.faults ≡ o.before.faults
 
+-- what putting a text does, by whether the output failed before and fails now
 abbrev pub Put : Bool → Bool → Seen → List ℕ → Type 0
 Put true true o text = IsSame o
 Put true false o text = ⊥

@@ -1,6 +1,7 @@
 //! The version and the tree.
 
 ghost use Rattle.std.specs.Prelude.{◌≡◌, ◌≤◌, [], IfOk, IfErr, OnOk};
+ghost use Rattle.ninep_types.specs.Limits.{max_msize};
 ghost use Rattle.ninep_types.specs.Spelling.{IsString};
 ghost use Rattle.ninep_client.specs.Asking.{MaySend};
 ghost use Rattle.am_do.specs.Talks.{attach_of, attach_told, begins, agreed};
@@ -12,18 +13,11 @@ use crate::stop::Stop;
 use am_base::{Sink, Source};
 use am_text::{Items, NoMemory};
 use ninep_client::{CallFault, Client, RBody, TBody, version_message};
+use ninep_types::{MIN_MSIZE, NO_FID, VERSION_NAME};
 use std::alloc::Global;
 
-// The version that is spoken.
-const VERSION: &[u8] = b"9P2000";
-
-// The most bytes of a message that is asked for, and the fewest that are taken.
-const MOST: u32 = 8192;
-
-const FEWEST: u32 = 256;
-
-// No fid.
-const NO_FID: u32 = 4294967295;
+// The most bytes of a message that is asked for.
+const ASKED_MSIZE: u32 = 8_192;
 
 // The user.
 const USER: &[u8] = b"acmefs";
@@ -34,7 +28,7 @@ fn agreed(reply: &Reply) -> Option<u32>
 {
     match reply {
         Ok(RBody::Version { msize, version }) => {
-            if version.as_slice() == VERSION && FEWEST <= *msize && *msize <= MOST {
+            if version.as_slice() == VERSION_NAME && MIN_MSIZE <= *msize && *msize <= ASKED_MSIZE {
                 Some(*msize)
             } else {
                 None
@@ -94,7 +88,7 @@ pub(crate) fn begin<R: Source, W: Sink>(
     tree: &[u8],
 ) -> Result<(), Stop>
     requires ready { IsReady client.old.talk }
-    requires most { client.old.talk.msize ≡ 65560 }
+    requires most { client.old.talk.msize ≡ max_msize }
     requires tree { IsString tree.now }
     ensures ok { OnOk result (Went (begins tree.now) client.old.talk client.new.talk
         (W.told client.old.sink).bytes (W.told client.new.sink).bytes (R.told client.old.source).bytes (R.told client.new.source).bytes [] client.new.talk.msize) }
@@ -105,7 +99,7 @@ pub(crate) fn begin<R: Source, W: Sink>(
     ensures later_sink { (W.told client.old.sink).faults ≤ (W.told client.new.sink).faults }
     ensures later_source { (R.told client.old.source).faults ≤ (R.told client.new.source).faults }
 {
-    let Ok(message) = version_message(alloc, MOST) else {
+    let Ok(message) = version_message(alloc, ASKED_MSIZE) else {
         return Err(Stop::Fault(CallFault::NoMemory));
     };
     match ask(alloc, client, message) {

@@ -2,6 +2,7 @@
 
 ghost use Rattle.std.specs.Prelude.{◌≡◌, ◌≤◌, [], length, IfOk, IfErr, OnOk};
 ghost use Rattle.ninep_types.specs.Spelling.{AreNames};
+ghost use Rattle.do_lines.specs.Limits.{most_bytes};
 ghost use Rattle.do_lines.specs.Lawful.{IsLawful};
 ghost use Rattle.am_do.specs.Sorting.{said_as};
 ghost use Rattle.am_do.specs.Talks.{line_told, back_told, open_told, walk_told, read_told, write_told, close_told};
@@ -154,7 +155,7 @@ fn write<R: Source, W: Sink>(
     bytes: Bytes,
 ) -> Result<Bytes, Stop>
     requires ready { IsReady client.old.talk }
-    requires few { length bytes ≤ 8000 }
+    requires few { length bytes ≤ most_bytes }
     ensures ok { IfOk result (λ text. Went (write_told client.old.talk.msize fid offset bytes) client.old.talk client.new.talk
         (W.told client.old.sink).bytes (W.told client.new.sink).bytes (R.told client.old.source).bytes (R.told client.new.source).bytes text tt) }
     ensures ready { OnOk result (IsReady client.new.talk) }

@@ -14,8 +14,9 @@ use Rattle.acme_tree.specs.Trees.{qid_of}
 use Rattle.core_intents.specs.Doings.{enabled_at}
 use Rattle.acme_core.specs.Run.{step}
 use Rattle.core_intents.specs.States.{State, present, start}
+use Rattle.ninep_types.specs.Limits.{no_tag}
 use Rattle.am_drill.specs.Brief.{IsBrief}
-use Rattle.am_drill.specs.Drill.{notag, opening}
+use Rattle.am_drill.specs.Drill.{opening}
 use Rattle.am_drill.proofs.Calm.{CanDoAll, room, none_brief, one_brief}
 use Rattle.am_drill.proofs.Opening.{Begun, told, dialed, version, attach, walk_body, open_body, walk_event, open_event, dial_step, version_step, attach_step, walk_body_step, open_body_step, walk_event_step, open_event_step, version_lawful, attach_lawful, walk_body_lawful, walk_event_lawful, open_lawful, facts_of}
 use Rattle.am_drill.proofs.Standing.{standing}
@@ -33,7 +34,7 @@ goes_on s t e es runes unsent lawful allowed is brief rest = record {
 -- ---- the replies
 
 abbrev pub after_version : Begun
-after_version = told dialed notag (r.Version 8192 (codes "9P2000"))
+after_version = told dialed no_tag (r.Version 8192 (codes "9P2000"))
 
 abbrev pub after_attach : Begun
 after_attach = told after_version 1 (r.Attach (qid_of Root))
@@ -60,7 +61,7 @@ pub opening_goes : Goes 0 6 start opening
 unfolding qid_of
 opening_goes =
     goes_on start _ (event.Dial 0) _ 0 6 (omega arith) refl dial_step none_brief
-    (goes_on _ _ version _ 0 6 version_lawful (room 0 (omega arith)) (version_step dialed) (brief_of notag (r.Version 8192 (codes "9P2000")) 19 refl (omega arith))
+    (goes_on _ _ version _ 0 6 version_lawful (room 0 (omega arith)) (version_step dialed) (brief_of no_tag (r.Version 8192 (codes "9P2000")) 19 refl (omega arith))
     (goes_on _ _ attach _ 0 6 attach_lawful (room 1 (omega arith)) (attach_step after_version) (brief_of 1 (r.Attach (qid_of Root)) 20 refl (omega arith))
     (goes_on _ _ walk_body _ 0 6 walk_body_lawful (room 2 (omega arith)) (walk_body_step after_attach) (brief_of 2 (r.Walk (qid_of NewDir ∷ qid_of (File 1 file.Body) ∷ [])) 35 refl (omega arith))
     (goes_on _ _ open_body _ 0 6 (open_lawful 1 2) (room 3 (omega arith)) (open_body_step after_walk) (brief_of 3 (r.Open (qid_of (File 1 file.Body)) 0) 24 refl (omega arith))

@@ -42,7 +42,8 @@ use Rattle.core_outputs.specs.declared.reply.Reply.{Reply}
 use Rattle.acme_core.specs.Run.{step}
 use Rattle.core_intents.specs.States.{State, present, start}
 use Rattle.core_outputs.specs.Unsent.{Unsent, nothing_unsent, with_reply}
-use Rattle.am_drill.specs.Drill.{message, notag, nofid}
+use Rattle.ninep_types.specs.Limits.{no_tag, no_fid}
+use Rattle.am_drill.specs.Drill.{message}
 use Rattle.am_drill.proofs.Standing.{Facts, body_fid, standing}
 use Rattle.am_drill.proofs.Steps.{said_of}
 
@@ -74,10 +75,10 @@ begun msize held windows book b = record {
 -- ---- the events
 
 abbrev pub version : Event
-version = message notag (t.Version 8192 (codes "9P2000"))
+version = message no_tag (t.Version 8192 (codes "9P2000"))
 
 abbrev pub attach : Event
-attach = message 1 (t.Attach 0 nofid (codes "u") [])
+attach = message 1 (t.Attach 0 no_fid (codes "u") [])
 
 abbrev pub walk_body : Event
 walk_body = message 2 (t.Walk 0 1 (codes "new" ∷ codes "body" ∷ []))
@@ -100,7 +101,7 @@ pub dial_step : step start (event.Dial 0) ≡ begun None [] [] empty_book dialed
 unfolding step served_most book_served_most port_served_most after_serving_most task_deeds task_refusal task_held
 dial_step = refl
 
-pub version_step : (b : Begun) → step (begun None [] [] empty_book b) version ≡ begun (Some 8192) [] [] empty_book (told b notag (r.Version 8192 (codes "9P2000")))
+pub version_step : (b : Begun) → step (begun None [] [] empty_book b) version ≡ begun (Some 8192) [] [] empty_book (told b no_tag (r.Version 8192 (codes "9P2000")))
 unfolding step served_most book_served_most port_served_most after_serving_most task_deeds task_refusal task_held
 version_step b = refl
 
@@ -187,13 +188,13 @@ two_names a b first second = (omega arith, each)
 pub version_lawful : IsLawful version
 unfolding is_text is_utf8 chars encode_utf8
 version_lawful =
-    let e : length (spelling_t (record { tag = notag; body = t.Version 8192 (codes "9P2000") })) ≡ 19 = refl in
+    let e : length (spelling_t (record { tag = no_tag; body = t.Version 8192 (codes "9P2000") })) ≡ 19 = refl in
     (omega arith, record { body = string_of (codes "9P2000") refl (omega arith); size = omega arith }, omega (arith, e))
 
 pub attach_lawful : IsLawful attach
 unfolding is_text is_utf8 chars encode_utf8
 attach_lawful =
-    let e : length (spelling_t (record { tag = 1; body = t.Attach 0 nofid (codes "u") [] })) ≡ 20 = refl in
+    let e : length (spelling_t (record { tag = 1; body = t.Attach 0 no_fid (codes "u") [] })) ≡ 20 = refl in
     (omega arith, record { body = (string_of (codes "u") refl (omega arith), string_of [] refl (omega arith)); size = omega arith }, omega (arith, e))
 
 pub walk_body_lawful : IsLawful walk_body

@@ -11,6 +11,7 @@ use Rattle.core_outputs.specs.declared.reply.Reply.{Reply}
 use Rattle.acme_core.specs.Run.{step}
 use Rattle.core_intents.specs.States.{State, start}
 use Rattle.acme_core.specs.Views.{view_of}
+use Rattle.am_text.specs.Ascii.{newline}
 use Rattle.am_drill.specs.declared.counting.Count.{Count}
 
 -- ---- replies
@@ -20,9 +21,11 @@ unfoldable pub replies_from : State → List Event → List Reply
 replies_from s [] = []
 replies_from s (e ∷ es) = (step s e).replies ++ replies_from (step s e) es
 
+-- all replies of a journal
 abbrev pub replies_of : List Event → List Reply
 replies_of journal = replies_from start journal
 
+-- the bytes of a reply
 abbrev pub bytes_in : Reply → ℕ
 bytes_in reply = length reply.bytes
 
@@ -30,6 +33,7 @@ bytes_in reply = length reply.bytes
 abbrev pub count_of : List Reply → Count
 count_of replies = record { replies = length replies; bytes = sum_by bytes_in replies }
 
+-- the count of a journal's replies
 abbrev pub count_at : List Event → Count
 count_at journal = count_of (replies_of journal)
 
@@ -40,21 +44,25 @@ abbrev pub runes_of : ℕ → List WindowView → ℕ
 runes_of w [] = 0
 runes_of w (view ∷ views) = if view.id == w then length view.body else runes_of w views
 
+-- an item that was taken, and isn't written back
 abbrev pub is_taken : Life → Bool
 is_taken Pending = false
 is_taken (Taken opening at) = true
 is_taken (Back opening at back) = false
 is_taken (Dropped at) = false
 
+-- a pending item
 abbrev pub is_pending : Life → Bool
 is_pending Pending = true
 is_pending (Taken opening at) = false
 is_pending (Back opening at back) = false
 is_pending (Dropped at) = false
 
+-- whether an item of the report was taken
 abbrev pub has_taken : ItemView → Bool
 has_taken item = is_taken item.life
 
+-- whether an item of the report is pending
 abbrev pub has_pending : ItemView → Bool
 has_pending item = is_pending item.life
 
@@ -62,8 +70,9 @@ has_pending item = is_pending item.life
 
 -- `name n`
 abbrev pub line : List ℕ → ℕ → List ℕ
-line name n = name ++ (decimal n ++ 10 ∷ [])
+line name n = name ++ (decimal n ++ newline ∷ [])
 
+-- the summary
 unfoldable pub summary_text : View → Count → List ℕ
 summary_text view count =
     line (codes "entries ") view.entries

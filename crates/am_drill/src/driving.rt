@@ -4,7 +4,7 @@ ghost use Rattle.std.specs.Prelude.{◌≡◌, ◌≤◌, ◌<◌, ◌+◌, [], 
 ghost use Rattle.am_base.specs.Seen.{seen};
 ghost use Rattle.acme_core.specs.Run.{IsPossible};
 ghost use Rattle.am_drill.specs.Brief.{IsCounted, IsFront};
-ghost use Rattle.am_drill.specs.Drill.{events, seed_of};
+ghost use Rattle.am_drill.specs.Drill.{most_rounds, events, seed_of};
 ghost use Rattle.am_drill.specs.Ends.{Wrote, DrillSays};
 ghost use Rattle.am_drill.specs.Summary.{summary};
 
@@ -51,7 +51,7 @@ fn play_opening(alloc: Global, runner: &mut Runner) -> Result<(), NoMemory>
 
 // Does the events of the round that comes after so many, with its seed.
 fn play_round(alloc: Global, done: u64, seed: u64, runner: &mut Runner) -> Result<(), NoMemory>
-    requires few { done < 100000 }
+    requires few { done < most_rounds }
     requires seed { seed ≡ seed_of (done + 1) }
     requires before { runner.old.core.journal ≡ events done }
     requires idle { runner.old.core.planned ≡ None }
@@ -68,7 +68,7 @@ fn play_round(alloc: Global, done: u64, seed: u64, runner: &mut Runner) -> Resul
 // Does all events of so many rounds.
 #[tactic(auto, using(crate::proofs::Playing::seeds))]
 fn play_rounds(alloc: Global, rounds: u64, runner: &mut Runner) -> Result<(), NoMemory>
-    requires rounds { rounds ≤ 100000 }
+    requires rounds { rounds ≤ most_rounds }
     requires empty { runner.old.core.journal ≡ [] }
     requires idle { runner.old.core.planned ≡ None }
     requires counted { IsCounted runner.old.count runner.old.core.journal }
@@ -89,7 +89,7 @@ fn play_rounds(alloc: Global, rounds: u64, runner: &mut Runner) -> Result<(), No
 // Does all events, and answers the summary of their run.
 #[tactic(auto, unfolding(crate::specs::Summary::summary))]
 fn run(alloc: Global, rounds: u64, runner: &mut Runner) -> Result<Bytes, NoMemory>
-    requires rounds { rounds ≤ 100000 }
+    requires rounds { rounds ≤ most_rounds }
     requires empty { runner.old.core.journal ≡ [] }
     requires idle { runner.old.core.planned ≡ None }
     requires counted { IsCounted runner.old.count runner.old.core.journal }
@@ -121,7 +121,7 @@ fn run_and_write<O: Sink>(
     runner: &mut Runner,
     output: &mut O,
 ) -> DrillEnd
-    requires rounds { rounds ≤ 100000 }
+    requires rounds { rounds ≤ most_rounds }
     requires empty { runner.old.core.journal ≡ [] }
     requires idle { runner.old.core.planned ≡ None }
     requires counted { IsCounted runner.old.count runner.old.core.journal }
@@ -149,7 +149,7 @@ fn nothing_done(alloc: Global) -> Drilled
 
 /// Does the events of a drill of so many rounds from the empty editor on, and writes the summary of their run.
 pub fn drill<O: Sink>(alloc: Global, rounds: u64, output: &mut O) -> Drilled
-    requires { (1 ≤ rounds) × (rounds ≤ 100000) }
+    requires { (1 ≤ rounds) × (rounds ≤ most_rounds) }
     ensures says { DrillSays result.end rounds
         (seen (O.told output.old) (O.told output.new))
         result.journal }

@@ -1,19 +1,17 @@
 //! The events of a drill.
 
 ghost use Rattle.std.specs.Prelude.{◌≡◌, ◌∷◌, [], codes, IfOk};
-ghost use Rattle.am_drill.specs.Drill.{message, opening, write, poll, flush, key, read, played_turn, round, drawn};
+ghost use Rattle.ninep_types.specs.Limits.{no_tag, no_fid, version_name};
+ghost use Rattle.am_drill.specs.Drill.{asked_msize, message, opening, write, poll, flush, key, read, played_turn, round, drawn};
 
 use crate::numbers::{Turn, drawn, letter, turn_of};
 use am_journal::{Event, Journal, Side};
 use am_text::{Items, Names, NoMemory, Rune};
-use ninep_types::{TBody, TMsg};
+use ninep_types::{NO_FID, NO_TAG, TBody, TMsg, VERSION_NAME};
 use std::alloc::Global;
 
-/// The tag of a version message.
-const NOTAG: u16 = 0xFFFF;
-
-/// The number that is no fid.
-const NOFID: u32 = 0xFFFFFFFF;
+/// The msize that is asked for.
+const ASKED_MSIZE: u32 = 8_192;
 
 /// How many bytes of the event file are read at once, and how many of the body.
 const EVENT_BYTES: u32 = 64;
@@ -40,25 +38,25 @@ fn names(alloc: Global, first: &[u8], second: &[u8]) -> Result<Names, NoMemory>
 }
 
 fn version(alloc: Global) -> Result<Event, NoMemory>
-    ensures { IfOk result (λ e. e ≡ message 0xFFFF (TBody.Version 8192 (codes "9P2000"))) }
+    ensures { IfOk result (λ e. e ≡ message no_tag (TBody.Version asked_msize version_name)) }
 {
     Ok(message(
-        NOTAG,
+        NO_TAG,
         TBody::Version {
-            msize: 8192,
-            version: Items::copied(alloc, b"9P2000")?,
+            msize: ASKED_MSIZE,
+            version: Items::copied(alloc, VERSION_NAME)?,
         },
     ))
 }
 
 fn attach(alloc: Global) -> Result<Event, NoMemory>
-    ensures { IfOk result (λ e. e ≡ message 1 (TBody.Attach 0 0xFFFFFFFF (codes "u") [])) }
+    ensures { IfOk result (λ e. e ≡ message 1 (TBody.Attach 0 no_fid (codes "u") [])) }
 {
     Ok(message(
         1,
         TBody::Attach {
             fid: 0,
-            afid: NOFID,
+            afid: NO_FID,
             uname: Items::copied(alloc, b"u")?,
             aname: Items::new(alloc),
         },

@@ -10,6 +10,7 @@ use Rattle.am_journal.specs.declared.ending.Ending.TheVariants as ending
 
 -- ---- the words
 
+-- the word of a fault in a message
 abbrev pub fault_word : WireFault → List ℕ
 fault_word fault.Size = codes "size"
 fault_word fault.Kind = codes "type"
@@ -18,11 +19,13 @@ fault_word fault.Long = codes "long"
 fault_word fault.Text = codes "text"
 fault_word fault.Names = codes "names"
 
+-- the word of a bad message
 abbrev pub bad_word : Bad → List ℕ
 bad_word (bad.Wire f) = fault_word f
 bad_word bad.Size = codes "msize"
 bad_word bad.Tag = codes "tag"
 
+-- the word of a cause
 abbrev pub cause : Ending → List ℕ
 cause ending.End = codes "end"
 cause ending.Torn = codes "torn"
@@ -53,6 +56,7 @@ broken_causes =
     ∷ (codes "broken text", ending.Broken (bad.Wire fault.Text)) ∷ (codes "broken names", ending.Broken (bad.Wire fault.Names))
     ∷ (codes "broken msize", ending.Broken bad.Size) ∷ (codes "broken tag", ending.Broken bad.Tag) ∷ []
 
+-- the cause, or that of a size that no message has
 abbrev pub or_broken : Option Ending → List ℕ → Option Ending
 or_broken None word = looked_up broken_causes word
 or_broken (Some e) word = Some e

@@ -2,6 +2,7 @@
 use Rattle.std.specs.Prelude.{◌≡◌, ℕ, Bool, List, [], ◌∷◌, ◌++◌, Option, Some, None, if◌then◌else◌, codes}
 use Rattle.std.specs.List.{AllByRecursion, flat_map}
 use Rattle.std.specs.Str.{bytes_eq}
+use Rattle.am_text.specs.Ascii.{newline}
 use Rattle.am_text.specs.Lines.{lines_of}
 use Rattle.am_journal.specs.declared.event.Event.{Event}
 use Rattle.am_journal.specs.declared.view.View.{View}
@@ -13,6 +14,7 @@ use Rattle.am_journal.specs.Report.{report_text}
 abbrev pub is_report : List ℕ → Bool
 is_report line = bytes_eq line (codes "report")
 
+-- an event and those after it, if all are in the grammar
 abbrev pub then_events : Option Event → Option (List Event) → Option (List Event)
 then_events None events = None
 then_events (Some e) None = None
@@ -25,7 +27,7 @@ events_of (line ∷ lines) = if is_report line then Some [] else then_events (ev
 
 -- the line of an event, with its newline
 abbrev pub ended_line : Event → List ℕ
-ended_line e = line_text e ++ 10 ∷ []
+ended_line e = line_text e ++ newline ∷ []
 
 -- the lines of a journal, each with its newline
 abbrev pub journal_text : List Event → List ℕ

@@ -30,6 +30,7 @@ IsLawful (event.Dir path) = is_path_text path ≡ true
 abbrev pub AreBytes : List ℕ → Type 0
 AreBytes bytes = (i : ℕ) → slice_index bytes i < 256
 
+-- the numbers of a place fit their types
 abbrev pub IsSpotInRange : Spot → Type 0
 IsSpotInRange at = (at.window < 2 ^ 32) × (at.range.q0 < 2 ^ 64) × (at.range.q1 < 2 ^ 64)
 

@@ -1,5 +1,6 @@
 -- Lines that are written for the lines of a transcript.
 use Rattle.std.specs.Prelude.{ℕ, List, [], ◌∷◌, ◌++◌, codes}
+use Rattle.am_text.specs.Ascii.{newline, space}
 use Rattle.am_journal.specs.declared.event.Why.{Why}
 use Rattle.am_journal.specs.declared.event.Why.TheVariants as why
 use Rattle.am_journal.specs.Hexadecimal.{hex_of}
@@ -7,11 +8,11 @@ use Rattle.am_journal.specs.Parts.{around}
 
 -- the line of a message to a connection
 unfoldable pub reply_text : ℕ → List ℕ → List ℕ
-reply_text c message = around (codes "reply ") c (32 ∷ []) ++ hex_of message ++ 10 ∷ []
+reply_text c message = around (codes "reply ") c (space ∷ []) ++ hex_of message ++ newline ∷ []
 
 -- the line for an input line that is refused: its number, and the reason's word
 unfoldable pub refused_text : ℕ → List ℕ → List ℕ
-refused_text k reason = around (codes "refused ") k (32 ∷ []) ++ reason ++ 10 ∷ []
+refused_text k reason = around (codes "refused ") k (space ∷ []) ++ reason ++ newline ∷ []
 
 -- the word of a reason
 abbrev pub word_of : Why → List ℕ

@@ -9,8 +9,6 @@ ghost use Rattle.am_journal.specs.Line.{path_at};
 use am_text::{Bytes, NoMemory, is_utf8};
 use std::alloc::Global;
 
-const SLASH: u8 = b'/';
-
 // The place of the first `/`, or the length.
 fn first_slash(bytes: &[u8]) -> usize
     ensures exact { result ≡ position_or_len is_slash bytes.now }
@@ -18,7 +16,7 @@ fn first_slash(bytes: &[u8]) -> usize
 {
     let mut at = 0;
     for byte in bytes {
-        if *byte == SLASH {
+        if *byte == b'/' {
             return at;
         }
         at += 1;
@@ -99,7 +97,7 @@ fn is_path(bytes: &[u8]) -> bool
     ensures { result ≡ is_path bytes.now }
 {
     match bytes {
-        [first, rest @ ..] => *first == SLASH && has_parts(rest),
+        [first, rest @ ..] => *first == b'/' && has_parts(rest),
         [] => false,
     }
 }

@@ -18,6 +18,7 @@ use Rattle.am_pack.specs.declared.packing.Did.TheVariants as did
 abbrev pub all_of : List Event → Packing
 all_of events = record { journal = events; refused = None }
 
+-- a line is refused, behind these events
 abbrev pub refused_at : List Event → ℕ → Fault → Packing
 refused_at events k fault = record { journal = events; refused = Some (record { line = k; fault = fault }) }
 
@@ -46,10 +47,12 @@ packing_of bytes = if nat_lt pack_limit (length bytes) then too_long else pack [
 
 -- ---- what is written
 
+-- the word of a fault
 abbrev pub fault_word : Fault → List ℕ
 fault_word fault.Line = codes "line"
 fault_word fault.Input = codes "input"
 
+-- the line of a refusal, if there is one
 abbrev pub refusal_text : Option Refusal → List ℕ
 refusal_text None = []
 refusal_text (Some refusal) = refused_text refusal.line (fault_word refusal.fault)

@@ -6,7 +6,8 @@ use Rattle.am_journal.specs.declared.ending.Ending.{Ending}
 use Rattle.am_journal.specs.declared.event.Event.{Event}
 use Rattle.am_counter.specs.Played.{IsPrefix}
 use Rattle.am_serve.specs.Gained.{Answers}
-use Rattle.am_serve.specs.Reading.{piece_limit, HadRoom, HadRoomEach, ReadWithRoom}
+use Rattle.am_base.specs.Stops.{piece_limit}
+use Rattle.am_serve.specs.Reading.{HadRoom, HadRoomEach, ReadWithRoom}
 use Rattle.am_serve.proofs.Gaining.{grown}
 
 module _ (answer : Answers) (conn : ℕ) where

@@ -19,7 +19,8 @@ use Rattle.am_counter.specs.Played.{IsPrefix, has_hang}
 use Rattle.am_serve.specs.Gained.{Rule, Answers, Gains, gained, hang_up, HangsUp, plain}
 use Rattle.am_serve.specs.declared.budget.Budget.{Budget}
 use Rattle.am_serve.specs.Budget.{whole, has_message, after_message, IsLeft}
-use Rattle.am_serve.specs.Reading.{AreMessages, spelling_of, spellings, AreRead, AreFront, IsNext, IsDue, StandAmong, messages_of as came, IsTurn, IsBroken, EndsAfter, piece_limit, HadRoom, HadRoomEach, IsOfRead, GivesOf}
+use Rattle.am_base.specs.Stops.{piece_limit}
+use Rattle.am_serve.specs.Reading.{AreMessages, spelling_of, spellings, AreRead, AreFront, IsNext, IsDue, StandAmong, messages_of as came, IsTurn, IsBroken, EndsAfter, HadRoom, HadRoomEach, IsOfRead, GivesOf}
 use Rattle.am_base.specs.Seen.{Seen}
 use Rattle.am_serve.specs.Sending.{StopsAt, Sends, Keeps, IsFed, StopsIn, StopsAfter, cause_of, ReadSoFar, ReadUntil}
 use Rattle.am_serve.specs.declared.sending.Stop.{Stop}

@@ -17,6 +17,7 @@ fits_budget messages = nat_le (length messages) message_limit && nat_le (length 
 
 -- ---- what is left of it
 
+-- nothing of a turn was used
 abbrev pub whole : Budget
 whole = record { messages = message_limit; bytes = byte_limit }
 

@@ -16,6 +16,7 @@ use Rattle.am_serve.specs.declared.scripting.LineEnd.TheVariants as end
 abbrev pub GoesOn : ℕ → List Event → Type 0
 GoesOn clients journal = (c : ℕ) × (c < clients) × (has_hang journal c ≡ false)
 
+-- why an event of the script was refused
 abbrev pub RefusesEvent : Rule → Known → Event → LineFault → Known → Type 0
 RefusesEvent enabled v e fault.Line w = ⊥
 RefusesEvent enabled v e fault.Alone w = ⊥

@@ -2,6 +2,7 @@
 use Rattle.std.specs.Prelude.{◌≡◌, ◌≢◌, ◌⊎◌, ℕ, ◌+◌, ◌≤◌, ◌==◌, true, false, List, [], ◌∷◌, ◌++◌, length, Option, Some, None, Ok, Err, if◌then◌else◌}
 use Rattle.std.specs.List.{concat, flat_map, AllByRecursion}
 use Rattle.am_base.specs.Outside.{then_told}
+use Rattle.am_base.specs.Stops.{piece_limit}
 use Rattle.ninep_types.specs.declared.fault.WireFault.{WireFault}
 use Rattle.ninep_types.specs.declared.fault.WireFault.TheVariants as wire
 use Rattle.ninep_types.specs.declared.message.TMsg.{TMsg}
@@ -57,6 +58,7 @@ AreRead conn (Some why) v w =
 
 -- ---- a journal
 
+-- the bytes of an event's message, where it is one on this connection
 abbrev pub spelled_on : ℕ → Event → List (List ℕ)
 spelled_on conn (event.Dial c) = []
 spelled_on conn (event.Msg c msg) = if c == conn then spelling_t msg ∷ [] else []
@@ -136,10 +138,6 @@ Gives enabled conn seen given stream None = AreFront given stream.messages
 Gives enabled conn seen given stream (Some why) = (journal : List Event) × IsTurn conn seen given journal × EndsAfter enabled conn journal given stream why
 
 -- ---- room
-
--- the most bytes of one read
-abbrev pub piece_limit : ℕ
-piece_limit = 8192
 
 -- At a turn the connection had room for a reply, and all messages of these bytes had come: what was seen begins with the journal of that
 -- turn.

@@ -35,10 +35,12 @@ is_scripted (event.Look at) = true
 is_scripted (event.File path text) = true
 is_scripted (event.Dir path) = true
 
+-- a line that spells an event, or none
 abbrev pub asks_event : Option Event → Asked
 asks_event None = Faulty
 asks_event (Some e) = if is_scripted e then Does e else Faulty
 
+-- a line that waits for a window
 abbrev pub asks_window : Option ℕ → Asked
 asks_window None = Faulty
 asks_window (Some w) = Awaits w
@@ -66,6 +68,7 @@ DoesInRange (Awaits w) = Unit {0}
 DoesInRange Ends = Unit {0}
 DoesInRange Faulty = Unit {0}
 
+-- a line and those after it, up to one that ends or is at fault
 abbrev pub then_asked : Asked → List Asked → List Asked
 then_asked (Does e) others = Does e ∷ others
 then_asked (Awaits w) others = Awaits w ∷ others
@@ -77,6 +80,7 @@ unfoldable pub asked_by_lines : List (List ℕ) → List Asked
 asked_by_lines [] = []
 asked_by_lines (line ∷ lines) = then_asked (asked_by line) (asked_by_lines lines)
 
+-- what a script asks for
 abbrev pub asked_by_script : List ℕ → List Asked
 asked_by_script script = asked_by_lines (lines_of script)
 

@@ -3,6 +3,7 @@ use Rattle.std.specs.Prelude.{◌≡◌, ◌≢◌, ℕ, ◌≤◌, true, List, 
 use Rattle.std.specs.List.{concat}
 use Rattle.am_base.specs.Outside.{then_told, AreTold, HasRisen}
 use Rattle.am_base.specs.Seen.{Seen}
+use Rattle.am_base.specs.Stops.{piece_limit}
 use Rattle.ninep_types.specs.declared.message.TMsg.{TMsg}
 use Rattle.ninep_types.specs.Reading.{t_of}
 use Rattle.ninep_types.specs.Spelling.{spelling_t}
@@ -20,7 +21,7 @@ use Rattle.am_counter.specs.Known.{Known, Looks, Submits}
 use Rattle.am_counter.specs.Played.{IsPlayed, has_hang}
 use Rattle.am_serve.specs.Budget.{fits_budget, IsLeft}
 use Rattle.am_serve.specs.Gained.{Rule, Answers, Gains}
-use Rattle.am_serve.specs.Reading.{AreMessages, spellings, AreFront, EndsAfter, piece_limit, HadRoomEach, ReadWithRoom}
+use Rattle.am_serve.specs.Reading.{AreMessages, spellings, AreFront, EndsAfter, HadRoomEach, ReadWithRoom}
 use Rattle.am_serve.specs.declared.budget.Budget.{Budget}
 use Rattle.am_serve.specs.declared.sending.Stop.{Stop}
 use Rattle.am_serve.specs.declared.sending.Stop.TheVariants as stop
@@ -37,11 +38,13 @@ HasEnded enabled conn seen = (has_hang seen conn ≡ true) × IsPlayed enabled s
 abbrev pub IsRefusedAs : Rule → ℕ → List Event → List ℕ → Why → Type 0
 IsRefusedAs enabled conn seen m reason = (msg : TMsg) × (t_of m ≡ Ok msg) × (enabled seen (Msg conn msg) ≡ Some reason)
 
+-- a message is bad in this way
 abbrev pub IsBad : Rule → ℕ → List Event → List ℕ → Bad → Type 0
 IsBad enabled conn seen m (bad.Wire f) = t_of m ≡ Err f
 IsBad enabled conn seen m bad.Size = IsRefusedAs enabled conn seen m why.Size
 IsBad enabled conn seen m bad.Tag = IsRefusedAs enabled conn seen m why.Tag
 
+-- why a connection ends at a message
 abbrev pub EndsAt : Rule → ℕ → List Event → List ℕ → Ending → Type 0
 EndsAt enabled conn seen m ending.End = ⊥
 EndsAt enabled conn seen m ending.Torn = ⊥

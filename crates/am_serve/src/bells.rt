@@ -1,6 +1,7 @@
 //! The bells that the sides of connections and of a script wait for.
 
 ghost use Rattle.std.specs.Prelude.{◌≡◌, ◌≢◌, ◌<◌, IfOk, length};
+ghost use Rattle.am_journal.specs.Limits.{connection_count};
 
 use am_counter::Told;
 use am_journal::CONNECTIONS;
@@ -28,7 +29,7 @@ pub struct Bells {
     connections: Vec<Pair>,
     // Rings where a file was opened, or a connection has ended.
     script: Bell,
-    ghost all: { length connections.items ≡ 64 },
+    ghost all: { length connections.items ≡ connection_count },
 }
 
 impl Bells {
@@ -59,7 +60,7 @@ impl Bells {
 
     /// The replies of a connection were taken.
     pub fn taken(&self, conn: u32)
-        requires { conn < 64 }
+        requires { conn < connection_count }
     {
         self.connections[conn as usize].room.ring();
     }
@@ -71,7 +72,7 @@ impl Bells {
 
     /// A connection has ended.
     pub fn ended(&self, conn: u32)
-        requires { conn < 64 }
+        requires { conn < connection_count }
     {
         let pair = &self.connections[conn as usize];
         pair.over.store(true, Ordering::SeqCst);
@@ -82,7 +83,7 @@ impl Bells {
 
     /// Whether a side has told that a connection has ended. It asks without a turn; only the journal says so for certain.
     pub fn is_over(&self, conn: u32) -> bool
-        requires { conn < 64 }
+        requires { conn < connection_count }
     {
         self.connections[conn as usize].over.load(Ordering::SeqCst)
     }
@@ -90,7 +91,7 @@ impl Bells {
     /// Sleeps until replies were made to a connection, or it has ended, since the number `seen`, and answers the number that it found
     /// then. The first number is 0.
     pub fn wait_for_replies<R: Wait>(&self, rt: &R, conn: u32, seen: u64) -> u64
-        requires { conn < 64 }
+        requires { conn < connection_count }
         ensures { result ≢ seen }
     {
         self.connections[conn as usize].replies.wait(rt, seen)
@@ -98,7 +99,7 @@ impl Bells {
 
     /// Sleeps until the replies of a connection were taken, or it has ended, as `wait_for_replies` does.
     pub fn wait_for_room<R: Wait>(&self, rt: &R, conn: u32, seen: u64) -> u64
-        requires { conn < 64 }
+        requires { conn < connection_count }
         ensures { result ≢ seen }
     {
         self.connections[conn as usize].room.wait(rt, seen)

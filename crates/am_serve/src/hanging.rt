@@ -2,6 +2,7 @@
 
 ghost use Rattle.std.specs.Prelude.{◌≡◌, ◌<◌, true};
 ghost use Rattle.am_counter.specs.Played.{IsPlayed, has_dial, has_hang};
+ghost use Rattle.am_journal.specs.Limits.{connection_count};
 ghost use Rattle.am_serve.specs.Gained.{HangsUp};
 
 use crate::station::Station;
@@ -17,7 +18,7 @@ pub(crate) fn hang_up<C: Counter, R: Wait>(
     why: Ending,
 ) -> bool
     requires fits { C.fits at.now.desk.now seat.old }
-    requires conn { at.now.conn < 64 }
+    requires conn { at.now.conn < connection_count }
     requires dialled { has_dial (C.known seat.old).seen at.now.conn ≡ true }
     ensures fits { C.fits at.now.desk.now seat.new }
     ensures played { IsPlayed C.enabled (C.known seat.new).seen }

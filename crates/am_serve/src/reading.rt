@@ -4,6 +4,7 @@ ghost use Rattle.std.specs.Prelude.{◌≡◌, ◌<◌, ◌≤◌, true, [], Som
 ghost use Rattle.am_base.specs.Outside.{AreTold, HasRisen};
 ghost use Rattle.am_counter.specs.Played.{IsPlayed, has_dial, has_hang};
 ghost use Rattle.am_journal.specs.declared.ending.Ending.TheVariants as ending;
+ghost use Rattle.am_journal.specs.Limits.{connection_count};
 ghost use Rattle.am_serve.specs.Gained.{Gains, gained};
 ghost use Rattle.am_serve.specs.Reading.{AreRead, GivesOf, spellings};
 ghost use Rattle.am_serve.specs.Sending.{HasEnded, ReadUntil};
@@ -33,7 +34,7 @@ fn read_messages<C: Counter, S: Source, R: Wait>(
     source: &mut S,
 ) -> Stop
     requires fits { C.fits at.now.desk.now seat.old }
-    requires conn { at.now.conn < 64 }
+    requires conn { at.now.conn < connection_count }
     requires dialled { has_dial (C.known seat.old).seen at.now.conn ≡ true }
     ensures fits { C.fits at.now.desk.now seat.new }
     ensures reads { ReadUntil C.enabled C.answer at.now.conn (C.known seat.old) (C.known seat.new) result (S.told source.old).bytes (S.told source.new).bytes }
@@ -88,7 +89,7 @@ pub fn read_side<C: Counter, S: Source, R: Wait>(
     source: &mut S,
 ) -> Option<Ending>
     requires fits { C.fits at.now.desk.now seat.old }
-    requires conn { at.now.conn < 64 }
+    requires conn { at.now.conn < connection_count }
     requires dialled { has_dial (C.known seat.old).seen at.now.conn ≡ true }
     ensures fits { C.fits at.now.desk.now seat.new }
     ensures played { IsPlayed C.enabled (C.known seat.new).seen }

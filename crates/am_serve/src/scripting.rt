@@ -4,6 +4,7 @@ ghost use Rattle.std.specs.Prelude.{◌≡◌, ◌<◌, ◌≤◌, Bool, true, f
 ghost use Rattle.am_journal.specs.Lawful.{IsLawful, IsInRange};
 ghost use Rattle.am_counter.specs.declared.ask.Ask.TheVariants.{EventOpen};
 ghost use Rattle.am_counter.specs.Known.{Looks};
+ghost use Rattle.am_journal.specs.Limits.{connection_count};
 ghost use Rattle.am_serve.specs.Gained.{Gains, gained};
 ghost use Rattle.am_serve.specs.Script.{HaveEnded, EndsScript, asked_by_script, asked_by};
 ghost use Rattle.am_serve.specs.Doing.{DoesLine, DoesEvent, GoesOn};
@@ -40,7 +41,7 @@ pub(crate) enum LineEnd {
 // Whether all of the first connections have ended.
 fn have_ended<C: Counter, R: Wait>(rt: &R, desk: &C, seat: &mut C::Seat, clients: u32) -> bool
     requires fits { C.fits desk.now seat.old }
-    requires clients { clients ≤ 64 }
+    requires clients { clients ≤ connection_count }
     ensures fits { C.fits desk.now seat.new }
     ensures looks { Looks (C.known seat.old) (C.known seat.new) }
     ensures ended { result ≡ true → HaveEnded clients (C.known seat.new).seen }
@@ -62,7 +63,7 @@ fn await_window<C: Counter, R: Wait>(
     window: u32,
 ) -> bool
     requires fits { C.fits script.now.desk.now seat.old }
-    requires clients { script.now.clients ≤ 64 }
+    requires clients { script.now.clients ≤ connection_count }
     ensures fits { C.fits script.now.desk.now seat.new }
     ensures looks { Looks (C.known seat.old) (C.known seat.new) }
     ensures open { result ≡ C.answer (C.known seat.new).seen (EventOpen window) }
@@ -114,7 +115,7 @@ fn do_line<C: Counter, R: Wait>(
     line: &[u8],
 ) -> LineEnd
     requires fits { C.fits script.now.desk.now seat.old }
-    requires clients { script.now.clients ≤ 64 }
+    requires clients { script.now.clients ≤ connection_count }
     ensures fits { C.fits script.now.desk.now seat.new }
     ensures does { DoesLine C.enabled C.answer script.now.clients (C.known seat.old) (asked_by line.now) result (C.known seat.new) }
 {
@@ -144,7 +145,7 @@ pub fn script_side<C: Counter, R: Wait>(
     seat: &mut C::Seat,
 ) -> ScriptEnd
     requires fits { C.fits script.now.desk.now seat.old }
-    requires clients { script.now.clients ≤ 64 }
+    requires clients { script.now.clients ≤ connection_count }
     ensures fits { C.fits script.now.desk.now seat.new }
     ensures gains { Gains (C.known seat.old) (gained (C.known seat.old) (C.known seat.new)) (C.known seat.new) }
     ensures ends { EndsScript C.enabled C.answer script.now.clients (C.known seat.old) (asked_by_script script.now.lines.now) result (C.known seat.new) }

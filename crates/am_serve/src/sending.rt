@@ -6,11 +6,12 @@ ghost use Rattle.am_counter.specs.declared.ask.Ask.TheVariants as ask;
 ghost use Rattle.am_counter.specs.Known.{Looks};
 ghost use Rattle.am_counter.specs.Played.{has_dial};
 ghost use Rattle.am_base.specs.Seen.{seen};
+ghost use Rattle.am_journal.specs.Limits.{connection_count};
 ghost use Rattle.am_serve.specs.Sending.{HasEnded, Sends, Keeps, Tries, sent_for, EndsIn, IsFed};
 
 use crate::due::Due;
 use crate::station::Station;
-use am_base::Source;
+use am_base::{PIECE_LIMIT, Source};
 use am_counter::{Ask, Counter};
 use am_journal::{Bad, Ending, Event, Refused, Why};
 use ninep_cut::Cutter;
@@ -46,7 +47,7 @@ pub(crate) fn wait_for_room<C: Counter, R: Wait>(
     due: &mut Due,
 ) -> bool
     requires fits { C.fits at.now.desk.now seat.old }
-    requires conn { at.now.conn < 64 }
+    requires conn { at.now.conn < connection_count }
     ensures fits { C.fits at.now.desk.now seat.new }
     ensures looks { Looks (C.known seat.old) (C.known seat.new) }
     ensures room { result ≡ true → C.answer (C.known seat.new).seen (ask.Room at.now.conn) ≡ true }
@@ -89,7 +90,7 @@ fn try_message<C: Counter, R: Wait>(
     message: &[u8],
 ) -> Sent
     requires fits { C.fits at.now.desk.now seat.old }
-    requires conn { at.now.conn < 64 }
+    requires conn { at.now.conn < connection_count }
     requires dialled { has_dial (C.known seat.old).seen at.now.conn ≡ true }
     requires message { IsMessage message.now }
     ensures fits { C.fits at.now.desk.now seat.new }
@@ -123,7 +124,7 @@ pub(crate) fn send_message<C: Counter, R: Wait>(
     message: &[u8],
 ) -> Result<(), Stop>
     requires fits { C.fits at.now.desk.now seat.old }
-    requires conn { at.now.conn < 64 }
+    requires conn { at.now.conn < connection_count }
     requires dialled { has_dial (C.known seat.old).seen at.now.conn ≡ true }
     requires message { IsMessage message.now }
     ensures fits { C.fits at.now.desk.now seat.new }
@@ -144,16 +145,13 @@ pub(crate) fn send_message<C: Counter, R: Wait>(
     unreachable!()
 }
 
-/// How many bytes one read asks for at most.
-const PIECE: usize = 8192;
-
 /// Reads a piece, and feeds it.
 pub(crate) fn read_piece<S: Source>(source: &mut S, cutter: &mut Cutter) -> Result<(), Ending>
     ensures ok { OnOk result (IsFed (S.told source.old).bytes (S.told source.new).bytes cutter.old cutter.new) }
     ensures err { IfErr result (EndsIn (seen (S.told source.old) (S.told source.new)) cutter.old) }
     ensures later { (S.told source.old).faults ≤ (S.told source.new).faults }
 {
-    let mut buf = [0; PIECE];
+    let mut buf = [0; PIECE_LIMIT];
     let Ok(n) = source.read(&mut buf) else {
         return Err(Ending::ReadFault);
     };

@@ -3,6 +3,7 @@
 ghost use Rattle.std.specs.Prelude.{◌≡◌, ◌<◌, ◌≤◌, true, []};
 ghost use Rattle.am_base.specs.Outside.{HasRisen};
 ghost use Rattle.am_counter.specs.Played.{IsPlayed, has_dial, has_hang};
+ghost use Rattle.am_journal.specs.Limits.{connection_count};
 ghost use Rattle.am_serve.specs.Gained.{Gains, gained};
 ghost use Rattle.am_serve.specs.Writing.{AreWritten, Gets, taken_bytes, Wrote};
 ghost use Rattle.am_serve.specs.declared.writing.WriteEnd.TheVariants as end;
@@ -36,7 +37,7 @@ fn write_replies<C: Counter, K: Sink, R: Wait>(
     sink: &mut K,
 ) -> WriteEnd
     requires fits { C.fits at.now.desk.now seat.old }
-    requires conn { at.now.conn < 64 }
+    requires conn { at.now.conn < connection_count }
     ensures fits { C.fits at.now.desk.now seat.new }
     ensures played { result ≡ end.Ended → IsPlayed C.enabled (C.known seat.new).seen }
     ensures wrote { Wrote C.unsent at.now.conn (C.known seat.old) (C.known seat.new) result (K.told sink.old).bytes (K.told sink.new).bytes }
@@ -77,7 +78,7 @@ pub fn write_side<C: Counter, K: Sink, R: Wait>(
     sink: &mut K,
 ) -> WriteEnd
     requires fits { C.fits at.now.desk.now seat.old }
-    requires conn { at.now.conn < 64 }
+    requires conn { at.now.conn < connection_count }
     requires dialled { has_dial (C.known seat.old).seen at.now.conn ≡ true }
     ensures fits { C.fits at.now.desk.now seat.new }
     ensures played { IsPlayed C.enabled (C.known seat.new).seen }

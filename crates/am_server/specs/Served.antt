@@ -9,6 +9,7 @@ use Rattle.am_server.specs.declared.served.Served.{Served}
 use Rattle.am_server.specs.declared.served.ServedEnd.{ServedEnd}
 use Rattle.am_server.specs.declared.served.ServedEnd.TheVariants as end
 
+-- the first cause, if there is one
 abbrev pub first_of : List Ending → Option Ending
 first_of [] = None
 first_of (why ∷ others) = Some why
@@ -17,6 +18,7 @@ first_of (why ∷ others) = Some why
 abbrev pub ending_of : List Event → ℕ → Option Ending
 ending_of journal conn = first_of (endings_of journal conn)
 
+-- how a slot ended
 abbrev pub ended_with : Option Ending → ServedEnd
 ended_with None = end.NoMemory
 ended_with (Some why) = end.Ended why

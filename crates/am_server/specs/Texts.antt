@@ -11,6 +11,7 @@ use Rattle.am_serve.specs.declared.scripting.ScriptEnd.TheVariants as script
 use Rattle.acme_core.specs.Views.{view_of}
 use Rattle.am_slots.specs.declared.slot.Slot.{Slot}
 use Rattle.am_slots.specs.declared.slot.Slot.TheVariants as slot
+use Rattle.am_text.specs.Ascii.{newline}
 
 -- the line `refused`, where a line of the script is
 abbrev pub refusal_text : ScriptEnd → List ℕ
@@ -18,8 +19,9 @@ refusal_text script.Done = []
 refusal_text (script.Refused line why) = refused_text line (fault_word why)
 refusal_text script.NoMemory = []
 
+-- the line of a slot whose host failed
 abbrev pub host_line : ℕ → List ℕ
-host_line n = codes "host " ++ decimal n ++ 10 ∷ []
+host_line n = codes "host " ++ decimal n ++ newline ∷ []
 
 module _ {G L S K : Type 0} where
   -- the slot's gate could not be bound, its gate gave no link, or its link gave no halves

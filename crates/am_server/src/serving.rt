@@ -4,6 +4,7 @@ ghost use Rattle.std.specs.Prelude.{◌≡◌, ◌≤◌};
 ghost use Rattle.am_base.specs.Seen.{given, seen};
 ghost use Rattle.acme_core.specs.Run.{IsPossible};
 ghost use Rattle.am_slots.specs.Slots.{outside};
+ghost use Rattle.am_journal.specs.Limits.{connection_count};
 ghost use Rattle.am_server.specs.Ends.{ServesLines, IsTooLong, SaysServe};
 
 use crate::writing::{ServeEnd, Serving, finish, idle};
@@ -34,7 +35,7 @@ fn serve_lines<O: Sink, H: Host, R: Threads + Wait + Sync>(
     output: &mut O,
     host: &mut H,
 ) -> HostServing<H>
-    requires clients { (1 ≤ service.now.clients) × (service.now.clients ≤ 64) }
+    requires clients { (1 ≤ service.now.clients) × (service.now.clients ≤ connection_count) }
     ensures serves { ServesLines (outside H.G.told H.G.L.told H.G.L.R.told H.G.L.W.told)
         service.now.path.now service.now.clients service.now.script.now (H.faults host.old) (H.faults host.new)
         (seen (O.told output.old) (O.told output.new))
@@ -81,7 +82,7 @@ pub fn serve<I: Source, O: Sink, H: Host, R: Threads + Wait + Sync>(
     output: &mut O,
     host: &mut H,
 ) -> HostServing<H>
-    requires clients { (1 ≤ site.now.clients) × (site.now.clients ≤ 64) }
+    requires clients { (1 ≤ site.now.clients) × (site.now.clients ≤ connection_count) }
     ensures says { SaysServe (outside H.G.told H.G.L.told H.G.L.R.told H.G.L.W.told)
         site.now.path.now site.now.clients (given (I.told input.old) (I.told input.new) (H.faults host.old) (H.faults host.new))
         (seen (O.told output.old) (O.told output.new))

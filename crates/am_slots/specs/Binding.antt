@@ -5,6 +5,7 @@ use Rattle.am_slots.specs.Slots.{IsWaiting, HasName}
 use Rattle.am_slots.specs.declared.slot.Slot.{Slot}
 
 module _ {G L S K : Type 0} where
+  -- so it is with each slot
   abbrev pub AreWaiting : (G → GateTold) → List (Slot G L S K) → Type 0
   AreWaiting told [] = Unit {0}
   AreWaiting told (s ∷ slots) = IsWaiting told s × AreWaiting told slots

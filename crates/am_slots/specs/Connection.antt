@@ -25,6 +25,7 @@ is_of conn (event.Dir path) = false
 abbrev pub IsSilent : List Event → ℕ → Type 0
 IsSilent journal conn = filter (is_of conn) journal ≡ []
 
+-- the cause of a connection's end, where an event is one
 abbrev pub ended_by : ℕ → Event → List Ending
 ended_by conn (event.Dial c) = []
 ended_by conn (event.Msg c msg) = []

@@ -33,6 +33,7 @@ IsCause None end.Ended cause = ⊥
 IsCause None end.Gone cause = cause ≡ ending.Gone
 IsCause None end.NoMemory cause = cause ≡ ending.NoMemory
 
+-- what the objects outside tell
 abbrev pub outside : {G L S K : Type 0} → (G → GateTold) → (L → LinkTold) → (S → BytesTold) → (K → BytesTold) → Outside G L S K
 outside gate link reader writer = record { gate = gate; link = link; reader = reader; writer = writer }
 

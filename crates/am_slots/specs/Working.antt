@@ -90,5 +90,6 @@ module _ {T G L S K : Type 0} (known : T → Known) where
     pub mine : w.mine ≡ v.mine
     pub ended : w.ended ≡ v.ended ++ flat_map (λ x. lists_of (known x.seat)) workers
 
+-- the slots of workers
 abbrev pub slots_of : {T G L S K : Type 0} → List (Worker T G L S K) → List (Slot G L S K)
 slots_of workers = map (λ w. w.slot) workers

@@ -5,6 +5,7 @@ ghost use Rattle.am_base.specs.Outside.{AreTold, IsNamed};
 ghost use Rattle.am_base.specs.Seen.{seen};
 ghost use Rattle.am_counter.specs.Known.{lists_of};
 ghost use Rattle.am_counter.specs.Played.{has_dial};
+ghost use Rattle.am_journal.specs.Limits.{connection_count};
 ghost use Rattle.am_slots.specs.Slots.{Has, Tells, HasName, outside, unbound};
 ghost use Rattle.am_slots.specs.Working.{DidRead, DidWrite, HasDialled, IsFresh, IsReady, Works};
 
@@ -37,7 +38,7 @@ fn serve_sides<
     objects: &mut Objects<G, L, S, K>,
 ) -> (Option<Ending>, WriteEnd)
     requires fits { C.fits at.now.desk.now seat.old × C.fits at.now.desk.now other.old }
-    requires conn { at.now.conn < 64 }
+    requires conn { at.now.conn < connection_count }
     requires dialled { (has_dial (C.known seat.old).seen at.now.conn ≡ true) × (has_dial (C.known other.old).seen at.now.conn ≡ true) }
     ensures fits { C.fits at.now.desk.now seat.new × C.fits at.now.desk.now other.new }
     ensures read { DidRead C.enabled C.answer at.now.conn (C.known seat.old) (C.known seat.new)
@@ -76,7 +77,7 @@ fn serve_connection<
     objects: Objects<G, L, S, K>,
 ) -> Slot<G, L, S, K>
     requires fits { C.fits at.now.desk.now seat.old }
-    requires conn { at.now.conn < 64 }
+    requires conn { at.now.conn < connection_count }
     requires dialled { HasDialled at.now.conn (C.known seat.old) }
     requires parts { (C.known seat.old).parts ≡ 2 }
     requires begins { ((S.told objects.reader).bytes ≡ (L.told objects.link).begins) × AreTold (K.told objects.writer).bytes [] }
@@ -107,7 +108,7 @@ fn serve_gate<
     R: Threads + Wait + Sync,
 >(rt: &R, alloc: Global, at: &Station<'_, C>, seat: &mut T, gate: G) -> Slot<G, L, S, K>
     requires fits { C.fits at.now.desk.now seat.old }
-    requires conn { at.now.conn < 64 }
+    requires conn { at.now.conn < connection_count }
     requires fresh { IsFresh 2 (C.known seat.old) }
     requires waits { (G.told gate).faults ≡ 0 }
     ensures fits { C.fits at.now.desk.now seat.new }
@@ -150,7 +151,7 @@ pub(crate) fn serve_slot<
     R: Threads + Wait + Sync,
 >(rt: &R, alloc: Global, at: &Station<'_, C>, worker: &mut Worker<T, G, L, S, K>)
     requires ready { IsReady (C.fits at.now.desk.now) C.known G.told worker.old }
-    requires conn { at.now.conn < 64 }
+    requires conn { at.now.conn < connection_count }
     ensures { Works (C.fits at.now.desk.now) C.known (outside G.told L.told S.told K.told)
         C.enabled C.unsent C.answer at.now.conn worker.old worker.new }
 {

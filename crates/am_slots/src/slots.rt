@@ -4,6 +4,7 @@ ghost use Rattle.std.specs.Prelude.{◌≡◌, ℕ, ◌<◌, ◌≤◌, ◌*◌,
 ghost use Rattle.std.specs.Fork.{AcceptsEach};
 ghost use Rattle.am_serve.specs.Gained.{Gains, gained};
 ghost use Rattle.am_serve.specs.Script.{EndsScript, asked_by_script};
+ghost use Rattle.am_journal.specs.Limits.{connection_count};
 ghost use Rattle.am_slots.specs.Binding.{AreWaiting, HaveNames};
 ghost use Rattle.am_slots.specs.Slots.{outside, unbound, HasRisenBy};
 ghost use Rattle.am_slots.specs.Working.{IsReady, Works, ServesEach, EachWorks, IsFresh};
@@ -54,7 +55,7 @@ fn serve_beside<
     workers: &mut [W],
 ) -> ScriptEnd
     requires fits { C.fits script.now.desk.now seat.old }
-    requires clients { script.now.clients ≤ 64 }
+    requires clients { script.now.clients ≤ connection_count }
     requires accepts { AcceptsEach F.Fn serve.now workers.old }
     ensures fits { C.fits script.now.desk.now seat.new }
     ensures gains { Gains (C.known seat.old) (gained (C.known seat.old) (C.known seat.new)) (C.known seat.new) }
@@ -90,9 +91,9 @@ fn serve_workers<
     workers: &mut [Worker<T, G, L, S, K>],
 ) -> ScriptEnd
     requires fits { C.fits script.now.desk.now seat.old }
-    requires clients { script.now.clients ≤ 64 }
+    requires clients { script.now.clients ≤ connection_count }
     requires ready { All (IsReady (C.fits script.now.desk.now) C.known G.told) workers.old }
-    requires few { length workers.old ≤ 64 }
+    requires few { length workers.old ≤ connection_count }
     ensures fits { C.fits script.now.desk.now seat.new }
     ensures gains { Gains (C.known seat.old) (gained (C.known seat.old) (C.known seat.new)) (C.known seat.new) }
     ensures ends { EndsScript C.enabled C.answer script.now.clients (C.known seat.old) (asked_by_script script.now.lines.now) result (C.known seat.new) }
@@ -100,7 +101,7 @@ fn serve_workers<
         C.enabled C.unsent C.answer workers.old workers.new }
 {
     let serve = |conn: usize, worker: &mut Worker<T, G, L, S, K>|
-        requires { (conn < 64) × IsReady (C.fits script.now.desk.now) C.known G.told worker.now }
+        requires { (conn < connection_count) × IsReady (C.fits script.now.desk.now) C.known G.told worker.now }
         ensures { Works (C.fits script.entry.now.desk.now) C.known (outside G.told L.told S.told K.told)
             C.enabled C.unsent C.answer conn worker.entry.now worker.exit.now }
     {
@@ -132,7 +133,7 @@ fn serve_bound<
     service: &Service<'_>,
 ) -> Result<(Slots<G, L, S, K>, ScriptEnd), NoMemory>
     requires fits { C.fits desk.now seat.old }
-    requires clients { (service.now.clients ≤ 64) × (length bound ≡ service.now.clients) }
+    requires clients { (service.now.clients ≤ connection_count) × (length bound ≡ service.now.clients) }
     requires fresh { IsFresh (2 * service.now.clients + 1) (C.known seat.old) × ((C.known seat.old).seen ≡ []) }
     requires waiting { AreWaiting G.told bound }
     ensures fits { C.fits desk.now seat.new }
@@ -171,7 +172,7 @@ pub fn serve_slots<H: Host, C: Seats<Seat = T> + Sync, T: Send + Drop, R: Thread
     service: &Service<'_>,
 ) -> Result<(HostSlots<H>, ScriptEnd), NoMemory>
     requires fits { C.fits desk.now seat.old }
-    requires clients { service.now.clients ≤ 64 }
+    requires clients { service.now.clients ≤ connection_count }
     requires fresh { IsFresh (2 * service.now.clients + 1) (C.known seat.old) × ((C.known seat.old).seen ≡ []) }
     ensures fits { C.fits desk.now seat.new }
     ensures parts { (C.known seat.new).parts ≡ (C.known seat.old).parts }

@@ -2,8 +2,11 @@
 use Rattle.std.specs.Prelude.{◌≡◌, ◌⊎◌, ℕ, ◌≤◌, ◌==◌, nat_lt, nat_le, Bool, true, false, not, ◌&&◌, List, [], ◌∷◌, Option, Some}
 use Rattle.std.specs.Prelude.{None, if◌then◌else◌, codes, string_bytes}
 use Rattle.std.specs.Str.{bytes_eq, IsUtf8}
+use Rattle.am_text.specs.Ascii.{minus}
 use Rattle.am_text.specs.Front.{after_front}
 use Rattle.am_text.specs.Number.{number_of}
+use Rattle.am_journal.specs.Limits.{connection_count}
+use Rattle.am_words.specs.Limits.{most_rounds}
 use Rattle.am_words.specs.declared.asked.Asked.{Asked}
 use Rattle.am_words.specs.declared.asked.Asked.TheVariants as asked
 use Rattle.am_words.specs.declared.asked.Tree.{Tree}
@@ -36,11 +39,11 @@ up_to most (Some n) = if nat_lt 0 n && nat_le n most then Some n else None
 
 -- a number of clients, in decimal: 1 to 64
 abbrev pub clients_of : List ℕ → Option ℕ
-clients_of number = up_to 64 (number_of number)
+clients_of number = up_to connection_count (number_of number)
 
 -- a number of rounds, in decimal: 1 to 100,000
 abbrev pub rounds_of : List ℕ → Option ℕ
-rounds_of number = up_to 100000 (number_of number)
+rounds_of number = up_to most_rounds (number_of number)
 
 -- how many rounds the words ask for, where they ask for a drill
 abbrev pub asks_drill : List (List ℕ) → Option ℕ
@@ -52,13 +55,14 @@ asks_drill (command ∷ number ∷ other ∷ words) = None
 -- a path isn't empty and doesn't begin with `-`
 abbrev pub is_path : List ℕ → Bool
 is_path [] = false
-is_path (byte ∷ bytes) = not (byte == 45)
+is_path (byte ∷ bytes) = not (byte == minus)
 
 -- the path with the number of clients, where each is one
 abbrev pub with_clients : List ℕ → Option ℕ → Option (List ℕ × ℕ)
 with_clients path None = None
 with_clients path (Some n) = if is_path path then Some (path, n) else None
 
+-- a path and a number of clients, where the words are such
 abbrev pub path_and_clients : List ℕ → List ℕ → Option (List ℕ × ℕ)
 path_and_clients path number = with_clients path (clients_of number)
 
@@ -135,8 +139,8 @@ abbrev pub IsWithin : Asked → Type 0
 IsWithin asked.Replay = Unit {0}
 IsWithin asked.Trace = Unit {0}
 IsWithin asked.Pack = Unit {0}
-IsWithin (asked.Drill rounds) = (1 ≤ rounds) × (rounds ≤ 100000)
-IsWithin (asked.Serve path clients) = (1 ≤ clients) × (clients ≤ 64)
+IsWithin (asked.Drill rounds) = (1 ≤ rounds) × (rounds ≤ most_rounds)
+IsWithin (asked.Serve path clients) = (1 ≤ clients) × (clients ≤ connection_count)
 IsWithin (asked.Do path tree) = Unit {0}
 
 -- the words ask for what one word asks for: a replay, a trace or packing

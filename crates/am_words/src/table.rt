@@ -4,6 +4,7 @@ ghost use Rattle.std.specs.Prelude.{◌≡◌, is_some};
 ghost use Rattle.am_words.specs.Words.{are_alone, are_pack, are_replay, are_trace, clients_of, in_three, in_two, is_path, path_and_clients, rounds_of, tree_of};
 
 use crate::asked::Tree;
+use am_journal::CONNECTIONS;
 use am_text::{Bytes, after_front, read_decimal};
 
 /// Whether the words ask for a replay.
@@ -42,9 +43,6 @@ pub(crate) fn is_pack(words: &[Bytes]) -> bool
 /// The most rounds of a drill.
 const MOST_ROUNDS: u64 = 100_000;
 
-/// The most clients that are served.
-const MOST_CLIENTS: u64 = 64;
-
 /// The number of rounds, where the word is one.
 pub(crate) fn rounds_of(number: &[u8]) -> Option<u64>
     ensures { result ≡ rounds_of number.now }
@@ -60,7 +58,7 @@ pub(crate) fn clients_of(number: &[u8]) -> Option<u32>
     ensures { result ≡ clients_of number.now }
 {
     match read_decimal(number) {
-        Some(n) if 0 < n && n <= MOST_CLIENTS => Some(n as u32),
+        Some(n) if 0 < n && n <= CONNECTIONS as u64 => Some(n as u32),
         _ => None,
     }
 }

@@ -4,6 +4,7 @@ use Rattle.wait_queue.specs.declared.types.Asker.{Asker}
 use Rattle.wait_queue.specs.declared.types.Piece.{Piece}
 use Rattle.win_events.specs.declared.item.Item.{Item}
 use Rattle.event_book.specs.BookState.{BookState, IsOpen, IsLiving, IsTaken, read_waits, piece_for, served_of, after_add, after_put, after_ask, after_serve, after_written, after_cancel, after_leave, after_delete}
+use Rattle.wait_queue.specs.Limits.{max_openings}
 
 -- An opening is added to a window, an item is put into it, a read is asked, or the oldest waiting read that can be answered is served.
 pub data Making : Type 0 where
@@ -21,12 +22,14 @@ pub data Ending : Type 0 where
 
 -- ---- what makes something, at this entry
 
+-- a call may be made
 abbrev pub CanMake : BookState → Making → Type 0
-CanMake s (Add window) = length s.owners < 4294967295
+CanMake s (Add window) = length s.owners < max_openings
 CanMake s (Put window item) = IsOpen s window
 CanMake s (Ask r) = IsLiving s r.opening
 CanMake s Serve = Unit {0}
 
+-- the event files after a call
 abbrev pub made : ℕ → BookState → Making → BookState
 made at s (Add window) = after_add s window
 made at s (Put window item) = after_put s window item
@@ -37,24 +40,29 @@ made at s Serve = after_serve s at
 abbrev pub Answers : Type 0
 Answers = List (Asker × Piece)
 
+-- the answer, if there is one
 abbrev pub if_answered : Option (Asker × Piece) → Answers
 if_answered None = []
 if_answered (Some answer) = answer ∷ []
 
+-- the answers that a call gives
 abbrev pub given : BookState → Making → Answers
 given s (Add window) = []
 given s (Put window item) = []
 given s (Ask r) = if read_waits s r then [] else (r, piece_for s r) ∷ []
 given s Serve = if_answered (served_of s)
 
+-- each call may be made where it comes
 unfoldable pub CanMakeAll : ℕ → BookState → List Making → Type 0
 CanMakeAll at s [] = Unit {0}
 CanMakeAll at s (c ∷ cs) = CanMake s c × CanMakeAll at (made at s c) cs
 
+-- the event files after calls
 unfoldable pub all_made : ℕ → BookState → List Making → BookState
 all_made at s [] = s
 all_made at s (c ∷ cs) = all_made at (made at s c) cs
 
+-- the answers that calls give
 unfoldable pub all_given : ℕ → BookState → List Making → Answers
 all_given at s [] = []
 all_given at s (c ∷ cs) = given s c ++ all_given at (made at s c) cs
@@ -66,22 +74,26 @@ bytes_to opening (answer ∷ answers) = (if answer.0.opening == opening then ans
 
 -- ---- what ends something, at this entry
 
+-- a call may be made
 abbrev pub CanEnd : BookState → Ending → Type 0
 CanEnd s (Written window number) = IsTaken s window number
 CanEnd s (Cancel conn tag) = Unit {0}
 CanEnd s (Leave opening) = IsLiving s opening
 CanEnd s (Delete window) = Unit {0}
 
+-- the event files after a call
 abbrev pub ended : ℕ → BookState → Ending → BookState
 ended at s (Written window number) = after_written s window number at
 ended at s (Cancel conn tag) = after_cancel s conn tag
 ended at s (Leave opening) = after_leave s opening at
 ended at s (Delete window) = after_delete s window at
 
+-- each call may be made where it comes
 unfoldable pub CanEndAll : ℕ → BookState → List Ending → Type 0
 CanEndAll at s [] = Unit {0}
 CanEndAll at s (c ∷ cs) = CanEnd s c × CanEndAll at (ended at s c) cs
 
+-- the event files after calls
 unfoldable pub all_ended : ℕ → BookState → List Ending → BookState
 all_ended at s [] = s
 all_ended at s (c ∷ cs) = all_ended at (ended at s c) cs

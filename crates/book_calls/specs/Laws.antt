@@ -38,6 +38,7 @@ taker (Taken opening at) = Some (opening, at)
 taker (Back opening at back) = Some (opening, at)
 taker (Dropped at) = None
 
+-- an item is taken by an opening, at an entry
 pub record IsTakenAs (recorded : Option Recorded) (item : Item) (opening at : ℕ) : Type 0 where
   pub life : Life
   pub is : recorded ≡ Some (record { item = item; life = life })
@@ -76,5 +77,6 @@ pub record IsLawfulEntry (at : ℕ) (old new : BookState) (answers : Answers) : 
       → WasTaken old window number item opening entry ⊎ ((entry ≡ at) × HasItsAnswer answers number item opening)
   pub windows : (window number opening entry : ℕ) (item : Item) → WasTaken new window number item opening entry → window_of new.owners opening ≡ window
 
+-- so it is with any calls of an entry
 abbrev pub CallsAreLawful : Type 0
 CallsAreLawful = (at : ℕ) (old new : BookState) (answers : Answers) → IsBefore at old → IsByCalls at old new answers → IsLawfulEntry at old new answers

@@ -8,7 +8,7 @@ use Rattle.am_text.specs.declared.range.Range.{Range}
 use Rattle.edit_log.specs.declared.types.Edit.{Edit}
 use Rattle.edit_log.specs.Edited.{text_after}
 use Rattle.win_text.specs.Bodies.{null_range, IsInside, AreInRange}
-use Rattle.core_addresses.specs.Data.{replacing}
+use Rattle.core_addresses.specs.Data.{replacement}
 use Rattle.core_windows.specs.Places.{at_place}
 use Rattle.core_windows.specs.Possible.{text_in}
 use Rattle.core_windows.specs.Windows.{Window, window_at, edited}
@@ -39,7 +39,7 @@ replaced_by : (t text : List ℕ) (r : Range) (b : Bool) → IsInside t r → (e
 replaced_by t text r true i e = tt
 replaced_by t text r false i e = (record { order = i.order; bounds = i.bounds; some = some_left r.q0 r.q1 (length text) i.order e }, tt)
 
-pub replacing_in_range : (t text : List ℕ) (r : Range) → IsInside t r → AreInRange t (replacing r text)
+pub replacing_in_range : (t text : List ℕ) (r : Range) → IsInside t r → AreInRange t (replacement r text)
 replacing_in_range t text r i = replaced_by t text r (eqb r.q0 r.q1 && eqb (length text) 0) i refl
 
 none_put : (a b n : ℕ) → (eqb a b && eqb n 0) ≡ true → n ≡ 0
@@ -53,7 +53,7 @@ put_front : (text : List ℕ) (b : Bool) → (eqb 0 0 && eqb (length text) 0) �
 put_front text true e = nil_of text (none_put 0 0 (length text) e)
 put_front text false e = append-nil text
 
-pub front_text : (text : List ℕ) → text_after [] (replacing null_range text) ≡ text
+pub front_text : (text : List ℕ) → text_after [] (replacement null_range text) ≡ text
 front_text text = put_front text (eqb 0 0 && eqb (length text) 0) refl
 
 -- the text that was put lies in the text that is left
@@ -65,7 +65,7 @@ put_inside : (t text : List ℕ) (r : Range) (b : Bool) → IsInside t r → (eq
 put_inside t text r true i e = let n : length text ≡ 0 = none_put r.q0 r.q1 (length text) e in record { order = omega arith; bounds = omega (arith, i.order, i.bounds) }
 put_inside t text r false i e = record { order = omega arith; bounds = put_length t text r.q0 r.q1 i.order i.bounds }
 
-pub range_put_inside : (t text : List ℕ) (r : Range) → IsInside t r → IsInside (text_after t (replacing r text)) (range_put r text)
+pub range_put_inside : (t text : List ℕ) (r : Range) → IsInside t r → IsInside (text_after t (replacement r text)) (range_put r text)
 range_put_inside t text r i = put_inside t text r (eqb r.q0 r.q1 && eqb (length text) 0) i refl
 
 pub ruleset joins = (did_then)

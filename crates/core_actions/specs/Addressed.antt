@@ -11,17 +11,21 @@ use Rattle.core_windows.specs.declared.change.Setting.TheVariants as setting
 use Rattle.core_scene.specs.declared.deed.Deed.{Deed}
 use Rattle.core_scene.specs.declared.deed.Deed.TheVariants as deed
 use Rattle.core_scene.specs.Scenes.{SceneState}
+use Rattle.am_text.specs.Ascii.{colon}
 use Rattle.core_actions.specs.Files.{whole_of}
 
 -- ---- a name, and an address behind a colon
 
+-- a colon
 abbrev pub is_colon : ℕ → Bool
-is_colon c = c == 58
+is_colon c = c == colon
 
+-- the text up to this place, or all of it
 abbrev pub name_before : Option ℕ → List ℕ → List ℕ
 name_before None text = text
 name_before (Some at) text = take at text
 
+-- the text behind the colon at this place
 abbrev pub address_behind : Option ℕ → List ℕ → Option (List ℕ)
 address_behind None text = None
 address_behind (Some at) text = Some (drop (at + 1) text)
@@ -30,11 +34,13 @@ address_behind (Some at) text = Some (drop (at + 1) text)
 abbrev pub name_part : List ℕ → List ℕ
 name_part text = name_before (position is_colon text) text
 
+-- what stands behind the first colon, if there is one
 abbrev pub address_part : List ℕ → Option (List ℕ)
 address_part text = address_behind (position is_colon text) text
 
 -- ---- the range that it names
 
+-- the range of an address, if it has one
 abbrev pub range_or_none : Outcome → Option Range
 range_or_none (Ok r) = Some r
 range_or_none (Err f) = None
@@ -44,6 +50,7 @@ abbrev pub range_of : BodyState → Option Tree → Option Range
 range_of body None = None
 range_of body (Some address) = range_or_none (value address body.text (whole_of body.text) body.dot)
 
+-- the range of an address in a window's body
 abbrev pub range_in : Option Window → List ℕ → Option Range
 range_in None address = None
 range_in (Some window) address = range_of window.body (small_address address)

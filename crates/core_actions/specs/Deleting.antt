@@ -10,6 +10,7 @@ use Rattle.core_scene.specs.Scenes.{SceneState, then_}
 use Rattle.core_actions.specs.Seen.{name_of, dir_of, asks}
 use Rattle.core_actions.specs.Errors.{errors_deeds}
 
+-- a window is deleted
 abbrev pub delete_deeds : ℕ → SceneState → List Deed
 delete_deeds w s = deed.Windows (change.Deletes w) ∷ []
 
@@ -17,6 +18,7 @@ delete_deeds w s = deed.Windows (change.Deletes w) ∷ []
 unfoldable pub warning : List ℕ → List ℕ
 warning name = name ++ codes " modified\n"
 
+-- a window counts as saved
 abbrev pub clean_deeds : ℕ → SceneState → List Deed
 clean_deeds w s = deed.Windows (change.Sets w setting.Clean) ∷ []
 

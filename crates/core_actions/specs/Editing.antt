@@ -1,7 +1,7 @@
 -- Cut, Snarf and Paste.
 use Rattle.std.specs.Prelude.{ℕ, ◌+◌, ◌-◌, ◌==◌, List, [], ◌∷◌, ◌++◌, length, Option, if◌then◌else◌}
 use Rattle.am_text.specs.declared.range.Range.{Range}
-use Rattle.core_addresses.specs.Data.{replacing}
+use Rattle.core_addresses.specs.Data.{replacement}
 use Rattle.core_windows.specs.Possible.{text_in}
 use Rattle.core_windows.specs.Windows.{Window, window_at}
 use Rattle.core_windows.specs.declared.change.Change.TheVariants as change
@@ -21,14 +21,15 @@ snarf_deeds w s =
 
 -- and it is removed
 abbrev pub cut_deeds : ℕ → SceneState → List Deed
-cut_deeds w s = snarf_deeds w s ++ deed.Windows (change.Edits w (replacing (dot_of (window_at s.windows w)) [])) ∷ []
+cut_deeds w s = snarf_deeds w s ++ deed.Windows (change.Edits w (replacement (dot_of (window_at s.windows w)) [])) ∷ []
 
 -- a range, once a text has taken its place
 abbrev pub range_put : Range → List ℕ → Range
 range_put r text = record { q0 = r.q0; q1 = r.q0 + length text }
 
+-- a text takes the place of a range, and is dot
 abbrev pub put_over : ℕ → Range → List ℕ → List Deed
-put_over w r text = deed.Windows (change.Edits w (replacing r text)) ∷ deed.Windows (change.Sets w (setting.Dot (range_put r text))) ∷ []
+put_over w r text = deed.Windows (change.Edits w (replacement r text)) ∷ deed.Windows (change.Sets w (setting.Dot (range_put r text))) ∷ []
 
 -- how many runes are left without the text that is selected
 abbrev pub size_around : Option Window → ℕ

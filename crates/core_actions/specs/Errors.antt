@@ -2,7 +2,7 @@
 use Rattle.std.specs.Prelude.{ℕ, ◌==◌, ◌||◌, not, Bool, false, List, [], ◌∷◌, ◌++◌, length, codes, Option, Some, None, if◌then◌else◌}
 use Rattle.acme_tree.specs.Trees.{world_is_full}
 use Rattle.win_ctl.specs.Directory.{errors_name}
-use Rattle.core_addresses.specs.Data.{replacing}
+use Rattle.core_addresses.specs.Data.{replacement}
 use Rattle.sam_address.specs.Value.{null_at}
 use Rattle.core_windows.specs.Possible.{text_in}
 use Rattle.core_windows.specs.Windows.{window_at, world_of, named}
@@ -16,7 +16,7 @@ use Rattle.core_actions.specs.Made.{make_deeds}
 
 -- the text is put at the end of a window's body
 abbrev pub append_deeds : ℕ → List ℕ → SceneState → List Deed
-append_deeds w text s = deed.Windows (change.Edits w (replacing (null_at (length (text_in (window_at s.windows w)))) text)) ∷ []
+append_deeds w text s = deed.Windows (change.Edits w (replacement (null_at (length (text_in (window_at s.windows w)))) text)) ∷ []
 
 -- at the end of that window, or of one that is made
 abbrev pub put_in : List ℕ → List ℕ → Option ℕ → SceneState → List Deed
@@ -37,6 +37,7 @@ is_missing (Some w) s = false
 abbrev pub is_dropped : List ℕ → Option ℕ → SceneState → Bool
 is_dropped text w s = (length text == 0) || is_missing w s || not (fits (size_of w s) (length text))
 
+-- a text goes to the errors window, unless it is dropped
 abbrev pub errors_in : List ℕ → List ℕ → Option ℕ → SceneState → List Deed
 errors_in name text w s = if is_dropped text w s then [] else put_in name text w s
 

@@ -10,7 +10,7 @@ use Rattle.name_tree.specs.Listing.{found_at}
 use Rattle.name_tree.specs.declared.types.Node.{Node}
 use Rattle.name_tree.specs.declared.types.Found.{Found}
 use Rattle.name_tree.specs.declared.types.Found.TheVariants as found
-use Rattle.core_addresses.specs.Data.{replacing}
+use Rattle.core_addresses.specs.Data.{replacement}
 use Rattle.core_windows.specs.Possible.{text_in}
 use Rattle.core_windows.specs.Windows.{Window, window_at}
 use Rattle.core_windows.specs.declared.change.Change.TheVariants as change
@@ -27,11 +27,13 @@ use Rattle.core_actions.specs.Paths.{path_named, path_of}
 
 -- ---- what is read
 
+-- the text of what was found
 abbrev pub text_found : Found → Result (List ℕ) ActionFault
 text_found found.None = Err fault.FileNotFound
 text_found (found.File bytes) = Ok (decode bytes)
 text_found (found.Dir bytes) = Ok (decode bytes)
 
+-- the text of the file or directory at a path
 abbrev pub text_there : List (List ℕ × Node) → Result (List ℕ) ActionFault → Result (List ℕ) ActionFault
 text_there files (Err f) = Err f
 text_there files (Ok path) = text_found (found_at files (utf8 path))
@@ -42,14 +44,16 @@ file_text w name s = text_there s.files (path_of (window_at s.windows w) name)
 
 -- ---- Get
 
+-- the range of a whole text
 abbrev pub whole_of : List ℕ → Range
 whole_of text = record { q0 = 0; q1 = length text }
 
 -- the text takes the place of the body, which counts as unmodified
 abbrev pub fill_deeds : ℕ → List ℕ → SceneState → List Deed
 fill_deeds w text s =
-    deed.Windows (change.Edits w (replacing (whole_of (text_in (window_at s.windows w))) text)) ∷ deed.Windows (change.Sets w setting.Clean) ∷ []
+    deed.Windows (change.Edits w (replacement (whole_of (text_in (window_at s.windows w))) text)) ∷ deed.Windows (change.Sets w setting.Clean) ∷ []
 
+-- the body becomes this text, where there is one that fits
 abbrev pub fill_outcome : ℕ → Result (List ℕ) ActionFault → SceneState → Outcome
 fill_outcome w (Err f) s = fails f
 fill_outcome w (Ok text) s = if fits 0 (length text) then does (fill_deeds w text s) else fails fault.TextTooLong
@@ -60,6 +64,7 @@ get_outcome w name s = fill_outcome w (file_text w name s) s
 
 -- ---- Put
 
+-- the request that stores a file
 abbrev pub save_job : ℕ → List ℕ → Saved → Job
 save_job w dir saved = record { kind = kind.Save; window = w; dir = dir; command = saved.path; input = saved.text }
 
@@ -72,6 +77,7 @@ store_deeds w saved s =
 abbrev pub is_own : Option Window → List ℕ → Bool
 is_own window path = not (length (name_of window) == 0) && bytes_eq path (path_named (dir_of window) (name_of window))
 
+-- the window counts as saved, where the test holds
 abbrev pub clean_if : Bool → ℕ → List Deed
 clean_if b w = if b then deed.Windows (change.Sets w setting.Clean) ∷ [] else []
 
@@ -79,6 +85,7 @@ clean_if b w = if b then deed.Windows (change.Sets w setting.Clean) ∷ [] else 
 abbrev pub put_deeds : ℕ → Saved → SceneState → List Deed
 put_deeds w saved s = store_deeds w saved s ++ clean_if (is_own (window_at s.windows w) saved.path) w
 
+-- the body is stored at a path
 abbrev pub put_at : ℕ → Result (List ℕ) ActionFault → SceneState → Outcome
 put_at w (Err f) s = fails f
 put_at w (Ok path) s =

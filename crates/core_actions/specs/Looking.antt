@@ -19,6 +19,7 @@ abbrev pub place_from : ℕ → List ℕ → List ℕ → Option ℕ
 place_from at wanted [] = if length wanted == 0 then Some at else None
 place_from at wanted (c ∷ cs) = if starts_with nat_eq (c ∷ cs) wanted then Some at else place_from (at + 1) wanted cs
 
+-- the first place, or the other where there is none
 abbrev pub or_place : Option ℕ → Option ℕ → Option ℕ
 or_place None other = other
 or_place (Some at) other = Some at
@@ -27,6 +28,7 @@ or_place (Some at) other = Some at
 abbrev pub place_of : List ℕ → List ℕ → ℕ → Option ℕ
 place_of wanted text from = or_place (place_from from wanted (drop from text)) (place_from 0 wanted text)
 
+-- the range of so many runes at a place
 abbrev pub range_at : ℕ → Option ℕ → Option Range
 range_at len None = None
 range_at len (Some at) = Some (record { q0 = at; q1 = at + len })
@@ -50,6 +52,7 @@ find_deeds w argument s = search_deeds w (if length argument == 0 then dot_text 
 abbrev pub look_target : ℕ → List ℕ → SceneState → Option Target
 look_target w text s = target_of (whole_name (dir_of (window_at s.windows w)) (name_part text)) s
 
+-- what the text names is opened, or the text is searched for
 abbrev pub open_or_search : Entry → ℕ → List ℕ → Option Target → SceneState → List Deed
 open_or_search e w text None s = search_deeds w text s
 open_or_search e w text (Some t) s = open_deeds e t (address_part text) s

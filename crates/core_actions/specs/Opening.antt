@@ -15,6 +15,7 @@ use Rattle.core_scene.specs.declared.deed.Entry.{Entry}
 use Rattle.core_scene.specs.declared.deed.Deed.{Deed}
 use Rattle.core_scene.specs.declared.deed.Deed.TheVariants as deed
 use Rattle.core_scene.specs.Scenes.{SceneState, then_}
+use Rattle.am_text.specs.Ascii.{slash}
 use Rattle.core_actions.specs.declared.opening.Target.{Target}
 use Rattle.core_actions.specs.declared.opening.Target.TheVariants as target
 use Rattle.core_actions.specs.Seen.{dir_of, fits}
@@ -26,12 +27,13 @@ use Rattle.core_actions.specs.Addressed.{name_part, address_part, address_deeds}
 
 -- a directory's window has a `/` at the end of its name
 abbrev pub dir_name : List ℕ → List ℕ
-dir_name path = if is_root path then path else path ++ 47 ∷ []
+dir_name path = if is_root path then path else path ++ slash ∷ []
 
 -- a body has room for the text
 abbrev pub shown_if_fits : List ℕ → List ℕ → Option Target
 shown_if_fits name text = if fits 0 (length text) then Some (target.New name text) else None
 
+-- what is opened for what was found at a path
 abbrev pub shown_as : List ℕ → Found → Option Target
 shown_as path found.None = None
 shown_as path (found.File bytes) = shown_if_fits path (decode bytes)
@@ -41,6 +43,7 @@ shown_as path (found.Dir bytes) = shown_if_fits (dir_name path) (decode bytes)
 abbrev pub file_target : List ℕ → List (List ℕ × Node) → Option Target
 file_target path files = if is_place path then shown_as path (found_at files (utf8 path)) else None
 
+-- the window, or the other where there is none
 abbrev pub live_or : Option ℕ → Option Target → Option Target
 live_or None other = other
 live_or (Some w) other = Some (target.Live w)
@@ -60,6 +63,7 @@ IsThere windows (target.New name text) = Unit {0}
 abbrev pub show_deeds : List ℕ → List ℕ → SceneState → List Deed
 show_deeds name text s = make_deeds name text s ++ deed.Windows (change.Sets (next_window s) setting.Clean) ∷ []
 
+-- a new window shows a text, at an address
 abbrev pub show_at : Entry → List ℕ → List ℕ → Option (List ℕ) → SceneState → List Deed
 show_at e name text address s = then_ e (show_deeds name text) (address_deeds (next_window s) address) s
 
@@ -74,10 +78,12 @@ open_deeds e (target.New name text) address s = if world_is_full (world_of s.win
 abbrev pub empty_deeds : List ℕ → SceneState → List Deed
 empty_deeds name s = if world_is_full (world_of s.windows) then [] else deed.Windows (change.Makes name) ∷ []
 
+-- what was found is opened, or an empty window is made
 abbrev pub open_or_make : Entry → Option Target → List ℕ → Option (List ℕ) → SceneState → List Deed
 open_or_make e None name address s = empty_deeds name s
 open_or_make e (Some t) name address s = open_deeds e t address s
 
+-- what a name names is opened, or an empty window is made
 abbrev pub named_deeds : Entry → List ℕ → Option (List ℕ) → SceneState → List Deed
 named_deeds e name address s = open_or_make e (target_of name s) name address s
 

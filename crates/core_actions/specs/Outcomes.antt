@@ -8,8 +8,10 @@ pub record Outcome : Type 0 where
   pub deeds : List Deed
   pub fault : Option ActionFault
 
+-- these deeds are done
 abbrev pub does : List Deed → Outcome
 does deeds = record { deeds = deeds; fault = None }
 
+-- nothing is done, for this fault
 abbrev pub fails : ActionFault → Outcome
 fails fault = record { deeds = []; fault = Some fault }

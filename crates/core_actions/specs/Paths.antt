@@ -5,13 +5,14 @@ use Rattle.acme_cmd.specs.Names.{whole_name}
 use Rattle.acme_cmd.specs.Paths.{is_path}
 use Rattle.name_tree.specs.Paths.{is_root}
 use Rattle.core_windows.specs.Windows.{Window}
+use Rattle.am_text.specs.Ascii.{slash}
 use Rattle.core_actions.specs.Seen.{name_of, dir_of}
 use Rattle.core_actions.specs.declared.fault.ActionFault.{ActionFault}
 use Rattle.core_actions.specs.declared.fault.ActionFault.TheVariants as fault
 
 -- without a last `/`
 abbrev pub without_last_slash : List ℕ → List ℕ
-without_last_slash name = if ends_with nat_eq name (47 ∷ []) then take (length name - 1) name else name
+without_last_slash name = if ends_with nat_eq name (slash ∷ []) then take (length name - 1) name else name
 
 -- likewise, but `/` itself keeps it
 abbrev pub without_slash : List ℕ → List ℕ
@@ -25,9 +26,11 @@ path_named dir name = without_slash (whole_name dir name)
 abbrev pub is_place : List ℕ → Bool
 is_place path = is_root path || is_path path
 
+-- the path, if it is one of a file or a directory
 abbrev pub place_or_fault : List ℕ → Result (List ℕ) ActionFault
 place_or_fault path = if is_place path then Ok path else Err fault.FileNotFound
 
+-- the path that a name has in a directory
 abbrev pub named_or_fault : List ℕ → List ℕ → Result (List ℕ) ActionFault
 named_or_fault dir name = if length name == 0 then Err fault.NoFileName else place_or_fault (path_named dir name)
 

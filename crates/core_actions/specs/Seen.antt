@@ -8,6 +8,7 @@ use Rattle.win_text.specs.Limits.{body_runes}
 use Rattle.core_windows.specs.Possible.{text_in}
 use Rattle.core_windows.specs.Windows.{Window}
 
+-- the name of a window, nothing where there is none
 abbrev pub name_of : Option Window → List ℕ
 name_of None = []
 name_of (Some window) = window.name
@@ -16,6 +17,7 @@ name_of (Some window) = window.name
 abbrev pub dir_of : Option Window → List ℕ
 dir_of window = directory (name_of window)
 
+-- the dot of a window, null where there is none
 abbrev pub dot_of : Option Window → Range
 dot_of None = null_range
 dot_of (Some window) = window.body.dot

@@ -8,6 +8,7 @@ use Rattle.core_actions.specs.declared.undoing.Move.{Move}
 use Rattle.core_actions.specs.declared.undoing.Move.TheVariants as move
 use Rattle.core_actions.specs.Undoing.{next_group, is_number, move_deeds}
 
+-- a window after Undo, or Redo
 abbrev pub moved_window : Move → Window → Window
 moved_window move.Undo window = undone_window window
 moved_window move.Redo window = redone_window window

@@ -17,10 +17,12 @@ next_group m None = None
 next_group move.Undo (Some window) = option_map number_in (last_of window.body.history.past)
 next_group move.Redo (Some window) = option_map number_in (first_of window.body.history.future)
 
+-- Undo, or Redo, in a window
 abbrev pub moves : Move → ℕ → Change
 moves move.Undo w = change.Undoes w
 moves move.Redo w = change.Redoes w
 
+-- whether it is this number
 abbrev pub is_number : ℕ → Option ℕ → Bool
 is_number n None = false
 is_number n (Some k) = k == n
@@ -34,6 +36,7 @@ abbrev pub moves_from : Move → ℕ → ℕ → List (Option Window) → List D
 moves_from m n w [] = []
 moves_from m n w (o ∷ ws) = moves_if m n w o ++ moves_from m n (w + 1) ws
 
+-- the move in each window that has a group of this number next
 abbrev pub linked_deeds : Move → Option ℕ → SceneState → List Deed
 linked_deeds m None s = []
 linked_deeds m (Some n) s = moves_from m n 1 s.windows

@@ -10,13 +10,11 @@ ghost use Rattle.core_actions.specs.Addressed.{is_colon, name_part, address_part
 
 use crate::deeds::set_in_window;
 use addr_syntax::read_address;
-use am_text::{Letters, NoMemory, Range, Rune};
+use am_text::{COLON, Letters, NoMemory, Range, Rune};
 use core_scene::{Entry, Scene, Setting, Windows};
 use sam_address::{AddrFault, value};
 use std::alloc::Global;
 use win_text::Body;
-
-const COLON: Rune = 0x3A;
 
 // The place of the first colon.
 fn colon_in(text: &[Rune]) -> Option<usize>

@@ -12,7 +12,7 @@ ghost use Rattle.core_actions.specs.Made.{next_window, make_deeds};
 
 use crate::seen::FRONT;
 use am_text::{NoMemory, Runes};
-use core_addresses::replacing;
+use core_addresses::replacement;
 use core_scene::{Change, Deed, Entry, Scene, Setting};
 use edit_log::Edits;
 use std::alloc::Global;
@@ -101,6 +101,12 @@ pub(crate) fn make_with(
 {
     let window = scene.windows.world().next;
     make(alloc, scene, entry, name)?;
-    edit_window(alloc, scene, entry, window, replacing(alloc, FRONT, text)?)?;
+    edit_window(
+        alloc,
+        scene,
+        entry,
+        window,
+        replacement(alloc, FRONT, text)?,
+    )?;
     Ok(window)
 }

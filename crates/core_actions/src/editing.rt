@@ -12,7 +12,7 @@ use crate::deeds::{edit_and_set, edit_window};
 use crate::fault::ActionFault;
 use crate::seen::{dot_at, dot_text_at, fits, size_at};
 use am_text::{NoMemory, Range, Runes};
-use core_addresses::replacing;
+use core_addresses::replacement;
 use core_scene::{Deed, Entry, Scene, Setting};
 use std::alloc::Global;
 
@@ -39,7 +39,7 @@ pub fn cut(alloc: Global, scene: &mut Scene, entry: Entry, window: u32) -> Resul
     ensures kept { kept_of scene.new ≡ kept_of scene.old }
 {
     let dot = dot_at(&scene.windows, window);
-    let edits = replacing(alloc, dot, Runes::new(alloc))?;
+    let edits = replacement(alloc, dot, Runes::new(alloc))?;
     snarf(alloc, scene, entry, window)?;
     edit_window(alloc, scene, entry, window, edits)
 }
@@ -72,7 +72,7 @@ fn put_over(
 {
     let (window, range) = place;
     let put = range_put(range, &text);
-    let edits = replacing(alloc, range, text)?;
+    let edits = replacement(alloc, range, text)?;
     edit_and_set(alloc, scene, entry, window, (edits, Setting::Dot(put)))
 }
 

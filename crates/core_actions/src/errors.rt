@@ -9,7 +9,7 @@ use crate::deeds::{edit_window, make_with};
 use crate::seen::{fits, size_at};
 use acme_tree::world_is_full;
 use am_text::{NoMemory, Range, Rune, Runes};
-use core_addresses::replacing;
+use core_addresses::replacement;
 use core_scene::{Entry, Scene};
 use std::alloc::Global;
 use win_ctl::errors_name;
@@ -28,7 +28,7 @@ fn append(
     ensures kept { kept_of scene.new ≡ kept_of scene.old }
 {
     let end = size_at(&scene.windows, window);
-    let edits = replacing(alloc, Range { q0: end, q1: end }, text)?;
+    let edits = replacement(alloc, Range { q0: end, q1: end }, text)?;
     edit_window(alloc, scene, entry, window, edits)
 }
 

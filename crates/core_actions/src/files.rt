@@ -14,7 +14,7 @@ use crate::fault::ActionFault;
 use crate::paths::{path_named, path_of};
 use crate::seen::{dir_at, fits, name_at, size_at, text_at};
 use am_text::{NoMemory, Range, Rune, Runes, decode_whole, encode};
-use core_addresses::replacing;
+use core_addresses::replacement;
 use core_scene::{Deed, Entry, Found, Job, JobKind, Scene, Setting, Tree, Windows};
 use std::alloc::Global;
 
@@ -75,7 +75,7 @@ fn fill(
         q0: 0,
         q1: size_at(&scene.windows, window),
     };
-    let edits = replacing(alloc, whole, text)?;
+    let edits = replacement(alloc, whole, text)?;
     edit_and_set(alloc, scene, entry, window, (edits, Setting::Clean))
 }
 

@@ -18,10 +18,9 @@ use crate::paths::{is_place, is_root, without_slash};
 use crate::seen::{dir_at, fits};
 use acme_cmd::whole;
 use acme_tree::world_is_full;
-use am_text::{NoMemory, Rune, Runes, decode_whole, encode};
+use am_text::{NoMemory, Rune, Runes, SLASH, decode_whole, encode};
 use core_scene::{Change, Deed, Entry, Found, Scene, Setting, Tree, Windows};
 use std::alloc::Global;
-use win_ctl::SLASH;
 
 /// What a name opens.
 #[derive(Drop)]

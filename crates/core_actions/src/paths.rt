@@ -8,10 +8,9 @@ ghost use Rattle.core_actions.specs.Paths.{without_last_slash, without_slash, pa
 use crate::fault::ActionFault;
 use crate::seen::{dir_at, name_at};
 use acme_cmd::{is_path, whole};
-use am_text::{NoMemory, Rune, Runes};
+use am_text::{NoMemory, Rune, Runes, SLASH};
 use core_scene::Windows;
 use std::alloc::Global;
-use win_ctl::SLASH;
 
 /// Whether the path is `/`.
 pub(crate) fn is_root(path: &[Rune]) -> bool

@@ -6,10 +6,10 @@ ghost use Rattle.core_windows.specs.Possible.{text_in};
 ghost use Rattle.core_windows.specs.Windows.{window_at};
 ghost use Rattle.core_actions.specs.Seen.{name_of, dir_of, dot_of, dot_text, fits, is_dir_name, is_guarded, asks};
 
-use am_text::{Letters, NoMemory, Range, Rune, Runes};
+use am_text::{Letters, NoMemory, Range, Rune, Runes, SLASH};
 use core_scene::Windows;
 use std::alloc::Global;
-use win_ctl::{ERRORS, SLASH, directory};
+use win_ctl::{ERRORS, directory};
 use win_text::BODY_RUNES;
 
 /// The null range at the front.

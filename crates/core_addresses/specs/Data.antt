@@ -44,20 +44,22 @@ xdata_given b count = record {
 -- ---- writes, the same to both
 
 -- the edit that puts a text in the place of a range; of a null range by an empty text it is none
-abbrev pub replacing : Range → List ℕ → List Edit
-replacing r text = if (r.q0 == r.q1) && (length text == 0) then [] else record { q0 = r.q0; q1 = r.q1; text = text } ∷ []
+abbrev pub replacement : Range → List ℕ → List Edit
+replacement r text = if (r.q0 == r.q1) && (length text == 0) then [] else record { q0 = r.q0; q1 = r.q1; text = text } ∷ []
 
 -- a body has at most 16,777,216 runes
 abbrev pub fits : List ℕ → Range → List ℕ → Result Taken RangeFault → Result Taken RangeFault
 fits body r text taken = if nat_le (length body - (r.q1 - r.q0) + length text) body_runes then taken else Err TooLong
 
+-- what a write takes, where no byte of a rune is left over
 abbrev pub is_whole : List ℕ → Result Taken RangeFault → Result Taken RangeFault
 is_whole rest taken = if length rest == 0 then taken else Err PartialRune
 
 -- the text takes the place of `addr`, which then is null behind it
 abbrev pub takes : BodyState → List ℕ → Taken
-takes b text = record { edits = replacing b.addr text; addr = null_at (b.addr.q0 + length text) }
+takes b text = record { edits = replacement b.addr text; addr = null_at (b.addr.q0 + length text) }
 
+-- what a write to `data` or `xdata` does
 abbrev pub taken_of : BodyState → Decoded → Result Taken RangeFault
 taken_of b written = is_whole written.rest (fits b.text b.addr written.text (Ok (takes b written.text)))
 

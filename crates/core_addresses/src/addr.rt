@@ -8,12 +8,10 @@ ghost use Rattle.core_addresses.specs.Data.{Tells};
 
 use crate::fault::RangeFault;
 use addr_syntax::{Addr, read_address};
-use am_text::{Bytes, Items, Letters, NoMemory, Range, Rune, decimal, decode_whole};
+use am_text::{Bytes, Items, Letters, NEWLINE, NoMemory, Range, Rune, decimal, decode_whole};
 use sam_address::{AddrFault, value};
 use std::alloc::Global;
 use win_text::Body;
-
-const NEWLINE: Rune = 10;
 
 // Puts `#n` at the end.
 fn push_rune_number(text: &mut Bytes, alloc: Global, n: usize) -> Result<(), NoMemory>

@@ -6,7 +6,7 @@ ghost use Rattle.edit_log.specs.Edited.{text_after};
 ghost use Rattle.win_text.specs.Bodies.{IsInside};
 ghost use Rattle.win_text.specs.BodyStories.{IsChangeOf};
 ghost use Rattle.win_text.specs.Limits.{body_runes};
-ghost use Rattle.core_addresses.specs.Data.{runes_within, whole_runes, data_given, xdata_given, replacing, takes, data_taken, Tells};
+ghost use Rattle.core_addresses.specs.Data.{runes_within, whole_runes, data_given, xdata_given, replacement, takes, data_taken, Tells};
 
 use crate::fault::RangeFault;
 use am_text::{Bytes, Items, Letters, NoMemory, Part, Range, Rune, Runes, decode_part, encode};
@@ -119,8 +119,8 @@ pub fn xdata_given(alloc: Global, body: &Body, count: usize) -> Result<Given, No
 }
 
 /// The edit that puts a text in the place of a range; of a null range by an empty text it is none.
-pub fn replacing(alloc: Global, range: Range, text: Runes) -> Result<Edits, NoMemory>
-    ensures { IfOk result (λ edits. edits ≡ replacing range text) }
+pub fn replacement(alloc: Global, range: Range, text: Runes) -> Result<Edits, NoMemory>
+    ensures { IfOk result (λ edits. edits ≡ replacement range text) }
 {
     let mut edits = Items::new(alloc);
     if range.q0 != range.q1 || !text.is_empty() {
@@ -153,7 +153,7 @@ fn takes(alloc: Global, body: &Body, text: Runes) -> Result<Taken, NoMemory>
     let addr = body.addr();
     let behind = addr.q0 + text.len();
     Ok(Taken {
-        edits: replacing(alloc, addr, text)?,
+        edits: replacement(alloc, addr, text)?,
         addr: Range {
             q0: behind,
             q1: behind,

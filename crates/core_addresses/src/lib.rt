@@ -6,6 +6,6 @@ mod data;
 mod fault;
 
 pub use addr::{address_range, range_text};
-pub use data::{Given, Taken, data_given, data_taken, replacing, xdata_given};
+pub use data::{Given, Taken, data_given, data_taken, replacement, xdata_given};
 pub use fault::RangeFault;
 pub use win_text::Body;

@@ -30,7 +30,7 @@ use Rattle.core_fids.specs.declared.refusal.Refusal.TheVariants as refusal
 use Rattle.core_fids.specs.declared.walking.WalkEnd.{WalkEnd}
 use Rattle.core_fids.specs.declared.walking.WalkEnd.TheVariants as end
 use Rattle.core_fids.specs.Plainly.{does}
-use Rattle.core_fids.specs.Refusals.{refused_with, reaction_or_refusal}
+use Rattle.core_fids.specs.Refusals.{refusal_with_effect, reaction_or_refusal}
 use Rattle.core_windows.specs.declared.change.Change.TheVariants as change
 use Rattle.core_windows.specs.Windows.{Window, window_at, named, world_of}
 use Rattle.core_fids.specs.Attaching.{is_version, agreement, version_reaction, root_of, attach_refusal, attach_to, or_attaches}
@@ -52,14 +52,14 @@ abbrev Answers : TBody → Result Reaction Refusal → Type 0
 Answers body (Ok d) = IsAnswered body d.answer
 Answers body (Err x) = Unit {0}
 
-refusal_answers : (body : TBody) (f : Effect) (x : Refusal) → IsAnswered body (refused_with f x).answer
+refusal_answers : (body : TBody) (f : Effect) (x : Refusal) → IsAnswered body (refusal_with_effect f x).answer
 refusal_answers body f x = inr (x, refl)
 
 settled : (body : TBody) (x : Result Reaction Refusal) → Answers body x → IsAnswered body (reaction_or_refusal x).answer
 settled body (Ok d) h = h
 settled body (Err x) h = inr (x, refl)
 
-refused_or : (body : TBody) (b : Bool) (f : Effect) (x : Refusal) (d : Reaction) → IsAnswered body d.answer → IsAnswered body (cond b (refused_with f x) d).answer
+refused_or : (body : TBody) (b : Bool) (f : Effect) (x : Refusal) (d : Reaction) → IsAnswered body d.answer → IsAnswered body (cond b (refusal_with_effect f x) d).answer
 refused_or body true f x d h = inr (x, refl)
 refused_or body false f x d h = h
 

@@ -31,6 +31,7 @@ edits_with_addr w edits range = change.Edits w edits ∷ change.Sets w (setting.
 
 -- ---- reads
 
+-- what a read of `addr` gives
 abbrev pub addr_text : Option Window → List ℕ
 addr_text None = []
 addr_text (Some window) = range_text window.body.addr
@@ -39,13 +40,16 @@ addr_text (Some window) = range_text window.body.addr
 abbrev pub gives : ℕ → Given → Reaction
 gives w given = does effect.Nothing (sets_addr w given.addr) (r.Read given.bytes)
 
+-- a read that gives nothing
 abbrev pub gives_nothing : Reaction
 gives_nothing = does effect.Nothing [] (r.Read [])
 
+-- what a read of `data` does
 abbrev pub data_reaction : ℕ → ℕ → Option Window → Reaction
 data_reaction w count None = gives_nothing
 data_reaction w count (Some window) = gives w (data_given window.body count)
 
+-- what a read of `xdata` does
 abbrev pub xdata_reaction : ℕ → ℕ → Option Window → Reaction
 xdata_reaction w count None = gives_nothing
 xdata_reaction w count (Some window) = gives w (xdata_given window.body count)
@@ -67,14 +71,17 @@ abbrev pub fault_of : RangeFault → Fault
 fault_of range.NoMemory = fault.NoMemory
 fault_of f = fault.Refused (range_refusal f)
 
+-- the address is set, or the refusal of a text that is none
 abbrev pub addr_or_refusal : ℕ → ℕ → Result Range RangeFault → Result Reaction Refusal
 addr_or_refusal w count (Ok range) = Ok (does effect.Nothing (sets_addr w range) (r.Write count))
 addr_or_refusal w count (Err f) = Err (range_refusal f)
 
+-- what a write to `addr` does
 abbrev pub addr_reaction : ℕ → List ℕ → Option Window → Result Reaction Refusal
 addr_reaction w bytes None = Err refusal.WindowDeleted
 addr_reaction w bytes (Some window) = addr_or_refusal w (length bytes) (address_range window.body bytes)
 
+-- the text takes the address's place, or the refusal of bytes that are none
 abbrev pub data_or_refusal : ℕ → ℕ → Result Taken RangeFault → Result Reaction Refusal
 data_or_refusal w count (Ok taken) = Ok (does effect.Nothing (edits_with_addr w taken.edits taken.addr) (r.Write count))
 data_or_refusal w count (Err f) = Err (range_refusal f)

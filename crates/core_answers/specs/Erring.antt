@@ -16,6 +16,7 @@ use Rattle.core_answers.specs.Texts.{text_at, name_of}
 abbrev pub fits_in : List ℕ → List ℕ → Bool
 fits_in text more = nat_le (length text + length more) body_runes
 
+-- whether a tag has room for more
 abbrev pub fits_tag : List ℕ → List ℕ → Bool
 fits_tag right more = nat_le (length right + length more) tag_runes
 
@@ -23,6 +24,7 @@ fits_tag right more = nat_le (length right + length more) tag_runes
 abbrev pub edits_at_end : List ℕ → List ℕ → List Edit
 edits_at_end text more = if length more == 0 then [] else record { q0 = length text; q1 = length text; text = more } ∷ []
 
+-- a text goes to the end of a window's body
 abbrev pub appends : List (Option Window) → ℕ → List ℕ → List Change
 appends windows w more = change.Edits w (edits_at_end (text_at windows w) more) ∷ []
 
@@ -41,9 +43,11 @@ abbrev pub errors_changes : List (Option Window) → List ℕ → Option ℕ →
 errors_changes windows name None text = change.Makes name ∷ change.Edits (world_of windows).next (edits_at_end [] text) ∷ []
 errors_changes windows name (Some w) text = appends windows w text
 
+-- why a text doesn't go to the end of another
 abbrev pub long_refusal : List ℕ → List ℕ → Option Refusal
 long_refusal text more = if fits_in text more then None else Some refusal.TextTooLong
 
+-- why a text doesn't go to an errors window
 abbrev pub errors_refusal : List (Option Window) → Option ℕ → List ℕ → Option Refusal
 errors_refusal windows None text = if world_is_full (world_of windows) then Some refusal.TooManyWindows else long_refusal [] text
 errors_refusal windows (Some w) text = long_refusal (text_at windows w) text

@@ -10,6 +10,7 @@ use Rattle.core_fids.specs.declared.effect.Answer.{Answer}
 use Rattle.core_fids.specs.declared.effect.Answer.TheVariants.{Says, Reads, ReadsPort}
 use Rattle.core_fids.specs.declared.refusal.Refusal.{Refusal}
 use Rattle.core_fids.specs.Plumbers.{Plumber}
+use Rattle.ninep_types.specs.Kinds.{tread}
 use Rattle.core_answers.specs.Reactions.{reaction}
 use Rattle.core_fids.specs.Refusals.{refusal_text}
 
@@ -20,8 +21,8 @@ IsRefused answer = (refusal : Refusal) × (answer ≡ r.Error (refusal_text refu
 -- A message is answered by its own R message, whose type byte is one more, unless it is refused. A Tread alone may be answered later.
 abbrev pub IsAnswered : TBody → Answer → Type 0
 IsAnswered asked (Says answer) = (kind_r answer ≡ kind_t asked + 1) ⊎ IsRefused answer
-IsAnswered asked (Reads fid opening count) = kind_t asked ≡ 116
-IsAnswered asked (ReadsPort fid opening count) = kind_t asked ≡ 116
+IsAnswered asked (Reads fid opening count) = kind_t asked ≡ tread
+IsAnswered asked (ReadsPort fid opening count) = kind_t asked ≡ tread
 
 -- In each state each message of each connection is answered.
 abbrev pub EachIsAnswered : Type 0

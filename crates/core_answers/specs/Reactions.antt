@@ -12,7 +12,7 @@ use Rattle.core_fids.specs.declared.effect.Answer.TheVariants.{Says}
 use Rattle.core_fids.specs.declared.effect.Reaction.{Reaction}
 use Rattle.core_fids.specs.declared.refusal.Refusal.{Refusal}
 use Rattle.core_fids.specs.declared.refusal.Refusal.TheVariants as refusal
-use Rattle.core_fids.specs.Refusals.{refused, reaction_or_refusal}
+use Rattle.core_fids.specs.Refusals.{refusal_reaction, reaction_or_refusal}
 use Rattle.core_fids.specs.Fids.{is_there}
 use Rattle.core_fids.specs.Plumbers.{Plumber}
 use Rattle.core_windows.specs.Windows.{Window, world_of}
@@ -59,11 +59,12 @@ needs_session (t.Remove fid) = true
 needs_session (t.Stat fid) = true
 needs_session (t.Wstat fid stat) = true
 
+-- whether a message needs a session, and there is none
 abbrev pub comes_first : Tables → ℕ → TBody → Bool
 comes_first tables conn body = needs_session body && not (is_there (msize_of tables conn))
 
 -- what a message of a connection does, and its answer, where so many openings of event files were made
 abbrev pub reaction : Tables → List (Option Window) → Plumber → ℕ → ℕ → TBody → Reaction
 reaction tables windows plumber openings conn body =
-    if comes_first tables conn body then refused refusal.VersionFirst
+    if comes_first tables conn body then refusal_reaction refusal.VersionFirst
     else reaction_or_refusal (session_reaction tables (world_of windows) windows plumber openings conn body)

@@ -15,6 +15,7 @@ use Rattle.core_fids.specs.declared.refusal.Refusal.{Refusal}
 use Rattle.core_fids.specs.declared.refusal.Refusal.TheVariants as refusal
 use Rattle.core_fids.specs.declared.content.Content.{Content}
 use Rattle.core_fids.specs.declared.content.Content.TheVariants as content
+use Rattle.ninep_types.specs.Limits.{rread_head}
 use Rattle.core_answers.specs.Addressing.{addr_text, data_reaction, xdata_reaction}
 use Rattle.core_fids.specs.Contents.{content_of}
 use Rattle.core_fids.specs.Directories.{place_at, read_dir}
@@ -43,6 +44,7 @@ read_port number count (Some opening) =
 
 -- ---- Tread
 
+-- a read, by what the fid's node holds
 abbrev pub read_content : World → List (Option Window) → Plumber → ℕ → Fid → ℕ → ℕ → Content → Result Reaction Refusal
 read_content world windows plumber number fid offset count content.Directory = read_dir world plumber.names number fid offset count (place_at fid offset)
 read_content world windows plumber number fid offset count (content.BodyText w) = Ok (bytes_reaction (read_of (text_at windows w) offset count))
@@ -65,23 +67,27 @@ abbrev pub mode_refusal : Option ℕ → (ℕ → Bool) → Option Refusal
 mode_refusal None is_for = Some refusal.FidIsNotOpen
 mode_refusal (Some mode) is_for = if is_for mode then None else Some refusal.PermissionDenied
 
+-- why a fid isn't read or written
 abbrev pub use_refusal : World → List (List ℕ) → Fid → (ℕ → Bool) → Option Refusal
 use_refusal world ports fid is_for = if is_live world ports fid.node then mode_refusal fid.mode is_for else Some refusal.WindowDeleted
 
 -- the count is lowered to the msize less 11, the bytes of an Rread before its data
 abbrev pub most : ℕ → Option ℕ → ℕ
 most count None = 0
-most count (Some msize) = min count (msize - 11)
+most count (Some msize) = min count (msize - rread_head)
 
+-- the reaction, where nothing refuses it
 abbrev pub or_reads : Option Refusal → Result Reaction Refusal → Result Reaction Refusal
 or_reads None done = done
 or_reads (Some refusal) done = Err refusal
 
+-- what a Tread of this fid does
 abbrev pub read_fid : World → List (Option Window) → Plumber → ℕ → ℕ → ℕ → Option Fid → Result Reaction Refusal
 read_fid world windows plumber number offset count None = Err refusal.UnknownFid
 read_fid world windows plumber number offset count (Some fid) =
     or_reads (use_refusal world plumber.names fid is_for_reading) (read_content world windows plumber number fid offset count (content_of fid.node))
 
+-- what a Tread does
 abbrev pub read_reaction : Tables → World → List (Option Window) → Plumber → ℕ → ℕ → ℕ → ℕ → Result Reaction Refusal
 read_reaction tables world windows plumber conn number offset count =
     read_fid world windows plumber number offset (most count (msize_of tables conn)) (fid_of tables conn number)

@@ -22,6 +22,7 @@ read_of text offset count = part_at (utf8 text) offset count
 abbrev pub is_dir_name : List ℕ → Bool
 is_dir_name name = ends_with nat_eq name (codes "/")
 
+-- the parts of a window's tag
 abbrev pub tag_of : Window → Tag
 tag_of window = record { name = window.name; right = window.right }
 
@@ -54,24 +55,30 @@ index_from w (Some window ∷ ws) = line_of w window ++ index_from (w + 1) ws
 
 -- ---- by the number of a window; none is shown where it doesn't live
 
+-- the body of a window
 abbrev pub text_of : Option Window → List ℕ
 text_of window = text_in window
 
+-- the right part of a window's tag
 abbrev pub right_of : Option Window → List ℕ
 right_of None = []
 right_of (Some window) = window.right
 
+-- the tag of a window
 abbrev pub tag_if_live : Option Window → List ℕ
 tag_if_live None = []
 tag_if_live (Some window) = whole_tag window
 
+-- what `ctl` gives of a window
 abbrev pub ctl_if_live : ℕ → Option Window → List ℕ
 ctl_if_live w None = []
 ctl_if_live w (Some window) = ctl_of w window
 
+-- the name of a window, nothing where there is none
 abbrev pub name_of : Option Window → List ℕ
 name_of None = []
 name_of (Some window) = window.name
 
+-- the body of the window of this number
 abbrev pub text_at : List (Option Window) → ℕ → List ℕ
 text_at windows w = text_of (window_at windows w)

@@ -41,6 +41,7 @@ if_lives window done = if is_some window then done else Err refusal.WindowDelete
 abbrev pub whole_runes : Fid → List ℕ → Decoded
 whole_runes fid bytes = decode_part (part_bytes fid.part ++ bytes)
 
+-- what a write to `body` does
 abbrev pub append_reaction : List (Option Window) → ℕ → Fid → ℕ → ℕ → Decoded → Result Reaction Refusal
 append_reaction windows number fid w count decoded = if_lives (window_at windows w) (if fits_in (text_at windows w) decoded.text
     then Ok (change_reaction (appends windows w decoded.text) number (fid_with_part fid (part_of decoded.rest)) count)
@@ -52,6 +53,7 @@ add_reaction windows number fid w count decoded = if_lives (window_at windows w)
     then Ok (change_reaction (change.Adds w decoded.text ∷ []) number (fid_with_part fid (part_of decoded.rest)) count)
     else Err refusal.TextTooLong)
 
+-- the reaction, where nothing refuses it
 abbrev pub or_errors : Option Refusal → Reaction → Result Reaction Refusal
 or_errors None reaction = Ok reaction
 or_errors (Some refusal) reaction = Err refusal
@@ -64,6 +66,7 @@ errors_reaction windows number fid name count decoded =
 
 -- ---- control messages, and event messages that are written back: the scene does them, or refuses
 
+-- a write that asks this of the scene
 abbrev pub asking_reaction : List (Option Window) → ℕ → ℕ → Demand → Result Reaction Refusal
 asking_reaction windows w count d = if_lives (window_at windows w) (Ok (demands d count))
 
@@ -101,10 +104,12 @@ write_content windows number fid bytes content.SendText = Ok (demand_reaction nu
 write_content windows number fid bytes content.RulesText = Ok (demand_reaction number fid (length bytes) (demand.AddsRules (held_with fid bytes)))
 write_content windows number fid bytes (content.PortOf k) = Err refusal.PermissionDenied
 
+-- what a Twrite of this fid does
 abbrev pub write_fid : World → List (Option Window) → List (List ℕ) → ℕ → List ℕ → Option Fid → Result Reaction Refusal
 write_fid world windows ports number bytes None = Err refusal.UnknownFid
 write_fid world windows ports number bytes (Some fid) =
     or_reads (use_refusal world ports fid is_for_writing) (write_content windows number fid bytes (content_of fid.node))
 
+-- what a Twrite does
 abbrev pub write_reaction : Tables → World → List (Option Window) → List (List ℕ) → ℕ → ℕ → List ℕ → Result Reaction Refusal
 write_reaction tables world windows ports conn number bytes = write_fid world windows ports number bytes (fid_of tables conn number)

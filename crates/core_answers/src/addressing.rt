@@ -2,6 +2,7 @@
 
 ghost use Rattle.std.specs.Prelude.{◌≡◌, ◌+◌, ◌<◌, ◌^◌, IfOk, IfErr, Ok, length};
 ghost use Rattle.core_windows.specs.Windows.{window_at};
+ghost use Rattle.ninep_types.specs.Limits.{rread_head};
 ghost use Rattle.core_answers.specs.Addressing.{sets_addr, edits_with_addr, addr_text, data_reaction, xdata_reaction, fault_of, addr_reaction, taking_reaction};
 ghost use Rattle.core_fids.specs.Done.{IsDone};
 ghost use Rattle.core_fids.specs.Refusals.{Gives};
@@ -62,7 +63,7 @@ pub(crate) fn read_data(
     window: u32,
     count: u32,
 ) -> Result<Reaction, NoMemory>
-    requires { count + 11 < 2 ^ 32 }
+    requires { count + rread_head < 2 ^ 32 }
     ensures exact { IfOk result (λ d. d ≡ data_reaction window count (window_at windows.now.present window)) }
     ensures done { IfOk result (IsDone windows.now.present) }
 {
@@ -84,7 +85,7 @@ pub(crate) fn read_xdata(
     window: u32,
     count: u32,
 ) -> Result<Reaction, NoMemory>
-    requires { count + 11 < 2 ^ 32 }
+    requires { count + rread_head < 2 ^ 32 }
     ensures exact { IfOk result (λ d. d ≡ xdata_reaction window count (window_at windows.now.present window)) }
     ensures done { IfOk result (IsDone windows.now.present) }
 {

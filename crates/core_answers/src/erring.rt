@@ -8,11 +8,11 @@ ghost use Rattle.core_answers.specs.Erring.{fits_in, fits_tag, edits_at_end, app
 ghost use Rattle.core_answers.specs.Texts.{text_at, right_of, name_of, text_of};
 
 use acme_tree::world_is_full;
-use am_text::{Items, Letters, NoMemory, Rune, Runes};
+use am_text::{Items, Letters, NoMemory, Rune, Runes, SLASH};
 use core_fids::Refusal;
 use core_windows::{Change, Changes, Edit, Edits, Windows};
 use std::alloc::Global;
-use win_ctl::{SLASH, TAG_RUNES, directory, errors_name};
+use win_ctl::{TAG_RUNES, directory, errors_name};
 use win_text::BODY_RUNES;
 
 /// Whether the window of that number lives.

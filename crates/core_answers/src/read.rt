@@ -6,6 +6,7 @@ ghost use Rattle.core_fids.specs.Done.{IsDone, IsStill};
 ghost use Rattle.core_fids.specs.Fids.{event_opening, is_for_reading, is_for_writing, port_opening};
 ghost use Rattle.core_fids.specs.Refusals.{Gives};
 ghost use Rattle.core_fids.specs.Servers.{plumber_in, tables_in, windows_in, world_in};
+ghost use Rattle.ninep_types.specs.Limits.{rread_head};
 ghost use Rattle.core_answers.specs.Reading.{bytes_reaction, read_content, read_opening, read_port, use_refusal, most, read_reaction};
 ghost use Rattle.core_answers.specs.Texts.{part_at};
 
@@ -18,12 +19,12 @@ use core_fids::{
     content_of, event_opening, is_for_reading, is_for_writing, port_names, port_opening, read_dir,
 };
 use fid_table::Fid;
-use ninep_types::RBody;
+use ninep_types::{RBody, RREAD_HEAD};
 use std::alloc::Global;
 
 /// What answers bytes, and changes nothing.
 pub(crate) fn show(alloc: Global, bytes: Bytes) -> Reaction
-    requires { length bytes + 11 < 2 ^ 32 }
+    requires { length bytes + rread_head < 2 ^ 32 }
     ensures exact { result ≡ bytes_reaction bytes }
     ensures still { IsStill result }
 {
@@ -32,7 +33,7 @@ pub(crate) fn show(alloc: Global, bytes: Bytes) -> Reaction
 
 // What answers the bytes of these that a read gets.
 fn show_part(alloc: Global, bytes: &[u8], reading: &Reading) -> Result<Reaction, NoMemory>
-    requires { reading.now.count + 11 < 2 ^ 32 }
+    requires { reading.now.count + rread_head < 2 ^ 32 }
     ensures exact { IfOk result (λ r. r ≡ bytes_reaction (part_at bytes.now reading.now.offset reading.now.count)) }
     ensures still { IfOk result IsStill }
 {
@@ -42,7 +43,7 @@ fn show_part(alloc: Global, bytes: &[u8], reading: &Reading) -> Result<Reaction,
 
 // A read of an event file, which gets what is there for its opening, or waits.
 fn read_opening(alloc: Global, reading: &Reading) -> Result<Reaction, Fault>
-    requires { reading.now.count + 11 < 2 ^ 32 }
+    requires { reading.now.count + rread_head < 2 ^ 32 }
     ensures exact { IfOk result (λ r. read_opening reading.now.number reading.now.count (event_opening reading.now.fid.now) ≡ Ok r) }
     ensures refused { IfErr result (λ e. Gives e (read_opening reading.now.number reading.now.count (event_opening reading.now.fid.now))) }
     ensures still { IfOk result IsStill }
@@ -65,7 +66,7 @@ fn read_opening(alloc: Global, reading: &Reading) -> Result<Reaction, Fault>
 
 // A read of a port, which gets what is there for its opening, or waits.
 fn read_port(alloc: Global, reading: &Reading) -> Result<Reaction, Fault>
-    requires { reading.now.count + 11 < 2 ^ 32 }
+    requires { reading.now.count + rread_head < 2 ^ 32 }
     ensures exact { IfOk result (λ r. read_port reading.now.number reading.now.count (port_opening reading.now.fid.now) ≡ Ok r) }
     ensures refused { IfErr result (λ e. Gives e (read_port reading.now.number reading.now.count (port_opening reading.now.fid.now))) }
     ensures still { IfOk result IsStill }
@@ -88,7 +89,7 @@ fn read_port(alloc: Global, reading: &Reading) -> Result<Reaction, Fault>
 
 #[tactic(auto, using(crate::proofs::Possibly::still))]
 fn read_content(alloc: Global, server: &Server, reading: &Reading) -> Result<Reaction, Fault>
-    requires { reading.now.count + 11 < 2 ^ 32 }
+    requires { reading.now.count + rread_head < 2 ^ 32 }
     ensures exact { IfOk result (λ r. read_content (world_in server.now) (windows_in server.now) (plumber_in server.now) reading.now.number reading.now.fid.now reading.now.offset reading.now.count (content_of reading.now.fid.now.node) ≡ Ok r) }
     ensures refused { IfErr result (λ e. Gives e (read_content (world_in server.now) (windows_in server.now) (plumber_in server.now) reading.now.number reading.now.fid.now reading.now.offset reading.now.count (content_of reading.now.fid.now.node))) }
     ensures done { IfOk result (IsDone (windows_in server.now)) }
@@ -160,10 +161,10 @@ pub(crate) fn why_not_written(world: &World, ports: &[Bytes], fid: &Fid) -> Opti
 
 fn most(count: u32, msize: Option<u32>) -> u32
     ensures exact { result ≡ most count msize }
-    ensures small { result + 11 < 2 ^ 32 }
+    ensures small { result + rread_head < 2 ^ 32 }
 {
     match msize {
-        Some(msize) => count.min(msize.saturating_sub(11)),
+        Some(msize) => count.min(msize.saturating_sub(RREAD_HEAD)),
         None => 0,
     }
 }

@@ -5,7 +5,7 @@ ghost use Rattle.core_windows.specs.Panes.{window_of, windows_of};
 ghost use Rattle.core_windows.specs.Windows.{window_at};
 ghost use Rattle.core_answers.specs.Texts.{part_at, read_of, tag_of, shown_of, whole_tag, ctl_of, line_of, index_from, text_at, tag_if_live, ctl_if_live, is_dir_name};
 
-use am_text::{Bytes, Items, Letters, NoMemory, Rune, Runes, utf8_slice};
+use am_text::{Bytes, Items, Letters, NoMemory, Rune, Runes, SLASH, utf8_slice};
 use core_windows::{Pane, Windows};
 use std::alloc::Global;
 use win_ctl::{Shown, Tag, ctl_text, index_line, tag_text};
@@ -29,7 +29,7 @@ pub(crate) fn part_at(
 fn is_dir_name(name: &[Rune]) -> bool
     ensures { result ≡ is_dir_name name.now }
 {
-    name.ends_with(&[47])
+    name.ends_with(&[SLASH])
 }
 
 fn tag_of(alloc: Global, pane: &Pane) -> Result<Tag, NoMemory>

@@ -25,6 +25,7 @@ body_deeds w edits dot = deed.Windows (change.Edits w edits) ∷ deed.Windows (c
 abbrev pub request_deeds : List Job → List Deed
 request_deeds jobs = map deed.Requests jobs
 
+-- what a plan changes and requests
 abbrev pub change_deeds : ℕ → EditPlan → SceneState → List Deed
 change_deeds w plan s = body_deeds w plan.edits plan.dot ++ request_deeds plan.jobs
 
@@ -37,6 +38,7 @@ abbrev pub fault_deeds : Entry → List ℕ → Option CommandFault → SceneSta
 fault_deeds e dir None s = []
 fault_deeds e dir (Some f) s = errors_deeds e dir (fault_line f) s
 
+-- what a command of Edit does, or that its fault is told
 abbrev pub planned_deeds : Entry → ℕ → List ℕ → Planned → SceneState → List Deed
 planned_deeds e w dir (Ok plan) s = plan_deeds e w dir plan s
 planned_deeds e w dir (Err f) s = fault_deeds e dir f s

@@ -14,6 +14,7 @@ command_fault edit_fault.Sequence = Some fault.ChangesOutOfSequence
 command_fault edit_fault.Overlap = Some fault.MoveOverlaps
 command_fault edit_fault.NoMemory = None
 
+-- the text of a fault
 abbrev pub fault_text : CommandFault → List ℕ
 fault_text fault.BadCommand = codes "bad command"
 fault_text fault.AddressOutOfRange = codes "address out of range"

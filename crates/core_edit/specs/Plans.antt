@@ -30,6 +30,7 @@ as_planned (Err f) = Err (Some f)
 abbrev pub site_of : ℕ → Option Window → Site
 site_of w window = record { window = w; name = name_of window; dot = dot_of window }
 
+-- a plan, or why there is none
 abbrev pub planned_of : Result EditPlan EditFault → Planned
 planned_of (Ok plan) = Ok plan
 planned_of (Err f) = Err (command_fault f)
@@ -63,6 +64,7 @@ pub record IsPlanOf (t : List ℕ) (plan : EditPlan) : Type 0 where
 abbrev pub length_with : ℕ → Edit → ℕ
 length_with n e = n - (e.q1 - e.q0) + length e.text
 
+-- how long a text is after edits
 abbrev pub length_after : ℕ → List Edit → ℕ
 length_after n [] = n
 length_after n (e ∷ es) = length_after (length_with n e) es

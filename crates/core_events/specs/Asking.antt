@@ -12,17 +12,19 @@ use Rattle.core_fids.specs.declared.effect.EventChange.TheVariants as events
 use Rattle.core_fids.specs.declared.refusal.Refusal.TheVariants as refusal
 use Rattle.core_fids.specs.Refusals.{refusal_text}
 use Rattle.std.specs.Prelude.{length}
+use Rattle.wait_queue.specs.Limits.{max_openings}
+use Rattle.core_events.specs.Limits.{max_reads}
 
 -- an opening more, where one more can be counted
 abbrev pub opened : BookState → EventChange → BookState
 opened book events.Nothing = book
-opened book (events.Opens w) = if nat_lt (length book.owners) 4294967295 then after_add book w else book
+opened book (events.Opens w) = if nat_lt (length book.owners) max_openings then after_add book w else book
 opened book (events.Joins port) = book
 opened book (events.Cancels tag) = book
 
 -- a connection has 64 waiting reads at most
 abbrev pub reads_are_full : Tables → ℕ → Bool
-reads_are_full tables conn = nat_le 64 (count_by (is_waiting_on conn) tables.waiting)
+reads_are_full tables conn = nat_le max_reads (count_by (is_waiting_on conn) tables.waiting)
 
 -- What is said to a read at once; none where it waits. A connection whose reads are 64 can't have another one that waits.
 abbrev pub said_to : Bool → Asked → Option RBody
@@ -30,6 +32,7 @@ said_to full (Now piece) = Some (r.Read piece.bytes)
 said_to true Waits = Some (r.Error (refusal_text refusal.TooManyWaitingReads))
 said_to false Waits = None
 
+-- the event files after a read, which is refused where too many wait
 abbrev pub book_asked : Bool → Asked → BookState → Asker → ℕ → BookState
 book_asked full (Now piece) book asker at = after_ask book asker at
 book_asked true Waits book asker at = book
@@ -41,6 +44,7 @@ read_said tables book asker = if is_living book asker.opening
     then said_to (reads_are_full tables asker.conn) (asked_of book asker)
     else Some (r.Error (refusal_text refusal.WindowDeleted))
 
+-- the event files after a read
 abbrev pub book_read : Tables → BookState → Asker → ℕ → BookState
 book_read tables book asker at = if is_living book asker.opening
     then book_asked (reads_are_full tables asker.conn) (asked_of book asker) book asker at
@@ -51,5 +55,6 @@ abbrev pub waits_unless : Option RBody → Tables → ℕ → ℕ → ℕ → Ta
 waits_unless (Some body) tables conn tag fid = tables
 waits_unless None tables conn tag fid = after_wait tables conn tag fid
 
+-- the sessions after a read, which waits in them where it isn't answered
 abbrev pub tables_read : Tables → BookState → Asker → ℕ → Tables
 tables_read tables book asker fid = waits_unless (read_said tables book asker) tables asker.conn asker.tag fid

@@ -34,10 +34,12 @@ opening_at (Some f) = event_opening f.1
 abbrev pub without_fids : ℕ → BookState → Tables → ℕ → BookState
 without_fids at book tables conn = fold (without_fid at) book (fids_of tables conn)
 
+-- the opening of a fid of an event file
 abbrev pub opening_in : Option Fid → Option ℕ
 opening_in None = None
 opening_in (Some fid) = event_opening fid
 
+-- the event files after an effect: openings go with their fids
 abbrev pub freed : ℕ → BookState → Tables → ℕ → Effect → BookState
 freed at book tables conn effect.Nothing = book
 freed at book tables conn (effect.Begins msize) = without_fids at book tables conn

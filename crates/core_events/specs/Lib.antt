@@ -1,3 +1,4 @@
+pub mod Limits
 pub mod Responses
 pub mod Waits
 pub mod Asking

@@ -8,11 +8,13 @@ use Rattle.core_scene.specs.declared.deed.WindowItem.{WindowItem}
 abbrev pub put_one : BookState → WindowItem → BookState
 put_one book i = if is_open_window book i.window then after_put book i.window i.item else book
 
+-- the event files with these items
 abbrev pub put_all : BookState → List WindowItem → BookState
 put_all book items = fold put_one book items
 
 -- ---- where the step deletes these windows
 
+-- whether a window is one of these
 abbrev pub is_among : ℕ → List ℕ → Bool
 is_among w windows = list_any (λ v. w == v) windows
 
@@ -20,6 +22,7 @@ is_among w windows = list_any (λ v. w == v) windows
 abbrev pub is_ending : List ℕ → WindowItem → Bool
 is_ending deleted i = is_among i.window deleted
 
+-- with an item, but for one of a window that is deleted
 abbrev pub put_if_lives : List ℕ → BookState → WindowItem → BookState
 put_if_lives deleted book i = if is_ending deleted i then book else put_one book i
 

@@ -30,6 +30,7 @@ abbrev pub feed_in : Option Fid → Option Feed
 feed_in None = None
 feed_in (Some fid) = feed_of (event_opening fid) (port_opening fid)
 
+-- what a waiting read is fed by
 abbrev pub feed_at : Tables → Waiting → Option Feed
 feed_at tables w = feed_in (fid_of tables w.conn w.fid)
 
@@ -37,6 +38,7 @@ feed_at tables w = feed_in (fid_of tables w.conn w.fid)
 abbrev pub IsSaid : Response → Type 0
 IsSaid response = IsSent response.message.body
 
+-- each can be said
 abbrev pub AreSaid : List Response → Type 0
 AreSaid responses = All IsSaid responses
 
@@ -44,5 +46,6 @@ AreSaid responses = All IsSaid responses
 abbrev pub error : Refusal → Option Feed → ℕ → ℕ → Response
 error refusal feed conn tag = record { conn = conn; message = record { tag = tag; body = r.Error (refusal_text refusal) }; feed = feed }
 
+-- the refusal of these waiting reads
 abbrev pub errors : Refusal → Tables → List Waiting → List Response
 errors refusal tables ws = map (λ w. error refusal (feed_at tables w) w.conn w.tag) ws

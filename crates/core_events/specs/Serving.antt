@@ -7,6 +7,7 @@ use Rattle.event_book.specs.BookState.{BookState, served_of, after_serve}
 use Rattle.core_events.specs.declared.response.Response.{Response}
 use Rattle.core_events.specs.Responses.{event_feed}
 
+-- the answer to a read that waited
 abbrev pub response_to : Asker × Piece → Response
 response_to served = record { conn = served.0.conn; message = record { tag = served.0.tag; body = r.Read served.1.bytes }; feed = Some (event_feed served.0.opening) }
 
@@ -20,6 +21,7 @@ unfoldable pub served_most : ℕ → ℕ → BookState → List Response
 served_most zero at book = []
 served_most (suc n) at book = then_served (served_of book) (served_most n at (after_serve book at))
 
+-- so many times the oldest read that can be answered was
 unfoldable pub book_served_most : ℕ → ℕ → BookState → BookState
 book_served_most zero at book = book
 book_served_most (suc n) at book = book_served_most n at (after_serve book at)
@@ -28,5 +30,6 @@ book_served_most (suc n) at book = book_served_most n at (after_serve book at)
 abbrev pub served_all : ℕ → BookState → List Response
 served_all at book = served_most (length book.reads) at book
 
+-- each read that can be answered was
 abbrev pub book_served_all : ℕ → BookState → BookState
 book_served_all at book = book_served_most (length book.reads) at book

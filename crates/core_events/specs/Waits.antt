@@ -41,6 +41,7 @@ abbrev pub is_event_of : ℕ → Node → Bool
 is_event_of w (File v Event) = v == w
 is_event_of w node = false
 
+-- whether a fid is of this window's event file
 abbrev pub reads_event_of : ℕ → Option Fid → Bool
 reads_event_of w None = false
 reads_event_of w (Some fid) = is_event_of w fid.node
@@ -56,9 +57,11 @@ deletions tables (w ∷ ws) = errors refusal.WindowDeleted tables (filter (is_of
 
 -- ---- reads that wait no more
 
+-- the reads that were answered wait no more
 abbrev pub ended : Tables → List Response → Tables
 ended tables responses = fold (λ t r. after_done t r.conn r.message.tag) tables responses
 
+-- the read of a flushed tag waits no more
 abbrev pub without_cancelled : Tables → ℕ → EventChange → Tables
 without_cancelled tables conn events.Nothing = tables
 without_cancelled tables conn (events.Opens w) = tables

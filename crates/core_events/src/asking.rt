@@ -4,18 +4,19 @@ ghost use Rattle.std.specs.Prelude.{◌≡◌, ℕ, ◌+◌, ◌<◌, ◌^◌, I
 ghost use Rattle.am_text.specs.Twice.{IsSteady};
 ghost use Rattle.fid_table.specs.Tables.{HasJoined};
 ghost use Rattle.core_fids.specs.Done.{IsSent};
+ghost use Rattle.ninep_types.specs.Limits.{rread_head};
 ghost use Rattle.core_events.specs.Asking.{opened, reads_are_full, read_said, book_read, tables_read};
 ghost use Rattle.core_events.specs.Sound.{IsSound};
 
 use am_text::NoMemory;
-use core_fids::{EventChange, OPENINGS, RBody, Refusal, error};
+use core_fids::{EventChange, RBody, Refusal, error};
 use event_book::Book;
 use fid_table::Sessions;
 use std::alloc::Global;
-use wait_queue::{Asked, Asker};
+use wait_queue::{Asked, Asker, MAX_OPENINGS};
 
 /// The most reads of a connection that wait.
-const READS: usize = 64;
+const MAX_READS: usize = 64;
 
 /// A read of an event file at the entry of this number: the fid that is read, and who asks for how much of which opening.
 #[derive(Clone, Copy, Debug, PartialEq, Eq)]
@@ -33,7 +34,7 @@ pub fn open_events(book: &mut Book, events: EventChange) -> Result<(), NoMemory>
 {
     match events {
         EventChange::Opens { window } => {
-            if book.openings() < OPENINGS {
+            if book.openings() < MAX_OPENINGS {
                 book.add_opening(window)?;
             }
             Ok(())
@@ -48,7 +49,7 @@ pub fn open_events(book: &mut Book, events: EventChange) -> Result<(), NoMemory>
 pub fn reads_are_full(sessions: &Sessions, conn: u32) -> bool
     ensures { result ≡ reads_are_full sessions.now.present conn }
 {
-    sessions.waiting(conn) >= READS
+    sessions.waiting(conn) >= MAX_READS
 }
 
 /// What is said at once to a read of an event file, None where it waits.
@@ -60,7 +61,7 @@ pub fn read_events(
 ) -> Result<Option<RBody>, NoMemory>
     requires steady { IsSteady book.old }
     requires sound { IsSound read.at book.old.present }
-    requires small { read.asker.count + 11 < 2 ^ 32 }
+    requires small { read.asker.count + rread_head < 2 ^ 32 }
     requires joined { HasJoined sessions.old.present read.asker.conn }
     ensures said { IfOk result (λ said. said ≡ read_said sessions.old.present book.old.present read.asker) }
     ensures sent { IfOk result (λ said. IfSome said IsSent) }

@@ -14,25 +14,41 @@ use fid_table::{Fid, Sessions};
 use ninep_types::RMsg;
 use std::alloc::Global;
 
+/// A read that waits: its connection and tag, and what it is fed by.
+#[derive(Clone, Copy)]
+pub struct Waiter {
+    pub conn: u32,
+    pub tag: u16,
+    pub feed: Option<Feed>,
+}
+
 // Says that a waiting read is refused.
 fn refuse(
     alloc: Global,
     said: &mut Responses,
-    conn: u32,
-    tag: u16,
-    feed: Option<Feed>,
+    waiter: Waiter,
     refusal: Refusal,
 ) -> Result<(), NoMemory>
     requires { AreSaid said.old }
-    ensures ok { OnOk result (said.new ≡ said.old ++ error refusal feed conn tag ∷ []) }
+    ensures ok { OnOk result (said.new ≡ said.old ++ error refusal waiter.feed waiter.conn waiter.tag ∷ []) }
     ensures said { OnOk result (AreSaid said.new) }
 {
     let body = error(alloc, refusal)?;
     said.push(Response {
-        conn,
-        message: RMsg { tag, body },
-        feed,
+        conn: waiter.conn,
+        message: RMsg {
+            tag: waiter.tag,
+            body,
+        },
+        feed: waiter.feed,
     })
+}
+
+/// A fid of a connection.
+#[derive(Clone, Copy)]
+pub struct FidOf {
+    pub conn: u32,
+    pub fid: u32,
 }
 
 // Answers the k-th waiting read, where it is one of this fid.
@@ -40,20 +56,19 @@ fn answer_clunked(
     alloc: Global,
     said: &mut Responses,
     sessions: &Sessions,
-    conn: u32,
-    fid: u32,
+    of: FidOf,
     k: usize,
 ) -> Result<(), NoMemory>
     requires { AreSaid said.old }
-    ensures ok { OnOk result (said.new ≡ said.old ++ answer_where fid_clunked sessions.now.present (is_of_fid conn fid) (slice_get sessions.now.present.waiting k)) }
+    ensures ok { OnOk result (said.new ≡ said.old ++ answer_where fid_clunked sessions.now.present (is_of_fid of.conn of.fid) (slice_get sessions.now.present.waiting k)) }
     ensures said { OnOk result (AreSaid said.new) }
 {
-    let Some((of, tag, read)) = sessions.waiter(k) else {
+    let Some((conn, tag, fid)) = sessions.waiter(k) else {
         return Ok(());
     };
-    if of == conn && read == fid {
-        let feed = feed_in(sessions.fid(of, read));
-        refuse(alloc, said, of, tag, feed, Refusal::FidClunked)
+    if conn == of.conn && fid == of.fid {
+        let feed = feed_in(sessions.fid(conn, fid));
+        refuse(alloc, said, Waiter { conn, tag, feed }, Refusal::FidClunked)
     } else {
         Ok(())
     }
@@ -71,7 +86,7 @@ fn clunked_reads(
 {
     let mut said = Items::new(alloc);
     for k in 0..sessions.waiters() {
-        answer_clunked(alloc, &mut said, sessions, conn, fid, k)?;
+        answer_clunked(alloc, &mut said, sessions, FidOf { conn, fid }, k)?;
     }
     Ok(said)
 }
@@ -129,12 +144,11 @@ fn answer_deleted(
     };
     let read = sessions.fid(conn, fid);
     if reads_event_of(window, read) {
+        let feed = feed_in(read);
         refuse(
             alloc,
             said,
-            conn,
-            tag,
-            feed_in(read),
+            Waiter { conn, tag, feed },
             Refusal::WindowDeleted,
         )
     } else {

@@ -17,11 +17,13 @@ use Rattle.core_exec.specs.Looking.{look_step, look_at_text_deeds}
 
 -- ---- clicks
 
+-- an Exec, which is told where the event file is open
 unfoldable pub exec_click : Entry → Spot → Option (List ℕ × List ℕ) → Clicked → SceneState → List Deed
 exec_click e at argument c s =
     if is_open_window s.book at.window then deed.Item at.window (exec_item at c argument) ∷ []
     else exec_deeds e at.window (own_text c.text c.expanded) (text_if_any argument) s
 
+-- an Exec at a place that stands for a text
 abbrev pub exec_clicked : Entry → Spot → Option (List ℕ × List ℕ) → Option Clicked → SceneState → List Deed
 exec_clicked e at argument None s = []
 exec_clicked e at argument (Some c) s = exec_click e at argument c s
@@ -30,11 +32,13 @@ exec_clicked e at argument (Some c) s = exec_click e at argument c s
 abbrev pub exec_at_deeds : Entry → Spot → Option Spot → SceneState → List Deed
 exec_at_deeds e at chord s = exec_clicked e at (argument_if_any s.windows chord) (clicked_at s.windows at click.Exec) s
 
+-- a Look, which is told where the event file is open
 unfoldable pub look_click : Entry → Spot → Clicked → SceneState → List Deed
 look_click e at c s =
     if is_open_window s.book at.window then deed.Item at.window (look_item at c (look_step at.window (own_text c.text c.expanded) s)) ∷ []
     else look_at_text_deeds e at.window (own_text c.text c.expanded) s
 
+-- a Look at a place that stands for a text
 abbrev pub look_clicked : Entry → Spot → Option Clicked → SceneState → List Deed
 look_clicked e at None s = []
 look_clicked e at (Some c) s = look_click e at c s
@@ -56,6 +60,7 @@ action_of e w sort.TagDel text chord s = []
 action_of e w sort.BodyIns text chord s = []
 action_of e w sort.TagIns text chord s = []
 
+-- the action of an item that is written back, if there is one
 abbrev pub back_deeds : Entry → ℕ → Option Item → SceneState → List Deed
 back_deeds e w None s = []
 back_deeds e w (Some item) s = action_of e w item.sort (own_text item.text item.expanded) (text_if_any item.argument) s

@@ -29,6 +29,7 @@ use Rattle.core_edit.specs.Editing.{edit_deeds}
 
 -- ---- faults are said in the errors window
 
+-- the text of a fault
 abbrev pub fault_text : ActionFault → List ℕ
 fault_text fault.NoFileName = codes "no file name"
 fault_text fault.FileNotFound = codes "file not found"
@@ -38,6 +39,7 @@ fault_text fault.TextTooLong = codes "text too long"
 unfoldable pub fault_line : List ℕ → ActionFault → List ℕ
 fault_line word f = word ++ codes ": " ++ fault_text f ++ codes "\n"
 
+-- a fault is told, if there is one
 abbrev pub said_if_any : Entry → List ℕ → List ℕ → Option ActionFault → SceneState → List Deed
 said_if_any e dir word None s = []
 said_if_any e dir word (Some f) s = errors_deeds e dir (fault_line word f) s
@@ -48,6 +50,7 @@ or_said e window word o s = o.deeds ++ said_if_any e (dir_of window) word o.faul
 
 -- ---- built-in commands
 
+-- what a built-in command does
 unfoldable pub builtin_deeds : Entry → ℕ → Builtin → List ℕ → SceneState → List Deed
 builtin_deeds e w builtin.Cut a s = cut_deeds w s
 builtin_deeds e w builtin.Del a s = del_deeds e w s
@@ -79,14 +82,17 @@ input_of kind.To selected = selected
 input_of kind.Save selected = selected
 input_of kind.Start selected = selected
 
+-- the request of a program
 abbrev pub job_of : JobKind → ℕ → Option Window → List ℕ → List ℕ → Job
 job_of k w window text input = record { kind = k; window = w; dir = dir_of window; command = text; input = input }
 
+-- a program is requested
 abbrev pub request : JobKind → ℕ → Option Window → List ℕ → List ℕ → List Deed
 request k w window text input = deed.Requests (job_of k w window text input) ∷ []
 
 -- ---- a text is executed
 
+-- what a command does
 unfoldable pub command_deeds : Entry → ℕ → List ℕ → Option (List ℕ) → Command → SceneState → List Deed
 command_deeds e w text chord (command.Builtin b r) s = builtin_deeds e w b (argument_or chord (slice_range text r.q0 r.q1)) s
 command_deeds e w text chord (command.Pipe k r) s =

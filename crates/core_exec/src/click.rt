@@ -9,7 +9,7 @@ ghost use Rattle.core_exec.specs.Clicks.{side_text, part_of, IsSpot, clicked, cl
 
 use acme_cmd::{Click, expand};
 use am_journal::{Side, Spot};
-use am_text::{NoMemory, Range, Rune, Runes, decimal, put_words};
+use am_text::{NoMemory, Range, Rune, Runes, SLASH, decimal, put_words};
 use core_actions::name_at;
 use core_scene::Windows;
 use core_windows::Pane;
@@ -36,7 +36,7 @@ fn tag_of(alloc: Global, pane: &Pane) -> Result<Runes, NoMemory>
         undo: pane.body.can_undo(),
         redo: pane.body.can_redo(),
         modified: pane.modified,
-        dir: pane.name.as_slice().ends_with(&[47]),
+        dir: pane.name.as_slice().ends_with(&[SLASH]),
     };
     tag_text(alloc, &tag, shown)
 }

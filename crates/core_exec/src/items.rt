@@ -30,16 +30,16 @@ fn look_sort(side: Side) -> Sort
 }
 
 // The command is a built-in one, or the look can be done without loading a file.
-const WITHIN: u32 = 1;
+const WITHIN_FLAG: u32 = 1;
 
 // The range is null.
-const NULL: u32 = 2;
+const NULL_FLAG: u32 = 2;
 
 // The text names a file or a window.
-const NAMES: u32 = 4;
+const NAMES_FLAG: u32 = 4;
 
 // The messages of an argument follow.
-const CHORD: u32 = 8;
+const CHORD_FLAG: u32 = 8;
 
 fn flag_if(holds: bool, flag: u32) -> u32
     ensures { result ≡ flag_if holds flag }
@@ -61,9 +61,9 @@ fn exec_flag(clicked: &Clicked, chord: bool) -> u32
     ensures { result ≡ exec_flag clicked.now chord }
 {
     let command = classify(own_text(&clicked.text, &clicked.expanded));
-    flag_if(is_builtin(command), WITHIN)
-        + flag_if(clicked.expanded.is_some(), NULL)
-        + flag_if(chord, CHORD)
+    flag_if(is_builtin(command), WITHIN_FLAG)
+        + flag_if(clicked.expanded.is_some(), NULL_FLAG)
+        + flag_if(chord, CHORD_FLAG)
 }
 
 /// The item of an Exec, with the text and the place of its chord's argument, if there is one.
@@ -86,9 +86,9 @@ fn step_flag(step: LookStep) -> u32
 {
     match step {
         LookStep::Plumbs => 0,
-        LookStep::Takes => WITHIN + NAMES,
-        LookStep::Opens => NAMES,
-        LookStep::Searches => WITHIN,
+        LookStep::Takes => WITHIN_FLAG + NAMES_FLAG,
+        LookStep::Opens => NAMES_FLAG,
+        LookStep::Searches => WITHIN_FLAG,
     }
 }
 
@@ -100,7 +100,7 @@ pub(crate) fn look_item(at: Spot, clicked: Clicked, step: LookStep) -> Item
         origin: Origin::M,
         sort: look_sort(at.side),
         range: at.range,
-        flag: step_flag(step) + flag_if(clicked.expanded.is_some(), NULL),
+        flag: step_flag(step) + flag_if(clicked.expanded.is_some(), NULL_FLAG),
         text: clicked.text,
         expanded: clicked.expanded,
         argument: None,

@@ -7,6 +7,7 @@ use Rattle.acme_tree.specs.declared.node.WinFile.TheVariants.{Addr, Body, Ctl, D
 use Rattle.core_fids.specs.declared.content.Content.{Content}
 use Rattle.core_fids.specs.declared.content.Content.TheVariants as content
 
+-- what a window's file holds
 abbrev pub file_content : ℕ → WinFile → Content
 file_content w Addr = content.AddrText w
 file_content w Body = content.BodyText w

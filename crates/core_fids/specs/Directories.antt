@@ -24,6 +24,7 @@ place_at fid offset = if offset == 0 then Some 0 else (if offset == fid.given th
 abbrev pub root_front : List Node
 root_front = Cons ∷ ConsCtl ∷ Index ∷ Label ∷ NewDir ∷ []
 
+-- what the plumber's root lists before its ports
 abbrev pub plumber_front : List Node
 plumber_front = Send ∷ Rules ∷ []
 
@@ -31,20 +32,24 @@ plumber_front = Send ∷ Rules ∷ []
 abbrev pub dir_part : World → List (List ℕ) → Node → ℕ → ℕ → List Stat
 dir_part world ports node skip count = fitting count (drop skip (map (stat_of ports) (entries world ports node)))
 
+-- the record of the first, if there is one
 abbrev pub first_record : List Stat → Option (List ℕ)
 first_record [] = None
 first_record (s ∷ stats) = Some (record_of s)
 
+-- a read that gives these, and goes on behind them
 abbrev pub goes_on : ℕ → Fid → ℕ → ℕ → List Stat → Reaction
 goes_on number fid offset skip part =
     does (effect.Puts number (placed_fid fid (offset + length (records part)) (skip + length part))) [] (r.Read (records part))
 
+-- a read of a directory, from the entry at which its offset stands
 abbrev pub read_dir : World → List (List ℕ) → ℕ → Fid → ℕ → ℕ → Option ℕ → Result Reaction Refusal
 read_dir world ports number fid offset count None = Err refusal.BadDirectoryOffset
 read_dir world ports number fid offset count (Some skip) = Ok (goes_on number fid offset skip (dir_part world ports fid.node skip count))
 
 -- ---- Tstat
 
+-- what a Tstat of this fid does
 abbrev pub stat_fid : World → List (List ℕ) → Option Fid → Result Reaction Refusal
 stat_fid world ports None = Err refusal.UnknownFid
 stat_fid world ports (Some fid) =

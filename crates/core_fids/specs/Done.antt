@@ -8,6 +8,7 @@ use Rattle.acme_tree.specs.Trees.{world_is_full}
 use Rattle.core_windows.specs.declared.change.Change.{Change}
 use Rattle.core_windows.specs.Possible.{CanChangeAll}
 use Rattle.core_windows.specs.Windows.{Window, window_at}
+use Rattle.ninep_types.specs.Limits.{rread_head}
 use Rattle.core_fids.specs.declared.content.Content.{Content}
 use Rattle.core_fids.specs.declared.content.Content.TheVariants as content
 use Rattle.core_fids.specs.declared.effect.Answer.{Answer}
@@ -26,8 +27,8 @@ pub record IsSent (answer : RBody) : Type 0 where
 -- a read gets so few bytes that its answer has a spelling
 abbrev pub HasSpelling : Answer → Type 0
 HasSpelling (Says body) = IsSent body
-HasSpelling (Reads fid opening count) = count + 11 < 2 ^ 32
-HasSpelling (ReadsPort fid opening count) = count + 11 < 2 ^ 32
+HasSpelling (Reads fid opening count) = count + rread_head < 2 ^ 32
+HasSpelling (ReadsPort fid opening count) = count + rread_head < 2 ^ 32
 
 -- these changes can be made one after the other, by whichever step
 abbrev pub CanBeMade : List (Option Window) → List Change → Type 0
@@ -49,6 +50,7 @@ pub record IsStill (reaction : Reaction) : Type 0 where
   pub changes : reaction.changes ≡ []
   pub demand : reaction.demand ≡ demand.Nothing
 
+-- A reaction can be spelled and done.
 pub record IsDone (windows : List (Option Window)) (reaction : Reaction) : Type 0 where
   pub sent : HasSpelling reaction.answer
   pub possible : CanBeMade windows reaction.changes

@@ -8,26 +8,26 @@ use Rattle.acme_tree.specs.declared.node.WinFile.TheVariants.{Event}
 use Rattle.acme_tree.specs.Access.{how}
 use Rattle.fid_table.specs.declared.types.Fid.{Fid}
 use Rattle.fid_table.specs.Tables.{Tables, fids_of, fid_of}
+use Rattle.core_fids.specs.Limits.{max_fids}
 
--- NOFID, the number that is no fid
-abbrev pub nofid : ℕ
-nofid = 0xFFFFFFFF
-
+-- whether there is one
 abbrev pub is_there : {A : Type 0} → Option A → Bool
 is_there None = false
 is_there (Some a) = true
 
+-- whether a number is a fid of the connection
 abbrev pub is_used : Tables → ℕ → ℕ → Bool
 is_used tables conn number = is_there (fid_of tables conn number)
 
 -- a connection has 1,024 fids at most
 abbrev pub fids_full : Tables → ℕ → Bool
-fids_full tables conn = nat_le 1024 (length (fids_of tables conn))
+fids_full tables conn = nat_le max_fids (length (fids_of tables conn))
 
 -- a fid of a node, not opened
 abbrev pub fresh : Node → Fid
 fresh node = record { node = node; mode = None; opening = None; given = 0; skip = 0; part = part_of []; held = [] }
 
+-- whether a fid is open
 abbrev pub is_open : Fid → Bool
 is_open fid = is_there fid.mode
 
@@ -35,6 +35,7 @@ is_open fid = is_there fid.mode
 abbrev pub is_for_reading : ℕ → Bool
 is_for_reading mode = not (how mode == 1)
 
+-- the modes with which a file is written
 abbrev pub is_for_writing : ℕ → Bool
 is_for_writing mode = not (how mode == 0)
 
@@ -43,6 +44,7 @@ abbrev pub at_event : Node → Option ℕ → Option ℕ
 at_event (File w Event) opening = opening
 at_event node opening = None
 
+-- the opening of a port
 abbrev pub at_port : Node → Option ℕ → Option ℕ
 at_port (Port k) opening = opening
 at_port node opening = None
@@ -67,6 +69,7 @@ fid_with_part fid part = record fid { part = part }
 abbrev pub held_with : Fid → List ℕ → List ℕ
 held_with fid bytes = fid.held ++ bytes
 
+-- with nothing held
 abbrev pub emptied_fid : Fid → Fid
 emptied_fid fid = record fid { held = [] }
 
@@ -75,6 +78,7 @@ abbrev pub is_rules : Node → Bool
 is_rules Rules = true
 is_rules node = false
 
+-- whether a fid of `rules` holds the begin of a set
 abbrev pub holds_rules : Fid → Bool
 holds_rules fid = is_rules fid.node && not (length fid.held == 0)
 
@@ -82,5 +86,6 @@ holds_rules fid = is_rules fid.node && not (length fid.held == 0)
 abbrev pub capped : ℕ → ℕ
 capped n = min n (2 ^ 64 - 1)
 
+-- at a place in a directory
 abbrev pub placed_fid : Fid → ℕ → ℕ → Fid
 placed_fid fid given skip = record fid { given = capped given; skip = capped skip }

@@ -1,3 +1,4 @@
+pub mod Limits
 pub mod Fids
 pub mod Contents
 pub mod Plumbers

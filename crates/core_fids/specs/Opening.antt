@@ -18,6 +18,8 @@ use Rattle.core_windows.specs.declared.change.Change.{Change}
 use Rattle.core_windows.specs.declared.change.Change.TheVariants as change
 use Rattle.core_windows.specs.declared.change.Setting.{Setting}
 use Rattle.core_windows.specs.declared.change.Setting.TheVariants as setting
+use Rattle.am_journal.specs.Limits.{connection_count}
+use Rattle.wait_queue.specs.Limits.{max_openings}
 use Rattle.core_fids.specs.declared.effect.Effect.TheVariants as effect
 use Rattle.core_fids.specs.declared.effect.Demand.{Demand}
 use Rattle.core_fids.specs.declared.effect.Demand.TheVariants as demand
@@ -37,6 +39,7 @@ use Rattle.core_fids.specs.Refusals.{refusal_text}
 
 -- ---- Topen
 
+-- why a node isn't opened with a mode
 abbrev pub mode_refusal : May → Option Refusal
 mode_refusal may.Yes = None
 mode_refusal may.BadMode = Some refusal.BadOpenMode
@@ -44,8 +47,9 @@ mode_refusal may.Denied = Some refusal.PermissionDenied
 
 -- openings of event files are numbered from 1, and those of ports likewise; 4,294,967,295 is the last number of both
 abbrev pub opening_refusal : ℕ → Option Refusal
-opening_refusal openings = if nat_lt openings 4294967295 then None else Some refusal.TooManyOpenings
+opening_refusal openings = if nat_lt openings max_openings then None else Some refusal.TooManyOpenings
 
+-- why what a node holds isn't opened once more
 abbrev pub content_refusal : Plumber → ℕ → Content → Option Refusal
 content_refusal plumber openings content.Directory = None
 content_refusal plumber openings (content.BodyText w) = None
@@ -63,10 +67,12 @@ content_refusal plumber openings content.SendText = None
 content_refusal plumber openings content.RulesText = None
 content_refusal plumber openings (content.PortOf k) = opening_refusal plumber.joined
 
+-- the first of two
 abbrev pub first_refusal : Option Refusal → Option Refusal → Option Refusal
 first_refusal None later = later
 first_refusal (Some refusal) later = Some refusal
 
+-- why a fid isn't opened
 abbrev pub open_refusal : World → Plumber → ℕ → Fid → ℕ → Option Refusal
 open_refusal world plumber openings fid mode =
     if not (is_live world plumber.names fid.node) then Some refusal.WindowDeleted else
@@ -79,9 +85,11 @@ is_file_of w Ctl (File v Ctl) = v == w
 is_file_of w Addr (File v Addr) = v == w
 is_file_of w file node = false
 
+-- whether a fid has the file of the window open
 abbrev pub has_open : ℕ → WinFile → ℕ × Fid → Bool
 has_open w file f = is_open f.1 && is_file_of w file f.1.node
 
+-- no, where there is none
 abbrev pub or_false : Option Bool → Bool
 or_false None = false
 or_false (Some b) = b
@@ -93,7 +101,7 @@ open_below tables w file (suc n) = open_below tables w file n || list_any (has_o
 
 -- a setting is made where no fid has the file open
 abbrev pub sets_first : Tables → ℕ → WinFile → Setting → List Change
-sets_first tables w file s = if open_below tables w file 64 then [] else change.Sets w s ∷ []
+sets_first tables w file s = if open_below tables w file connection_count then [] else change.Sets w s ∷ []
 
 -- opening `ctl` where no fid has it open clears the limit
 abbrev pub clears_limit : Tables → ℕ → List Change
@@ -103,6 +111,7 @@ clears_limit tables w = sets_first tables w Ctl setting.NoLimit
 abbrev pub resets_addr : Tables → ℕ → List Change
 resets_addr tables w = sets_first tables w Addr (setting.Addr null_range)
 
+-- what opening changes in the windows
 abbrev pub opening_changes : Tables → Content → List Change
 opening_changes tables content.Directory = []
 opening_changes tables (content.BodyText w) = []
@@ -173,17 +182,20 @@ or_opens tables plumber None openings number fid mode = Ok (record {
 })
 or_opens tables plumber (Some refusal) openings number fid mode = Err refusal
 
+-- what a Topen of this fid does
 abbrev pub open_fid : Tables → World → Plumber → ℕ → ℕ → ℕ → Option Fid → Result Reaction Refusal
 open_fid tables world plumber openings number mode None = Err refusal.UnknownFid
 open_fid tables world plumber openings number mode (Some fid) =
     or_opens tables plumber (open_refusal world plumber openings fid mode) openings number fid mode
 
+-- what a Topen does
 abbrev pub open_reaction : Tables → World → Plumber → ℕ → ℕ → ℕ → ℕ → Result Reaction Refusal
 open_reaction tables world plumber openings conn number mode =
     open_fid tables world plumber openings number mode (fid_of tables conn number)
 
 -- ---- Tcreate and Twstat, which are never done
 
+-- what is never allowed
 abbrev pub denial : Option Fid → Result Reaction Refusal
 denial None = Err refusal.UnknownFid
 denial (Some fid) = Err refusal.PermissionDenied
@@ -194,10 +206,12 @@ denial (Some fid) = Err refusal.PermissionDenied
 abbrev pub rest_demand : Fid → Demand
 rest_demand fid = if holds_rules fid then demand.AddsRest fid.held else demand.Nothing
 
+-- what a Tclunk of this fid does
 abbrev pub clunk_fid : ℕ → Option Fid → Result Reaction Refusal
 clunk_fid number None = Err refusal.UnknownFid
 clunk_fid number (Some fid) = Ok (frees number (rest_demand fid) r.Clunk)
 
+-- what a Tremove of this fid does
 abbrev pub remove_fid : ℕ → Option Fid → Result Reaction Refusal
 remove_fid number None = Err refusal.UnknownFid
 remove_fid number (Some fid) = Ok (frees number (rest_demand fid) (r.Error (refusal_text refusal.PermissionDenied)))

@@ -10,5 +10,6 @@ pub record Plumber : Type 0 where
   pub text : List ℕ
   pub joined : ℕ
 
+-- what the messages see of the rules and the ports
 abbrev pub plumber_of : RuleState → PortsState → Plumber
 plumber_of rules ports = record { names = names_of ports.ports; text = rules.text; joined = ports.joined }

@@ -10,6 +10,7 @@ use Rattle.core_fids.specs.declared.refusal.Refusal.TheVariants as refusal
 use Rattle.core_fids.specs.declared.refusal.Fault.{Fault}
 use Rattle.core_fids.specs.declared.refusal.Fault.TheVariants as fault
 
+-- the text of a refusal
 abbrev pub refusal_text : Refusal → List ℕ
 refusal_text refusal.VersionFirst = codes "version first"
 refusal_text refusal.MsizeTooSmall = codes "msize too small"
@@ -53,16 +54,17 @@ refusal_text refusal.BadExpressionSize = codes "bad regular expression size"
 refusal_text refusal.TooManyRules = codes "too many rules"
 
 -- the reaction of a refusal: its text is answered, and nothing changes but what is said here
-abbrev pub refused_with : Effect → Refusal → Reaction
-refused_with f refusal = does f [] (r.Error (refusal_text refusal))
+abbrev pub refusal_with_effect : Effect → Refusal → Reaction
+refusal_with_effect f refusal = does f [] (r.Error (refusal_text refusal))
 
-abbrev pub refused : Refusal → Reaction
-refused refusal = refused_with effect.Nothing refusal
+-- a refusal that changes nothing
+abbrev pub refusal_reaction : Refusal → Reaction
+refusal_reaction refusal = refusal_with_effect effect.Nothing refusal
 
 -- a message that may be refused
 abbrev pub reaction_or_refusal : Result Reaction Refusal → Reaction
 reaction_or_refusal (Ok reaction) = reaction
-reaction_or_refusal (Err refusal) = refused refusal
+reaction_or_refusal (Err refusal) = refusal_reaction refusal
 
 -- the fault of a message that is refused so; want of memory may come anywhere
 abbrev pub Gives : {A : Type 0} → Fault → Result A Refusal → Type 0

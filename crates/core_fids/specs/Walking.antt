@@ -11,6 +11,7 @@ use Rattle.acme_tree.specs.Trees.{qid_of}
 use Rattle.acme_tree.specs.Walks.{walk_one}
 use Rattle.fid_table.specs.declared.types.Fid.{Fid}
 use Rattle.core_windows.specs.declared.change.Change.TheVariants as change
+use Rattle.ninep_types.specs.Limits.{no_fid}
 use Rattle.core_fids.specs.declared.effect.Effect.TheVariants as effect
 use Rattle.core_fids.specs.declared.effect.Reaction.{Reaction}
 use Rattle.core_fids.specs.Plainly.{does}
@@ -20,13 +21,15 @@ use Rattle.core_fids.specs.declared.walking.Course.{Course}
 use Rattle.core_fids.specs.declared.walking.WalkEnd.{WalkEnd}
 use Rattle.core_fids.specs.declared.walking.WalkEnd.TheVariants as end
 use Rattle.fid_table.specs.Tables.{Tables, fid_of}
-use Rattle.core_fids.specs.Fids.{is_used, fids_full, is_open, fresh, nofid}
+use Rattle.core_fids.specs.Fids.{is_used, fids_full, is_open, fresh}
 
 -- ---- names
 
+-- a qid in front
 abbrev pub then_qid : Qid → Course → Course
 then_qid qid course = record { qids = qid ∷ course.qids; end = course.end }
 
+-- the walk stops here
 abbrev pub stops : Refusal → Course
 stops refusal = record { qids = []; end = end.Stops refusal }
 
@@ -49,11 +52,12 @@ course world ports node (n ∷ ns) = onwards world (walk_one world ports node n 
 -- the number that the walk's end gets: that of the fid itself, or a new one
 abbrev pub new_refusal : Tables → ℕ → ℕ → Fid → Option Refusal
 new_refusal tables conn newfid fid =
-    if newfid == nofid then Some refusal.BadFid else
+    if newfid == no_fid then Some refusal.BadFid else
     (if is_used tables conn newfid then Some refusal.FidInUse else
     (if is_open fid then Some refusal.FidIsOpen else
     (if fids_full tables conn then Some refusal.TooManyFids else None)))
 
+-- why a walk from this fid is refused, whatever its names
 abbrev pub walk_refusal : Tables → ℕ → ℕ → ℕ → Fid → Option Refusal
 walk_refusal tables conn number newfid fid =
     if newfid == number then (if is_open fid then Some refusal.FidIsOpen else None) else new_refusal tables conn newfid fid
@@ -66,17 +70,21 @@ arrives_at newfid world qids (end.Makes file) = Ok (does (effect.Puts newfid (fr
 arrives_at newfid world qids (end.Stops refusal) =
     if length qids == 0 then Err refusal else Ok (does effect.Nothing [] (r.Walk qids))
 
+-- what a walk does that took this course
 abbrev pub arrives : ℕ → World → Course → Result Reaction Refusal
 arrives newfid world course = arrives_at newfid world course.qids course.end
 
+-- the walk, where nothing refuses it
 abbrev pub or_walks : Option Refusal → Result Reaction Refusal → Result Reaction Refusal
 or_walks None walked = walked
 or_walks (Some refusal) walked = Err refusal
 
+-- what a Twalk from this fid does
 abbrev pub walk_from : Tables → World → List (List ℕ) → ℕ → ℕ → ℕ → List (List ℕ) → Option Fid → Result Reaction Refusal
 walk_from tables world ports conn number newfid names None = Err refusal.UnknownFid
 walk_from tables world ports conn number newfid names (Some fid) =
     or_walks (walk_refusal tables conn number newfid fid) (arrives newfid world (course world ports fid.node names))
 
+-- what a Twalk does
 abbrev pub walk_reaction : Tables → World → List (List ℕ) → ℕ → ℕ → ℕ → List (List ℕ) → Result Reaction Refusal
 walk_reaction tables world ports conn number newfid names = walk_from tables world ports conn number newfid names (fid_of tables conn number)

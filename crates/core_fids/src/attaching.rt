@@ -7,21 +7,18 @@ ghost use Rattle.core_fids.specs.Servers.{tables_in, windows_in};
 ghost use Rattle.core_fids.specs.Attaching.{is_version, agreement, version_reaction, root_of, is_editor, attach_refusal, attach_reaction};
 
 use crate::effect::{Effect, Reaction};
-use crate::fids::{NOFID, fids_full, fresh, is_used};
+use crate::fids::{fids_full, fresh, is_used};
 use crate::refusal::{Fault, Refusal, refuse};
 use crate::server::Server;
 use acme_tree::{Node, qid_of};
 use am_text::{Items, NoMemory};
-use ninep_types::{MAX_MSIZE, RBody};
+use ninep_types::{MAX_MSIZE, MIN_MSIZE, NO_FID, RBody, VERSION_NAME};
 use std::alloc::Global;
-
-/// The lowest msize.
-const MIN_MSIZE: u32 = 256;
 
 fn is_version(version: &[u8]) -> bool
     ensures { result ≡ is_version version.now }
 {
-    version == b"9P2000".as_slice() || version.starts_with(b"9P2000.")
+    version == VERSION_NAME || version.starts_with(b"9P2000.")
 }
 
 #[tactic(auto, using(crate::proofs::Answers::sent))]
@@ -44,7 +41,7 @@ fn agree(alloc: Global, msize: u32, version: &[u8]) -> Result<Reaction, NoMemory
         Items::new(alloc),
         RBody::Version {
             msize,
-            version: Items::copied(alloc, b"9P2000")?,
+            version: Items::copied(alloc, VERSION_NAME)?,
         },
     ))
 }
@@ -83,11 +80,11 @@ fn root_of(aname: &[u8]) -> Option<Node>
 fn attach_refusal(server: &Server, fid: u32, afid: u32) -> Option<Refusal>
     ensures { result ≡ attach_refusal (tables_in server.now) server.now.conn fid afid }
 {
-    if fid == NOFID {
+    if fid == NO_FID {
         Some(Refusal::BadFid)
     } else if is_used(server, fid) {
         Some(Refusal::FidInUse)
-    } else if afid != NOFID {
+    } else if afid != NO_FID {
         Some(Refusal::AuthenticationNotRequired)
     } else if fids_full(server) {
         Some(Refusal::TooManyFids)

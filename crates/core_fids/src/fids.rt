@@ -12,9 +12,6 @@ use am_text::{Bytes, Items, NoMemory, Part};
 use fid_table::Fid;
 use std::alloc::Global;
 
-/// The number that is no fid.
-pub(crate) const NOFID: u32 = 0xFFFFFFFF;
-
 /// The bits of a mode that say how a file is used, and what they are for reading alone and for writing alone (open(5)).
 const HOW: u8 = 3;
 
@@ -23,7 +20,7 @@ const FOR_READING: u8 = 0;
 const FOR_WRITING: u8 = 1;
 
 /// The most fids that a connection may have.
-const FIDS: usize = 1024;
+const MAX_FIDS: usize = 1024;
 
 /// Whether the number is in use.
 pub(crate) fn is_used(server: &Server, number: u32) -> bool
@@ -36,7 +33,7 @@ pub(crate) fn is_used(server: &Server, number: u32) -> bool
 pub(crate) fn fids_full(server: &Server) -> bool
     ensures { result ≡ fids_full (tables_in server.now) server.now.conn }
 {
-    server.sessions.count(server.conn) >= FIDS
+    server.sessions.count(server.conn) >= MAX_FIDS
 }
 
 /// A fid of a node, not opened.

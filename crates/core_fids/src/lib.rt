@@ -26,7 +26,7 @@ pub use fids::{
 pub use freeing::{clunk, deny, remove};
 pub use listing::{Reading, read_dir, stat};
 pub use ninep_types::RBody;
-pub use opening::{OPENINGS, open};
+pub use opening::open;
 pub use plumb_ports::Ports;
 pub use refusal::{Fault, Refusal, error, refuse};
 pub use server::{Server, port_names};

@@ -2,6 +2,7 @@
 
 ghost use Rattle.std.specs.Prelude.{◌≡◌, ◌+◌, ◌<◌, ◌≤◌, ◌^◌, IfOk, IfErr, Ok, length};
 ghost use Rattle.fid_table.specs.Tables.{fid_of};
+ghost use Rattle.ninep_types.specs.Limits.{rread_head};
 ghost use Rattle.core_fids.specs.Servers.{plumber_in, tables_in, windows_in, world_in};
 ghost use Rattle.core_fids.specs.Refusals.{Gives};
 ghost use Rattle.core_fids.specs.Done.{IsDone};
@@ -42,7 +43,7 @@ fn place_at(fid: &Fid, offset: u64) -> Option<usize>
 
 /// What a read of a directory does.
 pub fn read_dir(alloc: Global, server: &Server, reading: &Reading) -> Result<Reaction, Fault>
-    requires { reading.now.count + 11 < 2 ^ 32 }
+    requires { reading.now.count + rread_head < 2 ^ 32 }
     ensures exact { IfOk result (λ d. read_dir (world_in server.now) (plumber_in server.now).names reading.now.number reading.now.fid.now reading.now.offset reading.now.count (place_at reading.now.fid.now reading.now.offset) ≡ Ok d) }
     ensures refused { IfErr result (λ e. Gives e (read_dir (world_in server.now) (plumber_in server.now).names reading.now.number reading.now.fid.now reading.now.offset reading.now.count (place_at reading.now.fid.now reading.now.offset))) }
     ensures done { IfOk result (IsDone (windows_in server.now)) }

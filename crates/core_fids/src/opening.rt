@@ -5,6 +5,7 @@ ghost use Rattle.std.specs.List.{list_any};
 ghost use Rattle.std.specs.Option.{option_map};
 ghost use Rattle.std.specs.Prelude.{slice_get};
 ghost use Rattle.fid_table.specs.Tables.{fids_of};
+ghost use Rattle.am_journal.specs.Limits.{connection_count};
 ghost use Rattle.core_fids.specs.Servers.{plumber_in, tables_in, windows_in, world_in};
 ghost use Rattle.core_fids.specs.Refusals.{Gives};
 ghost use Rattle.core_fids.specs.Done.{IsDone};
@@ -16,17 +17,16 @@ use crate::fids::{is_open, opened_fid};
 use crate::refusal::{Fault, Refusal};
 use crate::server::{Server, port_names};
 use acme_tree::{May, Node, WinFile, is_live, may_open, qid_of, truncates};
+use am_journal::CONNECTIONS;
 use am_text::{Items, NoMemory, Range};
 use core_windows::{Change, Changes, Setting};
 use fid_table::{Fid, Sessions};
 use ninep_types::RBody;
 use std::alloc::Global;
+use wait_queue::MAX_OPENINGS;
 
 /// How many connections there are.
-const CONNS: u32 = 64;
-
-/// The most openings of event files that are ever made, and the most of ports.
-pub const OPENINGS: usize = 4294967295;
+const CONNS: u32 = CONNECTIONS as u32;
 
 fn mode_refusal(may: May) -> Option<Refusal>
     ensures { result ≡ mode_refusal may }
@@ -42,7 +42,7 @@ fn mode_refusal(may: May) -> Option<Refusal>
 fn opening_refusal(openings: usize) -> Option<Refusal>
     ensures { result ≡ opening_refusal openings }
 {
-    if openings < OPENINGS {
+    if openings < MAX_OPENINGS {
         None
     } else {
         Some(Refusal::TooManyOpenings)
@@ -141,7 +141,7 @@ fn has_open(sessions: &Sessions, conn: u32, window: u32, file: WinFile) -> bool
 // Whether one of all connections has a fid that has it open.
 #[tactic(auto, using(crate::proofs::Scanned::connections))]
 fn someone_has_open(sessions: &Sessions, window: u32, file: WinFile) -> bool
-    ensures { result ≡ open_below sessions.now.present window file 64 }
+    ensures { result ≡ open_below sessions.now.present window file connection_count }
 {
     let mut found = false;
     let mut conn = 0;

@@ -1,7 +1,7 @@
 //! Named refusals, which are answered by Rerror.
 
 ghost use Rattle.std.specs.Prelude.{◌≡◌, IfOk};
-ghost use Rattle.core_fids.specs.Refusals.{refusal_text, refused_with};
+ghost use Rattle.core_fids.specs.Refusals.{refusal_text, refusal_with_effect};
 ghost use Rattle.core_fids.specs.Done.{IsSent, IsStill};
 ghost use Rattle.core_fids.specs.declared.refusal.Fault.TheVariants.{NoMemory};
 
@@ -173,7 +173,7 @@ pub fn error(alloc: Global, refusal: Refusal) -> Result<RBody, NoMemory>
 
 /// What a message does that is refused and does this.
 pub fn refuse(alloc: Global, effect: Effect, refusal: Refusal) -> Result<Reaction, NoMemory>
-    ensures exact { IfOk result (λ d. d ≡ refused_with effect refusal) }
+    ensures exact { IfOk result (λ d. d ≡ refusal_with_effect effect refusal) }
     ensures still { IfOk result IsStill }
 {
     Ok(Reaction::plain(effect, Items::new(alloc), error(alloc, refusal)?))

@@ -1,6 +1,7 @@
 //! Walks, after walk(5).
 
 ghost use Rattle.std.specs.Prelude.{◌≡◌, ◌≤◌, [], length, IfOk, IfErr, Ok, Err, ◌∷◌};
+ghost use Rattle.ninep_types.specs.Limits.{max_names};
 ghost use Rattle.core_fids.specs.Refusals.{Gives};
 ghost use Rattle.core_fids.specs.Servers.{plumber_in, tables_in, windows_in, world_in};
 ghost use Rattle.core_windows.specs.declared.change.Change.TheVariants as Change;
@@ -8,14 +9,14 @@ ghost use Rattle.core_fids.specs.Done.{IsDone, MayEnd};
 ghost use Rattle.core_fids.specs.Walking.{course, new_refusal, walk_refusal, arrives, walk_from, walk_reaction};
 
 use crate::effect::{Effect, Reaction};
-use crate::fids::{NOFID, fids_full, fresh, is_open, is_used};
+use crate::fids::{fids_full, fresh, is_open, is_used};
 use crate::refusal::{Fault, Refusal};
 use crate::server::{Server, port_names};
 use acme_tree::{Node, Step, WinFile, World, qid_of, walk_one};
 use am_text::{Bytes, Items, NoMemory};
 use core_windows::{Change, Changes};
 use fid_table::Fid;
-use ninep_types::{Qids, RBody};
+use ninep_types::{NO_FID, Qids, RBody};
 use std::alloc::Global;
 
 /// Where a walk ends.
@@ -80,7 +81,7 @@ fn course_of(
 fn new_refusal(server: &Server, newfid: u32, fid: &Fid) -> Option<Refusal>
     ensures { result ≡ new_refusal (tables_in server.now) server.now.conn newfid fid.now }
 {
-    if newfid == NOFID {
+    if newfid == NO_FID {
         Some(Refusal::BadFid)
     } else if is_used(server, newfid) {
         Some(Refusal::FidInUse)
@@ -116,7 +117,7 @@ fn new_window(alloc: Global) -> Result<Changes, NoMemory>
 }
 
 fn arrive(alloc: Global, server: &Server, newfid: u32, course: Course) -> Result<Reaction, Fault>
-    requires few { length course.qids ≤ 16 }
+    requires few { length course.qids ≤ max_names }
     requires may { MayEnd (world_in server.now) course.end }
     ensures exact { IfOk result (λ d. arrives newfid (world_in server.now) course ≡ Ok d) }
     ensures refused { IfErr result (λ e. Gives e (arrives newfid (world_in server.now) course)) }
@@ -157,7 +158,7 @@ pub fn walk(
     newfid: u32,
     names: &[Bytes],
 ) -> Result<Reaction, Fault>
-    requires { length names.now ≤ 16 }
+    requires { length names.now ≤ max_names }
     ensures exact { IfOk result (λ d. walk_reaction (tables_in server.now) (world_in server.now) (plumber_in server.now).names server.now.conn number newfid names.now ≡ Ok d) }
     ensures refused { IfErr result (λ e. Gives e (walk_reaction (tables_in server.now) (world_in server.now) (plumber_in server.now).names server.now.conn number newfid names.now)) }
     ensures done { IfOk result (IsDone (windows_in server.now)) }

@@ -17,7 +17,7 @@ use Rattle.core_windows.specs.Possible.{CanSetIn, CanEdit, text_in}
 use Rattle.core_windows.proofs.Steps.{edits_then_set}
 use Rattle.core_fids.specs.Done.{CanBeMade}
 use Rattle.core_windows.specs.Windows.{Window, window_at}
-use Rattle.core_addresses.specs.Data.{replacing}
+use Rattle.core_addresses.specs.Data.{replacement}
 use Rattle.core_intents.specs.Typing.{fits_body, sel_refusal, edits_with_dot, sel_changes}
 
 -- a range that lies in the text, and a text for its place; null_in says that both are empty
@@ -44,20 +44,20 @@ end_inside text r put inside true e = grind (arith, nat_tests)
 end_inside text r put inside false e = after_put text put r.q0 r.q1 (omega (arith, inside.order, inside.bounds))
 
 replaces : (text : List ℕ) (r : Range) (put : List ℕ) → IsInside text r
-    → IsChangeOf text (record { edits = replacing r put; dot = Some (record { q0 = r.q0 + length put; q1 = r.q0 + length put }) })
+    → IsChangeOf text (record { edits = replacement r put; dot = Some (record { q0 = r.q0 + length put; q1 = r.q0 + length put }) })
 replaces text r put inside = record {
   edits = in_range text r put inside ((eqb r.q0 r.q1) && (eqb (length put) 0)) refl;
   dot = record { order = omega arith; bounds = end_inside text r put inside ((eqb r.q0 r.q1) && (eqb (length put) 0)) refl };
 }
 
 pub key_possible : (windows : List (Option Window)) (w : ℕ) (window : Window) (put : List ℕ) (edits : List Edit) (end : ℕ) (cs : List Change)
-    → cs ≡ edits_with_dot w edits (record { q0 = end; q1 = end }) → window_at windows w ≡ Some window → IsSound window.body → edits ≡ replacing window.body.dot put → end ≡ window.body.dot.q0 + length put
+    → cs ≡ edits_with_dot w edits (record { q0 = end; q1 = end }) → window_at windows w ≡ Some window → IsSound window.body → edits ≡ replacement window.body.dot put → end ≡ window.body.dot.q0 + length put
     → CanBeMade windows cs
 key_possible windows w window put edits end cs is there sound e n = subst (CanBeMade windows) (sym is) (λ at.
     let dot : Range = record { q0 = end; q1 = end } in
     let made : IsChangeOf window.body.text (record { edits = edits; dot = Some dot }) =
     subst (λ (es : List Edit). IsChangeOf window.body.text (record { edits = es; dot = Some dot })) (sym e)
-    (subst (λ (k : ℕ). IsChangeOf window.body.text (record { edits = replacing window.body.dot put; dot = Some (record { q0 = k; q1 = k }) })) (sym n)
+    (subst (λ (k : ℕ). IsChangeOf window.body.text (record { edits = replacement window.body.dot put; dot = Some (record { q0 = k; q1 = k }) })) (sym n)
     (replaces window.body.text window.body.dot put sound.dot))
     in
     edits_then_set at w edits (setting.Dot dot) windows

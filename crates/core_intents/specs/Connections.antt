@@ -8,14 +8,17 @@ use Rattle.core_fids.specs.declared.effect.Effect.{Effect}
 use Rattle.core_fids.specs.declared.effect.Effect.TheVariants as effect
 use Rattle.fid_table.specs.Tables.{Tables, has_joined, HasJoined, after_join, after_put, after_take, after_version}
 
+-- the state of a connection
 abbrev pub connection_at : List Connection → ℕ → Connection
 connection_at connections conn = slice_index_or connections conn Undialed
 
+-- whether a connection is live
 abbrev pub is_live : Connection → Bool
 is_live Undialed = false
 is_live Live = true
 is_live (Ended why) = false
 
+-- how many connections are live
 abbrev pub live_count : List Connection → ℕ
 live_count connections = count_by is_live connections
 
@@ -29,6 +32,7 @@ connections_after connections kind.Acts = connections
 
 -- ---- their sessions
 
+-- whether a connection was ever dialled
 abbrev pub was_dialed : Connection → Bool
 was_dialed Undialed = false
 was_dialed Live = true
@@ -56,18 +60,21 @@ IsOfJoined tables kind.Acts = Unit {0}
 
 -- ---- what an event does to them: first what wants memory, and then what doesn't
 
+-- the sessions with what an effect adds
 abbrev pub grown_with : Tables → ℕ → Effect → Tables
 grown_with tables conn effect.Nothing = tables
 grown_with tables conn (effect.Begins msize) = tables
 grown_with tables conn (effect.Puts number fid) = after_put tables conn number fid
 grown_with tables conn (effect.Frees number) = tables
 
+-- the sessions without what an effect ends
 abbrev pub ended_with : Tables → ℕ → Effect → Tables
 ended_with tables conn effect.Nothing = tables
 ended_with tables conn (effect.Begins msize) = after_version tables conn msize
 ended_with tables conn (effect.Puts number fid) = tables
 ended_with tables conn (effect.Frees number) = after_take tables conn number
 
+-- the sessions with what an event adds
 abbrev pub grown : Tables → Kind → Effect → Tables
 grown tables (kind.Dials conn) effect = after_join tables conn
 grown tables (kind.Asks conn tag) effect = grown_with tables conn effect

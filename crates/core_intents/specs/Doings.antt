@@ -33,6 +33,7 @@ use Rattle.core_intents.specs.Typing.{key_refusal, sel_refusal}
 
 -- ---- what may come
 
+-- whether a message is a Tversion
 abbrev pub is_version : TBody → Bool
 is_version (t.Version msize version) = true
 is_version body = false
@@ -88,6 +89,7 @@ resolved s i = record {
 abbrev pub message_doing : Present → Reaction → Origin → Doing
 message_doing s d origin = resolved s (message_intent s.scene.book d origin)
 
+-- what an event comes to
 abbrev pub doing_of : Present → Event → Doing
 doing_of s e = resolved s (intent_of s e)
 
@@ -98,6 +100,7 @@ IsAnswerable (Some answer) = HasSpelling answer
 
 -- ---- the step that does it
 
+-- the entry that an event is, with the origin of what it does
 abbrev pub entry_of : Present → Doing → Entry
 entry_of s d = entry_by s d.origin
 

@@ -38,6 +38,7 @@ use Rattle.core_intents.specs.Typing.{key_changes, sel_changes}
 
 -- ---- answers
 
+-- whether an answer is a refusal
 abbrev pub is_refusal : Answer → Bool
 is_refusal (Says (r.Error text)) = true
 is_refusal answer = false
@@ -54,6 +55,7 @@ answer_or refusal (Some answer) = Some (or_refused refusal answer)
 
 -- ---- what a fid holds
 
+-- what is held anew, or what was held
 abbrev pub held_or : List ℕ → Option (List ℕ) → List ℕ
 held_or text None = text
 held_or text (Some new) = new
@@ -67,14 +69,17 @@ with_held (effect.Frees number) held = effect.Frees number
 
 -- ---- an item that is written back
 
+-- the refusal where no item was found
 abbrev pub not_found : BackFault → Refusal
 not_found Already = refusal.EventAlreadyWrittenBack
 not_found NoSuch = refusal.NoSuchEvent
 
+-- the item that was found, or the refusal
 abbrev pub item_or_refusal : ℕ → Result ℕ BackFault → Result BackItem Refusal
 item_or_refusal w (Ok number) = Ok (record { window = w; number = number })
 item_or_refusal w (Err fault) = Err (not_found fault)
 
+-- the item that an event message names, or the refusal
 abbrev pub item_named : BookState → ℕ → Option BackMsg → Result BackItem Refusal
 item_named book w None = Err refusal.BadEvent
 item_named book w (Some message) = item_or_refusal w (found_of book w message)
@@ -90,10 +95,12 @@ abbrev pub back_task : Result BackItem Refusal → Task
 back_task (Ok item) = task.Back item.window item.number
 back_task (Err refusal) = task.Changes []
 
+-- the item, if there is one
 abbrev pub item_if_any : Result BackItem Refusal → Option BackItem
 item_if_any (Ok item) = Some item
 item_if_any (Err refusal) = None
 
+-- the refusal, if there is one
 abbrev pub refusal_if_any : Result BackItem Refusal → Option Refusal
 refusal_if_any (Ok item) = None
 refusal_if_any (Err refusal) = Some refusal
@@ -118,6 +125,7 @@ demanded_item book (demand.AddsRules text) = None
 demanded_item book (demand.AddsRest text) = None
 demanded_item book (demand.Sends text) = None
 
+-- why what is asked of the scene is refused beforehand
 abbrev pub demand_refusal : BookState → Demand → Option Refusal
 demand_refusal book demand.Nothing = None
 demand_refusal book (demand.Controls w text) = None
@@ -131,6 +139,7 @@ demand_refusal book (demand.Sends text) = None
 abbrev pub reaction_at : Present → ℕ → TMsg → Reaction
 reaction_at s conn msg = reaction s.tables s.scene.windows (plumber_of s.scene.rules s.scene.ports) (length s.scene.book.owners) conn msg.body
 
+-- what a message is to do
 abbrev pub message_intent : BookState → Reaction → Origin → Intent
 message_intent book d origin = record {
   effect = d.effect;
@@ -147,9 +156,11 @@ message_intent book d origin = record {
 abbrev pub acting : Task → Origin → Intent
 acting task origin = record { effect = effect.Nothing; events = events.Nothing; task = task; origin = origin; answer = None; back = None }
 
+-- nothing is to be done
 abbrev pub nothing : Intent
 nothing = acting (task.Changes []) F
 
+-- what an event is to do
 abbrev pub intent_of : Present → Event → Intent
 intent_of s (event.Dial conn) = nothing
 intent_of s (event.Msg conn msg) = message_intent s.scene.book (reaction_at s conn msg) (message_origin s.tables conn msg.body)

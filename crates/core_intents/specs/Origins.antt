@@ -16,6 +16,7 @@ is_text (File w Body) = true
 is_text (File w Tag) = true
 is_text node = false
 
+-- the origin of what is done through a fid
 abbrev pub origin_at : Option Fid → Origin
 origin_at None = F
 origin_at (Some fid) = if is_text fid.node then E else F

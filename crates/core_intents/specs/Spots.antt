@@ -17,6 +17,7 @@ window_refusal (Some window) = None
 abbrev pub text_refusal : Option Window → Spot → Option Why
 text_refusal window at = if nat_le at.range.q1 (length (side_text window at.side)) then None else Some why.Range
 
+-- why a place isn't one of a text
 abbrev pub spot_refusal : List (Option Window) → Spot → Option Why
 spot_refusal windows at = first_why (window_refusal (window_at windows at.window)) (text_refusal (window_at windows at.window) at)
 
@@ -28,6 +29,7 @@ arg_refusal windows at chord =
 
 -- ---- the length of a tag
 
+-- the length, where the test holds
 abbrev pub len_if : Bool → ℕ → ℕ
 len_if b n = if b then n else 0
 

@@ -3,6 +3,7 @@ use Rattle.std.specs.Prelude.{ℕ, ◌+◌, List, [], replicate, Option}
 use Rattle.fid_table.specs.Tables.{Tables, nothing}
 use Rattle.core_scene.specs.Scenes.{SceneState, no_scene}
 use Rattle.core_windows.specs.Stories.{WindowStory, shown_windows}
+use Rattle.am_journal.specs.Limits.{connection_count}
 use Rattle.core_intents.specs.declared.connection.Connection.{Connection}
 use Rattle.core_intents.specs.declared.connection.Connection.TheVariants.{Undialed}
 use Rattle.core_outputs.specs.declared.reply.Reply.{Reply}
@@ -43,11 +44,11 @@ present s = record {
 abbrev pub start : State
 start = record {
   entries = 0;
-  connections = replicate 64 Undialed;
+  connections = replicate connection_count Undialed;
   tables = nothing;
   windows = [];
   scene = no_scene;
-  unsent = replicate 64 nothing_unsent;
+  unsent = replicate connection_count nothing_unsent;
   replies = [];
 }
 

@@ -6,7 +6,7 @@ use Rattle.am_journal.specs.declared.event.Side.{Side}
 use Rattle.am_journal.specs.declared.event.Side.TheVariants.{Tag, Body}
 use Rattle.am_journal.specs.declared.event.Why.{Why}
 use Rattle.am_journal.specs.declared.event.Why.TheVariants as why
-use Rattle.core_addresses.specs.Data.{replacing}
+use Rattle.core_addresses.specs.Data.{replacement}
 use Rattle.core_windows.specs.declared.change.Change.{Change}
 use Rattle.core_windows.specs.declared.change.Change.TheVariants as change
 use Rattle.core_windows.specs.declared.change.Setting.TheVariants as setting
@@ -21,6 +21,7 @@ abbrev pub fits_body : Window → List ℕ → Option Why
 fits_body window text =
     if nat_le (length window.body.text - (window.body.dot.q1 - window.body.dot.q0) + length text) body_runes then None else Some why.Length
 
+-- why a text doesn't fit into a side
 abbrev pub fits_side : Window → Side → List ℕ → Option Why
 fits_side window Body text = fits_body window text
 fits_side window Tag text = if fits_tag window.right text then None else Some why.Length
@@ -34,11 +35,13 @@ key_refusal (Some window) side text = fits_side window side text
 abbrev pub edits_with_dot : ℕ → List Edit → Range → List Change
 edits_with_dot w edits range = change.Edits w edits ∷ change.Sets w (setting.Dot range) ∷ []
 
+-- a text takes the place of dot, or goes to the end of the tag
 abbrev pub typed : ℕ → Window → Side → List ℕ → List Change
 typed w window Body text =
-    edits_with_dot w (replacing window.body.dot text) (record { q0 = window.body.dot.q0 + length text; q1 = window.body.dot.q0 + length text })
+    edits_with_dot w (replacement window.body.dot text) (record { q0 = window.body.dot.q0 + length text; q1 = window.body.dot.q0 + length text })
 typed w window Tag text = change.Adds w text ∷ []
 
+-- what a key changes
 abbrev pub key_changes : ℕ → Option Window → Side → List ℕ → List Change
 key_changes w None side text = []
 key_changes w (Some window) side text = typed w window side text

@@ -7,7 +7,7 @@ ghost use Rattle.core_intents.specs.Spots.{text_refusal, spot_refusal, arg_refus
 
 use crate::enabled::first_why;
 use am_journal::{Side, Spot, Why};
-use am_text::{Letters, Rune};
+use am_text::{Letters, Rune, SLASH};
 use core_windows::{Pane, Windows};
 use win_ctl::Shown;
 
@@ -43,7 +43,7 @@ fn is_in_tag(pane: &Pane, place: usize) -> bool
         undo: pane.body.can_undo(),
         redo: pane.body.can_redo(),
         modified: pane.modified,
-        dir: name.ends_with(&[47]),
+        dir: name.ends_with(&[SLASH]),
     };
     is_in(place, name.len(), words_len(name, shown), pane.right.len())
 }

@@ -9,7 +9,7 @@ ghost use Rattle.core_intents.specs.Typing.{fits_side, key_refusal, edits_with_d
 
 use am_journal::{Side, Why};
 use am_text::{Items, Letters, NoMemory, Range, Rune, Runes};
-use core_addresses::replacing;
+use core_addresses::replacement;
 use core_windows::{Change, Changes, Edits, Pane, Setting, Windows};
 use std::alloc::Global;
 use win_ctl::TAG_RUNES;
@@ -94,7 +94,7 @@ fn typed(
             pane.body.is_sound();
             let dot = pane.body.dot();
             let end = dot.q0 + text.len();
-            let edits = replacing(alloc, dot, text)?;
+            let edits = replacement(alloc, dot, text)?;
             let changes = edits_with_dot(alloc, window, edits, Range { q0: end, q1: end })?;
             Ok(changes)
         }

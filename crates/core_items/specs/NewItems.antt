@@ -37,6 +37,7 @@ cut_item origin e = if nat_lt e.q0 e.q1 then Some (plain_item origin BodyDel (re
 abbrev pub edit_items : Origin → Edit → List Item
 edit_items origin e = option_to_list (cut_item origin e) ++ option_to_list (put_item origin BodyIns e.q0 e.text)
 
+-- the items of edits, in order
 abbrev pub items_of_edits : Origin → List Edit → List Item
 items_of_edits origin [] = []
 items_of_edits origin (e ∷ es) = edit_items origin e ++ items_of_edits origin es
@@ -60,6 +61,7 @@ tag_with window right = tag_text (record { name = window.name; right = right }) 
 abbrev pub left_len : Window → ℕ
 left_len window = length (tag_with window [])
 
+-- the runes of a window's tag
 abbrev pub tag_len : Window → ℕ
 tag_len window = length (tag_with window window.right)
 
@@ -74,6 +76,7 @@ cleared_item origin window =
     if length window.right == 0 then None
     else Some (plain_item origin TagDel (record { q0 = left_len window; q1 = tag_len window }) [])
 
+-- the item of a setting, if it changes the tag
 abbrev pub setting_item : Origin → Window → Setting → Option Item
 setting_item origin window setting.AddrToDot = None
 setting_item origin window setting.DotToAddr = None
@@ -94,6 +97,7 @@ items_of_set origin (Some window) setting = option_to_list (setting_item origin 
 
 -- ---- Undo and Redo
 
+-- the edits, if there are any
 abbrev pub edits_if_any : Option (List Edit) → List Edit
 edits_if_any None = []
 edits_if_any (Some edits) = edits
@@ -103,6 +107,7 @@ abbrev pub edits_of_undo : Option Window → List Edit
 edits_of_undo None = []
 edits_of_undo (Some window) = edits_if_any (edits_to_undo window.body.history)
 
+-- the edits that Redo makes in a window
 abbrev pub edits_of_redo : Option Window → List Edit
 edits_of_redo None = []
 edits_of_redo (Some window) = edits_if_any (edits_to_redo window.body.history)

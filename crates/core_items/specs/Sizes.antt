@@ -8,6 +8,7 @@ use Rattle.core_windows.specs.Windows.{Window}
 use Rattle.core_items.specs.NewItems.{plain_item, shown_of}
 use Rattle.core_items.specs.declared.size.TagSize.{TagSize}
 
+-- the sizes of the parts of a window's tag
 abbrev pub size_of : Window → TagSize
 size_of window = record { name = length window.name; right = length window.right; shown = shown_of window }
 
@@ -15,6 +16,7 @@ size_of window = record { name = length window.name; right = length window.right
 abbrev pub word_size : Bool → ℕ → ℕ
 word_size b n = if b then n else 0
 
+-- whether the tag shows `Put`
 abbrev pub shows_put : TagSize → Bool
 shows_put s = not (s.name == 0) && s.shown.modified && not s.shown.dir
 
@@ -26,6 +28,7 @@ words_size s = 10 + word_size s.shown.undo 5 + word_size s.shown.redo 5 + word_s
 abbrev pub left_size : TagSize → ℕ
 left_size s = s.name + words_size s
 
+-- the runes of the tag
 abbrev pub whole_size : TagSize → ℕ
 whole_size s = left_size s + s.right
 

@@ -6,7 +6,7 @@ ghost use Rattle.core_windows.specs.Panes.{window_of};
 ghost use Rattle.core_items.specs.NewItems.{shown_of};
 ghost use Rattle.core_items.specs.Sizes.{word_size, shows_put, words_size, left_size, whole_size, size_of};
 
-use am_text::{NoMemory, Rune};
+use am_text::{NoMemory, Rune, SLASH};
 use core_windows::Pane;
 use win_ctl::Shown;
 
@@ -21,7 +21,7 @@ pub(crate) struct TagSize {
 fn is_dir(name: &[Rune]) -> bool
     ensures { result ≡ ends_with nat_eq name.now (codes "/") }
 {
-    name.ends_with(&[47])
+    name.ends_with(&[SLASH])
 }
 
 fn shown_of(pane: &Pane) -> Shown

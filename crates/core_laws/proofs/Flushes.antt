@@ -21,7 +21,7 @@ use Rattle.core_fids.specs.declared.effect.Reaction.{Reaction}
 use Rattle.core_fids.specs.declared.refusal.Refusal.TheVariants as refusal
 use Rattle.core_answers.specs.Reactions.{flush_reaction}
 use Rattle.core_fids.specs.Fids.{is_there}
-use Rattle.core_fids.specs.Refusals.{refused}
+use Rattle.core_fids.specs.Refusals.{refusal_reaction}
 use Rattle.core_events.specs.declared.response.Response.{Response}
 use Rattle.core_events.specs.Waits.{ended}
 use Rattle.core_tasks.specs.Tasks.{task_deeds, task_refusal}
@@ -65,7 +65,7 @@ none_reading conn tag rs =
 
 -- what a Tflush does, by whether a session is missing
 abbrev pub flush_or : Bool → ℕ → Reaction
-flush_or missing oldtag = cond missing (refused refusal.VersionFirst) (flush_reaction oldtag)
+flush_or missing oldtag = cond missing (refusal_reaction refusal.VersionFirst) (flush_reaction oldtag)
 
 -- nothing else is said, since no read that waits can be answered
 flush_said : (before : List Event) (conn tag oldtag : ℕ) (there : Bool)

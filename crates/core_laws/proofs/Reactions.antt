@@ -45,7 +45,7 @@ use Rattle.core_fids.specs.Plainly.{does}
 use Rattle.core_fids.specs.Plumbers.{Plumber}
 use Rattle.core_fids.specs.Directories.{place_at, read_dir, stat_fid}
 use Rattle.core_answers.specs.Reading.{read_opening, read_port, read_content, use_refusal, or_reads, most, read_fid}
-use Rattle.core_fids.specs.Refusals.{refused_with, reaction_or_refusal}
+use Rattle.core_fids.specs.Refusals.{refusal_with_effect, reaction_or_refusal}
 use Rattle.core_answers.specs.Texts.{text_at, right_of}
 use Rattle.core_fids.specs.Walking.{course, new_refusal, walk_refusal, arrives_at, or_walks, walk_from}
 use Rattle.core_answers.specs.Writing.{if_lives, append_reaction, add_reaction, or_errors, errors_reaction, write_content, write_fid}
@@ -230,7 +230,7 @@ module _ (New : EventChange → Fid → Type 0) (tables : Tables) (conn : ℕ) (
 
   version_sane : (msize : ℕ) (version : List ℕ) → IsSane New tables conn (version_reaction msize version)
   version_sane msize version =
-      one_of (nat_lt msize 256) (refused_with (effect.Begins None) refusal.MsizeTooSmall) (agreement (min msize 65560) version) (tt, tt)
+      one_of (nat_lt msize 256) (refusal_with_effect (effect.Begins None) refusal.MsizeTooSmall) (agreement (min msize 65560) version) (tt, tt)
       (one_of (is_version version) (does (effect.Begins (Some (min msize 65560))) [] (r.Version (min msize 65560) (codes "9P2000")))
       (does (effect.Begins None) [] (r.Version (min msize 65560) (codes "unknown"))) (tt, tt) (tt, tt))
 
@@ -427,5 +427,5 @@ module _ (New : EventChange → Fid → Type 0) (tables : Tables) (conn : ℕ) (
 
   pub reaction_sane : (windows : List (Option Window)) (plumber : Plumber) (openings : ℕ) (body : TBody) → OpensNew New (world_of windows) plumber openings → IsSane New tables conn (reaction tables windows plumber openings conn body)
   reaction_sane windows plumber openings body news =
-      one_of (comes_first tables conn body) (refused_with effect.Nothing refusal.VersionFirst) _ (tt, tt)
+      one_of (comes_first tables conn body) (refusal_with_effect effect.Nothing refusal.VersionFirst) _ (tt, tt)
       (settled (session_reaction tables (world_of windows) windows plumber openings conn body) (served_sane (world_of windows) windows plumber openings body news))

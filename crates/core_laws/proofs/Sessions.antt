@@ -30,7 +30,7 @@ use Rattle.core_answers.specs.Reactions.{needs_session, session_reaction, flush_
 use Rattle.core_fids.specs.Plainly.{does}
 use Rattle.core_windows.specs.Windows.{Window, world_of}
 use Rattle.core_fids.specs.Fids.{is_there}
-use Rattle.core_fids.specs.Refusals.{refused, refused_with, reaction_or_refusal}
+use Rattle.core_fids.specs.Refusals.{refusal_reaction, refusal_with_effect, reaction_or_refusal}
 use Rattle.core_events.specs.declared.response.Response.{Response}
 use Rattle.core_events.specs.Asking.{read_said, waits_unless}
 use Rattle.core_events.specs.Waits.{ended, without_cancelled}
@@ -176,14 +176,14 @@ says_or false d e g h = h
 
 version_says : (msize : ℕ) (version : List ℕ) → is_reads (version_reaction msize version).answer ≡ false
 version_says msize version =
-    says_or (nat_lt msize 256) (refused_with (effect.Begins None) refusal.MsizeTooSmall) (agreement (min msize 65560) version) refl
+    says_or (nat_lt msize 256) (refusal_with_effect (effect.Begins None) refusal.MsizeTooSmall) (agreement (min msize 65560) version) refl
     (says_or (is_version version) (does (effect.Begins (Some (min msize 65560))) [] (r.Version (min msize 65560) (codes "9P2000")))
     (does (effect.Begins None) [] (r.Version (min msize 65560) (codes "unknown"))) refl refl)
 
 -- what a message does, by whether a session is missing
 abbrev reaction_or : Tables → List (Option Window) → Plumber → ℕ → ℕ → TBody → Bool → Reaction
 reaction_or tables windows plumber openings conn body missing =
-    cond (needs_session body && missing) (refused refusal.VersionFirst) (reaction_or_refusal (session_reaction tables (world_of windows) windows plumber openings conn body))
+    cond (needs_session body && missing) (refusal_reaction refusal.VersionFirst) (reaction_or_refusal (session_reaction tables (world_of windows) windows plumber openings conn body))
 
 missing_says : (tables : Tables) (windows : List (Option Window)) (plumber : Plumber) (openings conn : ℕ) (body : TBody) → is_reads (reaction_or tables windows plumber openings conn body true).answer ≡ false
 missing_says tables windows plumber openings conn (t.Version msize version) = version_says msize version

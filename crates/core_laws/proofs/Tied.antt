@@ -33,7 +33,7 @@ use Rattle.core_scene.specs.Scenes.{deleted_by}
 use Rattle.core_fids.specs.Fids.{at_event, at_port, event_opening, port_opening, is_there}
 use Rattle.core_fids.specs.Attaching.{is_version as is_asked, agreement}
 use Rattle.core_fids.specs.Plainly.{does}
-use Rattle.core_fids.specs.Refusals.{refusal_text, refused_with}
+use Rattle.core_fids.specs.Refusals.{refusal_text, refusal_with_effect}
 use Rattle.core_fids.specs.declared.refusal.Refusal.TheVariants as refusal
 use Rattle.core_fids.specs.Plumbers.{plumber_of}
 use Rattle.core_fids.specs.declared.effect.Answer.{Answer}
@@ -462,7 +462,7 @@ unused false h = refl
 pub on_version : (s : Present) (conn : ℕ) (P : Reaction → Type 0) → ((msize : Option ℕ) (body : RBody) → P (does (effect.Begins msize) [] body)) → (body : TBody) → is_version body ≡ true
     → P (reaction s.tables s.scene.windows (plumber_of s.scene.rules s.scene.ports) (length s.scene.book.owners) conn body)
 on_version s conn P h (t.Version msize version) is =
-    elim (nat_lt msize 256) as (λ b. P (cond b (refused_with (effect.Begins None) refusal.MsizeTooSmall) (agreement (min msize 65560) version))) [
+    elim (nat_lt msize 256) as (λ b. P (cond b (refusal_with_effect (effect.Begins None) refusal.MsizeTooSmall) (agreement (min msize 65560) version))) [
       | true ↦ h None (r.Error (refusal_text refusal.MsizeTooSmall))
       | false ↦
           elim (is_asked version) as (λ b. P (cond b (does (effect.Begins (Some (min msize 65560))) [] (r.Version (min msize 65560) (codes "9P2000"))) (does (effect.Begins None) [] (r.Version (min msize 65560) (codes "unknown"))))) [

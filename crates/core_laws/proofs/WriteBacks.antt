@@ -36,7 +36,7 @@ use Rattle.core_fids.specs.declared.refusal.Refusal.TheVariants as refusal
 use Rattle.core_fids.specs.Contents.{content_of}
 use Rattle.core_fids.specs.Fids.{is_there, is_for_writing}
 use Rattle.core_fids.specs.Plainly.{demands}
-use Rattle.core_fids.specs.Refusals.{refused, reaction_or_refusal}
+use Rattle.core_fids.specs.Refusals.{refusal_reaction, reaction_or_refusal}
 use Rattle.core_answers.specs.Reading.{use_refusal, or_reads}
 use Rattle.core_answers.specs.Writing.{if_lives, write_content, write_fid}
 use Rattle.core_events.specs.declared.closing.BackItem.{BackItem}
@@ -99,7 +99,7 @@ names book w bytes b (Some m) is e = names_found book w bytes b m (found_of book
 
 abbrev shape : ℕ → List ℕ → Bool → Option Refusal → Option Window → Reaction
 shape w bytes missing o window =
-    cond missing (refused refusal.VersionFirst) (reaction_or_refusal (or_reads o (if_lives window (Ok (demands (demand.WriteBack w bytes) (length bytes))))))
+    cond missing (refusal_reaction refusal.VersionFirst) (reaction_or_refusal (or_reads o (if_lives window (Ok (demands (demand.WriteBack w bytes) (length bytes))))))
 
 abbrev write_msg : ℕ → ℕ → ℕ → List ℕ → TMsg
 write_msg tag fid offset bytes = record { tag = tag; body = t.Write fid offset bytes }
@@ -109,8 +109,8 @@ write_shape : (s : Present) (conn tag fid offset w : ℕ) (bytes : List ℕ) (f 
     ≡ shape w bytes (not (is_there (msize_of s.tables conn))) (use_refusal (world_of s.scene.windows) (plumber_of s.scene.rules s.scene.ports).names f is_for_writing) (window_at s.scene.windows w)
 write_shape s conn tag fid offset w bytes f there node =
     let missing : Bool = not (is_there (msize_of s.tables conn)) in
-    ap (λ (o : Option Fid). cond missing (refused refusal.VersionFirst) (reaction_or_refusal (write_fid (world_of s.scene.windows) s.scene.windows (plumber_of s.scene.rules s.scene.ports).names fid bytes o))) there
-    ∙ ap (λ (n : Node). cond missing (refused refusal.VersionFirst) (reaction_or_refusal (or_reads (use_refusal (world_of s.scene.windows) (plumber_of s.scene.rules s.scene.ports).names f is_for_writing) (write_content s.scene.windows fid f bytes (content_of n))))) node
+    ap (λ (o : Option Fid). cond missing (refusal_reaction refusal.VersionFirst) (reaction_or_refusal (write_fid (world_of s.scene.windows) s.scene.windows (plumber_of s.scene.rules s.scene.ports).names fid bytes o))) there
+    ∙ ap (λ (n : Node). cond missing (refusal_reaction refusal.VersionFirst) (reaction_or_refusal (or_reads (use_refusal (world_of s.scene.windows) (plumber_of s.scene.rules s.scene.ports).names f is_for_writing) (write_content s.scene.windows fid f bytes (content_of n))))) node
 
 -- where it is answered by Rwrite it asks for the item that it names
 shape_acts : (s : Present) (w count : ℕ) (bytes : List ℕ) (missing : Bool) (o : Option Refusal) (window : Option Window)

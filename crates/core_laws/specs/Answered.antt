@@ -52,6 +52,7 @@ ReadsOnce before conn msg feed must (Some body) =
     IsAnswerTo msg.body body × (said_after before (event.Msg conn msg) ≡ record (response conn msg.tag body) { feed = Some feed } ∷ [])
 ReadsOnce before conn msg feed must None = ReadWaits before conn msg must
 
+-- a message got this answer, and just one reply
 abbrev pub IsAnsweredBy : List Event → ℕ → TMsg → Option Answer → Type 0
 IsAnsweredBy before conn msg None = ⊥
 IsAnsweredBy before conn msg (Some (Says body)) =

@@ -11,6 +11,7 @@ use Rattle.core_windows.specs.WindowLaws.{AreNumbered}
 use Rattle.core_events.specs.Sound.{IsIdle}
 use Rattle.core_ports.specs.Sound.{ArePortsIdle}
 use Rattle.acme_core.specs.Run.{enabled, run, output_at, IsPossible}
+use Rattle.am_journal.specs.Limits.{connection_count}
 use Rattle.core_laws.specs.Replies.{replies}
 use Rattle.core_laws.specs.Saying.{said_after, said_from, is_told, is_message, flush_of, flushed}
 use Rattle.core_laws.specs.Laws.{IsFree}
@@ -72,7 +73,7 @@ pub record JournalLaws (journal : List Event) : Type 0 where
   -- An item that is written back is acted on once.
   pub acted : ActedOnOnce journal
   -- What was replied to a connection is what was sent to it, and then what is unsent.
-  pub replied : (conn : ℕ) → conn < 64 → replies journal conn ≡ sent output_at journal conn ++ output_at journal conn
+  pub replied : (conn : ℕ) → conn < connection_count → replies journal conn ≡ sent output_at journal conn ++ output_at journal conn
   -- No read that waits can be answered.
   pub idle : (before : List Event) → IsPrefix before journal → IsIdle (run before).scene.book × ArePortsIdle (run before).scene.ports
 

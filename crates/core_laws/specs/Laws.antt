@@ -21,24 +21,25 @@ use Rattle.acme_core.specs.Run.{run, present_after, enabled, output_at}
 use Rattle.core_steps.specs.Replies.{replies_of}
 use Rattle.core_steps.specs.Stages.{response}
 use Rattle.core_intents.specs.States.{State}
+use Rattle.am_journal.specs.Limits.{connection_count}
 use Rattle.core_laws.specs.Replies.{replies}
 use Rattle.core_laws.specs.Saying.{said_after, said_from, is_told, is_message, flush_of, flushed, flush_body}
 
 -- What was replied to a connection is what was sent to it, and then what is unsent.
 abbrev pub RepliesAreSentOrUnsent : Type 0
 RepliesAreSentOrUnsent =
-    (journal : List Event) (conn : ℕ) → conn < 64 → replies journal conn ≡ sent output_at journal conn ++ output_at journal conn
+    (journal : List Event) (conn : ℕ) → conn < connection_count → replies journal conn ≡ sent output_at journal conn ++ output_at journal conn
 
 -- A connection whose hang-up the journal has is replied nothing by the entries behind.
 abbrev pub NothingAfterTheHangUp : Type 0
 NothingAfterTheHangUp =
-    (before journal : List Event) (conn : ℕ) → conn < 64 → IsPlayed enabled journal → IsPrefix before journal → has_hang before conn ≡ true
+    (before journal : List Event) (conn : ℕ) → conn < connection_count → IsPlayed enabled journal → IsPrefix before journal → has_hang before conn ≡ true
     → replies journal conn ≡ replies before conn
 
 -- So where its hang-up was there and nothing was unsent, all that it was ever replied was sent.
 abbrev pub EndedGetAllReplies : Type 0
 EndedGetAllReplies =
-    (before journal : List Event) (conn : ℕ) → conn < 64 → IsPlayed enabled journal → IsPrefix before journal → has_hang before conn ≡ true
+    (before journal : List Event) (conn : ℕ) → conn < connection_count → IsPlayed enabled journal → IsPrefix before journal → has_hang before conn ≡ true
     → output_at before conn ≡ [] → sent output_at journal conn ≡ replies journal conn
 
 -- The replies of an entry are the bytes of what it says.
@@ -81,6 +82,7 @@ clicked_window (event.Arg at chord) = Some at.window
 clicked_window (event.Look at) = Some at.window
 clicked_window e = None
 
+-- with this item, if there is one
 abbrev pub with_item : BookState → ℕ → Option Item → BookState
 with_item book w None = book
 with_item book w (Some item) = after_put book w item

@@ -36,6 +36,7 @@ asks conn tag (kind.Ends c why) = false
 asks conn tag (kind.Takes c) = false
 asks conn tag kind.Acts = false
 
+-- whether an event is a message with this tag on this connection
 abbrev pub is_message : ℕ → ℕ → Event → Bool
 is_message conn tag e = asks conn tag (kind_of e)
 
@@ -43,6 +44,7 @@ is_message conn tag e = asks conn tag (kind_of e)
 abbrev pub flush_of : ℕ → ℕ → ℕ → Event
 flush_of conn tag oldtag = event.Msg conn (record { tag = tag; body = t.Flush oldtag })
 
+-- the answer of a Tflush
 abbrev pub flushed : ℕ → ℕ → Response
 flushed conn tag = response conn tag r.Flush
 

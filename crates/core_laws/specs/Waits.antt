@@ -25,6 +25,7 @@ abbrev pub opening_by : (Fid → Option ℕ) → Option Fid → Option ℕ
 opening_by which None = None
 opening_by which (Some fid) = which fid
 
+-- with a read that waits on an opening, if it has one
 abbrev pub with_read : Option ℕ → Waiting → List WaitingRead → List WaitingRead
 with_read None w reads = reads
 with_read (Some opening) w reads = record { conn = w.conn; tag = w.tag; opening = opening } ∷ reads
@@ -38,6 +39,7 @@ reads_in which tables (w ∷ ws) = with_read (opening_by which (fid_of tables w.
 abbrev pub event_reads : Tables → List WaitingRead
 event_reads tables = reads_in event_opening tables tables.waiting
 
+-- the reads that wait on ports
 abbrev pub port_reads : Tables → List WaitingRead
 port_reads tables = reads_in port_opening tables tables.waiting
 

@@ -34,6 +34,7 @@ pub record IsNamed (book : BookState) (w : ℕ) (bytes : List ℕ) (number : ℕ
   pub fit : fits message item ≡ true
   pub action : is_action item.sort ≡ true
 
+-- the item of this number
 abbrev pub numbered : ℕ → ℕ → BackItem
 numbered w number = record { window = w; number = number }
 
@@ -47,6 +48,7 @@ pub record IsActedOn (before journal : List Event) (e : Event) (w : ℕ) (bytes 
   pub origin : (doing_of (present_after before) e).origin ≡ F
   pub life : IsBackAt (run journal).scene.book (numbered w number) (length before + 1)
 
+-- a write of bytes to a fid
 abbrev pub write_of : ℕ → ℕ → ℕ → ℕ → List ℕ → Event
 write_of conn tag fid offset bytes = event.Msg conn (record { tag = tag; body = t.Write fid offset bytes })
 

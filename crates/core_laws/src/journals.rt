@@ -1,7 +1,6 @@
 //! All laws of journals together.
 
 ghost use Rattle.core_laws.specs.Journals.{JournalsAreLawful};
-ghost use Rattle.core_laws.specs.Moving.{ExecutedMovesAreMoves};
 
 use acme_core::messages_are_answered;
 use core_scene::deeds_show;
@@ -17,9 +16,3 @@ pub fn journals_are_lawful()
     group_numbers_never_fall();
     messages_are_answered();
 }
-
-/// Executing the built-in Undo, or Redo, in a window whose event file isn't open does just that.
-#[tactic(auto, using(crate::proofs::Moves::executing))]
-pub fn executed_moves_are_moves()
-    ensures { ExecutedMovesAreMoves }
-{}

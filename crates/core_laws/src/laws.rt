@@ -1,6 +1,7 @@
 //! Laws of all journals.
 
 ghost use Rattle.core_laws.specs.Laws.{RepliesAreSentOrUnsent, NothingAfterTheHangUp, EndedGetAllReplies, RepliesAreSaid, FlushesAreAnswered, EachFlushIsAnswered, NothingToAFlushedTag, ClicksAreTold, LivesNameTheEntry, WrittenBackOnce, NoReadCanBeAnswered};
+ghost use Rattle.core_laws.specs.Moving.{ExecutedMovesAreMoves};
 
 /// All that was ever replied to a connection is what was sent to it, and then what is unsent.
 #[tactic(auto, using(crate::proofs::Unsents::sent_or_unsent))]
@@ -43,4 +44,10 @@ pub fn items_are_written_back_once()
 /// Between entries no read that waits can be answered: an entry answers the oldest that can be, until none can.
 pub fn no_waiting_read_can_be_answered()
     ensures { NoReadCanBeAnswered }
+{}
+
+/// Executing the built-in Undo, or Redo, in a window whose event file isn't open does just that.
+#[tactic(auto, using(crate::proofs::Moves::executing))]
+pub fn executed_moves_are_moves()
+    ensures { ExecutedMovesAreMoves }
 {}

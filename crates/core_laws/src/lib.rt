@@ -4,9 +4,9 @@
 mod journals;
 mod laws;
 
-pub use journals::{executed_moves_are_moves, journals_are_lawful};
+pub use journals::journals_are_lawful;
 pub use laws::{
     clicks_are_told_where_the_event_file_is_open, ended_connections_get_nothing_more,
-    flushed_reads_are_not_answered, items_are_written_back_once, no_waiting_read_can_be_answered,
-    replies_are_sent_or_unsent,
+    executed_moves_are_moves, flushed_reads_are_not_answered, items_are_written_back_once,
+    no_waiting_read_can_be_answered, replies_are_sent_or_unsent,
 };

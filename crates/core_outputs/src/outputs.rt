@@ -2,16 +2,15 @@
 
 ghost use Rattle.std.specs.Prelude.{◌≡◌, ◌<◌, ◌≤◌, ◌^◌, ℕ, length, map, replicate, slice_set, OnOk, IfOk};
 ghost use Rattle.am_text.specs.Twice.{both, IsSteady};
+ghost use Rattle.am_journal.specs.Limits.{connection_count};
 ghost use Rattle.core_outputs.specs.Unsent.{with_reply, nothing_unsent, unsent_at, put_replies, taken, present_of, kept_of, with_present, with_kept, HaveBytes, IsTouched};
 
 use crate::reply::Reply;
 use crate::unsent::Unsent;
+use am_journal::CONNECTIONS;
 use am_text::{NoMemory, Range};
 use std::alloc::Global;
 use std::marker::Model;
-
-/// How many connections there are.
-const CONNS: usize = 64;
 
 /// The unsent replies of the 64 connections, in two states.
 #[derive(Drop)]
@@ -40,10 +39,10 @@ impl Model for Outputs {
 
 #[tactic(auto, using(crate::proofs::Places::more_unsent))]
 fn new_outputs(alloc: Global) -> Result<Vec<Unsent>, NoMemory>
-    ensures { IfOk result (λ all. all.items ≡ replicate 64 (both nothing_unsent)) }
+    ensures { IfOk result (λ all. all.items ≡ replicate connection_count (both nothing_unsent)) }
 {
     let mut all = Vec::new(alloc);
-    while all.len() < CONNS {
+    while all.len() < CONNECTIONS {
         all.push(Unsent::new(alloc))?;
     }
     Ok(all)
@@ -53,7 +52,10 @@ fn new_outputs(alloc: Global) -> Result<Vec<Unsent>, NoMemory>
 fn nowhere() -> Range
     ensures { result.q1 ≡ 0 }
 {
-    Range { q0: CONNS, q1: 0 }
+    Range {
+        q0: CONNECTIONS,
+        q1: 0,
+    }
 }
 
 // The range with a place more.
@@ -159,7 +161,7 @@ impl Outputs {
     /// No replies of 64 connections.
     #[tactic(auto, using(crate::proofs::Places::none_unsent, crate::proofs::Places::touching))]
     pub fn new(alloc: Global) -> Result<Outputs, NoMemory>
-        ensures { IfOk result (λ outputs. outputs ≡ both (replicate 64 nothing_unsent)) }
+        ensures { IfOk result (λ outputs. outputs ≡ both (replicate connection_count nothing_unsent)) }
     {
         Ok(Outputs {
             all: new_outputs(alloc)?,

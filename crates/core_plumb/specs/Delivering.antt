@@ -26,6 +26,7 @@ use Rattle.core_actions.specs.Opening.{target_of, open_deeds}
 abbrev pub start_job : PlumbMsg → List ℕ → Job
 start_job m command = record { kind = kind.Start; window = 0; dir = decode m.wdir; command = command; input = [] }
 
+-- the program that a rule starts, if it starts one
 abbrev pub start_deeds : PlumbMsg → Way → List Deed
 start_deeds m way.Port = []
 start_deeds m (way.Start command) = deed.Requests (start_job m command) ∷ []
@@ -33,6 +34,7 @@ start_deeds m (way.Client command) = deed.Requests (start_job m command) ∷ []
 
 -- ---- openings
 
+-- whether the port of this number is open, if there is one
 abbrev pub is_open_at : PortsState → Option ℕ → Bool
 is_open_at ports None = false
 is_open_at ports (Some port) = is_open ports port
@@ -41,6 +43,7 @@ is_open_at ports (Some port) = is_open ports port
 abbrev pub is_open_named : PortsState → List ℕ → Bool
 is_open_named ports name = is_open_at ports (number_of ports.ports name)
 
+-- a copy to each opening of a port
 abbrev pub copy_deeds : List ℕ → PlumbMsg → List Deed
 copy_deeds name m = deed.Delivers name (msg_text m) false ∷ []
 
@@ -50,6 +53,7 @@ copy_deeds name m = deed.Delivers name (msg_text m) false ∷ []
 unfoldable pub address_in : PlumbMsg → Option (List ℕ)
 address_in m = option_map decode (attr_value m.attrs (codes "addr"))
 
+-- a file is opened, if the message names one
 abbrev pub open_if_any : Entry → Option Target → Option (List ℕ) → SceneState → List Deed
 open_if_any e None address s = []
 open_if_any e (Some target) address s = open_deeds e target address s
@@ -82,9 +86,11 @@ keep_deeds name m way = if is_client way then deed.Delivers name (msg_text m) tr
 abbrev pub closed_deeds : List ℕ → PlumbMsg → Way → List Deed
 closed_deeds name m way = start_deeds m way ++ keep_deeds name m way
 
+-- a message goes to a port
 abbrev pub port_deeds : List ℕ → PlumbMsg → Way → SceneState → List Deed
 port_deeds name m way s = if is_open_named s.ports name then copy_deeds name m else closed_deeds name m way
 
+-- a message goes to a port, or opens a file where that is `edit`
 abbrev pub named_deeds : Entry → List ℕ → PlumbMsg → Way → SceneState → List Deed
 named_deeds e name m way s = if bytes_eq name edit_name then edit_deeds e name m s else port_deeds name m way s
 
@@ -95,5 +101,6 @@ abbrev pub deliver_to : Entry → Option (List ℕ) → PlumbMsg → Way → Sce
 deliver_to e None m way s = start_deeds m way
 deliver_to e (Some name) m way s = named_deeds e name m way s
 
+-- a message goes where its rule says
 abbrev pub deliver_deeds : Entry → Route → SceneState → List Deed
 deliver_deeds e route s = deliver_to e route.port route.msg route.way s

@@ -29,6 +29,7 @@ closed_refusal way.Port port ports = Some refusal.PortNotOpen
 closed_refusal (way.Start command) port ports = None
 closed_refusal (way.Client command) port ports = if is_full ports port then Some refusal.PortQueueFull else None
 
+-- why a message doesn't go to the port of this number
 abbrev pub numbered_refusal : Way → Option ℕ → PortsState → Option PlumbRefusal
 numbered_refusal way None ports = Some refusal.PortNotOpen
 numbered_refusal way (Some port) ports = if is_open ports port then None else closed_refusal way port ports
@@ -43,6 +44,7 @@ abbrev pub port_refusal : Way → Option (List ℕ) → PortsState → Option Pl
 port_refusal way None ports = None
 port_refusal way (Some name) ports = named_refusal way name ports
 
+-- why a message isn't delivered
 abbrev pub route_refusal : Option Route → PortsState → Option PlumbRefusal
 route_refusal None ports = Some refusal.NoMatchingRule
 route_refusal (Some route) ports = port_refusal route.way route.port ports

@@ -11,11 +11,8 @@ use crate::routing::{route_in, route_refusal};
 use am_text::{Bytes, NoMemory, Runes, encode};
 use core_actions::dir_at;
 use core_scene::{Entry, RuleStore, Scene};
-use plumb_msg::{Attrs, PlumbMsg};
+use plumb_msg::{Attrs, MAX_DATA, PlumbMsg};
 use std::alloc::Global;
-
-// How many bytes of data a message has at most.
-const MOST: usize = 1_048_576;
 
 // The message of a look at a text in a directory.
 #[tactic(auto, unfolding(crate::specs::Looking::look_msg))]
@@ -66,7 +63,7 @@ fn asked_msg(
         return Ok(None);
     }
     let msg = look_msg_at(alloc, scene, window, text)?;
-    if msg.body.len() <= MOST {
+    if msg.body.len() <= MAX_DATA {
         Ok(Some(msg))
     } else {
         Ok(None)

@@ -13,6 +13,7 @@ use Rattle.core_fids.specs.declared.refusal.Refusal.{Refusal}
 use Rattle.core_fids.specs.declared.refusal.Refusal.TheVariants as refusal
 use Rattle.core_fids.specs.Refusals.{refusal_text}
 use Rattle.core_events.specs.Asking.{reads_are_full, waits_unless}
+use Rattle.wait_queue.specs.Limits.{max_openings}
 
 -- ---- an opening
 
@@ -22,8 +23,9 @@ next_opening ports = ports.joined + 1
 
 -- the port is there, one opening more can be counted, and none has its number
 abbrev pub can_join : PortsState → ℕ → Bool
-can_join ports port = nat_lt port (length ports.ports) && nat_lt ports.joined 4294967295 && not (has_joined ports (next_opening ports))
+can_join ports port = nat_lt port (length ports.ports) && nat_lt ports.joined max_openings && not (has_joined ports (next_opening ports))
 
+-- the ports after an opening, if a message opens one
 abbrev pub joined_with : PortsState → EventChange → PortsState
 joined_with ports events.Nothing = ports
 joined_with ports (events.Opens w) = ports
@@ -37,11 +39,13 @@ abbrev pub read_refusal : Tables → PortsState → Asker → Option Refusal
 read_refusal tables ports asker = if not (has_joined ports asker.opening) then Some refusal.FidIsNotOpen
     else (if read_waits ports asker && reads_are_full tables asker.conn then Some refusal.TooManyWaitingReads else None)
 
+-- what is said to a read at once; none where it waits
 abbrev pub said_unless : Option Refusal → Asked → Option RBody
 said_unless (Some refusal) asked = Some (r.Error (refusal_text refusal))
 said_unless None (Now piece) = Some (r.Read piece.bytes)
 said_unless None Waits = None
 
+-- the ports after a read, which is refused or not
 abbrev pub read_unless : Option Refusal → PortsState → Asker → PortsState
 read_unless (Some refusal) ports asker = ports
 read_unless None ports asker = after_ask ports asker
@@ -50,6 +54,7 @@ read_unless None ports asker = after_ask ports asker
 abbrev pub port_said : Tables → PortsState → Asker → Option RBody
 port_said tables ports asker = said_unless (read_refusal tables ports asker) (asked_of ports asker)
 
+-- the ports after a read
 abbrev pub ports_read : Tables → PortsState → Asker → PortsState
 ports_read tables ports asker = read_unless (read_refusal tables ports asker) ports asker
 

@@ -10,6 +10,7 @@ use Rattle.core_fids.specs.declared.effect.Effect.TheVariants as effect
 use Rattle.core_fids.specs.declared.effect.EventChange.{EventChange}
 use Rattle.core_fids.specs.declared.effect.EventChange.TheVariants as events
 
+-- without this opening, if there is one
 abbrev pub without_opening : PortsState → Option ℕ → PortsState
 without_opening ports None = ports
 without_opening ports (Some opening) = after_leave ports opening
@@ -27,10 +28,12 @@ opening_at (Some f) = port_opening f.1
 abbrev pub ports_without_fids : PortsState → Tables → ℕ → PortsState
 ports_without_fids ports tables conn = fold without_fid ports (fids_of tables conn)
 
+-- the opening of a fid of a port
 abbrev pub opening_in : Option Fid → Option ℕ
 opening_in None = None
 opening_in (Some fid) = port_opening fid
 
+-- the ports after an effect: openings go with their fids
 abbrev pub ports_freed : PortsState → Tables → ℕ → Effect → PortsState
 ports_freed ports tables conn effect.Nothing = ports
 ports_freed ports tables conn (effect.Begins msize) = ports_without_fids ports tables conn

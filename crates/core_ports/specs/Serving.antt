@@ -7,6 +7,7 @@ use Rattle.plumb_ports.specs.PortsState.{PortsState, served_of, after_serve}
 use Rattle.core_events.specs.declared.response.Response.{Response}
 use Rattle.core_events.specs.Responses.{port_feed}
 
+-- the answer to a read that waited
 abbrev pub response_to : Asker × Piece → Response
 response_to served = record { conn = served.0.conn; message = record { tag = served.0.tag; body = r.Read served.1.bytes }; feed = Some (port_feed served.0.opening) }
 
@@ -20,6 +21,7 @@ unfoldable pub served_most : ℕ → PortsState → List Response
 served_most zero ports = []
 served_most (suc n) ports = then_served (served_of ports) (served_most n (after_serve ports))
 
+-- so many times the oldest read that can be answered was
 unfoldable pub after_serving_most : ℕ → PortsState → PortsState
 after_serving_most zero ports = ports
 after_serving_most (suc n) ports = after_serving_most n (after_serve ports)
@@ -28,5 +30,6 @@ after_serving_most (suc n) ports = after_serving_most n (after_serve ports)
 abbrev pub ports_served : PortsState → List Response
 ports_served ports = served_most (length ports.reads) ports
 
+-- each read that can be answered was
 abbrev pub ports_after_serving : PortsState → PortsState
 ports_after_serving ports = after_serving_most (length ports.reads) ports

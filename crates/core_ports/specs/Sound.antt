@@ -6,6 +6,7 @@ use Rattle.plumb_ports.specs.PortsState.{PortsState, next_of}
 use Rattle.plumb_ports.specs.Laws.{AreNumbered}
 use Rattle.core_events.specs.Sound.{is_small}
 
+-- ports as the steps make them
 pub record ArePortsSound (ports : PortsState) : Type 0 where
   pub small : list_all is_small ports.reads ≡ true
   pub numbered : AreNumbered ports

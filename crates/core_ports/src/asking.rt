@@ -3,6 +3,7 @@
 ghost use Rattle.std.specs.Prelude.{◌≡◌, ◌+◌, ◌<◌, ◌^◌, IfOk, IfSome, OnOk};
 ghost use Rattle.fid_table.specs.Tables.{HasJoined};
 ghost use Rattle.core_fids.specs.Done.{IsSent};
+ghost use Rattle.ninep_types.specs.Limits.{rread_head};
 ghost use Rattle.core_ports.specs.Asking.{can_join, joined_with, read_refusal, port_said, ports_read, tables_read_port};
 ghost use Rattle.core_ports.specs.Sound.{ArePortsSound};
 
@@ -63,7 +64,7 @@ pub fn read_port(
     fid: u32,
 ) -> Result<Option<RBody>, NoMemory>
     requires sound { ArePortsSound ports.old.present }
-    requires small { asker.count + 11 < 2 ^ 32 }
+    requires small { asker.count + rread_head < 2 ^ 32 }
     requires joined { HasJoined sessions.old.present asker.conn }
     ensures said { IfOk result (λ said. said ≡ port_said sessions.old.present ports.old.present asker) }
     ensures sent { IfOk result (λ said. IfSome said IsSent) }

@@ -11,6 +11,7 @@ use Rattle.core_stores.specs.Stores.{has_room}
 use Rattle.core_scene.specs.declared.deed.Deed.{Deed}
 use Rattle.core_scene.specs.declared.deed.Deed.TheVariants as deed
 use Rattle.core_scene.specs.Scenes.{SceneState}
+use Rattle.plumb_ports.specs.Limits.{max_ports}
 use Rattle.core_rules.specs.declared.refusal.RulesRefusal.{RulesRefusal}
 use Rattle.core_rules.specs.declared.refusal.RulesRefusal.TheVariants as refusal
 use Rattle.core_rules.specs.NewNames.{new_names}
@@ -20,11 +21,13 @@ pub record Outcome : Type 0 where
   pub deeds : List Deed
   pub refusal : Option RulesRefusal
 
+-- these deeds are done
 abbrev pub does : List Deed → Outcome
 does deeds = record { deeds = deeds; refusal = None }
 
-abbrev pub refused : RulesRefusal → Outcome
-refused r = record { deeds = []; refusal = Some r }
+-- nothing is done, for this reason
+abbrev pub refusal_outcome : RulesRefusal → Outcome
+refusal_outcome r = record { deeds = []; refusal = Some r }
 
 -- ---- sets that were read
 
@@ -34,10 +37,11 @@ set_deeds names text read = map deed.AddsPort names ++ deed.AddsRules read.0 rea
 
 -- there are no more than 65,536 ports with these, and no more than 262,144 bytes of accepted text with so many
 abbrev pub fits : List (List ℕ) → ℕ → SceneState → Bool
-fits names bytes s = nat_le (length s.ports.ports + length names) 65536 && has_room s.rules bytes
+fits names bytes s = nat_le (length s.ports.ports + length names) max_ports && has_room s.rules bytes
 
+-- ports of these names and the sets are added, where they fit
 abbrev pub names_added : List (List ℕ) → List ℕ → ℕ → List (List Rule) × List Var → SceneState → Outcome
-names_added names text bytes read s = if fits names bytes s then does (set_deeds names text read) else refused refusal.TooManyRules
+names_added names text bytes read s = if fits names bytes s then does (set_deeds names text read) else refusal_outcome refusal.TooManyRules
 
 -- with the ports that the sets name and that aren't there
 abbrev pub sets_added : List ℕ → ℕ → List (List Rule) × List Var → SceneState → Outcome
@@ -51,9 +55,10 @@ refusal_of (fault.Bad line) = refusal.BadRule
 refusal_of fault.Nodes = refusal.BadExpressionSize
 refusal_of fault.NoMemory = refusal.BadRule
 
+-- the sets that were read are added, or are at fault
 abbrev pub read_added : List ℕ → ℕ → Result (List (List Rule) × List Var) RuleFault → SceneState → Outcome
 read_added text bytes (Ok read) s = sets_added text bytes read s
-read_added text bytes (Err f) s = refused (refusal_of f)
+read_added text bytes (Err f) s = refusal_outcome (refusal_of f)
 
 -- The sets of the text are added, read with the variables of those that are there, where so many bytes count as held.
 abbrev pub adds : List ℕ → ℕ → SceneState → Outcome

@@ -12,6 +12,7 @@ use crate::new_names::{NewNames, new_names};
 use crate::refusal::RulesRefusal;
 use am_text::{Bytes, NoMemory};
 use core_scene::{Deed, Deeds, Entry, RuleSets, Scene, Vars};
+use plumb_ports::MAX_PORTS;
 use rule_syntax::RuleFault;
 use rule_texts::{names_are_ports, ports_of};
 use std::alloc::Global;
@@ -23,15 +24,12 @@ pub(crate) struct Written<'a> {
     pub(crate) bytes: usize,
 }
 
-/// Most ports that there are.
-const MOST_PORTS: usize = 65_536;
-
 // Whether there is room for ports of these names, and for so many bytes.
 fn fits(scene: &Scene, names: &NewNames, bytes: usize) -> bool
     ensures { result ≡ fits names.now bytes (scene_of scene.now) }
 {
     let ports = scene.ports.len();
-    ports <= MOST_PORTS && names.len() <= MOST_PORTS - ports && scene.rules.has_room(bytes)
+    ports <= MAX_PORTS && names.len() <= MAX_PORTS - ports && scene.rules.has_room(bytes)
 }
 
 // The deeds that add ports of these names, and then the sets that were read.

@@ -25,6 +25,7 @@ changes_in (deed.ClearsRules ∷ ds) = changes_in ds
 changes_in (deed.AddsPort name ∷ ds) = changes_in ds
 changes_in (deed.Delivers port message keep ∷ ds) = changes_in ds
 
+-- The stories show the windows after the deeds, and stay lawful.
 pub record AreShown (e : Entry) (stories : List (Option WindowStory)) (s : SceneState) (ds : List Deed) : Type 0 where
   pub shown : shown_windows (all_changed_stories e.at stories (changes_in ds)) ≡ (done_all e s ds).windows
   pub lawful : AreLawful (all_changed_stories e.at stories (changes_in ds))

@@ -13,6 +13,7 @@ use Rattle.core_windows.specs.Windows.{Window, changed}
 use Rattle.core_windows.specs.declared.change.Change.{Change}
 use Rattle.core_windows.specs.Possible.{CanChange}
 use Rattle.core_items.specs.NewItems.{items_of}
+use Rattle.plumb_ports.specs.Limits.{max_ports}
 use Rattle.core_scene.specs.declared.deed.WindowItem.{WindowItem}
 use Rattle.core_scene.specs.declared.deed.Entry.{Entry}
 use Rattle.core_scene.specs.declared.deed.Deed.{Deed}
@@ -39,6 +40,7 @@ pub record SceneState : Type 0 where
 abbrev pub items_told : Entry → SceneState → Change → List WindowItem
 items_told e s c = told_if_any s.book (teller_of c) (items_of s.windows e.origin c)
 
+-- the scene after a deed
 abbrev pub done : Entry → SceneState → Deed → SceneState
 done e s (deed.Windows c) =
     record s { windows = changed e.at s.windows c; items = s.items ++ items_told e s c; deleted = s.deleted ++ deletes c }
@@ -54,7 +56,7 @@ done e s (deed.Delivers port message keep) = record s { ports = after_deliver s.
 
 -- whether it is the name of a port, and a port of this name is there, or there is room for one more
 abbrev pub can_add : PortsState → List ℕ → Bool
-can_add s name = is_port_name name && (is_there s.ports name || nat_lt (length s.ports) 65536)
+can_add s name = is_port_name name && (is_there s.ports name || nat_lt (length s.ports) max_ports)
 
 -- what a change names is there; what is stored or made clashes with nothing; there is room for rules and ports, which have names of ports; a port takes
 -- what is delivered
@@ -72,6 +74,7 @@ CanDo s (deed.Delivers port message keep) = refusal s.ports port keep ≡ None
 
 -- ---- several, one after another
 
+-- the scene after these deeds
 abbrev pub done_all : Entry → SceneState → List Deed → SceneState
 done_all e s [] = s
 done_all e s (d ∷ ds) = done_all e (done e s d) ds

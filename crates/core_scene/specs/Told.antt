@@ -6,6 +6,7 @@ use Rattle.core_windows.specs.declared.change.Change.{Change}
 use Rattle.core_windows.specs.declared.change.Change.TheVariants as change
 use Rattle.core_scene.specs.declared.deed.WindowItem.{WindowItem}
 
+-- an item of a window
 abbrev pub of_window : ℕ → Item → WindowItem
 of_window w item = record { window = w; item = item }
 
@@ -13,6 +14,7 @@ of_window w item = record { window = w; item = item }
 abbrev pub told_in : BookState → ℕ → List Item → List WindowItem
 told_in book w items = if is_open_window book w then map (of_window w) items else []
 
+-- the items that a change tells, if it is one of a window
 abbrev pub told_if_any : BookState → Option ℕ → List Item → List WindowItem
 told_if_any book None items = []
 told_if_any book (Some w) items = told_in book w items

@@ -40,10 +40,12 @@ pub record Outcome : Type 0 where
 abbrev pub ended : List Deed → Bool → List ℕ → Outcome
 ended deeds is_bad rest = if is_bad then record { deeds = deeds; refusal = Some refusal.BadPlumbMessage; held = [] } else record { deeds = deeds; refusal = None; held = rest }
 
+-- what came of whole messages, and what is held of the rest
 abbrev pub outcome_of : List Deed → Option PlumbRefusal → Cut → Outcome
 outcome_of deeds (Some r) cut = record { deeds = deeds; refusal = Some (refusal.Plumb r); held = [] }
 outcome_of deeds None cut = ended deeds cut.is_bad cut.rest
 
+-- what a write to `send` does
 abbrev pub cut_outcome : Entry → Cut → SceneState → Outcome
 cut_outcome e cut s = outcome_of (plumbed e cut.messages s).deeds (plumbed e cut.messages s).refusal cut
 

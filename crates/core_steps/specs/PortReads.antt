@@ -11,8 +11,10 @@ use Rattle.core_events.specs.Responses.{port_feed}
 use Rattle.core_ports.specs.Asking.{port_said, ports_read, tables_read_port}
 use Rattle.core_intents.specs.declared.kind.Kind.{Kind}
 use Rattle.core_intents.specs.declared.kind.Kind.TheVariants as kind
+use Rattle.ninep_types.specs.Limits.{rread_head}
 use Rattle.core_steps.specs.declared.reading.PortRead.{PortRead}
 
+-- the read of a port that an answer is, if it is one
 abbrev pub port_read_in : ℕ → ℕ → Option Answer → Option PortRead
 port_read_in conn tag None = None
 port_read_in conn tag (Some (Says body)) = None
@@ -29,17 +31,19 @@ port_read_of kind.Acts answer = None
 
 -- its answer will have a spelling, and its connection joined
 pub record IsReadable (tables : Tables) (read : PortRead) : Type 0 where
-  pub short : read.asker.count + 11 < 2 ^ 32
+  pub short : read.asker.count + rread_head < 2 ^ 32
   pub joined : HasJoined tables read.asker.conn
 
 -- what is said to it
 abbrev pub port_response : Asker → RBody → Response
 port_response asker body = record { conn = asker.conn; message = record { tag = asker.tag; body = body }; feed = Some (port_feed asker.opening) }
 
+-- what is said to a read of a port, if it is answered
 abbrev pub if_port_said : Asker → Option RBody → List Response
 if_port_said asker None = []
 if_port_said asker (Some body) = port_response asker body ∷ []
 
+-- what is said to the message's read of a port
 abbrev pub asked_said : Tables → PortsState → Option PortRead → List Response
 asked_said tables ports None = []
 asked_said tables ports (Some read) = if_port_said read.asker (port_said tables ports read.asker)

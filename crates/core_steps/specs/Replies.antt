@@ -8,5 +8,6 @@ use Rattle.core_outputs.specs.declared.reply.Reply.{Reply}
 abbrev pub reply_of : Response → Reply
 reply_of response = record { conn = response.conn; bytes = spelling_r response.message }
 
+-- what is said, spelled
 abbrev pub replies_of : List Response → List Reply
 replies_of said = map reply_of said

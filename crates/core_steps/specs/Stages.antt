@@ -35,6 +35,7 @@ use Rattle.core_outputs.specs.Unsent.{Unsent, put_replies, taken}
 
 -- ---- the answer to the message, unless it reads a port
 
+-- what is said to the message of a tag
 abbrev pub response : ℕ → ℕ → RBody → Response
 response conn tag body = record { conn = conn; message = record { tag = tag; body = body }; feed = None }
 
@@ -42,25 +43,30 @@ response conn tag body = record { conn = conn; message = record { tag = tag; bod
 abbrev pub read_response : ℕ → ℕ → ℕ → RBody → Response
 read_response conn tag opening body = record (response conn tag body) { feed = Some (event_feed opening) }
 
+-- the asker of a read
 abbrev pub asker_of : ℕ → ℕ → ℕ → ℕ → Asker
 asker_of conn tag opening count = record { conn = conn; tag = tag; opening = opening; count = count }
 
+-- what is said to a read, if it is answered
 abbrev pub if_said : ℕ → ℕ → ℕ → Option RBody → List Response
 if_said conn tag opening None = []
 if_said conn tag opening (Some body) = read_response conn tag opening body ∷ []
 
+-- what is said of an answer
 abbrev pub answer_said : Tables → BookState → ℕ → ℕ → Option Answer → List Response
 answer_said tables book conn tag None = []
 answer_said tables book conn tag (Some (Says body)) = response conn tag body ∷ []
 answer_said tables book conn tag (Some (Reads fid opening count)) = if_said conn tag opening (read_said tables book (asker_of conn tag opening count))
 answer_said tables book conn tag (Some (ReadsPort fid opening count)) = []
 
+-- the event files after an answer
 abbrev pub answer_book : Tables → BookState → ℕ → ℕ → Option Answer → ℕ → BookState
 answer_book tables book conn tag None at = book
 answer_book tables book conn tag (Some (Says body)) at = book
 answer_book tables book conn tag (Some (Reads fid opening count)) at = book_read tables book (asker_of conn tag opening count) at
 answer_book tables book conn tag (Some (ReadsPort fid opening count)) at = book
 
+-- the sessions after an answer
 abbrev pub answer_tables : Tables → BookState → ℕ → ℕ → Option Answer → Tables
 answer_tables tables book conn tag None = tables
 answer_tables tables book conn tag (Some (Says body)) = tables
@@ -69,6 +75,7 @@ answer_tables tables book conn tag (Some (ReadsPort fid opening count)) = tables
 
 -- a message alone is answered
 
+-- what is said to the message, if the event is one
 abbrev pub message_said : Tables → BookState → Kind → Option Answer → List Response
 message_said tables book (kind.Dials conn) answer = []
 message_said tables book (kind.Asks conn tag) answer = answer_said tables book conn tag answer
@@ -76,6 +83,7 @@ message_said tables book (kind.Ends conn why) answer = []
 message_said tables book (kind.Takes conn) answer = []
 message_said tables book kind.Acts answer = []
 
+-- the event files after the message's answer
 abbrev pub message_book : Tables → BookState → Kind → Option Answer → ℕ → BookState
 message_book tables book (kind.Dials conn) answer at = book
 message_book tables book (kind.Asks conn tag) answer at = answer_book tables book conn tag answer at
@@ -83,6 +91,7 @@ message_book tables book (kind.Ends conn why) answer at = book
 message_book tables book (kind.Takes conn) answer at = book
 message_book tables book kind.Acts answer at = book
 
+-- the sessions after the message's answer
 abbrev pub message_tables : Tables → BookState → Kind → Option Answer → Tables
 message_tables tables book (kind.Dials conn) answer = tables
 message_tables tables book (kind.Asks conn tag) answer = answer_tables tables book conn tag answer
@@ -100,9 +109,11 @@ acted s d = done_all (entry_of s d) s.scene d.deeds
 abbrev pub with_fid : Present → Kind → Doing → Tables
 with_fid s k d = grown s.tables k d.effect
 
+-- the sessions after a read of an event file
 abbrev pub read_tables : Present → Kind → Doing → Tables
 read_tables s k d = message_tables (with_fid s k d) s.scene.book k d.answer
 
+-- the sessions after a read of a port, too
 abbrev pub grown_tables : Present → Kind → Doing → Tables
 grown_tables s k d = asked_tables (read_tables s k d) (acted s d).ports (port_read_of k d.answer)
 
@@ -110,6 +121,7 @@ grown_tables s k d = asked_tables (read_tables s k d) (acted s d).ports (port_re
 abbrev pub read_book : Present → Kind → Doing → BookState
 read_book s k d = message_book (with_fid s k d) s.scene.book k d.answer (next_entry s)
 
+-- the event files after the deeds' items
 abbrev pub put_book : Present → Kind → Doing → BookState
 put_book s k d = put_living (deleted_by d.deeds) (opened (read_book s k d) d.events) (acted s d).items
 
@@ -180,9 +192,11 @@ left_unsent unsent kind.Acts = unsent
 abbrev pub tables_after : Present → Kind → Doing → Tables
 tables_after s k d = ended_tables (grown_tables s k d) k d (said s k d)
 
+-- the event files after the step
 abbrev pub book_after : Present → Kind → Doing → BookState
 book_after s k d = closed_book (next_entry s) (grown_tables s k d) k d (grown_book s k d)
 
+-- the ports after the step
 abbrev pub ports_after : Present → Kind → Doing → PortsState
 ports_after s k d = left_ports (grown_tables s k d) k d (grown_ports s k d)
 

@@ -19,6 +19,7 @@ ghost use Rattle.core_ports.specs.Sound.{ArePortsSound};
 ghost use Rattle.core_intents.specs.Connections.{IsJoinedFor, IsOfJoined, grown};
 ghost use Rattle.core_intents.specs.Kinds.{kind_of, conn_of, is_hang};
 ghost use Rattle.core_intents.specs.Parts.{present_of, AreSteady};
+ghost use Rattle.ninep_types.specs.Limits.{rread_head};
 ghost use Rattle.core_steps.specs.Ready.{HasReady};
 ghost use Rattle.core_intents.specs.Doings.{IsAnswerable, CanBeDone, CanBeMeant, resolved};
 ghost use Rattle.core_intents.specs.Intents.{answer_or};
@@ -148,7 +149,7 @@ fn read(
 ) -> Result<Responses, NoMemory>
     requires steady { IsSteady book.old }
     requires sound { IsSound read.at book.old.present }
-    requires small { read.asker.count + 11 < 2 ^ 32 }
+    requires small { read.asker.count + rread_head < 2 ^ 32 }
     requires joined { HasJoined sessions.old.present read.asker.conn }
     ensures exact { IfOk result (λ said. said ≡ if_said read.asker.conn read.asker.tag read.asker.opening (read_said sessions.old.present book.old.present read.asker)) }
     ensures said { IfOk result AreSaid }

@@ -3,6 +3,7 @@ use Rattle.std.specs.Prelude.{ℕ, ◌+◌, ◌-◌, ◌==◌, Bool, nat_le, Lis
 use Rattle.am_text.specs.declared.job.Job.{Job}
 use Rattle.rule_syntax.specs.declared.rule.Rule.{Rule}
 use Rattle.rule_syntax.specs.declared.rule.Var.{Var}
+use Rattle.core_stores.specs.Limits.{max_rule_bytes}
 
 -- what was there before another took its place, or else is there still
 abbrev pub first_of : {A : Type 0} → Option A → A → A
@@ -23,6 +24,7 @@ pub record RuleState : Type 0 where
   pub vars : List Var
   pub text : List ℕ
 
+-- no rules
 abbrev pub no_rules : RuleState
 no_rules = record { sets = []; vars = []; text = [] }
 
@@ -32,4 +34,4 @@ added s sets vars text = record { sets = s.sets ++ sets; vars = vars; text = s.t
 
 -- the accepted text and so many bytes more are no more than 262,144
 abbrev pub has_room : RuleState → ℕ → Bool
-has_room s bytes = nat_le (length s.text + bytes) 262144
+has_room s bytes = nat_le (length s.text + bytes) max_rule_bytes

@@ -14,7 +14,7 @@ use std::marker::Model;
 use std::mem;
 
 // How many bytes of rules are accepted at most.
-const MOST: usize = 262_144;
+const MAX_RULE_BYTES: usize = 262_144;
 
 /// The rules of the plumber, after plumb(6), in two states: the accepted sets, the variables that they define, and the text
 /// in which they were written, which a read of the file `rules` gives back. They are added to, and all are forgotten at
@@ -30,13 +30,14 @@ pub struct RuleStore {
 impl Model for RuleStore {
     ghost use Rattle.std.specs.Prelude.{◌≤◌, length};
     ghost use Rattle.am_text.specs.Twice.{Twice};
+    ghost use Rattle.core_stores.specs.Limits.{max_rule_bytes};
     ghost use Rattle.core_stores.specs.Stores.{RuleState, first_of};
 
     ghost Value = { Twice RuleState };
 
     ghost view = { λ r. record { present = r.lists.present; kept = (first_of r.before r.lists).kept } };
 
-    ghost invariant = { λ r. (length r.lists.present.text ≤ 262144) × (length (first_of r.before r.lists).kept.text ≤ 262144) };
+    ghost invariant = { λ r. (length r.lists.present.text ≤ max_rule_bytes) × (length (first_of r.before r.lists).kept.text ≤ max_rule_bytes) };
 }
 
 impl RuleStore {
@@ -76,7 +77,7 @@ impl RuleStore {
     pub fn has_room(&self, bytes: usize) -> bool
         ensures { result ≡ has_room self.now.present bytes }
     {
-        bytes <= MOST - self.lists.text().len()
+        bytes <= MAX_RULE_BYTES - self.lists.text().len()
     }
 
     /// The sets of a text, read with the present variables, and the variables after it; or what is wrong in it. Nothing is

@@ -8,7 +8,7 @@ use Rattle.win_ctl.specs.declared.message.CtlMsg.TheVariants as msg
 use Rattle.win_ctl.specs.declared.message.CtlFault.{CtlFault}
 use Rattle.win_ctl.specs.declared.message.CtlFault.TheVariants as ctl
 use Rattle.win_ctl.specs.Messages.{ctl_of}
-use Rattle.core_addresses.specs.Data.{replacing}
+use Rattle.core_addresses.specs.Data.{replacement}
 use Rattle.core_windows.specs.declared.change.Change.TheVariants as change
 use Rattle.core_windows.specs.declared.change.Setting.{Setting}
 use Rattle.core_windows.specs.declared.change.Setting.TheVariants as setting
@@ -31,7 +31,7 @@ use Rattle.core_actions.specs.declared.files.Saved.{Saved}
 use Rattle.core_actions.specs.Paths.{path_of}
 use Rattle.core_tasks.specs.declared.control.Next.{Next}
 use Rattle.core_tasks.specs.declared.control.Next.TheVariants as next
-use Rattle.core_tasks.specs.Controls.{Told, Controlled, refused, deletes, msg_told, line_told, no_controls, then_rest, controls}
+use Rattle.core_tasks.specs.Controls.{Told, Controlled, refusal_told, deletes, msg_told, line_told, no_controls, then_rest, controls}
 
 -- ---- behind a message the window lives on, but for one that deletes it
 
@@ -41,14 +41,14 @@ LivesAfter e w s deeds = IsSome (window_at (done_all e s deeds).windows w)
 set_lives : (e : Entry) (w : ℕ) (x : Setting) (s : SceneState) → IsSome (window_at s.windows w) → LivesAfter e w s (deed.Windows (change.Sets w x) ∷ [])
 set_lives e w x s h = lives_then (set x) w s.windows h
 
-del_lives : (e : Entry) (w : ℕ) (s : SceneState) (b : Bool) → IsSome (window_at s.windows w) → (cond b (refused refusal.WindowModified) (deletes w s)).next ≡ next.GoesOn
-    → LivesAfter e w s (cond b (refused refusal.WindowModified) (deletes w s)).deeds
+del_lives : (e : Entry) (w : ℕ) (s : SceneState) (b : Bool) → IsSome (window_at s.windows w) → (cond b (refusal_told refusal.WindowModified) (deletes w s)).next ≡ next.GoesOn
+    → LivesAfter e w s (cond b (refusal_told refusal.WindowModified) (deletes w s)).deeds
 del_lives e w s true h n = h
 del_lives e w s false h n = absurd cc
 
 fill_lives : (e : Entry) (w : ℕ) (text : List ℕ) (s : SceneState) → IsSome (window_at s.windows w) → LivesAfter e w s (fill_deeds w text s)
 fill_lives e w text s h =
-    lives_then (set setting.Clean) w _ (lives_then (edited (replacing (whole_of (text_in (window_at s.windows w))) text) e.at) w s.windows h)
+    lives_then (set setting.Clean) w _ (lives_then (edited (replacement (whole_of (text_in (window_at s.windows w))) text) e.at) w s.windows h)
 
 fill_if_lives : (e : Entry) (w : ℕ) (text : List ℕ) (s : SceneState) (b : Bool) → IsSome (window_at s.windows w)
     → LivesAfter e w s (cond b (does_all (fill_deeds w text s)) (fails fault.TextTooLong)).deeds

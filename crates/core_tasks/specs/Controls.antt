@@ -31,15 +31,19 @@ pub record Told : Type 0 where
   pub deeds : List Deed
   pub next : Next
 
+-- these deeds are done, and the next message is looked at
 abbrev pub does : List Deed → Told
 does deeds = record { deeds = deeds; next = next.GoesOn }
 
-abbrev pub refused : Refusal → Told
-refused r = record { deeds = []; next = next.Refused r }
+-- the message is refused
+abbrev pub refusal_told : Refusal → Told
+refusal_told r = record { deeds = []; next = next.Refused r }
 
+-- a setting of the window
 abbrev pub sets : ℕ → Setting → Told
 sets w s = does (deed.Windows (change.Sets w s) ∷ [])
 
+-- the window is deleted
 abbrev pub deletes : ℕ → SceneState → Told
 deletes w s = record { deeds = delete_deeds w s; next = next.Deleted }
 
@@ -49,6 +53,7 @@ refusal_of fault.NoFileName = refusal.NoFileName
 refusal_of fault.FileNotFound = refusal.FileNotFound
 refusal_of fault.TextTooLong = refusal.TextTooLong
 
+-- what comes after an action, by its fault
 abbrev pub next_of : Option ActionFault → Next
 next_of None = next.GoesOn
 next_of (Some f) = next.Refused (refusal_of f)
@@ -64,7 +69,7 @@ msg_told w msg.DotAddr s = sets w setting.DotToAddr
 msg_told w msg.Clean s = sets w setting.Clean
 msg_told w msg.Dirty s = sets w setting.Dirty
 msg_told w msg.ClearTag s = sets w setting.ClearTag
-msg_told w msg.Del s = if asks (window_at s.windows w) then refused refusal.WindowModified else deletes w s
+msg_told w msg.Del s = if asks (window_at s.windows w) then refusal_told refusal.WindowModified else deletes w s
 msg_told w msg.Delete s = deletes w s
 msg_told w msg.Get s = acts (get_outcome w [] s)
 msg_told w msg.Put s = acts (put_outcome w [] s)
@@ -74,10 +79,11 @@ msg_told w msg.NoMark s = sets w (setting.Mark false)
 msg_told w (msg.Name name) s = sets w (setting.Name name)
 msg_told w msg.Idle s = does []
 
+-- what the message of a line does
 abbrev pub line_told : ℕ → Result CtlMsg CtlFault → SceneState → Told
 line_told w (Ok m) s = msg_told w m s
-line_told w (Err ctl.Unknown) s = refused refusal.BadControlMessage
-line_told w (Err ctl.BadName) s = refused refusal.BadFileName
+line_told w (Err ctl.Unknown) s = refusal_told refusal.BadControlMessage
+line_told w (Err ctl.BadName) s = refusal_told refusal.BadFileName
 line_told w (Err ctl.NoMemory) s = does []
 
 -- ---- a whole write
@@ -87,6 +93,7 @@ pub record Controlled : Type 0 where
   pub deeds : List Deed
   pub refusal : Option Refusal
 
+-- no message does nothing
 abbrev pub no_controls : Controlled
 no_controls = record { deeds = []; refusal = None }
 

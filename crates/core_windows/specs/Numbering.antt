@@ -16,6 +16,7 @@ others w ids = filter (λ id. not (id == w)) ids
 abbrev pub with_next : World → Numbers
 with_next world = record { windows = world.windows ++ world.next ∷ []; next = world.next + 1 }
 
+-- the numbers without that of a window
 abbrev pub without : World → ℕ → Numbers
 without world w = record { windows = others w world.windows; next = world.next }
 
@@ -39,6 +40,7 @@ MayMake world (change.Sets w setting) = Unit {0}
 MayMake world (change.Undoes w) = Unit {0}
 MayMake world (change.Redoes w) = Unit {0}
 
+-- the numbers of the windows
 abbrev pub numbers_of : World → Numbers
 numbers_of world = record { windows = world.windows; next = world.next }
 

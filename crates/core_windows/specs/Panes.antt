@@ -9,10 +9,12 @@ use Rattle.core_windows.specs.Windows.{Window}
 abbrev pub window_of : Pane → Window
 window_of pane = record { name = pane.name; right = pane.right.items; body = pane.body.state; modified = pane.modified }
 
+-- the window of a pane, if it is there
 abbrev pub window_if_live : Option Pane → Option Window
 window_if_live None = None
 window_if_live (Some pane) = Some (window_of pane)
 
+-- the windows of panes
 abbrev pub windows_of : List (Option Pane) → List (Option Window)
 windows_of panes = map window_if_live panes
 

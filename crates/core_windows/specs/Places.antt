@@ -7,6 +7,7 @@ at_place f k [] = []
 at_place f zero (x ∷ xs) = f x ∷ xs
 at_place f (suc k) (x ∷ xs) = x ∷ at_place f k xs
 
+-- what was made at a place, and is there still
 abbrev pub when_made : {A : Type 0} → Option (Option A) → Option A
 when_made None = None
 when_made (Some o) = o
@@ -19,5 +20,6 @@ live_at xs k = when_made (slice_get xs k)
 abbrev pub at_number : {A : Type 0} → List (Option A) → ℕ → Option A
 at_number xs n = if n == 0 then None else live_at xs (n - 1)
 
+-- no longer there
 abbrev pub gone : {A : Type 0} → Option A → Option A
 gone o = None

@@ -28,9 +28,11 @@ is_modified (Some mark) edits = not (mark == edits)
 abbrev pub shown_window : WindowStory → Window
 shown_window s = record { name = s.name; right = s.right; body = shown s.body; modified = is_modified s.clean (length s.body.edits) }
 
+-- the window of a story, if it is there
 abbrev pub shown_if_live : Option WindowStory → Option Window
 shown_if_live o = option_map shown_window o
 
+-- the windows of stories
 abbrev pub shown_windows : List (Option WindowStory) → List (Option Window)
 shown_windows stories = map shown_if_live stories
 
@@ -40,21 +42,27 @@ story_at stories w = at_number stories w
 
 -- ---- one window
 
+-- the story of a new window with this name
 abbrev pub named_story : List ℕ → WindowStory
 named_story name = record { name = name; right = codes " Look "; body = new_story; clean = Some 0 }
 
+-- the story after edits
 abbrev pub edited_story : List Edit → ℕ → WindowStory → WindowStory
 edited_story edits at s = record s { body = story_changed s.body (record { edits = edits; dot = None }) at }
 
+-- the story after Undo
 abbrev pub undone_window_story : WindowStory → WindowStory
 undone_window_story s = record s { body = story_undone s.body }
 
+-- the story after Redo
 abbrev pub redone_window_story : WindowStory → WindowStory
 redone_window_story s = record s { body = story_redone s.body }
 
+-- the story after a text at the end of the tag
 abbrev pub added_story : List ℕ → WindowStory → WindowStory
 added_story text s = record s { right = s.right ++ text }
 
+-- the story after a setting
 abbrev pub set_story : Setting → WindowStory → WindowStory
 set_story setting.AddrToDot s = record s { body = story_with_addr s.body (shown s.body).dot }
 set_story setting.DotToAddr s = record s { body = story_with_dot s.body (shown s.body).addr }
@@ -92,10 +100,12 @@ abbrev pub IsMarked : Option ℕ → ℕ → Type 0
 IsMarked None edits = Unit {0}
 IsMarked (Some mark) edits = mark ≤ edits
 
+-- a story as changes can make it
 pub record IsLawfulWindow (s : WindowStory) : Type 0 where
   pub body : IsLawful s.body
   pub mark : IsMarked s.clean (length s.body.edits)
 
+-- so it is with one that is there
 abbrev pub IsLawfulIfLive : Option WindowStory → Type 0
 IsLawfulIfLive None = Unit {0}
 IsLawfulIfLive (Some s) = IsLawfulWindow s

@@ -8,14 +8,17 @@ use Rattle.core_windows.specs.declared.pane.Pane.{Pane}
 use Rattle.core_windows.specs.declared.undo.Undo.{Undo}
 use Rattle.core_windows.specs.declared.undo.Undo.TheVariants.{Unmake, Revive, Restore}
 
+-- a pane that is there again
 abbrev pub revived : Pane → Option PaneShape → Option PaneShape
 revived pane o = Some (shape_of_pane pane)
 
+-- a growth taken back
 abbrev pub undone : Undo → List (Option PaneShape) → List (Option PaneShape)
 undone Unmake ss = take (length ss - 1) ss
 undone (Revive k pane) ss = at_place (revived pane) k ss
 undone (Restore k back) ss = at_place (option_map (taken_back back)) k ss
 
+-- it can be taken back
 abbrev pub CanUndo : Undo → List (Option PaneShape) → Type 0
 CanUndo Unmake ss = 0 < length ss
 CanUndo (Revive k pane) ss = k < length ss
@@ -33,9 +36,11 @@ CanGoBack (u ∷ us) ss = CanGoBack us ss × CanUndo u (all_undone us ss)
 
 -- ---- a look at the kept state
 
+-- the address of a shape
 abbrev pub addr_of : PaneShape → Range
 addr_of s = s.body.state.addr
 
+-- the address that a window had at the last keep
 abbrev pub kept_addr : List Undo → List (Option PaneShape) → ℕ → Option Range
 kept_addr us ss k = option_map addr_of (live_at (all_undone us ss) k)
 
@@ -51,6 +56,7 @@ unmade_by Unmake = 1
 unmade_by (Revive k pane) = 0
 unmade_by (Restore k back) = 0
 
+-- how many panes are taken out again
 abbrev pub all_unmade : List Undo → ℕ
 all_unmade [] = 0
 all_unmade (u ∷ us) = unmade_by u + all_unmade us

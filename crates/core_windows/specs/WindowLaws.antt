@@ -24,6 +24,7 @@ abbrev pub IsNumberedIfLive : ℕ → Option WindowStory → Type 0
 IsNumberedIfLive last None = Unit {0}
 IsNumberedIfLive last (Some s) = IsNumbered last s.body.history
 
+-- so it is with each
 abbrev pub AreNumbered : ℕ → List (Option WindowStory) → Type 0
 AreNumbered last [] = Unit {0}
 AreNumbered last (s ∷ ss) = IsNumberedIfLive last s × AreNumbered last ss

@@ -57,6 +57,7 @@ edited edits at window = planned (edit_plan edits at window) window
 abbrev pub undone_window : Window → Window
 undone_window window = planned_if_any (undo_plan_of window.body) window
 
+-- a window after Redo
 abbrev pub redone_window : Window → Window
 redone_window window = planned_if_any (redo_plan_of window.body) window
 
@@ -101,6 +102,7 @@ named_from w [] name = None
 named_from w (None ∷ ws) name = named_from (w + 1) ws name
 named_from w (Some window ∷ ws) name = if bytes_eq window.name name then Some w else named_from (w + 1) ws name
 
+-- the window of this name
 abbrev pub named : List (Option Window) → List ℕ → Option ℕ
 named windows name = named_from 1 windows name
 
@@ -116,5 +118,6 @@ numbers w [] = []
 numbers w (None ∷ ws) = numbers (w + 1) ws
 numbers w (Some window ∷ ws) = w ∷ numbers (w + 1) ws
 
+-- what the trees see of the windows
 abbrev pub world_of : List (Option Window) → World
 world_of windows = record { windows = numbers 1 windows; next = length windows + 1 }

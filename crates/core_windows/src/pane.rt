@@ -4,12 +4,19 @@ ghost use Rattle.std.specs.Prelude.{◌≡◌, codes, IfOk};
 ghost use Rattle.core_windows.specs.Windows.{named_window};
 ghost use Rattle.core_windows.specs.Panes.{window_of};
 
-use am_text::{NoMemory, Roomy, Rune, Runes};
+use am_text::{NoMemory, Roomy, Rune, Runes, SPACE};
 use std::alloc::Global;
 use win_text::Body;
 
 /// What the right part of a new window's tag holds.
-const LOOK: [Rune; 6] = [32, 76, 111, 111, 107, 32];
+const LOOK: [Rune; 6] = [
+    SPACE,
+    b'L' as Rune,
+    b'o' as Rune,
+    b'o' as Rune,
+    b'k' as Rune,
+    SPACE,
+];
 
 /// A window: its name, the right part of its tag, its body, and whether it is modified.
 #[derive(Drop)]

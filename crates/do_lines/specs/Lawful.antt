@@ -2,6 +2,7 @@
 use Rattle.std.specs.Prelude.{◌≡◌, ◌≤◌, ℕ, List, length, Result, Ok, Err}
 use Rattle.std.specs.List.{AllByRecursion}
 use Rattle.ninep_types.specs.Spelling.{AreNames}
+use Rattle.do_lines.specs.Limits.{most_bytes}
 use Rattle.do_lines.specs.declared.line.DoLine.{DoLine}
 use Rattle.do_lines.specs.declared.line.DoLine.TheVariants as line
 use Rattle.do_lines.specs.declared.reading.LinesFault.{LinesFault}
@@ -11,9 +12,10 @@ use Rattle.do_lines.specs.declared.reading.LinesFault.TheVariants as fault
 abbrev pub IsLawful : DoLine → Type 0
 IsLawful (line.Open fid names mode) = AreNames names
 IsLawful (line.Read fid offset count) = Unit {0}
-IsLawful (line.Write fid offset bytes) = length bytes ≤ 8000
+IsLawful (line.Write fid offset bytes) = length bytes ≤ most_bytes
 IsLawful (line.Close fid) = Unit {0}
 
+-- all these lines
 abbrev pub AreLawful : List DoLine → Type 0
 AreLawful lines = AllByRecursion IsLawful lines
 

@@ -13,6 +13,7 @@ open_from (Some fid) None mode = None
 open_from (Some fid) (Some names) None = None
 open_from (Some fid) (Some names) (Some mode) = Some (line.Open fid names mode)
 
+-- a line `open` by what follows its word
 abbrev pub open_at : List ℕ → Option DoLine
 open_at bytes = open_from (fid_at (first_field bytes)) (names_at (first_field (after_field bytes))) (mode_at (after_field (after_field bytes)))
 
@@ -23,6 +24,7 @@ read_from (Some fid) None count = None
 read_from (Some fid) (Some offset) None = None
 read_from (Some fid) (Some offset) (Some count) = Some (line.Read fid offset count)
 
+-- a line `read` by what follows its word
 abbrev pub read_at : List ℕ → Option DoLine
 read_at bytes = read_from (fid_at (first_field bytes)) (number_of (first_field (after_field bytes))) (count_at (after_field (after_field bytes)))
 
@@ -33,6 +35,7 @@ write_from (Some fid) None text = None
 write_from (Some fid) (Some offset) None = None
 write_from (Some fid) (Some offset) (Some text) = Some (line.Write fid offset text)
 
+-- a line `write` by what follows its word
 abbrev pub write_at : List ℕ → Option DoLine
 write_at bytes = write_from (fid_at (first_field bytes)) (number_of (first_field (after_field bytes))) (bytes_at (after_field (after_field bytes)))
 
@@ -41,6 +44,7 @@ abbrev pub close_from : Option ℕ → Option DoLine
 close_from None = None
 close_from (Some fid) = Some (line.Close fid)
 
+-- a line `close` by what follows its word
 abbrev pub close_at : List ℕ → Option DoLine
 close_at bytes = close_from (fid_at bytes)
 
@@ -49,6 +53,7 @@ abbrev pub with_front : Option (List ℕ) → (List ℕ → Option DoLine) → O
 with_front None read others = others
 with_front (Some rest) read others = read rest
 
+-- what the first front that the bytes begin with gives of the bytes after it
 abbrev pub read_by : List (List ℕ × (List ℕ → Option DoLine)) → List ℕ → Option DoLine
 read_by [] bytes = None
 read_by (r ∷ rs) bytes = with_front (after_front r.0 bytes) r.1 (read_by rs bytes)
@@ -64,10 +69,12 @@ abbrev pub onto_line : DoLine → Result (List DoLine) ℕ → Result (List DoLi
 onto_line line (Ok lines) = Ok (line ∷ lines)
 onto_line line (Err k) = Err k
 
+-- a line and those after it, or the number of the first that isn't in the grammar
 abbrev pub line_then : ℕ → Option DoLine → Result (List DoLine) ℕ → Result (List DoLine) ℕ
 line_then k None others = Err k
 line_then k (Some line) others = onto_line line others
 
+-- the lines, of which the first has this number
 unfoldable pub lines_from : ℕ → List (List ℕ) → Result (List DoLine) ℕ
 lines_from k [] = Ok []
 lines_from k (l ∷ ls) = line_then k (line_of l) (lines_from (k + 1) ls)

@@ -5,18 +5,16 @@ ghost use Rattle.std.specs.List.{list_all};
 ghost use Rattle.do_lines.specs.Fields.{is_name, is_visible, first_name, after_name, names_at};
 
 use am_text::{Items, Names, NoMemory, is_utf8};
+use ninep_types::MAX_NAMES;
 use std::alloc::Global;
 
-/// The most names of an opening.
-const MOST_NAMES: u32 = 16;
-
 /// The most bytes of a name.
-const MOST_BYTES: usize = 65535;
+const MOST_NAME_BYTES: usize = 65_535;
 
 fn is_visible(byte: u8) -> bool
     ensures { result ≡ is_visible byte }
 {
-    32 < byte
+    b' ' < byte
 }
 
 fn are_visible(name: &[u8]) -> bool
@@ -28,7 +26,7 @@ fn are_visible(name: &[u8]) -> bool
 fn is_name(name: &[u8]) -> bool
     ensures { result ≡ is_name name.now }
 {
-    !name.is_empty() && name.len() <= MOST_BYTES && is_utf8(name) && are_visible(name)
+    !name.is_empty() && name.len() <= MOST_NAME_BYTES && is_utf8(name) && are_visible(name)
 }
 
 // The bytes up to the first `/`, and those after it, if there is one.
@@ -53,7 +51,7 @@ pub(crate) fn names_of(alloc: Global, bytes: &[u8]) -> Result<Option<Names>, NoM
 {
     let mut names = Items::new(alloc);
     let mut rest = bytes;
-    let mut left = MOST_NAMES;
+    let mut left = MAX_NAMES;
     while 0 < left {
         let (name, after) = cut_name(rest);
         if !is_name(name) {

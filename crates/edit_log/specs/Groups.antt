@@ -84,6 +84,7 @@ pushing l edits number = record { begins = not (goes_on l.marking (length l.past
 abbrev pub marked_marking : Marking → Bool → Marking
 marked_marking m automatic = record { automatic = automatic; joins = false; changed = m.changed }
 
+-- the log after `mark` or `nomark`
 abbrev pub marked : Log → Bool → Log
 marked l automatic = record l { marking = marked_marking l.marking automatic }
 
@@ -112,6 +113,7 @@ unpushed l p = record {
   ready = l.ready;
 }
 
+-- a group was pushed, and as many undone ones as it forgot are there
 pub record CanUnpush (l : Log) (p : Pushed) : Type 0 where
   pub some : 0 < length l.past
   pub undone : p.undone ≤ length (l.future ++ l.forgotten)
@@ -185,9 +187,11 @@ all_last past = edits_in (last_of past)
 abbrev pub all_first : List DoneGroup → List Done
 all_first future = edits_in (first_of future)
 
+-- the edits that take a group back
 abbrev pub undoing_group : DoneGroup → List Edit
 undoing_group g = undoing g.edits
 
+-- those that make it again
 abbrev pub redoing_group : DoneGroup → List Edit
 redoing_group g = redoing g.edits
 

@@ -4,6 +4,7 @@ use Rattle.edit_log.specs.declared.types.Marking.{Marking}
 use Rattle.edit_log.specs.declared.log.Group.{Group}
 use Rattle.edit_log.specs.Groups.{DoneGroup, Log, goes_on}
 
+-- the group of a value of the program
 abbrev pub group_of : Group → DoneGroup
 group_of g = record { number = g.number; edits = g.edits.items }
 

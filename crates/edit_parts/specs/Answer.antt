@@ -19,8 +19,8 @@ use Rattle.edit_parts.specs.declared.token.Token.TheVariants as token
 
 -- the expression that is built; None stands for one of more than 2,048 nodes
 abbrev pub IsBuiltExpression : Option Re → expression.Tree → Type 0
-IsBuiltExpression (Some e) re = (expression.tree e ≡ re) × (expression.nodes re ≤ 2048)
-IsBuiltExpression None re = 2048 < expression.nodes re
+IsBuiltExpression (Some e) re = (expression.tree e ≡ re) × (expression.nodes re ≤ expression.most_nodes)
+IsBuiltExpression None re = expression.most_nodes < expression.nodes re
 
 -- what is built of an action: all of it inside the limits
 abbrev pub IsBuiltAction : Limited Act → Action → Type 0
@@ -44,6 +44,7 @@ pub record IsPieceAt (text : List ℕ) (at : ℕ) (p : Piece) (end : ℕ) : Type
   pub within : end ≤ length text
   pub written : IsPiece p (slice_range text at end) (next_of (drop end text))
 
+-- the token from one place up to another
 abbrev pub IsTokenAt : List ℕ → ℕ → Token → ℕ → Type 0
 IsTokenAt text at t end = (p : Piece) × IsToken t p × IsPieceAt text at p end
 
@@ -55,6 +56,7 @@ pub record IsBadPiece (text : List ℕ) (at place : ℕ) : Type 0 where
   pub before : at < place → (more : List ℕ) × (p : Piece) × ((next : Option ℕ) → ends_line next ≡ true → IsPiece p (slice_range text at place ++ more) next)
   pub dead : (more : List ℕ) → next_of more ≡ next_of (drop place text) → (p : Piece) (piece behind : List ℕ) → slice_range text at place ++ more ≡ piece ++ behind → IsPiece p piece (next_of behind) → ⊥
 
+-- why no piece is read
 abbrev pub PieceFails : List ℕ → ℕ → SynFault → Type 0
 PieceFails text at (fault.Bad place) = IsBadPiece text at place
 PieceFails text at fault.Nodes = ⊥

@@ -6,11 +6,11 @@ use Rattle.edit_parts.specs.Tree.{Action, Commands, Nothing, Append, Change, Ins
 
 -- an expression has more than 2,048 nodes
 abbrev pub is_large_expression : expression.Tree → Bool
-is_large_expression re = nat_lt 2048 (expression.nodes re)
+is_large_expression re = nat_lt expression.most_nodes (expression.nodes re)
 
 -- an address has more than 1,024 operators
 abbrev pub is_long_address : address.Tree → Bool
-is_long_address a = nat_lt 1024 (address.operators a)
+is_long_address a = nat_lt address.most_operators (address.operators a)
 
 -- some expression has more than 2,048 nodes
 abbrev mutual

@@ -1,5 +1,6 @@
 -- How the pieces of a command are written.
 use Rattle.std.specs.Prelude.{◌≡◌, ◌⊎◌, ℕ, Bool, false, List, [], ◌∷◌, ◌++◌, Option}
+use Rattle.am_text.specs.Ascii.{newline, hash, slash}
 use Rattle.re_syntax.specs.Tree as expression
 use Rattle.re_syntax.specs.Tree.{AnyLetter, Letter, Then, Many}
 use Rattle.addr_syntax.specs.Tree as address
@@ -16,6 +17,7 @@ use Rattle.edit_parts.specs.declared.kind.Loop.TheVariants.{ForEach, ForBetween,
 use Rattle.edit_parts.specs.declared.kind.Kind.{Kind}
 use Rattle.edit_parts.specs.declared.kind.Kind.TheVariants as kind
 
+-- A piece of a command.
 pub data Piece : Type 0 where
   -- U+0020, newline
   Blank : Piece
@@ -32,11 +34,11 @@ pub data Piece : Type 0 where
 
 -- `.*\n`, the expression of an `x` that is written without one
 abbrev pub whole_lines : expression.Tree
-whole_lines = Then (Many AnyLetter) (Letter 10)
+whole_lines = Then (Many AnyLetter) (Letter newline)
 
 -- how the expression of a loop is written behind its letter and blanks
 abbrev pub LoopsOver : loops.Loop → expression.Tree → List ℕ → List ℕ → Type 0
-LoopsOver ForEach re text rest = Quoted re text rest ⊎ ((re ≡ whole_lines) × (text ≡ rest) × (is_next 47 (next_of rest) ≡ false))
+LoopsOver ForEach re text rest = Quoted re text rest ⊎ ((re ≡ whole_lines) × (text ≡ rest) × (is_next slash (next_of rest) ≡ false))
 LoopsOver ForBetween re text rest = Quoted re text rest
 LoopsOver Where re text rest = Quoted re text rest
 LoopsOver WhereNot re text rest = Quoted re text rest
@@ -45,6 +47,7 @@ LoopsOver WhereNot re text rest = Quoted re text rest
 abbrev pub Substitutes : ℕ → expression.Tree → List ℕ → Bool → List ℕ → List ℕ → Type 0
 Substitutes n re with all text rest = (l m k : List ℕ) × Nth n text l × Quoted re l m × Closed with m k × All all (after_blanks k) rest
 
+-- the action of `s` with parts that are written so
 abbrev pub SubstitutesAs : Action → List ℕ → List ℕ → Type 0
 SubstitutesAs act text rest = (n : ℕ) × (re : expression.Tree) × (with : List ℕ) × (all : Bool) × (act ≡ tree.Substitute n re with all) × Substitutes n re with all text rest
 
@@ -56,7 +59,7 @@ ActsAs letter.Substitute act text rest = SubstitutesAs act (after_blanks text) r
 ActsAs (letter.Sends way) act text rest = (a : address.Tree) × (act ≡ sends way a) × Begins a (after_blanks text) rest
 ActsAs letter.Print act text rest = (act ≡ tree.Print) × (text ≡ rest)
 ActsAs letter.Equals act text rest =
-    ((act ≡ tree.RuneNumber) × (text ≡ 35 ∷ rest)) ⊎ ((act ≡ tree.LineNumber) × (text ≡ rest) × (is_next 35 (next_of rest) ≡ false))
+    ((act ≡ tree.RuneNumber) × (text ≡ hash ∷ rest)) ⊎ ((act ≡ tree.LineNumber) × (text ≡ rest) × (is_next hash (next_of rest) ≡ false))
 ActsAs (letter.Asks request) act text rest = (t : List ℕ) × (act ≡ tree.Asks (request_of request) t) × RestOfLine t (after_blanks text) rest
 
 -- how a piece of this kind is written: its first rune, what stands behind that, and the rest behind the piece

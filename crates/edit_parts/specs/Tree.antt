@@ -74,5 +74,6 @@ abbrev mutual
   commands end_of-Cmd = Done
   commands (more_of-Cmd addr act rest) = Then (address.tree_of addr) (action act) (commands rest)
 
+-- the command of a value of the program
 abbrev pub command : Cmd → Command
 command c = (address.tree_of c.addr, action c.act)

@@ -13,12 +13,12 @@ ghost use Rattle.edit_parts.specs.Answer.{IsBuiltExpression, IsBuiltAction};
 ghost use Rattle.edit_parts.specs.Read.{IsReadBy, IsActionBy, ActionFails};
 
 use crate::command::Act;
-use crate::expression::quoted;
-use crate::kind::{Letter, Place, Request, Way};
+use crate::expression::quoted_expression;
+use crate::kind::{LETTER_G, Letter, Place, Request, Way};
 use crate::scan::{after_blanks, closing, is_at, nth};
 use crate::text::{rest_of_line, text};
 use addr_syntax::{Addr, Limited, SynFault, addr_at};
-use am_text::{Items, NoMemory, Rune, Runes};
+use am_text::{HASH, Items, NoMemory, Rune, Runes};
 use re_syntax::Re;
 use std::alloc::Global;
 
@@ -27,13 +27,14 @@ fn all(text: &[Rune], from: usize) -> (bool, usize)
     requires { from ≤ length text.now }
     ensures { IsReadBy (All result.0) text.now from result.1 }
 {
-    if is_at(text, from, 103) {
+    if is_at(text, from, LETTER_G) {
         (true, from + 1)
     } else {
         (false, from)
     }
 }
 
+// The action of `s` with these parts.
 fn subst(nth: u64, re: Option<Re>, with: Runes, all: bool) -> Limited<Act>
     ensures { (e : expression.Tree) → IsBuiltExpression re e → IsBuiltAction result (tree.Substitute nth e with all) }
 {
@@ -54,7 +55,7 @@ fn substitution(
     ensures err { IfErr result (ActionFails SubstitutesAs text.now from) }
 {
     let (nth, slash) = nth(text, from)?;
-    let (re, with_from) = quoted(alloc, text, slash)?;
+    let (re, with_from) = quoted_expression(alloc, text, slash)?;
     let with_end = closing(text, with_from)?;
     let with = Items::copied(alloc, &text[with_from..with_end])?;
     let (all, end) = all(text, after_blanks(text, with_end + 1));
@@ -66,13 +67,14 @@ fn equals(text: &[Rune], from: usize) -> (Limited<Act>, usize)
     requires { from ≤ length text.now }
     ensures { IsActionBy (ActsAs Letter.Equals) text.now from result.0 result.1 }
 {
-    if is_at(text, from, 35) {
+    if is_at(text, from, HASH) {
         (Limited::Whole(Act::CharNo), from + 1)
     } else {
         (Limited::Whole(Act::LineNo), from)
     }
 }
 
+// `a`, `c` or `i` with this text.
 fn puts(place: Place, t: Runes) -> Limited<Act>
     ensures { IsBuiltAction result (puts place t) }
 {
@@ -98,7 +100,8 @@ fn put(
     Ok((puts(place, t), end))
 }
 
-fn sent(way: Way, addr: Addr) -> Act
+// `m` or `t` with this address.
+fn send_to(way: Way, addr: Addr) -> Act
     ensures { action result ≡ sends way (address.tree addr) }
 {
     match way {
@@ -107,11 +110,12 @@ fn sent(way: Way, addr: Addr) -> Act
     }
 }
 
+// The same, of an address that may pass a limit.
 fn sends(way: Way, addr: Limited<Addr>) -> Limited<Act>
     ensures { (a : address.Tree) → IsLimited addr a → IsBuiltAction result (sends way a) }
 {
     match addr {
-        Limited::Whole(addr) => Limited::Whole(sent(way, addr)),
+        Limited::Whole(addr) => Limited::Whole(send_to(way, addr)),
         Limited::Deep => Limited::Deep,
         Limited::Large => Limited::Large,
     }
@@ -132,6 +136,7 @@ fn send(
     Ok((sends(way, addr), end))
 }
 
+// `|`, `<` or `>` with this command.
 fn asks(request: Request, t: Runes) -> Limited<Act>
     ensures { IsBuiltAction result (tree.Asks (request_of request) t) }
 {

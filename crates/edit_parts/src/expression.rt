@@ -9,20 +9,24 @@ ghost use Rattle.edit_parts.specs.Read.{IsExpressionBy, QuotedFails, LoopFails, 
 use crate::kind::Loop;
 use crate::scan::is_at;
 use addr_syntax::{SynFault, expression};
-use am_text::{NoMemory, Rune};
+use am_text::{NEWLINE, NoMemory, Rune, SLASH};
 use re_syntax::Re;
 use std::alloc::Global;
 
 /// The expression `/re/`; `None` stands for one of more than 2,048 nodes.
-pub fn quoted(alloc: Global, text: &[Rune], from: usize) -> Result<(Option<Re>, usize), SynFault>
+pub fn quoted_expression(
+    alloc: Global,
+    text: &[Rune],
+    from: usize,
+) -> Result<(Option<Re>, usize), SynFault>
     requires { from ≤ length text.now }
     ensures ok { IfOk result (λ a. IsExpressionBy Quoted text.now from a.0 a.1) }
     ensures err { IfErr result (QuotedFails text.now from) }
 {
-    if !is_at(text, from, 47) {
+    if !is_at(text, from, SLASH) {
         return Err(SynFault::Bad(from));
     }
-    let (re, end) = expression(alloc, text, from + 1, 47)?;
+    let (re, end) = expression(alloc, text, from + 1, SLASH)?;
     if end < text.len() {
         Ok((re, end + 1))
     } else {
@@ -35,9 +39,10 @@ fn whole_lines(alloc: Global) -> Result<Re, NoMemory>
     ensures { IfOk result (λ re. tree re ≡ whole_lines) }
 {
     let runes = Re::Star(Box::new(alloc, Re::Any)?);
-    Ok(Re::Cat(Box::new(alloc, runes)?, Box::new(alloc, Re::Lit(10))?))
+    Ok(Re::Cat(Box::new(alloc, runes)?, Box::new(alloc, Re::Lit(NEWLINE))?))
 }
 
+// The loop over the matches, whose expression may be missing.
 fn is_for_each(kind: Loop) -> bool
     ensures { result ≡ is_for_each kind }
 {
@@ -55,8 +60,8 @@ pub fn loop_expression(
     ensures ok { IfOk result (λ a. IsExpressionBy (LoopsOver kind) text.now from a.0 a.1) }
     ensures err { IfErr result (LoopFails kind text.now from) }
 {
-    if is_for_each(kind) && !is_at(text, from, 47) {
+    if is_for_each(kind) && !is_at(text, from, SLASH) {
         return Ok((Some(whole_lines(alloc)?), from));
     }
-    quoted(alloc, text, from)
+    quoted_expression(alloc, text, from)
 }

@@ -1,13 +1,14 @@
 //! Finds where the texts of commands end.
 
 ghost use Rattle.std.specs.Prelude.{◌≡◌, ◌≤◌, ◌<◌, ◌+◌, ◌&&◌, ◌==◌, true, length, drop, slice_index, IfOk, IfErr};
+ghost use Rattle.am_text.specs.Ascii.{dot};
 ghost use Rattle.addr_syntax.specs.Marks.{next_of, is_digit};
 ghost use Rattle.edit_parts.specs.Kinds.{ends_line, is_next};
 ghost use Rattle.edit_parts.specs.Texts.{after_blanks, lines_length, line_length, Lines, Nth};
 ghost use Rattle.edit_parts.specs.Read.{IsReadBy, IsClosedAt, ClosedFails, IsDotAt, TextFails, NthFails};
 
 use addr_syntax::{SynFault, delimiter_at, number};
-use am_text::Rune;
+use am_text::{DIGIT_0, DIGIT_9, DOT, NEWLINE, Rune, SLASH, SPACE};
 
 /// The place behind the blanks that begin at a place.
 pub fn after_blanks(text: &[Rune], from: usize) -> usize
@@ -17,7 +18,7 @@ pub fn after_blanks(text: &[Rune], from: usize) -> usize
     ensures behind { drop result text.now ≡ after_blanks (drop from text.now) }
 {
     for at in from..text.len() {
-        if text[at] != 32 {
+        if text[at] != SPACE {
             return at;
         }
     }
@@ -31,7 +32,7 @@ pub fn line_end(text: &[Rune], from: usize) -> usize
     ensures within { result ≤ length text.now }
 {
     for at in from..text.len() {
-        if text[at] == 10 {
+        if text[at] == NEWLINE {
             return at;
         }
     }
@@ -44,7 +45,7 @@ pub fn closing(text: &[Rune], from: usize) -> Result<usize, SynFault>
     ensures ok { IfOk result (IsClosedAt text.now from) }
     ensures err { IfErr result (ClosedFails text.now from) }
 {
-    let end = delimiter_at(text, from, 47);
+    let end = delimiter_at(text, from, SLASH);
     if end < text.len() {
         Ok(end)
     } else {
@@ -58,7 +59,7 @@ fn ends_line(text: &[Rune], at: usize) -> bool
     ensures { result ≡ ends_line (next_of (drop at text.now)) }
 {
     if at < text.len() {
-        text[at] == 10
+        text[at] == NEWLINE
     } else {
         true
     }
@@ -67,9 +68,9 @@ fn ends_line(text: &[Rune], at: usize) -> bool
 // Whether a line that begins here is `.`.
 fn is_dot(text: &[Rune], at: usize, starts: bool) -> bool
     requires { at < length text.now }
-    ensures { result ≡ (starts && (slice_index text.now at == 46) && ends_line (next_of (drop (at + 1) text.now))) }
+    ensures { result ≡ (starts && (slice_index text.now at == dot) && ends_line (next_of (drop (at + 1) text.now))) }
 {
-    starts && text[at] == 46 && ends_line(text, at + 1)
+    starts && text[at] == DOT && ends_line(text, at + 1)
 }
 
 // The place of the first `.` that is a line, where a line begins at a place; the end of the text where there is none.
@@ -83,7 +84,7 @@ fn first_dot(text: &[Rune], from: usize) -> usize
         if is_dot(text, at, starts) {
             return at;
         }
-        starts = text[at] == 10;
+        starts = text[at] == NEWLINE;
     }
     text.len()
 }
@@ -102,11 +103,12 @@ pub fn dot_line(text: &[Rune], from: usize) -> Result<usize, SynFault>
     }
 }
 
+// Whether a decimal digit stands at a place.
 fn is_digit_at(text: &[Rune], at: usize) -> bool
     requires { at ≤ length text.now }
     ensures { result ≡ is_digit (next_of (drop at text.now)) }
 {
-    at < text.len() && 48 <= text[at] && text[at] <= 57
+    at < text.len() && DIGIT_0 <= text[at] && text[at] <= DIGIT_9
 }
 
 /// The number of a match, and the place behind it and its blanks.

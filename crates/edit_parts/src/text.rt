@@ -6,7 +6,7 @@ ghost use Rattle.edit_parts.specs.Read.{IsReadBy, UnescapedTo, TextFails, Closed
 
 use crate::scan::{closing, dot_line, is_at, line_end};
 use addr_syntax::SynFault;
-use am_text::{Items, NoMemory, Rune, Runes};
+use am_text::{BACKSLASH, Items, LETTER_N, NEWLINE, NoMemory, Rune, Runes, SLASH};
 use std::alloc::Global;
 
 // Puts what a rune behind a backslash stands for at the end.
@@ -14,12 +14,10 @@ fn push_escaped(made: &mut Runes, c: Rune) -> Result<(), NoMemory>
     ensures { OnOk result (made.new ≡ made.old ++ escaped c) }
 {
     match c {
-        // n
-        110 => made.push(10),
-        // / and \
-        47 | 92 => made.push(c),
+        LETTER_N => made.push(NEWLINE),
+        SLASH | BACKSLASH => made.push(c),
         _ => {
-            made.push(92)?;
+            made.push(BACKSLASH)?;
             made.push(c)
         }
     }
@@ -36,7 +34,7 @@ fn unescaped(alloc: Global, text: &[Rune]) -> Result<Runes, NoMemory>
         if behind_backslash {
             push_escaped(&mut made, c)?;
             behind_backslash = false;
-        } else if c == 92 {
+        } else if c == BACKSLASH {
             behind_backslash = true;
         } else {
             made.push(c)?;
@@ -71,9 +69,9 @@ pub fn text(alloc: Global, text: &[Rune], from: usize) -> Result<(Runes, usize),
     ensures ok { IfOk result (λ a. IsReadBy (Text a.0) text.now from a.1) }
     ensures err { IfErr result (TextFails Text text.now from) }
 {
-    if is_at(text, from, 47) {
+    if is_at(text, from, SLASH) {
         closed_text(alloc, text, from + 1)
-    } else if is_at(text, from, 10) {
+    } else if is_at(text, from, NEWLINE) {
         lines(alloc, text, from + 1)
     } else {
         Err(SynFault::Bad(from))

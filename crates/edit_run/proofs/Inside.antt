@@ -7,7 +7,7 @@ use Rattle.edit_log.specs.declared.types.Edit.{Edit}
 use Rattle.re_spans.specs.Successive.{AreInOrder}
 use Rattle.sam_address.specs.Value.{IsInside}
 use Rattle.edit_run.specs.declared.effects.Effects.{Effects}
-use Rattle.edit_run.specs.Ranges.{between, chosen, AreMatches, AreInside}
+use Rattle.edit_run.specs.Ranges.{between, choose, AreMatches, AreInside}
 use Rattle.edit_run.specs.Within.{AreChangesOf, IsWithin}
 
 pub changes_append : (len : ℕ) (cs ds : List Edit) → AreChangesOf len cs → AreChangesOf len ds → AreChangesOf len (cs ++ ds)
@@ -47,5 +47,5 @@ chosen_by true all r t n ms h = tt
 chosen_by false true r t n ms h = matches_drop r t n ms h
 chosen_by false false r t n ms h = matches_one r t (drop n ms) (matches_drop r t n ms h)
 
-pub chosen_matches : (r : Tree) (t : List ℕ) (n : ℕ) (all : Bool) (ms : List Range) → AreMatches r t ms → AreMatches r t (chosen n all ms)
+pub chosen_matches : (r : Tree) (t : List ℕ) (n : ℕ) (all : Bool) (ms : List Range) → AreMatches r t ms → AreMatches r t (choose n all ms)
 chosen_matches r t n all ms h = chosen_by (n == 0) all r t (n - 1) ms h

@@ -10,19 +10,19 @@ abbrev pub nothing : Range → Effects
 nothing dot = record { changes = []; prints = []; jobs = []; last = dot }
 
 -- a command with this range begins
-abbrev pub begun : Range → Effects → Effects
-begun r e = record { changes = e.changes; prints = e.prints; jobs = e.jobs; last = r }
+abbrev pub begin_at : Range → Effects → Effects
+begin_at r e = record { changes = e.changes; prints = e.prints; jobs = e.jobs; last = r }
 
 -- one change more, which puts the text in the place of the runes from q0 to before q1; one that takes nothing and puts
 -- nothing isn't made
-abbrev pub changed : ℕ → ℕ → List ℕ → Effects → Effects
-changed q0 q1 text e =
+abbrev pub with_change : ℕ → ℕ → List ℕ → Effects → Effects
+with_change q0 q1 text e =
     record { changes = e.changes ++ made (record { q0 = q0; q1 = q1; text = text }); prints = e.prints; jobs = e.jobs; last = e.last }
 
 -- more to be printed
-abbrev pub printed : List ℕ → Effects → Effects
-printed text e = record { changes = e.changes; prints = e.prints ++ text; jobs = e.jobs; last = e.last }
+abbrev pub with_print : List ℕ → Effects → Effects
+with_print text e = record { changes = e.changes; prints = e.prints ++ text; jobs = e.jobs; last = e.last }
 
 -- one request more
-abbrev pub asked : Job → Effects → Effects
-asked job e = record { changes = e.changes; prints = e.prints; jobs = e.jobs ++ job ∷ []; last = e.last }
+abbrev pub with_job : Job → Effects → Effects
+with_job job e = record { changes = e.changes; prints = e.prints; jobs = e.jobs ++ job ∷ []; last = e.last }

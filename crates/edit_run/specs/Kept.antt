@@ -22,6 +22,7 @@ abbrev pub OfFirst : (Kept → Type 0) → List Kept → Type 0
 OfFirst P [] = Unit {0}
 OfFirst P (k ∷ ks) = P k
 
+-- those behind the first
 abbrev pub behind : List Kept → List Kept
 behind [] = []
 behind (k ∷ ks) = ks
@@ -40,6 +41,7 @@ abbrev mutual
   AreMade Done ks = Unit {0}
   AreMade (Then addr act rest) ks = OfFirst (IsKept act) ks × AreMade rest (behind ks)
 
+-- the same of commands of a list
 abbrev pub AreKept : List Kept → List Cmd → Type 0
 AreKept ks [] = Unit {0}
 AreKept ks (c ∷ cs) = OfFirst (IsKept (action c.act)) ks × AreKept (behind ks) cs

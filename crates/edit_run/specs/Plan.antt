@@ -31,6 +31,7 @@ abbrev pub dot_after : Range → List Edit → Range
 dot_after dot [] = dot
 dot_after dot (e ∷ es) = dot_after (record { q0 = e.q0; q1 = e.q0 + length e.text }) es
 
+-- the edits, the dot behind them, and what else is wanted
 abbrev pub plan_of : Effects → List Edit → EditPlan
 plan_of e edits = record { edits = edits; dot = dot_after e.last edits; prints = e.prints; jobs = e.jobs }
 

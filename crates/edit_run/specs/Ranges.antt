@@ -16,8 +16,8 @@ between at end [] = record { q0 = at; q1 = end } ∷ []
 between at end (m ∷ ms) = record { q0 = at; q1 = m.q0 } ∷ between m.q1 end ms
 
 -- the n-th range, counted from 1, or all from it on; there is none of number 0
-abbrev pub chosen : ℕ → Bool → List Range → List Range
-chosen n all ms = if n == 0 then [] else (if all then drop (n - 1) ms else take 1 (drop (n - 1) ms))
+abbrev pub choose : ℕ → Bool → List Range → List Range
+choose n all ms = if n == 0 then [] else (if all then drop (n - 1) ms else take 1 (drop (n - 1) ms))
 
 -- matches inside the text
 abbrev pub AreMatches : Tree → List ℕ → List Range → Type 0

@@ -7,19 +7,19 @@ ghost use Rattle.am_text.specs.declared.job.JobKind.TheVariants.{From};
 ghost use Rattle.sam_address.specs.Value.{IsInside};
 ghost use Rattle.edit_run.specs.declared.fault.EditFault.TheVariants.{NoMemory};
 ghost use Rattle.edit_run.specs.Faults.{IsFault, and_then};
-ghost use Rattle.edit_run.specs.Effects.{changed, printed, asked};
+ghost use Rattle.edit_run.specs.Effects.{with_change, with_print, with_job};
 ghost use Rattle.edit_run.specs.Within.{IsWithin};
 ghost use Rattle.edit_run.specs.Ranges.{AreMatches};
-ghost use Rattle.edit_run.specs.Replacing.{substituted};
+ghost use Rattle.edit_run.specs.Replacing.{substitute};
 ghost use Rattle.edit_run.specs.Lines.{IsCursorOf};
-ghost use Rattle.edit_run.specs.Told.{told, lines_told, places_told};
-ghost use Rattle.edit_run.specs.Meaning.{range_of, text_at, replaced, is_within, moved, copied, job_for};
+ghost use Rattle.edit_run.specs.Told.{line_with_name, lines_text, places_text};
+ghost use Rattle.edit_run.specs.Meaning.{range_of, text_at, replace_each, is_within, move_to, copy_to, job_for};
 
 use crate::doing::{Doing, Over};
 use crate::effects::Effects;
 use crate::fault::EditFault;
-use crate::replacing::substituted;
-use crate::telling::{lines_told, places_told};
+use crate::replacing::substitute;
+use crate::telling::{lines_text, places_text};
 use crate::texts::text_at;
 use crate::types::Site;
 use addr_syntax::Addr;
@@ -68,7 +68,7 @@ pub fn put_text(
     put: &Runes,
     effects: &mut Effects,
 ) -> Result<(), EditFault>
-    ensures value { OnOk result (effects.new ≡ changed q0 q1 put.now effects.old) }
+    ensures value { OnOk result (effects.new ≡ with_change q0 q1 put.now effects.old) }
     ensures fault { IfErr result (λ e. e ≡ NoMemory) }
     ensures within { OnOk result ((t : List ℕ) → q0 ≤ q1 → q1 ≤ length t → IsWithin t effects.old → IsWithin t effects.new) }
 {
@@ -78,7 +78,7 @@ pub fn put_text(
 
 /// Deletes the range.
 pub fn delete(alloc: Global, range: Range, effects: &mut Effects) -> Result<(), EditFault>
-    ensures value { OnOk result (effects.new ≡ changed range.q0 range.q1 [] effects.old) }
+    ensures value { OnOk result (effects.new ≡ with_change range.q0 range.q1 [] effects.old) }
     ensures fault { IfErr result (λ e. e ≡ NoMemory) }
     ensures within { OnOk result ((t : List ℕ) → IsInside t range → IsWithin t effects.old → IsWithin t effects.new) }
 {
@@ -96,19 +96,20 @@ pub fn replace_all<T: Letters>(
 ) -> Result<(), EditFault>
     requires matches { AreMatches (tree re.now) (T.letters over.now.text.now) spans.now }
     requires within { IsWithin (T.letters over.now.text.now) effects.old }
-    ensures value { OnOk result (effects.new ≡ replaced (substituted (tree re.now) (T.letters over.now.text.now) with.now) spans.now effects.old) }
+    ensures value { OnOk result (effects.new ≡ replace_each (substitute (tree re.now) (T.letters over.now.text.now) with.now) spans.now effects.old) }
     ensures fault { IfErr result (λ e. e ≡ NoMemory) }
     ensures within { OnOk result (IsWithin (T.letters over.now.text.now) effects.new) }
 {
     let mut rest = spans;
     while let [span, after @ ..] = rest {
-        let made = substituted(over.alloc, re, over.text, with, *span)?;
+        let made = substitute(over.alloc, re, over.text, with, *span)?;
         effects.change(span.q0, span.q1, made)?;
         rest = after;
     }
     Ok(())
 }
 
+// The place is inside the range, neither at its beginning nor at its end.
 fn is_within(range: Range, place: usize) -> bool
     ensures { result ≡ is_within range place }
 {
@@ -116,7 +117,7 @@ fn is_within(range: Range, place: usize) -> bool
 }
 
 // Puts the range's text at a place and deletes it where it stands, the earlier of the two first.
-fn moved<T: Letters>(
+fn move_to<T: Letters>(
     over: &Over<T>,
     range: Range,
     place: usize,
@@ -125,8 +126,8 @@ fn moved<T: Letters>(
     requires range { IsInside (T.letters over.now.text.now) range }
     requires place { place ≤ length (T.letters over.now.text.now) }
     requires within { IsWithin (T.letters over.now.text.now) effects.old }
-    ensures value { OnOk result (moved (T.letters over.now.text.now) range place effects.old ≡ Ok effects.new) }
-    ensures fault { IfErr result (λ e. IsFault e (moved (T.letters over.now.text.now) range place effects.old)) }
+    ensures value { OnOk result (move_to (T.letters over.now.text.now) range place effects.old ≡ Ok effects.new) }
+    ensures fault { IfErr result (λ e. IsFault e (move_to (T.letters over.now.text.now) range place effects.old)) }
     ensures within { OnOk result (IsWithin (T.letters over.now.text.now) effects.new) }
 {
     if is_within(range, place) {
@@ -154,12 +155,12 @@ pub fn move_text<T: Letters>(
     requires dot { IsInside (T.letters over.now.text.now) dot }
     requires range { IsInside (T.letters over.now.text.now) range }
     requires within { IsWithin (T.letters over.now.text.now) effects.old }
-    ensures value { OnOk result (and_then (range_of (address.tree to.now) (T.letters over.now.text.now) dot) (λ place. moved (T.letters over.now.text.now) range place.q1 effects.old) ≡ Ok effects.new) }
-    ensures fault { IfErr result (λ e. IsFault e (and_then (range_of (address.tree to.now) (T.letters over.now.text.now) dot) (λ place. moved (T.letters over.now.text.now) range place.q1 effects.old))) }
+    ensures value { OnOk result (and_then (range_of (address.tree to.now) (T.letters over.now.text.now) dot) (λ place. move_to (T.letters over.now.text.now) range place.q1 effects.old) ≡ Ok effects.new) }
+    ensures fault { IfErr result (λ e. IsFault e (and_then (range_of (address.tree to.now) (T.letters over.now.text.now) dot) (λ place. move_to (T.letters over.now.text.now) range place.q1 effects.old))) }
     ensures within { OnOk result (IsWithin (T.letters over.now.text.now) effects.new) }
 {
     let place = range_at(over, to, dot)?;
-    moved(over, range, place.q1, effects)
+    move_to(over, range, place.q1, effects)
 }
 
 /// Copies the range's text behind the range of an address.
@@ -173,8 +174,8 @@ pub fn copy_text<T: Letters>(
     requires dot { IsInside (T.letters over.now.text.now) dot }
     requires range { IsInside (T.letters over.now.text.now) range }
     requires within { IsWithin (T.letters over.now.text.now) effects.old }
-    ensures value { OnOk result (and_then (range_of (address.tree to.now) (T.letters over.now.text.now) dot) (λ place. copied (T.letters over.now.text.now) range place.q1 effects.old) ≡ Ok effects.new) }
-    ensures fault { IfErr result (λ e. IsFault e (and_then (range_of (address.tree to.now) (T.letters over.now.text.now) dot) (λ place. copied (T.letters over.now.text.now) range place.q1 effects.old))) }
+    ensures value { OnOk result (and_then (range_of (address.tree to.now) (T.letters over.now.text.now) dot) (λ place. copy_to (T.letters over.now.text.now) range place.q1 effects.old) ≡ Ok effects.new) }
+    ensures fault { IfErr result (λ e. IsFault e (and_then (range_of (address.tree to.now) (T.letters over.now.text.now) dot) (λ place. copy_to (T.letters over.now.text.now) range place.q1 effects.old))) }
     ensures within { OnOk result (IsWithin (T.letters over.now.text.now) effects.new) }
 {
     let place = range_at(over, to, dot)?;
@@ -190,7 +191,7 @@ pub fn print<T: Letters>(
     effects: &mut Effects,
 ) -> Result<(), EditFault>
     requires { IsWithin (T.letters over.now.text.now) effects.old }
-    ensures value { OnOk result (effects.new ≡ printed (text_at (T.letters over.now.text.now) range) effects.old) }
+    ensures value { OnOk result (effects.new ≡ with_print (text_at (T.letters over.now.text.now) range) effects.old) }
     ensures fault { IfErr result (λ e. e ≡ NoMemory) }
     ensures within { OnOk result (IsWithin (T.letters over.now.text.now) effects.new) }
 {
@@ -208,12 +209,12 @@ pub fn print_lines<T: Letters>(
     requires range { IsInside (T.letters over.now.text.now) range }
     requires cursor { IsCursorOf (T.letters over.now.text.now) doing.old.cursor }
     requires within { IsWithin (T.letters over.now.text.now) doing.old.effects }
-    ensures value { OnOk result (doing.new.effects ≡ printed (told over.now.site.now.name (lines_told (T.letters over.now.text.now) range)) doing.old.effects) }
+    ensures value { OnOk result (doing.new.effects ≡ with_print (line_with_name over.now.site.now.name (lines_text (T.letters over.now.text.now) range)) doing.old.effects) }
     ensures fault { IfErr result (λ e. e ≡ NoMemory) }
     ensures cursor { OnOk result (IsCursorOf (T.letters over.now.text.now) doing.new.cursor) }
     ensures within { OnOk result (IsWithin (T.letters over.now.text.now) doing.new.effects) }
 {
-    let lines = lines_told(
+    let lines = lines_text(
         over.alloc,
         over.site.name.as_slice(),
         over.text,
@@ -231,11 +232,11 @@ pub fn print_places(
     range: Range,
     effects: &mut Effects,
 ) -> Result<(), EditFault>
-    ensures value { OnOk result (effects.new ≡ printed (told site.now.name (places_told range)) effects.old) }
+    ensures value { OnOk result (effects.new ≡ with_print (line_with_name site.now.name (places_text range)) effects.old) }
     ensures fault { IfErr result (λ e. e ≡ NoMemory) }
     ensures within { OnOk result ((t : List ℕ) → IsWithin t effects.old → IsWithin t effects.new) }
 {
-    let places = places_told(alloc, site.name.as_slice(), range)?;
+    let places = places_text(alloc, site.name.as_slice(), range)?;
     effects.print(places.as_slice())?;
     Ok(())
 }
@@ -248,7 +249,7 @@ fn ask<T>(
     input: Runes,
     effects: &mut Effects,
 ) -> Result<(), EditFault>
-    ensures value { OnOk result (effects.new ≡ asked (job_for kind command.now over.now.site.now input) effects.old) }
+    ensures value { OnOk result (effects.new ≡ with_job (job_for kind command.now over.now.site.now input) effects.old) }
     ensures fault { IfErr result (λ e. e ≡ NoMemory) }
     ensures within { OnOk result ((t : List ℕ) → IsWithin t effects.old → IsWithin t effects.new) }
 {
@@ -270,7 +271,7 @@ pub fn ask_with<T: Letters>(
     range: Range,
     effects: &mut Effects,
 ) -> Result<(), EditFault>
-    ensures value { OnOk result (effects.new ≡ asked (job_for kind command.now over.now.site.now (text_at (T.letters over.now.text.now) range)) effects.old) }
+    ensures value { OnOk result (effects.new ≡ with_job (job_for kind command.now over.now.site.now (text_at (T.letters over.now.text.now) range)) effects.old) }
     ensures fault { IfErr result (λ e. e ≡ NoMemory) }
     ensures within { OnOk result ((t : List ℕ) → IsWithin t effects.old → IsWithin t effects.new) }
 {
@@ -284,7 +285,7 @@ pub fn ask_without<T>(
     command: &Runes,
     effects: &mut Effects,
 ) -> Result<(), EditFault>
-    ensures value { OnOk result (effects.new ≡ asked (job_for From command.now over.now.site.now []) effects.old) }
+    ensures value { OnOk result (effects.new ≡ with_job (job_for From command.now over.now.site.now []) effects.old) }
     ensures fault { IfErr result (λ e. e ≡ NoMemory) }
     ensures within { OnOk result ((t : List ℕ) → IsWithin t effects.old → IsWithin t effects.new) }
 {

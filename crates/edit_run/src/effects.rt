@@ -2,7 +2,7 @@
 
 ghost use Rattle.std.specs.Prelude.{◌≡◌, ◌≤◌, length, List, ℕ, OnOk};
 ghost use Rattle.sam_address.specs.Value.{IsInside};
-ghost use Rattle.edit_run.specs.Effects.{nothing, begun, changed, printed, asked};
+ghost use Rattle.edit_run.specs.Effects.{nothing, begin_at, with_change, with_print, with_job};
 ghost use Rattle.edit_run.specs.Within.{IsWithin};
 
 use am_text::{Items, Job, Jobs, NoMemory, Range, Rune, Runes};
@@ -37,7 +37,7 @@ impl Effects {
 
     /// A command with this range begins.
     pub(crate) fn begin(&mut self, range: Range)
-        ensures value { self.new ≡ begun range self.old }
+        ensures value { self.new ≡ begin_at range self.old }
         ensures within { (t : List ℕ) → IsInside t range → IsWithin t self.old → IsWithin t self.new }
     {
         self.last = range;
@@ -45,7 +45,7 @@ impl Effects {
 
     /// One change more: the text takes the place of the range. One that takes nothing and puts nothing isn't made.
     pub(crate) fn change(&mut self, q0: usize, q1: usize, text: Runes) -> Result<(), NoMemory>
-        ensures value { OnOk result (self.new ≡ changed q0 q1 text self.old) }
+        ensures value { OnOk result (self.new ≡ with_change q0 q1 text self.old) }
         ensures within { OnOk result ((t : List ℕ) → q0 ≤ q1 → q1 ≤ length t → IsWithin t self.old → IsWithin t self.new) }
     {
         if q0 == q1 && text.is_empty() {
@@ -57,7 +57,7 @@ impl Effects {
 
     /// More to be printed.
     pub(crate) fn print(&mut self, text: &[Rune]) -> Result<(), NoMemory>
-        ensures value { OnOk result (self.new ≡ printed text.now self.old) }
+        ensures value { OnOk result (self.new ≡ with_print text.now self.old) }
         ensures within { OnOk result ((t : List ℕ) → IsWithin t self.old → IsWithin t self.new) }
     {
         self.prints.append(text)?;
@@ -66,7 +66,7 @@ impl Effects {
 
     /// One request more.
     pub(crate) fn ask(&mut self, job: Job) -> Result<(), NoMemory>
-        ensures value { OnOk result (self.new ≡ asked job self.old) }
+        ensures value { OnOk result (self.new ≡ with_job job self.old) }
         ensures within { OnOk result ((t : List ℕ) → IsWithin t self.old → IsWithin t self.new) }
     {
         self.jobs.push(job)?;

@@ -4,9 +4,7 @@ ghost use Rattle.std.specs.Prelude.{◌≡◌, ◌+◌, ◌≤◌, length, List,
 ghost use Rattle.edit_run.specs.Told.{line_of};
 ghost use Rattle.edit_run.specs.Lines.{IsCursorOf};
 
-use am_text::{Letters, NoMemory, Rune};
-
-const NEWLINE: Rune = 10;
+use am_text::{Letters, NEWLINE, NoMemory};
 
 // How many newlines stand from a place to before another.
 #[tactic(auto, using(crate::proofs::Slices::counting), unfolding(crate::specs::Told::line_of))]
@@ -42,7 +40,7 @@ impl LineCursor {
     }
 
     // The number of the line that has a place.
-    fn counted<T: Letters>(&self, text: &T, place: usize) -> Result<u64, NoMemory>
+    fn line_number<T: Letters>(&self, text: &T, place: usize) -> Result<u64, NoMemory>
         requires place { place ≤ length (T.letters text.now) }
         requires cursor { IsCursorOf (T.letters text.now) self.now }
         ensures { IfOk result (λ line. line ≡ line_of (T.letters text.now) place) }
@@ -63,7 +61,7 @@ impl LineCursor {
         ensures value { IfOk result (λ line. line ≡ line_of (T.letters text.now) place) }
         ensures cursor { OnOk result (IsCursorOf (T.letters text.now) self.new) }
     {
-        let line = self.counted(text, place)?;
+        let line = self.line_number(text, place)?;
         self.place = place;
         self.line = line;
         Ok(line)

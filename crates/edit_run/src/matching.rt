@@ -7,10 +7,11 @@ ghost use Rattle.re_spans.specs.Successive.{AreInOrder};
 ghost use Rattle.sam_address.specs.Value.{IsInside};
 ghost use Rattle.edit_parts.specs.Tree.{ForEach, ForBetween, Where, WhereNot};
 ghost use Rattle.edit_parts.specs.Kinds.{loop_of};
-ghost use Rattle.edit_run.specs.Ranges.{matches_in, between, chosen, AreMatches, AreInside};
+ghost use Rattle.edit_run.specs.Ranges.{matches_in, between, choose, AreMatches, AreInside};
 ghost use Rattle.edit_run.specs.Meaning.{has_match, ranges_of};
 ghost use Rattle.edit_run.specs.Kept.{IsFor};
 
+use crate::doing::Over;
 use crate::kept::SHORT;
 use am_text::{Items, Letters, NoMemory, Range, Spans};
 use edit_parts::Loop;
@@ -225,29 +226,28 @@ fn where_not_matching<T: Letters>(
 
 /// The ranges for which a loop does its command.
 pub fn ranges_of<T: Letters>(
-    alloc: Global,
+    over: &Over<T>,
     kind: Loop,
     re: &Re,
     kept: &Option<Machine>,
-    text: &T,
     range: Range,
 ) -> Result<Spans, NoMemory>
     requires kept { IsFor (tree re.now) kept.now }
-    requires inside { IsInside (T.letters text.now) range }
-    ensures value { IfOk result (λ spans. spans ≡ ranges_of (loop_of kind) (tree re.now) (T.letters text.now) range) }
-    ensures inside { IfOk result (AreInside (T.letters text.now)) }
+    requires inside { IsInside (T.letters over.now.text.now) range }
+    ensures value { IfOk result (λ spans. spans ≡ ranges_of (loop_of kind) (tree re.now) (T.letters over.now.text.now) range) }
+    ensures inside { IfOk result (AreInside (T.letters over.now.text.now)) }
 {
     match kind {
-        Loop::ForEach => each_match(alloc, re, kept, text, range),
-        Loop::ForBetween => each_between(alloc, re, kept, text, range),
-        Loop::Where => where_matching(alloc, re, kept, text, range),
-        Loop::WhereNot => where_not_matching(alloc, re, kept, text, range),
+        Loop::ForEach => each_match(over.alloc, re, kept, over.text, range),
+        Loop::ForBetween => each_between(over.alloc, re, kept, over.text, range),
+        Loop::Where => where_matching(over.alloc, re, kept, over.text, range),
+        Loop::WhereNot => where_not_matching(over.alloc, re, kept, over.text, range),
     }
 }
 
 /// The spans that `s` replaces: that of number `nth`, from 1, or all from it on. There is none of number 0.
-pub fn chosen(spans: &[Range], nth: u64, all: bool) -> &[Range]
-    ensures { result.now ≡ chosen nth all spans.now }
+pub fn choose(spans: &[Range], nth: u64, all: bool) -> &[Range]
+    ensures { result.now ≡ choose nth all spans.now }
 {
     if nth == 0 || spans.len() < nth as usize {
         return &[];

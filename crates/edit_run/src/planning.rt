@@ -22,7 +22,7 @@ use edit_parts::Cmd;
 use std::alloc::Global;
 
 // The edits of changes over one text of `len` runes.
-fn spliced(alloc: Global, changes: &Edits, len: usize) -> Result<Edits, EditFault>
+fn edits_for(alloc: Global, changes: &Edits, len: usize) -> Result<Edits, EditFault>
     requires { AreChangesOf len changes.now }
     ensures edits { IfOk result (λ edits. edits ≡ shifted changes.now) }
     ensures faultless { OnOk result (are_in_sequence 0 changes.now ≡ true) }
@@ -85,7 +85,7 @@ pub fn changes<T: Letters>(
         jobs,
         last,
     } = doing.effects;
-    let edits = spliced(alloc, &changes, text.len())?;
+    let edits = edits_for(alloc, &changes, text.len())?;
     let dot = dot_after(last, edits.as_slice())?;
     Ok(EditPlan {
         edits,

@@ -4,28 +4,21 @@ ghost use Rattle.std.specs.Prelude.{◌≡◌, ◌≤◌, ◌++◌, true, false,
 ghost use Rattle.re_syntax.specs.Tree.{tree};
 ghost use Rattle.re_syntax.specs.Match.{Matches};
 ghost use Rattle.re_spans.specs.Groups.{groups_of};
-ghost use Rattle.edit_run.specs.Replacing.{text_of, group_text, is_group, plain, escaped, written, names_group, substituted};
+ghost use Rattle.edit_run.specs.Replacing.{text_of, group_text, is_group, plain, escaped, expand, names_group, substitute};
 
 use crate::texts::text_at;
-use am_text::{Items, Letters, NoMemory, Range, Rune, Runes};
+use am_text::{
+    AMPERSAND, BACKSLASH, DIGIT_0, DIGIT_9, Items, LETTER_N, Letters, NEWLINE, NoMemory, Range,
+    Rune, Runes,
+};
 use re_spans::{Groups, Re, groups};
 use std::alloc::Global;
-
-const BACKSLASH: Rune = 92;
-
-const AMPERSAND: Rune = 38;
-
-const NEWLINE: Rune = 10;
-
-const SMALL_N: Rune = 110;
-
-const DIGIT_0: Rune = 48;
 
 // Whether the rune is one of `1` to `9`.
 fn is_group(rune: Rune) -> bool
     ensures { result ≡ is_group rune }
 {
-    DIGIT_0 < rune && rune <= DIGIT_0 + 9
+    DIGIT_0 < rune && rune <= DIGIT_9
 }
 
 // Whether a text names a group.
@@ -116,7 +109,7 @@ fn put_escaped<T: Letters>(
         let group = group_at(groups, (rune - DIGIT_0) as usize);
         return put_group(alloc, text, group, made);
     }
-    if rune == SMALL_N {
+    if rune == LETTER_N {
         made.push(NEWLINE)
     } else {
         made.push(rune)
@@ -125,14 +118,14 @@ fn put_escaped<T: Letters>(
 
 // The text that is written so, for a match with this text and these groups.
 #[tactic(auto, using(crate::proofs::Naming::writing))]
-fn written<T: Letters>(
+fn expand<T: Letters>(
     alloc: Global,
     text: &T,
     with: &[Rune],
     whole: &[Rune],
     groups: &[Option<Range>],
 ) -> Result<Runes, NoMemory>
-    ensures { IfOk result (λ made. made ≡ written whole.now (group_text (T.letters text.now) groups.now) false with.now) }
+    ensures { IfOk result (λ made. made ≡ expand whole.now (group_text (T.letters text.now) groups.now) false with.now) }
 {
     let mut made = Items::new(alloc);
     let mut behind = false;
@@ -157,7 +150,7 @@ fn written<T: Letters>(
 /// What takes the place of a match: the text as it is written, in which `&` is the match, `\1` to `\9` are its groups,
 /// `\n` is a newline, and `\` before any other rune is that rune.
 #[tactic(auto, using(crate::proofs::Naming::substituted_by))]
-pub fn substituted<T: Letters>(
+pub fn substitute<T: Letters>(
     alloc: Global,
     re: &Re,
     text: &T,
@@ -167,9 +160,9 @@ pub fn substituted<T: Letters>(
     requires order { span.q0 ≤ span.q1 }
     requires within { span.q1 ≤ length (T.letters text.now) }
     requires matches { Matches (tree re.now) (T.letters text.now) span.q0 span.q1 }
-    ensures { IfOk result (λ made. made ≡ substituted (tree re.now) (T.letters text.now) with.now span) }
+    ensures { IfOk result (λ made. made ≡ substitute (tree re.now) (T.letters text.now) with.now span) }
 {
     let whole = text_at(alloc, text, span)?;
     let groups = groups_wanted(alloc, re, text, span, names_group(with))?;
-    written(alloc, text, with, whole.as_slice(), groups.as_slice())
+    expand(alloc, text, with, whole.as_slice(), groups.as_slice())
 }

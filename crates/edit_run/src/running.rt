@@ -10,7 +10,7 @@ ghost use Rattle.edit_run.specs.Faults.{IsFault};
 ghost use Rattle.edit_run.specs.Kept.{inner_of, IsFor, OfFirst, IsKept, AreOf};
 ghost use Rattle.edit_run.specs.Ranges.{AreInside};
 ghost use Rattle.edit_run.specs.Lines.{IsCursorOf};
-ghost use Rattle.edit_run.specs.Meaning.{acted, meaning, for_each, list_done, ranges_of};
+ghost use Rattle.edit_run.specs.Meaning.{do_action, meaning, for_each, do_list, ranges_of};
 ghost use Rattle.edit_run.specs.Within.{IsWithin};
 
 use crate::acts::{
@@ -20,7 +20,7 @@ use crate::acts::{
 use crate::doing::{Doing, Over};
 use crate::fault::EditFault;
 use crate::kept::{Kept, behind, made_for};
-use crate::matching::{chosen, matches_in, ranges_of};
+use crate::matching::{choose, matches_in, ranges_of};
 use am_text::{JobKind, Letters, Range};
 use edit_parts::Loop::{ForBetween, ForEach, Where, WhereNot};
 use edit_parts::{Act, Cmd, Loop};
@@ -90,8 +90,8 @@ fn run_all<T: Letters>(
     requires dot { IsInside (T.letters over.now.text.now) dot }
     requires cursor { IsCursorOf (T.letters over.now.text.now) doing.old.cursor }
     requires within { IsWithin (T.letters over.now.text.now) doing.old.effects }
-    ensures value { OnOk result (list_done commands.now (T.letters over.now.text.now) over.now.site.now dot doing.old.effects ≡ Ok doing.new.effects) }
-    ensures fault { IfErr result (λ e. IsFault e (list_done commands.now (T.letters over.now.text.now) over.now.site.now dot doing.old.effects)) }
+    ensures value { OnOk result (do_list commands.now (T.letters over.now.text.now) over.now.site.now dot doing.old.effects ≡ Ok doing.new.effects) }
+    ensures fault { IfErr result (λ e. IsFault e (do_list commands.now (T.letters over.now.text.now) over.now.site.now dot doing.old.effects)) }
     ensures cursor { OnOk result (IsCursorOf (T.letters over.now.text.now) doing.new.cursor) }
     ensures within { OnOk result (IsWithin (T.letters over.now.text.now) doing.new.effects) }
 {
@@ -123,7 +123,7 @@ fn repeat<T: Letters>(
     ensures within { OnOk result (IsWithin (T.letters over.now.text.now) doing.new.effects) }
 {
     let machine = &kept.machine;
-    let ranges = ranges_of(over.alloc, kind, re, machine, over.text, doing.effects.last)?;
+    let ranges = ranges_of(over, kind, re, machine, doing.effects.last)?;
     let ranges = ranges.as_slice();
     match kept.inner() {
         [inner, ..] => run_each(cmd, inner, over, ranges, doing),
@@ -148,8 +148,8 @@ fn act<T: Letters>(
     requires dot { IsInside (T.letters over.now.text.now) dot }
     requires cursor { IsCursorOf (T.letters over.now.text.now) doing.old.cursor }
     requires within { IsWithin (T.letters over.now.text.now) doing.old.effects }
-    ensures value { OnOk result (acted (action act.now) (T.letters over.now.text.now) over.now.site.now dot doing.old.effects.last doing.old.effects ≡ Ok doing.new.effects) }
-    ensures fault { IfErr result (λ e. IsFault e (acted (action act.now) (T.letters over.now.text.now) over.now.site.now dot doing.old.effects.last doing.old.effects)) }
+    ensures value { OnOk result (do_action (action act.now) (T.letters over.now.text.now) over.now.site.now dot doing.old.effects.last doing.old.effects ≡ Ok doing.new.effects) }
+    ensures fault { IfErr result (λ e. IsFault e (do_action (action act.now) (T.letters over.now.text.now) over.now.site.now dot doing.old.effects.last doing.old.effects)) }
     ensures cursor { OnOk result (IsCursorOf (T.letters over.now.text.now) doing.new.cursor) }
     ensures within { OnOk result (IsWithin (T.letters over.now.text.now) doing.new.effects) }
 {
@@ -163,7 +163,7 @@ fn act<T: Letters>(
         Act::Delete => delete(over.alloc, range, effects),
         Act::Subst { nth, re, with, all } => {
             let spans = matches_in(over.alloc, re, &kept.machine, over.text, range)?;
-            let spans = chosen(spans.as_slice(), *nth, *all);
+            let spans = choose(spans.as_slice(), *nth, *all);
             replace_all(over, re, with.as_slice(), spans, effects)
         }
         Act::Move(to) => move_text(over, to, dot, range, effects),

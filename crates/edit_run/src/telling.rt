@@ -4,19 +4,11 @@ ghost use Rattle.std.specs.Prelude.{◌≡◌, ◌++◌, IfOk, OnOk};
 ghost use Rattle.std.specs.Fmt.{decimal};
 ghost use Rattle.sam_address.specs.Value.{IsInside};
 ghost use Rattle.edit_run.specs.Lines.{IsCursorOf};
-ghost use Rattle.edit_run.specs.Told.{one_or_two, lines_told, places_told, told};
+ghost use Rattle.edit_run.specs.Told.{one_or_two, lines_text, places_text, line_with_name};
 
 use crate::line_cursor::LineCursor;
-use am_text::{Items, Letters, NoMemory, Range, Rune, Runes, decimal};
+use am_text::{COLON, COMMA, HASH, Items, Letters, NEWLINE, NoMemory, Range, Rune, Runes, decimal};
 use std::alloc::Global;
-
-const NEWLINE: Rune = 10;
-
-const COLON: Rune = 58;
-
-const COMMA: Rune = 44;
-
-const SHARP: Rune = 35;
 
 // Puts a number in decimal at the end, behind a mark.
 #[tactic(auto, using(crate::proofs::Slices::putting))]
@@ -47,8 +39,8 @@ fn one_or_two(alloc: Global, mark: &[Rune], a: u64, b: u64) -> Result<Runes, NoM
 
 // The name, what is told of it, and a newline.
 #[tactic(auto, using(crate::proofs::Slices::putting))]
-fn told(alloc: Global, name: &[Rune], place: &[Rune]) -> Result<Runes, NoMemory>
-    ensures { IfOk result (λ made. made ≡ told name.now place.now) }
+fn line_with_name(alloc: Global, name: &[Rune], place: &[Rune]) -> Result<Runes, NoMemory>
+    ensures { IfOk result (λ made. made ≡ line_with_name name.now place.now) }
 {
     let mut made = Items::copied(alloc, name)?;
     made.push(COLON)?;
@@ -58,7 +50,7 @@ fn told(alloc: Global, name: &[Rune], place: &[Rune]) -> Result<Runes, NoMemory>
 }
 
 /// The lines of a range: of its first and its last rune, or the one that has its place where it is null.
-pub fn lines_told<T: Letters>(
+pub fn lines_text<T: Letters>(
     alloc: Global,
     name: &[Rune],
     text: &T,
@@ -67,19 +59,19 @@ pub fn lines_told<T: Letters>(
 ) -> Result<Runes, NoMemory>
     requires range { IsInside (T.letters text.now) range }
     requires cursor { IsCursorOf (T.letters text.now) cursor.old }
-    ensures value { IfOk result (λ made. made ≡ told name.now (lines_told (T.letters text.now) range)) }
+    ensures value { IfOk result (λ made. made ≡ line_with_name name.now (lines_text (T.letters text.now) range)) }
     ensures cursor { OnOk result (IsCursorOf (T.letters text.now) cursor.new) }
 {
     let first = cursor.line_at(text, range.q0)?;
     let last = cursor.line_at(text, range.q0.max(range.q1.saturating_sub(1)))?;
     let lines = one_or_two(alloc, &[], first, last)?;
-    told(alloc, name, lines.as_slice())
+    line_with_name(alloc, name, lines.as_slice())
 }
 
 /// The places of a range.
-pub fn places_told(alloc: Global, name: &[Rune], range: Range) -> Result<Runes, NoMemory>
-    ensures { IfOk result (λ made. made ≡ told name.now (places_told range)) }
+pub fn places_text(alloc: Global, name: &[Rune], range: Range) -> Result<Runes, NoMemory>
+    ensures { IfOk result (λ made. made ≡ line_with_name name.now (places_text range)) }
 {
-    let places = one_or_two(alloc, &[SHARP], range.q0 as u64, range.q1 as u64)?;
-    told(alloc, name, places.as_slice())
+    let places = one_or_two(alloc, &[HASH], range.q0 as u64, range.q1 as u64)?;
+    line_with_name(alloc, name, places.as_slice())
 }

@@ -10,12 +10,12 @@ use Rattle.edit_parts.specs.Tree.{Command}
 use Rattle.edit_parts.specs.Pieces.{Piece, IsPiece}
 use Rattle.edit_parts.proofs.Once.{begins_with}
 use Rattle.sam_syntax.specs.Limits.{is_large, is_deep}
-use Rattle.sam_syntax.specs.Joined.{Reading, begin, is_done, whole, joined_on}
+use Rattle.sam_syntax.specs.Joined.{Reading, begin, is_done, whole, after_pieces}
 use Rattle.sam_syntax.specs.Grammar.{BeginsWith, IsEdit, GoesOn}
 use Rattle.sam_syntax.specs.Answer.{IsBad, IsInLimits, Refuses}
 use Rattle.edit_trees.specs.Cuts.{Cut}
 use Rattle.edit_trees.specs.Pieces.{first_piece}
-use Rattle.edit_trees.specs.Edits.{with_piece, pieces_within, pieces_of, command_joined, command_of_pieces, edit_of, small_one, small_edit}
+use Rattle.edit_trees.specs.Edits.{with_piece, pieces_within, pieces_of, whole_command, command_of_pieces, edit_of, small_one, small_edit}
 use Rattle.edit_trees.proofs.Cuts.{some_same}
 use Rattle.edit_trees.proofs.Pieces.{piece_some, piece_only}
 use Rattle.edit_trees.proofs.Local.{piece_local}
@@ -72,7 +72,7 @@ pub edit_some : (text : List ℕ) (c : Command) → IsEdit text c → edit_of te
 unfolding edit_of
 edit_some text c (ps, r, x, e, done, same) =
     ap command_of_pieces (row_pieces ps text (length text) (omega arith) x)
-    ∙ ap command_joined e
+    ∙ ap whole_command e
     ∙ ap (λ (b : Bool). if b then Some (whole r) else None) done
     ∙ ap (λ (d : Command). Some d) (sym same)
 
@@ -80,17 +80,17 @@ pub edit_only : (text : List ℕ) (c : Command) → edit_of text ≡ Some c → 
 unfolding edit_of
 edit_only text c e = go (pieces_of text) refl e
   where
-    ends : (ps : List Piece) (r : Reading) → BeginsWith ps text [] → joined_on (Some begin) ps ≡ Some r → (b : Bool) → is_done r ≡ b → (if b then Some (whole r) else None) ≡ Some c → IsEdit text c
+    ends : (ps : List Piece) (r : Reading) → BeginsWith ps text [] → after_pieces (Some begin) ps ≡ Some r → (b : Bool) → is_done r ≡ b → (if b then Some (whole r) else None) ≡ Some c → IsEdit text c
     ends ps r x f true d h = (ps, r, x, f, d, sym (some_same (whole r) c h))
     ends ps r x f false d h = absurd cc
 
-    joins : (ps : List Piece) → BeginsWith ps text [] → (o : Option Reading) → joined_on (Some begin) ps ≡ o → command_joined o ≡ Some c → IsEdit text c
+    joins : (ps : List Piece) → BeginsWith ps text [] → (o : Option Reading) → after_pieces (Some begin) ps ≡ o → whole_command o ≡ Some c → IsEdit text c
     joins ps x None f h = absurd cc
     joins ps x (Some r) f h = ends ps r x f (is_done r) refl h
 
     go : (o : Option (List Piece)) → pieces_of text ≡ o → command_of_pieces o ≡ Some c → IsEdit text c
     go None f h = absurd cc
-    go (Some ps) f h = joins ps (pieces_row (length text) text ps f) (joined_on (Some begin) ps) refl h
+    go (Some ps) f h = joins ps (pieces_row (length text) text ps f) (after_pieces (Some begin) ps) refl h
 
 -- ---- what reading answers
 

@@ -9,7 +9,7 @@ use Rattle.addr_syntax.specs.Tree as address
 use Rattle.addr_syntax.specs.Marks.{next_of, is_digit, begins_piece}
 use Rattle.addr_syntax.specs.Pieces as part
 use Rattle.addr_syntax.specs.Pieces.{IsNumber}
-use Rattle.addr_syntax.specs.Joined.{Reading, begin, whole, joined_on}
+use Rattle.addr_syntax.specs.Joined.{Reading, begin, whole, after_pieces}
 use Rattle.addr_syntax.specs.Grammar.{Begins}
 use Rattle.addr_syntax.specs.Addresses.{expression_of, first_piece, tree_of_pieces}
 use Rattle.addr_syntax.proofs.Bodies.{whole_expression}
@@ -19,7 +19,7 @@ use Rattle.addr_syntax.proofs.Fronts.{piece_first, not_both}
 use Rattle.edit_parts.specs.Kinds.{is_next}
 use Rattle.edit_parts.specs.Texts.{after_blanks, unescaped, Quoted, Text, Nth, All}
 use Rattle.edit_trees.specs.Cuts.{Cut, cut_as, cut_on, before}
-use Rattle.edit_trees.specs.Texts.{closed, lines, text, quoted, number_from, nth, all, row_within, first_address}
+use Rattle.edit_trees.specs.Texts.{up_to_slash, lines, text, quoted_expression, number_from, nth, all, row_within, first_address}
 use Rattle.edit_trees.proofs.Cuts.{some_same, cut_same, none_cut, as_only, on_only, before_only}
 use Rattle.edit_trees.proofs.Texts.{closed_some, closed_only, lines_some, lines_only, number_some, number_only, expression_some, expression_only}
 
@@ -28,7 +28,7 @@ use Rattle.edit_trees.proofs.Texts.{closed_some, closed_only, lines_some, lines_
 pub text_some : (t u rest : List ℕ) → Text t u rest → text u ≡ Some (t, rest)
 text_some t [] rest x = absurd x
 text_some t (c ∷ cs) rest (inl x) =
-    let f : closed false cs ≡ Some (x.1, rest) = ap (closed false) x.3.0 ∙ closed_some false x.1 rest x.3.1 in
+    let f : up_to_slash false cs ≡ Some (x.1, rest) = ap (up_to_slash false) x.3.0 ∙ closed_some false x.1 rest x.3.1 in
     rw (ap (λ z. z == 47) x.0) (ap (cut_as (unescaped false)) f ∙ ap (λ (l : List ℕ). Some (l, rest)) (sym x.2))
 text_some t (c ∷ cs) rest (inr x) =
     let f : lines true cs ≡ Some (t, rest) = ap (lines true) x.1.0 ∙ lines_some true t rest x.1.1 x.1.2 in
@@ -40,8 +40,8 @@ text_only t (c ∷ cs) rest h = go (c == 47) refl (c == 10) refl
   where
     go : (a : Bool) → (c == 47) ≡ a → (b : Bool) → (c == 10) ≡ b → Text t (c ∷ cs) rest
     go true e b f =
-        let g : cut_as (unescaped false) (closed false cs) ≡ Some (t, rest) = rw e at h in
-        let x = as_only (unescaped false) (closed false cs) t rest g in
+        let g : cut_as (unescaped false) (up_to_slash false cs) ≡ Some (t, rest) = rw e at h in
+        let x = as_only (unescaped false) (up_to_slash false cs) t rest g in
         inl (eqb-true c 47 e, x.0, sym x.2, closed_only false cs x.0 rest x.1)
     go false e true f =
         let g : lines true cs ≡ Some (t, rest) = rw (e, f) at h in
@@ -55,20 +55,20 @@ text_only t (c ∷ cs) rest h = go (c == 47) refl (c == 10) refl
 abbrev expression_before : List ℕ → List ℕ → Cut expression.Tree
 expression_before body behind = before (expression_of 47 body) behind
 
-pub quoted_some : (re : expression.Tree) (u rest : List ℕ) → Quoted re u rest → quoted u ≡ Some (re, rest)
+pub quoted_some : (re : expression.Tree) (u rest : List ℕ) → Quoted re u rest → quoted_expression u ≡ Some (re, rest)
 quoted_some re u rest (body, e, x) =
-    ap quoted e
+    ap quoted_expression e
     ∙ ap (λ (o : Cut (List ℕ)). cut_on o expression_before) (closed_some false body rest (whole_expression 47 body re x))
     ∙ ap (λ (o : Option expression.Tree). before o rest) (expression_some 47 body re x)
 
-pub quoted_only : (re : expression.Tree) (u rest : List ℕ) → quoted u ≡ Some (re, rest) → Quoted re u rest
+pub quoted_only : (re : expression.Tree) (u rest : List ℕ) → quoted_expression u ≡ Some (re, rest) → Quoted re u rest
 quoted_only re [] rest h = absurd (none_cut re rest h)
 quoted_only re (c ∷ cs) rest h = go (c == 47) refl
   where
     go : (b : Bool) → (c == 47) ≡ b → Quoted re (c ∷ cs) rest
     go true e =
-        let g : cut_on (closed false cs) expression_before ≡ Some (re, rest) = rw e at h in
-        let x = on_only (closed false cs) expression_before re rest g in
+        let g : cut_on (up_to_slash false cs) expression_before ≡ Some (re, rest) = rw e at h in
+        let x = on_only (up_to_slash false cs) expression_before re rest g in
         let b = before_only (expression_of 47 x.0) x.1 re rest x.3 in
         let o = closed_only false cs x.0 x.1 x.2 in
         (x.0, ap (λ z. z ∷ cs) (eqb-true c 47 e) ∙ ap (λ (l : List ℕ). 47 ∷ l) (o.0 ∙ ap (λ (l : List ℕ). x.0 ++ 47 ∷ l) b.1), expression_only 47 x.0 re b.0)
@@ -221,7 +221,7 @@ address_only a u rest h =
     let b = before_only (tree_of_pieces (Some x.0)) x.1 a rest x.3 in
     go x.0 x.1 x.2 b.0 b.1
   where
-    joins : (p : part.Piece) (ps : Row) (m : List ℕ) → IsRow (p ∷ ps) u m → m ≡ rest → (o : Option Reading) → joined_on (Some begin) (p ∷ ps) ≡ o → option_map whole o ≡ Some a → Begins a u rest
+    joins : (p : part.Piece) (ps : Row) (m : List ℕ) → IsRow (p ∷ ps) u m → m ≡ rest → (o : Option Reading) → after_pieces (Some begin) (p ∷ ps) ≡ o → option_map whole o ≡ Some a → Begins a u rest
     joins p ps m y same None f g = absurd cc
     joins p ps m y same (Some r) f g =
         let z = subst (λ (l : List ℕ). IsRow (p ∷ ps) u l) same y in
@@ -229,4 +229,4 @@ address_only a u rest h =
 
     go : (ps : Row) (m : List ℕ) → row_within (length u) u ≡ Some (ps, m) → tree_of_pieces (Some ps) ≡ Some a → m ≡ rest → Begins a u rest
     go [] m e f same = absurd cc
-    go (p ∷ ps) m e f same = joins p ps m (row_only (length u) u (p ∷ ps) m e) same (joined_on (Some begin) (p ∷ ps)) refl f
+    go (p ∷ ps) m e f same = joins p ps m (row_only (length u) u (p ∷ ps) m e) same (after_pieces (Some begin) (p ∷ ps)) refl f

@@ -15,7 +15,7 @@ use Rattle.edit_parts.specs.declared.kind.Loop.TheVariants.{ForEach, ForBetween,
 use Rattle.edit_parts.specs.declared.kind.Kind.{Kind}
 use Rattle.edit_parts.specs.declared.kind.Kind.TheVariants as kind
 use Rattle.edit_trees.specs.Cuts.{Cut, cut_as, cut_on}
-use Rattle.edit_trees.specs.Texts.{closed, rest_of_line, text, quoted, nth, all, first_address}
+use Rattle.edit_trees.specs.Texts.{up_to_slash, rest_of_line, text, quoted_expression, nth, all, first_address}
 use Rattle.edit_trees.specs.Pieces.{loop_expression, substitution, place, action, piece_by, first_piece}
 use Rattle.edit_trees.proofs.Cuts.{cut_same, none_cut, as_only, on_only}
 use Rattle.edit_trees.proofs.Texts.{closed_some, closed_only, rest_some, rest_only}
@@ -36,7 +36,7 @@ loop_only : (k : Loop) (re : expression.Tree) (u rest : List ℕ) → loop_expre
 loop_only ForEach re u rest h = go (is_next 47 (next_of u)) refl
   where
     go : (b : Bool) → is_next 47 (next_of u) ≡ b → LoopsOver ForEach re u rest
-    go true e = let g : quoted u ≡ Some (re, rest) = rw e at h in inl (quoted_only re u rest g)
+    go true e = let g : quoted_expression u ≡ Some (re, rest) = rw e at h in inl (quoted_only re u rest g)
     go false e =
         let g : ◌≡◌ {A = Cut expression.Tree} (Some (whole_lines, u)) (Some (re, rest)) = rw e at h in
         let s = cut_same whole_lines re u rest g in
@@ -51,28 +51,28 @@ abbrev from_end : ℕ → expression.Tree → List ℕ → List ℕ → Cut Acti
 from_end n re with end = cut_as (tree.Substitute n re with) (all (after_blanks end))
 
 abbrev from_text : ℕ → expression.Tree → List ℕ → Cut Action
-from_text n re with_from = cut_on (closed false with_from) (from_end n re)
+from_text n re with_from = cut_on (up_to_slash false with_from) (from_end n re)
 
 abbrev from_slash : ℕ → List ℕ → Cut Action
-from_slash n slash = cut_on (quoted slash) (from_text n)
+from_slash n slash = cut_on (quoted_expression slash) (from_text n)
 
 substitution_some : (act : Action) (u rest : List ℕ) → SubstitutesAs act u rest → substitution u ≡ Some (act, rest)
 substitution_some act u rest (n, re, with, global, e, (l, m, k, a, q, c, g)) =
     ap (λ (o : Cut ℕ). cut_on o from_slash) (nth_some n u l a)
     ∙ ap (λ (o : Cut expression.Tree). cut_on o (from_text n)) (quoted_some re l m q)
-    ∙ ap (λ (o : Cut (List ℕ)). cut_on o (from_end n re)) (ap (closed false) c.0 ∙ closed_some false with k c.1)
+    ∙ ap (λ (o : Cut (List ℕ)). cut_on o (from_end n re)) (ap (up_to_slash false) c.0 ∙ closed_some false with k c.1)
     ∙ ap (cut_as (tree.Substitute n re with)) (all_some global (after_blanks k) rest g)
     ∙ ap (λ (x : Action). Some (x, rest)) (sym e)
 
-substituted : (act : Action) (u l m k rest : List ℕ) (n : ℕ) (re : expression.Tree) (with : List ℕ) (global : Bool) → nth u ≡ Some (n, l) → quoted l ≡ Some (re, m) → closed false m ≡ Some (with, k) → all (after_blanks k) ≡ Some (global, rest) → tree.Substitute n re with global ≡ act → SubstitutesAs act u rest
+substituted : (act : Action) (u l m k rest : List ℕ) (n : ℕ) (re : expression.Tree) (with : List ℕ) (global : Bool) → nth u ≡ Some (n, l) → quoted_expression l ≡ Some (re, m) → up_to_slash false m ≡ Some (with, k) → all (after_blanks k) ≡ Some (global, rest) → tree.Substitute n re with global ≡ act → SubstitutesAs act u rest
 substituted act u l m k rest n re with global a q c g e =
     (n, re, with, global, sym e, (l, m, k, nth_only n u l a, quoted_only re l m q, closed_only false m with k c, all_only global (after_blanks k) rest g))
 
 substitution_only : (act : Action) (u rest : List ℕ) → substitution u ≡ Some (act, rest) → SubstitutesAs act u rest
 substitution_only act u rest h =
     let x = on_only (nth u) from_slash act rest h in
-    let y = on_only (quoted x.1) (from_text x.0) act rest x.3 in
-    let z = on_only (closed false y.1) (from_end x.0 y.0) act rest y.3 in
+    let y = on_only (quoted_expression x.1) (from_text x.0) act rest x.3 in
+    let z = on_only (up_to_slash false y.1) (from_end x.0 y.0) act rest y.3 in
     let w = as_only (tree.Substitute x.0 y.0 z.0) (all (after_blanks z.1)) act rest z.3 in
     substituted act u x.1 y.1 z.1 rest x.0 y.0 z.0 w.0 x.2 y.2 z.2 w.1 w.2
 

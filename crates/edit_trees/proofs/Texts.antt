@@ -5,7 +5,7 @@ use Rattle.std.specs.Char.{is_ascii_digit}
 use Rattle.std.proofs.lemmas.Bool.{eqb-true}
 use Rattle.am_text.specs.Number.{number_after}
 use Rattle.re_syntax.specs.Tree as expression
-use Rattle.re_syntax.specs.Build.{finished}
+use Rattle.re_syntax.specs.Build.{level_tree}
 use Rattle.re_syntax.specs.Grammar.{IsExpression}
 use Rattle.re_syntax.specs.Read as re
 use Rattle.re_syntax.proofs.Sound.{whole}
@@ -17,7 +17,7 @@ use Rattle.addr_syntax.proofs.Digits.{goes, step_true, step_false, number_none}
 use Rattle.edit_parts.specs.Kinds.{ends_line}
 use Rattle.edit_parts.specs.Texts.{are_lines, has_newline}
 use Rattle.edit_trees.specs.Cuts.{Cut, with_rune}
-use Rattle.edit_trees.specs.Texts.{closed, lines, rest_of_line, number_from}
+use Rattle.edit_trees.specs.Texts.{up_to_slash, lines, rest_of_line, number_from}
 use Rattle.edit_trees.proofs.Cuts.{some_same, cut_same, none_cut, as_only, and_three, and_last, and_middle, and_both, not_and, or_neither}
 
 abbrev with : (c : ℕ) → List ℕ → List ℕ
@@ -25,13 +25,13 @@ with c t = c ∷ t
 
 -- ---- up to a `/`
 
-pub closed_some : (e : Bool) (t rest : List ℕ) → is_whole 47 e t ≡ true → closed e (t ++ 47 ∷ rest) ≡ Some (t, rest)
+pub closed_some : (e : Bool) (t rest : List ℕ) → is_whole 47 e t ≡ true → up_to_slash e (t ++ 47 ∷ rest) ≡ Some (t, rest)
 closed_some true [] rest w = absurd cc
 closed_some false [] rest w = refl
 closed_some true (c ∷ cs) rest w = ap (with_rune c) (closed_some false cs rest w)
 closed_some false (c ∷ cs) rest w = go (47 == c) refl (λ x. closed_some (c == 92) cs rest x)
   where
-    go : (b : Bool) → (47 == c) ≡ b → (is_whole 47 (c == 92) cs ≡ true → closed (c == 92) (cs ++ 47 ∷ rest) ≡ Some (cs, rest)) → closed false (c ∷ cs ++ 47 ∷ rest) ≡ Some (c ∷ cs, rest)
+    go : (b : Bool) → (47 == c) ≡ b → (is_whole 47 (c == 92) cs ≡ true → up_to_slash (c == 92) (cs ++ 47 ∷ rest) ≡ Some (cs, rest)) → up_to_slash false (c ∷ cs ++ 47 ∷ rest) ≡ Some (c ∷ cs, rest)
     go true e on = let f : false ≡ true = rw e at w in absurd cc
     go false e on =
         let f : is_whole 47 (c == 92) cs ≡ true = rw e at w in
@@ -40,24 +40,24 @@ closed_some false (c ∷ cs) rest w = go (47 == c) refl (λ x. closed_some (c ==
 abbrev Closes : Bool → List ℕ → List ℕ → List ℕ → Type 0
 Closes e text t rest = (text ≡ t ++ 47 ∷ rest) × (is_whole 47 e t ≡ true)
 
-pub closed_only : (e : Bool) (text t rest : List ℕ) → closed e text ≡ Some (t, rest) → Closes e text t rest
+pub closed_only : (e : Bool) (text t rest : List ℕ) → up_to_slash e text ≡ Some (t, rest) → Closes e text t rest
 closed_only true [] t rest h = absurd (none_cut t rest h)
 closed_only false [] t rest h = absurd (none_cut t rest h)
 closed_only true (c ∷ cs) t rest h =
-    let x = as_only (with c) (closed false cs) t rest h in
+    let x = as_only (with c) (up_to_slash false cs) t rest h in
     let on = closed_only false cs x.0 rest x.1 in
     subst (λ (u : List ℕ). Closes true (c ∷ cs) u rest) x.2 (ap (with c) on.0, on.1)
 closed_only false (c ∷ cs) t rest h = go (47 == c) refl (λ u f. closed_only (c == 92) cs u rest f)
   where
-    go : (b : Bool) → (47 == c) ≡ b → ((u : List ℕ) → closed (c == 92) cs ≡ Some (u, rest) → Closes (c == 92) cs u rest) → Closes false (c ∷ cs) t rest
+    go : (b : Bool) → (47 == c) ≡ b → ((u : List ℕ) → up_to_slash (c == 92) cs ≡ Some (u, rest) → Closes (c == 92) cs u rest) → Closes false (c ∷ cs) t rest
     go true e on =
         let f : ◌≡◌ {A = Cut (List ℕ)} (Some ([], cs)) (Some (t, rest)) = rw e at h in
         let s = cut_same [] t cs rest f in
         let first : 47 ≡ c = eqb-true 47 c e in
         subst (λ (u : List ℕ). Closes false (c ∷ cs) u rest) s.0 (ap (λ z. z ∷ cs) (sym first) ∙ ap (with 47) s.1, refl)
     go false e on =
-        let f : with_rune c (closed (c == 92) cs) ≡ Some (t, rest) = rw e at h in
-        let x = as_only (with c) (closed (c == 92) cs) t rest f in
+        let f : with_rune c (up_to_slash (c == 92) cs) ≡ Some (t, rest) = rw e at h in
+        let x = as_only (with c) (up_to_slash (c == 92) cs) t rest f in
         let o = on x.0 x.1 in
         subst (λ (u : List ℕ). Closes false (c ∷ cs) u rest) x.2 (ap (with c) o.0, rw e o.1)
 
@@ -191,7 +191,7 @@ pub expression_some : (d : ℕ) (text : List ℕ) (r : expression.Tree) → IsEx
 unfolding expression_of
 expression_some d text r is =
     let c = complete_read (Some d) text r is in
-    ap tree_read c.reads_to ∙ ap (λ (t : Bool). cond t (finished c.reading.stack.top) None) c.complete ∙ c.finished_is
+    ap tree_read c.reads_to ∙ ap (λ (t : Bool). cond t (level_tree c.reading.stack.top) None) c.complete ∙ c.finished_is
 
 pub expression_only : (d : ℕ) (text : List ℕ) (r : expression.Tree) → expression_of d text ≡ Some r → IsExpression (Some d) text r
 unfolding expression_of
@@ -200,7 +200,7 @@ expression_only d text r e = of (re.reads (Some (re.begin (Some d))) text) refl 
     of : (o : Option re.Reading) → re.reads (Some (re.begin (Some d))) text ≡ o → tree_read o ≡ Some r → IsExpression (Some d) text r
     of None is = λ h. absurd cc
     of (Some m) is =
-        elim (re.is_complete m.scanner) as (λ t. re.is_complete m.scanner ≡ t → cond t (finished m.stack.top) None ≡ Some r → IsExpression (Some d) text r) [
+        elim (re.is_complete m.scanner) as (λ t. re.is_complete m.scanner ≡ t → cond t (level_tree m.stack.top) None ≡ Some r → IsExpression (Some d) text r) [
           | true ↦ λ t h. let w = whole (Some d) text m is t in subst (λ (s : expression.Tree). IsExpression (Some d) text s) (some_same w.result r (sym w.finished_is ∙ h)) w.written
           | false ↦ λ t h. absurd cc
         ] refl

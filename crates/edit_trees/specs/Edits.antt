@@ -4,10 +4,11 @@ use Rattle.std.specs.Option.{option_map}
 use Rattle.edit_parts.specs.Tree.{Command}
 use Rattle.edit_parts.specs.Pieces.{Piece}
 use Rattle.sam_syntax.specs.Limits.{is_large, is_deep}
-use Rattle.sam_syntax.specs.Joined.{Reading, begin, is_done, whole, joined_on}
+use Rattle.sam_syntax.specs.Joined.{Reading, begin, is_done, whole, after_pieces}
 use Rattle.edit_trees.specs.Cuts.{Cut}
 use Rattle.edit_trees.specs.Pieces.{first_piece}
 
+-- a piece before those of what stands behind it
 abbrev pub with_piece : Cut Piece → (List ℕ → Option (List Piece)) → Option (List Piece)
 with_piece None pieces = None
 with_piece (Some (p, behind)) pieces = option_map (λ ps. p ∷ ps) (pieces behind)
@@ -23,13 +24,14 @@ abbrev pub pieces_of : List ℕ → Option (List Piece)
 pieces_of text = pieces_within (length text) text
 
 -- the command of all that was joined, where no block is open
-abbrev pub command_joined : Option Reading → Option Command
-command_joined None = None
-command_joined (Some r) = if is_done r then Some (whole r) else None
+abbrev pub whole_command : Option Reading → Option Command
+whole_command None = None
+whole_command (Some r) = if is_done r then Some (whole r) else None
 
+-- the command of pieces, if there is one
 abbrev pub command_of_pieces : Option (List Piece) → Option Command
 command_of_pieces None = None
-command_of_pieces (Some ps) = command_joined (joined_on (Some begin) ps)
+command_of_pieces (Some ps) = whole_command (after_pieces (Some begin) ps)
 
 -- the command that a text is
 unfoldable pub edit_of : List ℕ → Option Command

@@ -1,5 +1,6 @@
 -- The piece of a command that a text begins with.
 use Rattle.std.specs.Prelude.{ℕ, ◌==◌, false, List, [], ◌∷◌, Some, None, if◌then◌else◌}
+use Rattle.am_text.specs.Ascii.{hash, slash}
 use Rattle.re_syntax.specs.Tree as expression
 use Rattle.addr_syntax.specs.Marks.{next_of}
 use Rattle.edit_parts.specs.Tree as tree
@@ -14,24 +15,24 @@ use Rattle.edit_parts.specs.declared.kind.Loop.TheVariants.{ForEach, ForBetween,
 use Rattle.edit_parts.specs.declared.kind.Kind.{Kind}
 use Rattle.edit_parts.specs.declared.kind.Kind.TheVariants as kind
 use Rattle.edit_trees.specs.Cuts.{Cut, cut_as, cut_on}
-use Rattle.edit_trees.specs.Texts.{closed, rest_of_line, text, quoted, nth, all, first_address}
+use Rattle.edit_trees.specs.Texts.{up_to_slash, rest_of_line, text, quoted_expression, nth, all, first_address}
 
 -- the expression of a loop; `x` may be written without one
 abbrev pub loop_expression : Loop → List ℕ → Cut expression.Tree
-loop_expression ForEach behind = if is_next 47 (next_of behind) then quoted behind else Some (whole_lines, behind)
-loop_expression ForBetween behind = quoted behind
-loop_expression Where behind = quoted behind
-loop_expression WhereNot behind = quoted behind
+loop_expression ForEach behind = if is_next slash (next_of behind) then quoted_expression behind else Some (whole_lines, behind)
+loop_expression ForBetween behind = quoted_expression behind
+loop_expression Where behind = quoted_expression behind
+loop_expression WhereNot behind = quoted_expression behind
 
 -- the parts of `s`: its number, `/re/`, `t/`, and maybe a `g`
 abbrev pub substitution : List ℕ → Cut Action
 substitution behind =
-    cut_on (nth behind) (λ n slash. cut_on (quoted slash) (λ re with_from. cut_on (closed false with_from) (λ with end. cut_as (tree.Substitute n re with) (all (after_blanks end)))))
+    cut_on (nth behind) (λ n re_from. cut_on (quoted_expression re_from) (λ re with_from. cut_on (up_to_slash false with_from) (λ with end. cut_as (tree.Substitute n re with) (all (after_blanks end)))))
 
 -- the lines of `=`, or the runes of `=#`
 abbrev pub place : List ℕ → Cut Action
 place [] = Some (tree.LineNumber, [])
-place (c ∷ cs) = if c == 35 then Some (tree.RuneNumber, cs) else Some (tree.LineNumber, c ∷ cs)
+place (c ∷ cs) = if c == hash then Some (tree.RuneNumber, cs) else Some (tree.LineNumber, c ∷ cs)
 
 -- what stands behind a letter
 abbrev pub action : Letter → List ℕ → Cut Action
@@ -54,6 +55,7 @@ piece_by kind.Closes c behind = Some (Closes, behind)
 piece_by (kind.Acts l) c behind = cut_as Does (action l behind)
 piece_by kind.Other c behind = None
 
+-- the piece that a text begins with
 abbrev pub first_piece : List ℕ → Cut Piece
 first_piece [] = None
 first_piece (c ∷ cs) = piece_by (kind_of c) c cs

@@ -1,4 +1,4 @@
-//! What holds of the commands of all texts. The function has a law as its contract, and does nothing.
+//! Laws of the definitions. The function has a law as its contract, and does nothing.
 
 ghost use Rattle.edit_trees.specs.Laws.{EditsAreThose};
 

@@ -22,6 +22,7 @@ pub record BookState : Type 0 where
   pub reads : List Asker
   pub latest : ℕ
 
+-- no window has an event file
 abbrev pub empty_book : BookState
 empty_book = record { files = []; owners = []; reads = []; latest = 0 }
 
@@ -37,6 +38,7 @@ window_of owners opening = unwrap_or (owner_of owners opening) 0
 abbrev pub file_on : BookState → ℕ → EventFile
 file_on s opening = file_of s.files (window_of s.owners opening)
 
+-- whether a window's event file is open
 abbrev pub is_open_window : BookState → ℕ → Bool
 is_open_window s window = has_opening (file_of s.files window)
 
@@ -44,9 +46,11 @@ is_open_window s window = has_opening (file_of s.files window)
 abbrev pub is_living : BookState → ℕ → Bool
 is_living s opening = is_enlisted (file_on s opening) opening
 
+-- a window's event file is open
 abbrev pub IsOpen : BookState → ℕ → Type 0
 IsOpen s window = IsTrue (is_open_window s window)
 
+-- an opening is there
 abbrev pub IsLiving : BookState → ℕ → Type 0
 IsLiving s opening = IsTrue (is_living s opening)
 
@@ -54,6 +58,7 @@ IsLiving s opening = IsTrue (is_living s opening)
 abbrev pub recorded_of : BookState → ℕ → ℕ → Option Recorded
 recorded_of s window number = numbered (file_of s.files window).items number
 
+-- the item of this number
 abbrev pub item_of : BookState → ℕ → ℕ → Option Item
 item_of s window number = option_map (λ e. e.item) (recorded_of s window number)
 
@@ -61,11 +66,13 @@ item_of s window number = option_map (λ e. e.item) (recorded_of s window number
 abbrev pub is_taken_of : BookState → ℕ → ℕ → Bool
 is_taken_of s window number = has_taken (recorded_of s window number)
 
+-- the item of this number was taken, and isn't written back
 abbrev pub IsTaken : BookState → ℕ → ℕ → Type 0
 IsTaken s window number = IsTrue (is_taken_of s window number)
 
 -- ---- the calls
 
+-- with this event file of a window
 abbrev pub with_window : BookState → ℕ → EventFile → BookState
 with_window s window f = record s { files = with_file window f s.files }
 
@@ -73,6 +80,7 @@ with_window s window f = record s { files = with_file window f s.files }
 abbrev pub next_opening : BookState → ℕ
 next_opening s = length s.owners + 1
 
+-- an opening more of a window's event file
 abbrev pub after_add : BookState → ℕ → BookState
 after_add s window = record s {
   files = with_file window (enlisted (file_of s.files window) (next_opening s)) s.files;
@@ -83,9 +91,11 @@ after_add s window = record s {
 abbrev pub next_number : BookState → ℕ → ℕ
 next_number s window = length (file_of s.files window).items + 1
 
+-- an item more of a window
 abbrev pub after_put : BookState → ℕ → Item → BookState
 after_put s window item = with_window s window (with_item (file_of s.files window) item)
 
+-- whether a read has to wait
 abbrev pub read_waits : BookState → Asker → Bool
 read_waits s r = must_wait (queue_of (file_on s r.opening)) r
 
@@ -93,15 +103,18 @@ read_waits s r = must_wait (queue_of (file_on s r.opening)) r
 abbrev pub piece_for : BookState → Asker → Piece
 piece_for s r = piece_of (queue_of (file_on s r.opening)) r
 
+-- what the piece of a read leaves, at an entry
 abbrev pub after_answer : BookState → Asker → ℕ → BookState
 after_answer s r at = record s {
   files = with_file (window_of s.owners r.opening) (given (file_on s r.opening) r at) s.files;
   latest = at;
 }
 
+-- the answer to a read
 abbrev pub asked_of : BookState → Asker → Asked
 asked_of s r = if read_waits s r then Waits else Now (piece_for s r)
 
+-- the read waits, or took its piece
 abbrev pub after_ask : BookState → Asker → ℕ → BookState
 after_ask s r at = if read_waits s r then record s { reads = s.reads ++ r ∷ []; latest = at } else after_answer s r at
 
@@ -113,28 +126,35 @@ is_ready files owners r = not (must_wait (queue_of (file_of files (window_of own
 abbrev pub next_of : BookState → Option Asker
 next_of s = find (is_ready s.files s.owners) s.reads
 
+-- the oldest read that can be answered, and what it gets
 abbrev pub served_of : BookState → Option (Asker × Piece)
 served_of s = option_map (λ r. (r, piece_for s r)) (next_of s)
 
+-- that read waits no more
 abbrev pub without_next : BookState → BookState
 without_next s = record s { reads = without_first (is_ready s.files s.owners) s.reads }
 
+-- a read waits no more, and took its piece
 abbrev pub after_next : Option Asker → BookState → ℕ → BookState
 after_next None s at = s
 after_next (Some r) s at = after_answer (without_next s) r at
 
+-- the oldest read that can be answered was
 abbrev pub after_serve : BookState → ℕ → BookState
 after_serve s at = after_next (next_of s) s at
 
+-- the item of a window that an event message names, or why there is none
 abbrev pub found_of : BookState → ℕ → BackMsg → Result ℕ BackFault
 found_of s window m = found_in m (file_of s.files window).items
 
+-- an item is written back by an entry
 abbrev pub after_written : BookState → ℕ → ℕ → ℕ → BookState
 after_written s window number at = record s {
   files = with_file window (with_written (file_of s.files window) number at) s.files;
   latest = at;
 }
 
+-- the read of a tag on a connection waits no more
 abbrev pub after_cancel : BookState → ℕ → ℕ → BookState
 after_cancel s conn tag = record s { reads = without_read s.reads conn tag }
 
@@ -147,6 +167,7 @@ after_leave s opening at = record {
   latest = at;
 }
 
+-- whether a read is on an opening of this window
 abbrev pub is_on_window : List ℕ → ℕ → Asker → Bool
 is_on_window owners window r = window_of owners r.opening == window
 

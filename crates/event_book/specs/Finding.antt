@@ -10,9 +10,11 @@ use Rattle.event_book.specs.declared.lives.Recorded.{Recorded}
 use Rattle.event_book.specs.declared.finding.BackFault.{BackFault}
 use Rattle.event_book.specs.declared.finding.BackFault.TheVariants.{Already, NoSuch}
 
+-- whether two ranges are the same
 abbrev pub same_range : Range → Range → Bool
 same_range a b = (a.q0 == b.q0) && (a.q1 == b.q1)
 
+-- whether an expansion has this range
 abbrev pub expands_to : Option (Range × List ℕ) → Range → Bool
 expands_to None range = false
 expands_to (Some e) range = same_range e.0 range
@@ -22,9 +24,11 @@ abbrev pub fits : BackMsg → Item → Bool
 fits m item =
     (sort_letter m.sort == sort_letter item.sort) && (same_range item.range m.range || expands_to item.expanded m.range)
 
+-- a taken item that fits, and isn't written back
 abbrev pub is_open_fit : BackMsg → Recorded → Bool
 is_open_fit m e = is_taken e.life && fits m e.item
 
+-- an item that fits, and is written back
 abbrev pub is_back_fit : BackMsg → Recorded → Bool
 is_back_fit m e = is_back e.life && fits m e.item
 
@@ -34,10 +38,12 @@ or_else (Some later) passes n = Some later
 or_else None passes n = if passes then Some n else None
 
 module _ {A : Type 0} where
+  -- the number of the last that passes, the first having this number
   abbrev pub last_from : (A → Bool) → ℕ → List A → Option ℕ
   last_from p n [] = None
   last_from p n (x ∷ xs) = or_else (last_from p (suc n) xs) (p x) n
 
+-- the item that was found, or why there is none
 abbrev pub found_or : Option ℕ → Bool → Result ℕ BackFault
 found_or (Some number) written = Ok number
 found_or None written = if written then Err Already else Err NoSuch

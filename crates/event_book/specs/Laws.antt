@@ -27,10 +27,12 @@ settled_at (Taken opening at) = Some at
 settled_at (Back opening at back) = Some at
 settled_at (Dropped at) = Some at
 
+-- what holds where no entry settled it; else the entry is from low to high, and this holds of it
 abbrev pub Follows : Option ℕ → ℕ → ℕ → Type 0 → (ℕ → Type 0) → Type 0
 Follows None low high pending settled = pending
 Follows (Some at) low high pending settled = (low ≤ at) × (at ≤ high) × settled at
 
+-- no item was taken or dropped
 abbrev pub all_pending : List Recorded → Bool
 all_pending es = list_all pends es
 
@@ -39,6 +41,7 @@ abbrev pub InOrder : ℕ → ℕ → List Recorded → Type 0
 InOrder low high [] = Unit {0}
 InOrder low high (e ∷ es) = Follows (settled_at e.life) low high (all_pending es ≡ true) (λ at. InOrder at high es)
 
+-- each item was taken or dropped
 abbrev pub none_pending : List Recorded → Bool
 none_pending es = list_all (λ e. not (pends e)) es
 
@@ -67,9 +70,11 @@ abbrev pub last_spelled : ℕ → List ℕ → List Recorded → List ℕ
 last_spelled opening last [] = last
 last_spelled opening last (e ∷ es) = last_spelled opening (if took opening e.life then spelling e.item else last) es
 
+-- the messages of the items that an opening took, in order
 abbrev pub spelled : BookState → ℕ → List ℕ
 spelled s opening = spelled_in opening (file_on s opening).items
 
+-- what an opening has left
 abbrev pub carry : BookState → ℕ → List ℕ
 carry s opening = carry_of (file_on s opening).openings opening
 
@@ -83,6 +88,7 @@ given_to s opening = take (length (spelled s opening) - length (carry s opening)
 abbrev pub IsOwned : List ℕ → ℕ → ℕ → Type 0
 IsOwned owners window opening = owner_of owners opening ≡ Some window
 
+-- these openings are of this window
 abbrev pub AllOwned : List ℕ → ℕ → List OpenCarry → Type 0
 AllOwned owners window [] = Unit {0}
 AllOwned owners window (c ∷ cs) = IsOwned owners window c.opening × AllOwned owners window cs
@@ -94,6 +100,7 @@ named (Taken opening at) = Some opening
 named (Back opening at back) = Some opening
 named (Dropped at) = None
 
+-- the openings that these items name are of this window
 abbrev pub AllNamed : List ℕ → ℕ → List Recorded → Type 0
 AllNamed owners window [] = Unit {0}
 AllNamed owners window (e ∷ es) = IfSome (named e.life) (IsOwned owners window) × AllNamed owners window es
@@ -104,6 +111,7 @@ pub record IsRest (items : List Recorded) (opening : ℕ) (rest : List ℕ) : Ty
   pub joined : before ++ rest ≡ spelled_in opening items
   pub proper : length rest ≤ length (last_spelled opening [] items) - 1
 
+-- a window's event file as calls can make it
 pub record IsLawfulFile (owners : List ℕ) (latest window : ℕ) (f : EventFile) : Type 0 where
   pub order : InOrder 0 latest f.items
   pub closed : has_opening f ≡ false → none_pending f.items ≡ true
@@ -120,6 +128,7 @@ abbrev pub WindowsRise : ℕ → List WindowFile → Type 0
 WindowsRise low [] = Unit {0}
 WindowsRise low (f ∷ fs) = (low ≤ f.window) × WindowsRise (suc f.window) fs
 
+-- event files as calls can make them
 pub record IsLawful (s : BookState) : Type 0 where
   pub rise : WindowsRise 0 s.files
   pub files : (window : ℕ) → IsLawfulFile s.owners s.latest window (file_of s.files window)
@@ -133,6 +142,7 @@ pub record GivenIsSpelled (s : BookState) (opening : ℕ) : Type 0 where
   pub joined : given_to s opening ++ carry s opening ≡ spelled s opening
   pub proper : length (carry s opening) ≤ length (last_spelled opening [] (file_on s opening).items) - 1
 
+-- so it is with each opening that is there
 abbrev pub WhatAFidGets : BookState → Type 0
 WhatAFidGets s = (opening : ℕ) → IsLiving s opening → GivenIsSpelled s opening
 
@@ -146,6 +156,7 @@ abbrev pub AskAppends : Type 0
 AskAppends =
     (s : BookState) (r : Asker) (at : ℕ) (piece : Piece) → IsLawful s → IsLiving s r.opening → asked_of s r ≡ Now piece → given_to (after_ask s r at) r.opening ≡ given_to s r.opening ++ piece.bytes
 
+-- what an answer gives goes behind what was given before
 abbrev pub ServeAppends : Type 0
 ServeAppends =
     (s : BookState) (at : ℕ) (r : Asker) (piece : Piece) → IsLawful s → served_of s ≡ Some (r, piece) → given_to (after_serve s at) r.opening ≡ given_to s r.opening ++ piece.bytes
@@ -154,10 +165,12 @@ ServeAppends =
 abbrev pub Same : BookState → BookState → ℕ → Type 0
 Same s t opening = (given_to t opening ≡ given_to s opening) × (carry t opening ≡ carry s opening)
 
+-- a read gives nothing to other openings
 abbrev pub AskLeavesOthers : Type 0
 AskLeavesOthers =
     (s : BookState) (r : Asker) (at opening : ℕ) → IsLawful s → IsLiving s r.opening → opening ≢ r.opening → IsLiving s opening → Same s (after_ask s r at) opening
 
+-- an answer gives nothing to other openings
 abbrev pub ServeLeavesOthers : Type 0
 ServeLeavesOthers =
     (s : BookState) (at : ℕ) (r : Asker) (piece : Piece) (opening : ℕ) → IsLawful s → served_of s ≡ Some (r, piece) → opening ≢ r.opening → IsLiving s opening → Same s (after_serve s at) opening
@@ -173,6 +186,7 @@ pub record OthersGiveNothing (s : BookState) (opening : ℕ) : Type 0 where
   pub leave : (other at : ℕ) → other ≢ opening → Same s (after_leave s other at) opening
   pub delete : (window at : ℕ) → window ≢ window_of s.owners opening → Same s (after_delete s window at) opening
 
+-- no other call gives anything
 abbrev pub NothingElseGives : Type 0
 NothingElseGives = (s : BookState) (opening : ℕ) → IsLawful s → IsLiving s opening → OthersGiveNothing s opening
 
@@ -199,6 +213,7 @@ pub record OnlyAskAdds (s : BookState) : Type 0 where
   pub leave : (opening at : ℕ) → AddsNone s.reads (after_leave s opening at).reads
   pub delete : (window at : ℕ) → AddsNone s.reads (after_delete s window at).reads
 
+-- only a read that asks begins to wait
 abbrev pub OnlyAskWaits : Type 0
 OnlyAskWaits = (s : BookState) → OnlyAskAdds s
 
@@ -218,6 +233,7 @@ pub record IsTakenBy (s : BookState) (r : Asker) (at number : ℕ) : Type 0 wher
   pub bytes : (piece_for s r).bytes ≢ []
   pub others : (window other : ℕ) → (window ≢ window_of s.owners r.opening) ⊎ (other ≢ number) → recorded_of (after_answer s r at) window other ≡ recorded_of s window other
 
+-- an item is taken by the read that gets its first bytes
 abbrev pub TakenWithItsAnswer : Type 0
 TakenWithItsAnswer =
     (s : BookState) (r : Asker) (at number : ℕ) → IsLawful s → (piece_for s r).taken ≡ Some number → IsTakenBy s r at number
@@ -248,6 +264,7 @@ pub record OnlyAnswersTake (s : BookState) : Type 0 where
   pub leave : (opening at : ℕ) → TakesNone s (after_leave s opening at)
   pub delete : (window at : ℕ) → TakesNone s (after_delete s window at)
 
+-- only an answer takes items
 abbrev pub TakenByAnswers : Type 0
 TakenByAnswers = (s : BookState) → IsLawful s → OnlyAnswersTake s
 
@@ -260,6 +277,7 @@ pub record IsFound (s : BookState) (window number : ℕ) (m : BackMsg) : Type 0 
   pub taken : IsTaken s window number
   pub fit : fits m item ≡ true
 
+-- the item that is found is one that the message names
 abbrev pub FoundFits : Type 0
 FoundFits =
     (s : BookState) (window number : ℕ) (m : BackMsg) → found_of s window m ≡ Ok number → IsFound s window number m
@@ -271,6 +289,7 @@ WrittenOnce =
 
 -- ---- dropped at a close alone
 
+-- an item that is dropped at an entry
 abbrev pub dropped : Item → ℕ → Recorded
 dropped item at = record { item = item; life = Dropped at }
 
@@ -287,6 +306,7 @@ abbrev pub DropsAt : BookState → BookState → ℕ → Type 0
 DropsAt s t now =
     (window number : ℕ) (item : Item) (at : ℕ) → IsDropped t window number item at → IsDropped s window number item at ⊎ ((at ≡ now) × (is_open_window t window ≡ false))
 
+-- only what closes a file drops items
 pub record OnlyClosesDrop (s : BookState) : Type 0 where
   pub add : (window : ℕ) → DropsNone s (after_add s window)
   pub put : (window : ℕ) (item : Item) → DropsNone s (after_put s window item)
@@ -297,6 +317,7 @@ pub record OnlyClosesDrop (s : BookState) : Type 0 where
   pub leave : (opening at : ℕ) → DropsAt s (after_leave s opening at) at
   pub delete : (window at : ℕ) → DropsAt s (after_delete s window at) at
 
+-- so it is with each book
 abbrev pub DroppedAtClose : Type 0
 DroppedAtClose = (s : BookState) → IsLawful s → OnlyClosesDrop s
 
@@ -314,6 +335,7 @@ abbrev pub KeepsEnded : BookState → BookState → Type 0
 KeepsEnded s t =
     (window number : ℕ) (e : Recorded) → recorded_of s window number ≡ Some e → is_ended e.life ≡ true → recorded_of t window number ≡ Some e
 
+-- no call changes an item that was written back or dropped
 pub record AllKeepEnded (s : BookState) : Type 0 where
   pub add : (window : ℕ) → KeepsEnded s (after_add s window)
   pub put : (window : ℕ) (item : Item) → KeepsEnded s (after_put s window item)
@@ -324,5 +346,6 @@ pub record AllKeepEnded (s : BookState) : Type 0 where
   pub leave : (opening at : ℕ) → KeepsEnded s (after_leave s opening at)
   pub delete : (window at : ℕ) → KeepsEnded s (after_delete s window at)
 
+-- so it is with each book
 abbrev pub EndedStay : Type 0
 EndedStay = (s : BookState) → IsLawful s → AllKeepEnded s

@@ -15,6 +15,7 @@ is_pending (Taken opening at) = false
 is_pending (Back opening at back) = false
 is_pending (Dropped at) = false
 
+-- whether an item is pending
 abbrev pub pends : Recorded → Bool
 pends e = is_pending e.life
 
@@ -25,6 +26,7 @@ is_taken (Taken opening at) = true
 is_taken (Back opening at back) = false
 is_taken (Dropped at) = false
 
+-- whether there is an item, which was taken
 abbrev pub has_taken : Option Recorded → Bool
 has_taken None = false
 has_taken (Some e) = is_taken e.life
@@ -52,9 +54,11 @@ drop_life at (Taken opening taken_at) = Taken opening taken_at
 drop_life at (Back opening taken_at back) = Back opening taken_at back
 drop_life at (Dropped dropped_at) = Dropped dropped_at
 
+-- dropped at an entry, where it was pending
 abbrev pub with_drop : ℕ → Recorded → Recorded
 with_drop at e = record { item = e.item; life = drop_life at e.life }
 
+-- each that was pending is dropped
 abbrev pub all_dropped : ℕ → List Recorded → List Recorded
 all_dropped at es = map (with_drop at) es
 
@@ -65,6 +69,7 @@ back_life at (Taken opening taken_at) = Back opening taken_at at
 back_life at (Back opening taken_at back) = Back opening taken_at back
 back_life at (Dropped dropped_at) = Dropped dropped_at
 
+-- written back at an entry, where it was taken
 abbrev pub with_back : ℕ → Recorded → Recorded
 with_back at e = record { item = e.item; life = back_life at e.life }
 
@@ -77,6 +82,7 @@ written_back at (suc (suc n)) (e ∷ es) = e ∷ written_back at (suc n) es
 
 -- the member with this number, from 1
 module _ {A : Type 0} where
+  -- the one of this number, from 1
   abbrev pub numbered : List A → ℕ → Option A
   numbered xs zero = None
   numbered xs (suc n) = slice_get xs n

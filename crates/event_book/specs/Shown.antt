@@ -17,6 +17,7 @@ AreSettled n [] = Unit {0}
 AreSettled zero (e ∷ es) = Unit {0}
 AreSettled (suc n) (e ∷ es) = (pends e ≡ false) × AreSettled n es
 
+-- with this life at a place
 abbrev pub with_life_at : Life → ℕ → List Recorded → List Recorded
 with_life_at life n [] = []
 with_life_at life zero (e ∷ es) = record { item = e.item; life = life } ∷ es

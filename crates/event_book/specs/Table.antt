@@ -5,9 +5,11 @@ use Rattle.am_text.specs.Twice.{Twice, both, IsSteady}
 use Rattle.event_book.specs.WindowFiles.{EventFile, WindowFile, unopened, listed, with_file}
 use Rattle.event_book.specs.declared.file_table.FileAt.{FileAt}
 
+-- an event file as it is
 abbrev pub present_of : FileAt → EventFile
 present_of r = r.file.present
 
+-- an event file as it was at the last keep
 abbrev pub kept_of : FileAt → EventFile
 kept_of r = r.file.kept
 
@@ -32,6 +34,7 @@ is_at window k [] = false
 is_at window zero (r ∷ rs) = r.window == window
 is_at window (suc k) (r ∷ rs) = is_at window k rs
 
+-- whether the event file of this window is there
 abbrev pub has_window : ℕ → List FileAt → Bool
 has_window window rs = list_any (λ r. r.window == window) rs
 
@@ -44,6 +47,7 @@ pub record IsTracked (windows : List ℕ) (r : FileAt) : Type 0 where
   pub touched : (not r.changed || is_touched windows r.window) ≡ true
   pub steady : r.changed ≡ false → IsSteady r.file
 
+-- so it is with each
 abbrev pub AreTracked : List ℕ → List FileAt → Type 0
 AreTracked windows [] = Unit {0}
 AreTracked windows (r ∷ rs) = IsTracked windows r × AreTracked windows rs
@@ -57,6 +61,7 @@ changed_in window f (r ∷ rs) = (if r.window == window then f r else r) ∷ cha
 abbrev pub with_present : FileAt → FileAt
 with_present r = record { window = r.window; changed = false; file = both r.file.present }
 
+-- with what was kept as what is present
 abbrev pub with_kept : FileAt → FileAt
 with_kept r = record { window = r.window; changed = false; file = both r.file.kept }
 

@@ -17,6 +17,7 @@ pub record EventFile : Type 0 where
   pub items : List Recorded
   pub openings : List OpenCarry
 
+-- an event file that nobody opened
 abbrev pub unopened : EventFile
 unopened = record { items = []; openings = [] }
 
@@ -33,15 +34,19 @@ pub record IsQueueOf (items : Twice (List Recorded)) (queue : Twice WaitState) :
 abbrev pub file_in : Twice (List Recorded) → Twice WaitState → EventFile
 file_in items queue = record { items = items.present; openings = queue.present.openings }
 
+-- whether an event file is open
 abbrev pub has_opening : EventFile → Bool
 has_opening f = has_openings (queue_of f)
 
+-- whether it has this opening
 abbrev pub is_enlisted : EventFile → ℕ → Bool
 is_enlisted f opening = list_any (is_of opening) f.openings
 
+-- with an opening more
 abbrev pub enlisted : EventFile → ℕ → EventFile
 enlisted f opening = record f { openings = f.openings ++ record { opening = opening; carry = [] } ∷ [] }
 
+-- with an item more
 abbrev pub with_item : EventFile → Item → EventFile
 with_item f item = record f { items = f.items ++ fresh item ∷ [] }
 
@@ -57,6 +62,7 @@ given f r at = record {
   openings = (after_piece (queue_of f) r).openings;
 }
 
+-- with an item written back at an entry
 abbrev pub with_written : EventFile → ℕ → ℕ → EventFile
 with_written f number at = record f { items = written_back at number f.items }
 
@@ -65,21 +71,26 @@ abbrev pub left_with : List OpenCarry → ℕ → EventFile → EventFile
 left_with [] at f = record { items = all_dropped at f.items; openings = [] }
 left_with (c ∷ cs) at f = record { items = f.items; openings = c ∷ cs }
 
+-- without an opening; where it was the last, what is pending is dropped
 abbrev pub left : EventFile → ℕ → ℕ → EventFile
 left f opening at = left_with (without_opening f.openings opening) at f
 
+-- the event file of a window that is deleted
 abbrev pub deleted : EventFile → ℕ → EventFile
 deleted f at = record { items = all_dropped at f.items; openings = [] }
 
 -- ---- the files of all windows, by window; one without items and openings isn't listed
 
+-- the event file of a window
 pub record WindowFile : Type 0 where
   pub window : ℕ
   pub file : EventFile
 
+-- whether an event file has anything
 abbrev pub is_used : EventFile → Bool
 is_used f = nat_lt 0 (length f.items) || nat_lt 0 (length f.openings)
 
+-- with a window's event file, where it has anything
 abbrev pub listed : ℕ → EventFile → List WindowFile → List WindowFile
 listed window f fs = if is_used f then record { window = window; file = f } ∷ fs else fs
 

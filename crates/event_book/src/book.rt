@@ -3,6 +3,7 @@
 ghost use Rattle.std.specs.Prelude.{◌≡◌, ◌<◌, ◌≤◌, IfOk, OnOk, OnErr, option_copied, length};
 ghost use Rattle.std.specs.List.{list_any};
 ghost use Rattle.am_text.specs.Twice.{Twice, both, IsSteady};
+ghost use Rattle.wait_queue.specs.Limits.{max_openings};
 ghost use Rattle.wait_queue.specs.Reads.{is_read};
 ghost use Rattle.event_book.specs.WindowFiles.{ledger_of};
 ghost use Rattle.event_book.specs.BookState.{BookState, empty_book, is_open_window, is_living, IsOpen, IsLiving, IsTaken, is_taken_of, item_of, next_opening, after_add, next_number, after_put, asked_of, after_ask, served_of, after_serve, found_of, after_written, after_cancel, after_leave, after_delete};
@@ -82,7 +83,7 @@ impl Book {
 
     /// Adds an opening of the window's event file, and answers its number.
     pub fn add_opening(&mut self, window: u32) -> Result<u32, NoMemory>
-        requires { length self.old.present.owners < 4294967295 }
+        requires { length self.old.present.owners < max_openings }
         ensures opening { IfOk result (λ opening. opening ≡ next_opening self.old.present) }
         ensures ok { OnOk result (self.new ≡ record self.old { present = after_add self.old.present window }) }
         ensures err { OnErr result (self.new ≡ both self.old.kept) }

@@ -11,6 +11,7 @@ use Rattle.fid_table.specs.declared.undo.Undo.TheVariants.{Leave, Free, Restore,
 abbrev pub after_leave : Tables → Tables
 after_leave t = record t { sessions = take (length t.sessions - 1) t.sessions }
 
+-- a session with this fid again at a number in use
 abbrev pub restored_in : ℕ → Fid → Session → Session
 restored_in fid value s = record s { fids = set_value (nat_eq fid) s.fids value }
 
@@ -22,6 +23,7 @@ after_restore t conn fid value = record t { sessions = on_session (restored_in f
 abbrev pub after_unwait : Tables → Tables
 after_unwait t = record t { waiting = take (length t.waiting - 1) t.waiting }
 
+-- a growth taken back
 abbrev pub undone : Undo → Tables → Tables
 undone Leave t = after_leave t
 undone (Free conn fid) t = after_take t conn fid

@@ -3,6 +3,7 @@ use Rattle.std.specs.Prelude.{◌≡◌, ◌≢◌, ◌⊎◌, ◌+◌, ℕ, tru
 use Rattle.am_base.specs.Outside.{AreTold, HasRisen}
 use Rattle.am_base.specs.Seen.{Seen}
 use Rattle.am_base.specs.Written.{IsWhole, IsCut}
+use Rattle.ninep_types.specs.Limits.{no_tag}
 use Rattle.ninep_types.specs.declared.fault.WireFault.{WireFault}
 use Rattle.ninep_types.specs.declared.fault.WireFault.TheVariants.{Size}
 use Rattle.ninep_types.specs.declared.message.TBody.{TBody}
@@ -22,7 +23,7 @@ use Rattle.ninep_client.specs.Calls.{IsIdle, message_of}
 
 -- the tag of a message
 abbrev pub tag_alone : TBody → ℕ
-tag_alone body = if is_version body then 65535 else 1
+tag_alone body = if is_version body then no_tag else 1
 
 -- the bytes of a message
 abbrev pub spelled : TBody → List ℕ
@@ -50,6 +51,7 @@ abbrev pub reply_for : ℕ → ℕ → RMsg → Result RBody CallFault
 reply_for tag kind m =
     if tag == m.tag then (if answers kind m.body then outcome m.body else Err (fault.Kind (kind_r m.body))) else Err (fault.Unasked m.tag)
 
+-- the same of a message that was read, or what is wrong with it
 abbrev pub reply_read : ℕ → ℕ → Result RMsg WireFault → Result RBody CallFault
 reply_read tag kind (Err f) = Err (fault.Wire f)
 reply_read tag kind (Ok m) = reply_for tag kind m
@@ -90,11 +92,13 @@ abbrev pub reply_fault : Result RBody CallFault → Option CallFault
 reply_fault (Ok reply) = None
 reply_fault (Err e) = Some e
 
+-- what is wrong with the message that stands at the front, by its cut
 abbrev pub front_at : Cut → TBody → List ℕ → Option CallFault
 front_at Whole body bytes = reply_fault (reply_to body (first_of bytes))
 front_at More body bytes = None
 front_at (Broken size) body bytes = Some (fault.Wire Size)
 
+-- what is wrong with the message that stands at the front
 abbrev pub front_reply : TBody → List ℕ → Option CallFault
 front_reply body bytes = front_at (cut_of bytes) body bytes
 

@@ -2,6 +2,8 @@
 use Rattle.std.specs.Prelude.{◌≡◌, ◌≢◌, ◌≤◌, ◌<◌, ◌^◌, ℕ, Bool, true, false, ◌&&◌, List, [], ◌∷◌, ◌++◌, length, Option, Some, None, is_some, is_none, nat_lt, nat_le, ◌==◌, if◌then◌else◌}
 use Rattle.std.specs.Prelude.{position, slice_get, option_and_then}
 use Rattle.std.specs.List.{list_any}
+use Rattle.ninep_types.specs.Kinds.{tversion, tflush}
+use Rattle.ninep_types.specs.Limits.{max_msize, no_tag}
 use Rattle.ninep_types.specs.declared.message.TBody.{TBody}
 use Rattle.ninep_types.specs.declared.message.RBody.{RBody}
 use Rattle.ninep_types.specs.Spelling.{kind_t, size_t, BodyFits_t}
@@ -19,7 +21,7 @@ pub record Talk : Type 0 where
 
 -- nothing was asked and nothing came
 abbrev pub begun : Talk
-begun = record { unread = []; asked = []; msize = 65560; is_closed = false }
+begun = record { unread = []; asked = []; msize = max_msize; is_closed = false }
 
 -- a client: where its replies come from, where its messages go, and what it knows
 pub record State (R W : Type 0) : Type 0 where
@@ -29,6 +31,7 @@ pub record State (R W : Type 0) : Type 0 where
 
 -- ---- tags
 
+-- whether it is this tag
 abbrev pub has_tag : ℕ → Asked → Bool
 has_tag tag a = a.tag == tag
 
@@ -42,14 +45,16 @@ pub record IsLeastFree (asked : List Asked) (tag : ℕ) : Type 0 where
   pub free : is_asked tag asked ≡ false
   pub least : (less : ℕ) → less < tag → 1 ≤ less → is_asked less asked ≡ true
 
+-- whether a message is a Tversion
 abbrev pub is_version : TBody → Bool
-is_version body = kind_t body == 100
+is_version body = kind_t body == tversion
 
 -- the tag of a version message is NOTAG, that of another the least that is free
 abbrev pub HasTag : Bool → List Asked → ℕ → Type 0
-HasTag true asked tag = tag ≡ 65535
+HasTag true asked tag = tag ≡ no_tag
 HasTag false asked tag = IsLeastFree asked tag
 
+-- the tag with which a message is sent
 abbrev pub IsTagFor : TBody → List Asked → ℕ → Type 0
 IsTagFor body asked tag = HasTag (is_version body) asked tag
 
@@ -59,7 +64,7 @@ IsTagFor body asked tag = HasTag (is_version body) asked tag
 pub record MaySend (asked : List Asked) (body : TBody) : Type 0 where
   pub fits : BodyFits_t body
   pub size : size_t body < 2 ^ 32
-  pub no_flush : kind_t body ≢ 108
+  pub no_flush : kind_t body ≢ tflush
   pub alone : is_version body ≡ true → asked ≡ []
 
 -- the most tags that are asked at a time
@@ -90,6 +95,7 @@ closed t = record t { is_closed = true }
 abbrev pub waits_for : ℕ → Asked → Bool
 waits_for tag a = a.tag == tag && is_none a.reply
 
+-- whether the reply to this tag is kept here
 abbrev pub has_reply_of : ℕ → Asked → Bool
 has_reply_of tag a = a.tag == tag && is_some a.reply
 
@@ -97,6 +103,7 @@ has_reply_of tag a = a.tag == tag && is_some a.reply
 abbrev pub waiting_place : ℕ → List Asked → Option ℕ
 waiting_place tag asked = position (waits_for tag) asked
 
+-- the place at which the reply to a tag is kept
 abbrev pub reply_place : ℕ → List Asked → Option ℕ
 reply_place tag asked = position (has_reply_of tag) asked
 
@@ -105,5 +112,6 @@ abbrev pub reply_in : Option Asked → Option RBody
 reply_in None = None
 reply_in (Some a) = a.reply
 
+-- the reply that is kept for a tag, if one is
 abbrev pub reply_of : ℕ → List Asked → Option RBody
 reply_of tag asked = reply_in (option_and_then (slice_get asked) (reply_place tag asked))

@@ -150,5 +150,6 @@ pub record IsUnanswered (e : CallFault) (t : Talk) (body : TBody) (o i : Seen) (
   pub fails : WaitFails e tag (after_sent t tag body) i mid
   pub state : after ≡ shut e mid
 
+-- why a call gave no reply
 abbrev pub CallFails : CallFault → Talk → TBody → Seen → Seen → Talk → Type 0
 CallFails e t body o i after = IsUnsent e t body o i after ⊎ IsUnanswered e t body o i after

@@ -3,6 +3,8 @@ use Rattle.std.specs.Prelude.{◌≡◌, ◌≢◌, ◌+◌, ℕ, Bool, ◌||◌
 use Rattle.am_base.specs.Seen.{Seen}
 use Rattle.std.specs.List.{concat}
 use Rattle.am_base.specs.Outside.{then_told, AreTold, HasRisen}
+use Rattle.ninep_types.specs.Kinds.{rerror}
+use Rattle.ninep_types.specs.Limits.{max_msize}
 use Rattle.ninep_types.specs.declared.fault.WireFault.{WireFault}
 use Rattle.ninep_types.specs.declared.fault.WireFault.TheVariants.{Size}
 use Rattle.ninep_types.specs.declared.message.RMsg.{RMsg}
@@ -25,12 +27,13 @@ use Rattle.ninep_client.specs.Asking.{waiting_place, reply_place}
 
 -- a reply has the type byte after that of its message, or that of an error
 abbrev pub answers : ℕ → RBody → Bool
-answers kind body = kind_r body == 107 || kind_r body == kind + 1
+answers kind body = kind_r body == rerror || kind_r body == kind + 1
 
 -- the tags asked with a reply kept at a place
 abbrev pub kept_at : List Asked → ℕ → ℕ → RMsg → List Asked
 kept_at asked at kind m = slice_set asked at (record { tag = m.tag; kind = kind; reply = Some m.body })
 
+-- the type byte of the message that was sent with a tag
 abbrev pub kind_in : Option Asked → Option ℕ
 kind_in None = None
 kind_in (Some a) = Some a.kind
@@ -40,13 +43,16 @@ abbrev pub judged_as : ℕ → RMsg → Option ℕ → Result (ℕ × ℕ) CallF
 judged_as at m None = Err (Unasked m.tag)
 judged_as at m (Some kind) = if answers kind m.body then Ok (at, kind) else Err (Kind (kind_r m.body))
 
+-- the place and the type byte of a tag that waits, if the reply answers its message
 abbrev pub judged_at : List Asked → RMsg → Option ℕ → Result (ℕ × ℕ) CallFault
 judged_at asked m None = Err (Unasked m.tag)
 judged_at asked m (Some at) = judged_as at m (kind_in (slice_get asked at))
 
+-- the place and the type byte of the tag that a reply is for
 unfoldable pub judged : List Asked → RMsg → Result (ℕ × ℕ) CallFault
 judged asked m = judged_at asked m (waiting_place m.tag asked)
 
+-- the tags asked once a reply was kept, or why it isn't kept
 abbrev pub heard_as : List Asked → RMsg → Result (ℕ × ℕ) CallFault → Result (List Asked) CallFault
 heard_as asked m (Ok place) = Ok (kept_at asked place.0 place.1 m)
 heard_as asked m (Err f) = Err f
@@ -55,6 +61,7 @@ heard_as asked m (Err f) = Err f
 abbrev pub heard_reply : List Asked → RMsg → Result (List Asked) CallFault
 heard_reply asked m = heard_as asked m (judged asked m)
 
+-- the tags asked once a message was read
 abbrev pub heard_read : List Asked → Result RMsg WireFault → Result (List Asked) CallFault
 heard_read asked (Err f) = Err (Wire f)
 heard_read asked (Ok m) = heard_reply asked m
@@ -65,10 +72,12 @@ heard asked message = heard_read asked (r_of message)
 
 -- ---- what stands at the front of the bytes
 
+-- why there is no next state
 abbrev pub fault_in : Result (List Asked) CallFault → Option CallFault
 fault_in (Ok next) = None
 fault_in (Err f) = Some f
 
+-- what is wrong with the message, or its size, that stands at the front
 abbrev pub fault_at : Cut → List Asked → List ℕ → Option CallFault
 fault_at Whole asked bytes = fault_in (heard asked (first_of bytes))
 fault_at More asked bytes = None
@@ -80,6 +89,7 @@ front_fault asked bytes = fault_at (cut_of bytes) asked bytes
 
 -- ---- messages one after another, until the reply to a tag is kept
 
+-- goes on behind a message that was kept
 abbrev pub heard_next : (List Asked → Option (List Asked)) → Result (List Asked) CallFault → Option (List Asked)
 heard_next go (Ok next) = go next
 heard_next go (Err f) = None
@@ -104,6 +114,7 @@ pub record Hears (tag : ℕ) (asked : List Asked) (unread : List ℕ) (left left
 
 -- ---- a reply is given
 
+-- the tags asked without the one at a place
 abbrev pub without : Option ℕ → List Asked → List Asked
 without None asked = asked
 without (Some at) asked = remove asked at
@@ -114,7 +125,7 @@ answered tag asked = without (reply_place tag asked) asked
 
 -- the most bytes of a message, once this reply was given
 abbrev pub msize_after : RBody → ℕ → ℕ
-msize_after (r.Version msize version) most = min msize 65560
+msize_after (r.Version msize version) most = min msize max_msize
 msize_after (r.Auth aqid) most = most
 msize_after (r.Error ename) most = most
 msize_after r.Flush most = most
@@ -186,6 +197,7 @@ abbrev pub waiting_one : Option RBody → ℕ
 waiting_one None = 1
 waiting_one (Some body) = 0
 
+-- how many of the tags asked wait for their replies
 abbrev pub waiting : List Asked → ℕ
 waiting [] = 0
 waiting (a ∷ asked) = waiting_one a.reply + waiting asked

@@ -22,14 +22,17 @@ pub record Book : Type 0 where
   pub heard : List RMsg
   pub given : List RMsg
 
+-- nothing was asked
 abbrev pub clean : Book
 clean = record { asked = []; heard = []; given = [] }
 
+-- a message was heard, and its reply kept
 abbrev pub after_hearing : Book → Result (List Asked) CallFault → Result RMsg WireFault → Option Book
 after_hearing b (Err f) read = None
 after_hearing b (Ok next) (Err f) = None
 after_hearing b (Ok next) (Ok m) = Some (record b { asked = next; heard = b.heard ++ m ∷ [] })
 
+-- a reply was given
 abbrev pub after_giving : Book → ℕ → Option RBody → Option Book
 after_giving b tag None = None
 after_giving b tag (Some body) = Some (record b { asked = answered tag b.asked; given = b.given ++ record { tag = tag; body = body } ∷ [] })
@@ -41,10 +44,12 @@ after_deed b (Sends tag body) = if is_asked tag b.asked then None else Some (rec
 after_deed b (Hears message) = after_hearing b (heard b.asked message) (r_of message)
 after_deed b (Gives tag) = after_giving b tag (reply_of tag b.asked)
 
+-- goes on where a deed could be done
 abbrev pub then_deeds : (Book → Option Book) → Option Book → Option Book
 then_deeds go None = None
 then_deeds go (Some b) = go b
 
+-- after all deeds, if each could be done
 unfoldable pub after_deeds : List Deed → Book → Option Book
 after_deeds [] b = Some b
 after_deeds (d ∷ ds) b = then_deeds (after_deeds ds) (after_deed b d)
@@ -59,6 +64,7 @@ kept_one false tag reply = []
 kept_one true tag None = []
 kept_one true tag (Some body) = record { tag = tag; body = body } ∷ []
 
+-- the replies to a tag that are kept
 unfoldable pub kept : ℕ → List Asked → List RMsg
 kept tag [] = []
 kept tag (a ∷ asked) = kept_one (a.tag == tag) a.tag a.reply ++ kept tag asked

@@ -1,13 +1,14 @@
 //! The tags that are asked.
 
 ghost use Rattle.std.specs.Prelude.{◌≡◌, ◌≤◌, ◌<◌, ◌+◌, true, false, length, IfOk, IfErr, Some, None, Ok, Err, OnOk, OnErr, slice_get};
-ghost use Rattle.ninep_client.specs.Asking.{is_asked, has_tag, has_reply_of, waits_for, waiting_place, reply_place, reply_of, IsLeastFree, HasTag};
+ghost use Rattle.ninep_client.specs.Asking.{most_tags, is_asked, has_tag, has_reply_of, waits_for, waiting_place, reply_place, reply_of, IsLeastFree, HasTag};
 ghost use Rattle.ninep_client.specs.Hearing.{heard_reply, judged, kind_in, answered, waiting, IsOfReply};
 
 use crate::fault::CallFault;
-use crate::kinds::{answers, kind_r};
+use crate::kinds::answers;
 use am_text::Roomy;
-use ninep_types::{RBody, RMsg};
+use ninep_types::{NO_TAG, RBody, RMsg};
+use ninep_wire::r_kind;
 
 /// A tag that is asked.
 #[derive(Drop)]
@@ -18,9 +19,6 @@ pub struct Asked {
     /// The reply, once it has come.
     pub reply: Option<RBody>,
 }
-
-/// The tag of a version message.
-const NO_TAG: u16 = 65535;
 
 impl Asked {
     fn has_tag(&self, tag: u16) -> bool
@@ -52,7 +50,7 @@ pub(crate) fn is_asked(asked: &[Asked], tag: u16) -> bool
 // The least tag from 1 on that isn't asked.
 #[tactic(auto, using(crate::proofs::Tags::all_asked))]
 fn free_tag(asked: &[Asked]) -> u16
-    requires few { length asked.now < 1024 }
+    requires few { length asked.now < most_tags }
     ensures { IsLeastFree asked.now result }
 {
     let mut tag: u16 = 1;
@@ -64,7 +62,7 @@ fn free_tag(asked: &[Asked]) -> u16
 
 /// The tag for a message, a version message or another.
 pub(crate) fn tag_for(asked: &[Asked], version: bool) -> u16
-    requires few { length asked.now < 1024 }
+    requires few { length asked.now < most_tags }
     ensures { HasTag version asked.now result }
 {
     if version { NO_TAG } else { free_tag(asked) }
@@ -105,7 +103,7 @@ fn judged(asked: &[Asked], message: &RMsg) -> Result<(usize, u8), CallFault>
         return Err(CallFault::Unasked(message.tag));
     };
     if !answers(kind, &message.body) {
-        return Err(CallFault::Kind(kind_r(&message.body)));
+        return Err(CallFault::Kind(r_kind(&message.body)));
     }
     Ok((at, kind))
 }

@@ -2,6 +2,7 @@
 
 ghost use Rattle.std.specs.Prelude.{◌≡◌, ◌≢◌, ◌≤◌, ◌+◌, ◌==◌, [], length, Ok, true, is_some, nat_lt, IfOk, IfErr};
 ghost use Rattle.am_base.specs.Seen.{seen};
+ghost use Rattle.ninep_types.specs.Kinds.{rerror};
 ghost use Rattle.ninep_types.specs.Spelling.{kind_r, kind_t, size_t, Fits_t};
 ghost use Rattle.ninep_client.specs.Asking.{begun, MaySend, is_asked, reply_place};
 ghost use Rattle.ninep_client.specs.Calls.{Sends, SendFails, Gives, WaitFails, Calls, CallFails, shut};
@@ -10,12 +11,12 @@ ghost use Rattle.ninep_client.specs.Alone.{Replies, AloneFails};
 use crate::asked::{Asked, is_asked, reply_place, tag_for, take_reply};
 use crate::fault::{CallFault, closes, is_memory};
 use crate::hearing::bring;
-use crate::kinds::{MOST_BYTES, is_version, kind_t, msize_after, outcome_of};
+use crate::kinds::{is_version, msize_after, outcome_of};
 use crate::unread::Unread;
 use am_base::{Failed, Sink, Source, write_all};
 use am_text::Roomy;
-use ninep_types::{RBody, TBody, TMsg};
-use ninep_wire::{spellings_have_their_size, t_size, write_t};
+use ninep_types::{MAX_MSIZE, RBody, TBody, TMsg};
+use ninep_wire::{spellings_have_their_size, t_kind, t_size, write_t};
 use std::alloc::Global;
 use std::marker::Model;
 
@@ -69,7 +70,7 @@ impl<R: Source, W: Sink> Client<R, W> {
             sink,
             unread: Unread::new(alloc),
             asked: Roomy::new(alloc),
-            msize: MOST_BYTES,
+            msize: MAX_MSIZE,
             is_closed: false,
         }
     }
@@ -125,7 +126,7 @@ impl<R: Source, W: Sink> Client<R, W> {
         if MOST_TAGS <= self.asked.len() {
             return Err(CallFault::Tags);
         }
-        let kind = kind_t(&body);
+        let kind = t_kind(&body);
         let tag = tag_for(self.asked.as_slice(), is_version(&body));
         let message = TMsg { tag, body };
         if is_above(&message, self.msize) {
@@ -164,7 +165,7 @@ impl<R: Source, W: Sink> Client<R, W> {
         requires { is_asked tag self.old.talk.asked ≡ true }
         ensures ok { IfOk result (λ body. Gives tag self.old.talk
             (seen (R.told self.old.source) (R.told self.new.source)) body self.new.talk) }
-        ensures no_error { IfOk result (λ body. kind_r body ≢ 107) }
+        ensures no_error { IfOk result (λ body. kind_r body ≢ rerror) }
         ensures err { IfErr result (λ e. WaitFails e tag self.old.talk
             (seen (R.told self.old.source) (R.told self.new.source)) self.new.talk) }
         ensures kept { is_some (reply_place tag self.old.talk.asked) ≡ true → (R.told self.new.source).bytes ≡ (R.told self.old.source).bytes }
@@ -210,7 +211,7 @@ impl<R: Source, W: Sink> Client<R, W> {
         ensures ok { IfOk result (λ reply. Calls self.old.talk body
             (seen (W.told self.old.sink) (W.told self.new.sink))
             (seen (R.told self.old.source) (R.told self.new.source)) reply self.new.talk) }
-        ensures no_error { IfOk result (λ reply. kind_r reply ≢ 107) }
+        ensures no_error { IfOk result (λ reply. kind_r reply ≢ rerror) }
         ensures err { IfErr result (λ e. CallFails e self.old.talk body
             (seen (W.told self.old.sink) (W.told self.new.sink))
             (seen (R.told self.old.source) (R.told self.new.source)) self.new.talk) }
@@ -235,7 +236,7 @@ impl<R: Source, W: Sink> Client<R, W> {
         ensures ok { IfOk result (λ reply. Calls self.old.talk body
             (seen (W.told self.old.sink) (W.told self.new.sink))
             (seen (R.told self.old.source) (R.told self.new.source)) reply self.new.talk) }
-        ensures no_error { IfOk result (λ reply. kind_r reply ≢ 107) }
+        ensures no_error { IfOk result (λ reply. kind_r reply ≢ rerror) }
         ensures err { IfErr result (λ e. CallFails e self.old.talk body
             (seen (W.told self.old.sink) (W.told self.new.sink))
             (seen (R.told self.old.source) (R.told self.new.source)) self.new.talk) }

@@ -5,12 +5,9 @@ ghost use Rattle.am_base.specs.Outside.{HasRisen};
 ghost use Rattle.ninep_client.specs.Hearing.{Reads, ReadFails};
 
 use crate::fault::CallFault;
-use am_base::{Failed, Source};
+use am_base::{Failed, PIECE_LIMIT, Source};
 use std::alloc::Global;
 use std::marker::Model;
-
-// How many bytes one read asks for at most.
-const PIECE: usize = 8192;
 
 /// Bytes that came from a source, in order.
 #[derive(Drop)]
@@ -79,9 +76,9 @@ impl Unread {
         ensures later { (S.told source.old).faults ≤ (S.told source.new).faults }
         ensures cause { IfErr result (λ e. ReadFails e (S.told source.old).faults (S.told source.new).faults) }
     {
-        let mut piece = [0; PIECE];
+        let mut piece = [0; PIECE_LIMIT];
         self.drop_read();
-        if self.held.reserve(PIECE).is_err() {
+        if self.held.reserve(PIECE_LIMIT).is_err() {
             return Err(CallFault::NoMemory);
         }
         match source.read(&mut piece) {

@@ -12,13 +12,16 @@ pub record Cutting : Type 0 where
   pub given : List (List ℕ)
   pub left : List ℕ
 
+-- nothing was fed
 abbrev pub start : Cutting
 start = record { given = []; left = [] }
 
+-- after one call more
 abbrev pub after_call : Cutting → Call → Cutting
 after_call c (Feed piece) = record c { left = c.left ++ piece }
 after_call c Next = if is_whole (cut_of c.left) then record { given = c.given ++ first_of c.left ∷ []; left = behind_first c.left } else c
 
+-- after all calls
 abbrev pub after_calls : List Call → Cutting
 after_calls calls = fold after_call start calls
 

@@ -2,6 +2,7 @@
 use Rattle.std.specs.Prelude.{◌≡◌, ◌≤◌, ℕ, zero, suc, Bool, true, false, ◌&&◌, List, [], ◌∷◌, ◌++◌, length, take, drop, nat_lt, nat_le, if◌then◌else◌}
 use Rattle.std.specs.Int.{w32, from_le_bytes}
 use Rattle.ninep_cut.specs.declared.cut.Cut.{Cut}
+use Rattle.ninep_types.specs.Limits.{head_size, max_msize}
 use Rattle.ninep_cut.specs.declared.cut.Cut.TheVariants.{Whole, More, Broken}
 
 -- the size that the first four bytes tell
@@ -10,13 +11,13 @@ size_of bytes = from_le_bytes w32 (take 4 bytes)
 
 -- a message has 7 to 65,560 bytes
 abbrev pub is_lawful : ℕ → Bool
-is_lawful size = nat_le 7 size && nat_le size 65560
+is_lawful size = nat_le head_size size && nat_le size max_msize
 
 -- The bytes are one whole message: as many as their size field tells, and that is a lawful size.
 pub record IsMessage (bytes : List ℕ) : Type 0 where
   pub told : size_of bytes ≡ length bytes
-  pub least : 7 ≤ length bytes
-  pub most : length bytes ≤ 65560
+  pub least : head_size ≤ length bytes
+  pub most : length bytes ≤ max_msize
 
 -- what stands at the front: a whole message, less than a message, or a size that no message has
 unfoldable pub cut_of : List ℕ → Cut
@@ -24,6 +25,7 @@ cut_of bytes =
     if nat_lt (length bytes) 4 then More
     else (if is_lawful (size_of bytes) then (if nat_lt (length bytes) (size_of bytes) then More else Whole) else Broken (size_of bytes))
 
+-- whether a whole message stands at the front
 abbrev pub is_whole : Cut → Bool
 is_whole Whole = true
 is_whole More = false
@@ -33,6 +35,7 @@ is_whole (Broken size) = false
 abbrev pub first_of : List ℕ → List ℕ
 first_of bytes = take (size_of bytes) bytes
 
+-- the bytes behind the message that stands whole at the front
 abbrev pub behind_first : List ℕ → List ℕ
 behind_first bytes = drop (size_of bytes) bytes
 

@@ -1,6 +1,7 @@
 -- Laws of the cut.
 use Rattle.std.specs.Prelude.{◌≡◌, ◌≢◌, ◌≤◌, ◌<◌, ◌⊎◌, ◌↔◌, ℕ, List, ◌++◌, length, All}
 use Rattle.std.specs.List.{concat}
+use Rattle.ninep_types.specs.Limits.{head_size, max_msize}
 use Rattle.ninep_cut.specs.declared.cut.Cut.TheVariants.{Whole, More, Broken}
 use Rattle.ninep_cut.specs.Cuts.{size_of, IsMessage, cut_of, first_of, behind_first, then_cut, cut_stream}
 use Rattle.ninep_cut.specs.Calls.{Call, after_calls, fed}
@@ -17,7 +18,7 @@ MoreWhere = (bytes : List ℕ) → (cut_of bytes ≡ More) ↔ ((length bytes < 
 
 -- the first four are a size that no message has
 abbrev pub BrokenWhere : Type 0
-BrokenWhere = (bytes : List ℕ) (size : ℕ) → (cut_of bytes ≡ Broken size) ↔ ((4 ≤ length bytes) × (size ≡ size_of bytes) × ((size < 7) ⊎ (65560 < size)))
+BrokenWhere = (bytes : List ℕ) (size : ℕ) → (cut_of bytes ≡ Broken size) ↔ ((4 ≤ length bytes) × (size ≡ size_of bytes) × ((size < head_size) ⊎ (max_msize < size)))
 
 -- what is broken stays so, whatever is fed
 abbrev pub StaysBroken : Type 0
@@ -37,6 +38,7 @@ JoinsBytes = (bytes : List ℕ) → concat (cut_stream bytes).messages ++ (cut_s
 abbrev pub AreMessages : Type 0
 AreMessages = (bytes : List ℕ) → All IsMessage (cut_stream bytes).messages
 
+-- no message stands whole at the front of the rest
 abbrev pub LeavesNone : Type 0
 LeavesNone = (bytes : List ℕ) → cut_of (cut_stream bytes).rest ≢ Whole
 

@@ -3,6 +3,8 @@
 ghost use Rattle.std.specs.Prelude.{◌≡◌, ◌<◌, ◌≤◌, ◌++◌, length};
 ghost use Rattle.ninep_cut.specs.Cuts.{size_of, is_lawful, cut_of, first_of, behind_first, IsMessage};
 
+use ninep_types::{HEAD_SIZE, MAX_MSIZE};
+
 /// What `Cutter::next` found at the front of the bytes.
 #[derive(Clone, Copy, Debug, PartialEq, Eq)]
 pub enum Cut {
@@ -27,7 +29,7 @@ fn size_of(bytes: &[u8]) -> u32
 fn is_lawful(size: u32) -> bool
     ensures { result ≡ is_lawful size }
 {
-    (7..=65_560).contains(&size)
+    (HEAD_SIZE..=MAX_MSIZE).contains(&size)
 }
 
 /// What stands at the front of the bytes. It takes no memory.

@@ -1,4 +1,5 @@
 pub mod Directories
 pub mod Laws
+pub mod Layout
 pub mod Places
 pub mod Records

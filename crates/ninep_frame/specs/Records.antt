@@ -3,6 +3,7 @@ use Rattle.std.specs.Prelude.{◌≡◌, ◌<◌, ◌^◌, ◌+◌, ℕ, true, L
 use Rattle.std.specs.Int.{w16, w32, w64, to_le_bytes}
 use Rattle.ninep_types.specs.Fields.{string, counted, qid_bytes, is_text}
 use Rattle.ninep_types.specs.Spelling.{IsQid}
+use Rattle.ninep_frame.specs.Layout.{unnamed_size, fixed_size, name_limit}
 use Rattle.ninep_frame.specs.declared.stat.Stat.{Stat}
 
 -- uid, gid and muid
@@ -27,20 +28,21 @@ record_of s = counted w16 (stat_fields s)
 
 -- how many bytes it has
 abbrev pub record_size : Stat → ℕ
-record_size s = 61 + length s.name
+record_size s = unnamed_size + length s.name
 
 -- a name that a record can be written with: UTF-8 without NUL, below 65,000 bytes
 pub record IsName (name : List ℕ) : Type 0 where
   pub text : is_text name ≡ true
-  pub len : length name < 65000
+  pub len : length name < name_limit
 
+-- a stat whose record can be written
 abbrev pub HasName : Stat → Type 0
 HasName s = IsName s.name
 
 -- The bytes are the record of the stat: its name is UTF-8 without NUL, and its size fits two bytes.
 pub record IsRecord (s : Stat) (bytes : List ℕ) : Type 0 where
   pub text : is_text s.name ≡ true
-  pub size : 59 + length s.name < 2 ^ 16
+  pub size : fixed_size + length s.name < 2 ^ 16
   pub bytes_are : bytes ≡ record_of s
 
 -- each number fits its field, as each of a value of the program does

@@ -6,6 +6,7 @@
 
 mod directory;
 mod laws;
+mod layout;
 mod places;
 mod puts;
 mod record;

@@ -2,21 +2,17 @@
 
 ghost use Rattle.std.specs.Prelude.{◌≡◌, ◌≤◌, ◌<◌, ◌+◌, ◌^◌, IfOk, IsTrue, length, take, drop, true};
 ghost use Rattle.ninep_types.specs.Fields.{is_text};
+ghost use Rattle.ninep_frame.specs.Layout.{fixed_size, name_len_place};
 ghost use Rattle.ninep_frame.specs.Places.{u16_at, u32_at, u64_at, name_at, stat_at, is_formed};
 
+use crate::layout::{
+    LENGTH_PLACE, MODE_PLACE, NAME_LEN_PLACE, NAME_PLACE, QID_KIND_PLACE, QID_PATH_PLACE,
+    QID_VERS_PLACE, UNNAMED_SIZE,
+};
 use crate::stat::Stat;
 use am_text::{Items, NoMemory, is_utf8};
 use ninep_types::Qid;
 use std::alloc::Global;
-
-/// The place of the name's length.
-const NAME_LEN: usize = 41;
-
-/// The place of the name.
-const NAME: usize = 43;
-
-/// How many bytes a record has beside its name.
-const UNNAMED: usize = 61;
 
 // So many bytes from a place on.
 fn part_at(bytes: &[u8], at: usize, len: usize) -> &[u8]
@@ -66,14 +62,16 @@ fn is_text(bytes: &[u8]) -> bool
 #[tactic(auto, unfolding(crate::specs::Places::is_formed))]
 pub(crate) fn is_formed(bytes: &[u8]) -> bool
     ensures exact { result ≡ is_formed bytes.now }
-    ensures short { IsTrue result → 59 + u16_at 41 bytes.now < 2 ^ 16 }
+    ensures short { IsTrue result → fixed_size + u16_at name_len_place bytes.now < 2 ^ 16 }
 {
-    if bytes.len() < UNNAMED {
+    if bytes.len() < UNNAMED_SIZE {
         return false;
     }
     let size = u16_at(bytes, 0) as usize;
-    let len = u16_at(bytes, NAME_LEN) as usize;
-    bytes.len() == 2 + size && bytes.len() == UNNAMED + len && is_text(part_at(bytes, NAME, len))
+    let len = u16_at(bytes, NAME_LEN_PLACE) as usize;
+    bytes.len() == 2 + size
+        && bytes.len() == UNNAMED_SIZE + len
+        && is_text(part_at(bytes, NAME_PLACE, len))
 }
 
 /// The stat that the fields say at their places, whatever the other bytes are.
@@ -81,17 +79,17 @@ pub(crate) fn is_formed(bytes: &[u8]) -> bool
 pub(crate) fn stat_at(alloc: Global, bytes: &[u8]) -> Result<Stat, NoMemory>
     requires { is_formed bytes.now ≡ true }
     ensures exact { IfOk result (λ stat. stat ≡ stat_at bytes.now) }
-    ensures name { IfOk result (λ stat. length stat.name ≡ u16_at 41 bytes.now) }
+    ensures name { IfOk result (λ stat. length stat.name ≡ u16_at name_len_place bytes.now) }
 {
-    let len = u16_at(bytes, NAME_LEN) as usize;
+    let len = u16_at(bytes, NAME_LEN_PLACE) as usize;
     Ok(Stat {
         qid: Qid {
-            kind: bytes[8],
-            vers: u32_at(bytes, 9),
-            path: u64_at(bytes, 13),
+            kind: bytes[QID_KIND_PLACE],
+            vers: u32_at(bytes, QID_VERS_PLACE),
+            path: u64_at(bytes, QID_PATH_PLACE),
         },
-        mode: u32_at(bytes, 21),
-        length: u64_at(bytes, 33),
-        name: Items::copied(alloc, part_at(bytes, NAME, len))?,
+        mode: u32_at(bytes, MODE_PLACE),
+        length: u64_at(bytes, LENGTH_PLACE),
+        name: Items::copied(alloc, part_at(bytes, NAME_PLACE, len))?,
     })
 }

@@ -1,23 +1,22 @@
 //! A record, put at the end of the bytes.
 
 ghost use Rattle.std.specs.Prelude.{◌≡◌, ◌<◌, ◌+◌, ◌^◌, ◌++◌, length, OnOk};
+ghost use Rattle.ninep_frame.specs.Layout.{fixed_size};
 ghost use Rattle.ninep_frame.specs.Records.{record_of, record_size, stat_fields};
 
+use crate::layout::FIXED_SIZE;
 use crate::puts::{
     put_no_device, put_no_times, put_owners, put_qid, put_string, put_u16, put_u32, put_u64,
 };
 use crate::stat::Stat;
 use am_text::{Bytes, NoMemory};
 
-/// How many bytes a record has beside its size and its name.
-const FIXED: usize = 59;
-
 /// How many bytes the record of a stat has.
 pub(crate) fn record_size(stat: &Stat) -> usize
     requires { length stat.now.name < 2 ^ 16 }
     ensures { result ≡ record_size stat.now }
 {
-    2 + FIXED + stat.name.len()
+    2 + FIXED_SIZE + stat.name.len()
 }
 
 /// The fields after the size.
@@ -38,10 +37,10 @@ fn put_fields(out: &mut Bytes, stat: &Stat) -> Result<(), NoMemory>
 
 /// The record of a stat.
 pub(crate) fn put_record(out: &mut Bytes, stat: &Stat) -> Result<(), NoMemory>
-    requires { 59 + length stat.now.name < 2 ^ 16 }
+    requires { fixed_size + length stat.now.name < 2 ^ 16 }
     ensures { OnOk result (out.new ≡ out.old ++ record_of stat.now) }
 {
-    put_u16(out, (FIXED + stat.name.len()) as u16)?;
+    put_u16(out, (FIXED_SIZE + stat.name.len()) as u16)?;
     put_fields(out, stat)?;
     Ok(())
 }

@@ -2,6 +2,7 @@
 
 ghost use Rattle.std.specs.Prelude.{◌≡◌, ◌<◌, ◌+◌, ◌^◌, IfOk, IfSome, Some, length};
 ghost use Rattle.ninep_frame.specs.declared.stat.Stat.{Stat};
+ghost use Rattle.ninep_frame.specs.Layout.{fixed_size};
 ghost use Rattle.ninep_frame.specs.Places.{stat_of};
 ghost use Rattle.ninep_frame.specs.Records.{record_of, record_size, HasName, IsRecord, InRange};
 
@@ -28,7 +29,7 @@ pub struct Stat {
 pub type Stats = Items<Stat>;
 
 fn written(alloc: Global, stat: &Stat) -> Result<Bytes, NoMemory>
-    requires { 59 + length stat.now.name < 2 ^ 16 }
+    requires { fixed_size + length stat.now.name < 2 ^ 16 }
     ensures { IfOk result (λ bytes. bytes ≡ record_of stat.now) }
 {
     let mut out = Items::from_vec(Vec::with_capacity(alloc, record_size(stat))?);

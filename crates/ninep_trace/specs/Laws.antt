@@ -1,5 +1,6 @@
 -- Each line in words has one meaning, and each meaning one spelling.
 use Rattle.std.specs.Prelude.{◌≡◌, ℕ, false, List, ◌∷◌, ◌++◌, Some}
+use Rattle.am_text.specs.Ascii.{newline}
 use Rattle.am_text.specs.Lines.{lines_of}
 use Rattle.am_journal.specs.Journal.{is_report}
 use Rattle.ninep_trace.specs.declared.line.Line.{Line}
@@ -16,8 +17,9 @@ ReadsOnly = (bytes : List ℕ) (l : Line) → line_of bytes ≡ Some l → IsWor
 
 -- Each stands in a line of its own, and is no line `report`.
 pub record StandsInLine (l : Line) : Type 0 where
-  pub alone : (rest : List ℕ) → lines_of (line_words l ++ 10 ∷ rest) ≡ line_words l ∷ lines_of rest
+  pub alone : (rest : List ℕ) → lines_of (line_words l ++ newline ∷ rest) ≡ line_words l ∷ lines_of rest
   pub no_report : is_report (line_words l) ≡ false
 
+-- the words of a line stand in one line
 abbrev pub StandInLines : Type 0
 StandInLines = (l : Line) → IsWorded l → StandsInLine l

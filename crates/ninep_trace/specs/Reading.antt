@@ -11,6 +11,7 @@ use Rattle.ninep_types.specs.Limits.{max_msize}
 use Rattle.ninep_types.specs.Spelling.{size_t, size_r}
 use Rattle.am_journal.specs.declared.event.Event.{Event}
 use Rattle.am_journal.specs.declared.event.Event.TheVariants as event
+use Rattle.am_text.specs.Ascii.{space}
 use Rattle.am_text.specs.Front.{after_front}
 use Rattle.am_journal.specs.Limits.{connection_count}
 use Rattle.am_journal.specs.Line.{first_field, after_field, event_of}
@@ -25,12 +26,14 @@ read_by (r ∷ rs) name bytes = if bytes_eq name r.0 then r.1 bytes else read_by
 
 -- ---- messages to the server
 
+-- the fields of Tversion, and the bytes after them
 unfoldable pub t_version_at : List ℕ → Option (TBody × List ℕ)
 t_version_at input = do
   msize ← number_at (codes " msize=") (2 ^ 32) input
   version ← text_at (codes " version=") msize.1
   Some (t.Version msize.0 version.0, version.1)
 
+-- the fields of Tauth, and the bytes after them
 unfoldable pub t_auth_at : List ℕ → Option (TBody × List ℕ)
 t_auth_at input = do
   afid ← number_at (codes " afid=") (2 ^ 32) input
@@ -38,11 +41,13 @@ t_auth_at input = do
   aname ← text_at (codes " aname=") uname.1
   Some (t.Auth afid.0 uname.0 aname.0, aname.1)
 
+-- the fields of Tflush, and the bytes after them
 unfoldable pub t_flush_at : List ℕ → Option (TBody × List ℕ)
 t_flush_at input = do
   oldtag ← number_at (codes " oldtag=") (2 ^ 16) input
   Some (t.Flush oldtag.0, oldtag.1)
 
+-- the fields of Tattach, and the bytes after them
 unfoldable pub t_attach_at : List ℕ → Option (TBody × List ℕ)
 t_attach_at input = do
   fid ← number_at (codes " fid=") (2 ^ 32) input
@@ -51,6 +56,7 @@ t_attach_at input = do
   aname ← text_at (codes " aname=") uname.1
   Some (t.Attach fid.0 afid.0 uname.0 aname.0, aname.1)
 
+-- the fields of Twalk, and the bytes after them
 unfoldable pub t_walk_at : List ℕ → Option (TBody × List ℕ)
 t_walk_at input = do
   fid ← number_at (codes " fid=") (2 ^ 32) input
@@ -58,12 +64,14 @@ t_walk_at input = do
   names ← listed_at (codes " names=") quoted_at newfid.1
   Some (t.Walk fid.0 newfid.0 names.0, names.1)
 
+-- the fields of Topen, and the bytes after them
 unfoldable pub t_open_at : List ℕ → Option (TBody × List ℕ)
 t_open_at input = do
   fid ← number_at (codes " fid=") (2 ^ 32) input
   mode ← number_at (codes " mode=") (2 ^ 8) fid.1
   Some (t.Open fid.0 mode.0, mode.1)
 
+-- the fields of Tcreate, and the bytes after them
 unfoldable pub t_create_at : List ℕ → Option (TBody × List ℕ)
 t_create_at input = do
   fid ← number_at (codes " fid=") (2 ^ 32) input
@@ -72,6 +80,7 @@ t_create_at input = do
   mode ← number_at (codes " mode=") (2 ^ 8) perm.1
   Some (t.Create fid.0 name.0 perm.0 mode.0, mode.1)
 
+-- the fields of Tread, and the bytes after them
 unfoldable pub t_read_at : List ℕ → Option (TBody × List ℕ)
 t_read_at input = do
   fid ← number_at (codes " fid=") (2 ^ 32) input
@@ -79,6 +88,7 @@ t_read_at input = do
   count ← number_at (codes " count=") (2 ^ 32) offset.1
   Some (t.Read fid.0 offset.0 count.0, count.1)
 
+-- the fields of Twrite, and the bytes after them
 unfoldable pub t_write_at : List ℕ → Option (TBody × List ℕ)
 t_write_at input = do
   fid ← number_at (codes " fid=") (2 ^ 32) input
@@ -86,27 +96,32 @@ t_write_at input = do
   bytes ← bytes_in_hex_at (codes " data=") (max_msize + 1) offset.1
   Some (t.Write fid.0 offset.0 bytes.0, bytes.1)
 
+-- the fields of Tclunk, and the bytes after them
 unfoldable pub t_clunk_at : List ℕ → Option (TBody × List ℕ)
 t_clunk_at input = do
   fid ← number_at (codes " fid=") (2 ^ 32) input
   Some (t.Clunk fid.0, fid.1)
 
+-- the fields of Tremove, and the bytes after them
 unfoldable pub t_remove_at : List ℕ → Option (TBody × List ℕ)
 t_remove_at input = do
   fid ← number_at (codes " fid=") (2 ^ 32) input
   Some (t.Remove fid.0, fid.1)
 
+-- the fields of Tstat, and the bytes after them
 unfoldable pub t_stat_at : List ℕ → Option (TBody × List ℕ)
 t_stat_at input = do
   fid ← number_at (codes " fid=") (2 ^ 32) input
   Some (t.Stat fid.0, fid.1)
 
+-- the fields of Twstat, and the bytes after them
 unfoldable pub t_wstat_at : List ℕ → Option (TBody × List ℕ)
 t_wstat_at input = do
   fid ← number_at (codes " fid=") (2 ^ 32) input
   stat ← bytes_in_hex_at (codes " stat=") (2 ^ 16) fid.1
   Some (t.Wstat fid.0 stat.0, stat.1)
 
+-- the readers of the fields, by the name of the message
 abbrev pub t_readers : List (List ℕ × (List ℕ → Option (TBody × List ℕ)))
 t_readers =
     (codes "Tversion", t_version_at)
@@ -142,77 +157,92 @@ t_message_at bytes = do
 unfoldable pub t_line_at : List ℕ → Option Line
 t_line_at bytes = do
   conn ← small_at connection_count bytes
-  rest ← after_front (32 ∷ []) conn.1
+  rest ← after_front (space ∷ []) conn.1
   m ← t_message_at rest
   Some (line.Event (event.Msg conn.0 m))
 
 -- ---- messages from the server
 
+-- the fields of Rversion, and the bytes after them
 unfoldable pub r_version_at : List ℕ → Option (RBody × List ℕ)
 r_version_at input = do
   msize ← number_at (codes " msize=") (2 ^ 32) input
   version ← text_at (codes " version=") msize.1
   Some (r.Version msize.0 version.0, version.1)
 
+-- the fields of Rauth, and the bytes after them
 unfoldable pub r_auth_at : List ℕ → Option (RBody × List ℕ)
 r_auth_at input = do
   aqid ← qid_field_at (codes " aqid=") input
   Some (r.Auth aqid.0, aqid.1)
 
+-- the fields of Rerror, and the bytes after them
 unfoldable pub r_error_at : List ℕ → Option (RBody × List ℕ)
 r_error_at input = do
   ename ← text_at (codes " ename=") input
   Some (r.Error ename.0, ename.1)
 
+-- the fields of Rflush, and the bytes after them
 abbrev pub r_flush_at : List ℕ → Option (RBody × List ℕ)
 r_flush_at input = Some (r.Flush, input)
 
+-- the fields of Rattach, and the bytes after them
 unfoldable pub r_attach_at : List ℕ → Option (RBody × List ℕ)
 r_attach_at input = do
   qid ← qid_field_at (codes " qid=") input
   Some (r.Attach qid.0, qid.1)
 
+-- the fields of Rwalk, and the bytes after them
 unfoldable pub r_walk_at : List ℕ → Option (RBody × List ℕ)
 r_walk_at input = do
   qids ← listed_at (codes " qids=") qid_at input
   Some (r.Walk qids.0, qids.1)
 
+-- the fields of Ropen, and the bytes after them
 unfoldable pub r_open_at : List ℕ → Option (RBody × List ℕ)
 r_open_at input = do
   qid ← qid_field_at (codes " qid=") input
   iounit ← number_at (codes " iounit=") (2 ^ 32) qid.1
   Some (r.Open qid.0 iounit.0, iounit.1)
 
+-- the fields of Rcreate, and the bytes after them
 unfoldable pub r_create_at : List ℕ → Option (RBody × List ℕ)
 r_create_at input = do
   qid ← qid_field_at (codes " qid=") input
   iounit ← number_at (codes " iounit=") (2 ^ 32) qid.1
   Some (r.Create qid.0 iounit.0, iounit.1)
 
+-- the fields of Rread, and the bytes after them
 unfoldable pub r_read_at : List ℕ → Option (RBody × List ℕ)
 r_read_at input = do
   bytes ← bytes_in_hex_at (codes " data=") (max_msize + 1) input
   Some (r.Read bytes.0, bytes.1)
 
+-- the fields of Rwrite, and the bytes after them
 unfoldable pub r_write_at : List ℕ → Option (RBody × List ℕ)
 r_write_at input = do
   count ← number_at (codes " count=") (2 ^ 32) input
   Some (r.Write count.0, count.1)
 
+-- the fields of Rclunk, and the bytes after them
 abbrev pub r_clunk_at : List ℕ → Option (RBody × List ℕ)
 r_clunk_at input = Some (r.Clunk, input)
 
+-- the fields of Rremove, and the bytes after them
 abbrev pub r_remove_at : List ℕ → Option (RBody × List ℕ)
 r_remove_at input = Some (r.Remove, input)
 
+-- the fields of Rstat, and the bytes after them
 unfoldable pub r_stat_at : List ℕ → Option (RBody × List ℕ)
 r_stat_at input = do
   stat ← bytes_in_hex_at (codes " stat=") (2 ^ 16) input
   Some (r.Stat stat.0, stat.1)
 
+-- the fields of Rwstat, and the bytes after them
 abbrev pub r_wstat_at : List ℕ → Option (RBody × List ℕ)
 r_wstat_at input = Some (r.Wstat, input)
 
+-- the readers of the fields, by the name of the message
 abbrev pub r_readers : List (List ℕ × (List ℕ → Option (RBody × List ℕ)))
 r_readers =
     (codes "Rversion", r_version_at)
@@ -249,7 +279,7 @@ r_message_at bytes = do
 unfoldable pub r_line_at : List ℕ → Option Line
 r_line_at bytes = do
   conn ← small_at connection_count bytes
-  rest ← after_front (32 ∷ []) conn.1
+  rest ← after_front (space ∷ []) conn.1
   m ← r_message_at rest
   Some (line.Reply conn.0 m)
 

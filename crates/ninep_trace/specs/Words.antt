@@ -1,5 +1,6 @@
 -- The one spelling of each message in words, of each line in words, and which lines have one.
 use Rattle.std.specs.Prelude.{ℕ, ◌<◌, ◌≤◌, List, [], ◌∷◌, ◌++◌, length, codes}
+use Rattle.am_text.specs.Ascii.{space}
 use Rattle.ninep_types.specs.declared.message.TMsg.{TMsg}
 use Rattle.ninep_types.specs.declared.message.TBody.{TBody}
 use Rattle.ninep_types.specs.declared.message.TBody.TheVariants as t
@@ -54,7 +55,7 @@ fields_t (t.Wstat fid stat) = number (codes " fid=") fid ++ bytes_in_hex (codes 
 
 -- `msg C NAME tag=N FIELDS`
 unfoldable pub words_t : ℕ → TMsg → List ℕ
-words_t c m = around (codes "msg ") c (32 ∷ []) ++ (name_t m.body ++ 32 ∷ (number (codes "tag=") m.tag ++ fields_t m.body))
+words_t c m = around (codes "msg ") c (space ∷ []) ++ (name_t m.body ++ space ∷ (number (codes "tag=") m.tag ++ fields_t m.body))
 
 -- ---- messages from the server
 
@@ -94,7 +95,7 @@ fields_r r.Wstat = []
 
 -- `reply C NAME tag=N FIELDS`
 unfoldable pub words_r : ℕ → RMsg → List ℕ
-words_r c m = around (codes "reply ") c (32 ∷ []) ++ (name_r m.body ++ 32 ∷ (number (codes "tag=") m.tag ++ fields_r m.body))
+words_r c m = around (codes "reply ") c (space ∷ []) ++ (name_r m.body ++ space ∷ (number (codes "tag=") m.tag ++ fields_r m.body))
 
 -- ---- lines
 

@@ -2,22 +2,21 @@
 
 ghost use Rattle.std.specs.Prelude.{◌≡◌, ◌==◌, ◌<◌, ◌≤◌, ◌+◌, ◌^◌, ◌++◌, ◌∷◌, [], ℕ, List, false, length, slice_index, IfOk, IfSome, IfNone, None};
 ghost use Rattle.std.specs.List.{list_any};
+ghost use Rattle.am_text.specs.Ascii.{quote};
 ghost use Rattle.am_text.specs.Front.{after_front};
 ghost use Rattle.am_journal.specs.Line.{first_field, after_field};
 ghost use Rattle.ninep_types.specs.Fields.{is_text};
+ghost use Rattle.ninep_types.specs.Limits.{max_names};
 ghost use Rattle.ninep_trace.specs.Fields.{Gives, digits, after_digits, value_at, small_at, number_at, unquoted_after, is_string, quoted_at, text_at, bytes_in_hex_at, qid_at, qid_field_at, several_at, listed_at};
 
 use crate::hexadecimal::bytes_of_hex;
 use crate::unread::Unread;
 use am_text::{Bytes, Items, Names, after_front, is_utf8, read_decimal};
-use ninep_types::{Qid, Qids};
+use ninep_types::{MAX_NAMES, Qid, Qids};
 use std::alloc::Global;
 
 /// What the length of a string or a stat is below: it has two bytes.
 pub(crate) const SHORT: usize = 1 << 16;
-
-/// The most members of a list.
-const MOST_MEMBERS: u64 = 16;
 
 /// The bytes after a front, which has to be there.
 pub(crate) fn take_front<'a>(front: &[u8], bytes: &'a [u8]) -> Result<&'a [u8], Unread>
@@ -123,7 +122,7 @@ pub(crate) fn take_u64<'a>(front: &[u8], bytes: &'a [u8]) -> Result<(u64, &'a [u
 #[tactic(auto, unfolding(crate::specs::Fields::unquoted_after))]
 fn first_unquoted(bytes: &[u8]) -> Option<(u8, &[u8])>
     requires some { 0 < length bytes.now }
-    requires no_quote { slice_index bytes.now 0 ≡ 39 → ⊥ }
+    requires no_quote { slice_index bytes.now 0 ≡ quote → ⊥ }
     ensures some { IfSome result (λ first. (text : List ℕ)
         → unquoted_after text false bytes.now ≡ unquoted_after (text ++ first.0 ∷ []) false first.1.now) }
     ensures none { IfNone result ((text : List ℕ) → unquoted_after text false bytes.now ≡ None) }
@@ -243,9 +242,9 @@ pub(crate) fn take_qid<'a>(front: &[u8], bytes: &'a [u8]) -> Result<(Qid, &'a [u
 /// The number of members of a list, at most 16.
 #[tactic(auto, unfolding(crate::specs::Fields::number_at))]
 fn take_count<'a>(front: &[u8], bytes: &'a [u8]) -> Result<(u8, &'a [u8]), Unread>
-    ensures { Gives (λ x. (x.0, x.1.now)) result (number_at front.now 17 bytes.now) }
+    ensures { Gives (λ x. (x.0, x.1.now)) result (number_at front.now (max_names + 1) bytes.now) }
 {
-    let (n, rest) = take_small(MOST_MEMBERS, take_front(front, bytes)?)?;
+    let (n, rest) = take_small(u64::from(MAX_NAMES), take_front(front, bytes)?)?;
     Ok((n as u8, rest))
 }
 

@@ -9,6 +9,9 @@ use Rattle.ninep_types.specs.declared.message.TBody.TheVariants as t
 use Rattle.ninep_types.specs.declared.message.RMsg.{RMsg}
 use Rattle.ninep_types.specs.declared.message.RBody.{RBody}
 use Rattle.ninep_types.specs.declared.message.RBody.TheVariants as r
+use Rattle.ninep_types.specs.Limits.{head_size, max_names}
+use Rattle.ninep_types.specs.Kinds.{tversion, tauth, tattach, tflush, twalk, topen, tcreate, tread, twrite, tclunk, tremove, tstat, twstat}
+use Rattle.ninep_types.specs.Kinds.{rversion, rauth, rattach, rerror, rflush, rwalk, ropen, rcreate, rread, rwrite, rclunk, rremove, rstat, rwstat}
 use Rattle.ninep_types.specs.Fields.{string, counted, listed, qid_bytes, is_text}
 
 -- size, type and tag
@@ -17,7 +20,7 @@ head size kind tag = to_le_bytes w32 size ++ kind ∷ to_le_bytes w16 tag
 
 -- size, type, tag and fields; the size counts its own four bytes
 abbrev pub framed : ℕ → ℕ → List ℕ → List ℕ
-framed kind tag fields = head (7 + length fields) kind tag ++ fields
+framed kind tag fields = head (head_size + length fields) kind tag ++ fields
 
 -- UTF-8 without NUL, of fewer than 2 ^ 16 bytes
 pub record IsString (bytes : List ℕ) : Type 0 where
@@ -26,7 +29,7 @@ pub record IsString (bytes : List ℕ) : Type 0 where
 
 -- at most 16 strings
 abbrev pub AreNames : List (List ℕ) → Type 0
-AreNames names = (length names ≤ 16) × All IsString names
+AreNames names = (length names ≤ max_names) × All IsString names
 
 -- a qid's numbers fit their fields
 pub record IsQid (q : Qid) : Type 0 where
@@ -38,19 +41,19 @@ pub record IsQid (q : Qid) : Type 0 where
 
 -- the type byte
 abbrev pub kind_t : TBody → ℕ
-kind_t (t.Version msize version) = 100
-kind_t (t.Auth afid uname aname) = 102
-kind_t (t.Flush oldtag) = 108
-kind_t (t.Attach fid afid uname aname) = 104
-kind_t (t.Walk fid newfid names) = 110
-kind_t (t.Open fid mode) = 112
-kind_t (t.Create fid name perm mode) = 114
-kind_t (t.Read fid offset count) = 116
-kind_t (t.Write fid offset bytes) = 118
-kind_t (t.Clunk fid) = 120
-kind_t (t.Remove fid) = 122
-kind_t (t.Stat fid) = 124
-kind_t (t.Wstat fid stat) = 126
+kind_t (t.Version msize version) = tversion
+kind_t (t.Auth afid uname aname) = tauth
+kind_t (t.Flush oldtag) = tflush
+kind_t (t.Attach fid afid uname aname) = tattach
+kind_t (t.Walk fid newfid names) = twalk
+kind_t (t.Open fid mode) = topen
+kind_t (t.Create fid name perm mode) = tcreate
+kind_t (t.Read fid offset count) = tread
+kind_t (t.Write fid offset bytes) = twrite
+kind_t (t.Clunk fid) = tclunk
+kind_t (t.Remove fid) = tremove
+kind_t (t.Stat fid) = tstat
+kind_t (t.Wstat fid stat) = twstat
 
 -- the fields after the tag
 abbrev pub fields_t : TBody → List ℕ
@@ -84,9 +87,11 @@ size_t (t.Remove fid) = 11
 size_t (t.Stat fid) = 11
 size_t (t.Wstat fid stat) = 13 + length stat
 
+-- the bytes of a message to the server
 abbrev pub spelling_t : TMsg → List ℕ
 spelling_t m = framed (kind_t m.body) m.tag (fields_t m.body)
 
+-- its strings, lists and data fit their fields
 abbrev pub BodyFits_t : TBody → Type 0
 BodyFits_t (t.Version msize version) = IsString version
 BodyFits_t (t.Auth afid uname aname) = IsString uname × IsString aname
@@ -102,6 +107,7 @@ BodyFits_t (t.Remove fid) = Unit {0}
 BodyFits_t (t.Stat fid) = Unit {0}
 BodyFits_t (t.Wstat fid stat) = length stat < 2 ^ 16
 
+-- its numbers fit their fields
 abbrev pub BodyInRange_t : TBody → Type 0
 BodyInRange_t (t.Version msize version) = msize < 2 ^ 32
 BodyInRange_t (t.Auth afid uname aname) = afid < 2 ^ 32
@@ -131,20 +137,20 @@ pub record InRange_t (m : TMsg) : Type 0 where
 
 -- the type byte
 abbrev pub kind_r : RBody → ℕ
-kind_r (r.Version msize version) = 101
-kind_r (r.Auth aqid) = 103
-kind_r (r.Error ename) = 107
-kind_r r.Flush = 109
-kind_r (r.Attach qid) = 105
-kind_r (r.Walk qids) = 111
-kind_r (r.Open qid iounit) = 113
-kind_r (r.Create qid iounit) = 115
-kind_r (r.Read bytes) = 117
-kind_r (r.Write count) = 119
-kind_r r.Clunk = 121
-kind_r r.Remove = 123
-kind_r (r.Stat stat) = 125
-kind_r r.Wstat = 127
+kind_r (r.Version msize version) = rversion
+kind_r (r.Auth aqid) = rauth
+kind_r (r.Error ename) = rerror
+kind_r r.Flush = rflush
+kind_r (r.Attach qid) = rattach
+kind_r (r.Walk qids) = rwalk
+kind_r (r.Open qid iounit) = ropen
+kind_r (r.Create qid iounit) = rcreate
+kind_r (r.Read bytes) = rread
+kind_r (r.Write count) = rwrite
+kind_r r.Clunk = rclunk
+kind_r r.Remove = rremove
+kind_r (r.Stat stat) = rstat
+kind_r r.Wstat = rwstat
 
 -- the fields after the tag
 abbrev pub fields_r : RBody → List ℕ
@@ -180,16 +186,18 @@ size_r r.Remove = 7
 size_r (r.Stat stat) = 9 + length stat
 size_r r.Wstat = 7
 
+-- the bytes of a message from the server
 abbrev pub spelling_r : RMsg → List ℕ
 spelling_r m = framed (kind_r m.body) m.tag (fields_r m.body)
 
+-- its strings, lists and data fit their fields
 abbrev pub BodyFits_r : RBody → Type 0
 BodyFits_r (r.Version msize version) = IsString version
 BodyFits_r (r.Auth aqid) = Unit {0}
 BodyFits_r (r.Error ename) = IsString ename
 BodyFits_r r.Flush = Unit {0}
 BodyFits_r (r.Attach qid) = Unit {0}
-BodyFits_r (r.Walk qids) = length qids ≤ 16
+BodyFits_r (r.Walk qids) = length qids ≤ max_names
 BodyFits_r (r.Open qid iounit) = Unit {0}
 BodyFits_r (r.Create qid iounit) = Unit {0}
 BodyFits_r (r.Read bytes) = length bytes < 2 ^ 32
@@ -199,6 +207,7 @@ BodyFits_r r.Remove = Unit {0}
 BodyFits_r (r.Stat stat) = length stat < 2 ^ 16
 BodyFits_r r.Wstat = Unit {0}
 
+-- its numbers fit their fields
 abbrev pub BodyInRange_r : RBody → Type 0
 BodyInRange_r (r.Version msize version) = msize < 2 ^ 32
 BodyInRange_r (r.Auth aqid) = IsQid aqid

@@ -7,7 +7,7 @@ ghost use Rattle.ninep_types.specs.Fields.{Gives, bytes_at, number_at, byte_at, 
 ghost use Rattle.ninep_types.specs.Reading.{head_at};
 
 use am_text::{Bytes, Items, Names, is_utf8};
-use ninep_types::{Qid, Qids, WireError, WireFault};
+use ninep_types::{MAX_NAMES, Qid, Qids, WireError, WireFault};
 use std::alloc::Global;
 
 pub(crate) fn take_u8(bytes: &[u8]) -> Result<(u8, &[u8]), WireError>
@@ -125,7 +125,7 @@ fn take_count(bytes: &[u8]) -> Result<(u16, &[u8]), WireError>
     ensures { Gives (λ x. (x.0, x.1.now)) result (count_at bytes.now) }
 {
     let (count, rest) = take_u16(bytes)?;
-    if count > 16 {
+    if count > MAX_NAMES {
         return Err(WireError::Fault(WireFault::Names));
     }
     Ok((count, rest))

@@ -16,6 +16,6 @@ pub use am_text::{Bytes, Items, Names, NoMemory};
 pub use laws::{spellings_are_prefix_free, spellings_are_read_again, spellings_have_their_size};
 pub use ninep_types::{Qid, Qids, RBody, RMsg, TBody, TMsg, WireError, WireFault};
 pub use r_reading::read_r;
-pub use r_writing::write_r;
+pub use r_writing::{r_kind, write_r};
 pub use t_reading::read_t;
-pub use t_writing::{t_size, write_t};
+pub use t_writing::{t_kind, t_size, write_t};

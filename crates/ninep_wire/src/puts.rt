@@ -4,6 +4,7 @@ ghost use Rattle.std.specs.Prelude.{◌≡◌, ◌<◌, ◌≤◌, ◌^◌, ◌+
 ghost use Rattle.std.specs.List.{flat_map};
 ghost use Rattle.std.specs.Int.{w16, w32, w64, to_le_bytes};
 ghost use Rattle.ninep_types.specs.Fields.{string, counted, listed, qid_bytes};
+ghost use Rattle.ninep_types.specs.Limits.{max_names};
 ghost use Rattle.ninep_types.specs.Spelling.{head, IsString, AreNames};
 
 use am_text::{Bytes, Items, NoMemory};
@@ -94,7 +95,7 @@ fn put_several_qids(out: &mut Bytes, qids: &[Qid]) -> Result<(), NoMemory>
 
 #[tactic(auto, using(crate::proofs::Joins::joins))]
 pub(crate) fn put_qids(out: &mut Bytes, qids: &[Qid]) -> Result<(), NoMemory>
-    requires { length qids.now ≤ 16 }
+    requires { length qids.now ≤ max_names }
     ensures { OnOk result (out.new ≡ out.old ++ listed qid_bytes qids.now) }
 {
     put_u16(out, qids.len() as u16)?;

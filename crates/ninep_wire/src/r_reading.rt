@@ -7,7 +7,10 @@ ghost use Rattle.ninep_types.specs.Reading.{r_version_at, r_auth_at, r_error_at,
 ghost use Rattle.ninep_types.specs.Spelling.{spelling_r, Fits_r, InRange_r};
 
 use crate::fields::{take_data, take_head, take_qid, take_qids, take_stat, take_string, take_u32};
-use ninep_types::{RBody, RMsg, WireError, WireFault};
+use ninep_types::{
+    RATTACH, RAUTH, RBody, RCLUNK, RCREATE, RERROR, RFLUSH, RMsg, ROPEN, RREAD, RREMOVE, RSTAT,
+    RVERSION, RWALK, RWRITE, RWSTAT, WireError, WireFault,
+};
 use std::alloc::Global;
 
 #[tactic(auto, unfolding(ninep_types::specs::Reading::r_version_at))]
@@ -98,20 +101,20 @@ fn take_r_body(alloc: Global, kind: u8, rest: &[u8]) -> Result<(RBody, &[u8]), W
     ensures { Gives (λ x. (x.0, x.1.now)) result (r_body_at kind rest.now) }
 {
     match kind {
-        101 => take_r_version(alloc, rest),
-        103 => take_r_auth(rest),
-        105 => take_r_attach(rest),
-        107 => take_r_error(alloc, rest),
-        109 => Ok((RBody::Flush, rest)),
-        111 => take_r_walk(alloc, rest),
-        113 => take_r_open(rest),
-        115 => take_r_create(rest),
-        117 => take_r_read(alloc, rest),
-        119 => take_r_write(rest),
-        121 => Ok((RBody::Clunk, rest)),
-        123 => Ok((RBody::Remove, rest)),
-        125 => take_r_stat(alloc, rest),
-        127 => Ok((RBody::Wstat, rest)),
+        RVERSION => take_r_version(alloc, rest),
+        RAUTH => take_r_auth(rest),
+        RATTACH => take_r_attach(rest),
+        RERROR => take_r_error(alloc, rest),
+        RFLUSH => Ok((RBody::Flush, rest)),
+        RWALK => take_r_walk(alloc, rest),
+        ROPEN => take_r_open(rest),
+        RCREATE => take_r_create(rest),
+        RREAD => take_r_read(alloc, rest),
+        RWRITE => take_r_write(rest),
+        RCLUNK => Ok((RBody::Clunk, rest)),
+        RREMOVE => Ok((RBody::Remove, rest)),
+        RSTAT => take_r_stat(alloc, rest),
+        RWSTAT => Ok((RBody::Wstat, rest)),
         _ => Err(WireError::Fault(WireFault::Kind)),
     }
 }

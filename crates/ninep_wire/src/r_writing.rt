@@ -1,11 +1,15 @@
 //! Messages from the server, to their bytes.
 
 ghost use Rattle.std.specs.Prelude.{◌≡◌, ◌<◌, ◌≤◌, ◌^◌, ◌++◌, ◌+◌, length, OnOk, IfOk};
+ghost use Rattle.ninep_types.specs.Limits.{max_names};
 ghost use Rattle.ninep_types.specs.Spelling.{kind_r, fields_r, size_r, spelling_r, Fits_r, BodyFits_r, IsString};
 
 use crate::puts::{begun, put_data, put_qid, put_qids, put_stat, put_string, put_u32};
 use am_text::{Bytes, NoMemory};
-use ninep_types::{Qid, RBody, RMsg};
+use ninep_types::{
+    Qid, RATTACH, RAUTH, RBody, RCLUNK, RCREATE, RERROR, RFLUSH, RMsg, ROPEN, RREAD, RREMOVE,
+    RSTAT, RVERSION, RWALK, RWRITE, RWSTAT,
+};
 use std::alloc::Global;
 
 #[tactic(auto, using(crate::proofs::Joins::joins))]
@@ -45,7 +49,7 @@ fn put_r_attach(out: &mut Bytes, qid: Qid) -> Result<(), NoMemory>
 
 #[tactic(auto, using(crate::proofs::Joins::joins))]
 fn put_r_walk(out: &mut Bytes, qids: &[Qid]) -> Result<(), NoMemory>
-    requires { length qids.now ≤ 16 }
+    requires { length qids.now ≤ max_names }
     ensures { OnOk result (out.new ≡ out.old ++ fields_r (RBody.Walk qids.now)) }
 {
     put_qids(out, qids)?;
@@ -118,25 +122,25 @@ fn put_r_body(out: &mut Bytes, body: &RBody) -> Result<(), NoMemory>
     }
 }
 
-/// The type byte.
-fn r_kind(body: &RBody) -> u8
+/// The type byte of a message from the server. It takes no memory.
+pub fn r_kind(body: &RBody) -> u8
     ensures { result ≡ kind_r body.now }
 {
     match body {
-        RBody::Version { .. } => 101,
-        RBody::Auth { .. } => 103,
-        RBody::Error { .. } => 107,
-        RBody::Flush => 109,
-        RBody::Attach { .. } => 105,
-        RBody::Walk { .. } => 111,
-        RBody::Open { .. } => 113,
-        RBody::Create { .. } => 115,
-        RBody::Read { .. } => 117,
-        RBody::Write { .. } => 119,
-        RBody::Clunk => 121,
-        RBody::Remove => 123,
-        RBody::Stat { .. } => 125,
-        RBody::Wstat => 127,
+        RBody::Version { .. } => RVERSION,
+        RBody::Auth { .. } => RAUTH,
+        RBody::Error { .. } => RERROR,
+        RBody::Flush => RFLUSH,
+        RBody::Attach { .. } => RATTACH,
+        RBody::Walk { .. } => RWALK,
+        RBody::Open { .. } => ROPEN,
+        RBody::Create { .. } => RCREATE,
+        RBody::Read { .. } => RREAD,
+        RBody::Write { .. } => RWRITE,
+        RBody::Clunk => RCLUNK,
+        RBody::Remove => RREMOVE,
+        RBody::Stat { .. } => RSTAT,
+        RBody::Wstat => RWSTAT,
     }
 }
 

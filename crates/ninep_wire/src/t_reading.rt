@@ -9,7 +9,10 @@ ghost use Rattle.ninep_types.specs.Spelling.{spelling_t, Fits_t, InRange_t};
 use crate::fields::{
     take_data, take_head, take_names, take_stat, take_string, take_u8, take_u16, take_u32, take_u64,
 };
-use ninep_types::{TBody, TMsg, WireError, WireFault};
+use ninep_types::{
+    TATTACH, TAUTH, TBody, TCLUNK, TCREATE, TFLUSH, TMsg, TOPEN, TREAD, TREMOVE, TSTAT, TVERSION,
+    TWALK, TWRITE, TWSTAT, WireError, WireFault,
+};
 use std::alloc::Global;
 
 #[tactic(auto, unfolding(ninep_types::specs::Reading::t_version_at))]
@@ -154,19 +157,19 @@ fn take_t_body(alloc: Global, kind: u8, rest: &[u8]) -> Result<(TBody, &[u8]), W
     ensures { Gives (λ x. (x.0, x.1.now)) result (t_body_at kind rest.now) }
 {
     match kind {
-        100 => take_t_version(alloc, rest),
-        102 => take_t_auth(alloc, rest),
-        104 => take_t_attach(alloc, rest),
-        108 => take_t_flush(rest),
-        110 => take_t_walk(alloc, rest),
-        112 => take_t_open(rest),
-        114 => take_t_create(alloc, rest),
-        116 => take_t_read(rest),
-        118 => take_t_write(alloc, rest),
-        120 => take_t_clunk(rest),
-        122 => take_t_remove(rest),
-        124 => take_t_stat(rest),
-        126 => take_t_wstat(alloc, rest),
+        TVERSION => take_t_version(alloc, rest),
+        TAUTH => take_t_auth(alloc, rest),
+        TATTACH => take_t_attach(alloc, rest),
+        TFLUSH => take_t_flush(rest),
+        TWALK => take_t_walk(alloc, rest),
+        TOPEN => take_t_open(rest),
+        TCREATE => take_t_create(alloc, rest),
+        TREAD => take_t_read(rest),
+        TWRITE => take_t_write(alloc, rest),
+        TCLUNK => take_t_clunk(rest),
+        TREMOVE => take_t_remove(rest),
+        TSTAT => take_t_stat(rest),
+        TWSTAT => take_t_wstat(alloc, rest),
         _ => Err(WireError::Fault(WireFault::Kind)),
     }
 }

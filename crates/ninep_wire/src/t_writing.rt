@@ -7,7 +7,10 @@ use crate::puts::{
     begun, put_data, put_names, put_stat, put_string, put_u16, put_u32, put_u64, strings_len,
 };
 use am_text::{Bytes, NoMemory};
-use ninep_types::{TBody, TMsg};
+use ninep_types::{
+    TATTACH, TAUTH, TBody, TCLUNK, TCREATE, TFLUSH, TMsg, TOPEN, TREAD, TREMOVE, TSTAT, TVERSION,
+    TWALK, TWRITE, TWSTAT,
+};
 use std::alloc::Global;
 
 #[tactic(auto, using(crate::proofs::Joins::joins))]
@@ -180,24 +183,24 @@ fn put_t_body(out: &mut Bytes, body: &TBody) -> Result<(), NoMemory>
     }
 }
 
-/// The type byte.
-fn t_kind(body: &TBody) -> u8
+/// The type byte of a message to the server. It takes no memory.
+pub fn t_kind(body: &TBody) -> u8
     ensures { result ≡ kind_t body.now }
 {
     match body {
-        TBody::Version { .. } => 100,
-        TBody::Auth { .. } => 102,
-        TBody::Flush { .. } => 108,
-        TBody::Attach { .. } => 104,
-        TBody::Walk { .. } => 110,
-        TBody::Open { .. } => 112,
-        TBody::Create { .. } => 114,
-        TBody::Read { .. } => 116,
-        TBody::Write { .. } => 118,
-        TBody::Clunk { .. } => 120,
-        TBody::Remove { .. } => 122,
-        TBody::Stat { .. } => 124,
-        TBody::Wstat { .. } => 126,
+        TBody::Version { .. } => TVERSION,
+        TBody::Auth { .. } => TAUTH,
+        TBody::Flush { .. } => TFLUSH,
+        TBody::Attach { .. } => TATTACH,
+        TBody::Walk { .. } => TWALK,
+        TBody::Open { .. } => TOPEN,
+        TBody::Create { .. } => TCREATE,
+        TBody::Read { .. } => TREAD,
+        TBody::Write { .. } => TWRITE,
+        TBody::Clunk { .. } => TCLUNK,
+        TBody::Remove { .. } => TREMOVE,
+        TBody::Stat { .. } => TSTAT,
+        TBody::Wstat { .. } => TWSTAT,
     }
 }
 

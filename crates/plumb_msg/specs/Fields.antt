@@ -8,15 +8,17 @@ use Rattle.plumb_msg.specs.declared.unread.Stop.{Stop}
 use Rattle.plumb_msg.specs.declared.unread.Stop.TheVariants as stop
 
 infixl 10 ◌>>=◌
+-- what a next part gives, if there is this one
 abbrev pub ◌>>=◌ : {A B : Type 0} → Result A Unread → (A → Result B Unread) → Result B Unread
 (Ok x) >>= f = f x
 (Err e) >>= f = Err e
 
--- What a function returned, seen by view, is what reading gives, unless memory ran out.
+-- A function stopped because memory ran out, or for the reason for which reading does.
 abbrev pub Fails : {Y : Type 0} → Stop → Result Y Unread → Type 0
 Fails stop.NoMemory read = Unit {0}
 Fails (stop.Unread e) read = read ≡ Err e
 
+-- What a function returned, seen by view, is what reading gives, unless memory ran out.
 abbrev pub Gives : {X Y : Type 0} → (X → Y) → Result X Stop → Result Y Unread → Type 0
 Gives view (Ok x) read = read ≡ Ok (view x)
 Gives view (Err e) read = Fails e read

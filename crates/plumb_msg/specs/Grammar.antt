@@ -2,6 +2,8 @@
 use Rattle.std.specs.Prelude.{◌≡◌, ◌⊎◌, ◌<◌, ◌≤◌, ℕ, true, false, List, [], ◌∷◌, ◌++◌, length, map, take}
 use Rattle.std.specs.List.{IsDistinct}
 use Rattle.std.specs.Str.{bytes_eq}
+use Rattle.am_text.specs.Ascii.{space, equals}
+use Rattle.plumb_msg.specs.Limits.{max_data}
 use Rattle.plumb_msg.specs.Texts.{is_line}
 use Rattle.plumb_msg.specs.Spelling.{needs_quotes, quoted, is_name, msg_bytes}
 use Rattle.plumb_msg.specs.declared.message.Attr.{Attr}
@@ -15,14 +17,15 @@ IsValue text value = ((text ≡ value) × (needs_quotes value ≡ false)) ⊎ (t
 
 -- a name, `=` and a value
 abbrev pub IsAttr : List ℕ → Attr → Type 0
-IsAttr text a = (is_name a.name ≡ true) × (value : List ℕ) × IsValue value a.value × (text ≡ a.name ++ 61 ∷ value)
+IsAttr text a = (is_name a.name ≡ true) × (value : List ℕ) × IsValue value a.value × (text ≡ a.name ++ equals ∷ value)
 
 -- attributes with single blanks between, and none where nothing stands
 abbrev pub AreAttrs : List ℕ → List Attr → Type 0
 AreAttrs line [] = line ≡ []
 AreAttrs line (a ∷ []) = IsAttr line a
-AreAttrs line (a ∷ b ∷ others) = (text rest : List ℕ) × (line ≡ text ++ 32 ∷ rest) × IsAttr text a × AreAttrs rest (b ∷ others)
+AreAttrs line (a ∷ b ∷ others) = (text rest : List ℕ) × (line ≡ text ++ space ∷ rest) × IsAttr text a × AreAttrs rest (b ∷ others)
 
+-- the names of attributes, in their order
 abbrev pub names_of : List Attr → List (List ℕ)
 names_of attrs = map (λ a. a.name) attrs
 
@@ -43,7 +46,7 @@ pub record IsMessage (bytes : List ℕ) (m : PlumbMsg) : Type 0 where
   pub attributes : List ℕ
   pub one_line : is_line attributes ≡ true
   pub attrs : IsAttrsLine attributes m.attrs
-  pub small : length m.body ≤ 1048576
+  pub small : length m.body ≤ max_data
   pub spelled : bytes ≡ msg_bytes m attributes
 
 -- The bytes begin with a message.

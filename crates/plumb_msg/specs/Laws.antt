@@ -13,10 +13,11 @@ use Rattle.plumb_msg.specs.declared.message.PlumbRead.TheVariants.{Whole, More, 
 abbrev pub ReadAgain : Type 0
 ReadAgain = (m : PlumbMsg) (rest : List ℕ) → can_spell m ≡ true → read_of (msg_text m ++ rest) ≡ Whole m (length (msg_text m))
 
--- What is read stays read as bytes are added, and what is bad stays bad.
+-- What is read stays read as bytes are added.
 abbrev pub WholeStays : Type 0
 WholeStays = (bytes more : List ℕ) (m : PlumbMsg) (used : ℕ) → read_of bytes ≡ Whole m used → read_of (bytes ++ more) ≡ Whole m used
 
+-- bytes that begin no message begin none as bytes are added
 abbrev pub BadStays : Type 0
 BadStays = (bytes more : List ℕ) → read_of bytes ≡ Bad → read_of (bytes ++ more) ≡ Bad
 

@@ -2,6 +2,7 @@ pub mod Attributes
 pub mod Fields
 pub mod Grammar
 pub mod Laws
+pub mod Limits
 pub mod Names
 pub mod Reading
 pub mod Spelling

@@ -3,10 +3,12 @@ use Rattle.std.specs.Prelude.{ℕ, Bool, false, ◌||◌, ◌==◌, List, drop, 
 use Rattle.std.specs.List.{list_any}
 use Rattle.std.specs.Str.{is_utf8}
 use Rattle.std.specs.Str.Lossy.{utf8_valid_len}
+use Rattle.am_text.specs.Ascii.{newline}
 use Rattle.am_text.specs.Pieces.{is_begun}
 
+-- whether there is a newline
 abbrev pub has_newline : List ℕ → Bool
-has_newline bs = list_any (λ b. b == 10) bs
+has_newline bs = list_any (λ b. b == newline) bs
 
 -- a text that can stand in one line
 abbrev pub is_line : List ℕ → Bool

@@ -2,6 +2,7 @@
 #![tactic(auto)]
 
 mod laws;
+mod limits;
 mod message;
 mod names;
 mod reading;
@@ -13,6 +14,7 @@ mod writing;
 pub use laws::{
     answers_are_exact, attribute_lines_are_their_grammar, messages_are_read_again, reading_goes_on,
 };
+pub use limits::MAX_DATA;
 pub use message::{Attr, Attrs, PlumbMsg, PlumbRead};
 pub use reading::read_msg;
 pub use scanning::read_attrs;

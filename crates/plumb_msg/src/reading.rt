@@ -5,15 +5,13 @@ ghost use Rattle.plumb_msg.specs.Fields.{Gives, unfinished};
 ghost use Rattle.plumb_msg.specs.Reading.{text_at, attrs_at, count_of, is_count_front, count_at, bytes_at, body_at, msg_at, read_of};
 ghost use Rattle.plumb_msg.specs.declared.message.PlumbRead.TheVariants.{Whole};
 
+use crate::limits::MAX_DATA;
 use crate::message::{Attrs, PlumbMsg, PlumbRead};
 use crate::scanning::{is_attrs_front, read_attrs};
 use crate::texts::{cut_line, has_newline, is_text_front};
 use crate::unread::{Stop, Unread};
 use am_text::{Bytes, NoMemory, is_utf8, read_decimal};
 use std::alloc::Global;
-
-/// The most bytes of data that a message has.
-pub(crate) const MAX_BODY: usize = 1048576;
 
 // Why a line without its newline can't be read.
 fn unfinished(begun: bool) -> Unread
@@ -52,7 +50,7 @@ fn count_of(line: &[u8]) -> Option<usize>
     ensures { result ≡ count_of line.now }
 {
     match read_decimal(line) {
-        Some(n) if n <= MAX_BODY as u64 => Some(n as usize),
+        Some(n) if n <= MAX_DATA as u64 => Some(n as usize),
         _ => None,
     }
 }

@@ -6,9 +6,9 @@ ghost use Rattle.plumb_msg.specs.Reading.{read_of};
 ghost use Rattle.plumb_msg.specs.Spelling.{quoted, needs_quotes, value_text, attr_text, after_blank, attrs_text, line, msg_text, are_name_bytes, is_name, are_named, can_spell};
 ghost use Rattle.plumb_msg.specs.declared.message.PlumbRead.TheVariants.{Whole};
 
+use crate::limits::MAX_DATA;
 use crate::message::{Attr, PlumbMsg};
 use crate::names::Names;
-use crate::reading::MAX_BODY;
 use crate::scanning::{is_name_byte, is_special};
 use crate::texts::is_line;
 use am_text::{Bytes, NoMemory, decimal};
@@ -159,6 +159,6 @@ pub fn can_spell(alloc: Global, msg: &PlumbMsg) -> Result<bool, NoMemory>
             && is_line(msg.sort.as_slice())
             && is_line(attrs.as_slice())
             && named
-            && msg.body.len() <= MAX_BODY,
+            && msg.body.len() <= MAX_DATA,
     )
 }

@@ -58,6 +58,7 @@ piece_from [] [] count = record { bytes = []; taken = None }
 abbrev pub piece_of : Inbox → ℕ → Piece
 piece_of o count = if count == 0 then record { bytes = []; taken = None } else piece_from o.carry o.messages count
 
+-- what a piece of a carry, else of the first message, leaves
 abbrev pub after_piece_from : List ℕ → List (List ℕ) → Inbox → ℕ → Inbox
 after_piece_from (b ∷ bs) messages o count = record o { carry = drop count (b ∷ bs) }
 after_piece_from [] (m ∷ ms) o count = record o { messages = ms; carry = drop count m }

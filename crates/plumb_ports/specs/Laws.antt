@@ -5,6 +5,7 @@ use Rattle.wait_queue.specs.Laws.{AddsNone, AddsOnly}
 use Rattle.wait_queue.specs.Reads.{is_read}
 use Rattle.wait_queue.specs.declared.types.Asker.{Asker}
 use Rattle.wait_queue.specs.declared.types.Piece.{Piece}
+use Rattle.plumb_ports.specs.Limits.{kept_messages}
 use Rattle.plumb_ports.specs.PortList.{number_of, kept_of}
 use Rattle.plumb_ports.specs.Inboxes.{Inbox, inbox_of, is_on}
 use Rattle.plumb_ports.specs.PortsState.{PortsState, beginning, HasJoined, has_joined, is_open, read_waits, piece_for, next_of, served_of, refusal, after_add, after_join, after_deliver, delivered_at, after_ask, after_serve, after_cancel, after_leave, after_answer}
@@ -29,6 +30,7 @@ IsAllowed s Serve = Unit {0}
 IsAllowed s (Cancel conn tag) = Unit {0}
 IsAllowed s (Leave opening) = Unit {0}
 
+-- what a call makes of the ports
 abbrev pub after_call : PortsState → Call → PortsState
 after_call s (Add name) = after_add s name
 after_call s (Join port opening) = after_join s port opening
@@ -42,6 +44,7 @@ after_call s (Leave opening) = after_leave s opening
 abbrev pub owed_in : Inbox → List ℕ
 owed_in o = o.carry ++ concat o.messages
 
+-- the bytes that an opening has yet to get
 abbrev pub owed : PortsState → ℕ → List ℕ
 owed s opening = owed_in (inbox_of s.openings opening)
 
@@ -49,6 +52,7 @@ owed s opening = owed_in (inbox_of s.openings opening)
 abbrev pub answer_to : PortsState → Asker → ℕ → List ℕ
 answer_to s r opening = if r.opening == opening then (piece_for s r).bytes else []
 
+-- the bytes that the next answer gives to an opening
 abbrev pub served_to : PortsState → Option Asker → ℕ → List ℕ
 served_to s None opening = []
 served_to s (Some r) opening = answer_to s r opening
@@ -87,10 +91,12 @@ LosesNothing =
 
 -- ---- many calls
 
+-- what calls make of the ports
 abbrev pub run : PortsState → List Call → PortsState
 run s [] = s
 run s (c ∷ cs) = run (after_call s c) cs
 
+-- each call is allowed where it comes
 abbrev pub AreAllowed : PortsState → List Call → Type 0
 AreAllowed s [] = Unit {0}
 AreAllowed s (c ∷ cs) = IsAllowed s c × AreAllowed (after_call s c) cs
@@ -100,10 +106,12 @@ abbrev pub Stays : PortsState → List Call → ℕ → Type 0
 Stays s [] opening = Unit {0}
 Stays s (c ∷ cs) opening = HasJoined (after_call s c) opening × Stays (after_call s c) cs opening
 
+-- the bytes that calls gave to an opening
 abbrev pub all_given : PortsState → List Call → ℕ → List ℕ
 all_given s [] opening = []
 all_given s (c ∷ cs) opening = given_by s c opening ++ all_given (after_call s c) cs opening
 
+-- the bytes that calls delivered for an opening
 abbrev pub all_delivered : PortsState → List Call → ℕ → List ℕ
 all_delivered s [] opening = []
 all_delivered s (c ∷ cs) opening = delivered_by s c opening ++ all_delivered (after_call s c) cs opening
@@ -154,6 +162,7 @@ WaitsAfter Serve before after = AddsNone before after
 WaitsAfter (Cancel conn tag) before after = AddsNone before after
 WaitsAfter (Leave opening) before after = AddsNone before after
 
+-- only a read that asks begins to wait
 abbrev pub OnlyAskWaits : Type 0
 OnlyAskWaits = (s : PortsState) (call : Call) → WaitsAfter call s.reads (after_call s call).reads
 
@@ -165,6 +174,7 @@ ServedWaited = (s : PortsState) (r : Asker) (piece : Piece) → served_of s ≡ 
 abbrev pub is_numbered : ℕ → Inbox → Bool
 is_numbered count o = nat_le o.opening count
 
+-- so it is with each opening that is there
 abbrev pub AreNumbered : PortsState → Type 0
 AreNumbered s = list_all (is_numbered s.joined) s.openings ≡ true
 
@@ -183,12 +193,13 @@ pub record NumbersRise (s : PortsState) : Type 0 where
   pub stays : (c : Call) → IsNumbered s c → AreNumbered (after_call s c)
   pub within : (opening : ℕ) → HasJoined s opening → opening ≤ s.joined
 
+-- so they are after any calls
 abbrev pub OpeningsAreNumbered : Type 0
 OpeningsAreNumbered = (s : PortsState) → AreNumbered s → NumbersRise s
 
 -- no port keeps more than 64 messages, and one with an opening keeps none
 pub record IsLawful (s : PortsState) : Type 0 where
-  pub few : (port : ℕ) → length (kept_of s.ports port) ≤ 64
+  pub few : (port : ℕ) → length (kept_of s.ports port) ≤ kept_messages
   pub none : (port : ℕ) → is_open s port ≡ true → kept_of s.ports port ≡ []
 
 -- that holds from the beginning on, whatever calls are made

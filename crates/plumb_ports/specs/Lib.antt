@@ -4,3 +4,4 @@ pub mod PortsState
 pub mod Undo
 pub mod Shown
 pub mod Laws
+pub mod Limits

@@ -3,6 +3,7 @@ use Rattle.std.specs.Prelude.{ℕ, zero, suc, Bool, List, [], ◌∷◌, ◌++�
 use Rattle.std.specs.Str.{bytes_eq}
 use Rattle.std.specs.Option.{is_some}
 
+-- a port, with the messages that it keeps
 pub record Port : Type 0 where
   pub name : List ℕ
   pub kept : List (List ℕ)
@@ -15,9 +16,11 @@ named name = record { name = name; kept = [] }
 unfoldable pub edit_name : List ℕ
 edit_name = codes "edit"
 
+-- whether a port has this name
 abbrev pub has_name : List ℕ → Port → Bool
 has_name name p = bytes_eq name p.name
 
+-- the names of ports, in their order
 abbrev pub names_of : List Port → List (List ℕ)
 names_of ps = map (λ p. p.name) ps
 
@@ -25,6 +28,7 @@ names_of ps = map (λ p. p.name) ps
 abbrev pub number_of : List Port → List ℕ → Option ℕ
 number_of ps name = position (has_name name) ps
 
+-- whether there is a port of this name
 abbrev pub is_there : List Port → List ℕ → Bool
 is_there ps name = is_some (number_of ps name)
 

@@ -7,6 +7,7 @@ use Rattle.wait_queue.specs.Carry.{carry_of}
 use Rattle.wait_queue.specs.WaitState.{WaitState}
 use Rattle.wait_queue.specs.declared.pending.Pending.{Pending}
 use Rattle.rule_syntax.specs.Verbs.{is_port_name}
+use Rattle.plumb_ports.specs.Limits.{max_ports}
 use Rattle.plumb_ports.specs.PortList.{Port, names_of}
 use Rattle.plumb_ports.specs.Inboxes.{Inbox, delivered}
 
@@ -16,7 +17,7 @@ port_of e = record { name = e.0.items; kept = e.1 }
 
 -- these are the names in the map, which are names of ports; there are at most 65,536
 pub record IsNamedBy (names : List (List ℕ)) (entries : List (Vec ℕ × List (List ℕ))) : Type 0 where
-  pub few : length entries ≤ 65536
+  pub few : length entries ≤ max_ports
   pub same : names ≡ names_of (map port_of entries)
   pub named_well : list_all is_port_name names ≡ true
 
@@ -24,6 +25,7 @@ pub record IsNamedBy (names : List (List ℕ)) (entries : List (Vec ℕ × List 
 abbrev pub as_item : List ℕ → Pending
 as_item message = record { number = 0; bytes = message }
 
+-- the bytes of an item
 abbrev pub message_of : Pending → List ℕ
 message_of item = item.bytes
 
@@ -49,6 +51,7 @@ pub record IsQueueOf (opening port : ℕ) (queue : Twice WaitState) : Type 0 whe
 abbrev pub present_of : Twice Inbox → Inbox
 present_of t = t.present
 
+-- an inbox at the last keep
 abbrev pub kept_of : Twice Inbox → Inbox
 kept_of t = t.kept
 
@@ -56,6 +59,7 @@ kept_of t = t.kept
 abbrev pub with_present : Twice Inbox → Twice Inbox
 with_present t = both t.present
 
+-- with what was kept as what is present
 abbrev pub with_kept : Twice Inbox → Twice Inbox
 with_kept t = both t.kept
 

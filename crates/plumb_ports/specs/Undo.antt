@@ -8,6 +8,7 @@ use Rattle.plumb_ports.specs.declared.undo.Undo.TheVariants.{Remove, Unkeep, Res
 abbrev pub without_last : {X : Type 0} → List X → List X
 without_last xs = take (length xs - 1) xs
 
+-- a growth taken back
 abbrev pub undone : Undo → List Port → List Port
 undone Remove ps = without_last ps
 undone (Unkeep port) ps = with_kept ps port (without_last (kept_of ps port))

@@ -3,6 +3,7 @@
 ghost use Rattle.std.specs.Prelude.{◌≡◌, ◌<◌, ◌≤◌, [], ◌∷◌, ◌++◌, length, None, slice_get, option_copied, option_map, true, IfOk, OnOk, OnErr};
 ghost use Rattle.std.specs.List.{list_all};
 ghost use Rattle.rule_syntax.specs.Verbs.{is_port_name};
+ghost use Rattle.plumb_ports.specs.Limits.{max_ports};
 ghost use Rattle.plumb_ports.specs.PortList.{Port, named, names_of, number_of, kept_of, with_kept};
 ghost use Rattle.plumb_ports.specs.Undo.{without_last};
 
@@ -46,7 +47,7 @@ impl PortMap {
     /// How many ports there are.
     pub fn len(&self) -> usize
         ensures len { result ≡ length self.now }
-        ensures at_most { result ≤ 65536 }
+        ensures at_most { result ≤ max_ports }
     {
         self.by_name.len()
     }
@@ -55,7 +56,7 @@ impl PortMap {
     pub fn names(&self) -> &[Bytes]
         ensures names { result.now ≡ names_of self.now }
         ensures named_well { list_all is_port_name result.now ≡ true }
-        ensures at_most { length result.now ≤ 65536 }
+        ensures at_most { length result.now ≤ max_ports }
     {
         self.names.as_slice()
     }
@@ -83,7 +84,7 @@ impl PortMap {
     /// Adds a port of this name, which isn't there. A refusal changes nothing.
     pub fn add(&mut self, alloc: Global, name: &[u8]) -> Result<(), NoMemory>
         requires new_name { number_of self.old name.now ≡ None }
-        requires few { length self.old < 65536 }
+        requires few { length self.old < max_ports }
         requires named_well { is_port_name name.now ≡ true }
         ensures ok { OnOk result (self.new ≡ self.old ++ named name.now ∷ []) }
         ensures err { OnErr result (self.new ≡ self.old) }

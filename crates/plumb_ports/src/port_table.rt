@@ -4,6 +4,7 @@ ghost use Rattle.std.specs.Prelude.{◌≡◌, ◌<◌, ◌≤◌, true, [], ◌
 ghost use Rattle.std.specs.List.{list_all};
 ghost use Rattle.rule_syntax.specs.Verbs.{is_port_name};
 ghost use Rattle.am_text.specs.Twice.{Twice, both};
+ghost use Rattle.plumb_ports.specs.Limits.{max_ports};
 ghost use Rattle.plumb_ports.specs.PortList.{named, names_of, number_of, kept_of, with_kept};
 
 use crate::port_map::PortMap;
@@ -71,7 +72,7 @@ impl PortTable {
     pub fn names(&self) -> &[Bytes]
         ensures names { result.now ≡ names_of self.now.present }
         ensures named_well { list_all is_port_name result.now ≡ true }
-        ensures at_most { length result.now ≤ 65536 }
+        ensures at_most { length result.now ≤ max_ports }
     {
         self.ports.names()
     }
@@ -93,7 +94,7 @@ impl PortTable {
     /// Adds a port of this name, which isn't there. A refusal changes nothing.
     pub fn add(&mut self, name: &[u8]) -> Result<(), NoMemory>
         requires new_name { number_of self.old.present name.now ≡ None }
-        requires few { length self.old.present < 65536 }
+        requires few { length self.old.present < max_ports }
         requires named_well { is_port_name name.now ≡ true }
         ensures ok { OnOk result (self.new ≡ record self.old { present = self.old.present ++ named name.now ∷ [] }) }
         ensures err { OnErr result (self.new ≡ self.old) }

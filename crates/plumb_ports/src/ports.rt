@@ -5,19 +5,19 @@ ghost use Rattle.std.specs.List.{list_all, list_any};
 ghost use Rattle.am_text.specs.Twice.{Twice, both, IsSteady};
 ghost use Rattle.wait_queue.specs.Reads.{is_read};
 ghost use Rattle.rule_syntax.specs.Verbs.{is_port_name};
+ghost use Rattle.wait_queue.specs.Limits.{max_openings};
+ghost use Rattle.plumb_ports.specs.Limits.{max_ports};
 ghost use Rattle.plumb_ports.specs.PortList.{named, names_of, edit_name, is_there, number_of};
 ghost use Rattle.plumb_ports.specs.PortsState.{PortsState, beginning, is_open, is_full, has_joined, HasJoined, added_number, after_add, after_join, refusal, Refuses, after_fault, after_deliver, delivered_at, read_waits, piece_for, after_answer, asked_of, after_ask, next_of, without_next, served_of, after_serve, after_cancel, after_leave};
 
 use crate::fault::PortFault;
+use crate::limits::KEPT_MESSAGES;
 use crate::opening_table::OpeningTable;
 use crate::port_table::PortTable;
 use am_text::{Bytes, NoMemory};
 use std::alloc::Global;
 use std::marker::Model;
 use wait_queue::{Answers, Asked, Asker, Piece, Reads};
-
-/// How many messages a port keeps at most.
-const KEPT_MESSAGES: usize = 64;
 
 // The port `edit` alone, in both states.
 #[tactic(auto, unfolding(crate::specs::PortList::edit_name, rule_syntax::specs::Verbs::is_port_name))]
@@ -138,7 +138,7 @@ impl Ports {
     pub fn names(&self) -> &[Bytes]
         ensures names { result.now ≡ names_of self.now.present.ports }
         ensures named_well { list_all is_port_name result.now ≡ true }
-        ensures at_most { length result.now ≤ 65536 }
+        ensures at_most { length result.now ≤ max_ports }
     {
         self.table.names()
     }
@@ -179,7 +179,7 @@ impl Ports {
     }
 
     fn try_add(&mut self, name: &[u8]) -> Result<u32, NoMemory>
-        requires room { IsTrue (is_there self.old.present.ports name.now) ⊎ (length self.old.present.ports < 65536) }
+        requires room { IsTrue (is_there self.old.present.ports name.now) ⊎ (length self.old.present.ports < max_ports) }
         requires named_well { is_port_name name.now ≡ true }
         ensures number { IfOk result (λ number. number ≡ added_number self.old.present name.now) }
         ensures ok { OnOk result (self.new ≡ record self.old { present = after_add self.old.present name.now }) }
@@ -197,7 +197,7 @@ impl Ports {
     /// Adds a port of this name, the last one, and answers its number. A name that is there keeps its
     /// port, whose number is answered. There are at most 65,536 ports.
     pub fn add(&mut self, name: &[u8]) -> Result<u32, NoMemory>
-        requires room { IsTrue (is_there self.old.present.ports name.now) ⊎ (length self.old.present.ports < 65536) }
+        requires room { IsTrue (is_there self.old.present.ports name.now) ⊎ (length self.old.present.ports < max_ports) }
         requires named_well { is_port_name name.now ≡ true }
         ensures number { IfOk result (λ number. number ≡ added_number self.old.present name.now) }
         ensures ok { OnOk result (self.new ≡ record self.old { present = after_add self.old.present name.now }) }
@@ -213,7 +213,7 @@ impl Ports {
     }
 
     fn try_join(&mut self, port: u32, opening: u32) -> Result<(), NoMemory>
-        requires { self.old.present.joined < 4294967295 }
+        requires { self.old.present.joined < max_openings }
         ensures ok { OnOk result (self.new ≡ record self.old { present = after_join self.old.present port opening }) }
         ensures err { OnErr result (self.new.kept ≡ self.old.kept) }
     {
@@ -229,7 +229,7 @@ impl Ports {
     pub fn join(&mut self, port: u32, opening: u32) -> Result<(), NoMemory>
         requires port { port < length self.old.present.ports }
         requires once { has_joined self.old.present opening ≡ false }
-        requires few { self.old.present.joined < 4294967295 }
+        requires few { self.old.present.joined < max_openings }
         ensures ok { OnOk result (self.new ≡ record self.old { present = after_join self.old.present port opening }) }
         ensures err { OnErr result (self.new ≡ both self.old.kept) }
     {

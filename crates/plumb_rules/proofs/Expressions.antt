@@ -8,7 +8,7 @@ use Rattle.re_spans.specs.Over.{IsFirstOver}
 use Rattle.re_spans.specs.Search.{matches}
 use Rattle.re_spans.proofs.Tested.{matches_tell, matches_from}
 use Rattle.re_syntax.specs.Answer.{IsRead, IsBad, Refuses}
-use Rattle.re_syntax.specs.Build.{finished}
+use Rattle.re_syntax.specs.Build.{level_tree}
 use Rattle.re_syntax.specs.Grammar.{IsExpression}
 use Rattle.re_syntax.specs.Match.{Matches}
 use Rattle.re_syntax.specs.Read.{Reading, begin, reads, is_complete}
@@ -28,7 +28,7 @@ pub expression_some : (text : List ℕ) (r : Tree) → IsExpression None text r 
 unfolding expression_of
 expression_some text r is =
     let c = complete_read None text r is in
-    ap tree_read c.reads_to ∙ ap (λ (t : Bool). cond t (finished c.reading.stack.top) None) c.complete ∙ c.finished_is
+    ap tree_read c.reads_to ∙ ap (λ (t : Bool). cond t (level_tree c.reading.stack.top) None) c.complete ∙ c.finished_is
 
 pub expression_only : (text : List ℕ) (r : Tree) → expression_of text ≡ Some r → IsExpression None text r
 unfolding expression_of
@@ -37,7 +37,7 @@ expression_only text r e = of (reads (Some (begin None)) text) refl e
     of : (o : Option Reading) → reads (Some (begin None)) text ≡ o → tree_read o ≡ Some r → IsExpression None text r
     of None is = λ h. absurd cc
     of (Some m) is =
-        elim (is_complete m.scanner) as (λ t. is_complete m.scanner ≡ t → cond t (finished m.stack.top) None ≡ Some r → IsExpression None text r) [
+        elim (is_complete m.scanner) as (λ t. is_complete m.scanner ≡ t → cond t (level_tree m.stack.top) None ≡ Some r → IsExpression None text r) [
           | true ↦ λ t h. let w = whole None text m is t in subst (λ (s : Tree). IsExpression None text s) (tree_is w.result r (sym w.finished_is ∙ h)) w.written
           | false ↦ λ t h. absurd cc
         ] refl

@@ -1,7 +1,7 @@
 -- Patterns: the expression that a text is, the match at a click, and its groups.
 use Rattle.std.specs.Prelude.{◌≤◌, ℕ, Bool, List, length, Option, Some, None, nat_le, if◌then◌else◌}
 use Rattle.am_text.specs.declared.range.Range.{Range}
-use Rattle.re_syntax.specs.Build.{finished}
+use Rattle.re_syntax.specs.Build.{level_tree}
 use Rattle.re_syntax.specs.Match.{Matches}
 use Rattle.re_syntax.specs.Read.{Reading, begin, reads, is_complete}
 use Rattle.re_syntax.specs.Tree.{Tree, tree, nodes}
@@ -13,7 +13,7 @@ use Rattle.plumb_rules.specs.declared.state.Matched.{Matched}
 
 abbrev pub tree_read : Option Reading → Option Tree
 tree_read None = None
-tree_read (Some m) = if is_complete m.scanner then finished m.stack.top else None
+tree_read (Some m) = if is_complete m.scanner then level_tree m.stack.top else None
 
 -- the tree of the expression that a text is, if it is one
 unfoldable pub expression_of : List ℕ → Option Tree

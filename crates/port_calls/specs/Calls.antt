@@ -43,18 +43,22 @@ comes_to opening s (Leave o) = []
 
 -- ---- one after another
 
+-- each call may be made where it comes
 unfoldable pub CanCallAll : PortsState → List Call → Type 0
 CanCallAll s [] = Unit {0}
 CanCallAll s (c ∷ cs) = CanCall s c × CanCallAll (after_call s c) cs
 
+-- the ports after calls
 unfoldable pub after_calls : PortsState → List Call → PortsState
 after_calls s [] = s
 after_calls s (c ∷ cs) = after_calls (after_call s c) cs
 
+-- the answers that calls give
 unfoldable pub all_answers : PortsState → List Call → Answers
 all_answers s [] = []
 all_answers s (c ∷ cs) = answers_of s c ++ all_answers (after_call s c) cs
 
+-- the messages that calls deliver for an opening
 unfoldable pub all_coming : ℕ → PortsState → List Call → List (List ℕ)
 all_coming opening s [] = []
 all_coming opening s (c ∷ cs) = comes_to opening s c ++ all_coming opening (after_call s c) cs

@@ -20,5 +20,6 @@ pub record IsLawfulRun (s : PortsState) (cs : List Call) : Type 0 where
   pub gets : (opening : ℕ) (given : List ℕ) (coming : List (List ℕ)) → GetsItsMessages given coming s opening
       → GetsItsMessages (given ++ bytes_to opening (all_answers s cs)) (coming ++ all_coming opening s cs) (after_calls s cs) opening
 
+-- so it is with any calls of an entry
 abbrev pub CallsAreLawful : Type 0
 CallsAreLawful = (s : PortsState) (cs : List Call) → AreNumbered s → CanCallAll s cs → IsLawfulRun s cs

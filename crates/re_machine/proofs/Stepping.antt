@@ -8,9 +8,9 @@ use Rattle.re_syntax.specs.Tree.{Tree}
 use Rattle.re_spans.specs.Choice.{is_at}
 use Rattle.re_spans.proofs.Chosen.{found_first, found_last, firsts_between, lasts_between}
 use Rattle.re_sets.specs.Readings.{Reading, forward, backward, mirrored}
-use Rattle.re_sets.specs.Rows.{Row, Seen, seen, seen_at, ended, onward, solid, parted, moved, entered}
+use Rattle.re_sets.specs.Rows.{Row, Seen, seen, seen_at, ended, onward, solid, parted, move_rows, new_row}
 use Rattle.re_sets.specs.Tables.{Table, IsTable, text_of, meet, join_rows, take_away}
-use Rattle.re_sets.specs.Searches.{Known, Followed, Reached, FindsIn, from_end, turned_if}
+use Rattle.re_sets.specs.Searches.{Known, Followed, Reached, FindsIn, from_end, found_from_end}
 use Rattle.re_sets.proofs.Telling.{if_from, on_minus, on_minus_in}
 use Rattle.re_sets.proofs.Wording.{on_zero}
 use Rattle.std.specs.Int.Bits.{or_zero_l}
@@ -34,15 +34,15 @@ seen_text t w no_null k rows best null last s n l e =
 
 -- and so is what it has after a rune
 module _ {S : Type 0} (bits : S → ℕ) where
-  onward_by : (t : Table) (w : Reading) (no_null : Option ℕ) (k : ℕ) (row : ℕ → ℕ) (first takes : ℕ) (s : Seen) (next : List Row) → row ≡ t.row (w.here k) → first ≡ t.first (w.here k) → takes ≡ t.takes (w.rune k) → nat_lt k w.count ≡ true → next ≡ solid (parted take_away bit_or (moved (λ x. bit_and (join_rows row x t.size) takes) s.rows ++ entered s.enters k (bit_and first takes)) 0) → next ≡ solid (onward (text_of t w no_null) k s)
+  onward_by : (t : Table) (w : Reading) (no_null : Option ℕ) (k : ℕ) (row : ℕ → ℕ) (first takes : ℕ) (s : Seen) (next : List Row) → row ≡ t.row (w.here k) → first ≡ t.first (w.here k) → takes ≡ t.takes (w.rune k) → nat_lt k w.count ≡ true → next ≡ solid (parted take_away bit_or (move_rows (λ x. bit_and (join_rows row x t.size) takes) s.rows ++ new_row s.enters k (bit_and first takes)) 0) → next ≡ solid (onward (text_of t w no_null) k s)
   onward_by t w no_null k row first takes s next r f d l e =
-      let P : Bool → Type 0 = λ b. next ≡ solid (parted take_away bit_or (moved (λ x. if b then bit_and (join_rows (t.row (w.here k)) x t.size) (t.takes (w.rune k)) else 0) s.rows ++ entered s.enters k (if b then bit_and (t.first (w.here k)) (t.takes (w.rune k)) else 0)) 0) in
-      let Q : ℕ → Type 0 = λ z. next ≡ solid (parted take_away bit_or (moved (λ x. bit_and (join_rows (t.row (w.here k)) x t.size) z) s.rows ++ entered s.enters k (bit_and (t.first (w.here k)) z)) 0) in
-      let R : ℕ → Type 0 = λ z. next ≡ solid (parted take_away bit_or (moved (λ x. bit_and (join_rows (t.row (w.here k)) x t.size) takes) s.rows ++ entered s.enters k (bit_and z takes)) 0) in
-      let T : (ℕ → ℕ) → Type 0 = λ z. next ≡ solid (parted take_away bit_or (moved (λ x. bit_and (join_rows z x t.size) takes) s.rows ++ entered s.enters k (bit_and first takes)) 0) in
+      let P : Bool → Type 0 = λ b. next ≡ solid (parted take_away bit_or (move_rows (λ x. if b then bit_and (join_rows (t.row (w.here k)) x t.size) (t.takes (w.rune k)) else 0) s.rows ++ new_row s.enters k (if b then bit_and (t.first (w.here k)) (t.takes (w.rune k)) else 0)) 0) in
+      let Q : ℕ → Type 0 = λ z. next ≡ solid (parted take_away bit_or (move_rows (λ x. bit_and (join_rows (t.row (w.here k)) x t.size) z) s.rows ++ new_row s.enters k (bit_and (t.first (w.here k)) z)) 0) in
+      let R : ℕ → Type 0 = λ z. next ≡ solid (parted take_away bit_or (move_rows (λ x. bit_and (join_rows (t.row (w.here k)) x t.size) takes) s.rows ++ new_row s.enters k (bit_and z takes)) 0) in
+      let T : (ℕ → ℕ) → Type 0 = λ z. next ≡ solid (parted take_away bit_or (move_rows (λ x. bit_and (join_rows z x t.size) takes) s.rows ++ new_row s.enters k (bit_and first takes)) 0) in
       subst P (sym l) (subst Q d (subst R f (subst T r e)))
 
-  pub onward_text : (t : Table) (w : Reading) (no_null : Option ℕ) (k : ℕ) (c : Context S) (takes : ℕ) (s : Seen) (next : List Row) → IsContextOf bits t (w.here k) c → takes ≡ t.takes (w.rune k) → k < w.count → next ≡ solid (parted take_away bit_or (moved (move_by bits t.size c takes) s.rows ++ entered s.enters k (begin_by bits c takes)) 0) → next ≡ solid (onward (text_of t w no_null) k s)
+  pub onward_text : (t : Table) (w : Reading) (no_null : Option ℕ) (k : ℕ) (c : Context S) (takes : ℕ) (s : Seen) (next : List Row) → IsContextOf bits t (w.here k) c → takes ≡ t.takes (w.rune k) → k < w.count → next ≡ solid (parted take_away bit_or (move_rows (move_by bits t.size c takes) s.rows ++ new_row s.enters k (begin_by bits c takes)) 0) → next ≡ solid (onward (text_of t w no_null) k s)
   onward_text t w no_null k c takes s next is d l e =
       onward_by t w no_null k (slice_index (map bits c.follow.items)) (bits c.first) takes s next is.row_is is.first_is d (grind (arith, nat_tests, l)) e
 
@@ -95,15 +95,15 @@ finds_first r text from end no_null o f =
       inside = firsts_between r text from end no_null o found;
     }
 
-pub finds_last : (r : Tree) (text : List ℕ) (start to : ℕ) (no_null : Option ℕ) (o : Option Range) → start ≤ to → to ≤ length text → FindsIn (mirrored r) (backward text) (from_end (length text) no_null) (length text - to) (length text - start) o → FindsLast r text start to no_null (turned_if (length text) o)
+pub finds_last : (r : Tree) (text : List ℕ) (start to : ℕ) (no_null : Option ℕ) (o : Option Range) → start ≤ to → to ≤ length text → FindsIn (mirrored r) (backward text) (from_end (length text) no_null) (length text - to) (length text - start) o → FindsLast r text start to no_null (found_from_end (length text) o)
 finds_last r text start to no_null o order within f =
     let found = back.some_is r text no_null start to order within o f in
     let none = back.none_is r text no_null start to order within o f in
     record {
       found = found;
       none = none;
-      value = found_last r text start to no_null (turned_if (length text) o) found none;
-      inside = lasts_between r text start to no_null (turned_if (length text) o) found;
+      value = found_last r text start to no_null (found_from_end (length text) o) found none;
+      inside = lasts_between r text start to no_null (found_from_end (length text) o) found;
     }
 
 pub count_read : (way : Way) (text : List ℕ) → (reading way text).count ≡ length text
@@ -145,7 +145,7 @@ module _ {S : Type 0} (bits : S → ℕ) (r : Tree) (t : Table) (w : Reading) (n
         let seen_is : s ≡ seen_at k ((text_of t w no_null).null k) (one_row start set) (Some b) (ended (λ x. meet t.size x (bits c.last)) (one_row start set)) = rw a.goes_on refl in
         let e = seen_text t w no_null k (one_row start set) (Some b) ((text_of t w no_null).null k) (bits c.last) s refl of.last_is seen_is in
         let m = move_by bits t.size c takes set in
-        let moved_is : one_row start next ≡ solid (parted take_away bit_or (moved (move_by bits t.size c takes) s.rows ++ entered s.enters k (begin_by bits c takes)) 0) = subst (λ (z : ℕ). one_row start z ≡ solid (one_row start (take_away m 0))) (sym a.next_is) (sym (lone start m (λ z. a.some (a.next_is ∙ z)))) in
+        let moved_is : one_row start next ≡ solid (parted take_away bit_or (move_rows (move_by bits t.size c takes) s.rows ++ new_row s.enters k (begin_by bits c takes)) 0) = subst (λ (z : ℕ). one_row start z ≡ solid (one_row start (take_away m 0))) (sym a.next_is) (sym (lone start m (λ z. a.some (a.next_is ∙ z)))) in
         step_known r t w no_null low is k (one_row start set) (Some b) s (one_row start next) (Some b) above e (onward_text bits t w no_null k c takes s (one_row start next) of is_takes inside moved_is) refl (inl known)
 
     lone_none : IsAlone bits t.size c takes set true next → Steps k start set next None
@@ -157,7 +157,7 @@ module _ {S : Type 0} (bits : S → ℕ) (r : Tree) (t : Table) (w : Reading) (n
         let m = move_by bits t.size c takes set in
         let b = begin_by bits c takes in
         let other : take_away b m ≡ 0 = subst (λ (z : ℕ). take_away b z ≡ 0) a.next_is (a.no_other refl) in
-        let moved_is : one_row start next ≡ solid (parted take_away bit_or (moved (move_by bits t.size c takes) s.rows ++ entered s.enters k b) 0) = subst (λ (z : ℕ). one_row start z ≡ solid (one_row start (take_away m 0) ++ one_row k (take_away b (bit_or 0 m)))) (sym a.next_is) (sym (lone_two start m k b (λ z. a.some (a.next_is ∙ z)) other)) in
+        let moved_is : one_row start next ≡ solid (parted take_away bit_or (move_rows (move_by bits t.size c takes) s.rows ++ new_row s.enters k b) 0) = subst (λ (z : ℕ). one_row start z ≡ solid (one_row start (take_away m 0) ++ one_row k (take_away b (bit_or 0 m)))) (sym a.next_is) (sym (lone_two start m k b (λ z. a.some (a.next_is ∙ z)) other)) in
         step_known r t w no_null low is k (one_row start set) None s (one_row start next) None above e (onward_text bits t w no_null k c takes s (one_row start next) of is_takes inside moved_is) refl (inl known)
 
     pub lone_known : (best : Option Range) (is_idle : Bool) → is_idle ≡ is_none best → IsAlone bits t.size c takes set is_idle next → Steps k start set next best

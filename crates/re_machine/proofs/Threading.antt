@@ -3,7 +3,7 @@ use Rattle.std.proofs.Common.{◌≡◌, ℕ, zero, suc, ◌+◌, ◌<◌, ◌==
 use Rattle.std.specs.Prelude.{slice_index, bit_or, is_some, if◌then◌else◌}
 use Rattle.std.proofs.lemmas.List.{get_or-map}
 use Rattle.am_text.specs.declared.range.Range.{Range}
-use Rattle.re_sets.specs.Rows.{Row, seen_at, ended, solid, parted, moved}
+use Rattle.re_sets.specs.Rows.{Row, seen_at, ended, solid, parted, move_rows}
 use Rattle.re_sets.specs.Tables.{take_away}
 use Rattle.re_machine.specs.Threads.{rows_of, starts_of, sets_of, EndsAt, one_row}
 use Rattle.re_machine.specs.declared.rows.Thread.{Thread}
@@ -59,14 +59,14 @@ solid_cons x xs = go (x.set == 0)
     go false = refl
 
 -- one row goes over a rune, and then the others
-pub advanced : (f : ℕ → ℕ) (x : Row) (xs more : List Row) (seen : ℕ) → solid (parted take_away bit_or (moved f (x ∷ xs) ++ more) seen) ≡ solid (one_row x.start (take_away (f x.set) seen)) ++ solid (parted take_away bit_or (moved f xs ++ more) (bit_or seen (f x.set)))
-advanced f x xs more seen = solid_cons (record { start = x.start; set = take_away (f x.set) seen }) (parted take_away bit_or (moved f xs ++ more) (bit_or seen (f x.set)))
+pub advanced : (f : ℕ → ℕ) (x : Row) (xs more : List Row) (seen : ℕ) → solid (parted take_away bit_or (move_rows f (x ∷ xs) ++ more) seen) ≡ solid (one_row x.start (take_away (f x.set) seen)) ++ solid (parted take_away bit_or (move_rows f xs ++ more) (bit_or seen (f x.set)))
+advanced f x xs more seen = solid_cons (record { start = x.start; set = take_away (f x.set) seen }) (parted take_away bit_or (move_rows f xs ++ more) (bit_or seen (f x.set)))
 
-pub advanced_all : (f : ℕ → ℕ) (done : List Row) (x : Row) (xs : List Row) (seen set : ℕ) (next : List Row) (seen' : ℕ) (whole : List Row → List Row) → set ≡ f x.set → next ≡ done ++ solid (one_row x.start (take_away set seen)) → seen' ≡ bit_or seen set → ((more : List Row) → done ++ solid (parted take_away bit_or (moved f (x ∷ xs) ++ more) seen) ≡ whole more) → (more : List Row) → next ++ solid (parted take_away bit_or (moved f xs ++ more) seen') ≡ whole more
+pub advanced_all : (f : ℕ → ℕ) (done : List Row) (x : Row) (xs : List Row) (seen set : ℕ) (next : List Row) (seen' : ℕ) (whole : List Row → List Row) → set ≡ f x.set → next ≡ done ++ solid (one_row x.start (take_away set seen)) → seen' ≡ bit_or seen set → ((more : List Row) → done ++ solid (parted take_away bit_or (move_rows f (x ∷ xs) ++ more) seen) ≡ whole more) → (more : List Row) → next ++ solid (parted take_away bit_or (move_rows f xs ++ more) seen') ≡ whole more
 advanced_all f done x xs seen set next seen' whole e n s h more =
     let one = solid (one_row x.start (take_away (f x.set) seen)) in
-    let rest = solid (parted take_away bit_or (moved f xs ++ more) (bit_or seen (f x.set))) in
+    let rest = solid (parted take_away bit_or (move_rows f xs ++ more) (bit_or seen (f x.set))) in
     let all : done ++ (one ++ rest) ≡ whole more = ap (λ (z : List Row). done ++ z) (sym (advanced f x xs more seen)) ∙ h more in
     let two : (done ++ one) ++ rest ≡ whole more = append_assoc done one rest ∙ all in
-    let set_is : (done ++ solid (one_row x.start (take_away set seen))) ++ solid (parted take_away bit_or (moved f xs ++ more) (bit_or seen set)) ≡ whole more = subst (λ (z : ℕ). (done ++ solid (one_row x.start (take_away z seen))) ++ solid (parted take_away bit_or (moved f xs ++ more) (bit_or seen z)) ≡ whole more) (sym e) two in
-    subst (λ (z : List Row). z ++ solid (parted take_away bit_or (moved f xs ++ more) seen') ≡ whole more) (sym n) (subst (λ (z : ℕ). (done ++ solid (one_row x.start (take_away set seen))) ++ solid (parted take_away bit_or (moved f xs ++ more) z) ≡ whole more) (sym s) set_is)
+    let set_is : (done ++ solid (one_row x.start (take_away set seen))) ++ solid (parted take_away bit_or (move_rows f xs ++ more) (bit_or seen set)) ≡ whole more = subst (λ (z : ℕ). (done ++ solid (one_row x.start (take_away z seen))) ++ solid (parted take_away bit_or (move_rows f xs ++ more) (bit_or seen z)) ≡ whole more) (sym e) two in
+    subst (λ (z : List Row). z ++ solid (parted take_away bit_or (move_rows f xs ++ more) seen') ≡ whole more) (sym n) (subst (λ (z : ℕ). (done ++ solid (one_row x.start (take_away set seen))) ++ solid (parted take_away bit_or (move_rows f xs ++ more) z) ≡ whole more) (sym s) set_is)

@@ -6,6 +6,7 @@ use Rattle.re_sets.specs.Spots.{null, first, last, follow}
 use Rattle.re_sets.specs.Numbers.{rows}
 use Rattle.re_sets.specs.Words.{on, IsSet}
 
+-- the letters by which matches of a part of a tree begin and end, and whether the null text is one
 pub record IsPart (r : Tree) (base : ℕ) (x : Here) (is_null : Bool) (firsts lasts : ℕ) : Type 0 where
   pub null_is : is_null ≡ null r x
   pub first_is : IsSet r base (first r x) firsts

@@ -28,5 +28,6 @@ abbrev pub taken_from : List Tree → ℕ → ℕ → ℕ → ℕ
 taken_from [] d n found = found
 taken_from (x ∷ xs) d n found = taken_from xs d (n + 1) (if takes x d then bit_or found (2 ^ n) else found)
 
+-- the letters that take the rune
 abbrev pub taken_word : List Tree → ℕ → ℕ
 taken_word leaves d = taken_from leaves d 0 0

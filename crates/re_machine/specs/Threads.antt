@@ -6,10 +6,12 @@ use Rattle.re_machine.specs.declared.contexts.Context.{Context}
 use Rattle.re_machine.specs.declared.rows.Thread.{Thread}
 use Rattle.re_machine.specs.declared.rows.Threads.{Threads}
 
+-- one row alone
 abbrev pub one_row : ℕ → ℕ → List Row
 one_row start set = record { start = start; set = set } ∷ []
 
 module _ {S : Type 0} (bits : S → ℕ) where
+  -- a row, the rows and what is known at a place, of values of the program
   abbrev pub row_of : Thread S → Row
   row_of x = record { start = x.start; set = bits x.set }
 

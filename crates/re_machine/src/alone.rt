@@ -10,7 +10,7 @@ ghost use Rattle.re_machine.specs.Ways.{reading};
 ghost use Rattle.re_machine.specs.Whole.{table_of, IsWhole};
 ghost use Rattle.re_machine.specs.Threads.{rows_of, one_row, begin_by, IsAlone};
 
-use crate::bounds::Bounds;
+use crate::bounds::{Bounds, Cursor};
 use crate::contexts::Context;
 use crate::fill::join;
 use crate::rows::Threads;
@@ -58,7 +58,7 @@ fn alone<S: LetterSet>(context: &Context<S>, takes: S, lone: Lone<S>) -> Option<
 }
 
 // Over the runes of a range as long as the row stays alone: the place to which it comes, and its letters there.
-fn glided<T: Letters, S: LetterSet>(
+fn stay_alone<T: Letters, S: LetterSet>(
     tables: &Tables<S>,
     text: &T,
     way: Way,
@@ -89,31 +89,30 @@ fn glided<T: Letters, S: LetterSet>(
 pub fn glide<T: Letters, S: LetterSet>(
     tables: &Tables<S>,
     text: &T,
-    way: Way,
     threads: &mut Threads<S>,
-    k: usize,
+    cursor: Cursor,
     bounds: Bounds,
 ) -> usize
     requires whole { IsWhole S.bits S.SIZE tables.now }
-    requires low { bounds.low ≤ k }
-    requires order { k ≤ bounds.high }
+    requires low { bounds.low ≤ cursor.at }
+    requires order { cursor.at ≤ bounds.high }
     requires within { bounds.high ≤ length (T.letters text.now) }
-    ensures above { k ≤ result }
+    ensures above { cursor.at ≤ result }
     ensures below { result ≤ bounds.high }
-    ensures known { (r : Tree) → IsTable r (table_of S.bits S.SIZE tables.now) → Known r (reading way (T.letters text.now)) bounds.no_null bounds.low k (rows_of S.bits threads.old.rows.items) threads.old.best → Known r (reading way (T.letters text.now)) bounds.no_null bounds.low result (rows_of S.bits threads.new.rows.items) threads.new.best }
+    ensures known { (r : Tree) → IsTable r (table_of S.bits S.SIZE tables.now) → Known r (reading cursor.way (T.letters text.now)) bounds.no_null bounds.low cursor.at (rows_of S.bits threads.old.rows.items) threads.old.best → Known r (reading cursor.way (T.letters text.now)) bounds.no_null bounds.low result (rows_of S.bits threads.new.rows.items) threads.new.best }
 {
     if threads.rows.len() != 1 {
-        return k;
+        return cursor.at;
     }
     let range = Range {
-        q0: k,
+        q0: cursor.at,
         q1: bounds.high,
     };
     let lone = Lone {
         set: threads.rows[0].set,
         is_idle: threads.best.is_none(),
     };
-    let (at, set) = glided(tables, text, way, lone, range);
+    let (at, set) = stay_alone(tables, text, cursor.way, lone, range);
     let row = &mut threads.rows[0];
     row.set = set;
     at
@@ -121,7 +120,7 @@ pub fn glide<T: Letters, S: LetterSet>(
 
 // Over the runes of a range by one row alone, whatever begins beside it: the place where it has no letters left or a
 // match of it ends, and where one ends its letters there.
-fn followed<T: Letters, S: LetterSet>(
+fn follow_alone<T: Letters, S: LetterSet>(
     tables: &Tables<S>,
     text: &T,
     way: Way,
@@ -168,35 +167,34 @@ fn may_lead<S: LetterSet>(threads: &Threads<S>, k: usize) -> bool
 pub fn lead<T: Letters, S: LetterSet>(
     tables: &Tables<S>,
     text: &T,
-    way: Way,
     threads: &mut Threads<S>,
-    k: usize,
+    cursor: Cursor,
     bounds: Bounds,
 ) -> usize
     requires whole { IsWhole S.bits S.SIZE tables.now }
-    requires order { k ≤ bounds.high }
+    requires order { cursor.at ≤ bounds.high }
     requires within { bounds.high ≤ length (T.letters text.now) }
-    ensures above { k ≤ result }
+    ensures above { cursor.at ≤ result }
     ensures below { result ≤ bounds.high }
-    ensures reached { (r : Tree) → IsTable r (table_of S.bits S.SIZE tables.now) → Known r (reading way (T.letters text.now)) bounds.no_null bounds.low k (rows_of S.bits threads.old.rows.items) threads.old.best → Reached r (table_of S.bits S.SIZE tables.now) (reading way (T.letters text.now)) bounds.no_null bounds.low result (rows_of S.bits threads.new.rows.items) threads.new.best }
+    ensures reached { (r : Tree) → IsTable r (table_of S.bits S.SIZE tables.now) → Known r (reading cursor.way (T.letters text.now)) bounds.no_null bounds.low cursor.at (rows_of S.bits threads.old.rows.items) threads.old.best → Reached r (table_of S.bits S.SIZE tables.now) (reading cursor.way (T.letters text.now)) bounds.no_null bounds.low result (rows_of S.bits threads.new.rows.items) threads.new.best }
 {
-    if k == bounds.high {
-        return k;
+    if cursor.at == bounds.high {
+        return cursor.at;
     }
-    if !may_lead(threads, k) {
-        return k;
+    if !may_lead(threads, cursor.at) {
+        return cursor.at;
     }
-    if !tables.may_begin(rune_at(text, way, k)) {
-        return k;
+    if !tables.may_begin(rune_at(text, cursor.way, cursor.at)) {
+        return cursor.at;
     }
     let range = Range {
-        q0: k,
+        q0: cursor.at,
         q1: bounds.high,
     };
-    let (at, ends) = followed(tables, text, way, threads.rows[0].set, range);
+    let (at, ends) = follow_alone(tables, text, cursor.way, threads.rows[0].set, range);
     threads.led = at;
     let Some(set) = ends else {
-        return k;
+        return cursor.at;
     };
     let row = &mut threads.rows[0];
     row.set = set;

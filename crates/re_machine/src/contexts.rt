@@ -89,6 +89,7 @@ impl<S: LetterSet> Context<S> {
     }
 }
 
+// A place that starts a line or not, and ends one or not.
 fn here(starts: bool, ends: bool) -> Here
     ensures { result ≡ kind_of starts ends }
 {

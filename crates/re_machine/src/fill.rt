@@ -60,6 +60,7 @@ pub struct Part<S> {
     pub last: S,
 }
 
+// A letter.
 fn letter<S: LetterSet>(base: usize) -> Part<S>
     requires inside { base < S.SIZE }
     requires fits { base + 1 < 2 ^ 64 }
@@ -77,6 +78,7 @@ fn letter<S: LetterSet>(base: usize) -> Part<S>
     }
 }
 
+// The start or the end of a line.
 fn anchor<S: LetterSet>(base: usize, null: bool) -> Part<S>
     ensures past { result.past ≡ base }
     ensures null { result.null ≡ null }

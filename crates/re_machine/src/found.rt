@@ -4,7 +4,7 @@ ghost use Rattle.std.specs.Prelude.{◌≡◌, ◌≤◌, length, IfOk};
 ghost use Rattle.re_syntax.specs.Tree.{Tree};
 ghost use Rattle.re_sets.specs.Readings.{mirrored};
 ghost use Rattle.re_sets.specs.Tables.{IsTable};
-ghost use Rattle.re_sets.specs.Searches.{from_end, turned_if};
+ghost use Rattle.re_sets.specs.Searches.{from_end, found_from_end};
 ghost use Rattle.re_machine.specs.Whole.{table_of, IsWhole};
 ghost use Rattle.re_machine.specs.Found.{FindsFirst, FindsLast};
 
@@ -27,8 +27,8 @@ fn from_end(count: usize, place: Option<usize>) -> Option<usize>
 }
 
 // A range counted from the end of a text of so many runes.
-fn turned(count: usize, found: Option<Range>) -> Option<Range>
-    ensures { result ≡ turned_if count found }
+fn found_from_end(count: usize, found: Option<Range>) -> Option<Range>
+    ensures { result ≡ found_from_end count found }
 {
     match found {
         Some(b) => Some(Range {
@@ -83,5 +83,5 @@ pub fn search_back<T: Letters, S: LetterSet>(
         no_null: from_end(count, no_null),
     };
     let found = search(alloc, tables, text, Way::Back, bounds)?;
-    Ok(turned(count, found))
+    Ok(found_from_end(count, found))
 }

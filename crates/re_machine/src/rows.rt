@@ -1,7 +1,7 @@
 //! The rows of a search, and how they go over a rune.
 
 ghost use Rattle.std.specs.Prelude.{◌≡◌, ◌++◌, [], List, length, map, bit_and, bit_or, slice_index, true, IfOk, OnOk, IsSome};
-ghost use Rattle.re_sets.specs.Rows.{Row, seen_at, ended, solid, parted, moved, entered};
+ghost use Rattle.re_sets.specs.Rows.{Row, seen_at, ended, solid, parted, move_rows, new_row};
 ghost use Rattle.re_sets.specs.Tables.{meet, join_rows, take_away};
 ghost use Rattle.re_machine.specs.Threads.{EndsAt, rows_of, one_row, seen_of, move_by, begin_by};
 
@@ -58,7 +58,7 @@ fn advance<S: LetterSet>(
     next: &mut Vec<Thread<S>>,
 ) -> Result<S, NoMemory>
     requires { next.old.items ≡ [] }
-    ensures { IfOk result (λ seen. (more : List Row) → rows_of S.bits next.new.items ++ solid (parted take_away bit_or more (S.bits seen)) ≡ solid (parted take_away bit_or (moved (move_by S.bits S.SIZE context.now (S.bits takes)) (rows_of S.bits rows.now) ++ more) 0)) }
+    ensures { IfOk result (λ seen. (more : List Row) → rows_of S.bits next.new.items ++ solid (parted take_away bit_or more (S.bits seen)) ≡ solid (parted take_away bit_or (move_rows (move_by S.bits S.SIZE context.now (S.bits takes)) (rows_of S.bits rows.now) ++ more) 0)) }
 {
     let mut seen = S::none();
     for row in rows {
@@ -113,7 +113,7 @@ impl<S: LetterSet> Threads<S> {
         k: usize,
         enters: bool,
     ) -> Result<(), NoMemory>
-        ensures rows { OnOk result (rows_of S.bits self.new.rows.items ≡ solid (parted take_away bit_or (moved (move_by S.bits S.SIZE context.now (S.bits takes)) (rows_of S.bits self.old.rows.items) ++ entered enters k (begin_by S.bits context.now (S.bits takes))) 0)) }
+        ensures rows { OnOk result (rows_of S.bits self.new.rows.items ≡ solid (parted take_away bit_or (move_rows (move_by S.bits S.SIZE context.now (S.bits takes)) (rows_of S.bits self.old.rows.items) ++ new_row enters k (begin_by S.bits context.now (S.bits takes))) 0)) }
         ensures best { OnOk result (self.new.best ≡ self.old.best) }
     {
         self.spare.clear();

@@ -11,7 +11,7 @@ ghost use Rattle.re_machine.specs.Whole.{table_of, IsWhole};
 ghost use Rattle.re_machine.specs.Threads.{rows_of};
 
 use crate::alone::{glide, lead};
-use crate::bounds::Bounds;
+use crate::bounds::{Bounds, Cursor};
 use crate::rows::Threads;
 use crate::set::LetterSet;
 use crate::tables::Tables;
@@ -19,6 +19,7 @@ use crate::way::{Way, rune_at};
 use am_text::{Letters, NoMemory, Range};
 use std::alloc::Global;
 
+// The place, if there is one, is this.
 fn is_at(place: Option<usize>, at: usize) -> bool
     ensures { result ≡ is_at place at }
 {
@@ -62,23 +63,22 @@ fn next_begin<T: Letters, S: LetterSet>(
 fn skip<T: Letters, S: LetterSet>(
     tables: &Tables<S>,
     text: &T,
-    way: Way,
     threads: &Threads<S>,
-    k: usize,
+    cursor: Cursor,
     bounds: Bounds,
 ) -> usize
     requires whole { IsWhole S.bits S.SIZE tables.now }
-    requires low { bounds.low ≤ k }
-    requires order { k ≤ bounds.high }
+    requires low { bounds.low ≤ cursor.at }
+    requires order { cursor.at ≤ bounds.high }
     requires within { bounds.high ≤ length (T.letters text.now) }
-    ensures above { k ≤ result }
+    ensures above { cursor.at ≤ result }
     ensures below { result ≤ bounds.high }
-    ensures known { (r : Tree) → IsTable r (table_of S.bits S.SIZE tables.now) → Known r (reading way (T.letters text.now)) bounds.no_null bounds.low k (rows_of S.bits threads.now.rows.items) threads.now.best → Known r (reading way (T.letters text.now)) bounds.no_null bounds.low result (rows_of S.bits threads.now.rows.items) threads.now.best }
+    ensures known { (r : Tree) → IsTable r (table_of S.bits S.SIZE tables.now) → Known r (reading cursor.way (T.letters text.now)) bounds.no_null bounds.low cursor.at (rows_of S.bits threads.now.rows.items) threads.now.best → Known r (reading cursor.way (T.letters text.now)) bounds.no_null bounds.low result (rows_of S.bits threads.now.rows.items) threads.now.best }
 {
     if threads.is_idle() && !tables.is_ever_null() {
-        return next_begin(tables, text, way, k, bounds.high);
+        return next_begin(tables, text, cursor.way, cursor.at, bounds.high);
     }
-    k
+    cursor.at
 }
 
 /// The match that the tree of the tables has between two places: the one that begins first, as the text is read, and
@@ -98,9 +98,15 @@ pub fn search<T: Letters, S: LetterSet>(
     let mut threads = Threads::new(alloc);
     let mut from = bounds.low;
     'places: loop {
-        let begun = skip(tables, text, way, &threads, from, bounds);
-        let at = glide(tables, text, way, &mut threads, begun, bounds);
-        let k = lead(tables, text, way, &mut threads, at, bounds);
+        let begun = skip(tables, text, &threads, Cursor { way, at: from }, bounds);
+        let at = glide(
+            tables,
+            text,
+            &mut threads,
+            Cursor { way, at: begun },
+            bounds,
+        );
+        let k = lead(tables, text, &mut threads, Cursor { way, at }, bounds);
         let context = tables.context(text, way, k);
         let null = counts(context.null, bounds.no_null, k);
         let enters = threads.see(k, null, context.last);

@@ -8,7 +8,7 @@ ghost use Rattle.re_sets.specs.Tables.{IsTable};
 ghost use Rattle.re_machine.specs.Leaves.{taken_word};
 ghost use Rattle.re_machine.specs.Ways.{reading};
 ghost use Rattle.re_machine.specs.Contexts.{IsContextOf, IsNeverNull, NoneBegins, BeginsAre};
-ghost use Rattle.re_machine.specs.Whole.{table_of, IsWhole};
+ghost use Rattle.re_machine.specs.Whole.{table_of, ascii_count, IsWhole};
 
 use crate::contexts::{Context, Contexts};
 use crate::leaves::{add_leaves, taking};
@@ -35,8 +35,8 @@ pub struct Tables<S> {
 // The letters that take each rune of a table.
 fn ascii_of<S: LetterSet>(alloc: Global, leaves: &[Re]) -> Result<Vec<S>, NoMemory>
     requires { length leaves.now ≤ S.SIZE }
-    ensures len { IfOk result (λ all. length all.items ≡ 128) }
-    ensures sets { IfOk result (λ all. (d : ℕ) → d < 128 → slice_index (map S.bits all.items) d ≡ taken_word (map tree leaves.now) d) }
+    ensures len { IfOk result (λ all. length all.items ≡ ascii_count) }
+    ensures sets { IfOk result (λ all. (d : ℕ) → d < ascii_count → slice_index (map S.bits all.items) d ≡ taken_word (map tree leaves.now) d) }
 {
     let mut all = Vec::new(alloc);
     for rune in 0..ASCII {

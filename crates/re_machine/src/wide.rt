@@ -12,6 +12,7 @@ pub struct Wide {
     words: [u64; 16],
 }
 
+// The letters of one set or the other.
 fn or_words(x: &[u64; 16], y: &[u64; 16]) -> [u64; 16]
     ensures x_len { length x.now ≡ 16 }
     ensures y_len { length y.now ≡ 16 }
@@ -25,6 +26,7 @@ fn or_words(x: &[u64; 16], y: &[u64; 16]) -> [u64; 16]
     all
 }
 
+// The letters of both sets.
 fn and_words(x: &[u64; 16], y: &[u64; 16]) -> [u64; 16]
     ensures x_len { length x.now ≡ 16 }
     ensures y_len { length y.now ≡ 16 }
@@ -38,6 +40,7 @@ fn and_words(x: &[u64; 16], y: &[u64; 16]) -> [u64; 16]
     all
 }
 
+// The letters of the one set that aren't in the other.
 fn minus_words(x: &[u64; 16], y: &[u64; 16]) -> [u64; 16]
     ensures x_len { length x.now ≡ 16 }
     ensures y_len { length y.now ≡ 16 }
@@ -51,6 +54,7 @@ fn minus_words(x: &[u64; 16], y: &[u64; 16]) -> [u64; 16]
     all
 }
 
+// The word of a number.
 fn word_at(words: &[u64; 16], k: usize) -> u64
     requires { k < 16 }
     ensures len { length words.now ≡ 16 }

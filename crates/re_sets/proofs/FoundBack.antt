@@ -11,7 +11,7 @@ use Rattle.re_sets.specs.Tables.{Table, IsTable, text_of}
 use Rattle.re_sets.specs.Numbers.{Leads}
 use Rattle.re_sets.specs.Words.{on}
 use Rattle.re_sets.specs.Laws.{LeftOut}
-use Rattle.re_sets.specs.Searches.{BackFinds, from_end, turned, turned_if, back}
+use Rattle.re_sets.specs.Searches.{BackFinds, from_end, range_from_end, found_from_end, back}
 use Rattle.re_sets.proofs.Going.{Spans-on}
 use Rattle.re_sets.proofs.Mirrored.{backward_is, Matches-on}
 use Rattle.re_sets.proofs.Rowing.{search_is}
@@ -64,7 +64,7 @@ module _ (r : Tree) (text : List ℕ) (no_null : Option ℕ) (start to : ℕ) (o
             s.allowed e (out_there count no_null i (omega (arith, on, s.below, within)) (subst (λ (z : ℕ). from_end count no_null ≡ Some (count - z)) (sym e) a.1)),
       )
 
-  pub some_is : (o : Option Range) → Found o → IfSome (turned_if count o) (IsLast r text start to no_null)
+  pub some_is : (o : Option Range) → Found o → IfSome (found_from_end count o) (IsLast r text start to no_null)
   some_is None f = tt
   some_is (Some b) f =
       let on : b.q0 ≤ b.q1 = Spans-on (mirrored r) (backward text) b.q0 b.q1 f.span in
@@ -87,7 +87,7 @@ module _ (r : Tree) (text : List ℕ) (no_null : Option ℕ) (start to : ℕ) (o
             elim (f.least (count - (count - b.q0)) (count - i) x.1 x.2 x.3 x.4) [ inl y ↦ absurd (omega (arith, y, a)) | inr y ↦ omega (arith, y.1, x.0) ];
       }
 
-  pub none_is : (o : Option Range) → Found o → IfNone (turned_if count o) (HasNoSpan r text start to no_null)
+  pub none_is : (o : Option Range) → Found o → IfNone (found_from_end count o) (HasNoSpan r text start to no_null)
   none_is None f = λ i j s. let x = there i j s in f (count - j) (count - i) x.1 x.2 x.3 x.4
   none_is (Some b) f = tt
 

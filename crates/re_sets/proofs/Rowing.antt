@@ -4,7 +4,7 @@ use Rattle.std.specs.Prelude.{IsTrue, ◌↔◌, if◌then◌else◌}
 use Rattle.std.proofs.lemmas.Bool.{cases_lt, cases_eq, cases_Bool}
 use Rattle.std.proofs.lemmas.Bool.Decides.{nat_tests}
 use Rattle.am_text.specs.declared.range.Range.{Range}
-use Rattle.re_sets.specs.Rows.{Row, AllRows, AnyRow, AreSorted, with_row, ended, parted, Seen, seen_at, entered, moved, solid, Text, seen, onward, search, Beats, Covers, OnBest, Knows, Follows, Reaches, Tells, IsBest, Finds}
+use Rattle.re_sets.specs.Rows.{Row, AllRows, AnyRow, AreSorted, with_row, ended, parted, Seen, seen_at, new_row, move_rows, solid, Text, seen, onward, search, Beats, Covers, OnBest, Knows, Follows, Reaches, Tells, IsBest, Finds}
 
 all_map : (P Q : Row → Type 0) → ((x : Row) → P x → Q x) → (xs : List Row) → AllRows P xs → AllRows Q xs
 all_map P Q f [] a = tt
@@ -248,48 +248,48 @@ module _ (S A : ℕ → ℕ → Type 0) (L : ℕ → ℕ → ℕ → Type 0) (lo
   part_sound k (x ∷ xs) had a =
       ((a.0.0, a.0.1, λ j l. a.0.2 j (tells.minus_in x.set had k j l)), part_sound k xs (t.union had x.set) a.1)
 
-  move_starts : (P : ℕ → Type 0) (f : ℕ → ℕ) (xs ys : List Row) → AllRows (λ x. P x.start) xs → AllRows (λ x. P x.start) ys → AllRows (λ x. P x.start) (moved f xs ++ ys)
+  move_starts : (P : ℕ → Type 0) (f : ℕ → ℕ) (xs ys : List Row) → AllRows (λ x. P x.start) xs → AllRows (λ x. P x.start) ys → AllRows (λ x. P x.start) (move_rows f xs ++ ys)
   move_starts P f [] ys a b = b
   move_starts P f (x ∷ xs) ys a b = (a.0, move_starts P f xs ys a.1 b)
 
-  enter_starts : (P : ℕ → Type 0) (b : Bool) (k set : ℕ) → P k → AllRows (λ x. P x.start) (entered b k set)
+  enter_starts : (P : ℕ → Type 0) (b : Bool) (k set : ℕ) → P k → AllRows (λ x. P x.start) (new_row b k set)
   enter_starts P true k set p = (p, tt)
   enter_starts P false k set p = tt
 
-  move_sorted : (k : ℕ) (f : ℕ → ℕ) (b : Bool) (set : ℕ) (xs : List Row) → AreSorted xs → AllRows (λ x. x.start < k) xs → AreSorted (moved f xs ++ entered b k set)
+  move_sorted : (k : ℕ) (f : ℕ → ℕ) (b : Bool) (set : ℕ) (xs : List Row) → AreSorted xs → AllRows (λ x. x.start < k) xs → AreSorted (move_rows f xs ++ new_row b k set)
   move_sorted k f true set [] s a = (tt, tt)
   move_sorted k f false set [] s a = tt
   move_sorted k f b set (x ∷ xs) s a =
-      (move_starts (λ z. x.start < z) f xs (entered b k set) s.0 (enter_starts (λ z. x.start < z) b k set a.0), move_sorted k f b set xs s.1 a.1)
+      (move_starts (λ z. x.start < z) f xs (new_row b k set) s.0 (enter_starts (λ z. x.start < z) b k set a.0), move_sorted k f b set xs s.1 a.1)
 
-  enter_sound : (b : Bool) (k : ℕ) → low ≤ k → AllRows (IsSound (k + 1)) (entered b k (t.begin k))
+  enter_sound : (b : Bool) (k : ℕ) → low ≤ k → AllRows (IsSound (k + 1)) (new_row b k (t.begin k))
   enter_sound true k a = ((a, omega arith, λ j l. tells.begin_from k j l), tt)
   enter_sound false k a = tt
 
-  move_sound : (k : ℕ) (xs ys : List Row) → AllRows (IsSound k) xs → AllRows (IsSound (k + 1)) ys → AllRows (IsSound (k + 1)) (moved (t.move k) xs ++ ys)
+  move_sound : (k : ℕ) (xs ys : List Row) → AllRows (IsSound k) xs → AllRows (IsSound (k + 1)) ys → AllRows (IsSound (k + 1)) (move_rows (t.move k) xs ++ ys)
   move_sound k [] ys a b = b
   move_sound k (x ∷ xs) ys a b =
       ((a.0.0, omega (arith, a.0.1), λ j l. a.0.2 j (tells.move_from x.set k j l)), move_sound k xs ys a.1 b)
 
-  move_any : (i k j : ℕ) (xs ys : List Row) → k < j → AnyRow (λ x. (x.start ≤ i) × L x.set k j) xs → AnyRow (λ x. (x.start ≤ i) × L x.set (k + 1) j) (moved (t.move k) xs ++ ys)
+  move_any : (i k j : ℕ) (xs ys : List Row) → k < j → AnyRow (λ x. (x.start ≤ i) × L x.set k j) xs → AnyRow (λ x. (x.start ≤ i) × L x.set (k + 1) j) (move_rows (t.move k) xs ++ ys)
   move_any i k j [] ys l a = absurd a
   move_any i k j (x ∷ xs) ys l a = elim a [
     | inl u ↦ inl (u.0, tells.move_to x.set k j l u.1)
     | inr q ↦ inr (move_any i k j xs ys l q)
   ]
 
-  any_end : (P : Row → Type 0) (f : ℕ → ℕ) (xs ys : List Row) → AnyRow P ys → AnyRow P (moved f xs ++ ys)
+  any_end : (P : Row → Type 0) (f : ℕ → ℕ) (xs ys : List Row) → AnyRow P ys → AnyRow P (move_rows f xs ++ ys)
   any_end P f [] ys a = a
   any_end P f (x ∷ xs) ys a = inr (any_end P f xs ys a)
 
-  enter_any : (b : Bool) (k j : ℕ) → b ≡ true → L (t.begin k) (k + 1) j → AnyRow (λ x. (x.start ≤ k) × L x.set (k + 1) j) (entered b k (t.begin k))
+  enter_any : (b : Bool) (k j : ℕ) → b ≡ true → L (t.begin k) (k + 1) j → AnyRow (λ x. (x.start ≤ k) × L x.set (k + 1) j) (new_row b k (t.begin k))
   enter_any true k j e l = inl (omega arith, l)
   enter_any false k j e l = absurd (cc (e))
 
-  next_any : (i j : ℕ) (k : ℕ) (s : Seen) → After k s → AnyRow (λ x. (x.start ≤ i) × L x.set (k + 1) j) (moved (t.move k) s.rows ++ entered s.enters k (t.begin k)) → AnyRow (λ x. (x.start ≤ i) × L x.set (k + 1) j) (onward t k s)
+  next_any : (i j : ℕ) (k : ℕ) (s : Seen) → After k s → AnyRow (λ x. (x.start ≤ i) × L x.set (k + 1) j) (move_rows (t.move k) s.rows ++ new_row s.enters k (t.begin k)) → AnyRow (λ x. (x.start ≤ i) × L x.set (k + 1) j) (onward t k s)
   next_any i j k s a any =
       let starts = all_map (IsSound k) (λ x. x.start < k) (λ x u. u.1) s.rows a.0.sound in
-      elim (part_any i (k + 1) j (moved (t.move k) s.rows ++ entered s.enters k (t.begin k)) 0 (move_sorted k (t.move k) s.enters (t.begin k) s.rows a.0.sorted starts) any) [
+      elim (part_any i (k + 1) j (move_rows (t.move k) s.rows ++ new_row s.enters k (t.begin k)) 0 (move_sorted k (t.move k) s.enters (t.begin k) s.rows a.0.sorted starts) any) [
         | inl l ↦ absurd (tells.empty (k + 1) j l)
         | inr r ↦ r
       ]
@@ -297,28 +297,28 @@ module _ (S A : ℕ → ℕ → Type 0) (L : ℕ → ℕ → ℕ → Type 0) (lo
   next_before : (k : ℕ) (s : Seen) (o : Option Range) → OnBest (λ b. AllRows (λ x. x.start ≤ b.q0) s.rows) o → ((s.enters ≡ true) → OnBest (λ b. k ≤ b.q0) o) → (b : Bool) → s.enters ≡ b → OnBest (λ b. AllRows (λ x. x.start ≤ b.q0) (onward t k s)) o
   next_before k s None a f b e = tt
   next_before k s (Some r) a f true e =
-      part_starts (λ z. z ≤ r.q0) (moved (t.move k) s.rows ++ entered s.enters k (t.begin k)) 0 (move_starts (λ z. z ≤ r.q0) (t.move k) s.rows (entered s.enters k (t.begin k)) a (enter_starts (λ z. z ≤ r.q0) s.enters k (t.begin k) (f e)))
+      part_starts (λ z. z ≤ r.q0) (move_rows (t.move k) s.rows ++ new_row s.enters k (t.begin k)) 0 (move_starts (λ z. z ≤ r.q0) (t.move k) s.rows (new_row s.enters k (t.begin k)) a (enter_starts (λ z. z ≤ r.q0) s.enters k (t.begin k) (f e)))
   next_before k s (Some r) a f false e =
-      part_starts (λ z. z ≤ r.q0) (moved (t.move k) s.rows ++ entered s.enters k (t.begin k)) 0 (move_starts (λ z. z ≤ r.q0) (t.move k) s.rows (entered s.enters k (t.begin k)) a (subst (λ (z : Bool). AllRows (λ x. x.start ≤ r.q0) (entered z k (t.begin k))) (sym e) tt))
+      part_starts (λ z. z ≤ r.q0) (move_rows (t.move k) s.rows ++ new_row s.enters k (t.begin k)) 0 (move_starts (λ z. z ≤ r.q0) (t.move k) s.rows (new_row s.enters k (t.begin k)) a (subst (λ (z : Bool). AllRows (λ x. x.start ≤ r.q0) (new_row z k (t.begin k))) (sym e) tt))
 
   pub next_is : (k : ℕ) (s : Seen) → low ≤ k → After k s → ((s.enters ≡ true) → OnBest (λ b. k ≤ b.q0) s.best) → Knows S A L low (k + 1) (k + 1) (onward t k s) s.best
   next_is k s above a late =
       let starts = all_map (IsSound k) (λ x. x.start < k) (λ x u. u.1) s.rows a.0.sound in
-      let all = moved (t.move k) s.rows ++ entered s.enters k (t.begin k) in
+      let all = move_rows (t.move k) s.rows ++ new_row s.enters k (t.begin k) in
       record {
         sorted = part_sorted all 0 (move_sorted k (t.move k) s.enters (t.begin k) s.rows a.0.sorted starts);
-        sound = part_sound (k + 1) all 0 (move_sound k s.rows (entered s.enters k (t.begin k)) a.0.sound (enter_sound s.enters k above));
+        sound = part_sound (k + 1) all 0 (move_sound k s.rows (new_row s.enters k (t.begin k)) a.0.sound (enter_sound s.enters k above));
         before = next_before k s s.best a.0.before late s.enters refl;
         is_span = a.0.is_span;
         opened = λ i j b c d m. elim (cases_lt i k) [
           | inl l ↦ elim (a.0.opened i j b l (omega (arith, d)) m) [
             | inl x ↦ inl x
-            | inr y ↦ inr (next_any i j k s a (move_any i k j s.rows (entered s.enters k (t.begin k)) (omega (arith, d)) y))
+            | inr y ↦ inr (next_any i j k s a (move_any i k j s.rows (new_row s.enters k (t.begin k)) (omega (arith, d)) y))
           ]
           | inr g ↦
               let e : i ≡ k = omega (arith, c, g) in
               elim a.1 [
-                | inl x ↦ inr (subst (λ (z : ℕ). AnyRow (λ x. (x.start ≤ z) × L x.set (k + 1) j) (onward t k s)) (sym e) (next_any k j k s a (any_end (λ x. (x.start ≤ k) × L x.set (k + 1) j) (t.move k) s.rows (entered s.enters k (t.begin k)) (enter_any s.enters k j x (tells.begin_to k j (omega (arith, d)) (subst (λ (z : ℕ). S z j) e m))))))
+                | inl x ↦ inr (subst (λ (z : ℕ). AnyRow (λ x. (x.start ≤ z) × L x.set (k + 1) j) (onward t k s)) (sym e) (next_any k j k s a (any_end (λ x. (x.start ≤ k) × L x.set (k + 1) j) (t.move k) s.rows (new_row s.enters k (t.begin k)) (enter_any s.enters k j x (tells.begin_to k j (omega (arith, d)) (subst (λ (z : ℕ). S z j) e m))))))
                 | inr x ↦ inl (subst (Beats s.best) (sym e) x)
               ]
         ];

@@ -13,7 +13,7 @@ use Rattle.re_sets.specs.Tables.{Table, IsTable, text_of}
 use Rattle.re_sets.specs.Numbers.{Leads, number}
 use Rattle.re_sets.specs.Words.{on}
 use Rattle.re_sets.specs.Laws.{LeftOut}
-use Rattle.re_sets.specs.Searches.{Known, Followed, Reached, FindsIn, from_end, turned_if}
+use Rattle.re_sets.specs.Searches.{Known, Followed, Reached, FindsIn, from_end, found_from_end}
 use Rattle.re_sets.proofs.Rowing.{start_is, step_from, end_from, skip_is, stops, follow_is, follow_step}
 use Rattle.re_sets.proofs.Telling.{tells}
 use Rattle.re_sets.proofs.Found as found

@@ -33,6 +33,7 @@ is_letter (Several a) p = is_letter a p
 is_letter (Maybe a) p = is_letter a p
 is_letter (Group n a) p = is_letter a p
 
+-- a number by the side that a letter is on
 abbrev pub of_sides : (Spot → ℕ) → (Spot → ℕ) → Spot → ℕ
 of_sides f g Only = 0
 of_sides f g (InLeft p) = f p
@@ -70,14 +71,16 @@ bits (Group m a) base s n = bits a base s n
 abbrev pub rows : Tree → ℕ → (Spot → Spot → Bool) → ℕ → ℕ → Bool
 rows r base f m n = bits r base (λ p. bits r base (f p) n) m
 
+-- a number below n passes
 abbrev pub any_below : (ℕ → Bool) → ℕ → Bool
 any_below f zero = false
 any_below f (suc n) = f n || any_below f n
 
--- the letters after one rune more; the letters of the first rune
+-- the letters after one rune more
 abbrev pub step : Tree → Here → ℕ → (ℕ → Bool) → ℕ → Bool
 step r x d s n = any_below (λ m. s m && rows r 0 (follow r x) m n) (letters r) && bits r 0 (takes_at r d) n
 
+-- the letters of the first rune
 abbrev pub enter : Tree → Here → ℕ → ℕ → Bool
 enter r x d n = bits r 0 (first r x) n && bits r 0 (takes_at r d) n
 
@@ -94,6 +97,7 @@ pub data Came (r : Tree) (w : Reading) (i : ℕ) : ℕ → Spot → Type 0 where
   begun : (q : Spot) → IsTrue (is_letter r q) → IsTrue (first r (w.here i) q) → IsTrue (takes_at r (w.rune i) q) → Came r w i 0 q
   gone : (n : ℕ) (p q : Spot) → Came r w i n p → IsTrue (is_letter r q) → IsTrue (follow r (w.here (i + 1 + n)) p q) → IsTrue (takes_at r (w.rune (i + 1 + n)) q) → Came r w i (n + 1) q
 
+-- the letters of the matches that begin at i, over k runes more than one
 abbrev pub run : Tree → Reading → ℕ → ℕ → ℕ → Bool
 run r w i zero n = enter r (w.here i) (w.rune i) n
 run r w i (suc k) n = step r (w.here (i + 1 + k)) (w.rune (i + 1 + k)) (run r w i k) n

@@ -2,14 +2,17 @@
 use Rattle.std.specs.Prelude.{◌≡◌, ◌<◌, ◌≤◌, ◌+◌, ◌-◌, ◌==◌, ◌⊎◌, ℕ, zero, suc, Bool, true, false, List, [], ◌∷◌, ◌++◌, map, Option, Some, None, IsTrue, if◌then◌else◌}
 use Rattle.am_text.specs.declared.range.Range.{Range}
 
+-- where matches begin, and the letters by which they came here
 pub record Row : Type 0 where
   pub start : ℕ
   pub set : ℕ
 
+-- each of the rows is such a one
 abbrev pub AllRows : (Row → Type 0) → List Row → Type 0
 AllRows P [] = Unit {0}
 AllRows P (x ∷ xs) = P x × AllRows P xs
 
+-- one of the rows is
 abbrev pub AnyRow : (Row → Type 0) → List Row → Type 0
 AnyRow P [] = ⊥
 AnyRow P (x ∷ xs) = P x ⊎ AnyRow P xs
@@ -19,11 +22,12 @@ abbrev pub AreSorted : List Row → Type 0
 AreSorted [] = Unit {0}
 AreSorted (x ∷ xs) = AllRows (λ y. x.start < y.start) xs × AreSorted xs
 
--- the start of the first row at whose letters a match may end, and the rows up to that one
+-- the row stands before those that were found, if any were
 abbrev pub with_row : Row → Option (ℕ × List Row) → Option (ℕ × List Row)
 with_row x None = None
 with_row x (Some p) = Some (p.0, x ∷ p.1)
 
+-- the start of the first row at whose letters a match may end, and the rows up to that one
 abbrev pub ended : (ℕ → Bool) → List Row → Option (ℕ × List Row)
 ended e [] = None
 ended e (x ∷ xs) = if e x.set then Some (x.start, x ∷ []) else with_row x (ended e xs)
@@ -39,17 +43,20 @@ pub record Seen : Type 0 where
   pub best : Option Range
   pub enters : Bool
 
+-- the same at the place k, by the first row that ends there
 abbrev pub seen_at : ℕ → Bool → List Row → Option Range → Option (ℕ × List Row) → Seen
 seen_at k null rows best (Some p) = record { rows = p.1; best = Some (record { q0 = p.0; q1 = k }); enters = false }
 seen_at k null rows (Some b) None = record { rows = rows; best = Some b; enters = false }
 seen_at k null rows None None = record { rows = rows; best = if null then Some (record { q0 = k; q1 = k }) else None; enters = true }
 
-abbrev pub entered : Bool → ℕ → ℕ → List Row
-entered enters k set = if enters then record { start = k; set = set } ∷ [] else []
+-- the row that begins at the place k with these letters, where one may
+abbrev pub new_row : Bool → ℕ → ℕ → List Row
+new_row enters k set = if enters then record { start = k; set = set } ∷ [] else []
 
-abbrev pub moved : (ℕ → ℕ) → List Row → List Row
-moved f [] = []
-moved f (x ∷ xs) = record { start = x.start; set = f x.set } ∷ moved f xs
+-- the rows after one rune more, of which f is the step of a set
+abbrev pub move_rows : (ℕ → ℕ) → List Row → List Row
+move_rows f [] = []
+move_rows f (x ∷ xs) = record { start = x.start; set = f x.set } ∷ move_rows f xs
 
 -- what a search needs to know of the text: which sets end here, whether the null text counts, the step of a set, and the set that begins here
 pub record Text : Type 0 where
@@ -60,11 +67,13 @@ pub record Text : Type 0 where
   pub minus : ℕ → ℕ → ℕ
   pub union : ℕ → ℕ → ℕ
 
+-- what is known at a place, as the text tells it
 abbrev pub seen : Text → ℕ → List Row → Option Range → Seen
 seen t k rows best = seen_at k (t.null k) rows best (ended (t.ends k) rows)
 
+-- the rows at the next place
 abbrev pub onward : Text → ℕ → Seen → List Row
-onward t k s = parted t.minus t.union (moved (t.move k) s.rows ++ entered s.enters k (t.begin k)) 0
+onward t k s = parted t.minus t.union (move_rows (t.move k) s.rows ++ new_row s.enters k (t.begin k)) 0
 
 -- the rows that have a letter
 abbrev pub solid : List Row → List Row
@@ -78,14 +87,17 @@ search t (suc n) k rows best = search t n (k + 1) (onward t k (seen t k rows bes
 
 -- ---- what is known
 
+-- the best match begins before this place
 abbrev pub Beats : Option Range → ℕ → Type 0
 Beats None i = ⊥
 Beats (Some b) i = b.q0 < i
 
+-- the best match begins before this span, or there and is as long
 abbrev pub Covers : Option Range → ℕ → ℕ → Type 0
 Covers None i j = ⊥
 Covers (Some b) i j = (b.q0 < i) ⊎ ((b.q0 ≡ i) × (j ≤ b.q1))
 
+-- the best match is such a one, if there is one
 abbrev pub OnBest : (Range → Type 0) → Option Range → Type 0
 OnBest P None = Unit {0}
 OnBest P (Some b) = P b

@@ -11,6 +11,7 @@ use Rattle.re_sets.specs.Laws.{LeftOut}
 use Rattle.re_sets.specs.Rows.{Row, Knows, Follows, Reaches, Finds, search}
 use Rattle.re_sets.specs.Tables.{Table, IsTable, text_of}
 
+-- the search by tables finds the first match, and none where there is none
 abbrev pub SearchFinds : Type 0
 SearchFinds = (r : Tree) (t : Table) (text : List ℕ) (no_null : Option ℕ) (low n : ℕ) → IsTable r t → IfSome (search (text_of t (forward text) no_null) n low [] None) (IsFirst r text low (low + n) no_null) × IfNone (search (text_of t (forward text) no_null) n low [] None) (HasNoSpan r text low (low + n) no_null)
 
@@ -19,18 +20,21 @@ abbrev pub from_end : ℕ → Option ℕ → Option ℕ
 from_end count None = None
 from_end count (Some p) = if nat_le p count then Some (count - p) else None
 
-abbrev pub turned : ℕ → Range → Range
-turned count b = record { q0 = count - b.q1; q1 = count - b.q0 }
+-- a range counted from the end of a text
+abbrev pub range_from_end : ℕ → Range → Range
+range_from_end count b = record { q0 = count - b.q1; q1 = count - b.q0 }
 
-abbrev pub turned_if : ℕ → Option Range → Option Range
-turned_if count None = None
-turned_if count (Some b) = Some (turned count b)
+-- the same of a match, if one was found
+abbrev pub found_from_end : ℕ → Option Range → Option Range
+found_from_end count None = None
+found_from_end count (Some b) = Some (range_from_end count b)
 
 -- the search backward from `to`, by the tables of the mirrored tree
 abbrev pub back : Table → List ℕ → Option ℕ → ℕ → ℕ → Option Range
 back t text no_null to n =
-    turned_if (length text) (search (text_of t (backward text) (from_end (length text) no_null)) n (length text - to) [] None)
+    found_from_end (length text) (search (text_of t (backward text) (from_end (length text) no_null)) n (length text - to) [] None)
 
+-- the search backward finds the last match, and none where there is none
 abbrev pub BackFinds : Type 0
 BackFinds = (r : Tree) (t : Table) (text : List ℕ) (no_null : Option ℕ) (start to : ℕ) → start ≤ to → to ≤ length text → IsTable (mirrored r) t → IfSome (back t text no_null to (to - start)) (IsLast r text start to no_null) × IfNone (back t text no_null to (to - start)) (HasNoSpan r text start to no_null)
 

@@ -12,16 +12,19 @@ pub data Spot : Type 0 where
   InLeft : (p : Spot) → Spot
   InRight : (p : Spot) → Spot
 
+-- the tree is a letter itself, and passes
 abbrev pub only : Bool → Spot → Bool
 only is Only = is
 only is (InLeft p) = false
 only is (InRight p) = false
 
+-- a test by the side that a letter is on
 abbrev pub sides : (Spot → Bool) → (Spot → Bool) → Spot → Bool
 sides f g Only = false
 sides f g (InLeft p) = f p
 sides f g (InRight p) = g p
 
+-- no letter passes
 abbrev pub none : Spot → Bool
 none p = false
 
@@ -81,6 +84,7 @@ last (Several a) x p = last a x p
 last (Maybe a) x p = last a x p
 last (Group n a) x p = last a x p
 
+-- a test of two letters by the sides that they are on; none goes back from the right to the left
 abbrev pub both_sides : (Spot → Spot → Bool) → (Spot → Spot → Bool) → (Spot → Spot → Bool) → Spot → Spot → Bool
 both_sides f g h Only q = false
 both_sides f g h (InLeft p) q = sides (f p) (g p) q
@@ -100,11 +104,13 @@ follow (Several a) x p q = follow a x p q || (last a x p && first a x q)
 follow (Maybe a) x p q = follow a x p q
 follow (Group n a) x p q = follow a x p q
 
+-- the tree is a letter itself, and this holds
 abbrev pub Only' : Type 0 → Spot → Type 0
 Only' A Only = A
 Only' A (InLeft p) = ⊥
 Only' A (InRight p) = ⊥
 
+-- what holds by the side that a letter is on
 abbrev pub Sides : (Spot → Type 0) → (Spot → Type 0) → Spot → Type 0
 Sides F G Only = ⊥
 Sides F G (InLeft p) = F p

@@ -20,6 +20,7 @@ pub record Table : Type 0 where
   pub row : Here → ℕ → ℕ
   pub takes : ℕ → ℕ
 
+-- the table has what the tree says
 pub record IsTable (r : Tree) (t : Table) : Type 0 where
   pub few : letters r ≤ t.size
   pub null_is : (x : Here) → t.null x ≡ null r x
@@ -37,9 +38,11 @@ join_rows row set (suc m) = if on set m then bit_or (row m) (join_rows row set m
 abbrev pub meet : ℕ → ℕ → ℕ → Bool
 meet size x y = any_below (λ m. on x m && on y m) size
 
+-- the set without the letters of another one
 abbrev pub take_away : ℕ → ℕ → ℕ
 take_away x y = bit_xor x (bit_and x y)
 
+-- what a search by a table needs to know of what it reads
 abbrev pub text_of : Table → Reading → Option ℕ → Text
 text_of t w no_null = record {
   ends = λ k x. meet t.size x (t.last (w.here k));

@@ -5,6 +5,7 @@ use Rattle.re_syntax.specs.Tree.{Tree}
 use Rattle.re_sets.specs.Spots.{Spot}
 use Rattle.re_sets.specs.Numbers.{bits}
 
+-- the letter is in the set
 abbrev pub on : ℕ → ℕ → Bool
 on word n = bit_at word n == 1
 

@@ -4,7 +4,7 @@ use Rattle.std.specs.Prelude.{IsTrue, ◌↔◌}
 use Rattle.std.proofs.lemmas.Bool.{or_cases, or_left, or_right}
 use Rattle.re_syntax.specs.Match.{Repeats, Joins}
 use Rattle.re_spans.specs.Reached.{Along}
-use Rattle.re_spans.specs.Marks.{passes, left_enters, right_enters, joined, pair, either, wrapped}
+use Rattle.re_spans.specs.Marks.{passes, left_enters, right_enters, join, pair, either, wrap}
 use Rattle.re_spans.specs.declared.way.Way.{Way}
 use Rattle.re_spans.specs.declared.way.Way.TheVariants.{On, Back}
 use Rattle.re_spans.specs.declared.marks.Mark.{Mark}
@@ -100,7 +100,7 @@ joined_null way A B n goes_a goes_b = (
       (subst (λ (x : ℕ). A n x) e p.1, subst (λ (x : ℕ). B x n) e p.2),
 )
 
-joined_is : (way : Way) (A B : ℕ → ℕ → Type 0) (E : ℕ → Type 0) (n : ℕ) (x y : Mark) → Goes way A → Goes way B → MarkIs way A E n x → MarkIs way B (Through A E) n y → MarkIs way (Joins A B) E n (joined x y)
+joined_is : (way : Way) (A B : ℕ → ℕ → Type 0) (E : ℕ → Type 0) (n : ℕ) (x y : Mark) → Goes way A → Goes way B → MarkIs way A E n x → MarkIs way B (Through A E) n y → MarkIs way (Joins A B) E n (join x y)
 joined_is way A B E n x y goes_a goes_b a b = record {
   is_led =
       trans (IsTrue (y.led || (x.led && y.null))) (Led way B (Through A E) n ⊎ (Led way A E n × B n n)) (Led way (Joins A B) E n) (or_is y.led (x.led && y.null) (Led way B (Through A E) n) (Led way A E n × B n n) b.is_led (and_is x.led y.null (Led way A E n) (B n n) a.is_led b.is_null)) (joined_led way A B E n goes_a goes_b);
@@ -121,7 +121,7 @@ pub pair_is : (way : Way) (R S : ℕ → ℕ → Type 0) (E : ℕ → Type 0) (n
 pair_is On R S E n x y on_r on_s a b =
     joined_is On (Along On R) (Along On S) E n x y (along_goes On R on_r) (along_goes On S on_s) a b
 pair_is Back R S E n x y on_r on_s a b =
-    mark_same Back (Joins (Along Back S) (Along Back R)) (Along Back (Joins R S)) E n (joined y x) (λ i j p. (p.0, p.2, p.1)) (λ i j p. (p.0, p.2, p.1)) (joined_is Back (Along Back S) (Along Back R) E n y x (along_goes Back S on_s) (along_goes Back R on_r) b a)
+    mark_same Back (Joins (Along Back S) (Along Back R)) (Along Back (Joins R S)) E n (join y x) (λ i j p. (p.0, p.2, p.1)) (λ i j p. (p.0, p.2, p.1)) (joined_is Back (Along Back S) (Along Back R) E n y x (along_goes Back S on_s) (along_goes Back R on_r) b a)
 
 pub left_enters_is : (way : Way) (R S : ℕ → ℕ → Type 0) (E : ℕ → Type 0) (n : ℕ) (k : Mark) (m : Bool) → LeadsOn S → MarkIs way (Along way S) (RightE way R E) n k → IsTrue m ↔ E n → IsTrue (left_enters way m k) ↔ LeftE way S E n
 left_enters_is On R S E n k m on is e = e
@@ -217,13 +217,13 @@ again_led way R E n = (
   ],
 )
 
-pub many_is : (way : Way) (R : ℕ → ℕ → Type 0) (E : ℕ → Type 0) (n : ℕ) (k : Mark) → MarkIs way (Along way R) (Again way R E) n k → MarkIs way (Along way (Repeats R)) E n (wrapped k true)
+pub many_is : (way : Way) (R : ℕ → ℕ → Type 0) (E : ℕ → Type 0) (n : ℕ) (k : Mark) → MarkIs way (Along way R) (Again way R E) n k → MarkIs way (Along way (Repeats R)) E n (wrap k true)
 many_is way R E n k is = record {
   is_led = trans (IsTrue k.led) (Led way (Along way R) (Again way R E) n) (Led way (Along way (Repeats R)) E n) is.is_led (again_led way R E n);
   is_null = (λ h. rep_none way R n, λ p. refl);
 }
 
-pub several_is : (way : Way) (R : ℕ → ℕ → Type 0) (E : ℕ → Type 0) (n : ℕ) (k : Mark) → LeadsOn R → MarkIs way (Along way R) (Again way R E) n k → MarkIs way (Along way (Joins R (Repeats R))) E n (wrapped k false)
+pub several_is : (way : Way) (R : ℕ → ℕ → Type 0) (E : ℕ → Type 0) (n : ℕ) (k : Mark) → LeadsOn R → MarkIs way (Along way R) (Again way R E) n k → MarkIs way (Along way (Joins R (Repeats R))) E n (wrap k false)
 several_is way R E n k on is = record {
   is_led =
       trans (IsTrue k.led) (Led way (Along way (Repeats R)) E n) (Led way (Along way (Joins R (Repeats R))) E n) (trans (IsTrue k.led) (Led way (Along way R) (Again way R E) n) (Led way (Along way (Repeats R)) E n) is.is_led (again_led way R E n)) (
@@ -243,7 +243,7 @@ null_there : (way : Way) (R : ℕ → ℕ → Type 0) (n : ℕ) → Along way (�
 null_there On R n = inr refl
 null_there Back R n = inr refl
 
-pub maybe_is : (way : Way) (R : ℕ → ℕ → Type 0) (E : ℕ → Type 0) (n : ℕ) (k : Mark) → MarkIs way (Along way R) E n k → MarkIs way (Along way (λ i j. R i j ⊎ (j ≡ i))) E n (wrapped k true)
+pub maybe_is : (way : Way) (R : ℕ → ℕ → Type 0) (E : ℕ → Type 0) (n : ℕ) (k : Mark) → MarkIs way (Along way R) E n k → MarkIs way (Along way (λ i j. R i j ⊎ (j ≡ i))) E n (wrap k true)
 maybe_is way R E n k is = record {
   is_led =
       trans (IsTrue k.led) (Led way (Along way R) E n) (Led way (Along way (λ i j. R i j ⊎ (j ≡ i))) E n) is.is_led (
@@ -253,5 +253,5 @@ maybe_is way R E n k is = record {
   is_null = (λ h. null_there way R n, λ p. refl);
 }
 
-pub group_is : (way : Way) (A : ℕ → ℕ → Type 0) (E : ℕ → Type 0) (n : ℕ) (k : Mark) → MarkIs way A E n k → MarkIs way A E n (wrapped k false)
+pub group_is : (way : Way) (A : ℕ → ℕ → Type 0) (E : ℕ → Type 0) (n : ℕ) (k : Mark) → MarkIs way A E n k → MarkIs way A E n (wrap k false)
 group_is way A E n k is = record { is_led = is.is_led; is_null = is.is_null }

@@ -7,8 +7,8 @@ use Rattle.re_syntax.specs.Match.{Matches}
 use Rattle.re_spans.specs.Places.{Cells, past, has, none_from, put_if}
 use Rattle.re_spans.specs.Turns.{place_at, first}
 use Rattle.re_spans.specs.Leaves.{here_at, read_at}
-use Rattle.re_spans.specs.Reached.{Along, Reached, AreReached, taken, enters, leaves}
-use Rattle.re_spans.specs.Marks.{Marking, mark_of, fresh, stepped}
+use Rattle.re_spans.specs.Reached.{Along, Reached, AreReached, so_many, enters, leaves}
+use Rattle.re_spans.specs.Marks.{Marking, mark_of, fresh, step}
 use Rattle.re_spans.specs.declared.way.Way.{Way}
 use Rattle.re_spans.specs.declared.marks.Mark.{Mark}
 use Rattle.re_spans.specs.declared.reach.Times.{Times}
@@ -29,7 +29,7 @@ enters_is way Once R from n k is = (λ h. h, λ h. h)
 enters_is way Often R from n k is =
     trans (IsTrue (has from n || k.led)) _ (Again way R (λ x. IsTrue (has from x)) n) (or_is (has from n) k.led (IsTrue (has from n)) _ (λ h. h, λ h. h) is.is_led) (again_enters way R (λ x. IsTrue (has from x)) n)
 
-leaves_is : (way : Way) (times : Times) (R : ℕ → ℕ → Type 0) (from : Cells) (n : ℕ) (k : Mark) (m : Bool) → LeadsOn R → MarkIs way (Along way R) (EnteredAt way times R from) n k → IsTrue m ↔ EnteredAt way times R from n → IsTrue (leaves times k m) ↔ Reached way (taken times R) from n
+leaves_is : (way : Way) (times : Times) (R : ℕ → ℕ → Type 0) (from : Cells) (n : ℕ) (k : Mark) (m : Bool) → LeadsOn R → MarkIs way (Along way R) (EnteredAt way times R from) n k → IsTrue m ↔ EnteredAt way times R from n → IsTrue (leaves times k m) ↔ Reached way (so_many times R) from n
 leaves_is way Once R from n k m on is e = passes_is way (Along way R) (λ x. IsTrue (has from x)) n k m (along_goes way R on) is e
 leaves_is way Often R from n k m on is e = e
 
@@ -53,7 +53,7 @@ module _ (way : Way) (times : Times) (r : Tree) (t : List ℕ) (from : Cells) wh
     pub low : out.low ≡ from.low
     pub long : length out.cells ≡ length from.cells
     pub holds : n < length from.cells → Holds way t r (EnteredAt way times (Matches r t) from) (spot n) marks
-    pub done : (m : ℕ) → m < n → m < length from.cells → IsTrue (has out (spot m)) ↔ Reached way (taken times (Matches r t)) from (spot m)
+    pub done : (m : ℕ) → m < n → m < length from.cells → IsTrue (has out (spot m)) ↔ Reached way (so_many times (Matches r t)) from (spot m)
     pub rest : (m : ℕ) → n ≤ m → m < length from.cells → has out (spot m) ≡ false
 
   pub going_first : Going 0 (fresh way r (here_at t (first way from))) (none_from from.low (length from.cells))
@@ -65,12 +65,12 @@ module _ (way : Way) (times : Times) (r : Tree) (t : List ℕ) (from : Cells) wh
     rest = λ m after l. none_has from.low (length from.cells) (spot m);
   }
 
-  pub going_end : (n : ℕ) (marks : Marking) (out : Cells) → length from.cells ≤ n → Going n marks out → AreReached way (taken times (Matches r t)) from out
+  pub going_end : (n : ℕ) (marks : Marking) (out : Cells) → length from.cells ≤ n → Going n marks out → AreReached way (so_many times (Matches r t)) from out
   going_end n marks out all g j l p =
       let turn = turn_of way from j l p in
-      subst (λ (x : ℕ). IsTrue (has out x) ↔ Reached way (taken times (Matches r t)) from x) turn.2 (g.done turn.0 (omega (arith, turn.1, all)) turn.1)
+      subst (λ (x : ℕ). IsTrue (has out x) ↔ Reached way (so_many times (Matches r t)) from x) turn.2 (g.done turn.0 (omega (arith, turn.1, all)) turn.1)
 
-  pub going_more : (n : ℕ) (marks new : Marking) (out : Cells) (entered : Bool) → n < length from.cells → past from ≤ length t + 1 → entered ≡ enters times (has from (spot n)) (mark_of marks) → (n + 1 < length from.cells → new ≡ stepped way r (read_at way t (spot n) (spot (n + 1))) entered marks) → Going n marks out → Going (n + 1) new (put_if out (spot n) (leaves times (mark_of marks) entered))
+  pub going_more : (n : ℕ) (marks new : Marking) (out : Cells) (entered : Bool) → n < length from.cells → past from ≤ length t + 1 → entered ≡ enters times (has from (spot n)) (mark_of marks) → (n + 1 < length from.cells → new ≡ step way r (read_at way t (spot n) (spot (n + 1))) entered marks) → Going n marks out → Going (n + 1) new (put_if out (spot n) (leaves times (mark_of marks) entered))
   going_more n marks new out entered l within e steps g = record {
     low = put_low out i on ∙ g.low;
     long = put_long out i on ∙ g.long;
@@ -85,7 +85,7 @@ module _ (way : Way) (times : Times) (r : Tree) (t : List ℕ) (from : Cells) wh
           (λ h. d.0 (sym same ∙ h), λ p. same ∙ d.1 p)
       | inr y ↦
           let same : n ≡ m = omega (arith, before, y) in
-          subst (λ (x : ℕ). IsTrue (has (put_if out i on) (spot x)) ↔ Reached way (taken times (Matches r t)) from (spot x)) same reached
+          subst (λ (x : ℕ). IsTrue (has (put_if out i on) (spot x)) ↔ Reached way (so_many times (Matches r t)) from (spot x)) same reached
     ];
     rest = λ m after lm. put_other out i (spot m) on above (other m lm (omega (arith, after))) ∙ g.rest m (omega (arith, after)) lm;
   }
@@ -114,5 +114,5 @@ module _ (way : Way) (times : Times) (r : Tree) (t : List ℕ) (from : Cells) wh
       other : (m : ℕ) → m < length from.cells → m ≢ n → spot m ≢ i
       other m lm ne same = ne (spot_other way from m n lm l same)
 
-      reached : IsTrue (has (put_if out i on) i) ↔ Reached way (taken times (Matches r t)) from i
-      reached = subst (λ (x : Bool). IsTrue x ↔ Reached way (taken times (Matches r t)) from i) (sym (put_same out i on above below (g.rest n (omega arith) l))) (leaves_is way times (Matches r t) from i (mark_of marks) entered (Matches-on r t) here.0 is_entered)
+      reached : IsTrue (has (put_if out i on) i) ↔ Reached way (so_many times (Matches r t)) from i
+      reached = subst (λ (x : Bool). IsTrue x ↔ Reached way (so_many times (Matches r t)) from i) (sym (put_same out i on above below (g.rest n (omega arith) l))) (leaves_is way times (Matches r t) from i (mark_of marks) entered (Matches-on r t) here.0 is_entered)

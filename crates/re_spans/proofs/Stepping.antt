@@ -6,7 +6,7 @@ use Rattle.re_syntax.specs.Match.{Matches, Repeats, Joins, line_start, line_end,
 use Rattle.re_spans.specs.Turns.{lower}
 use Rattle.re_spans.specs.Leaves.{takes, here_at, read_at}
 use Rattle.re_spans.specs.Reached.{Along}
-use Rattle.re_spans.specs.Marks.{Marking, OfLeaf, OfOne, OfTwo, mark_of, with_mark, left_enters, right_enters, pair, either, wrapped, leaf_mark, fresh, stepped, stepped_one, stepped_cat, stepped_alt}
+use Rattle.re_spans.specs.Marks.{Marking, OfLeaf, OfOne, OfTwo, mark_of, with_mark, left_enters, right_enters, pair, either, wrap, leaf_mark, fresh, step, step_one, step_cat, step_alt}
 use Rattle.re_spans.specs.declared.way.Way.{Way}
 use Rattle.re_spans.specs.declared.marks.Mark.{Mark}
 use Rattle.re_spans.proofs.Ways.{Matches-on}
@@ -77,17 +77,17 @@ fresh_holds way t (Group m a) E n none =
 
 -- ---- one place further on
 
-one_holds : (W : Mark → Type 0) (P Q : Marking → Type 0) (f : Bool → Marking → Marking) (entered again optional : Bool) → ((s : Marking) → P s → W (wrapped (mark_of (f (entered || (again && (mark_of s).led)) s)) optional) × Q (f (entered || (again && (mark_of s).led)) s)) → (s : Marking) → InsideOne P s → W (mark_of (stepped_one f entered again optional s)) × InsideOne Q (stepped_one f entered again optional s)
+one_holds : (W : Mark → Type 0) (P Q : Marking → Type 0) (f : Bool → Marking → Marking) (entered again optional : Bool) → ((s : Marking) → P s → W (wrap (mark_of (f (entered || (again && (mark_of s).led)) s)) optional) × Q (f (entered || (again && (mark_of s).led)) s)) → (s : Marking) → InsideOne P s → W (mark_of (step_one f entered again optional s)) × InsideOne Q (step_one f entered again optional s)
 one_holds W P Q f entered again optional go (OfLeaf k) h = absurd h
 one_holds W P Q f entered again optional go (OfOne k s) h = go s h
 one_holds W P Q f entered again optional go (OfTwo k s u) h = absurd h
 
-cat_holds : (W : Mark → Type 0) (P Q X Y : Marking → Type 0) (way : Way) (f g : Bool → Marking → Marking) (entered : Bool) → ((s u : Marking) → P s → Q u → W (pair way (mark_of (f (left_enters way entered (mark_of u)) s)) (mark_of (g (right_enters way entered (mark_of s)) u))) × X (f (left_enters way entered (mark_of u)) s) × Y (g (right_enters way entered (mark_of s)) u)) → (s : Marking) → InsideTwo P Q s → W (mark_of (stepped_cat way f g entered s)) × InsideTwo X Y (stepped_cat way f g entered s)
+cat_holds : (W : Mark → Type 0) (P Q X Y : Marking → Type 0) (way : Way) (f g : Bool → Marking → Marking) (entered : Bool) → ((s u : Marking) → P s → Q u → W (pair way (mark_of (f (left_enters way entered (mark_of u)) s)) (mark_of (g (right_enters way entered (mark_of s)) u))) × X (f (left_enters way entered (mark_of u)) s) × Y (g (right_enters way entered (mark_of s)) u)) → (s : Marking) → InsideTwo P Q s → W (mark_of (step_cat way f g entered s)) × InsideTwo X Y (step_cat way f g entered s)
 cat_holds W P Q X Y way f g entered go (OfLeaf k) h = absurd h
 cat_holds W P Q X Y way f g entered go (OfOne k s) h = absurd h
 cat_holds W P Q X Y way f g entered go (OfTwo k s u) h = let x = go s u h.0 h.1 in (x.0, (x.1, x.2))
 
-alt_holds : (W : Mark → Type 0) (P Q X Y : Marking → Type 0) (f g : Bool → Marking → Marking) (entered : Bool) → ((s u : Marking) → P s → Q u → W (either (mark_of (f entered s)) (mark_of (g entered u))) × X (f entered s) × Y (g entered u)) → (s : Marking) → InsideTwo P Q s → W (mark_of (stepped_alt f g entered s)) × InsideTwo X Y (stepped_alt f g entered s)
+alt_holds : (W : Mark → Type 0) (P Q X Y : Marking → Type 0) (f g : Bool → Marking → Marking) (entered : Bool) → ((s u : Marking) → P s → Q u → W (either (mark_of (f entered s)) (mark_of (g entered u))) × X (f entered s) × Y (g entered u)) → (s : Marking) → InsideTwo P Q s → W (mark_of (step_alt f g entered s)) × InsideTwo X Y (step_alt f g entered s)
 alt_holds W P Q X Y f g entered go (OfLeaf k) h = absurd h
 alt_holds W P Q X Y f g entered go (OfOne k s) h = absurd h
 alt_holds W P Q X Y f g entered go (OfTwo k s u) h = let x = go s u h.0 h.1 in (x.0, (x.1, x.2))
@@ -109,7 +109,7 @@ or_nothing : (m : Bool) (P : Type 0) → IsTrue m ↔ P → IsTrue (m || false) 
 or_nothing true P e = e
 or_nothing false P e = e
 
-pub stepped_holds : (way : Way) (t : List ℕ) (r : Tree) (E : ℕ → Type 0) (i n : ℕ) (m : Bool) (s : Marking) → Next way i n → lower way i n < length t → IsTrue m ↔ E i → Inside way t r E i s → Holds way t r E n (stepped way r (read_at way t i n) m s)
+pub stepped_holds : (way : Way) (t : List ℕ) (r : Tree) (E : ℕ → Type 0) (i n : ℕ) (m : Bool) (s : Marking) → Next way i n → lower way i n < length t → IsTrue m ↔ E i → Inside way t r E i s → Holds way t r E n (step way r (read_at way t i n) m s)
 stepped_holds way t (Letter c) E i n m s next l e h =
     leaf_holds way (Along way (Matches (Letter c) t)) E n (leaf_mark (Letter c) (here_at t n) (m && takes (Letter c) (read_at way t i n).rune)) s (rune_is t (λ d. d == c) way E i n m next l e)
 stepped_holds way t AnyLetter E i n m s next l e h =
@@ -125,8 +125,8 @@ stepped_holds way t (Then a b) E i n m s next l e h =
     let on_b = Matches-on b t in
     let R = Matches a t in
     let S = Matches b t in
-    let f = stepped way a (read_at way t i n) in
-    let g = stepped way b (read_at way t i n) in
+    let f = step way a (read_at way t i n) in
+    let g = step way b (read_at way t i n) in
     cat_holds (MarkIs way (Along way (Joins R S)) E n) (Holds way t a (LeftE way S E) i) (Holds way t b (RightE way R E) i) (Holds way t a (LeftE way S E) n) (Holds way t b (RightE way R E) n) way f g m (
     λ u v p q.
     let x = stepped_holds way t a (LeftE way S E) i n (left_enters way m (mark_of v)) u next l (left_enters_is way R S E i (mark_of v) m on_b q.0 e) p.1 in
@@ -134,8 +134,8 @@ stepped_holds way t (Then a b) E i n m s next l e h =
     (pair_is way R S E n (mark_of (f (left_enters way m (mark_of v)) u)) (mark_of (g (right_enters way m (mark_of u)) v)) on_a on_b x.0 y.0, x, y)
     ) s h
 stepped_holds way t (Either a b) E i n m s next l e h =
-    let f = stepped way a (read_at way t i n) in
-    let g = stepped way b (read_at way t i n) in
+    let f = step way a (read_at way t i n) in
+    let g = step way b (read_at way t i n) in
     alt_holds (MarkIs way (Along way (Matches (Either a b) t)) E n) (Holds way t a E i) (Holds way t b E i) (Holds way t a E n) (Holds way t b E n) f g m (
     λ u v p q.
     let x = stepped_holds way t a E i n m u next l e p.1 in
@@ -144,7 +144,7 @@ stepped_holds way t (Either a b) E i n m s next l e h =
     ) s h
 stepped_holds way t (Many a) E i n m s next l e h =
     let R = Matches a t in
-    let f = stepped way a (read_at way t i n) in
+    let f = step way a (read_at way t i n) in
     one_holds (MarkIs way (Along way (Repeats R)) E n) (Holds way t a (Again way R E) i) (Holds way t a (Again way R E) n) f m true true (
     λ u p.
     let x = stepped_holds way t a (Again way R E) i n (m || (mark_of u).led) u next l (again_is way R E i m (mark_of u) e p.0) p.1 in
@@ -152,7 +152,7 @@ stepped_holds way t (Many a) E i n m s next l e h =
     ) s h
 stepped_holds way t (Several a) E i n m s next l e h =
     let R = Matches a t in
-    let f = stepped way a (read_at way t i n) in
+    let f = step way a (read_at way t i n) in
     one_holds (MarkIs way (Along way (Joins R (Repeats R))) E n) (Holds way t a (Again way R E) i) (Holds way t a (Again way R E) n) f m true false (
     λ u p.
     let x = stepped_holds way t a (Again way R E) i n (m || (mark_of u).led) u next l (again_is way R E i m (mark_of u) e p.0) p.1 in
@@ -160,7 +160,7 @@ stepped_holds way t (Several a) E i n m s next l e h =
     ) s h
 stepped_holds way t (Maybe a) E i n m s next l e h =
     let R = Matches a t in
-    let f = stepped way a (read_at way t i n) in
+    let f = step way a (read_at way t i n) in
     one_holds (MarkIs way (Along way (Matches (Maybe a) t)) E n) (Holds way t a E i) (Holds way t a E n) f m false true (
     λ u p.
     let x = stepped_holds way t a E i n (m || false) u next l (or_nothing m (E i) e) p.1 in
@@ -168,7 +168,7 @@ stepped_holds way t (Maybe a) E i n m s next l e h =
     ) s h
 stepped_holds way t (Group k a) E i n m s next l e h =
     let R = Matches a t in
-    let f = stepped way a (read_at way t i n) in
+    let f = step way a (read_at way t i n) in
     one_holds (MarkIs way (Along way R) E n) (Holds way t a E i) (Holds way t a E n) f m false false (
     λ u p.
     let x = stepped_holds way t a E i n (m || false) u next l (or_nothing m (E i) e) p.1 in

@@ -9,7 +9,7 @@ use Rattle.re_spans.specs.Turns.{place_at, StaysInside}
 use Rattle.re_spans.specs.Leaves.{here_at, read_at}
 use Rattle.re_spans.specs.Reached.{Along}
 use Rattle.re_spans.specs.Choice.{LeadsTo, UnlessNull, AmongThose, IsGreatestOf, HasNone, set_if}
-use Rattle.re_spans.specs.Marks.{Marking, OfLeaf, OfOne, OfTwo, mark_of, with_mark, is_alive, passes, left_enters, right_enters, pair, leaf_mark, fresh, stepped, stepped_one, stepped_cat, stepped_alt}
+use Rattle.re_spans.specs.Marks.{Marking, OfLeaf, OfOne, OfTwo, mark_of, with_mark, is_alive, passes, left_enters, right_enters, pair, leaf_mark, fresh, step, step_one, step_cat, step_alt}
 use Rattle.re_spans.specs.declared.way.Way.{Way}
 use Rattle.re_spans.specs.declared.way.Way.TheVariants.{On, Back}
 use Rattle.re_spans.specs.declared.leaf.Read.{Read}
@@ -29,7 +29,7 @@ dead_led (OfLeaf k) e = e
 dead_led (OfOne k s) e = (or_none k.led (is_alive s) e).0
 dead_led (OfTwo k s u) e = (or_none k.led (is_alive s || is_alive u) e).0
 
-dead_part : (f : Bool → Marking → Marking) (again optional : Bool) → ((s : Marking) → is_alive s ≡ false → is_alive (f false s) ≡ false) → (s : Marking) → is_alive s ≡ false → is_alive (stepped_one f false again optional s) ≡ false
+dead_part : (f : Bool → Marking → Marking) (again optional : Bool) → ((s : Marking) → is_alive s ≡ false → is_alive (f false s) ≡ false) → (s : Marking) → is_alive s ≡ false → is_alive (step_one f false again optional s) ≡ false
 dead_part f again optional go (OfLeaf k) e = e
 dead_part f again optional go (OfOne k s) e =
     let none = (or_none k.led (is_alive s) e).1 in
@@ -57,7 +57,7 @@ right_none : (way : Way) (k : Mark) → k.led ≡ false → right_enters way fal
 right_none On k e = passes_none k e
 right_none Back k e = refl
 
-dead_cat : (way : Way) (f g : Bool → Marking → Marking) → ((s : Marking) → is_alive s ≡ false → is_alive (f false s) ≡ false) → ((s : Marking) → is_alive s ≡ false → is_alive (g false s) ≡ false) → (s : Marking) → is_alive s ≡ false → is_alive (stepped_cat way f g false s) ≡ false
+dead_cat : (way : Way) (f g : Bool → Marking → Marking) → ((s : Marking) → is_alive s ≡ false → is_alive (f false s) ≡ false) → ((s : Marking) → is_alive s ≡ false → is_alive (g false s) ≡ false) → (s : Marking) → is_alive s ≡ false → is_alive (step_cat way f g false s) ≡ false
 dead_cat way f g go_f go_g (OfLeaf k) e = e
 dead_cat way f g go_f go_g (OfOne k s) e = e
 dead_cat way f g go_f go_g (OfTwo k s u) e =
@@ -66,7 +66,7 @@ dead_cat way f g go_f go_g (OfTwo k s u) e =
     let y : is_alive (g (right_enters way false (mark_of s)) u) ≡ false = subst (λ (x : Bool). is_alive (g x u) ≡ false) (sym (right_none way (mark_of s) (dead_led s none.0))) (go_g u none.1) in
     rw (pair_led way (mark_of (f (left_enters way false (mark_of u)) s)) (mark_of (g (right_enters way false (mark_of s)) u)) (dead_led (f (left_enters way false (mark_of u)) s) x) (dead_led (g (right_enters way false (mark_of s)) u) y), x, y) refl
 
-dead_alt : (f g : Bool → Marking → Marking) → ((s : Marking) → is_alive s ≡ false → is_alive (f false s) ≡ false) → ((s : Marking) → is_alive s ≡ false → is_alive (g false s) ≡ false) → (s : Marking) → is_alive s ≡ false → is_alive (stepped_alt f g false s) ≡ false
+dead_alt : (f g : Bool → Marking → Marking) → ((s : Marking) → is_alive s ≡ false → is_alive (f false s) ≡ false) → ((s : Marking) → is_alive s ≡ false → is_alive (g false s) ≡ false) → (s : Marking) → is_alive s ≡ false → is_alive (step_alt f g false s) ≡ false
 dead_alt f g go_f go_g (OfLeaf k) e = e
 dead_alt f g go_f go_g (OfOne k s) e = e
 dead_alt f g go_f go_g (OfTwo k s u) e =
@@ -80,18 +80,18 @@ dead_leaf k (OfLeaf old) e h = e
 dead_leaf k (OfOne old s) e h = rw (e, (or_none old.led (is_alive s) h).1) refl
 dead_leaf k (OfTwo old s u) e h = rw (e, (or_none old.led (is_alive s || is_alive u) h).1) refl
 
-dead_stays : (way : Way) (r : Tree) (read : Read) (s : Marking) → is_alive s ≡ false → is_alive (stepped way r read false s) ≡ false
+dead_stays : (way : Way) (r : Tree) (read : Read) (s : Marking) → is_alive s ≡ false → is_alive (step way r read false s) ≡ false
 dead_stays way (Letter c) read s e = dead_leaf (leaf_mark (Letter c) read.here false) s refl e
 dead_stays way AnyLetter read s e = dead_leaf (leaf_mark AnyLetter read.here false) s refl e
 dead_stays way (OneOf negated spans) read s e = dead_leaf (leaf_mark (OneOf negated spans) read.here false) s refl e
 dead_stays way LineStart read s e = dead_leaf (leaf_mark LineStart read.here false) s refl e
 dead_stays way LineEnd read s e = dead_leaf (leaf_mark LineEnd read.here false) s refl e
-dead_stays way (Then a b) read s e = dead_cat way (stepped way a read) (stepped way b read) (dead_stays way a read) (dead_stays way b read) s e
-dead_stays way (Either a b) read s e = dead_alt (stepped way a read) (stepped way b read) (dead_stays way a read) (dead_stays way b read) s e
-dead_stays way (Many a) read s e = dead_part (stepped way a read) true true (dead_stays way a read) s e
-dead_stays way (Several a) read s e = dead_part (stepped way a read) true false (dead_stays way a read) s e
-dead_stays way (Maybe a) read s e = dead_part (stepped way a read) false true (dead_stays way a read) s e
-dead_stays way (Group n a) read s e = dead_part (stepped way a read) false false (dead_stays way a read) s e
+dead_stays way (Then a b) read s e = dead_cat way (step way a read) (step way b read) (dead_stays way a read) (dead_stays way b read) s e
+dead_stays way (Either a b) read s e = dead_alt (step way a read) (step way b read) (dead_stays way a read) (dead_stays way b read) s e
+dead_stays way (Many a) read s e = dead_part (step way a read) true true (dead_stays way a read) s e
+dead_stays way (Several a) read s e = dead_part (step way a read) true false (dead_stays way a read) s e
+dead_stays way (Maybe a) read s e = dead_part (step way a read) false true (dead_stays way a read) s e
+dead_stays way (Group n a) read s e = dead_part (step way a read) false false (dead_stays way a read) s e
 
 -- ---- the greatest so far
 
@@ -202,15 +202,15 @@ module _ (way : Way) (r : Tree) (t : List ℕ) (at : ℕ) (Q : ℕ → Type 0) w
       let best = at_first Leads on (counted on (mark_of (fresh way r (here_at t at))).null 0 tells (null_leads (mark_of (fresh way r (here_at t at))) here.0)) in
       record { holds = here; some = best.0; none = best.1 }
 
-  moved : (n : ℕ) (m : Bool) (marks : Marking) → StaysInside way at (n + 1) (length t) → IsTrue m ↔ At (place_at way at n) → Holds way t r At (place_at way at n) marks → Holds way t r At (place_at way at (n + 1)) (stepped way r (read_at way t (place_at way at n) (place_at way at (n + 1))) m marks)
+  moved : (n : ℕ) (m : Bool) (marks : Marking) → StaysInside way at (n + 1) (length t) → IsTrue m ↔ At (place_at way at n) → Holds way t r At (place_at way at n) marks → Holds way t r At (place_at way at (n + 1)) (step way r (read_at way t (place_at way at n) (place_at way at (n + 1))) m marks)
   moved n m marks f e h =
       stepped_holds way t r At (place_at way at n) (place_at way at (n + 1)) m marks (turns_next way at n (length t) f) (turns_lower way at n (length t) f) e h.1
 
-  stepped_at : (n : ℕ) (marks new : Marking) (best : Option ℕ) → StaysInside way at (n + 1) (length t) → new ≡ stepped way r (read_at way t (place_at way at n) (place_at way at (n + 1))) (n == 0) marks → Walked n marks best → Holds way t r At (place_at way at (n + 1)) new
+  stepped_at : (n : ℕ) (marks new : Marking) (best : Option ℕ) → StaysInside way at (n + 1) (length t) → new ≡ step way r (read_at way t (place_at way at n) (place_at way at (n + 1))) (n == 0) marks → Walked n marks best → Holds way t r At (place_at way at (n + 1)) new
   stepped_at n marks new best f e w =
       subst (λ (x : Marking). Holds way t r At (place_at way at (n + 1)) x) (sym e) (moved n (n == 0) marks f (entered_at n (fewer_turns way at n (n + 1) (length t) (omega arith) f)) w.holds)
 
-  pub walked_more : (n : ℕ) (marks new : Marking) (best : Option ℕ) (on : Bool) → StaysInside way at (n + 1) (length t) → new ≡ stepped way r (read_at way t (place_at way at n) (place_at way at (n + 1))) (n == 0) marks → IsTrue on ↔ (IsTrue (mark_of new).led × Q (n + 1)) → Walked n marks best → Walked (n + 1) new (set_if best on (n + 1))
+  pub walked_more : (n : ℕ) (marks new : Marking) (best : Option ℕ) (on : Bool) → StaysInside way at (n + 1) (length t) → new ≡ step way r (read_at way t (place_at way at n) (place_at way at (n + 1))) (n == 0) marks → IsTrue on ↔ (IsTrue (mark_of new).led × Q (n + 1)) → Walked n marks best → Walked (n + 1) new (set_if best on (n + 1))
   walked_more n marks new best on f e tells w =
       let here = stepped_at n marks new best f e w in
       let next = better Leads n best on (counted on (mark_of new).led (n + 1) tells (led_leads (n + 1) (mark_of new) (omega arith) f here.0)) w.some w.none in
@@ -226,15 +226,15 @@ module _ (way : Way) (r : Tree) (t : List ℕ) (at : ℕ) (Q : ℕ → Type 0) w
       let there = subst (λ (x : ℕ). StaysInside way at x (length t)) same f in
       let next = fewer_turns way at (n + 1) (n + 1 + d) (length t) (omega arith) there in
       let outside : IsTrue false ↔ At (place_at way at n) = (λ h. absurd (both_ways false refl h), λ e. absurd (never way at (place_at way at n) (turns_before way at n (length t) l (fewer_turns way at n (n + 1) (length t) (omega arith) next)) (sym e))) in
-      dead_end d (n + 1) (stepped way r (read_at way t (place_at way at n) (place_at way at (n + 1))) false marks) (omega arith) there (dead_stays way r (read_at way t (place_at way at n) (place_at way at (n + 1))) marks dead) (moved n false marks next outside h) (subst Leads same p)
+      dead_end d (n + 1) (step way r (read_at way t (place_at way at n) (place_at way at (n + 1))) false marks) (omega arith) there (dead_stays way r (read_at way t (place_at way at n) (place_at way at (n + 1))) marks dead) (moved n false marks next outside h) (subst Leads same p)
 
-  none_later : (n m : ℕ) (marks new : Marking) (best : Option ℕ) → n < m → StaysInside way at m (length t) → new ≡ stepped way r (read_at way t (place_at way at n) (place_at way at (n + 1))) (n == 0) marks → is_alive new ≡ false → Walked n marks best → (e : ℕ) → n < e → e ≤ m → Leads e → ⊥
+  none_later : (n m : ℕ) (marks new : Marking) (best : Option ℕ) → n < m → StaysInside way at m (length t) → new ≡ step way r (read_at way t (place_at way at n) (place_at way at (n + 1))) (n == 0) marks → is_alive new ≡ false → Walked n marks best → (e : ℕ) → n < e → e ≤ m → Leads e → ⊥
   none_later n m marks new best l f s dead w e after inside p =
       let same : e ≡ (n + 1) + (e - (n + 1)) = omega (arith, after) in
       let there = subst (λ (x : ℕ). StaysInside way at x (length t)) same (fewer_turns way at e m (length t) inside f) in
       dead_end (e - (n + 1)) (n + 1) new (omega arith) there dead (stepped_at n marks new best (fewer_turns way at (n + 1) m (length t) (omega (arith, l)) f) s w) (subst Leads same p)
 
-  pub walked_out : (n m : ℕ) (marks new : Marking) (best : Option ℕ) → n < m → StaysInside way at m (length t) → new ≡ stepped way r (read_at way t (place_at way at n) (place_at way at (n + 1))) (n == 0) marks → is_alive new ≡ false → Walked n marks best → IfSome best (IsGreatestOf Leads m) × IfNone best (HasNone Leads m)
+  pub walked_out : (n m : ℕ) (marks new : Marking) (best : Option ℕ) → n < m → StaysInside way at m (length t) → new ≡ step way r (read_at way t (place_at way at n) (place_at way at (n + 1))) (n == 0) marks → is_alive new ≡ false → Walked n marks best → IfSome best (IsGreatestOf Leads m) × IfNone best (HasNone Leads m)
   walked_out n m marks new best l f s dead w =
       let later = none_later n m marks new best l f s dead w in
       (further_some Leads n m best (omega (arith, l)) later w.some, further_none Leads n m best later w.none)

@@ -5,6 +5,7 @@ use Rattle.re_spans.specs.Turns.{place_at}
 use Rattle.re_spans.specs.Reached.{Along}
 use Rattle.re_spans.specs.declared.way.Way.{Way}
 
+-- the place, if there is one, is this
 abbrev pub is_at : Option ℕ → ℕ → Bool
 is_at (Some p) i = p == i
 is_at None i = false
@@ -15,6 +16,7 @@ pub record IsGreatestOf (P : ℕ → Type 0) (bound d : ℕ) : Type 0 where
   pub has : P d
   pub most : (e : ℕ) → e ≤ bound → P e → e ≤ d
 
+-- none of the numbers up to a bound has the property
 abbrev pub HasNone : (ℕ → Type 0) → ℕ → Type 0
 HasNone P bound = (e : ℕ) → e ≤ bound → P e → ⊥
 
@@ -30,6 +32,7 @@ UnlessNull skip d = IsTrue skip → d ≡ 0 → ⊥
 abbrev pub AmongThose : Cells → ℕ → ℕ → ℕ → Type 0
 AmongThose s low at d = (low ≤ at + d) × IsTrue (has s (at + d))
 
+-- the number in place of the best so far, where on holds
 abbrev pub set_if : Option ℕ → Bool → ℕ → Option ℕ
 set_if best on d = if on then Some d else best
 
@@ -51,9 +54,10 @@ pub record IsLongestTo (R : ℕ → ℕ → Type 0) (low j : ℕ) (no_null : Opt
   pub allowed : IsAllowed no_null i j
   pub longest : (k : ℕ) → low ≤ k → R k j → IsAllowed no_null k j → i ≤ k
 
--- the set has each place at which a span inside these bounds begins, or each at which one ends
+-- the set has each place at which a span inside these bounds begins
 abbrev pub HasStarts : (ℕ → ℕ → Type 0) → ℕ → ℕ → Cells → Type 0
 HasStarts R low high s = (i j : ℕ) → low ≤ i → j ≤ high → R i j → IsTrue (has s i)
 
+-- the set has each place at which one ends
 abbrev pub HasEnds : (ℕ → ℕ → Type 0) → ℕ → ℕ → Cells → Type 0
 HasEnds R low high s = (i j : ℕ) → low ≤ i → j ≤ high → R i j → IsTrue (has s j)

@@ -1,9 +1,11 @@
 -- The groups of a match as a value.
 use Rattle.std.specs.Prelude.{ℕ, zero, suc, ◌+◌, ◌-◌, Bool, ◌&&◌, ◌==◌, List, slice_set, replicate, Option, Some, None, nat_le, if◌then◌else◌}
 use Rattle.am_text.specs.declared.range.Range.{Range}
+use Rattle.re_syntax.specs.Groups.{ranges}
 use Rattle.re_syntax.specs.Tree.{Tree, Letter, AnyLetter, OneOf, LineStart, LineEnd, Then, Either, Many, Several, Maybe, Group}
 use Rattle.re_spans.specs.Search.{greatest, leads, matches}
 
+-- the range between two places
 abbrev pub span : ℕ → ℕ → Range
 span i j = record { q0 = i; q1 = j }
 
@@ -15,6 +17,7 @@ goes_on piece i j = leads piece (j - i) i j
 abbrev pub seam : ℕ → (ℕ → ℕ → Bool) → (ℕ → ℕ → Bool) → ℕ → ℕ → Option ℕ
 seam n first second i j = greatest (λ k. nat_le (i + n) k && (first i k && second k j)) i (j + 1 - i)
 
+-- what goes on from a seam, if there is one
 module _ {A : Type 0} where
   abbrev pub at_seam : A → (ℕ → A) → Option ℕ → A
   at_seam other go None = other
@@ -49,4 +52,4 @@ sets (Group n a) t i j old = slice_set (sets a t i j old) n (Some (span i j))
 
 -- the ten ranges of a match: the whole one, and those of its groups
 unfoldable pub groups_of : Tree → List ℕ → Range → List (Option Range)
-groups_of r t s = slice_set (sets r t s.q0 s.q1 (replicate 10 None)) 0 (Some s)
+groups_of r t s = slice_set (sets r t s.q0 s.q1 (replicate ranges None)) 0 (Some s)

@@ -21,11 +21,13 @@ marks_of (Leaf k) = OfLeaf k
 marks_of (One' k p s) = OfOne k (marks_of s)
 marks_of (Two' k p s q u) = OfTwo k (marks_of s) (marks_of u)
 
+-- the mark of the tree itself
 abbrev pub mark_of : Marking → Mark
 mark_of (OfLeaf k) = k
 mark_of (OfOne k s) = k
 mark_of (OfTwo k s u) = k
 
+-- another mark of the tree itself
 abbrev pub with_mark : Mark → Marking → Marking
 with_mark k (OfLeaf old) = OfLeaf k
 with_mark k (OfOne old s) = OfOne k s
@@ -41,33 +43,40 @@ is_alive (OfTwo k s u) = k.led || (is_alive s || is_alive u)
 abbrev pub passes : Mark → Bool → Bool
 passes k entered = k.led || (entered && k.null)
 
--- of two parts one after the other, the one is entered where both are, and the other where the one is left
+-- of two parts one after the other the left one is entered where both are; on the way back, where the right one is left
 abbrev pub left_enters : Way → Bool → Mark → Bool
 left_enters On entered right = entered
 left_enters Back entered right = passes right entered
 
+-- the right one is entered where the left one is left; on the way back, where both are
 abbrev pub right_enters : Way → Bool → Mark → Bool
 right_enters On entered left = passes left entered
 right_enters Back entered left = entered
 
-abbrev pub joined : Mark → Mark → Mark
-joined first second = record { led = second.led || (first.led && second.null); null = first.null && second.null }
+-- the mark of two parts, of which the search comes to the first one first
+abbrev pub join : Mark → Mark → Mark
+join first second = record { led = second.led || (first.led && second.null); null = first.null && second.null }
 
+-- the mark of two parts one after the other
 abbrev pub pair : Way → Mark → Mark → Mark
-pair On left right = joined left right
-pair Back left right = joined right left
+pair On left right = join left right
+pair Back left right = join right left
 
+-- the mark of two parts of which either is taken
 abbrev pub either : Mark → Mark → Mark
 either left right = record { led = left.led || right.led; null = left.null || right.null }
 
-abbrev pub wrapped : Mark → Bool → Mark
-wrapped part optional = record { led = part.led; null = optional || part.null }
+-- the mark of a tree with one part, which may be left out where optional holds
+abbrev pub wrap : Mark → Bool → Mark
+wrap part optional = record { led = part.led; null = optional || part.null }
 
+-- the mark of a leaf
 abbrev pub leaf_mark : Tree → Here → Bool → Mark
 leaf_mark r here led = record { led = led; null = is_null r here }
 
+-- the marks of a tree with one part
 abbrev pub with_part : Marking → Bool → Marking
-with_part part optional = OfOne (wrapped (mark_of part) optional) part
+with_part part optional = OfOne (wrap (mark_of part) optional) part
 
 -- nothing was entered before this place
 abbrev pub fresh : Way → Tree → Here → Marking
@@ -81,29 +90,32 @@ fresh way (Maybe a) here = with_part (fresh way a here) true
 fresh way (Group n a) here = with_part (fresh way a here) false
 fresh way r here = OfLeaf (leaf_mark r here false)
 
--- one place further on, where the parts do as f and g
-abbrev pub stepped_one : (Bool → Marking → Marking) → Bool → Bool → Bool → Marking → Marking
-stepped_one f entered again optional (OfOne k s) = with_part (f (entered || (again && (mark_of s).led)) s) optional
-stepped_one f entered again optional s = s
+-- one place further on, of a tree with one part that does as f: it is entered again where its matches end, if again holds
+abbrev pub step_one : (Bool → Marking → Marking) → Bool → Bool → Bool → Marking → Marking
+step_one f entered again optional (OfOne k s) = with_part (f (entered || (again && (mark_of s).led)) s) optional
+step_one f entered again optional s = s
 
+-- the marks of a tree with two parts
 abbrev pub with_pair : (Mark → Mark → Mark) → Marking → Marking → Marking
 with_pair of s u = OfTwo (of (mark_of s) (mark_of u)) s u
 
-abbrev pub stepped_cat : Way → (Bool → Marking → Marking) → (Bool → Marking → Marking) → Bool → Marking → Marking
-stepped_cat way f g entered (OfTwo k s u) =
+-- of two parts one after the other, which do as f and g
+abbrev pub step_cat : Way → (Bool → Marking → Marking) → (Bool → Marking → Marking) → Bool → Marking → Marking
+step_cat way f g entered (OfTwo k s u) =
     with_pair (pair way) (f (left_enters way entered (mark_of u)) s) (g (right_enters way entered (mark_of s)) u)
-stepped_cat way f g entered s = s
+step_cat way f g entered s = s
 
-abbrev pub stepped_alt : (Bool → Marking → Marking) → (Bool → Marking → Marking) → Bool → Marking → Marking
-stepped_alt f g entered (OfTwo k s u) = with_pair either (f entered s) (g entered u)
-stepped_alt f g entered s = s
+-- of two parts of which either is taken
+abbrev pub step_alt : (Bool → Marking → Marking) → (Bool → Marking → Marking) → Bool → Marking → Marking
+step_alt f g entered (OfTwo k s u) = with_pair either (f entered s) (g entered u)
+step_alt f g entered s = s
 
 -- one place further on, where the tree is entered at the place before or not
-abbrev pub stepped : Way → Tree → Read → Bool → Marking → Marking
-stepped way (Then a b) read entered s = stepped_cat way (stepped way a read) (stepped way b read) entered s
-stepped way (Either a b) read entered s = stepped_alt (stepped way a read) (stepped way b read) entered s
-stepped way (Many a) read entered s = stepped_one (stepped way a read) entered true true s
-stepped way (Several a) read entered s = stepped_one (stepped way a read) entered true false s
-stepped way (Maybe a) read entered s = stepped_one (stepped way a read) entered false true s
-stepped way (Group n a) read entered s = stepped_one (stepped way a read) entered false false s
-stepped way r read entered s = with_mark (leaf_mark r read.here (entered && takes r read.rune)) s
+abbrev pub step : Way → Tree → Read → Bool → Marking → Marking
+step way (Then a b) read entered s = step_cat way (step way a read) (step way b read) entered s
+step way (Either a b) read entered s = step_alt (step way a read) (step way b read) entered s
+step way (Many a) read entered s = step_one (step way a read) entered true true s
+step way (Several a) read entered s = step_one (step way a read) entered true false s
+step way (Maybe a) read entered s = step_one (step way a read) entered false true s
+step way (Group n a) read entered s = step_one (step way a read) entered false false s
+step way r read entered s = with_mark (leaf_mark r read.here (entered && takes r read.rune)) s

@@ -20,6 +20,7 @@ pub record IsFirstOver (r : Tree) (t : List ℕ) (at : ℕ) (found : Range) : Ty
   pub least : (i j : ℕ) → IsOver r t at i j → found.q0 ≤ i
   pub longest : (j : ℕ) → IsOver r t at found.q0 j → j ≤ found.q1
 
+-- no match has the place
 abbrev pub HasNoneOver : Tree → List ℕ → ℕ → Type 0
 HasNoneOver r t at = (i j : ℕ) → IsOver r t at i j → ⊥
 

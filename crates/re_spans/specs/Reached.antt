@@ -23,15 +23,16 @@ abbrev pub AreReached : Way → (ℕ → ℕ → Type 0) → Cells → Cells →
 AreReached way R s out = (j : ℕ) → s.low ≤ j → j < past s → IsTrue (has out j) ↔ Reached way R s j
 
 -- one span, or any number
-abbrev pub taken : Times → (ℕ → ℕ → Type 0) → ℕ → ℕ → Type 0
-taken Once R = R
-taken Often R = Repeats R
+abbrev pub so_many : Times → (ℕ → ℕ → Type 0) → ℕ → ℕ → Type 0
+so_many Once R = R
+so_many Often R = Repeats R
 
--- a search comes to a place from which it begins or not, where the tree has this mark: it enters the tree, and it has reached the place
+-- a search comes to a place from which it begins or not, where the tree has this mark: it enters the tree there
 abbrev pub enters : Times → Bool → Mark → Bool
 enters Once begun k = begun
 enters Often begun k = begun || k.led
 
+-- it has reached the place, at which it enters the tree or not
 abbrev pub leaves : Times → Mark → Bool → Bool
 leaves Once k entered = passes k entered
 leaves Often k entered = entered

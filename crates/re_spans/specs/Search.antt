@@ -1,14 +1,16 @@
 -- The match that a search finds, as a value.
 use Rattle.std.specs.Prelude.{◌≤◌, ◌==◌, ◌&&◌, ◌||◌, ◌+◌, ◌-◌, ℕ, zero, suc, Bool, false, not, List, Option, Some, None, is_some, nat_lt, if◌then◌else◌}
+use Rattle.am_text.specs.Ascii.{newline}
 use Rattle.re_syntax.specs.Tree.{Tree, Letter, AnyLetter, OneOf, LineStart, LineEnd, Then, Either, Many, Several, Maybe, Group}
 use Rattle.re_syntax.specs.Match.{one_rune, is_in_class, line_start, line_end}
 use Rattle.am_text.specs.declared.range.Range.{Range}
 
--- the least, or the greatest, of n places from low on that passes
+-- the least of n places from low on that passes
 abbrev pub least : (ℕ → Bool) → ℕ → ℕ → Option ℕ
 least p low zero = None
 least p low (suc n) = if p low then Some low else least p (low + 1) n
 
+-- the greatest of them
 abbrev pub greatest : (ℕ → Bool) → ℕ → ℕ → Option ℕ
 greatest p low zero = None
 greatest p low (suc n) = if p (low + n) then Some (low + n) else greatest p low n
@@ -25,7 +27,7 @@ leads piece (suc n) i j = (j == i) || has_place (λ k. nat_lt i k && (piece i k 
 -- whether the tree matches the text from i up to j, as a test
 abbrev pub matches : Tree → List ℕ → ℕ → ℕ → Bool
 matches (Letter c) t i j = one_rune (λ d. d == c) t i j
-matches AnyLetter t i j = one_rune (λ d. not (d == 10)) t i j
+matches AnyLetter t i j = one_rune (λ d. not (d == newline)) t i j
 matches (OneOf negated spans) t i j = one_rune (is_in_class negated spans) t i j
 matches LineStart t i j = line_start t i j
 matches LineEnd t i j = line_end t i j
@@ -36,6 +38,7 @@ matches (Several a) t i j = has_place (λ k. matches a t i k && leads (matches a
 matches (Maybe a) t i j = matches a t i j || (j == i)
 matches (Group n a) t i j = matches a t i j
 
+-- the null span at the place that is left out, if there is one
 abbrev pub is_left_out : Option ℕ → ℕ → ℕ → Bool
 is_left_out None i j = false
 is_left_out (Some p) i j = (i == p) && (j == p)
@@ -44,17 +47,20 @@ is_left_out (Some p) i j = (i == p) && (j == p)
 abbrev pub is_taken : Tree → List ℕ → Option ℕ → ℕ → ℕ → Bool
 is_taken r t no_null i j = matches r t i j && not (is_left_out no_null i j)
 
--- the end of the longest match from i to high, and the beginning of the longest one from low to j
+-- the end of the longest match from i to high
 abbrev pub longest_end : Tree → List ℕ → ℕ → Option ℕ → ℕ → Option ℕ
 longest_end r t high no_null i = greatest (is_taken r t no_null i) i (high + 1 - i)
 
+-- the beginning of the longest match from low to j
 abbrev pub longest_start : Tree → List ℕ → ℕ → Option ℕ → ℕ → Option ℕ
 longest_start r t low no_null j = least (λ i. is_taken r t no_null i j) low (j + 1 - low)
 
+-- the range, where both ends are there
 abbrev pub range_of : Option ℕ → Option ℕ → Option Range
 range_of (Some i) (Some j) = Some (record { q0 = i; q1 = j })
 range_of _ _ = None
 
+-- what goes on from a place, if there is one
 abbrev pub and_then : Option ℕ → (ℕ → Option ℕ) → Option ℕ
 and_then None f = None
 and_then (Some i) f = f i

@@ -4,6 +4,7 @@ use Rattle.am_text.specs.declared.range.Range.{Range}
 use Rattle.re_syntax.specs.Tree.{Tree}
 use Rattle.re_spans.specs.Search.{first_span, IsBetween}
 
+-- the range and those that follow it, if there is one
 abbrev pub and_more : Option Range → (Range → List Range) → List Range
 and_more None rest = []
 and_more (Some found) rest = found ∷ rest found

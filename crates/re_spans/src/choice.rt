@@ -9,11 +9,19 @@ ghost use Rattle.re_spans.specs.Search.{first_span, last_span, IsBetween};
 
 use crate::places::{Places, count_of};
 use crate::reach::reach;
-use crate::walk::farthest;
+use crate::walk::{Stretch, farthest};
 use crate::way::Way;
 use am_text::{Letters, NoMemory, Range};
 use re_syntax::Re;
 use std::alloc::Global;
+
+/// Where a match may lie: between two places, and it isn't the null one at a third.
+#[derive(Clone, Copy)]
+pub struct Bounds {
+    pub low: usize,
+    pub high: usize,
+    pub no_null: Option<usize>,
+}
 
 fn is_at(place: Option<usize>, at: usize) -> bool
     ensures { result ≡ is_at place at }
@@ -38,7 +46,12 @@ pub fn longest_from<T: Letters>(
     ensures some { IfOk result (λ answer. IfSome answer (IsLongestFrom (Matches (tree re.now) (T.letters text.now)) i high no_null)) }
     ensures none { IfOk result (λ answer. IfNone answer ((j : ℕ) → j ≤ high → Matches (tree re.now) (T.letters text.now) i j → IsAllowed no_null i j → ⊥)) }
 {
-    let found = farthest(alloc, re, text, Way::On, i, high - i, is_at(no_null, i))?;
+    let stretch = Stretch {
+        way: Way::On,
+        at: i,
+        turns: high - i,
+    };
+    let found = farthest(alloc, re, text, stretch, is_at(no_null, i))?;
     match found {
         Some(turns) => Ok(Some(i + turns)),
         None => Ok(None),
@@ -59,7 +72,12 @@ fn longest_to<T: Letters>(
     ensures some { IfOk result (λ answer. IfSome answer (IsLongestTo (Matches (tree re.now) (T.letters text.now)) low j no_null)) }
     ensures none { IfOk result (λ answer. IfNone answer ((i : ℕ) → low ≤ i → Matches (tree re.now) (T.letters text.now) i j → IsAllowed no_null i j → ⊥)) }
 {
-    let found = farthest(alloc, re, text, Way::Back, j, j - low, is_at(no_null, j))?;
+    let stretch = Stretch {
+        way: Way::Back,
+        at: j,
+        turns: j - low,
+    };
+    let found = farthest(alloc, re, text, stretch, is_at(no_null, j))?;
     match found {
         Some(turns) => Ok(Some(j - turns)),
         None => Ok(None),
@@ -129,23 +147,21 @@ fn earliest<T: Letters>(
     re: &Re,
     text: &T,
     starts: &Places,
-    from: usize,
-    end: usize,
-    no_null: Option<usize>,
+    bounds: Bounds,
 ) -> Result<Option<Range>, NoMemory>
-    requires order { from ≤ end }
-    requires within { end ≤ length (T.letters text.now) }
-    requires low { starts.now.low ≤ from }
-    requires past { past starts.now ≡ end + 1 }
-    requires starts { HasStarts (Matches (tree re.now) (T.letters text.now)) from end starts.now }
-    ensures found { IfOk result (λ answer. IfSome answer (IsFirst (tree re.now) (T.letters text.now) from end no_null)) }
-    ensures none { IfOk result (λ answer. IfNone answer (HasNoSpan (tree re.now) (T.letters text.now) from end no_null)) }
+    requires order { bounds.low ≤ bounds.high }
+    requires within { bounds.high ≤ length (T.letters text.now) }
+    requires low { starts.now.low ≤ bounds.low }
+    requires past { past starts.now ≡ bounds.high + 1 }
+    requires starts { HasStarts (Matches (tree re.now) (T.letters text.now)) bounds.low bounds.high starts.now }
+    ensures found { IfOk result (λ answer. IfSome answer (IsFirst (tree re.now) (T.letters text.now) bounds.low bounds.high bounds.no_null)) }
+    ensures none { IfOk result (λ answer. IfNone answer (HasNoSpan (tree re.now) (T.letters text.now) bounds.low bounds.high bounds.no_null)) }
 {
-    let count = count_of(from, end)?;
+    let count = count_of(bounds.low, bounds.high)?;
     for n in 0..count {
-        let i = from + n;
+        let i = bounds.low + n;
         if starts.has(i) {
-            if let Some(j) = longest_from(alloc, re, text, i, end, no_null)? {
+            if let Some(j) = longest_from(alloc, re, text, i, bounds.high, bounds.no_null)? {
                 return Ok(Some(Range { q0: i, q1: j }));
             }
         }
@@ -158,21 +174,19 @@ fn latest<T: Letters>(
     alloc: Global,
     re: &Re,
     text: &T,
-    start: usize,
-    to: usize,
-    no_null: Option<usize>,
+    bounds: Bounds,
 ) -> Result<Option<Range>, NoMemory>
-    requires order { start ≤ to }
-    requires within { to ≤ length (T.letters text.now) }
-    ensures found { IfOk result (λ answer. IfSome answer (IsLast (tree re.now) (T.letters text.now) start to no_null)) }
-    ensures none { IfOk result (λ answer. IfNone answer (HasNoSpan (tree re.now) (T.letters text.now) start to no_null)) }
+    requires order { bounds.low ≤ bounds.high }
+    requires within { bounds.high ≤ length (T.letters text.now) }
+    ensures found { IfOk result (λ answer. IfSome answer (IsLast (tree re.now) (T.letters text.now) bounds.low bounds.high bounds.no_null)) }
+    ensures none { IfOk result (λ answer. IfNone answer (HasNoSpan (tree re.now) (T.letters text.now) bounds.low bounds.high bounds.no_null)) }
 {
-    let ends = ends(alloc, re, text, start, to)?;
-    let count = count_of(start, to)?;
+    let ends = ends(alloc, re, text, bounds.low, bounds.high)?;
+    let count = count_of(bounds.low, bounds.high)?;
     for n in 0..count {
-        let j = to - n;
+        let j = bounds.high - n;
         if ends.has(j) {
-            if let Some(i) = longest_to(alloc, re, text, start, j, no_null)? {
+            if let Some(i) = longest_to(alloc, re, text, bounds.low, j, bounds.no_null)? {
                 return Ok(Some(Range { q0: i, q1: j }));
             }
         }
@@ -186,21 +200,19 @@ pub fn first_among<T: Letters>(
     re: &Re,
     text: &T,
     starts: &Places,
-    from: usize,
-    end: usize,
-    no_null: Option<usize>,
+    bounds: Bounds,
 ) -> Result<Option<Range>, NoMemory>
-    requires order { from ≤ end }
-    requires within { end ≤ length (T.letters text.now) }
-    requires low { starts.now.low ≤ from }
-    requires past { past starts.now ≡ end + 1 }
-    requires starts { HasStarts (Matches (tree re.now) (T.letters text.now)) from end starts.now }
-    ensures found { IfOk result (λ answer. IfSome answer (IsFirst (tree re.now) (T.letters text.now) from end no_null)) }
-    ensures none { IfOk result (λ answer. IfNone answer (HasNoSpan (tree re.now) (T.letters text.now) from end no_null)) }
-    ensures value { IfOk result (λ answer. answer ≡ first_span (tree re.now) (T.letters text.now) from end no_null) }
-    ensures inside { IfOk result (λ answer. IfSome answer (IsBetween from end)) }
+    requires order { bounds.low ≤ bounds.high }
+    requires within { bounds.high ≤ length (T.letters text.now) }
+    requires low { starts.now.low ≤ bounds.low }
+    requires past { past starts.now ≡ bounds.high + 1 }
+    requires starts { HasStarts (Matches (tree re.now) (T.letters text.now)) bounds.low bounds.high starts.now }
+    ensures found { IfOk result (λ answer. IfSome answer (IsFirst (tree re.now) (T.letters text.now) bounds.low bounds.high bounds.no_null)) }
+    ensures none { IfOk result (λ answer. IfNone answer (HasNoSpan (tree re.now) (T.letters text.now) bounds.low bounds.high bounds.no_null)) }
+    ensures value { IfOk result (λ answer. answer ≡ first_span (tree re.now) (T.letters text.now) bounds.low bounds.high bounds.no_null) }
+    ensures inside { IfOk result (λ answer. IfSome answer (IsBetween bounds.low bounds.high)) }
 {
-    let found = earliest(alloc, re, text, starts, from, end, no_null)?;
+    let found = earliest(alloc, re, text, starts, bounds)?;
     Ok(found)
 }
 
@@ -223,7 +235,12 @@ pub fn first_match<T: Letters>(
     ensures inside { IfOk result (λ answer. IfSome answer (IsBetween from end)) }
 {
     let starts = starts(alloc, re, text, from, end)?;
-    first_among(alloc, re, text, &starts, from, end, no_null)
+    let bounds = Bounds {
+        low: from,
+        high: end,
+        no_null,
+    };
+    first_among(alloc, re, text, &starts, bounds)
 }
 
 /// The match that ends last, and of those the longest, inside start and to, leaving out the null one at no_null.
@@ -244,6 +261,11 @@ pub fn last_match<T: Letters>(
     ensures value { IfOk result (λ answer. answer ≡ last_span (tree re.now) (T.letters text.now) start to no_null) }
     ensures inside { IfOk result (λ answer. IfSome answer (IsBetween start to)) }
 {
-    let found = latest(alloc, re, text, start, to, no_null)?;
+    let bounds = Bounds {
+        low: start,
+        high: to,
+        no_null,
+    };
+    let found = latest(alloc, re, text, bounds)?;
     Ok(found)
 }

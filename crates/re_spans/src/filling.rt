@@ -18,6 +18,9 @@ use am_text::{Items, Letters, NoMemory, Range};
 use re_syntax::{Groups, Re};
 use std::alloc::Global;
 
+// How many ranges a match has: its own, and those of nine groups.
+const RANGES: usize = 10;
+
 // Where the first of two parts ends, where it is as long as it can be.
 fn first_part<T: Letters>(
     alloc: Global,
@@ -213,13 +216,14 @@ fn fill<T: Letters>(
     }
 }
 
+// The ranges of a match, all at once.
 fn ten_ranges<T: Letters>(alloc: Global, re: &Re, text: &T, span: Range) -> Result<Groups, NoMemory>
     requires order { span.q0 ≤ span.q1 }
     requires within { span.q1 ≤ length (T.letters text.now) }
     requires matches { Matches (tree re.now) (T.letters text.now) span.q0 span.q1 }
     ensures { IfOk result (AreGroups (tree re.now) (T.letters text.now) span) }
 {
-    let mut all = vec![in alloc; None; 10]?;
+    let mut all = vec![in alloc; None; RANGES]?;
     fill(alloc, re, text, span.q0, span.q1, all.as_mut_slice())?;
     all[0] = Some(span);
     Ok(Items::from_vec(all))

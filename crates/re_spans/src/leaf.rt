@@ -1,13 +1,14 @@
 //! What the leaves of a tree match.
 
 ghost use Rattle.std.specs.Prelude.{◌≡◌, ◌<◌, ◌≤◌, ◌-◌, ◌==◌, ◌&&◌, ◌||◌, length, slice_index, nat_lt};
+ghost use Rattle.am_text.specs.Ascii.{newline};
 ghost use Rattle.re_syntax.specs.Tree.{tree};
 ghost use Rattle.re_syntax.specs.Match.{is_in, is_in_class};
 ghost use Rattle.re_spans.specs.Turns.{lower};
 ghost use Rattle.re_spans.specs.Leaves.{takes, is_null, here_at, read_at};
 
 use crate::way::{Way, lower};
-use am_text::{Letters, Rune};
+use am_text::{Letters, NEWLINE, Rune};
 use re_syntax::{Re, RuneSpans};
 
 /// What the null text at a place is: the one before the first rune of a line, the one at its end.
@@ -34,7 +35,11 @@ fn is_in_class(not: bool, spans: &RuneSpans, c: Rune) -> bool
     ensures { result ≡ is_in_class not spans.now c }
 {
     let inside = has_rune(spans.as_slice(), c);
-    if not { !(inside || c == 10) } else { inside }
+    if not {
+        !(inside || c == NEWLINE)
+    } else {
+        inside
+    }
 }
 
 /// Whether a leaf matches this one rune.
@@ -43,7 +48,7 @@ pub fn takes(re: &Re, rune: Rune) -> bool
 {
     match re {
         Re::Lit(c) => rune == *c,
-        Re::Any => rune != 10,
+        Re::Any => rune != NEWLINE,
         Re::Class { not, spans } => is_in_class(*not, spans, rune),
         Re::Start => false,
         Re::End => false,
@@ -76,18 +81,19 @@ pub fn is_null(re: &Re, here: Here) -> bool
 }
 
 fn is_line_start<T: Letters>(text: &T, i: usize) -> bool
-    ensures { result ≡ (nat_lt i (length (T.letters text.now)) && ((i == 0) || (slice_index (T.letters text.now) (i - 1) == 10))) }
+    ensures { result ≡ (nat_lt i (length (T.letters text.now)) && ((i == 0) || (slice_index (T.letters text.now) (i - 1) == newline))) }
 {
-    i < text.len() && (i == 0 || text.at(i - 1) == 10)
+    i < text.len() && (i == 0 || text.at(i - 1) == NEWLINE)
 }
 
 fn is_line_end<T: Letters>(text: &T, i: usize) -> bool
     requires { i ≤ length (T.letters text.now) }
-    ensures { result ≡ ((i == length (T.letters text.now)) || (slice_index (T.letters text.now) i == 10)) }
+    ensures { result ≡ ((i == length (T.letters text.now)) || (slice_index (T.letters text.now) i == newline)) }
 {
-    i == text.len() || text.at(i) == 10
+    i == text.len() || text.at(i) == NEWLINE
 }
 
+/// What the null text at a place is.
 pub fn here_at<T: Letters>(text: &T, i: usize) -> Here
     requires { i ≤ length (T.letters text.now) }
     ensures { result ≡ here_at (T.letters text.now) i }

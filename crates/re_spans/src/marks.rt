@@ -3,7 +3,7 @@
 ghost use Rattle.std.specs.Prelude.{◌≡◌, ◌&&◌, IfOk};
 ghost use Rattle.re_syntax.specs.Tree.{tree};
 ghost use Rattle.re_spans.specs.Leaves.{takes};
-ghost use Rattle.re_spans.specs.Marks.{marks_of, mark_of, is_alive, with_mark, passes, left_enters, right_enters, joined, pair, either, wrapped, with_part, leaf_mark, fresh, stepped, stepped_one, stepped_cat, stepped_alt, OfTwo};
+ghost use Rattle.re_spans.specs.Marks.{marks_of, mark_of, is_alive, with_mark, passes, left_enters, right_enters, join, pair, either, wrap, with_part, leaf_mark, fresh, step, step_one, step_cat, step_alt, OfTwo};
 
 use crate::leaf::{Here, Read, is_null, takes};
 use crate::way::Way;
@@ -28,6 +28,7 @@ pub enum Marks {
 }
 
 impl Marks {
+    /// The mark of the tree itself.
     pub fn mark(&self) -> Mark
         ensures { result ≡ mark_of (marks_of self.now) }
     {
@@ -68,6 +69,7 @@ pub fn passes(mark: Mark, entered: bool) -> bool
     mark.led || (entered && mark.null)
 }
 
+// Of two parts one after the other the left one is entered.
 fn left_enters(way: Way, entered: bool, right: Mark) -> bool
     ensures { result ≡ left_enters way entered right }
 {
@@ -77,6 +79,7 @@ fn left_enters(way: Way, entered: bool, right: Mark) -> bool
     }
 }
 
+// The right one is entered.
 fn right_enters(way: Way, entered: bool, left: Mark) -> bool
     ensures { result ≡ right_enters way entered left }
 {
@@ -87,8 +90,8 @@ fn right_enters(way: Way, entered: bool, left: Mark) -> bool
 }
 
 // The mark of two parts one after the other.
-fn joined(first: Mark, second: Mark) -> Mark
-    ensures { result ≡ joined first second }
+fn join(first: Mark, second: Mark) -> Mark
+    ensures { result ≡ join first second }
 {
     Mark {
         led: second.led || (first.led && second.null),
@@ -100,8 +103,8 @@ fn pair(way: Way, left: Mark, right: Mark) -> Mark
     ensures { result ≡ pair way left right }
 {
     match way {
-        Way::On => joined(left, right),
-        Way::Back => joined(right, left),
+        Way::On => join(left, right),
+        Way::Back => join(right, left),
     }
 }
 
@@ -115,8 +118,8 @@ fn either(left: Mark, right: Mark) -> Mark
 }
 
 // The mark of a tree with one part, which may be left out where optional holds.
-fn wrapped(part: Mark, optional: bool) -> Mark
-    ensures { result ≡ wrapped part optional }
+fn wrap(part: Mark, optional: bool) -> Mark
+    ensures { result ≡ wrap part optional }
 {
     Mark {
         led: part.led,
@@ -136,7 +139,7 @@ fn leaf_mark(re: &Re, here: Here, led: bool) -> Mark
 fn one(alloc: Global, part: Marks, optional: bool) -> Result<Marks, NoMemory>
     ensures { IfOk result (λ marks. marks_of marks ≡ with_part (marks_of part) optional) }
 {
-    let mark = wrapped(part.mark(), optional);
+    let mark = wrap(part.mark(), optional);
     Ok(Marks::One(mark, Box::new(alloc, part)?))
 }
 
@@ -185,14 +188,14 @@ impl Marks {
         again: bool,
         optional: bool,
     )
-        ensures { marks_of self.new ≡ stepped_one (stepped way (tree part.now) read) entered again optional (marks_of self.old) }
+        ensures { marks_of self.new ≡ step_one (step way (tree part.now) read) entered again optional (marks_of self.old) }
     {
         match self {
             Marks::Leaf(_) => {}
             Marks::One(mark, below) => {
                 let enters = entered || (again && below.mark().led);
                 below.step(part, way, read, enters);
-                *mark = wrapped(below.mark(), optional);
+                *mark = wrap(below.mark(), optional);
             }
             Marks::Two(..) => {}
         }
@@ -201,7 +204,7 @@ impl Marks {
     // The marks of two parts one after the other.
     #[cycle(step)]
     fn step_cat(&mut self, a: &Re, b: &Re, way: Way, read: Read, entered: bool)
-        ensures { marks_of self.new ≡ stepped_cat way (stepped way (tree a.now) read) (stepped way (tree b.now) read) entered (marks_of self.old) }
+        ensures { marks_of self.new ≡ step_cat way (step way (tree a.now) read) (step way (tree b.now) read) entered (marks_of self.old) }
     {
         match self {
             Marks::Leaf(_) => {}
@@ -219,7 +222,7 @@ impl Marks {
     // The marks of two parts of which either is taken.
     #[cycle(step)]
     fn step_alt(&mut self, a: &Re, b: &Re, way: Way, read: Read, entered: bool)
-        ensures { marks_of self.new ≡ stepped_alt (stepped way (tree a.now) read) (stepped way (tree b.now) read) entered (marks_of self.old) }
+        ensures { marks_of self.new ≡ step_alt (step way (tree a.now) read) (step way (tree b.now) read) entered (marks_of self.old) }
     {
         match self {
             Marks::Leaf(_) => {}
@@ -241,7 +244,7 @@ impl Marks {
     /// The marks at the next place, where the tree is entered at this one or not.
     #[cycle(step)]
     pub fn step(&mut self, re: &Re, way: Way, read: Read, entered: bool)
-        ensures { marks_of self.new ≡ stepped way (tree re.now) read entered (marks_of self.old) }
+        ensures { marks_of self.new ≡ step way (tree re.now) read entered (marks_of self.old) }
     {
         match re {
             Re::Lit(_) => self.step_leaf(re, read, entered),

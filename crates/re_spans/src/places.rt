@@ -35,6 +35,7 @@ pub fn count_of(low: usize, high: usize) -> Result<usize, NoMemory>
     }
 }
 
+// Puts all places from one on.
 fn put_from(tests: &mut [bool], first: usize)
     ensures { (k : ℕ) → k < length tests.old → IsTrue (slice_index_or tests.new k false) ↔ (IsTrue (slice_index_or tests.old k false) ⊎ (first ≤ k)) }
 {
@@ -114,6 +115,7 @@ impl Places {
         }
     }
 
+    /// The place is in the set.
     pub fn has(&self, place: usize) -> bool
         requires above { self.now.low ≤ place }
         requires below { place < past self.now }

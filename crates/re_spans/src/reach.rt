@@ -6,13 +6,13 @@ ghost use Rattle.re_syntax.specs.Match.{Matches, Repeats};
 ghost use Rattle.re_spans.specs.Places.{past};
 ghost use Rattle.re_spans.specs.Turns.{place_at, first};
 ghost use Rattle.re_spans.specs.Leaves.{read_at};
-ghost use Rattle.re_spans.specs.Marks.{marks_of, stepped};
-ghost use Rattle.re_spans.specs.Reached.{AreReached, taken, enters, leaves};
+ghost use Rattle.re_spans.specs.Marks.{marks_of, step};
+ghost use Rattle.re_spans.specs.Reached.{AreReached, so_many, enters, leaves};
 
 use crate::leaf::here_at;
 use crate::marks::{Mark, Marks, fresh, passes};
 use crate::places::Places;
-use crate::walk::advance;
+use crate::walk::{Stretch, advance};
 use crate::way::{Way, place_at};
 use am_text::{Letters, NoMemory};
 use re_syntax::Re;
@@ -57,13 +57,18 @@ fn go_on<T: Letters>(
 )
     requires turn { turn < length from.now.cells }
     requires within { past from.now ≤ length (T.letters text.now) + 1 }
-    ensures { turn + 1 < length from.now.cells → marks_of marks.new ≡ stepped way (tree re.now) (read_at way (T.letters text.now) (place_at way (first way from.now) turn) (place_at way (first way from.now) (turn + 1))) entered (marks_of marks.old) }
+    ensures { turn + 1 < length from.now.cells → marks_of marks.new ≡ step way (tree re.now) (read_at way (T.letters text.now) (place_at way (first way from.now) turn) (place_at way (first way from.now) (turn + 1))) entered (marks_of marks.old) }
 {
     let _len = text.len();
     let count = from.count();
     if turn + 1 < count {
         let first = from.first(way);
-        advance(re, marks, text, way, first, turn, entered);
+        let so_far = Stretch {
+            way,
+            at: first,
+            turns: turn,
+        };
+        advance(re, marks, text, so_far, entered);
     }
 }
 
@@ -80,7 +85,7 @@ fn search<T: Letters>(
     requires within { past from.now ≤ length (T.letters text.now) + 1 }
     ensures low { IfOk result (λ out. out.low ≡ from.now.low) }
     ensures count { IfOk result (λ out. length out.cells ≡ length from.now.cells) }
-    ensures places { IfOk result (λ out. AreReached way (taken times (Matches (tree re.now) (T.letters text.now))) from.now out) }
+    ensures places { IfOk result (λ out. AreReached way (so_many times (Matches (tree re.now) (T.letters text.now))) from.now out) }
 {
     let _len = text.len();
     let first = from.first(way);

@@ -4,7 +4,7 @@ ghost use Rattle.std.specs.Prelude.{◌≡◌, ◌≤◌, length, IfOk};
 ghost use Rattle.re_syntax.specs.Tree.{tree};
 ghost use Rattle.re_spans.specs.Successive.{successive, AreInOrder};
 
-use crate::choice::{first_among, starts};
+use crate::choice::{Bounds, first_among, starts};
 use crate::places::count_of;
 use am_text::{Items, Letters, NoMemory, Range, Spans};
 use re_syntax::Re;
@@ -31,7 +31,12 @@ pub fn successive_matches<T: Letters>(
     let mut at = from;
     let mut no_null = None;
     for turn in 0..count_of(from, end)? {
-        let Some(found) = first_among(alloc, re, text, &starts, at, end, no_null)? else {
+        let bounds = Bounds {
+            low: at,
+            high: end,
+            no_null,
+        };
+        let Some(found) = first_among(alloc, re, text, &starts, bounds)? else {
             return Ok(all);
         };
         all.push(found)?;

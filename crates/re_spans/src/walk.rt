@@ -5,7 +5,7 @@ ghost use Rattle.re_syntax.specs.Tree.{tree};
 ghost use Rattle.re_syntax.specs.Match.{Matches};
 ghost use Rattle.re_spans.specs.Turns.{place_at, StaysInside};
 ghost use Rattle.re_spans.specs.Leaves.{read_at};
-ghost use Rattle.re_spans.specs.Marks.{marks_of, stepped};
+ghost use Rattle.re_spans.specs.Marks.{marks_of, step};
 ghost use Rattle.re_spans.specs.Choice.{LeadsTo, UnlessNull, AmongThose, IsGreatestOf, HasNone, set_if};
 ghost use Rattle.re_spans.specs.Places.{past, has};
 ghost use Rattle.re_spans.specs.declared.way.Way.TheVariants.{On};
@@ -18,25 +18,25 @@ use am_text::{Letters, NoMemory};
 use re_syntax::Re;
 use std::alloc::Global;
 
-/// Goes on from the place of a turn to the next one, where the tree is entered at that place or not.
-pub fn advance<T: Letters>(
-    re: &Re,
-    marks: &mut Marks,
-    text: &T,
-    way: Way,
-    at: usize,
-    turn: usize,
-    entered: bool,
-)
-    requires turn { turn + 1 < 2 ^ 64 }
-    requires within { StaysInside way at (turn + 1) (length (T.letters text.now)) }
-    ensures { marks_of marks.new ≡ stepped way (tree re.now) (read_at way (T.letters text.now) (place_at way at turn) (place_at way at (turn + 1))) entered (marks_of marks.old) }
+/// So many places from one on, in the order of a search.
+#[derive(Clone, Copy)]
+pub struct Stretch {
+    pub way: Way,
+    pub at: usize,
+    pub turns: usize,
+}
+
+/// Goes on from the end of a stretch to the next place, where the tree is entered at that end or not.
+pub fn advance<T: Letters>(re: &Re, marks: &mut Marks, text: &T, so_far: Stretch, entered: bool)
+    requires turn { so_far.turns + 1 < 2 ^ 64 }
+    requires within { StaysInside so_far.way so_far.at (so_far.turns + 1) (length (T.letters text.now)) }
+    ensures { marks_of marks.new ≡ step so_far.way (tree re.now) (read_at so_far.way (T.letters text.now) (place_at so_far.way so_far.at so_far.turns) (place_at so_far.way so_far.at (so_far.turns + 1))) entered (marks_of marks.old) }
 {
     let _len = text.len();
-    let here = place_at(way, at, turn);
-    let next = place_at(way, at, turn + 1);
-    let read = read_at(text, way, here, next);
-    marks.step(re, way, read, entered);
+    let here = place_at(so_far.way, so_far.at, so_far.turns);
+    let next = place_at(so_far.way, so_far.at, so_far.turns + 1);
+    let read = read_at(text, so_far.way, here, next);
+    marks.step(re, so_far.way, read, entered);
 }
 
 fn set_if(best: Option<usize>, on: bool, d: usize) -> Option<usize>
@@ -69,28 +69,30 @@ fn led_among(mark: Mark, set: &Places, low: usize, place: usize) -> bool
     mark.led && is_among(set, low, place)
 }
 
-/// How many places the longest match leads from a place, of those that lead no further than so many; where skip
-/// holds, the null match doesn't count.
+/// How many places the longest match leads, of those that begin where the stretch does and lead no further than it;
+/// where skip holds, the null match doesn't count.
 ///
 /// It comes to no place further than one to which some match can go on.
 pub fn farthest<T: Letters>(
     alloc: Global,
     re: &Re,
     text: &T,
-    way: Way,
-    at: usize,
-    turns: usize,
+    stretch: Stretch,
     skip: bool,
 ) -> Result<Option<usize>, NoMemory>
-    requires place { at ≤ length (T.letters text.now) }
-    requires within { StaysInside way at turns (length (T.letters text.now)) }
-    ensures some { IfOk result (λ found. IfSome found (IsGreatestOf (LeadsTo way (Matches (tree re.now) (T.letters text.now)) at (UnlessNull skip)) turns)) }
-    ensures none { IfOk result (λ found. IfNone found (HasNone (LeadsTo way (Matches (tree re.now) (T.letters text.now)) at (UnlessNull skip)) turns)) }
+    requires place { stretch.at ≤ length (T.letters text.now) }
+    requires within { StaysInside stretch.way stretch.at stretch.turns (length (T.letters text.now)) }
+    ensures some { IfOk result (λ found. IfSome found (IsGreatestOf (LeadsTo stretch.way (Matches (tree re.now) (T.letters text.now)) stretch.at (UnlessNull skip)) stretch.turns)) }
+    ensures none { IfOk result (λ found. IfNone found (HasNone (LeadsTo stretch.way (Matches (tree re.now) (T.letters text.now)) stretch.at (UnlessNull skip)) stretch.turns)) }
 {
-    let mut marks = fresh(alloc, re, way, here_at(text, at))?;
+    let mut marks = fresh(alloc, re, stretch.way, here_at(text, stretch.at))?;
     let mut best = null_match(marks.mark(), !skip);
-    for turn in 0..turns {
-        advance(re, &mut marks, text, way, at, turn, turn == 0);
+    for turn in 0..stretch.turns {
+        let so_far = Stretch {
+            turns: turn,
+            ..stretch
+        };
+        advance(re, &mut marks, text, so_far, turn == 0);
         if !marks.is_alive() {
             return Ok(best);
         }
@@ -119,7 +121,12 @@ pub fn farthest_among<T: Letters>(
     let mut marks = fresh(alloc, re, Way::On, here_at(text, at))?;
     let mut best = null_match(marks.mark(), is_among(set, low, at));
     for turn in 0..high - at {
-        advance(re, &mut marks, text, Way::On, at, turn, turn == 0);
+        let stretch = Stretch {
+            way: Way::On,
+            at,
+            turns: turn,
+        };
+        advance(re, &mut marks, text, stretch, turn == 0);
         if !marks.is_alive() {
             return Ok(best);
         }

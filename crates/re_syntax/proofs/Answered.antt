@@ -6,9 +6,9 @@ use Rattle.re_syntax.specs.Tree.{Tree, tree, nodes}
 use Rattle.re_syntax.specs.Signs.{is_stop, sign_of, class_sign_of}
 use Rattle.re_syntax.specs.Grammar.{IsExpression, GoesOn, MayEnd}
 use Rattle.re_syntax.specs.Answer.{IsRead, IsBad, Refuses}
-use Rattle.re_syntax.specs.Scan.{Scanned, outside, in_class, opened, after_low, after_dash, high, scan_in, scan}
-use Rattle.re_syntax.specs.Build.{Stack, finished}
-use Rattle.re_syntax.specs.Read.{Reading, begin, taken, read, reads, is_outside, is_escaped, is_complete, Follows, Finishes, FinishFails}
+use Rattle.re_syntax.specs.Scan.{Scanned, outside, in_class, after_bracket, after_low, after_dash, high, scan_in, scan}
+use Rattle.re_syntax.specs.Build.{Stack, level_tree}
+use Rattle.re_syntax.specs.Read.{Reading, begin, after_scan, read, reads, is_outside, is_escaped, is_complete, Follows, Finishes, FinishFails}
 use Rattle.re_syntax.specs.declared.re.Re.{Re}
 use Rattle.re_syntax.specs.declared.re.ReFault.{ReFault}
 use Rattle.re_syntax.specs.declared.re.ReFault.TheVariants.{Bad, Nodes, NoMemory}
@@ -85,7 +85,7 @@ outside_near s Dollar c = omega arith
 outside_near s OpenClass c = omega arith
 outside_near s Plain c = omega arith
 
-opened_near : (s : Scanner) (k : ClassSign) (c : ℕ) → Near s.depth (opened s k c)
+opened_near : (s : Scanner) (k : ClassSign) (c : ℕ) → Near s.depth (after_bracket s k c)
 opened_near s Ends c = tt
 opened_near s Escapes c = omega arith
 opened_near s Dash c = tt
@@ -119,7 +119,7 @@ scan_near (Low a) s c = low_near s a (class_sign_of s.stop c) c
 scan_near (Upto a) s c = dash_near s a (class_sign_of s.stop c) c
 scan_near (UptoEscaped a) s c = high_near s a _
 
-taken_near : (m : Reading) (o : Scanned) → Near m.scanner.depth o → IfSome (taken m o) (λ n. n.scanner.depth ≤ m.scanner.depth + 1)
+taken_near : (m : Reading) (o : Scanned) → Near m.scanner.depth o → IfSome (after_scan m o) (λ n. n.scanner.depth ≤ m.scanner.depth + 1)
 taken_near m None h = tt
 taken_near m (Some (s, None)) h = h
 taken_near m (Some (s, Some t)) h = h
@@ -140,7 +140,7 @@ stop_is st c e = rw e refl
 stop_in : (md : Mode) (s : Scanner) (c : ℕ) → is_escaped md ≡ false → is_stop s.stop c ≡ true → scan_in md s c ≡ None
 stop_in Outside s c f e = ap (λ (k : Sign). outside s k c) (stop_is s.stop c e)
 stop_in Escaped s c f e = absurd cc
-stop_in Opened s c f e = ap (λ (k : ClassSign). opened s k c) (ends_none s.stop c e)
+stop_in Opened s c f e = ap (λ (k : ClassSign). after_bracket s k c) (ends_none s.stop c e)
 stop_in Next s c f e = ap (λ (k : ClassSign). in_class s k c) (ends_none s.stop c e)
 stop_in NextEscaped s c f e = absurd cc
 stop_in (Low a) s c f e = ap (λ (k : ClassSign). after_low s a k c) (ends_none s.stop c e)
@@ -148,7 +148,7 @@ stop_in (Upto a) s c f e = ap (λ (k : ClassSign). after_dash s a k c) (ends_non
 stop_in (UptoEscaped a) s c f e = absurd cc
 
 pub stop_read : (m : Reading) (c : ℕ) → is_escaped m.scanner.mode ≡ false → is_stop m.scanner.stop c ≡ true → read m c ≡ None
-stop_read m c f e = ap (taken m) (stop_in m.scanner.mode m.scanner c f e)
+stop_read m c f e = ap (after_scan m) (stop_in m.scanner.mode m.scanner c f e)
 
 both : (a b : Bool) → (a && b) ≡ true → (a ≡ true) × (b ≡ true)
 both true b e = (refl, e)
@@ -165,11 +165,11 @@ not_escaped s h = outside_not_escaped s.mode (both (is_outside s.mode) (not s.ex
 
 module _ (stop : Option ℕ) (text : List ℕ) (from here : ℕ) (m : Reading) (order : from ≤ here) (within : here ≤ length text) (e : reads (Some (begin stop)) (slice_range text from here) ≡ Some m) where
   -- an expression that ends here was read whole
-  known : (r : Tree) → IsExpression stop (slice_range text from here) r → (is_complete m.scanner ≡ true) × (finished m.stack.top ≡ Some r)
+  known : (r : Tree) → IsExpression stop (slice_range text from here) r → (is_complete m.scanner ≡ true) × (level_tree m.stack.top ≡ Some r)
   known r x =
       let c = complete_read stop (slice_range text from here) r x in
       let same : c.reading ≡ m = cc (c.reads_to, e) in
-      (subst (λ (n : Reading). is_complete n.scanner ≡ true) same c.complete, subst (λ (n : Reading). finished n.stack.top ≡ Some r) same c.finished_is)
+      (subst (λ (n : Reading). is_complete n.scanner ≡ true) same c.complete, subst (λ (n : Reading). level_tree n.stack.top ≡ Some r) same c.finished_is)
 
   -- no expression goes on by a rune that is refused
   none_goes_on : here < length text → read m (get_or text here 0) ≡ None → GoesOn stop (slice_range text from (here + 1)) → ⊥
@@ -214,7 +214,7 @@ module _ (stop : Option ℕ) (text : List ℕ) (from here : ℕ) (m : Reading) (
         let complete : is_complete m.scanner ≡ true = subst (λ (s : Scanner). is_complete s ≡ true) follows.scanner f.complete in
         let w = whole stop (slice_range text from here) m e complete in
         let small = follows.small f.small in
-        let built : finished m.stack.top ≡ Some (tree re) = subst (λ (z : Stack). finished z.top ≡ Some (tree re)) small.1 f.tree_is in
+        let built : level_tree m.stack.top ≡ Some (tree re) = subst (λ (z : Stack). level_tree z.top ≡ Some (tree re)) small.1 f.tree_is in
         let same : Some w.result ≡ Some (tree re) = sym w.finished_is ∙ built in
         let is : w.result ≡ tree re = cc same in (
           subst (λ (k : ℕ). IsRead stop text from k (tree re)) (sym f.here) (record {
@@ -239,7 +239,7 @@ module _ (stop : Option ℕ) (text : List ℕ) (from here : ℕ) (m : Reading) (
                     let there : is_complete m.scanner ≡ false = subst (λ (s : Scanner). is_complete s ≡ false) follows.scanner incomplete in
                     absurd (cc (there, k.0))
                 | inr nothing ↦
-                    let there : finished m.stack.top ≡ None = subst (λ (z : Stack). finished z.top ≡ None) (follows.small nothing.0).1 nothing.1 in
+                    let there : level_tree m.stack.top ≡ None = subst (λ (z : Stack). level_tree z.top ≡ None) (follows.small nothing.0).1 nothing.1 in
                     let clash : Some r ≡ None = sym k.1 ∙ there in
                     absurd cc
               ];

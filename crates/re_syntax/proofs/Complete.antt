@@ -4,12 +4,12 @@ use Rattle.std.specs.Prelude.{IsTrue}
 use Rattle.std.proofs.lemmas.Bool.{le-ltb}
 use Rattle.std.proofs.lemmas.Bool.Decides.{nat_tests}
 use Rattle.std.proofs.lemmas.List.{append-nil}
-use Rattle.re_syntax.specs.Tree.{Tree, Letter, AnyLetter, OneOf, LineStart, LineEnd, Then, Either, Many, Several, Maybe, Group, is_either, is_part, repeated}
+use Rattle.re_syntax.specs.Tree.{Tree, Letter, AnyLetter, OneOf, LineStart, LineEnd, Then, Either, Many, Several, Maybe, Group, is_either, is_part, repetition}
 use Rattle.re_syntax.specs.Signs.{class_sign_of}
 use Rattle.re_syntax.specs.Grammar.{Has, ClassHas, WritesMember, WritesRange, WritesRanges, WritesClass, Writes, IsExpression, is_member}
-use Rattle.re_syntax.specs.Scan.{Scanned, outside, in_class, opened, after_low, high, after_dash, scan}
-use Rattle.re_syntax.specs.Build.{Level, Stack, chain, choice, finished, whole, built, with_part, end_side}
-use Rattle.re_syntax.specs.Read.{Reading, begin, taken, reads, is_complete}
+use Rattle.re_syntax.specs.Scan.{Scanned, outside, in_class, after_bracket, after_low, high, after_dash, scan}
+use Rattle.re_syntax.specs.Build.{Level, Stack, chain, choice, level_tree, whole, after_token, with_part, end_side}
+use Rattle.re_syntax.specs.Read.{Reading, begin, after_scan, reads, is_complete}
 use Rattle.re_syntax.specs.declared.re.Re.{Class}
 use Rattle.re_syntax.specs.declared.sign.Repeat.{Repeat}
 use Rattle.re_syntax.specs.declared.sign.Repeat.TheVariants.{Star, Plus, Opt}
@@ -67,9 +67,9 @@ abbrev Goes : Option ℕ → Reading → List ℕ → ℕ → Stack → List ℕ
 Goes stop m text d z rest =
     (b : Bool) × (rs : List (ℕ × ℕ)) × (n : ℕ) × (reads (Some m) text ≡ reads (Some (at stop b rs d false z n)) rest)
 
-sign_goes : (stop : Option ℕ) (b : Bool) (rs : List (ℕ × ℕ)) (d : ℕ) (e : Bool) (z : Stack) (n : ℕ) (s : Sign) (text rest : List ℕ) (has : Has stop s text rest) → reads (Some (at stop b rs d e z n)) text ≡ reads (taken (at stop b rs d e z n) (outside (scanner_of stop Outside b rs d e) s has.0)) rest
+sign_goes : (stop : Option ℕ) (b : Bool) (rs : List (ℕ × ℕ)) (d : ℕ) (e : Bool) (z : Stack) (n : ℕ) (s : Sign) (text rest : List ℕ) (has : Has stop s text rest) → reads (Some (at stop b rs d e z n)) text ≡ reads (after_scan (at stop b rs d e z n) (outside (scanner_of stop Outside b rs d e) s has.0)) rest
 sign_goes stop b rs d e z n s text rest has =
-    ap (reads (Some (at stop b rs d e z n))) has.1 ∙ ap (λ (x : Sign). reads (taken (at stop b rs d e z n) (outside (scanner_of stop Outside b rs d e) x has.0)) rest) has.2
+    ap (reads (Some (at stop b rs d e z n))) has.1 ∙ ap (λ (x : Sign). reads (after_scan (at stop b rs d e z n) (outside (scanner_of stop Outside b rs d e) x has.0)) rest) has.2
 
 -- ---- classes
 
@@ -122,16 +122,16 @@ module _ (stop : Option ℕ) (b : Bool) (d : ℕ) (e : Bool) (z : Stack) (n : �
         ap (reads (Some (inside s))) m.0 ∙ plain (class_sign_of stop a) refl m.1
     | inr m ↦
         let f = ready m.1.0 Escapes m.1.2 refl in
-        ap (reads (Some (inside s))) m.1.1 ∙ (ap (λ (o : Scanned). reads (taken (inside s) o) (m.0 ∷ rest)) f ∙ ap (λ (y : ℕ). reads (Some (inside (scanner_of stop (Low y) b rs d e))) rest) (sym m.2))
+        ap (reads (Some (inside s))) m.1.1 ∙ (ap (λ (o : Scanned). reads (after_scan (inside s) o) (m.0 ∷ rest)) f ∙ ap (λ (y : ℕ). reads (Some (inside (scanner_of stop (Low y) b rs d e))) rest) (sym m.2))
   ]
     where
-      plain : (t : ClassSign) → class_sign_of stop a ≡ t → IsTrue (is_member first t) → reads (taken (inside s) (scan s a)) rest ≡ reads (Some (inside (scanner_of stop (Low a) b rs d e))) rest
+      plain : (t : ClassSign) → class_sign_of stop a ≡ t → IsTrue (is_member first t) → reads (after_scan (inside s) (scan s a)) rest ≡ reads (Some (inside (scanner_of stop (Low a) b rs d e))) rest
       plain Ends sg m = absurd cc
       plain Escapes sg m = absurd cc
       plain Dash sg m = absurd cc
       plain Closes sg m = absurd cc
-      plain Hat sg m = ap (λ (o : Scanned). reads (taken (inside s) o) rest) (ready a Hat sg m)
-      plain Member sg m = ap (λ (o : Scanned). reads (taken (inside s) o) rest) (ready a Member sg refl)
+      plain Hat sg m = ap (λ (o : Scanned). reads (after_scan (inside s) o) rest) (ready a Hat sg m)
+      plain Member sg m = ap (λ (o : Scanned). reads (after_scan (inside s) o) rest) (ready a Member sg refl)
 
   high_goes : (md : Mode) (rs : List (ℕ × ℕ)) (a x : ℕ) → a ≤ x → high (scanner_of stop md b rs d e) a x ≡ Some (base (rs ++ (a, x) ∷ []), None)
   high_goes md rs a x le = rw (le-ltb x a le) refl
@@ -141,18 +141,18 @@ module _ (stop : Option ℕ) (b : Bool) (d : ℕ) (e : Bool) (z : Stack) (n : �
     | inl m ↦ ap (reads (Some (inside (scanner_of stop (Upto a) b rs d e)))) m.0 ∙ plain (class_sign_of stop x) refl m.1
     | inr m ↦
         ap (reads (Some (inside (scanner_of stop (Upto a) b rs d e)))) m.1.1 ∙
-        (ap (λ (s : ClassSign). reads (taken (inside (scanner_of stop (Upto a) b rs d e)) (after_dash (scanner_of stop (Upto a) b rs d e) a s m.1.0)) (m.0 ∷ rest)) m.1.2 ∙
-        (ap (λ (y : ℕ). reads (taken (inside (scanner_of stop (UptoEscaped a) b rs d e)) (high (scanner_of stop (UptoEscaped a) b rs d e) a y)) rest) (sym m.2) ∙
-        ap (λ (o : Scanned). reads (taken (inside (scanner_of stop (UptoEscaped a) b rs d e)) o) rest) (high_goes (UptoEscaped a) rs a x le)))
+        (ap (λ (s : ClassSign). reads (after_scan (inside (scanner_of stop (Upto a) b rs d e)) (after_dash (scanner_of stop (Upto a) b rs d e) a s m.1.0)) (m.0 ∷ rest)) m.1.2 ∙
+        (ap (λ (y : ℕ). reads (after_scan (inside (scanner_of stop (UptoEscaped a) b rs d e)) (high (scanner_of stop (UptoEscaped a) b rs d e) a y)) rest) (sym m.2) ∙
+        ap (λ (o : Scanned). reads (after_scan (inside (scanner_of stop (UptoEscaped a) b rs d e)) o) rest) (high_goes (UptoEscaped a) rs a x le)))
   ]
     where
-      plain : (t : ClassSign) → class_sign_of stop x ≡ t → IsTrue (is_member false t) → reads (taken (inside (scanner_of stop (Upto a) b rs d e)) (after_dash (scanner_of stop (Upto a) b rs d e) a (class_sign_of stop x) x)) rest ≡ reads (Some (inside (base (rs ++ (a, x) ∷ [])))) rest
+      plain : (t : ClassSign) → class_sign_of stop x ≡ t → IsTrue (is_member false t) → reads (after_scan (inside (scanner_of stop (Upto a) b rs d e)) (after_dash (scanner_of stop (Upto a) b rs d e) a (class_sign_of stop x) x)) rest ≡ reads (Some (inside (base (rs ++ (a, x) ∷ [])))) rest
       plain Ends sg m = absurd cc
       plain Escapes sg m = absurd cc
       plain Dash sg m = absurd cc
       plain Closes sg m = absurd cc
-      plain Hat sg m = ap (λ (s : ClassSign). reads (taken (inside (scanner_of stop (Upto a) b rs d e)) (after_dash (scanner_of stop (Upto a) b rs d e) a s x)) rest) sg ∙ ap (λ (o : Scanned). reads (taken (inside (scanner_of stop (Upto a) b rs d e)) o) rest) (high_goes (Upto a) rs a x le)
-      plain Member sg m = ap (λ (s : ClassSign). reads (taken (inside (scanner_of stop (Upto a) b rs d e)) (after_dash (scanner_of stop (Upto a) b rs d e) a s x)) rest) sg ∙ ap (λ (o : Scanned). reads (taken (inside (scanner_of stop (Upto a) b rs d e)) o) rest) (high_goes (Upto a) rs a x le)
+      plain Hat sg m = ap (λ (s : ClassSign). reads (after_scan (inside (scanner_of stop (Upto a) b rs d e)) (after_dash (scanner_of stop (Upto a) b rs d e) a s x)) rest) sg ∙ ap (λ (o : Scanned). reads (after_scan (inside (scanner_of stop (Upto a) b rs d e)) o) rest) (high_goes (Upto a) rs a x le)
+      plain Member sg m = ap (λ (s : ClassSign). reads (after_scan (inside (scanner_of stop (Upto a) b rs d e)) (after_dash (scanner_of stop (Upto a) b rs d e) a s x)) rest) sg ∙ ap (λ (o : Scanned). reads (after_scan (inside (scanner_of stop (Upto a) b rs d e)) o) rest) (high_goes (Upto a) rs a x le)
 
   abbrev GoesReady : Scanner → List ℕ → List (ℕ × ℕ) → List ℕ → Type 0
   GoesReady s text rs rest = (t : Scanner) × (reads (Some (inside s)) text ≡ reads (Some (inside t)) rest) × Ready stop false t (base rs)
@@ -165,7 +165,7 @@ module _ (stop : Option ℕ) (b : Bool) (d : ℕ) (e : Bool) (z : Stack) (n : �
       base (rs ++ r ∷ []),
       member_goes first s rs r.0 text m.0 ready m.2 ∙
           (ap (reads (Some (inside (scanner_of stop (Low r.0) b rs d e)))) m.3.1 ∙
-          (ap (λ (t : ClassSign). reads (taken (inside (scanner_of stop (Low r.0) b rs d e)) (after_low (scanner_of stop (Low r.0) b rs d e) r.0 t m.3.0)) m.1) m.3.2 ∙
+          (ap (λ (t : ClassSign). reads (after_scan (inside (scanner_of stop (Low r.0) b rs d e)) (after_low (scanner_of stop (Low r.0) b rs d e) r.0 t m.3.0)) m.1) m.3.2 ∙
           upto_goes rs r.0 r.1 m.1 rest m.5 m.4)),
       ready_next (rs ++ r ∷ []),
     )
@@ -180,16 +180,16 @@ module _ (stop : Option ℕ) (b : Bool) (d : ℕ) (e : Bool) (z : Stack) (n : �
       (more.0, one.1 ∙ more.1, subst (λ (l : List (ℕ × ℕ)). Ready stop false more.0 (base l)) (append_assoc rs (q ∷ []) qs) more.2)
 
   -- from where the first range may begin
-  body_goes : (first : Bool) (s : Scanner) (r : ℕ × ℕ) (rs : List (ℕ × ℕ)) (text m rest : List ℕ) → Ready stop first s (base []) → WritesRanges stop first (r ∷ rs) text m → ClassHas stop Closes m rest → reads (Some (inside s)) text ≡ reads (Some (at stop b [] d false (built z (Leaf (Class b (r ∷ rs)))) (n + 2))) rest
+  body_goes : (first : Bool) (s : Scanner) (r : ℕ × ℕ) (rs : List (ℕ × ℕ)) (text m rest : List ℕ) → Ready stop first s (base []) → WritesRanges stop first (r ∷ rs) text m → ClassHas stop Closes m rest → reads (Some (inside s)) text ≡ reads (Some (at stop b [] d false (after_token z (Leaf (Class b (r ∷ rs)))) (n + 2))) rest
   body_goes first s r rs text m rest ready x has =
       let one = range_goes first s [] r text x.0 ready x.1 in
       let more = ranges_goes one.0 (r ∷ []) rs x.0 m one.2 x.2 in
-      one.1 ∙ (more.1 ∙ (ap (reads (Some (inside more.0))) has.1 ∙ ap (λ (o : Scanned). reads (taken (inside more.0) o) rest) (more.2 has.0 Closes has.2 refl)))
+      one.1 ∙ (more.1 ∙ (ap (reads (Some (inside more.0))) has.1 ∙ ap (λ (o : Scanned). reads (after_scan (inside more.0) o) rest) (more.2 has.0 Closes has.2 refl)))
 
 ready_opened : (stop : Option ℕ) (d : ℕ) (e : Bool) → Ready stop true (scanner_of stop Opened false [] d e) (scanner_of stop Next false [] d e)
-ready_opened stop d e c s sg may = ap (λ (x : ClassSign). opened (scanner_of stop Opened false [] d e) x c) sg ∙ go s may
+ready_opened stop d e c s sg may = ap (λ (x : ClassSign). after_bracket (scanner_of stop Opened false [] d e) x c) sg ∙ go s may
   where
-    go : (s : ClassSign) → IsTrue (may_start true s) → opened (scanner_of stop Opened false [] d e) s c ≡ in_class (scanner_of stop Next false [] d e) s c
+    go : (s : ClassSign) → IsTrue (may_start true s) → after_bracket (scanner_of stop Opened false [] d e) s c ≡ in_class (scanner_of stop Next false [] d e) s c
     go Ends may = refl
     go Escapes may = refl
     go Dash may = refl
@@ -204,7 +204,7 @@ class_goes stop b false rs d e z n (q ∷ qs) text rest x =
 class_goes stop b true rs d e z n (q ∷ qs) text rest x =
     let has = x.2.2 in
     let hat : reads (Some (with_scanner z n (scanner_of stop Opened false [] d e))) x.2.0 ≡ reads (Some (with_scanner z n (scanner_of stop Next true [] d e))) x.0 =
-    ap (reads (Some (with_scanner z n (scanner_of stop Opened false [] d e)))) has.1 ∙ ap (λ (s : ClassSign). reads (taken (with_scanner z n (scanner_of stop Opened false [] d e)) (opened (scanner_of stop Opened false [] d e) s has.0)) x.0) has.2
+    ap (reads (Some (with_scanner z n (scanner_of stop Opened false [] d e)))) has.1 ∙ ap (λ (s : ClassSign). reads (after_scan (with_scanner z n (scanner_of stop Opened false [] d e)) (after_bracket (scanner_of stop Opened false [] d e) s has.0)) x.0) has.2
     in
     (true, [], n + 2, sign_goes stop b rs d e z n OpenClass text x.2.0 x.2.1 ∙ (hat ∙ body_goes stop true d e z n false (scanner_of stop Next true [] d e) q qs x.0 x.1 rest (ready_next stop true d e z n []) x.3 x.4))
 
@@ -251,7 +251,7 @@ letter_goes stop c g h text rest w ss ps b rs d e n outer number =
       | inr x ↦ (b, rs, n + 2, sign_goes stop b rs d e z n Escape text (x.0 ∷ rest) x.1 ∙ ap (λ (y : ℕ). reads (Some (at stop b rs d false (stack_at outer number ss (Letter y ∷ ps) g) (n + 2))) rest) (sym x.2))
     ])
 
-repeat_goes : (stop : Option ℕ) (a : Tree) (k : Repeat) (ss ps : List Tree) (g h : ℕ) (text m rest : List ℕ) → GoesFrom stop g text h m ss ps ss (a ∷ ps) → Has stop (Repeats k) m rest → GoesFrom stop g text h rest ss ps ss (repeated k a ∷ ps)
+repeat_goes : (stop : Option ℕ) (a : Tree) (k : Repeat) (ss ps : List Tree) (g h : ℕ) (text m rest : List ℕ) → GoesFrom stop g text h m ss ps ss (a ∷ ps) → Has stop (Repeats k) m rest → GoesFrom stop g text h rest ss ps ss (repetition k a ∷ ps)
 repeat_goes stop a k ss ps g h text m rest go has b rs d e n outer number =
     let x = go b rs d e n outer number in
     (x.0, x.1, x.2 + 1, x.3 ∙ sign_goes stop x.0 x.1 d false (stack_at outer number ss (a ∷ ps) h) x.2 (Repeats k) m rest has)
@@ -270,7 +270,7 @@ group_goes stop k a go g h text rest w ss ps b rs d e n outer number =
     let inner : Writes stop a (g + 1) l h m = subst (λ (j : ℕ). Writes stop a j l h m) w.0 w.4 in
     let x = go (g + 1) h l m inner [] b rs (d + 1) true (n + 1) (z.top ∷ outer) (g + 1) in
     let full = stack_at (z.top ∷ outer) (g + 1) (sides_after a []) (parts_after (last_side a) []) h in
-    let closed : taken (at stop x.0 x.1 (d + 1) false full x.2) (outside (scanner_of stop Outside x.0 x.1 (d + 1) false) Close w.5.0) ≡ Some (at stop x.0 x.1 d false (stack_at outer number ss (Group k a ∷ ps) h) (x.2 + 0)) =
+    let closed : after_scan (at stop x.0 x.1 (d + 1) false full x.2) (outside (scanner_of stop Outside x.0 x.1 (d + 1) false) Close w.5.0) ≡ Some (at stop x.0 x.1 d false (stack_at outer number ss (Group k a ∷ ps) h) (x.2 + 0)) =
     rw (suc_is d, whole_tree a, back d, w.0) refl
     in
     (x.0, x.1, x.2 + 0, sign_goes stop b rs d e z n Open text l w.3 ∙ (x.3 ∙ (sign_goes stop x.0 x.1 (d + 1) false full x.2 Close m rest w.5 ∙ ap (λ (o : Option Reading). reads o rest) closed)))
@@ -322,7 +322,7 @@ pub record Read (stop : Option ℕ) (u : List ℕ) (r : Tree) : Type 0 where
   pub reading : Reading
   pub reads_to : reads (Some (begin stop)) u ≡ Some reading
   pub complete : is_complete reading.scanner ≡ true
-  pub finished_is : finished reading.stack.top ≡ Some r
+  pub finished_is : level_tree reading.stack.top ≡ Some r
 
 pub complete_read : (stop : Option ℕ) (u : List ℕ) (r : Tree) → IsExpression stop u r → Read stop u r
 complete_read stop u r x =
@@ -339,5 +339,5 @@ one_tree stop u r s x y =
     let a = complete_read stop u r x in
     let b = complete_read stop u s y in
     let same : a.reading ≡ b.reading = cc (a.reads_to, b.reads_to) in
-    let e : Some r ≡ Some s = sym a.finished_is ∙ (ap (λ (m : Reading). finished m.stack.top) same ∙ b.finished_is) in
+    let e : Some r ≡ Some s = sym a.finished_is ∙ (ap (λ (m : Reading). level_tree m.stack.top) same ∙ b.finished_is) in
     cc e

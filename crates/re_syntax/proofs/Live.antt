@@ -4,9 +4,9 @@ use Rattle.std.proofs.lemmas.Bool.{le-ltb, eqb-true}
 use Rattle.std.proofs.lemmas.Bool.Decides.{nat_tests}
 use Rattle.re_syntax.specs.Signs.{is_stop, bracket, sign_of, class_sign_of, escaped}
 use Rattle.re_syntax.specs.Grammar.{OpensClass, GoesOn}
-use Rattle.re_syntax.specs.Scan.{outside, in_class, opened, after_low, high, after_dash}
-use Rattle.re_syntax.specs.Build.{Level, Stack, built}
-use Rattle.re_syntax.specs.Read.{Reading, begin, taken, read, read_on, reads, is_complete}
+use Rattle.re_syntax.specs.Scan.{outside, in_class, after_bracket, after_low, high, after_dash}
+use Rattle.re_syntax.specs.Build.{Level, Stack, after_token}
+use Rattle.re_syntax.specs.Read.{Reading, begin, after_scan, read, read_on, reads, is_complete}
 use Rattle.re_syntax.specs.declared.sign.Repeat.TheVariants.{Star, Plus, Opt}
 use Rattle.re_syntax.specs.declared.sign.Sign.{Sign}
 use Rattle.re_syntax.specs.declared.sign.Sign.TheVariants.{Stop, Escape, Bar, Repeats, Open, Close, Dot, Caret, Dollar, OpenClass, Plain}
@@ -158,7 +158,7 @@ module _ (stop : Option ℕ) (b : Bool) (d : ℕ) (e : Bool) (z : Stack) (n : �
     spans = [];
     stack = _;
     size = _;
-    leads = ap (λ (s : ClassSign). taken (inside (Low a) []) (after_low (scanner_of stop (Low a) b [] d e) a s 93)) (closes_is stop f);
+    leads = ap (λ (s : ClassSign). after_scan (inside (Low a) []) (after_low (scanner_of stop (Low a) b [] d e) a s 93)) (closes_is stop f);
   }
   low_ends f (r ∷ rs) a = record {
     text = 93 ∷ [];
@@ -166,13 +166,13 @@ module _ (stop : Option ℕ) (b : Bool) (d : ℕ) (e : Bool) (z : Stack) (n : �
     spans = [];
     stack = _;
     size = _;
-    leads = ap (λ (s : ClassSign). taken (inside (Low a) (r ∷ rs)) (after_low (scanner_of stop (Low a) b (r ∷ rs) d e) a s 93)) (closes_is stop f);
+    leads = ap (λ (s : ClassSign). after_scan (inside (Low a) (r ∷ rs)) (after_low (scanner_of stop (Low a) b (r ∷ rs) d e) a s 93)) (closes_is stop f);
   }
 
   next_ends : is_stop stop 93 ≡ false → (rs : List (ℕ × ℕ)) → Arrives stop (inside Next rs) d
   next_ends f rs =
       let c = free stop 0 in
-      then_arrives stop (inside Next rs) (inside (Low c.rune) rs) d c.rune (ap (λ (s : ClassSign). taken (inside Next rs) (in_class (scanner_of stop Next b rs d e) s c.rune)) c.member) (low_ends f rs c.rune)
+      then_arrives stop (inside Next rs) (inside (Low c.rune) rs) d c.rune (ap (λ (s : ClassSign). after_scan (inside Next rs) (in_class (scanner_of stop Next b rs d e) s c.rune)) c.member) (low_ends f rs c.rune)
 
   high_is : (md : Mode) (rs : List (ℕ × ℕ)) (a x : ℕ) → a ≤ x → high (scanner_of stop md b rs d e) a x ≡ Some (scanner_of stop Next b (rs ++ (a, x) ∷ []) d e, None)
   high_is md rs a x le = rw (le-ltb x a le) refl
@@ -181,20 +181,20 @@ module _ (stop : Option ℕ) (b : Bool) (d : ℕ) (e : Bool) (z : Stack) (n : �
   upto_ends f rs a =
       let c = free stop a in
       then_arrives stop (inside (Upto a) rs) (inside Next (rs ++ (a, c.rune) ∷ [])) d c.rune
-      (ap (λ (s : ClassSign). taken (inside (Upto a) rs) (after_dash (scanner_of stop (Upto a) b rs d e) a s c.rune)) c.member ∙ ap (taken (inside (Upto a) rs)) (high_is (Upto a) rs a c.rune c.above))
+      (ap (λ (s : ClassSign). after_scan (inside (Upto a) rs) (after_dash (scanner_of stop (Upto a) b rs d e) a s c.rune)) c.member ∙ ap (after_scan (inside (Upto a) rs)) (high_is (Upto a) rs a c.rune c.above))
       (next_ends f (rs ++ (a, c.rune) ∷ []))
 
   upto_escaped_ends : is_stop stop 93 ≡ false → (rs : List (ℕ × ℕ)) (a : ℕ) → Arrives stop (inside (UptoEscaped a) rs) d
   upto_escaped_ends f rs a =
       let c = free stop a in
       then_arrives stop (inside (UptoEscaped a) rs) (inside Next (rs ++ (a, c.rune) ∷ [])) d c.rune
-      (ap (λ (x : ℕ). taken (inside (UptoEscaped a) rs) (high (scanner_of stop (UptoEscaped a) b rs d e) a x)) c.itself ∙ ap (taken (inside (UptoEscaped a) rs)) (high_is (UptoEscaped a) rs a c.rune c.above))
+      (ap (λ (x : ℕ). after_scan (inside (UptoEscaped a) rs) (high (scanner_of stop (UptoEscaped a) b rs d e) a x)) c.itself ∙ ap (after_scan (inside (UptoEscaped a) rs)) (high_is (UptoEscaped a) rs a c.rune c.above))
       (next_ends f (rs ++ (a, c.rune) ∷ []))
 
   opened_ends : is_stop stop 93 ≡ false → (rs : List (ℕ × ℕ)) → Arrives stop (inside Opened rs) d
   opened_ends f rs =
       let c = free stop 0 in
-      then_arrives stop (inside Opened rs) (inside (Low c.rune) rs) d c.rune (ap (λ (s : ClassSign). taken (inside Opened rs) (opened (scanner_of stop Opened b rs d e) s c.rune)) c.member) (low_ends f rs c.rune)
+      then_arrives stop (inside Opened rs) (inside (Low c.rune) rs) d c.rune (ap (λ (s : ClassSign). after_scan (inside Opened rs) (after_bracket (scanner_of stop Opened b rs d e) s c.rune)) c.member) (low_ends f rs c.rune)
 
   escaped_ends : (rs : List (ℕ × ℕ)) → Arrives stop (inside Escaped rs) d
   escaped_ends rs = record { text = 97 ∷ []; negated = b; spans = rs; stack = _; size = _; leads = refl }
@@ -212,7 +212,7 @@ outside_ends stop b rs d true z n =
       spans = rs;
       stack = _;
       size = _;
-      leads = ap (λ (s : Sign). taken (with_scanner z n (scanner_of stop Outside b rs d true)) (outside (scanner_of stop Outside b rs d true) s c.rune)) c.plain;
+      leads = ap (λ (s : Sign). after_scan (with_scanner z n (scanner_of stop Outside b rs d true)) (outside (scanner_of stop Outside b rs d true) s c.rune)) c.plain;
     }
 
 opens_free : (stop : Option ℕ) (b : Bool) (k m : List ℕ) → OpensClass stop b k m → is_stop stop 93 ≡ false
@@ -249,10 +249,10 @@ groups_end stop (suc d) b rs z n f =
     let s = scanner_of stop Outside b rs (suc d) false in
     let m = at stop b rs (suc d) z n in
     let back : suc d - 1 ≡ d = omega arith in
-    let e : taken m (outside s Close 41) ≡ Some (at stop b rs d (built z Leave) (n + 0)) = rw (suc_not_zero d, back) refl in
-    then_ends m (at stop b rs d (built z Leave) (n + 0)) 41
-    (ap (λ (x : Sign). taken m (outside s x 41)) (close_is stop (f (omega arith))) ∙ e)
-    (groups_end stop d b rs (built z Leave) (n + 0) (λ l. f (omega arith)))
+    let e : after_scan m (outside s Close 41) ≡ Some (at stop b rs d (after_token z Leave) (n + 0)) = rw (suc_not_zero d, back) refl in
+    then_ends m (at stop b rs d (after_token z Leave) (n + 0)) 41
+    (ap (λ (x : Sign). after_scan m (outside s x 41)) (close_is stop (f (omega arith))) ∙ e)
+    (groups_end stop d b rs (after_token z Leave) (n + 0) (λ l. f (omega arith)))
 
 pub reads_append : (u v : List ℕ) (m : Option Reading) → reads m (u ++ v) ≡ reads (reads m u) v
 reads_append [] v m = refl

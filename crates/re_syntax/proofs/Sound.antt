@@ -6,9 +6,9 @@ use Rattle.std.proofs.lemmas.Bool.Decides.{nat_tests}
 use Rattle.re_syntax.specs.Tree.{Tree, nodes}
 use Rattle.re_syntax.specs.Signs.{sign_of, class_sign_of, escaped}
 use Rattle.re_syntax.specs.Grammar.{Has, ClassHas, WritesMember, WritesRange, WritesRanges, OpensClass, IsExpression}
-use Rattle.re_syntax.specs.Scan.{within, often, or, leave, outside, close_class, in_class, opened, with_range, after_low, high, after_dash, scan_in}
-use Rattle.re_syntax.specs.Build.{Level, Stack, chain, choice, finished}
-use Rattle.re_syntax.specs.Read.{Reading, begin, taken, read, reads, is_complete}
+use Rattle.re_syntax.specs.Scan.{within, often, or, leave, outside, close_class, in_class, after_bracket, with_range, after_low, high, after_dash, scan_in}
+use Rattle.re_syntax.specs.Build.{Level, Stack, chain, choice, level_tree}
+use Rattle.re_syntax.specs.Read.{Reading, begin, after_scan, read, reads, is_complete}
 use Rattle.re_syntax.specs.declared.re.Re.{Lit, Any, Class, Start, End}
 use Rattle.re_syntax.specs.declared.sign.Repeat.{Repeat}
 use Rattle.re_syntax.specs.declared.sign.Sign.{Sign}
@@ -79,12 +79,12 @@ abbrev stack_at : List Level → ℕ → List Tree → List Tree → ℕ → Sta
 stack_at outer number ss ps groups = record { outer = outer; top = record { number = number; sides = ss; parts = ps }; groups = groups }
 
 module _ (stop st : Option ℕ) (b : Bool) (rs : List (ℕ × ℕ)) (d n c : ℕ) (w k rest : List ℕ) where
-  often_step : (e : Bool) (outer : List Level) (number : ℕ) (ss ps : List Tree) (groups : ℕ) → Kept stop st e d (stack_at outer number ss ps groups) n w k → (r : Repeat) → Has stop (Repeats r) k rest → Fine stop w rest (taken (reading_of (scanner_of st Outside b rs d e) (stack_at outer number ss ps groups) n) (often (scanner_of st Outside b rs d e) r))
+  often_step : (e : Bool) (outer : List Level) (number : ℕ) (ss ps : List Tree) (groups : ℕ) → Kept stop st e d (stack_at outer number ss ps groups) n w k → (r : Repeat) → Has stop (Repeats r) k rest → Fine stop w rest (after_scan (reading_of (scanner_of st Outside b rs d e) (stack_at outer number ss ps groups) n) (often (scanner_of st Outside b rs d e) r))
   often_step true outer number ss ps groups kept r has = tt
   often_step false outer number ss [] groups kept r has = absurd (cc kept.expects)
   often_step false outer number ss (p ∷ ps) groups kept r has = (rest, kept_often stop st false d n w k rest outer number ss p ps groups kept r has, refl)
 
-  or_step : (e : Bool) (outer : List Level) (number : ℕ) (ss ps : List Tree) (groups : ℕ) → Kept stop st e d (stack_at outer number ss ps groups) n w k → Has stop Bar k rest → Fine stop w rest (taken (reading_of (scanner_of st Outside b rs d e) (stack_at outer number ss ps groups) n) (or (scanner_of st Outside b rs d e)))
+  or_step : (e : Bool) (outer : List Level) (number : ℕ) (ss ps : List Tree) (groups : ℕ) → Kept stop st e d (stack_at outer number ss ps groups) n w k → Has stop Bar k rest → Fine stop w rest (after_scan (reading_of (scanner_of st Outside b rs d e) (stack_at outer number ss ps groups) n) (or (scanner_of st Outside b rs d e)))
   or_step true outer number ss ps groups kept has = tt
   or_step false outer number ss [] groups kept has = absurd (cc kept.expects)
   or_step false outer number ss (p ∷ ps) groups kept has = (rest, kept_or stop st false d n w k rest outer number ss p ps groups kept has, refl)
@@ -92,7 +92,7 @@ module _ (stop st : Option ℕ) (b : Bool) (rs : List (ℕ × ℕ)) (d n c : ℕ
 pub suc_not_zero : (d : ℕ) → (suc d == 0) ≡ false
 suc_not_zero d = grind (arith, nat_tests)
 
-leave_step : (stop st : Option ℕ) (b : Bool) (rs : List (ℕ × ℕ)) (d n : ℕ) (w k rest : List ℕ) (e : Bool) (outer : List Level) (number : ℕ) (ss ps : List Tree) (groups : ℕ) → Kept stop st e d (stack_at outer number ss ps groups) n w k → Has stop Close k rest → Fine stop w rest (taken (reading_of (scanner_of st Outside b rs d e) (stack_at outer number ss ps groups) n) (leave (scanner_of st Outside b rs d e)))
+leave_step : (stop st : Option ℕ) (b : Bool) (rs : List (ℕ × ℕ)) (d n : ℕ) (w k rest : List ℕ) (e : Bool) (outer : List Level) (number : ℕ) (ss ps : List Tree) (groups : ℕ) → Kept stop st e d (stack_at outer number ss ps groups) n w k → Has stop Close k rest → Fine stop w rest (after_scan (reading_of (scanner_of st Outside b rs d e) (stack_at outer number ss ps groups) n) (leave (scanner_of st Outside b rs d e)))
 leave_step stop st b rs d n w k rest true outer number ss ps groups kept has = tt
 leave_step stop st b rs d n w k rest false outer number ss [] groups kept has = absurd (cc kept.expects)
 leave_step stop st b rs d n w k rest false [] number ss (p ∷ ps) groups kept has =
@@ -101,7 +101,7 @@ leave_step stop st b rs zero n w k rest false (l ∷ ls) number ss (p ∷ ps) gr
 leave_step stop st b rs (suc d) n w k rest false (l ∷ ls) number ss (p ∷ ps) groups kept has =
     rw (suc_not_zero d) (rest, kept_leave stop st false (suc d) n w k rest l ls number ss p ps groups kept has, refl)
 
-outside_step : (stop st : Option ℕ) (b : Bool) (rs : List (ℕ × ℕ)) (d n c : ℕ) (w k rest : List ℕ) (e : Bool) (z : Stack) → Kept stop st e d z n w k → (s : Sign) → Has stop s k rest → k ≡ c ∷ rest → Fine stop w rest (taken (reading_of (scanner_of st Outside b rs d e) z n) (outside (scanner_of st Outside b rs d e) s c))
+outside_step : (stop st : Option ℕ) (b : Bool) (rs : List (ℕ × ℕ)) (d n c : ℕ) (w k rest : List ℕ) (e : Bool) (z : Stack) → Kept stop st e d z n w k → (s : Sign) → Has stop s k rest → k ≡ c ∷ rest → Fine stop w rest (after_scan (reading_of (scanner_of st Outside b rs d e) z n) (outside (scanner_of st Outside b rs d e) s c))
 outside_step stop st b rs d n c w k rest e z kept Stop has at = tt
 outside_step stop st b rs d n c w k rest e z kept Lone has at = tt
 outside_step stop st b rs d n c w k rest e z kept Escape has at = (k, kept, has)
@@ -117,12 +117,12 @@ outside_step stop st b rs d n c w k rest e z kept Plain has at =
     let same : has.0 ≡ c = cc (has.1, at) in
     (rest, kept_leaf stop st e d n w k rest z kept (Lit c) refl refl (refl, inl (at, subst (λ (x : ℕ). sign_of stop x ≡ Plain) same has.2)), refl)
 
-close_step : (stop st : Option ℕ) (md : Mode) (b : Bool) (rs : List (ℕ × ℕ)) (d n : ℕ) (w k m rest : List ℕ) (e : Bool) (z : Stack) → Kept stop st e d z n w k → Inside stop b rs k m → ClassHas stop Closes m rest → Fine stop w rest (taken (reading_of (scanner_of st md b rs d e) z n) (close_class (scanner_of st md b rs d e)))
+close_step : (stop st : Option ℕ) (md : Mode) (b : Bool) (rs : List (ℕ × ℕ)) (d n : ℕ) (w k m rest : List ℕ) (e : Bool) (z : Stack) → Kept stop st e d z n w k → Inside stop b rs k m → ClassHas stop Closes m rest → Fine stop w rest (after_scan (reading_of (scanner_of st md b rs d e) z n) (close_class (scanner_of st md b rs d e)))
 close_step stop st md b [] d n w k m rest e z kept inside has = tt
 close_step stop st md b (r ∷ rs) d n w k m rest e z kept inside has =
     (rest, kept_leaf stop st e d n w k rest z kept (Class b (r ∷ rs)) refl refl (refl, (inside.0, m, inside.1, inside.2, has)), refl)
 
-class_step : (stop st : Option ℕ) (md : Mode) (b : Bool) (rs : List (ℕ × ℕ)) (d n c : ℕ) (w k m rest : List ℕ) (e : Bool) (z : Stack) → Kept stop st e d z n w k → Inside stop b rs k m → (s : ClassSign) → class_sign_of stop c ≡ s → m ≡ c ∷ rest → (s ≡ Hat → first_now b rs ≡ false) → Fine stop w rest (taken (reading_of (scanner_of st md b rs d e) z n) (in_class (scanner_of st md b rs d e) s c))
+class_step : (stop st : Option ℕ) (md : Mode) (b : Bool) (rs : List (ℕ × ℕ)) (d n c : ℕ) (w k m rest : List ℕ) (e : Bool) (z : Stack) → Kept stop st e d z n w k → Inside stop b rs k m → (s : ClassSign) → class_sign_of stop c ≡ s → m ≡ c ∷ rest → (s ≡ Hat → first_now b rs ≡ false) → Fine stop w rest (after_scan (reading_of (scanner_of st md b rs d e) z n) (in_class (scanner_of st md b rs d e) s c))
 class_step stop st md b rs d n c w k m rest e z kept inside Ends sg at f = tt
 class_step stop st md b rs d n c w k m rest e z kept inside Escapes sg at f = (k, kept, (m, inside, (c, at, sg)))
 class_step stop st md b rs d n c w k m rest e z kept inside Dash sg at f = tt
@@ -130,7 +130,7 @@ class_step stop st md b rs d n c w k m rest e z kept inside Closes sg at f = clo
 class_step stop st md b rs d n c w k m rest e z kept inside Hat sg at f = (k, kept, (m, inside, inl (at, rw (sg, f refl) refl)))
 class_step stop st md b rs d n c w k m rest e z kept inside Member sg at f = (k, kept, (m, inside, inl (at, rw sg refl)))
 
-opened_step : (stop st : Option ℕ) (d n c : ℕ) (w k m rest : List ℕ) (e : Bool) (z : Stack) → Kept stop st e d z n w k → Has stop OpenClass k m → (s : ClassSign) → class_sign_of stop c ≡ s → m ≡ c ∷ rest → Fine stop w rest (taken (reading_of (scanner_of st Opened false [] d e) z n) (opened (scanner_of st Opened false [] d e) s c))
+opened_step : (stop st : Option ℕ) (d n c : ℕ) (w k m rest : List ℕ) (e : Bool) (z : Stack) → Kept stop st e d z n w k → Has stop OpenClass k m → (s : ClassSign) → class_sign_of stop c ≡ s → m ≡ c ∷ rest → Fine stop w rest (after_scan (reading_of (scanner_of st Opened false [] d e) z n) (after_bracket (scanner_of st Opened false [] d e) s c))
 opened_step stop st d n c w k m rest e z kept has Hat sg at = (k, kept, (refl, (rest, (m, has, (c, at, sg)), refl)))
 opened_step stop st d n c w k m rest e z kept has Ends sg at = tt
 opened_step stop st d n c w k m rest e z kept has Escapes sg at = class_step stop st Opened false [] d n c w k m rest e z kept (m, has, refl) Escapes sg at (λ x. absurd cc)
@@ -138,13 +138,13 @@ opened_step stop st d n c w k m rest e z kept has Dash sg at = tt
 opened_step stop st d n c w k m rest e z kept has Closes sg at = tt
 opened_step stop st d n c w k m rest e z kept has Member sg at = class_step stop st Opened false [] d n c w k m rest e z kept (m, has, refl) Member sg at (λ x. absurd cc)
 
-low_step : (stop st : Option ℕ) (b : Bool) (rs : List (ℕ × ℕ)) (a d n c : ℕ) (w k m l rest : List ℕ) (e : Bool) (z : Stack) → Kept stop st e d z n w k → Inside stop b rs k m → WritesMember stop (first_now b rs) a m l → (s : ClassSign) → class_sign_of stop c ≡ s → l ≡ c ∷ rest → Fine stop w rest (taken (reading_of (scanner_of st (Low a) b rs d e) z n) (after_low (scanner_of st (Low a) b rs d e) a s c))
+low_step : (stop st : Option ℕ) (b : Bool) (rs : List (ℕ × ℕ)) (a d n c : ℕ) (w k m l rest : List ℕ) (e : Bool) (z : Stack) → Kept stop st e d z n w k → Inside stop b rs k m → WritesMember stop (first_now b rs) a m l → (s : ClassSign) → class_sign_of stop c ≡ s → l ≡ c ∷ rest → Fine stop w rest (after_scan (reading_of (scanner_of st (Low a) b rs d e) z n) (after_low (scanner_of st (Low a) b rs d e) a s c))
 low_step stop st b rs a d n c w k m l rest e z kept inside member s sg at = go s sg
   where
     more : Inside stop b (rs ++ (a, a) ∷ []) k l
     more = inside_snoc stop b rs (a, a) k m l inside (inl (member, refl))
 
-    go : (s : ClassSign) → class_sign_of stop c ≡ s → Fine stop w rest (taken (reading_of (scanner_of st (Low a) b rs d e) z n) (after_low (scanner_of st (Low a) b rs d e) a s c))
+    go : (s : ClassSign) → class_sign_of stop c ≡ s → Fine stop w rest (after_scan (reading_of (scanner_of st (Low a) b rs d e) z n) (after_low (scanner_of st (Low a) b rs d e) a s c))
     go Dash sg = (k, kept, (m, l, inside, member, (c, at, sg)))
     go Ends sg = tt
     go Escapes sg = class_step stop st (Low a) b (rs ++ (a, a) ∷ []) d n c w k l rest e z kept more Escapes sg at (λ x. later b rs (a, a))
@@ -152,14 +152,14 @@ low_step stop st b rs a d n c w k m l rest e z kept inside member s sg at = go s
     go Hat sg = class_step stop st (Low a) b (rs ++ (a, a) ∷ []) d n c w k l rest e z kept more Hat sg at (λ x. later b rs (a, a))
     go Member sg = class_step stop st (Low a) b (rs ++ (a, a) ∷ []) d n c w k l rest e z kept more Member sg at (λ x. later b rs (a, a))
 
-high_step : (stop st : Option ℕ) (md : Mode) (b : Bool) (rs : List (ℕ × ℕ)) (a x d n : ℕ) (w k m l o rest : List ℕ) (e : Bool) (z : Stack) → Kept stop st e d z n w k → Inside stop b rs k m → WritesMember stop (first_now b rs) a m l → ClassHas stop Dash l o → WritesMember stop false x o rest → Fine stop w rest (taken (reading_of (scanner_of st md b rs d e) z n) (high (scanner_of st md b rs d e) a x))
+high_step : (stop st : Option ℕ) (md : Mode) (b : Bool) (rs : List (ℕ × ℕ)) (a x d n : ℕ) (w k m l o rest : List ℕ) (e : Bool) (z : Stack) → Kept stop st e d z n w k → Inside stop b rs k m → WritesMember stop (first_now b rs) a m l → ClassHas stop Dash l o → WritesMember stop false x o rest → Fine stop w rest (after_scan (reading_of (scanner_of st md b rs d e) z n) (high (scanner_of st md b rs d e) a x))
 high_step stop st md b rs a x d n w k m l o rest e z kept inside member dash up =
-    elim (nat_lt x a) as (λ t. nat_lt x a ≡ t → Fine stop w rest (taken (reading_of (scanner_of st md b rs d e) z n) (cond t None (within (with_range (scanner_of st md b rs d e) a x) Next)))) [
+    elim (nat_lt x a) as (λ t. nat_lt x a ≡ t → Fine stop w rest (after_scan (reading_of (scanner_of st md b rs d e) z n) (cond t None (within (with_range (scanner_of st md b rs d e) a x) Next)))) [
       | true ↦ λ t. tt
       | false ↦ λ t. (k, kept, (later b rs (a, x), inside_snoc stop b rs (a, x) k m rest inside (inr (l, o, member, dash, up, ltb-false x a t))))
     ] refl
 
-dash_step : (stop st : Option ℕ) (b : Bool) (rs : List (ℕ × ℕ)) (a d n c : ℕ) (w k m l o rest : List ℕ) (e : Bool) (z : Stack) → Kept stop st e d z n w k → Inside stop b rs k m → WritesMember stop (first_now b rs) a m l → ClassHas stop Dash l o → (s : ClassSign) → class_sign_of stop c ≡ s → o ≡ c ∷ rest → Fine stop w rest (taken (reading_of (scanner_of st (Upto a) b rs d e) z n) (after_dash (scanner_of st (Upto a) b rs d e) a s c))
+dash_step : (stop st : Option ℕ) (b : Bool) (rs : List (ℕ × ℕ)) (a d n c : ℕ) (w k m l o rest : List ℕ) (e : Bool) (z : Stack) → Kept stop st e d z n w k → Inside stop b rs k m → WritesMember stop (first_now b rs) a m l → ClassHas stop Dash l o → (s : ClassSign) → class_sign_of stop c ≡ s → o ≡ c ∷ rest → Fine stop w rest (after_scan (reading_of (scanner_of st (Upto a) b rs d e) z n) (after_dash (scanner_of st (Upto a) b rs d e) a s c))
 dash_step stop st b rs a d n c w k m l o rest e z kept inside member dash Ends sg at = tt
 dash_step stop st b rs a d n c w k m l o rest e z kept inside member dash Dash sg at = tt
 dash_step stop st b rs a d n c w k m l o rest e z kept inside member dash Closes sg at = tt
@@ -167,7 +167,7 @@ dash_step stop st b rs a d n c w k m l o rest e z kept inside member dash Escape
 dash_step stop st b rs a d n c w k m l o rest e z kept inside member dash Hat sg at = high_step stop st (Upto a) b rs a c d n w k m l o rest e z kept inside member dash (inl (at, rw sg refl))
 dash_step stop st b rs a d n c w k m l o rest e z kept inside member dash Member sg at = high_step stop st (Upto a) b rs a c d n w k m l o rest e z kept inside member dash (inl (at, rw sg refl))
 
-step_in : (stop st : Option ℕ) (md : Mode) (b : Bool) (rs : List (ℕ × ℕ)) (d n c : ℕ) (w k rest : List ℕ) (e : Bool) (z : Stack) → Kept stop st e d z n w k → InMode stop md b rs k (c ∷ rest) → Fine stop w rest (taken (reading_of (scanner_of st md b rs d e) z n) (scan_in md (scanner_of st md b rs d e) c))
+step_in : (stop st : Option ℕ) (md : Mode) (b : Bool) (rs : List (ℕ × ℕ)) (d n c : ℕ) (w k rest : List ℕ) (e : Bool) (z : Stack) → Kept stop st e d z n w k → InMode stop md b rs k (c ∷ rest) → Fine stop w rest (after_scan (reading_of (scanner_of st md b rs d e) z n) (scan_in md (scanner_of st md b rs d e) c))
 step_in stop st Outside b rs d n c w k rest e z kept x =
     outside_step stop st b rs d n c w k rest e z kept (sign_of st c) (c, x, ap (λ (o : Option ℕ). sign_of o c) (sym kept.same)) x
 step_in stop st Escaped b rs d n c w k rest e z kept x =
@@ -205,7 +205,7 @@ built_from stop u m e =
 -- what is complete is an expression
 pub record Whole (stop : Option ℕ) (u : List ℕ) (m : Reading) : Type 0 where
   pub result : Tree
-  pub finished_is : finished m.stack.top ≡ Some result
+  pub finished_is : level_tree m.stack.top ≡ Some result
   pub written : IsExpression stop u result
   pub nodes_are : nodes result + 1 ≡ m.size
 

@@ -1,9 +1,9 @@
 -- What the tokens so far spell.
 use Rattle.std.proofs.Common.{◌≡◌, ℕ, ◌+◌, ◌-◌, Bool, true, false, List, [], ◌∷◌, length, Option, refl, sym, subst, ◌∙◌, arith}
 use Rattle.std.specs.Prelude.{IsTrue}
-use Rattle.re_syntax.specs.Tree.{Tree, Then, Either, Group, tree, nodes, repeated, is_either, is_part}
+use Rattle.re_syntax.specs.Tree.{Tree, Then, Either, Group, tree, nodes, repetition, is_either, is_part}
 use Rattle.re_syntax.specs.Grammar.{Has, Writes}
-use Rattle.re_syntax.specs.Build.{Level, Stack, chain, choice, built}
+use Rattle.re_syntax.specs.Build.{Level, Stack, chain, choice, after_token}
 use Rattle.re_syntax.specs.declared.re.Re.{Re}
 use Rattle.re_syntax.specs.declared.sign.Repeat.{Repeat}
 use Rattle.re_syntax.specs.declared.sign.Repeat.TheVariants.{Star, Plus, Opt}
@@ -103,7 +103,7 @@ put_part stop outer top r w h i k l part x =
     on_top stop outer top (record top { parts = r ∷ top.parts }) w h i k l refl (λ g v y. (y.0, y.1, y.2, (part, h, k, y.3, x)))
 
 module _ (stop st : Option ℕ) (e : Bool) (d : ℕ) (n : ℕ) (w k rest : List ℕ) where
-  pub kept_leaf : (z : Stack) → Kept stop st e d z n w k → (r : Re) → IsTrue (is_part (tree r)) → nodes (tree r) ≡ 1 → Writes stop (tree r) z.groups k z.groups rest → Kept stop st false d (built z (Leaf r)) (n + 2) w rest
+  pub kept_leaf : (z : Stack) → Kept stop st e d z n w k → (r : Re) → IsTrue (is_part (tree r)) → nodes (tree r) ≡ 1 → Writes stop (tree r) z.groups k z.groups rest → Kept stop st false d (after_token z (Leaf r)) (n + 2) w rest
   kept_leaf z kept r part one x = record {
     same = kept.same;
     expects = refl;
@@ -112,17 +112,17 @@ module _ (stop st : Option ℕ) (e : Bool) (d : ℕ) (n : ℕ) (w k rest : List 
     tokens = put_part stop z.outer z.top (tree r) w z.groups z.groups k rest part x kept.tokens;
   }
 
-  writes_repeated : (r : Repeat) (p : Tree) (g h : ℕ) (v m : List ℕ) → IsTrue (is_part p) → Writes stop p g v h m → Has stop (Repeats r) m rest → Writes stop (repeated r p) g v h rest
+  writes_repeated : (r : Repeat) (p : Tree) (g h : ℕ) (v m : List ℕ) → IsTrue (is_part p) → Writes stop p g v h m → Has stop (Repeats r) m rest → Writes stop (repetition r p) g v h rest
   writes_repeated Star p g h v m part x has = (part, m, x, has)
   writes_repeated Plus p g h v m part x has = (part, m, x, has)
   writes_repeated Opt p g h v m part x has = (part, m, x, has)
 
-  repeated_part : (r : Repeat) (p : Tree) → IsTrue (is_part (repeated r p))
+  repeated_part : (r : Repeat) (p : Tree) → IsTrue (is_part (repetition r p))
   repeated_part Star p = refl
   repeated_part Plus p = refl
   repeated_part Opt p = refl
 
-  repeated_nodes : (r : Repeat) (p : Tree) → nodes (repeated r p) ≡ nodes p + 1
+  repeated_nodes : (r : Repeat) (p : Tree) → nodes (repetition r p) ≡ nodes p + 1
   repeated_nodes Star p = refl
   repeated_nodes Plus p = refl
   repeated_nodes Opt p = refl
@@ -132,17 +132,17 @@ module _ (stop st : Option ℕ) (e : Bool) (d : ℕ) (n : ℕ) (w k rest : List 
     abbrev some : Stack
     some = record { outer = outer; top = record { number = number; sides = ss; parts = p ∷ ps }; groups = groups }
 
-    pub kept_often : Kept stop st e d some n w k → (r : Repeat) → Has stop (Repeats r) k rest → Kept stop st false d (built some (Often r)) (n + 1) w rest
+    pub kept_often : Kept stop st e d some n w k → (r : Repeat) → Has stop (Repeats r) k rest → Kept stop st false d (after_token some (Often r)) (n + 1) w rest
     kept_often kept r has = record {
       same = kept.same;
       expects = refl;
       depth = kept.depth;
       size = omega (arith, kept.size, repeated_nodes r p);
-      tokens = on_top stop outer some.top (record some.top { parts = repeated r p ∷ ps }) w groups groups k rest refl (λ g v y.
+      tokens = on_top stop outer some.top (record some.top { parts = repetition r p ∷ ps }) w groups groups k rest refl (λ g v y.
           let q = y.3 in (y.0, y.1, y.2, (repeated_part r p, q.1, q.2, q.3, writes_repeated r p q.1 groups q.2 k q.0 q.4 has))) kept.tokens;
     }
 
-    pub kept_or : Kept stop st e d some n w k → Has stop Bar k rest → Kept stop st true d (built some Or) (n + 0) w rest
+    pub kept_or : Kept stop st e d some n w k → Has stop Bar k rest → Kept stop st true d (after_token some Or) (n + 0) w rest
     kept_or kept has = record {
       same = kept.same;
       expects = refl;
@@ -154,7 +154,7 @@ module _ (stop st : Option ℕ) (e : Bool) (d : ℕ) (n : ℕ) (w k rest : List 
           (groups, rest, (c.0, y.0, y.1, k, y.2, c.1, has), (refl, refl))) kept.tokens;
     }
 
-  pub kept_enter : (z : Stack) → Kept stop st e d z n w k → Has stop Open k rest → Kept stop st true (d + 1) (built z Enter) (n + 1) w rest
+  pub kept_enter : (z : Stack) → Kept stop st e d z n w k → Has stop Open k rest → Kept stop st true (d + 1) (after_token z Enter) (n + 1) w rest
   kept_enter z kept has = record {
     same = kept.same;
     expects = refl;
@@ -163,7 +163,7 @@ module _ (stop st : Option ℕ) (e : Bool) (d : ℕ) (n : ℕ) (w k rest : List 
     tokens = (z.groups, k, rest, kept.tokens, has, refl, (z.groups + 1, rest, (refl, refl), (refl, refl)));
   }
 
-  pub kept_leave : (l : Level) (ls : List Level) (number : ℕ) (ss : List Tree) (p : Tree) (ps : List Tree) (groups : ℕ) → Kept stop st e d (some (l ∷ ls) number ss p ps groups) n w k → Has stop Close k rest → Kept stop st false (d - 1) (built (some (l ∷ ls) number ss p ps groups) Leave) (n + 0) w rest
+  pub kept_leave : (l : Level) (ls : List Level) (number : ℕ) (ss : List Tree) (p : Tree) (ps : List Tree) (groups : ℕ) → Kept stop st e d (some (l ∷ ls) number ss p ps groups) n w k → Has stop Close k rest → Kept stop st false (d - 1) (after_token (some (l ∷ ls) number ss p ps groups) Leave) (n + 0) w rest
   kept_leave l ls number ss p ps groups kept has =
       let x = kept.tokens in
       let r : Tree = choice (chain p ps) ss in

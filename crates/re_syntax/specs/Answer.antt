@@ -1,6 +1,6 @@
 -- What reading an expression answers.
 use Rattle.std.specs.Prelude.{◌≤◌, ◌<◌, ◌+◌, ℕ, List, length, slice_range, Option}
-use Rattle.re_syntax.specs.Tree.{Tree, nodes}
+use Rattle.re_syntax.specs.Tree.{Tree, nodes, most_nodes}
 use Rattle.re_syntax.specs.Grammar.{IsExpression, GoesOn, MayEnd}
 use Rattle.re_syntax.specs.declared.re.ReFault.{ReFault}
 use Rattle.re_syntax.specs.declared.re.ReFault.TheVariants.{Bad, Nodes, NoMemory}
@@ -22,5 +22,5 @@ pub record IsBad (stop : Option ℕ) (text : List ℕ) (from place : ℕ) : Type
 -- why a text is refused; want of memory explains nothing
 abbrev pub Refuses : Option ℕ → List ℕ → ℕ → ReFault → Type 0
 Refuses stop text from (Bad place) = IsBad stop text from place
-Refuses stop text from Nodes = (end : ℕ) × (r : Tree) × IsRead stop text from end r × (2048 < nodes r)
+Refuses stop text from Nodes = (end : ℕ) × (r : Tree) × IsRead stop text from end r × (most_nodes < nodes r)
 Refuses stop text from NoMemory = Unit {0}

@@ -14,6 +14,7 @@ use Rattle.re_syntax.specs.declared.sign.ClassSign.TheVariants.{Ends, Escapes, D
 abbrev pub Has : Option ℕ → Sign → List ℕ → List ℕ → Type 0
 Has stop s text rest = (c : ℕ) × (text ≡ c ∷ rest) × (sign_of stop c ≡ s)
 
+-- a rune with this meaning in a class
 abbrev pub ClassHas : Option ℕ → ClassSign → List ℕ → List ℕ → Type 0
 ClassHas stop s text rest = (c : ℕ) × (text ≡ c ∷ rest) × (class_sign_of stop c ≡ s)
 
@@ -41,6 +42,7 @@ abbrev pub WritesRange : Option ℕ → Bool → ℕ × ℕ → List ℕ → Lis
 WritesRange stop first r text rest =
     (WritesMember stop first r.0 text rest × (r.1 ≡ r.0)) ⊎ ((m n : List ℕ) × WritesMember stop first r.0 text m × ClassHas stop Dash m n × WritesMember stop false r.1 n rest × (r.0 ≤ r.1))
 
+-- ranges one after another; only the first can be at the beginning of the class
 abbrev pub WritesRanges : Option ℕ → Bool → List (ℕ × ℕ) → List ℕ → List ℕ → Type 0
 WritesRanges stop first [] text rest = text ≡ rest
 WritesRanges stop first (r ∷ rs) text rest = (m : List ℕ) × WritesRange stop first r text m × WritesRanges stop false rs m rest

@@ -4,6 +4,10 @@ use Rattle.re_syntax.specs.Match.{Matches, Repeats}
 use Rattle.re_syntax.specs.Tree.{Tree, Letter, AnyLetter, OneOf, LineStart, LineEnd, Then, Either, Many, Several, Maybe, Group}
 use Rattle.am_text.specs.declared.range.Range.{Range}
 
+-- how many ranges a match has: its own, and those of nine groups
+abbrev pub ranges : ℕ
+ranges = 10
+
 -- k is the last place at which a span of R may end, where S goes on from it to j
 abbrev pub IsLongest : (ℕ → ℕ → Type 0) → (ℕ → ℕ → Type 0) → ℕ → ℕ → ℕ → Type 0
 IsLongest R S i j k = R i k × S k j × ((m : ℕ) → R i m → S m j → m ≤ k)
@@ -51,4 +55,4 @@ Sets (Group n a) t i j old new =
 -- The ten ranges of a match: the whole span, and then those that its groups set. A group past the ninth has no place.
 abbrev pub AreGroups : Tree → List ℕ → Range → List (Option Range) → Type 0
 AreGroups r t span all =
-    (set : List (Option Range)) × Sets r t span.q0 span.q1 (replicate 10 None) set × (all ≡ slice_set set 0 (Some span))
+    (set : List (Option Range)) × Sets r t span.q0 span.q1 (replicate ranges None) set × (all ≡ slice_set set 0 (Some span))

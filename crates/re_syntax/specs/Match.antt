@@ -1,15 +1,17 @@
 -- Which spans of a text an expression matches, and which of them is chosen.
 use Rattle.std.specs.Prelude.{◌≡◌, ◌==◌, ◌&&◌, ◌||◌, ◌<◌, ◌≤◌, ◌+◌, ◌-◌, ◌⊎◌, ℕ, zero, suc, Bool, not, List, length, slice_index, nat_lt, nat_le, Option, Some, IsTrue, if◌then◌else◌}
 use Rattle.std.specs.List.{list_any}
+use Rattle.am_text.specs.Ascii.{newline}
 use Rattle.re_syntax.specs.Tree.{Tree, Letter, AnyLetter, OneOf, LineStart, LineEnd, Then, Either, Many, Several, Maybe, Group}
 use Rattle.am_text.specs.declared.range.Range.{Range}
 
--- a class has the rune; the negation of a class has no newline
+-- a range of the class has the rune
 abbrev pub is_in : List (ℕ × ℕ) → ℕ → Bool
 is_in spans c = list_any (λ s. nat_le s.0 c && nat_le c s.1) spans
 
+-- the class has the rune; the negation of a class has no newline
 abbrev pub is_in_class : Bool → List (ℕ × ℕ) → ℕ → Bool
-is_in_class negated spans c = if negated then not (is_in spans c || (c == 10)) else is_in spans c
+is_in_class negated spans c = if negated then not (is_in spans c || (c == newline)) else is_in spans c
 
 -- the span is one rune, and it passes
 abbrev pub one_rune : (ℕ → Bool) → List ℕ → ℕ → ℕ → Bool
@@ -17,11 +19,11 @@ one_rune passes t i j = nat_lt i (length t) && (j == i + 1) && passes (slice_ind
 
 -- a null span before the first rune of a line
 abbrev pub line_start : List ℕ → ℕ → ℕ → Bool
-line_start t i j = (j == i) && nat_lt i (length t) && ((i == 0) || (slice_index t (i - 1) == 10))
+line_start t i j = (j == i) && nat_lt i (length t) && ((i == 0) || (slice_index t (i - 1) == newline))
 
 -- a null span at a newline or at the end
 abbrev pub line_end : List ℕ → ℕ → ℕ → Bool
-line_end t i j = (j == i) && ((i == length t) || (slice_index t i == 10))
+line_end t i j = (j == i) && ((i == length t) || (slice_index t i == newline))
 
 -- so many pieces one after another, none of them null
 abbrev pub Pieces : (ℕ → ℕ → Type 0) → ℕ → ℕ → ℕ → Type 0
@@ -39,7 +41,7 @@ Joins R S i j = (k : ℕ) × R i k × S k j
 -- the tree matches the text t from i up to j
 abbrev pub Matches : Tree → List ℕ → ℕ → ℕ → Type 0
 Matches (Letter c) t i j = IsTrue (one_rune (λ d. d == c) t i j)
-Matches AnyLetter t i j = IsTrue (one_rune (λ d. not (d == 10)) t i j)
+Matches AnyLetter t i j = IsTrue (one_rune (λ d. not (d == newline)) t i j)
 Matches (OneOf negated spans) t i j = IsTrue (one_rune (is_in_class negated spans) t i j)
 Matches LineStart t i j = IsTrue (line_start t i j)
 Matches LineEnd t i j = IsTrue (line_end t i j)

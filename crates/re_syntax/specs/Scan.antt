@@ -17,27 +17,35 @@ use Rattle.re_syntax.specs.declared.scanner.Scanner.{Scanner}
 abbrev pub Scanned : Type 0
 Scanned = Option (Scanner × Option Token)
 
+-- no token yet, and the next rune stands there
 abbrev pub within : Scanner → Mode → Scanned
 within s m = Some (record s { mode = m }, None)
 
+-- one node ends
 abbrev pub leaf : Scanner → Re → Scanned
 leaf s r = Some (record s { mode = Outside; expects = false }, Some (Leaf r))
 
+-- the piece before is repeated; there has to be one
 abbrev pub often : Scanner → Repeat → Scanned
 often s k = if s.expects then None else Some (s, Some (Often k))
 
+-- a side of an alternation ends, which isn't empty
 abbrev pub or : Scanner → Scanned
 or s = if s.expects then None else Some (record s { expects = true }, Some Or)
 
+-- a group opens
 abbrev pub enter : Scanner → Scanned
 enter s = Some (record s { expects = true; depth = s.depth + 1 }, Some Enter)
 
+-- a group ends, which is open and isn't empty
 abbrev pub leave : Scanner → Scanned
 leave s = if (s.expects || (s.depth == 0)) then None else Some (record s { depth = s.depth - 1 }, Some Leave)
 
+-- a class opens
 abbrev pub open_class : Scanner → Scanned
 open_class s = within (record s { negated = false; spans = [] }) Opened
 
+-- a rune outside classes, by what it means there
 abbrev pub outside : Scanner → Sign → ℕ → Scanned
 outside s Stop c = None
 outside s Lone c = None
@@ -52,12 +60,14 @@ outside s Dollar c = leaf s End
 outside s OpenClass c = open_class s
 outside s Plain c = leaf s (Lit c)
 
+-- a class ends, which has a range
 abbrev pub close_class : Scanner → Scanned
 close_class s = elim s.spans [
   | [] ↦ None
   | r ∷ rs ↦ Some (record s { mode = Outside; expects = false; spans = [] }, Some (Leaf (Class s.negated s.spans)))
 ]
 
+-- a rune of a class after a range, by what it means there
 abbrev pub in_class : Scanner → ClassSign → ℕ → Scanned
 in_class s Ends c = None
 in_class s Escapes c = within s NextEscaped
@@ -66,17 +76,20 @@ in_class s Closes c = close_class s
 in_class s Hat c = within s (Low c)
 in_class s Member c = within s (Low c)
 
-abbrev pub opened : Scanner → ClassSign → ℕ → Scanned
-opened s Hat c = within (record s { negated = true }) Next
-opened s Ends c = in_class s Ends c
-opened s Escapes c = in_class s Escapes c
-opened s Dash c = in_class s Dash c
-opened s Closes c = in_class s Closes c
-opened s Member c = in_class s Member c
+-- a rune right behind the bracket that opens the class
+abbrev pub after_bracket : Scanner → ClassSign → ℕ → Scanned
+after_bracket s Hat c = within (record s { negated = true }) Next
+after_bracket s Ends c = in_class s Ends c
+after_bracket s Escapes c = in_class s Escapes c
+after_bracket s Dash c = in_class s Dash c
+after_bracket s Closes c = in_class s Closes c
+after_bracket s Member c = in_class s Member c
 
+-- the class has a range more
 abbrev pub with_range : Scanner → ℕ → ℕ → Scanner
 with_range s a b = record s { spans = s.spans ++ (a, b) ∷ [] }
 
+-- a rune behind one that may begin a range
 abbrev pub after_low : Scanner → ℕ → ClassSign → ℕ → Scanned
 after_low s a Dash c = within s (Upto a)
 after_low s a Ends c = in_class (with_range s a a) Ends c
@@ -85,9 +98,11 @@ after_low s a Closes c = in_class (with_range s a a) Closes c
 after_low s a Hat c = in_class (with_range s a a) Hat c
 after_low s a Member c = in_class (with_range s a a) Member c
 
+-- the range from the one rune to the other, which stand in order
 abbrev pub high : Scanner → ℕ → ℕ → Scanned
 high s a b = if nat_lt b a then None else within (with_range s a b) Next
 
+-- a rune behind the dash of a range
 abbrev pub after_dash : Scanner → ℕ → ClassSign → ℕ → Scanned
 after_dash s a Ends c = None
 after_dash s a Dash c = None
@@ -96,16 +111,18 @@ after_dash s a Escapes c = within s (UptoEscaped a)
 after_dash s a Hat c = high s a c
 after_dash s a Member c = high s a c
 
+-- a rune, by where it stands
 abbrev pub scan_in : Mode → Scanner → ℕ → Scanned
 scan_in Outside s c = outside s (sign_of s.stop c) c
 scan_in Escaped s c = leaf s (Lit (escaped c))
-scan_in Opened s c = opened s (class_sign_of s.stop c) c
+scan_in Opened s c = after_bracket s (class_sign_of s.stop c) c
 scan_in Next s c = in_class s (class_sign_of s.stop c) c
 scan_in NextEscaped s c = within s (Low (escaped c))
 scan_in (Low a) s c = after_low s a (class_sign_of s.stop c) c
 scan_in (Upto a) s c = after_dash s a (class_sign_of s.stop c) c
 scan_in (UptoEscaped a) s c = high s a (escaped c)
 
+-- a rune more
 abbrev pub scan : Scanner → ℕ → Scanned
 scan s c = scan_in s.mode s c
 

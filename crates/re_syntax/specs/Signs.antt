@@ -1,5 +1,6 @@
 -- What the runes of an expression mean.
 use Rattle.std.specs.Prelude.{ℕ, ◌==◌, Bool, false, Option, Some, None, if◌then◌else◌}
+use Rattle.am_text.specs.Ascii.{newline, dollar, left_parenthesis, right_parenthesis, star, plus, minus, dot, question, left_bracket, backslash, right_bracket, caret, bar, letter_n}
 use Rattle.re_syntax.specs.declared.sign.Repeat.TheVariants.{Star, Plus, Opt}
 use Rattle.re_syntax.specs.declared.sign.Sign.{Sign}
 use Rattle.re_syntax.specs.declared.sign.Sign.TheVariants.{Stop, Lone, Escape, Bar, Repeats, Open, Close, Dot, Caret, Dollar, OpenClass, Plain}
@@ -15,31 +16,33 @@ is_stop None c = false
 abbrev pub bracket : Sign → Bool → Sign
 bracket s lone = if lone then Lone else s
 
+-- what a rune means outside a class
 unfoldable pub sign_of : Option ℕ → ℕ → Sign
 sign_of stop c =
     if is_stop stop c then Stop
-    else (if c == 92 then Escape
-    else (if c == 124 then Bar
-    else (if c == 42 then Repeats Star
-    else (if c == 43 then Repeats Plus
-    else (if c == 63 then Repeats Opt
-    else (if c == 40 then bracket Open (is_stop stop 41)
-    else (if c == 41 then Close
-    else (if c == 46 then Dot
-    else (if c == 94 then Caret
-    else (if c == 36 then Dollar
-    else (if c == 91 then bracket OpenClass (is_stop stop 93)
+    else (if c == backslash then Escape
+    else (if c == bar then Bar
+    else (if c == star then Repeats Star
+    else (if c == plus then Repeats Plus
+    else (if c == question then Repeats Opt
+    else (if c == left_parenthesis then bracket Open (is_stop stop right_parenthesis)
+    else (if c == right_parenthesis then Close
+    else (if c == dot then Dot
+    else (if c == caret then Caret
+    else (if c == dollar then Dollar
+    else (if c == left_bracket then bracket OpenClass (is_stop stop right_bracket)
     else Plain)))))))))))
 
+-- what a rune means in a class
 unfoldable pub class_sign_of : Option ℕ → ℕ → ClassSign
 class_sign_of stop c =
     if is_stop stop c then Ends
-    else (if c == 92 then Escapes
-    else (if c == 45 then Dash
-    else (if c == 93 then Closes
-    else (if c == 94 then Hat
+    else (if c == backslash then Escapes
+    else (if c == minus then Dash
+    else (if c == right_bracket then Closes
+    else (if c == caret then Hat
     else Member))))
 
 -- the rune that a backslash and this one stand for: `\n` is a newline
 abbrev pub escaped : ℕ → ℕ
-escaped c = if c == 110 then 10 else c
+escaped c = if c == letter_n then newline else c

@@ -4,6 +4,8 @@ use Rattle.re_syntax.specs.declared.re.Re.{Re, Lit, Any, Class, Start, End, Cat'
 use Rattle.re_syntax.specs.declared.sign.Repeat.{Repeat}
 use Rattle.re_syntax.specs.declared.sign.Repeat.TheVariants.{Star, Plus, Opt}
 
+-- The tree of an expression. A concatenation (`Then`) or an alternation (`Either`) of more than two parts nests to the right;
+-- `Many`, `Several` and `Maybe` are `*`, `+` and `?`.
 pub data Tree : Type 0 where
   -- one rune: this one, any but newline, or one of a class
   Letter : (rune : ℕ) → Tree
@@ -32,6 +34,7 @@ tree (Plus' p a) = Several (tree a)
 tree (Opt' p a) = Maybe (tree a)
 tree (Group' n p a) = Group n (tree a)
 
+-- how many nodes the tree has
 abbrev pub nodes : Tree → ℕ
 nodes (Letter c) = 1
 nodes AnyLetter = 1
@@ -45,11 +48,17 @@ nodes (Several a) = nodes a + 1
 nodes (Maybe a) = nodes a + 1
 nodes (Group n a) = nodes a + 1
 
-abbrev pub repeated : Repeat → Tree → Tree
-repeated Star a = Many a
-repeated Plus a = Several a
-repeated Opt a = Maybe a
+-- a tree may have so many nodes
+abbrev pub most_nodes : ℕ
+most_nodes = 2048
 
+-- the piece, repeated so often
+abbrev pub repetition : Repeat → Tree → Tree
+repetition Star a = Many a
+repetition Plus a = Several a
+repetition Opt a = Maybe a
+
+-- an alternation
 abbrev pub is_either : Tree → Bool
 is_either (Either a b) = true
 is_either _ = false

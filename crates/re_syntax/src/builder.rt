@@ -1,8 +1,8 @@
 //! Builds the tree from tokens.
 
 ghost use Rattle.std.specs.Prelude.{◌≡◌, ◌<◌, ◌+◌, ◌^◌, [], ◌∷◌, map, IfOk, IfSome, IfNone, None, Some};
-ghost use Rattle.re_syntax.specs.Tree.{tree, repeated};
-ghost use Rattle.re_syntax.specs.Build.{level_of, stack_of, chain, choice, finished, with_part, repeat_last, end_side, with_group, built, nothing, weight};
+ghost use Rattle.re_syntax.specs.Tree.{tree, repetition};
+ghost use Rattle.re_syntax.specs.Build.{level_of, stack_of, chain, choice, level_tree, with_part, repeat_last, end_side, with_group, after_token, nothing, weight};
 
 use crate::re::Re;
 use crate::scanner::Token;
@@ -37,8 +37,8 @@ fn empty_frame(alloc: Global, number: u32) -> Frame
     }
 }
 
-fn repeated(alloc: Global, repeat: Repeat, piece: Re) -> Result<Re, NoMemory>
-    ensures { IfOk result (λ re. tree re ≡ repeated repeat (tree piece)) }
+fn repetition(alloc: Global, repeat: Repeat, piece: Re) -> Result<Re, NoMemory>
+    ensures { IfOk result (λ re. tree re ≡ repetition repeat (tree piece)) }
 {
     let piece = Box::new(alloc, piece)?;
     Ok(match repeat {
@@ -70,10 +70,10 @@ fn choice(alloc: Global, last: Re, mut sides: VecDeque<Re>) -> Result<Re, NoMemo
     Ok(whole)
 }
 
-// The tree of a frame; `None` where it ends without a part.
-fn finished(alloc: Global, frame: Frame) -> Result<Option<Re>, NoMemory>
-    ensures some { IfOk result (λ answer. IfSome answer (λ re. finished (level_of frame) ≡ Some (tree re))) }
-    ensures none { IfOk result (λ answer. IfNone answer (finished (level_of frame) ≡ None)) }
+// The tree of a frame; `None` where a part is missing.
+fn level_tree(alloc: Global, frame: Frame) -> Result<Option<Re>, NoMemory>
+    ensures some { IfOk result (λ answer. IfSome answer (λ re. level_tree (level_of frame) ≡ Some (tree re))) }
+    ensures none { IfOk result (λ answer. IfNone answer (level_tree (level_of frame) ≡ None)) }
 {
     let Frame {
         number: _,
@@ -95,12 +95,12 @@ fn with_part(mut frame: Frame, part: Re) -> Result<Frame, NoMemory>
 }
 
 fn repeat_last(alloc: Global, mut frame: Frame, repeat: Repeat) -> Result<Frame, NoMemory>
-    ensures { IfOk result (λ new. level_of new ≡ repeat_last (level_of frame) (level_of frame).parts (repeated repeat)) }
+    ensures { IfOk result (λ new. level_of new ≡ repeat_last (level_of frame) (level_of frame).parts (repetition repeat)) }
 {
     let Some(piece) = frame.parts.pop_front() else {
         return Ok(frame);
     };
-    let whole = repeated(alloc, repeat, piece)?;
+    let whole = repetition(alloc, repeat, piece)?;
     frame.parts.push_front(whole)?;
     Ok(frame)
 }
@@ -130,7 +130,7 @@ fn end_side(alloc: Global, frame: Frame) -> Result<Frame, NoMemory>
 
 fn enter(alloc: Global, builder: Builder) -> Result<Builder, NoMemory>
     requires { builder.groups + 1 < 2 ^ 32 }
-    ensures { IfOk result (λ new. stack_of new ≡ built (stack_of builder) Token.Enter) }
+    ensures { IfOk result (λ new. stack_of new ≡ after_token (stack_of builder) Token.Enter) }
 {
     let Builder {
         mut outer,
@@ -146,7 +146,7 @@ fn enter(alloc: Global, builder: Builder) -> Result<Builder, NoMemory>
 }
 
 fn leave(alloc: Global, builder: Builder) -> Result<Builder, NoMemory>
-    ensures { IfOk result (λ new. stack_of new ≡ built (stack_of builder) Token.Leave) }
+    ensures { IfOk result (λ new. stack_of new ≡ after_token (stack_of builder) Token.Leave) }
 {
     let Builder {
         mut outer,
@@ -157,7 +157,7 @@ fn leave(alloc: Global, builder: Builder) -> Result<Builder, NoMemory>
     if outer.is_empty() || top.parts.is_empty() {
         return Ok(Builder { outer, top, groups });
     }
-    let Some(re) = finished(alloc, top)? else {
+    let Some(re) = level_tree(alloc, top)? else {
         unreachable!()
     };
     let Some(around) = outer.pop_front() else {
@@ -171,9 +171,9 @@ fn leave(alloc: Global, builder: Builder) -> Result<Builder, NoMemory>
 }
 
 /// The builder after one token more.
-pub fn built(alloc: Global, mut builder: Builder, token: Token) -> Result<Builder, NoMemory>
+pub fn after_token(alloc: Global, mut builder: Builder, token: Token) -> Result<Builder, NoMemory>
     requires { builder.groups + 1 < 2 ^ 32 }
-    ensures { IfOk result (λ new. stack_of new ≡ built (stack_of builder) token) }
+    ensures { IfOk result (λ new. stack_of new ≡ after_token (stack_of builder) token) }
 {
     match token {
         Token::Leaf(re) => {
@@ -208,12 +208,13 @@ pub fn nothing(alloc: Global) -> Builder
 
 /// The tree, where no group is open.
 pub fn tree(alloc: Global, builder: Builder) -> Result<Option<Re>, NoMemory>
-    ensures some { IfOk result (λ answer. IfSome answer (λ re. finished (stack_of builder).top ≡ Some (tree re))) }
-    ensures none { IfOk result (λ answer. IfNone answer (finished (stack_of builder).top ≡ None)) }
+    ensures some { IfOk result (λ answer. IfSome answer (λ re. level_tree (stack_of builder).top ≡ Some (tree re))) }
+    ensures none { IfOk result (λ answer. IfNone answer (level_tree (stack_of builder).top ≡ None)) }
 {
-    finished(alloc, builder.top)
+    level_tree(alloc, builder.top)
 }
 
+/// How many nodes a token adds.
 pub fn weight(token: &Token) -> usize
     ensures { result ≡ weight token.now }
 {

@@ -2,10 +2,12 @@
 #![tactic(auto)]
 
 mod builder;
+mod laws;
 mod parser;
 mod re;
 mod scanner;
 mod sign;
 
-pub use parser::{a_text_has_one_tree, parse_re};
+pub use laws::a_text_has_one_tree;
+pub use parser::parse_re;
 pub use re::{Groups, Re, ReFault, RuneSpans};

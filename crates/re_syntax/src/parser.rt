@@ -1,12 +1,11 @@
 //! Reads the tree of an expression.
 
 ghost use Rattle.std.specs.Prelude.{◌≡◌, ◌≤◌, ◌<◌, ◌+◌, ◌^◌, ◌⊎◌, ℕ, List, Option, length, true, false, IfOk, IfErr, IfSome, IfNone, Some, None, slice_index};
-ghost use Rattle.re_syntax.specs.Tree.{Tree, tree, nodes};
-ghost use Rattle.re_syntax.specs.Grammar.{IsExpression};
+ghost use Rattle.re_syntax.specs.Tree.{tree, nodes, most_nodes};
 ghost use Rattle.re_syntax.specs.Answer.{IsRead, Refuses};
 ghost use Rattle.re_syntax.specs.Signs.{is_stop};
 ghost use Rattle.re_syntax.specs.Scan.{scan, start};
-ghost use Rattle.re_syntax.specs.Build.{stack_of, finished, built, weight};
+ghost use Rattle.re_syntax.specs.Build.{stack_of, level_tree, after_token, weight};
 ghost use Rattle.re_syntax.specs.Read.{Reading, begin, read, is_outside, is_escaped, is_complete, Follows, Finishes, FinishFails};
 
 use crate::builder::{self, Builder};
@@ -16,8 +15,11 @@ use crate::sign::is_stop;
 use am_text::{NoMemory, Rune};
 use std::alloc::Global;
 
-// One more than the nodes that a tree may have: that is how tokens count.
-const MOST: usize = 2049;
+// How many nodes a tree may have.
+const MOST_NODES: usize = 2048;
+
+// One more: that is how tokens count.
+const MOST: usize = MOST_NODES + 1;
 
 /// What is read so far. Past the limit nothing is built any more.
 #[derive(Drop)]
@@ -46,7 +48,7 @@ fn take(
     token: Token,
 ) -> Result<Parser, NoMemory>
     requires { builder.groups ≤ size }
-    ensures { IfOk result (λ new. (m : Reading) → Follows (record { scanner = scanner; builder = builder; size = size }) m → Follows new (record { scanner = scanner; stack = built m.stack token; size = m.size + weight token })) }
+    ensures { IfOk result (λ new. (m : Reading) → Follows (record { scanner = scanner; builder = builder; size = size }) m → Follows new (record { scanner = scanner; stack = after_token m.stack token; size = m.size + weight token })) }
 {
     if size > MOST {
         return Ok(Parser {
@@ -65,7 +67,7 @@ fn take(
     }
     Ok(Parser {
         scanner,
-        builder: builder::built(alloc, builder, token)?,
+        builder: builder::after_token(alloc, builder, token)?,
         size,
     })
 }
@@ -164,9 +166,3 @@ pub fn parse_re(
     }
     finish(alloc, parser, text.len())
 }
-
-/// A text has one tree at most.
-#[tactic(auto, using(crate::proofs::Complete::one_tree))]
-pub fn a_text_has_one_tree()
-    ensures { (stop : Option ℕ) (text : List ℕ) (r s : Tree) → IsExpression stop text r → IsExpression stop text s → r ≡ s }
-{}

@@ -2,7 +2,7 @@
 
 ghost use Rattle.std.specs.Prelude.{◌≡◌, ◌<◌, ◌+◌, ◌^◌, IfOk};
 ghost use Rattle.re_syntax.specs.Signs.{sign_of, class_sign_of, escaped};
-ghost use Rattle.re_syntax.specs.Scan.{within, leaf, often, or, enter, leave, open_class, outside, close_class, in_class, opened, with_range, after_low, high, after_dash, scan, start};
+ghost use Rattle.re_syntax.specs.Scan.{within, leaf, often, or, enter, leave, open_class, outside, close_class, in_class, after_bracket, with_range, after_low, high, after_dash, scan, start};
 
 use crate::re::{Re, RuneSpans};
 use crate::sign::{ClassSign, Repeat, Sign, class_sign_of, escaped, sign_of};
@@ -162,8 +162,8 @@ fn in_class(alloc: Global, s: Scanner, sign: ClassSign, c: Rune) -> Scanned
     }
 }
 
-fn opened(alloc: Global, mut s: Scanner, sign: ClassSign, c: Rune) -> Scanned
-    ensures { result ≡ opened s sign c }
+fn after_bracket(alloc: Global, mut s: Scanner, sign: ClassSign, c: Rune) -> Scanned
+    ensures { result ≡ after_bracket s sign c }
 {
     match sign {
         ClassSign::Hat => {
@@ -227,7 +227,7 @@ pub fn scan(alloc: Global, s: Scanner, c: Rune) -> Result<Scanned, NoMemory>
     match s.mode {
         Mode::Outside => Ok(outside(alloc, s, c)),
         Mode::Escaped => Ok(leaf(s, Re::Lit(escaped(c)))),
-        Mode::Opened => Ok(opened(alloc, s, class_sign_of(stop, c), c)),
+        Mode::Opened => Ok(after_bracket(alloc, s, class_sign_of(stop, c), c)),
         Mode::Next => Ok(in_class(alloc, s, class_sign_of(stop, c), c)),
         Mode::NextEscaped => Ok(within(s, Mode::Low(escaped(c)))),
         Mode::Low(first) => after_low(alloc, s, first, class_sign_of(stop, c), c),

@@ -3,7 +3,10 @@
 ghost use Rattle.std.specs.Prelude.{◌≡◌, ◌&&◌};
 ghost use Rattle.re_syntax.specs.Signs.{is_stop, sign_of, class_sign_of, bracket, escaped};
 
-use am_text::Rune;
+use am_text::{
+    BACKSLASH, BAR, CARET, DOLLAR, DOT, LEFT_BRACKET, LEFT_PARENTHESIS, LETTER_N, MINUS, NEWLINE,
+    PLUS, QUESTION, RIGHT_BRACKET, RIGHT_PARENTHESIS, Rune, STAR,
+};
 
 /// How often a piece is repeated.
 #[derive(Clone, Copy)]
@@ -44,6 +47,7 @@ pub enum ClassSign {
     Member,
 }
 
+/// The rune is the delimiter.
 pub fn is_stop(stop: Option<Rune>, c: Rune) -> bool
     ensures { result ≡ is_stop stop c }
 {
@@ -59,6 +63,7 @@ fn bracket(sign: Sign, is_lone: bool) -> Sign
     if is_lone { Sign::Lone } else { sign }
 }
 
+/// What a rune means outside a class.
 #[tactic(auto, unfolding(crate::specs::Signs::sign_of))]
 pub fn sign_of(stop: Option<Rune>, c: Rune) -> Sign
     ensures { result ≡ sign_of stop c }
@@ -67,32 +72,22 @@ pub fn sign_of(stop: Option<Rune>, c: Rune) -> Sign
         return Sign::Stop;
     }
     match c {
-        // \
-        92 => Sign::Escape,
-        // |
-        124 => Sign::Bar,
-        // *
-        42 => Sign::Repeats(Repeat::Star),
-        // +
-        43 => Sign::Repeats(Repeat::Plus),
-        // ?
-        63 => Sign::Repeats(Repeat::Opt),
-        // (
-        40 => bracket(Sign::Open, is_stop(stop, 41)),
-        // )
-        41 => Sign::Close,
-        // .
-        46 => Sign::Dot,
-        // ^
-        94 => Sign::Caret,
-        // $
-        36 => Sign::Dollar,
-        // [
-        91 => bracket(Sign::OpenClass, is_stop(stop, 93)),
+        BACKSLASH => Sign::Escape,
+        BAR => Sign::Bar,
+        STAR => Sign::Repeats(Repeat::Star),
+        PLUS => Sign::Repeats(Repeat::Plus),
+        QUESTION => Sign::Repeats(Repeat::Opt),
+        LEFT_PARENTHESIS => bracket(Sign::Open, is_stop(stop, RIGHT_PARENTHESIS)),
+        RIGHT_PARENTHESIS => Sign::Close,
+        DOT => Sign::Dot,
+        CARET => Sign::Caret,
+        DOLLAR => Sign::Dollar,
+        LEFT_BRACKET => bracket(Sign::OpenClass, is_stop(stop, RIGHT_BRACKET)),
         _ => Sign::Plain,
     }
 }
 
+/// What a rune means in a class.
 #[tactic(auto, unfolding(crate::specs::Signs::class_sign_of))]
 pub fn class_sign_of(stop: Option<Rune>, c: Rune) -> ClassSign
     ensures { result ≡ class_sign_of stop c }
@@ -101,14 +96,10 @@ pub fn class_sign_of(stop: Option<Rune>, c: Rune) -> ClassSign
         return ClassSign::Ends;
     }
     match c {
-        // \
-        92 => ClassSign::Escapes,
-        // -
-        45 => ClassSign::Dash,
-        // ]
-        93 => ClassSign::Closes,
-        // ^
-        94 => ClassSign::Hat,
+        BACKSLASH => ClassSign::Escapes,
+        MINUS => ClassSign::Dash,
+        RIGHT_BRACKET => ClassSign::Closes,
+        CARET => ClassSign::Hat,
         _ => ClassSign::Member,
     }
 }
@@ -117,6 +108,5 @@ pub fn class_sign_of(stop: Option<Rune>, c: Rune) -> ClassSign
 pub fn escaped(c: Rune) -> Rune
     ensures { result ≡ escaped c }
 {
-    // n
-    if c == 110 { 10 } else { c }
+    if c == LETTER_N { NEWLINE } else { c }
 }

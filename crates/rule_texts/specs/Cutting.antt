@@ -1,15 +1,18 @@
 -- Where whole sets end in a text of rules that is still being written.
 use Rattle.std.specs.Prelude.{ℕ, ◌+◌, Bool, false, ◌&&◌, ◌||◌, ◌==◌, not, List, [], ◌∷◌, length, take, drop, Option, Some, None, if◌then◌else◌}
 use Rattle.std.specs.List.{list_any}
+use Rattle.am_text.specs.Ascii.{newline, quote}
 use Rattle.rule_syntax.specs.Words.{is_blank_line, is_comment}
 use Rattle.rule_syntax.specs.Parsing.{value_text}
 use Rattle.rule_texts.specs.declared.cutting.Scan.{Scan}
 
 -- ---- lines
 
+-- a newline
 abbrev pub is_newline : ℕ → Bool
-is_newline b = b == 10
+is_newline b = b == newline
 
+-- whether a newline stands in the bytes
 abbrev pub has_newline : List ℕ → Bool
 has_newline bytes = list_any is_newline bytes
 
@@ -28,8 +31,9 @@ ended_lines (b ∷ bytes) = if is_newline b then [] ∷ ended_lines bytes else o
 -- whether a quote is open behind a text, by whether one is open before it
 abbrev pub is_open_behind : Bool → List ℕ → Bool
 is_open_behind is_open [] = is_open
-is_open_behind is_open (b ∷ bytes) = is_open_behind (if b == 39 then not is_open else is_open) bytes
+is_open_behind is_open (b ∷ bytes) = is_open_behind (if b == quote then not is_open else is_open) bytes
 
+-- whether a quote is open behind a text
 abbrev pub is_open : List ℕ → Bool
 is_open text = is_open_behind false text
 
@@ -38,6 +42,7 @@ abbrev pub is_whole : Option (List ℕ) → Bool
 is_whole None = false
 is_whole (Some value) = not (is_open value)
 
+-- whether a line defines a variable, with a whole value
 abbrev pub is_definition : List ℕ → Bool
 is_definition line = is_whole (value_text line)
 
@@ -65,6 +70,7 @@ after_line s line =
     if is_blank_line line then after_blank s (behind s.at line)
     else record s { at = behind s.at line; begun = s.begun || is_rule line }
 
+-- all these lines further
 abbrev pub after_lines : Scan → List (List ℕ) → Scan
 after_lines s [] = s
 after_lines s (line ∷ lines) = after_lines (after_line s line) lines
@@ -77,5 +83,6 @@ sets_end text = (after_lines front (ended_lines text)).end
 abbrev pub whole_sets : List ℕ → List ℕ
 whole_sets text = take (sets_end text) text
 
+-- what is left behind the whole sets
 abbrev pub begun_set : List ℕ → List ℕ
 begun_set text = drop (sets_end text) text

@@ -10,6 +10,7 @@ use Rattle.rule_syntax.specs.declared.rule.Rule.{Rule}
 abbrev pub port_of : Rule → List (List ℕ)
 port_of r = if is_to r.verb then utf8 (runes_of r.argument) ∷ [] else []
 
+-- the ports that the rules of a set name
 abbrev pub set_ports : List Rule → List (List ℕ)
 set_ports rules = flat_map port_of rules
 

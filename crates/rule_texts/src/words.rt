@@ -7,8 +7,6 @@ ghost use Rattle.rule_syntax.specs.Words.{is_digit, is_name_rune, is_gap, name_p
 ghost use Rattle.rule_syntax.specs.Parsing.{after_equals, value_text};
 ghost use Rattle.rule_texts.specs.Cutting.{has_newline, is_open_behind, is_open, is_whole, is_definition, is_rule};
 
-const QUOTE: u8 = b'\'';
-
 fn is_within(low: u8, high: u8, b: u8) -> bool
     ensures { result ≡ is_in_range low high b }
 {
@@ -122,7 +120,7 @@ fn is_open(text: &[u8]) -> bool
 {
     let mut open = false;
     for b in text {
-        if *b == QUOTE {
+        if *b == b'\'' {
             open = !open;
         }
     }

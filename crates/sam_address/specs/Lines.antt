@@ -1,11 +1,12 @@
 -- The lines of a text, by the places at which they begin.
 use Rattle.std.specs.Prelude.{◌==◌, ◌+◌, ◌-◌, ℕ, List, [], ◌∷◌, Option, Some, None, length, reverse, filter, nat_le, unwrap_or, if◌then◌else◌}
+use Rattle.am_text.specs.Ascii.{newline}
 use Rattle.am_text.specs.declared.range.Range.{Range}
 
 -- the places after the newlines of a list of runes, the first of which is at a place
 abbrev pub after_newlines : ℕ → List ℕ → List ℕ
 after_newlines at [] = []
-after_newlines at (c ∷ cs) = if c == 10 then (at + 1) ∷ after_newlines (at + 1) cs else after_newlines (at + 1) cs
+after_newlines at (c ∷ cs) = if c == newline then (at + 1) ∷ after_newlines (at + 1) cs else after_newlines (at + 1) cs
 
 -- 0 and each place after a newline
 abbrev pub line_starts : List ℕ → List ℕ

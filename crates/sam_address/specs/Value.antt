@@ -12,6 +12,7 @@ use Rattle.sam_address.specs.Lines.{line_starts, starts_from, starts_back, nth, 
 abbrev pub Outcome : Type 0
 Outcome = Result Range AddrFault
 
+-- the null range at a place
 abbrev pub null_at : ℕ → Range
 null_at p = record { q0 = p; q1 = p }
 
@@ -19,6 +20,7 @@ null_at p = record { q0 = p; q1 = p }
 abbrev pub rune_at : List ℕ → ℕ → Outcome
 rune_at t p = if nat_le p (length t) then Ok (null_at p) else Err fault.Range
 
+-- the line that begins at a place, if there is one
 abbrev pub line_from : List ℕ → Option ℕ → Outcome
 line_from t None = Err fault.Range
 line_from t (Some s) = Ok (line_at t s)
@@ -40,6 +42,7 @@ lines_back t p n = if n == 0 then Ok (null_at p) else back_along t (starts_back 
 abbrev pub runes_back : ℕ → ℕ → Outcome
 runes_back p n = if nat_le n p then Ok (null_at (p - n)) else Err fault.Range
 
+-- the match, or that there is none
 abbrev pub match_or_fault : Option Range → Outcome
 match_or_fault None = Err NoMatch
 match_or_fault (Some r) = Ok r
@@ -64,9 +67,10 @@ before (Backward r) alone t limit left = match_or_fault (forward r t limit left.
 before _ alone t limit left = alone
 
 -- from the start of the one to the end of the other
-abbrev pub joined : Range → Range → Outcome
-joined left right = if nat_lt right.q1 left.q0 then Err Order else Ok (record { q0 = left.q0; q1 = right.q1 })
+abbrev pub span_of : Range → Range → Outcome
+span_of left right = if nat_lt right.q1 left.q0 then Err Order else Ok (record { q0 = left.q0; q1 = right.q1 })
 
+-- what goes on from a range, where there is no fault
 abbrev pub with_range : Outcome → (Range → Outcome) → Outcome
 with_range (Ok r) next = next r
 with_range (Err e) next = Err e
@@ -92,10 +96,10 @@ value (Difference a b) t limit dot =
     with_range (value a t limit dot) (λ left. before b (value b t limit left) t limit left)
 value (Span a b) t limit dot =
     with_range (written_or a (Ok (null_at 0)) (value a t limit dot)) (λ left.
-    with_range (written_or b (Ok (null_at (length t))) (value b t limit dot)) (λ right. joined left right))
+    with_range (written_or b (Ok (null_at (length t))) (value b t limit dot)) (λ right. span_of left right))
 value (MovingSpan a b) t limit dot =
     with_range (written_or a (Ok (null_at 0)) (value a t limit dot)) (λ left.
-    with_range (written_or b (Ok (null_at (length t))) (value b t limit left)) (λ right. joined left right))
+    with_range (written_or b (Ok (null_at (length t))) (value b t limit left)) (λ right. span_of left right))
 
 -- the fault is the first one, from left to right; want of memory says nothing
 abbrev pub IsFault : AddrFault → Outcome → Type 0

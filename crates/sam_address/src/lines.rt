@@ -5,7 +5,7 @@ ghost use Rattle.sam_address.specs.Lines.{after_newlines, starts_from, nth, line
 ghost use Rattle.sam_address.specs.Value.{line_from, lines_on, lines_back, null_at, IsInside};
 
 use crate::fault::AddrFault;
-use am_text::{Letters, Range};
+use am_text::{Letters, NEWLINE, Range};
 
 /// The null range at a place.
 pub fn null_at(place: usize) -> Range
@@ -26,7 +26,7 @@ fn after_newline<T: Letters>(text: &T, from: usize, n: u64) -> Option<usize>
 {
     let mut left = n;
     for at in from..text.len() {
-        if text.at(at) == 10 {
+        if text.at(at) == NEWLINE {
             if left == 1 {
                 return Some(at + 1);
             }
@@ -105,7 +105,7 @@ fn line_back<T: Letters>(text: &T, place: usize, n: u64) -> Result<Range, AddrFa
     let mut end = place;
     let mut at = place;
     while at > 0 {
-        if text.at(at - 1) == 10 {
+        if text.at(at - 1) == NEWLINE {
             if left == 0 {
                 return Ok(Range { q0: at, q1: end });
             }

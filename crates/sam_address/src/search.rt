@@ -3,7 +3,7 @@
 ghost use Rattle.std.specs.Prelude.{◌≡◌, ◌<◌, ◌≤◌, length, IfOk, IfErr, Ok};
 ghost use Rattle.re_syntax.specs.Tree.{tree};
 ghost use Rattle.re_spans.specs.Search.{IsBetween};
-ghost use Rattle.sam_address.specs.Search.{forward, backward, brought};
+ghost use Rattle.sam_address.specs.Search.{forward, backward, nearest};
 ghost use Rattle.sam_address.specs.Value.{match_or_fault, IsFault, IsInside};
 
 use crate::fault::AddrFault;
@@ -13,9 +13,9 @@ use re_spans::Re;
 use std::alloc::Global;
 
 // The place, or the nearest one inside the limit.
-fn brought(limit: Range, place: usize) -> usize
+fn nearest(limit: Range, place: usize) -> usize
     requires { limit.q0 ≤ limit.q1 }
-    ensures value { result ≡ brought limit place }
+    ensures value { result ≡ nearest limit place }
     ensures inside { (limit.q0 ≤ result) × (result ≤ limit.q1) }
 {
     if place < limit.q0 {
@@ -41,7 +41,7 @@ pub fn forward<T: Letters>(
     ensures inside { IfOk result (IsBetween limit.q0 limit.q1) }
 {
     let machine = Machine::build(alloc, re)?;
-    let from = brought(limit, place);
+    let from = nearest(limit, place);
     if let Some(found) = machine.forward(alloc, text, from, limit.q1, Some(from))? {
         return Ok(found);
     }
@@ -65,7 +65,7 @@ pub fn backward<T: Letters>(
     ensures inside { IfOk result (IsBetween limit.q0 limit.q1) }
 {
     let machine = Machine::build(alloc, re)?;
-    let to = brought(limit, place);
+    let to = nearest(limit, place);
     if let Some(found) = machine.backward(alloc, text, limit.q0, to, Some(to))? {
         return Ok(found);
     }

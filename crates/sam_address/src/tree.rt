@@ -3,7 +3,7 @@
 ghost use Rattle.std.specs.Prelude.{◌≡◌, ◌<◌, ◌≤◌, ◌+◌, length, IfOk, IfErr, Ok};
 ghost use Rattle.addr_syntax.specs.Tree.{tree, side};
 ghost use Rattle.addr_syntax.specs.declared.address.Addr.{back-Addr-Plus-0};
-ghost use Rattle.sam_address.specs.Value.{value, after, before, written_or, rune_at, runes_back, joined, IsFault, IsInside, line_from};
+ghost use Rattle.sam_address.specs.Value.{value, after, before, written_or, rune_at, runes_back, span_of, IsFault, IsInside, line_from};
 ghost use Rattle.sam_address.specs.Lines.{line_starts, nth};
 
 use crate::fault::AddrFault;
@@ -40,7 +40,7 @@ fn runes_back(place: usize, n: u64) -> Result<Range, AddrFault>
 
 // The line n, counted from 1.
 #[tactic(auto, using(crate::proofs::Starts::from_zero, crate::proofs::Starts::none_from_zero))]
-fn numbered<T: Letters>(text: &T, n: u64) -> Result<Range, AddrFault>
+fn nth_line<T: Letters>(text: &T, n: u64) -> Result<Range, AddrFault>
     ensures value { result ≡ line_from (T.letters text.now) (nth (line_starts (T.letters text.now)) n) }
     ensures inside { IfOk result (IsInside (T.letters text.now)) }
 {
@@ -51,8 +51,8 @@ fn numbered<T: Letters>(text: &T, n: u64) -> Result<Range, AddrFault>
 }
 
 // From the start of the one range to the end of the other.
-fn joined(left: Range, right: Range) -> Result<Range, AddrFault>
-    ensures { result ≡ joined left right }
+fn span_of(left: Range, right: Range) -> Result<Range, AddrFault>
+    ensures { result ≡ span_of left right }
 {
     if right.q1 < left.q0 {
         return Err(AddrFault::Order);
@@ -158,7 +158,7 @@ pub fn value<T: Letters>(
         Addr::Zero => Ok(null_at(0)),
         Addr::Last => Ok(null_at(text.len())),
         Addr::Char(n) => runes_on(text, 0, *n),
-        Addr::Line(n) => numbered(text, *n),
+        Addr::Line(n) => nth_line(text, *n),
         Addr::Fore(re) => forward(alloc, re, text, limit, dot.q1),
         Addr::Back(re) => backward(alloc, re, text, limit, dot.q0),
         Addr::Plus(a, b) => {
@@ -178,12 +178,12 @@ pub fn value<T: Letters>(
         Addr::Comma(a, b) => {
             let left = side(alloc, a, text, null_at(0), dot, limit)?;
             let right = side(alloc, b, text, null_at(text.len()), dot, limit)?;
-            joined(left, right)
+            span_of(left, right)
         }
         Addr::Semi(a, b) => {
             let left = side(alloc, a, text, null_at(0), dot, limit)?;
             let right = side(alloc, b, text, null_at(text.len()), left, limit)?;
-            joined(left, right)
+            span_of(left, right)
         }
     }
 }

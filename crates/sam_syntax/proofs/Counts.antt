@@ -10,7 +10,7 @@ use Rattle.edit_parts.specs.Limits.{is_large_expression, is_long_address}
 use Rattle.edit_parts.specs.Pieces as piece
 use Rattle.edit_parts.specs.Pieces.{Piece, Blank, EndsLine, At, Opens, Closes, Does}
 use Rattle.sam_syntax.specs.Limits.{levels, most_levels, is_large, is_long}
-use Rattle.sam_syntax.specs.Joined.{Head, OpenBlock, Line, Opened, Looping, Addressed, Ended, Reading, in_loops, commands_of, command_of, with_command, with_line, block_of, joined, closed, whole}
+use Rattle.sam_syntax.specs.Joined.{Head, OpenBlock, Line, Opened, Looping, Addressed, Ended, Reading, in_loops, commands_of, command_of, with_command, with_line, block_of, after_piece, close_all, whole}
 use Rattle.sam_syntax.specs.Read.{piece_large, piece_long}
 use Rattle.sam_syntax.specs.Depth.{heads_of, round, depth, level_of}
 
@@ -105,7 +105,7 @@ with_line_has f g b (Ended c) e = with_command_has f g b c
 block_command_has : (f : expression.Tree → Bool) (g : address.Tree → Bool) (b : OpenBlock) → has f g (block_of b) ≡ block_has f g b
 block_command_has f g b = in_loops_has f g b.heads (b.addr, Block (commands_of b.commands))
 
-whole_has : (f : expression.Tree → Bool) (g : address.Tree → Bool) (bs : List OpenBlock) (line : Line) → g Missing ≡ false → has f g (closed bs line) ≡ (line_has f g line || blocks_have f g bs)
+whole_has : (f : expression.Tree → Bool) (g : address.Tree → Bool) (bs : List OpenBlock) (line : Line) → g Missing ≡ false → has f g (close_all bs line) ≡ (line_has f g line || blocks_have f g bs)
 whole_has f g [] line e = line_command_has f g line e ∙ sym (or_false (line_has f g line))
 whole_has f g (b ∷ bs) line e =
     whole_has f g bs (Ended (block_of (with_line b line))) e
@@ -146,7 +146,7 @@ abbrev HasMore : (expression.Tree → Bool) → (address.Tree → Bool) → List
 HasMore f g bs line p None = Unit {0}
 HasMore f g bs line p (Some s) = (line_has f g s.line || blocks_have f g s.blocks) ≡ ((line_has f g line || blocks_have f g bs) || piece_has f g p)
 
-has_more : (f : expression.Tree → Bool) (g : address.Tree → Bool) (bs : List OpenBlock) (line : Line) (p : Piece) → g Missing ≡ false → HasMore f g bs line p (joined (record { blocks = bs; line = line }) p)
+has_more : (f : expression.Tree → Bool) (g : address.Tree → Bool) (bs : List OpenBlock) (line : Line) (p : Piece) → g Missing ≡ false → HasMore f g bs line p (after_piece (record { blocks = bs; line = line }) p)
 has_more f g bs line Blank e = sym (or_false (line_has f g line || blocks_have f g bs))
 has_more f g [] line EndsLine e = tt
 has_more f g (b ∷ bs) line EndsLine e =
@@ -179,7 +179,7 @@ has_more f g bs (Addressed hs a) (Does act) e =
     ap (λ x. x || blocks_have f g bs) (in_loops_has f g hs (a, act)) ∙ action_at_more (g a) (some f g act) (heads_have f g hs) (blocks_have f g bs)
 has_more f g bs (Ended c) (Does act) e = tt
 
-joined_has : (f : expression.Tree → Bool) (g : address.Tree → Bool) (r : Reading) (p : Piece) (s : Reading) → g Missing ≡ false → joined r p ≡ Some s → has f g (whole s) ≡ (has f g (whole r) || piece_has f g p)
+joined_has : (f : expression.Tree → Bool) (g : address.Tree → Bool) (r : Reading) (p : Piece) (s : Reading) → g Missing ≡ false → after_piece r p ≡ Some s → has f g (whole s) ≡ (has f g (whole r) || piece_has f g p)
 joined_has f g r p s m e =
     let more : HasMore f g r.blocks r.line p (Some s) = subst (λ (o : Option Reading). HasMore f g r.blocks r.line p o) e (has_more f g r.blocks r.line p m) in
     whole_has f g s.blocks s.line m ∙ more ∙ ap (λ x. x || piece_has f g p) (sym (whole_has f g r.blocks r.line m))
@@ -226,7 +226,7 @@ with_line_levels b (Ended c) = with_command_levels b c
 block_command_levels : (b : OpenBlock) → levels (block_of b).1 ≡ block_levels b
 block_command_levels b = omega (arith, in_loops_levels b.heads (b.addr, Block (commands_of b.commands)))
 
-whole_levels : (bs : List OpenBlock) (line : Line) → levels (closed bs line).1 ≡ max (deepest bs) (line_levels line + round bs)
+whole_levels : (bs : List OpenBlock) (line : Line) → levels (close_all bs line).1 ≡ max (deepest bs) (line_levels line + round bs)
 whole_levels [] line = omega (arith, line_command_levels line)
 whole_levels (b ∷ bs) line =
     omega (arith, whole_levels bs (Ended (block_of (with_line b line))), block_command_levels (with_line b line), with_line_levels b line)
@@ -241,7 +241,7 @@ with_line_round b (Looping hs) bs = refl
 with_line_round b (Addressed hs a) bs = refl
 with_line_round b (Ended c) bs = refl
 
-levels_more : (bs : List OpenBlock) (line : Line) (p : Piece) → LevelsMore bs line p (joined (record { blocks = bs; line = line }) p)
+levels_more : (bs : List OpenBlock) (line : Line) (p : Piece) → LevelsMore bs line p (after_piece (record { blocks = bs; line = line }) p)
 levels_more bs line Blank = omega arith
 levels_more [] line EndsLine = tt
 levels_more (b ∷ bs) line EndsLine = omega (arith, with_line_levels b line, with_line_round b line bs)
@@ -268,7 +268,7 @@ levels_more bs (Looping hs) (Does act) = omega (arith, in_loops_levels hs (Missi
 levels_more bs (Addressed hs a) (Does act) = omega (arith, in_loops_levels hs (a, act))
 levels_more bs (Ended c) (Does act) = tt
 
-pub joined_levels : (r : Reading) (p : Piece) (s : Reading) → joined r p ≡ Some s → levels (whole s).1 ≡ max (levels (whole r).1) (level_of r p)
+pub joined_levels : (r : Reading) (p : Piece) (s : Reading) → after_piece r p ≡ Some s → levels (whole s).1 ≡ max (levels (whole r).1) (level_of r p)
 joined_levels r p s e =
     let more : LevelsMore r.blocks r.line p (Some s) = subst (λ (o : Option Reading). LevelsMore r.blocks r.line p o) e (levels_more r.blocks r.line p) in
     omega (arith, more, whole_levels s.blocks s.line, whole_levels r.blocks r.line)
@@ -276,7 +276,7 @@ joined_levels r p s e =
 pub depth_levels : (r : Reading) → depth r ≤ levels (whole r).1
 depth_levels r = go r.line
   where
-    go : (line : Line) → round r.blocks + length (heads_of line) ≤ levels (closed r.blocks line).1
+    go : (line : Line) → round r.blocks + length (heads_of line) ≤ levels (close_all r.blocks line).1
     go Opened = omega (arith, whole_levels r.blocks Opened)
     go (Looping hs) = omega (arith, whole_levels r.blocks (Looping hs))
     go (Addressed hs a) = omega (arith, whole_levels r.blocks (Addressed hs a))
@@ -347,14 +347,14 @@ piece_long_is Opens = refl
 piece_long_is Closes = refl
 piece_long_is (Does act) = long_is act
 
-pub joined_large : (r : Reading) (p : Piece) (s : Reading) → joined r p ≡ Some s → is_large (whole s) ≡ (is_large (whole r) || piece_large p)
+pub joined_large : (r : Reading) (p : Piece) (s : Reading) → after_piece r p ≡ Some s → is_large (whole s) ≡ (is_large (whole r) || piece_large p)
 joined_large r p s e =
     ap (λ x. address.is_large (whole s).0 || x) (large_is (whole s).1)
     ∙ joined_has is_large_expression address.is_large r p s refl e
     ∙ ap (λ x. has is_large_expression address.is_large (whole r) || x) (sym (piece_large_is p))
     ∙ ap (λ x. (address.is_large (whole r).0 || x) || piece_large p) (sym (large_is (whole r).1))
 
-pub joined_long : (r : Reading) (p : Piece) (s : Reading) → joined r p ≡ Some s → is_long (whole s) ≡ (is_long (whole r) || piece_long p)
+pub joined_long : (r : Reading) (p : Piece) (s : Reading) → after_piece r p ≡ Some s → is_long (whole s) ≡ (is_long (whole r) || piece_long p)
 joined_long r p s e =
     ap (λ x. is_long_address (whole s).0 || x) (long_is (whole s).1)
     ∙ joined_has never is_long_address r p s refl e

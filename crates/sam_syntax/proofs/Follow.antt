@@ -14,10 +14,10 @@ use Rattle.edit_parts.specs.Pieces.{Piece, Blank, At, Loops, Opens, Does}
 use Rattle.edit_parts.specs.Answer.{IsBuiltExpression, IsBuiltAction}
 use Rattle.edit_parts.specs.declared.command.Act.{Act}
 use Rattle.sam_syntax.specs.Limits.{levels, is_large, is_long, is_deep}
-use Rattle.sam_syntax.specs.Joined.{OpenBlock, Line, Opened, Looping, Addressed, Ended, Reading, joined, is_done, closed, command_of, whole}
+use Rattle.sam_syntax.specs.Joined.{OpenBlock, Line, Opened, Looping, Addressed, Ended, Reading, after_piece, is_done, close_all, command_of, whole}
 use Rattle.sam_syntax.specs.Depth.{depth, level_of}
-use Rattle.sam_syntax.specs.Position.{place_of, position_of, positioned, is_end}
-use Rattle.sam_syntax.specs.Read.{line_is, reading_of, IsNext, Follows, GoesTo, Joins, kept, piece_large, piece_long, PastFails, FinishFails}
+use Rattle.sam_syntax.specs.Position.{place_of, position_of, position_if, is_end}
+use Rattle.sam_syntax.specs.Read.{line_is, reading_of, IsNext, Follows, GoesTo, Joins, whole_if, piece_large, piece_long, PastFails, FinishFails}
 use Rattle.sam_syntax.specs.Answer.{IsInLimits}
 use Rattle.addr_syntax.specs.declared.address.SynFault.{SynFault}
 use Rattle.addr_syntax.specs.declared.address.SynFault.TheVariants as fault
@@ -46,32 +46,32 @@ or_both x y e f = ap (λ b. b || y) e ∙ f
 
 -- ---- the limits
 
-few_levels : (r : Reading) (p : Piece) (s : Reading) → joined r p ≡ Some s → nat_lt 32 (levels (whole r).1) ≡ false → level_of r p ≤ 32 → nat_lt 32 (levels (whole s).1) ≡ false
+few_levels : (r : Reading) (p : Piece) (s : Reading) → after_piece r p ≡ Some s → nat_lt 32 (levels (whole r).1) ≡ false → level_of r p ≤ 32 → nat_lt 32 (levels (whole s).1) ≡ false
 few_levels r p s e f l = le-ltb 32 (levels (whole s).1) (omega (arith, joined_levels r p s e, ltb-false 32 (levels (whole r).1) f, l))
 
-stays_shallow : (r : Reading) (p : Piece) (s : Reading) → joined r p ≡ Some s → is_deep (whole r) ≡ false → piece_long p ≡ false → level_of r p ≤ 32 → is_deep (whole s) ≡ false
+stays_shallow : (r : Reading) (p : Piece) (s : Reading) → after_piece r p ≡ Some s → is_deep (whole r) ≡ false → piece_long p ≡ false → level_of r p ≤ 32 → is_deep (whole s) ≡ false
 stays_shallow r p s e f g l =
     let both = or_false_both (nat_lt 32 (levels (whole r).1)) (is_long (whole r)) f in
     or_both (nat_lt 32 (levels (whole s).1)) (is_long (whole s)) (few_levels r p s e both.0 l) (joined_long r p s e ∙ or_both (is_long (whole r)) (piece_long p) both.1 g)
 
-stays_small : (r : Reading) (p : Piece) (s : Reading) → joined r p ≡ Some s → is_large (whole r) ≡ false → piece_large p ≡ false → is_large (whole s) ≡ false
+stays_small : (r : Reading) (p : Piece) (s : Reading) → after_piece r p ≡ Some s → is_large (whole r) ≡ false → piece_large p ≡ false → is_large (whole s) ≡ false
 stays_small r p s e f g = joined_large r p s e ∙ or_both (is_large (whole r)) (piece_large p) f g
 
-stays_large : (r : Reading) (p : Piece) (s : Reading) → joined r p ≡ Some s → is_large (whole r) ≡ true → is_large (whole s) ≡ true
+stays_large : (r : Reading) (p : Piece) (s : Reading) → after_piece r p ≡ Some s → is_large (whole r) ≡ true → is_large (whole s) ≡ true
 stays_large r p s e f = joined_large r p s e ∙ or_true_left (is_large (whole r)) (piece_large p) f
 
-becomes_large : (r : Reading) (p : Piece) (s : Reading) → joined r p ≡ Some s → piece_large p ≡ true → is_large (whole s) ≡ true
+becomes_large : (r : Reading) (p : Piece) (s : Reading) → after_piece r p ≡ Some s → piece_large p ≡ true → is_large (whole s) ≡ true
 becomes_large r p s e f = joined_large r p s e ∙ or_true_right (is_large (whole r)) (piece_large p) f
 
-pub too_deep : (r : Reading) (p : Piece) (s : Reading) → joined r p ≡ Some s → 32 < level_of r p → is_deep (whole s) ≡ true
+pub too_deep : (r : Reading) (p : Piece) (s : Reading) → after_piece r p ≡ Some s → 32 < level_of r p → is_deep (whole s) ≡ true
 too_deep r p s e l =
     or_true_left (nat_lt 32 (levels (whole s).1)) (is_long (whole s)) (lt-ltb 32 (levels (whole s).1) (omega (arith, joined_levels r p s e, l)))
 
-pub becomes_deep : (r : Reading) (p : Piece) (s : Reading) → joined r p ≡ Some s → piece_long p ≡ true → is_deep (whole s) ≡ true
+pub becomes_deep : (r : Reading) (p : Piece) (s : Reading) → after_piece r p ≡ Some s → piece_long p ≡ true → is_deep (whole s) ≡ true
 becomes_deep r p s e f =
     or_true_right (nat_lt 32 (levels (whole s).1)) (is_long (whole s)) (joined_long r p s e ∙ or_true_right (is_long (whole r)) (piece_long p) f)
 
-stays_deep : (r : Reading) (p : Piece) (s : Reading) → joined r p ≡ Some s → is_deep (whole r) ≡ true → is_deep (whole s) ≡ true
+stays_deep : (r : Reading) (p : Piece) (s : Reading) → after_piece r p ≡ Some s → is_deep (whole r) ≡ true → is_deep (whole s) ≡ true
 stays_deep r p s e f = go (nat_lt 32 (levels (whole r).1)) refl
   where
     go : (b : Bool) → nat_lt 32 (levels (whole r).1) ≡ b → is_deep (whole s) ≡ true
@@ -83,10 +83,10 @@ stays_deep r p s e f = go (nat_lt 32 (levels (whole r).1)) refl
 
 -- ---- one piece more
 
-next_reading : (r : Reading) (p : Piece) (next : Position) → positioned (joined r p) ≡ Some next → (s : Reading) × (joined r p ≡ Some s) × (next ≡ position_of s)
-next_reading r p next e = go (joined r p) refl e
+next_reading : (r : Reading) (p : Piece) (next : Position) → position_if (after_piece r p) ≡ Some next → (s : Reading) × (after_piece r p ≡ Some s) × (next ≡ position_of s)
+next_reading r p next e = go (after_piece r p) refl e
   where
-    go : (o : Option Reading) → joined r p ≡ o → positioned o ≡ Some next → (s : Reading) × (joined r p ≡ Some s) × (next ≡ position_of s)
+    go : (o : Option Reading) → after_piece r p ≡ o → position_if o ≡ Some next → (s : Reading) × (after_piece r p ≡ Some s) × (next ≡ position_of s)
     go None t f = absurd cc
     go (Some s) t f = (s, t, cc)
 
@@ -103,8 +103,8 @@ sheet_goes old new p next x small short fits r f =
     subst (λ (r : Reading). GoesTo r p next (Whole new)) f.0 (sheet_here old new p next x small short fits
     (f.1 ∙ ap depth (sym f.0)) (ap (λ (r : Reading). is_large (whole r)) f.0 ∙ f.2) (ap (λ (r : Reading). is_deep (whole r)) f.0 ∙ f.3))
 
-pub kept_joins : (old : Sheet) (p : Piece) (next : Position) (o : Option Sheet) → IfSome o (IsNext old p) → IfNone o (joined (reading_of old) p ≡ None) → piece_large p ≡ false → piece_long p ≡ false → Fits old p → Joins (Whole old) p next (kept o)
-kept_joins old p next None some none small short fits = λ r f. subst (λ (r : Reading). joined r p ≡ None) f.0 none
+pub kept_joins : (old : Sheet) (p : Piece) (next : Position) (o : Option Sheet) → IfSome o (IsNext old p) → IfNone o (after_piece (reading_of old) p ≡ None) → piece_large p ≡ false → piece_long p ≡ false → Fits old p → Joins (Whole old) p next (whole_if o)
+kept_joins old p next None some none small short fits = λ r f. subst (λ (r : Reading). after_piece r p ≡ None) f.0 none
 kept_joins old p next (Some new) some none small short fits = sheet_goes old new p next some small short fits
 
 pub large_joins : (old : Progress) (p : Piece) (next : Position) → piece_large p ≡ true → Joins old p next (Some (Past next Large))
@@ -112,7 +112,7 @@ large_joins old p next l r f e =
     let n = next_reading r p next e in
     (n.0, n.1, (n.2, becomes_large r p n.0 n.1 l))
 
-pub deep_joins : (old : Sheet) (p : Piece) (next : Position) → piece_large p ≡ false → ((r s : Reading) → Follows (Whole old) r → joined r p ≡ Some s → is_deep (whole s) ≡ true) → Joins (Whole old) p next (Some (Past next Deep))
+pub deep_joins : (old : Sheet) (p : Piece) (next : Position) → piece_large p ≡ false → ((r s : Reading) → Follows (Whole old) r → after_piece r p ≡ Some s → is_deep (whole s) ≡ true) → Joins (Whole old) p next (Some (Past next Deep))
 deep_joins old p next l d r f e =
     let n = next_reading r p next e in
     (n.0, n.1, (n.2, stays_small r p n.0 n.1 f.2 l, d r n.0 f n.1))
@@ -135,27 +135,27 @@ past_joins at limit p next = go (piece_large p) refl limit
     go false t Deep = past_deep at p next t
     go false t Large = past_large at p next
 
-pub alone_joins : (old : Sheet) (p q : Piece) (next : Position) (o : Option Sheet) → p ≡ q → IfSome o (IsNext old q) → IfNone o (joined (reading_of old) q ≡ None) → piece_large q ≡ false → piece_long q ≡ false → level_of (reading_of old) q ≡ 0 → Joins (Whole old) p next (kept o)
+pub alone_joins : (old : Sheet) (p q : Piece) (next : Position) (o : Option Sheet) → p ≡ q → IfSome o (IsNext old q) → IfNone o (after_piece (reading_of old) q ≡ None) → piece_large q ≡ false → piece_long q ≡ false → level_of (reading_of old) q ≡ 0 → Joins (Whole old) p next (whole_if o)
 alone_joins old p q next o e some none small short level =
-    subst (λ (z : Piece). Joins (Whole old) z next (kept o)) (sym e) (kept_joins old q next o some none small short (λ d g. omega (arith, level)))
+    subst (λ (z : Piece). Joins (Whole old) z next (whole_if o)) (sym e) (kept_joins old q next o some none small short (λ d g. omega (arith, level)))
 
 pub blank_joins : (old : Sheet) (next : Position) → Joins (Whole old) Blank next (Some (Whole old))
 blank_joins old next r f e = (r, refl, f)
 
 -- ---- each token
 
-pub address_joins : (old : Sheet) (built : Addr) (a : address.Tree) (next : Position) (o : Option Sheet) → IfSome o (IsNext old (At (address.tree built))) → IfNone o (joined (reading_of old) (At (address.tree built)) ≡ None) → IsLimited (limited.Whole built) a → Joins (Whole old) (At a) next (kept o)
+pub address_joins : (old : Sheet) (built : Addr) (a : address.Tree) (next : Position) (o : Option Sheet) → IfSome o (IsNext old (At (address.tree built))) → IfNone o (after_piece (reading_of old) (At (address.tree built)) ≡ None) → IsLimited (limited.Whole built) a → Joins (Whole old) (At a) next (whole_if o)
 address_joins old built a next o some none x =
-    kept_joins old (At a) next o (subst (λ (t : address.Tree). IfSome o (IsNext old (At t))) x.0 some) (subst (λ (t : address.Tree). IfNone o (joined (reading_of old) (At t) ≡ None)) x.0 none)
+    kept_joins old (At a) next o (subst (λ (t : address.Tree). IfSome o (IsNext old (At t))) x.0 some) (subst (λ (t : address.Tree). IfNone o (after_piece (reading_of old) (At t) ≡ None)) x.0 none)
     x.1.nodes (le-ltb 1024 (address.operators a) x.1.depth) (λ d g. omega arith)
 
 pub long_address : (old : Sheet) (a : address.Tree) (next : Position) → IsLimited limited.Deep a → Joins (Whole old) (At a) next (Some (Past next Deep))
 long_address old a next x =
     deep_joins old (At a) next x.0 (λ r s f e. becomes_deep r (At a) s e (lt-ltb 1024 (address.operators a) x.1))
 
-pub loop_joins : (old : Sheet) (k : Loop) (built : Re) (t : expression.Tree) (next : Position) (o : Option Sheet) → old.depth < 32 → IfSome o (IsNext old (Loops k (expression.tree built))) → IfNone o (joined (reading_of old) (Loops k (expression.tree built)) ≡ None) → IsBuiltExpression (Some built) t → Joins (Whole old) (Loops k t) next (kept o)
+pub loop_joins : (old : Sheet) (k : Loop) (built : Re) (t : expression.Tree) (next : Position) (o : Option Sheet) → old.depth < 32 → IfSome o (IsNext old (Loops k (expression.tree built))) → IfNone o (after_piece (reading_of old) (Loops k (expression.tree built)) ≡ None) → IsBuiltExpression (Some built) t → Joins (Whole old) (Loops k t) next (whole_if o)
 loop_joins old k built t next o l some none x =
-    kept_joins old (Loops k t) next o (subst (λ (t : expression.Tree). IfSome o (IsNext old (Loops k t))) x.0 some) (subst (λ (t : expression.Tree). IfNone o (joined (reading_of old) (Loops k t) ≡ None)) x.0 none)
+    kept_joins old (Loops k t) next o (subst (λ (t : expression.Tree). IfSome o (IsNext old (Loops k t))) x.0 some) (subst (λ (t : expression.Tree). IfNone o (after_piece (reading_of old) (Loops k t) ≡ None)) x.0 none)
     (le-ltb 2048 (expression.nodes t) x.1) refl (λ d g. omega (arith, d, l))
 
 pub deep_loop : (old : Sheet) (k : Loop) (built : Re) (t : expression.Tree) (next : Position) → 32 ≤ old.depth → IsBuiltExpression (Some built) t → Joins (Whole old) (Loops k t) next (Some (Past next Deep))
@@ -165,15 +165,15 @@ deep_loop old k built t next l x =
 pub large_loop : (old : Sheet) (k : Loop) (t : expression.Tree) (next : Position) → 2048 < expression.nodes t → Joins (Whole old) (Loops k t) next (Some (Past next Large))
 large_loop old k t next l = large_joins (Whole old) (Loops k t) next (lt-ltb 2048 (expression.nodes t) l)
 
-pub block_joins : (old : Sheet) (next : Position) (o : Option Sheet) → old.depth < 32 → IfSome o (IsNext old Opens) → IfNone o (joined (reading_of old) Opens ≡ None) → Joins (Whole old) Opens next (kept o)
+pub block_joins : (old : Sheet) (next : Position) (o : Option Sheet) → old.depth < 32 → IfSome o (IsNext old Opens) → IfNone o (after_piece (reading_of old) Opens ≡ None) → Joins (Whole old) Opens next (whole_if o)
 block_joins old next o l some none = kept_joins old Opens next o some none refl refl (λ d g. omega (arith, d, l))
 
 pub deep_block : (old : Sheet) (next : Position) → 32 ≤ old.depth → Joins (Whole old) Opens next (Some (Past next Deep))
 deep_block old next l = deep_joins old Opens next refl (λ r s f e. too_deep r Opens s e (omega (arith, f.1, l)))
 
-pub action_joins : (old : Sheet) (built : Act) (act : Action) (next : Position) (o : Option Sheet) → IfSome o (IsNext old (Does (action built))) → IfNone o (joined (reading_of old) (Does (action built)) ≡ None) → IsBuiltAction (limited.Whole built) act → levels act ≡ 0 → Joins (Whole old) (Does act) next (kept o)
+pub action_joins : (old : Sheet) (built : Act) (act : Action) (next : Position) (o : Option Sheet) → IfSome o (IsNext old (Does (action built))) → IfNone o (after_piece (reading_of old) (Does (action built)) ≡ None) → IsBuiltAction (limited.Whole built) act → levels act ≡ 0 → Joins (Whole old) (Does act) next (whole_if o)
 action_joins old built act next o some none x l =
-    kept_joins old (Does act) next o (subst (λ (t : Action). IfSome o (IsNext old (Does t))) x.0 some) (subst (λ (t : Action). IfNone o (joined (reading_of old) (Does t) ≡ None)) x.0 none)
+    kept_joins old (Does act) next o (subst (λ (t : Action). IfSome o (IsNext old (Does t))) x.0 some) (subst (λ (t : Action). IfNone o (after_piece (reading_of old) (Does t) ≡ None)) x.0 none)
     x.1 x.2 (λ d g. omega (arith, l, depth_levels (reading_of old), ltb-false 32 (levels (whole (reading_of old)).1) (or_false_both (nat_lt 32 (levels (whole (reading_of old)).1)) (is_long (whole (reading_of old))) g).0))
 
 pub long_action : (old : Sheet) (act : Action) (next : Position) → IsBuiltAction limited.Deep act → Joins (Whole old) (Does act) next (Some (Past next Deep))
@@ -195,7 +195,7 @@ end_is_done r = go r.blocks r.line
 pub done_whole : (r : Reading) → is_done r ≡ true → command_of r.line ≡ whole r
 done_whole r e = go r.blocks r.line e
   where
-    go : (bs : List OpenBlock) (line : Line) → is_done (record { blocks = bs; line = line }) ≡ true → command_of line ≡ closed bs line
+    go : (bs : List OpenBlock) (line : Line) → is_done (record { blocks = bs; line = line }) ≡ true → command_of line ≡ close_all bs line
     go [] line f = refl
     go (b ∷ bs) line f = absurd cc
 

@@ -13,10 +13,10 @@ use Rattle.edit_parts.specs.Pieces.{Piece, IsPiece}
 use Rattle.edit_parts.specs.Answer.{IsPieceAt, IsBadPiece, PieceFails}
 use Rattle.edit_parts.specs.declared.command.Cmd.{Cmd}
 use Rattle.edit_parts.specs.declared.kind.Kind.{Kind}
-use Rattle.sam_syntax.specs.Joined.{Reading, begin, is_done, whole, joined, joined_on}
+use Rattle.sam_syntax.specs.Joined.{Reading, begin, is_done, whole, after_piece, after_pieces}
 use Rattle.sam_syntax.specs.Grammar.{BeginsWith, IsEdit, GoesOn}
 use Rattle.sam_syntax.specs.Answer.{IsBad, Refuses, Reaches}
-use Rattle.sam_syntax.specs.Position.{position_of, positioned, passed}
+use Rattle.sam_syntax.specs.Position.{position_of, position_if, after_kind}
 use Rattle.sam_syntax.specs.Read.{FinishFails, piece_levels}
 use Rattle.sam_syntax.specs.declared.position.Position.{Position}
 use Rattle.sam_syntax.proofs.Positions.{position_passes}
@@ -68,19 +68,19 @@ goes_on text at r x =
     let same : l.0 ≡ slice_range text 0 at = append_cancel_right l.0 (take at text) (drop at text) (sym l.2 ∙ sym (take-append-drop at text)) ∙ sym (front_slice text at) in
     let c : Closed r.blocks r = blocks_close r (reached text at r x).0 in
     let row : BeginsWith (x.pieces ++ c.0) (l.0 ++ (l.1 ++ closings r.blocks)) [] = begins_append x.pieces c.0 (l.0 ++ (l.1 ++ closings r.blocks)) (closings r.blocks) [] (l.3 (closings r.blocks) (closings_end r.blocks)) c.2 in
-    let joins : joined_on (Some begin) (x.pieces ++ c.0) ≡ Some c.1 = joined_append (Some begin) x.pieces c.0 ∙ ap (λ (o : Option Reading). joined_on o c.0) x.joins ∙ c.3 in
+    let joins : after_pieces (Some begin) (x.pieces ++ c.0) ≡ Some c.1 = joined_append (Some begin) x.pieces c.0 ∙ ap (λ (o : Option Reading). after_pieces o c.0) x.joins ∙ c.3 in
     (l.1 ++ closings r.blocks, whole c.1, subst (λ (w : List ℕ). IsEdit (w ++ (l.1 ++ closings r.blocks)) (whole c.1)) same (x.pieces ++ c.0, c.1, row, joins, c.4, refl))
 
 -- a command that begins with what is read goes on with pieces behind it
-next_pieces : (text : List ℕ) (at : ℕ) (r : Reading) → Reaches text at r → (z : List ℕ) (a : Command) → next_of z ≡ next_of (drop at text) → IsEdit (take at text ++ z) a → (qs : List Piece) × (s : Reading) × BeginsWith qs z [] × (joined_on (Some r) qs ≡ Some s) × (is_done s ≡ true)
+next_pieces : (text : List ℕ) (at : ℕ) (r : Reading) → Reaches text at r → (z : List ℕ) (a : Command) → next_of z ≡ next_of (drop at text) → IsEdit (take at text ++ z) a → (qs : List Piece) × (s : Reading) × BeginsWith qs z [] × (after_pieces (Some r) qs ≡ Some s) × (is_done s ≡ true)
 next_pieces text at r x z a h y =
     let on = rows_same x.pieces y.0 (take at text ++ z) z (front text at r x z h) y.2 in
-    let joins : joined_on (Some r) on.0 ≡ Some y.1 =
-    ap (λ (o : Option Reading). joined_on o on.0) (sym x.joins) ∙ sym (joined_append (Some begin) x.pieces on.0) ∙ ap (λ (l : List Piece). joined_on (Some begin) l) (sym on.1) ∙ y.3 in
+    let joins : after_pieces (Some r) on.0 ≡ Some y.1 =
+    ap (λ (o : Option Reading). after_pieces o on.0) (sym x.joins) ∙ sym (joined_append (Some begin) x.pieces on.0) ∙ ap (λ (l : List Piece). after_pieces (Some begin) l) (sym on.1) ∙ y.3 in
     (on.0, y.1, on.2, joins, y.4)
 
 -- what a piece with this first rune leads to
-pub leads : (r : Reading) (p : Piece) (c : ℕ) (cs : List ℕ) (next : Option ℕ) → IsPiece p (c ∷ cs) next → (rest : List ℕ) → next_of rest ≡ next → positioned (joined r p) ≡ passed (position_of r) (kind_of c)
+pub leads : (r : Reading) (p : Piece) (c : ℕ) (cs : List ℕ) (next : Option ℕ) → IsPiece p (c ∷ cs) next → (rest : List ℕ) → next_of rest ≡ next → position_if (after_piece r p) ≡ after_kind (position_of r) (kind_of c)
 leads r p c cs next x rest e = position_passes r (kind_of c) p c (cs ++ rest) rest (x rest e)
 
 first_of_slice : (text : List ℕ) (at place : ℕ) (more : List ℕ) → at ≤ place → place ≤ length text → next_of more ≡ next_of (drop place text) → next_of (slice_range text at place ++ more) ≡ next_of (drop at text)
@@ -106,7 +106,7 @@ dead_here text at place r x l bad more next a y = go on.0 on.2
     moved : IsEdit (take at text ++ (slice_range text at place ++ more)) a
     moved = subst (λ (t : List ℕ). IsEdit t a) (cut_at text at place more bad.order bad.within) y
 
-    on : (qs : List Piece) × (s : Reading) × BeginsWith qs (slice_range text at place ++ more) [] × (joined_on (Some r) qs ≡ Some s) × (is_done s ≡ true)
+    on : (qs : List Piece) × (s : Reading) × BeginsWith qs (slice_range text at place ++ more) [] × (after_pieces (Some r) qs ≡ Some s) × (is_done s ≡ true)
     on = next_pieces text at r x (slice_range text at place ++ more) a first moved
 
     go : (qs : List Piece) → BeginsWith qs (slice_range text at place ++ more) [] → ⊥
@@ -114,19 +114,19 @@ dead_here text at place r x l bad more next a y = go on.0 on.2
     go (q ∷ qs) e = bad.dead more next q e.0 e.1 e.2 e.3
 
 -- a piece goes on up to the place, and what is read goes on with it
-before_on : (text : List ℕ) (at place : ℕ) (r : Reading) (next : Position) → Reaches text at r → at < length text → passed (position_of r) (kind_of (get_or text at 0)) ≡ Some next → IsBadPiece text at place → at < place → GoesOn (slice_range text 0 place)
+before_on : (text : List ℕ) (at place : ℕ) (r : Reading) (next : Position) → Reaches text at r → at < length text → after_kind (position_of r) (kind_of (get_or text at 0)) ≡ Some next → IsBadPiece text at place → at < place → GoesOn (slice_range text 0 place)
 before_on text at place r next x l pass bad some =
     let b = bad.before some in
     let u = slice_range text (at + 1) place ++ b.0 in
     let cut : slice_range text at place ++ b.0 ≡ get_or text at 0 ∷ u = ap (λ (s : List ℕ). s ++ b.0) (slice_front text at place some bad.within) in
     let piece : (n : Option ℕ) → ends_line n ≡ true → IsPiece b.1 (get_or text at 0 ∷ u) n = λ n h. subst (λ (s : List ℕ). IsPiece b.1 s n) cut (b.2 n h) in
-    let to : positioned (joined r b.1) ≡ Some next = leads r b.1 (get_or text at 0) u None (piece None refl) [] refl ∙ pass in
-    finish b.0 b.1 u cut piece (joined r b.1) refl to
+    let to : position_if (after_piece r b.1) ≡ Some next = leads r b.1 (get_or text at 0) u None (piece None refl) [] refl ∙ pass in
+    finish b.0 b.1 u cut piece (after_piece r b.1) refl to
   where
-    finish : (more : List ℕ) (p : Piece) (u : List ℕ) → slice_range text at place ++ more ≡ get_or text at 0 ∷ u → ((n : Option ℕ) → ends_line n ≡ true → IsPiece p (get_or text at 0 ∷ u) n) → (o : Option Reading) → joined r p ≡ o → positioned o ≡ Some next → GoesOn (slice_range text 0 place)
+    finish : (more : List ℕ) (p : Piece) (u : List ℕ) → slice_range text at place ++ more ≡ get_or text at 0 ∷ u → ((n : Option ℕ) → ends_line n ≡ true → IsPiece p (get_or text at 0 ∷ u) n) → (o : Option Reading) → after_piece r p ≡ o → position_if o ≡ Some next → GoesOn (slice_range text 0 place)
     finish more p u cut piece None t to = absurd cc
     finish more p u cut piece (Some s) t to =
-        let joins : joined_on (Some begin) (x.pieces ++ p ∷ []) ≡ Some s = joined_snoc (Some begin) x.pieces p r x.joins ∙ t in
+        let joins : after_pieces (Some begin) (x.pieces ++ p ∷ []) ≡ Some s = joined_snoc (Some begin) x.pieces p r x.joins ∙ t in
         let sane : is_sane s ≡ true = (pieces_sane (x.pieces ++ p ∷ []) begin s refl joins).0 in
         let c : Closed s.blocks s = blocks_close s sane in
         let tail = closings s.blocks in
@@ -136,19 +136,19 @@ before_on text at place r next x l pass bad some =
         (front text at r x (get_or text at 0 ∷ u ++ closings s.blocks) (sym (next_at text at l))) refl (piece (next_of (closings s.blocks)) (closings_end s.blocks)) in
         let all : BeginsWith ((x.pieces ++ p ∷ []) ++ c.0) (take at text ++ (get_or text at 0 ∷ u ++ closings s.blocks)) [] =
         begins_append (x.pieces ++ p ∷ []) c.0 (take at text ++ (get_or text at 0 ∷ u ++ closings s.blocks)) (closings s.blocks) [] row c.2 in
-        let ends : joined_on (Some begin) ((x.pieces ++ p ∷ []) ++ c.0) ≡ Some c.1 = joined_append (Some begin) (x.pieces ++ p ∷ []) c.0 ∙ ap (λ (o : Option Reading). joined_on o c.0) joins ∙ c.3 in
+        let ends : after_pieces (Some begin) ((x.pieces ++ p ∷ []) ++ c.0) ≡ Some c.1 = joined_append (Some begin) (x.pieces ++ p ∷ []) c.0 ∙ ap (λ (o : Option Reading). after_pieces o c.0) joins ∙ c.3 in
         let there : take at text ++ (get_or text at 0 ∷ u ++ closings s.blocks) ≡ slice_range text 0 place ++ (more ++ closings s.blocks) =
         ap (λ (w : List ℕ). take at text ++ (w ++ closings s.blocks)) (sym cut) ∙ ap (λ (w : List ℕ). take at text ++ w) (append_assoc (slice_range text at place) more (closings s.blocks)) ∙ sym (cut_at text at place (more ++ closings s.blocks) bad.order bad.within) in
         (more ++ closings s.blocks, whole c.1, subst (λ (t : List ℕ). IsEdit t (whole c.1)) there ((x.pieces ++ p ∷ []) ++ c.0, c.1, all, ends, c.4, refl))
 
-bad_before : (text : List ℕ) (at place : ℕ) (r : Reading) (next : Position) → Reaches text at r → at < length text → passed (position_of r) (kind_of (get_or text at 0)) ≡ Some next → IsBadPiece text at place → (s : List ℕ) → slice_range text at place ≡ s → GoesOn (slice_range text 0 place)
+bad_before : (text : List ℕ) (at place : ℕ) (r : Reading) (next : Position) → Reaches text at r → at < length text → after_kind (position_of r) (kind_of (get_or text at 0)) ≡ Some next → IsBadPiece text at place → (s : List ℕ) → slice_range text at place ≡ s → GoesOn (slice_range text 0 place)
 bad_before text at place r next x l pass bad [] e =
     let here : at ≡ place = omega (arith, bad.order, ap length e, slice_length text at place bad.order bad.within) in
     subst (λ k. GoesOn (slice_range text 0 k)) here (goes_on text at r x)
 bad_before text at place r next x l pass bad (y ∷ ys) e =
     before_on text at place r next x l pass bad (omega (arith, ap length e, slice_length text at place bad.order bad.within))
 
-bad_here : (text : List ℕ) (at place : ℕ) (r : Reading) (next : Position) → Reaches text at r → at < length text → passed (position_of r) (kind_of (get_or text at 0)) ≡ Some next → IsBadPiece text at place → IsBad text place
+bad_here : (text : List ℕ) (at place : ℕ) (r : Reading) (next : Position) → Reaches text at r → at < length text → after_kind (position_of r) (kind_of (get_or text at 0)) ≡ Some next → IsBadPiece text at place → IsBad text place
 bad_here text at place r next x l pass bad = record {
   within = bad.within;
   before = bad_before text at place r next x l pass bad (slice_range text at place) refl;
@@ -158,22 +158,22 @@ bad_here text at place r next x l pass bad = record {
 
 -- ---- a piece that can't stand here
 
-unjoined_on : (text : List ℕ) (at : ℕ) (r : Reading) → passed (position_of r) (kind_of (get_or text at 0)) ≡ None → (rest : List ℕ) (qs : List Piece) (s : Reading) → BeginsWith qs (get_or text at 0 ∷ rest) [] → joined_on (Some r) qs ≡ Some s → ⊥
+unjoined_on : (text : List ℕ) (at : ℕ) (r : Reading) → after_kind (position_of r) (kind_of (get_or text at 0)) ≡ None → (rest : List ℕ) (qs : List Piece) (s : Reading) → BeginsWith qs (get_or text at 0 ∷ rest) [] → after_pieces (Some r) qs ≡ Some s → ⊥
 unjoined_on text at r pass rest [] s y e = absurd cc
 unjoined_on text at r pass rest (q ∷ qs) s ([], behind, f, z, on) e = absurd z
 unjoined_on text at r pass rest (q ∷ qs) s (c ∷ cs, behind, f, z, on) e =
     let same : get_or text at 0 ≡ c = cc in
-    let none : positioned (joined r q) ≡ None = leads r q c cs (next_of behind) z behind refl ∙ ap (λ n. passed (position_of r) (kind_of n)) (sym same) ∙ pass in
-    go (joined r q) refl none
+    let none : position_if (after_piece r q) ≡ None = leads r q c cs (next_of behind) z behind refl ∙ ap (λ n. after_kind (position_of r) (kind_of n)) (sym same) ∙ pass in
+    go (after_piece r q) refl none
   where
-    go : (o : Option Reading) → joined r q ≡ o → positioned o ≡ None → ⊥
+    go : (o : Option Reading) → after_piece r q ≡ o → position_if o ≡ None → ⊥
     go None t n =
-        let g : joined_on None qs ≡ Some s = sym (ap (λ (o : Option Reading). joined_on o qs) t) ∙ e in
-        let never : joined_on None qs ≡ None = joined_none qs in
+        let g : after_pieces None qs ≡ Some s = sym (ap (λ (o : Option Reading). after_pieces o qs) t) ∙ e in
+        let never : after_pieces None qs ≡ None = joined_none qs in
         absurd cc
     go (Some x) t n = absurd cc
 
-pub unjoined_here : (text : List ℕ) (at : ℕ) (r : Reading) → Reaches text at r → at < length text → passed (position_of r) (kind_of (get_or text at 0)) ≡ None → IsBad text at
+pub unjoined_here : (text : List ℕ) (at : ℕ) (r : Reading) → Reaches text at r → at < length text → after_kind (position_of r) (kind_of (get_or text at 0)) ≡ None → IsBad text at
 unjoined_here text at r x l pass = record {
   within = omega (arith, l);
   before = goes_on text at r x;
@@ -187,21 +187,21 @@ unjoined_here text at r x l pass = record {
 
 -- ---- one token more
 
-pub token_refuses : (text : List ℕ) (at : ℕ) (r : Reading) (next : Position) → Reaches text at r → at < length text → passed (position_of r) (kind_of (get_or text at 0)) ≡ Some next → (e : SynFault) → PieceFails text at e → Refuses text e
+pub token_refuses : (text : List ℕ) (at : ℕ) (r : Reading) (next : Position) → Reaches text at r → at < length text → after_kind (position_of r) (kind_of (get_or text at 0)) ≡ Some next → (e : SynFault) → PieceFails text at e → Refuses text e
 token_refuses text at r next x l pass (Bad place) y = bad_here text at place r next x l pass y
 token_refuses text at r next x l pass Nodes y = absurd y
 token_refuses text at r next x l pass Deep y = absurd y
 token_refuses text at r next x l pass NoMemory y = tt
 
 -- the piece at a place has no levels, and leads where its first rune says
-pub piece_leads : (text : List ℕ) (at end : ℕ) (r : Reading) (p : Piece) → IsPieceAt text at p end → (piece_levels p ≡ 0) × (positioned (joined r p) ≡ passed (position_of r) (kind_of (get_or text at 0)))
+pub piece_leads : (text : List ℕ) (at end : ℕ) (r : Reading) (p : Piece) → IsPieceAt text at p end → (piece_levels p ≡ 0) × (position_if (after_piece r p) ≡ after_kind (position_of r) (kind_of (get_or text at 0)))
 piece_leads text at end r p x =
     let w : IsPiece p (get_or text at 0 ∷ slice_range text (at + 1) end) (next_of (drop end text)) = subst (λ (l : List ℕ). IsPiece p l (next_of (drop end text))) (slice_front text at end x.order x.within) x.written in (
       goes_flat (kind_of (get_or text at 0)) p (get_or text at 0) (slice_range text (at + 1) end ++ drop end text) (drop end text) (w (drop end text) refl),
       leads r p (get_or text at 0) (slice_range text (at + 1) end) (next_of (drop end text)) w (drop end text) refl,
     )
 
-pub step_reaches : (text : List ℕ) (at end : ℕ) (r s : Reading) (p : Piece) → Reaches text at r → IsPieceAt text at p end → joined r p ≡ Some s → Reaches text end s
+pub step_reaches : (text : List ℕ) (at end : ℕ) (r s : Reading) (p : Piece) → Reaches text at r → IsPieceAt text at p end → after_piece r p ≡ Some s → Reaches text end s
 step_reaches text at end r s p x y e = record {
   pieces = x.pieces ++ p ∷ [];
   within = y.within;
@@ -228,9 +228,9 @@ unended_here text r x opens = record {
       ends on.0 on.1 (nothing_left on.0 on.2) on.3 on.4;
 }
   where
-    ends : (qs : List Piece) (s : Reading) → qs ≡ [] → joined_on (Some r) qs ≡ Some s → is_done s ≡ true → ⊥
+    ends : (qs : List Piece) (s : Reading) → qs ≡ [] → after_pieces (Some r) qs ≡ Some s → is_done s ≡ true → ⊥
     ends qs s e f done =
-        let g : Some r ≡ Some s = sym (ap (λ (l : List Piece). joined_on (Some r) l) e) ∙ f in
+        let g : Some r ≡ Some s = sym (ap (λ (l : List Piece). after_pieces (Some r) l) e) ∙ f in
         let same : r ≡ s = cc in
         let never : false ≡ true = sym opens ∙ ap is_done same ∙ done in
         absurd cc
@@ -251,12 +251,12 @@ one_edit text a b x y =
     let on = rows_same x.0 y.0 text [] x.2 y.2 in
     let none : on.0 ≡ [] = nothing_left on.0 on.2 in
     let same : y.0 ≡ x.0 = on.1 ∙ ap (λ (l : List Piece). x.0 ++ l) none ∙ append-nil x.0 in
-    let joins : Some x.1 ≡ Some y.1 = sym x.3 ∙ ap (λ (l : List Piece). joined_on (Some begin) l) (sym same) ∙ y.3 in
+    let joins : Some x.1 ≡ Some y.1 = sym x.3 ∙ ap (λ (l : List Piece). after_pieces (Some begin) l) (sym same) ∙ y.3 in
     let reading : x.1 ≡ y.1 = cc in
     x.5 ∙ ap whole reading ∙ sym y.5
 
 -- where the program's position leads
-pub passes_on : (text : List ℕ) (at : ℕ) (r : Reading) (here : Position) (k : Kind) (o : Option Position) → Reaches text at r → at < length text → length text < 2 ^ 64 → here ≡ position_of r → k ≡ kind_of (get_or text at 0) → (here.blocks + 1 < 2 ^ 64 → o ≡ passed here k) → passed (position_of r) (kind_of (get_or text at 0)) ≡ o
+pub passes_on : (text : List ℕ) (at : ℕ) (r : Reading) (here : Position) (k : Kind) (o : Option Position) → Reaches text at r → at < length text → length text < 2 ^ 64 → here ≡ position_of r → k ≡ kind_of (get_or text at 0) → (here.blocks + 1 < 2 ^ 64 → o ≡ after_kind here k) → after_kind (position_of r) (kind_of (get_or text at 0)) ≡ o
 passes_on text at r here k o x l bound e f g =
     let few : here.blocks + 1 < 2 ^ 64 = omega (arith, few_blocks text at r x, ap (λ (p : Position). p.blocks) e) in
-    sym (g few ∙ ap (λ (p : Position). passed p k) e ∙ ap (λ (z : Kind). passed (position_of r) z) f)
+    sym (g few ∙ ap (λ (p : Position). after_kind p k) e ∙ ap (λ (z : Kind). after_kind (position_of r) z) f)

@@ -15,7 +15,7 @@ use Rattle.edit_parts.specs.declared.kind.Letter.{Letter}
 use Rattle.edit_parts.specs.declared.kind.Letter.TheVariants as letter
 use Rattle.edit_parts.specs.declared.kind.Kind.{Kind}
 use Rattle.edit_parts.specs.declared.kind.Kind.TheVariants as kind
-use Rattle.sam_syntax.specs.Joined.{Head, OpenBlock, Line, Opened, Looping, Addressed, Ended, Reading, begin, is_done, in_loops, commands_of, block_of, whole, joined, joined_on}
+use Rattle.sam_syntax.specs.Joined.{Head, OpenBlock, Line, Opened, Looping, Addressed, Ended, Reading, begin, is_done, in_loops, commands_of, block_of, whole, after_piece, after_pieces}
 use Rattle.sam_syntax.specs.Grammar.{BeginsWith}
 use Rattle.sam_syntax.specs.Written.{without_blanks, AtAddress, Acts, Lines, Begins, Writes}
 use Rattle.sam_syntax.specs.Laws.{JoinsAsWritten, EditsAreWritten}
@@ -213,7 +213,7 @@ block_begins b row rest x =
 line_ends : (b : OpenBlock) (bs : List OpenBlock) (c : Command) (row start rest : List Piece) → InBlocks (b ∷ bs) row start → Begins c start (EndsLine ∷ rest) → InBlocks (record b { commands = b.commands ++ c ∷ [] } ∷ bs) row rest
 line_ends b bs c row start rest (outer, x, (mid, inside, y, z, w)) v = (outer, x, (mid, inside, y, z, ends_snoc b.commands c inside start rest w v))
 
-with_newline : (bs : List OpenBlock) (line : Line) (row rest : List Piece) → Reached bs line row (EndsLine ∷ rest) → Leads (joined (here bs line) EndsLine) row rest
+with_newline : (bs : List OpenBlock) (line : Line) (row rest : List Piece) → Reached bs line row (EndsLine ∷ rest) → Leads (after_piece (here bs line) EndsLine) row rest
 with_newline [] line row rest x = tt
 with_newline (b ∷ bs) Opened row rest (outer, mid, x, y, z, e) = (rest, (outer, x, (mid, rest, y, z, subst (λ (cs : List Command). Ends cs rest rest) (sym e) refl)), refl)
 with_newline (b ∷ bs) (Looping []) row rest (start, x, y) =
@@ -224,25 +224,25 @@ with_newline (b ∷ bs) (Addressed hs a) row rest (start, x, y) =
     (rest, line_ends b bs (in_loops hs (a, Nothing)) row start rest x (address_begins hs a start (EndsLine ∷ rest) y), refl)
 with_newline (b ∷ bs) (Ended c) row rest (start, x, y) = (rest, line_ends b bs c row start rest x y, refl)
 
-with_address : (bs : List OpenBlock) (line : Line) (a : address.Tree) (row rest : List Piece) → Reached bs line row (At a ∷ rest) → Leads (joined (here bs line) (At a)) row rest
+with_address : (bs : List OpenBlock) (line : Line) (a : address.Tree) (row rest : List Piece) → Reached bs line row (At a ∷ rest) → Leads (after_piece (here bs line) (At a)) row rest
 with_address bs Opened a row rest x = tt
 with_address bs (Looping hs) a row rest x = x
 with_address bs (Addressed hs b) a row rest x = tt
 with_address bs (Ended c) a row rest x = tt
 
-with_loop : (bs : List OpenBlock) (line : Line) (kind : tree.Loop) (re : expression.Tree) (row rest : List Piece) → Reached bs line row (Loops kind re ∷ rest) → Leads (joined (here bs line) (Loops kind re)) row rest
+with_loop : (bs : List OpenBlock) (line : Line) (kind : tree.Loop) (re : expression.Tree) (row rest : List Piece) → Reached bs line row (Loops kind re ∷ rest) → Leads (after_piece (here bs line) (Loops kind re)) row rest
 with_loop bs Opened kind re row rest x = tt
 with_loop bs (Looping hs) kind re row rest (start, x, y) = (start, x, (Loops kind re ∷ rest, y, inl (refl, refl)))
 with_loop bs (Addressed hs a) kind re row rest (start, x, y) = (start, x, (At a ∷ Loops kind re ∷ rest, y, inr refl))
 with_loop bs (Ended c) kind re row rest x = tt
 
-with_brace : (bs : List OpenBlock) (line : Line) (row rest : List Piece) → Reached bs line row (Opens ∷ rest) → Leads (joined (here bs line) Opens) row rest
+with_brace : (bs : List OpenBlock) (line : Line) (row rest : List Piece) → Reached bs line row (Opens ∷ rest) → Leads (after_piece (here bs line) Opens) row rest
 with_brace bs Opened row rest x = tt
 with_brace bs (Looping hs) row rest (start, x, y) = (start, Opens ∷ rest, x, y, inl (refl, refl), refl)
 with_brace bs (Addressed hs a) row rest (start, x, y) = (start, At a ∷ Opens ∷ rest, x, y, inr refl, refl)
 with_brace bs (Ended c) row rest x = tt
 
-with_end : (bs : List OpenBlock) (line : Line) (row rest : List Piece) → Reached bs line row (Closes ∷ rest) → Leads (joined (here bs line) Closes) row rest
+with_end : (bs : List OpenBlock) (line : Line) (row rest : List Piece) → Reached bs line row (Closes ∷ rest) → Leads (after_piece (here bs line) Closes) row rest
 with_end [] line row rest x = tt
 with_end (b ∷ bs) Opened row rest x = tt
 with_end (b ∷ bs) (Looping []) row rest (start, (outer, x, y), e) = (outer, x, block_begins b outer rest (subst (λ (r : List Piece). InBlock b outer r) e y))
@@ -250,7 +250,7 @@ with_end (b ∷ bs) (Looping (h ∷ hs)) row rest x = tt
 with_end (b ∷ bs) (Addressed hs a) row rest x = tt
 with_end (b ∷ bs) (Ended c) row rest x = tt
 
-with_letter : (bs : List OpenBlock) (line : Line) (act : Action) (row rest : List Piece) → IsLetter act → Reached bs line row (Does act ∷ rest) → Leads (joined (here bs line) (Does act)) row rest
+with_letter : (bs : List OpenBlock) (line : Line) (act : Action) (row rest : List Piece) → IsLetter act → Reached bs line row (Does act ∷ rest) → Leads (after_piece (here bs line) (Does act)) row rest
 with_letter bs Opened act row rest f x = tt
 with_letter bs (Looping hs) act row rest f (start, x, y) =
     (start, x, in_loops_begins hs (Missing, act) start (Does act ∷ rest) rest y (inl (refl, f rest)) (omega arith))
@@ -260,19 +260,19 @@ with_letter bs (Ended c) act row rest f x = tt
 
 -- ---- rows
 
-on_with : (row : List Piece) (ps : List Piece) (o : Option Reading) (s : Reading) → Leads o row (without_blanks ps) → ((r : Reading) → Reached r.blocks r.line row (without_blanks ps) → joined_on (Some r) ps ≡ Some s → Reached s.blocks s.line row []) → joined_on o ps ≡ Some s → Reached s.blocks s.line row []
-on_with row ps None s x f e = let n : joined_on None ps ≡ None = joined_none ps in absurd cc
+on_with : (row : List Piece) (ps : List Piece) (o : Option Reading) (s : Reading) → Leads o row (without_blanks ps) → ((r : Reading) → Reached r.blocks r.line row (without_blanks ps) → after_pieces (Some r) ps ≡ Some s → Reached s.blocks s.line row []) → after_pieces o ps ≡ Some s → Reached s.blocks s.line row []
+on_with row ps None s x f e = let n : after_pieces None ps ≡ None = joined_none ps in absurd cc
 on_with row ps (Some r) s x f e = f r x e
 
-reads_on : (row ps : List Piece) → ArePlain ps → (r s : Reading) → Reached r.blocks r.line row (without_blanks ps) → joined_on (Some r) ps ≡ Some s → Reached s.blocks s.line row []
+reads_on : (row ps : List Piece) → ArePlain ps → (r s : Reading) → Reached r.blocks r.line row (without_blanks ps) → after_pieces (Some r) ps ≡ Some s → Reached s.blocks s.line row []
 reads_on row [] z r s x e = let same : r ≡ s = cc in subst (λ (q : Reading). Reached q.blocks q.line row []) same x
 reads_on row (Blank ∷ ps) z r s x e = reads_on row ps z.1 r s x e
-reads_on row (EndsLine ∷ ps) z r s x e = on_with row ps (joined r EndsLine) s (with_newline r.blocks r.line row (without_blanks ps) x) (λ q y g. reads_on row ps z.1 q s y g) e
-reads_on row (At a ∷ ps) z r s x e = on_with row ps (joined r (At a)) s (with_address r.blocks r.line a row (without_blanks ps) x) (λ q y g. reads_on row ps z.1 q s y g) e
-reads_on row (Loops kind re ∷ ps) z r s x e = on_with row ps (joined r (Loops kind re)) s (with_loop r.blocks r.line kind re row (without_blanks ps) x) (λ q y g. reads_on row ps z.1 q s y g) e
-reads_on row (Opens ∷ ps) z r s x e = on_with row ps (joined r Opens) s (with_brace r.blocks r.line row (without_blanks ps) x) (λ q y g. reads_on row ps z.1 q s y g) e
-reads_on row (Closes ∷ ps) z r s x e = on_with row ps (joined r Closes) s (with_end r.blocks r.line row (without_blanks ps) x) (λ q y g. reads_on row ps z.1 q s y g) e
-reads_on row (Does act ∷ ps) z r s x e = on_with row ps (joined r (Does act)) s (with_letter r.blocks r.line act row (without_blanks ps) z.0 x) (λ q y g. reads_on row ps z.1 q s y g) e
+reads_on row (EndsLine ∷ ps) z r s x e = on_with row ps (after_piece r EndsLine) s (with_newline r.blocks r.line row (without_blanks ps) x) (λ q y g. reads_on row ps z.1 q s y g) e
+reads_on row (At a ∷ ps) z r s x e = on_with row ps (after_piece r (At a)) s (with_address r.blocks r.line a row (without_blanks ps) x) (λ q y g. reads_on row ps z.1 q s y g) e
+reads_on row (Loops kind re ∷ ps) z r s x e = on_with row ps (after_piece r (Loops kind re)) s (with_loop r.blocks r.line kind re row (without_blanks ps) x) (λ q y g. reads_on row ps z.1 q s y g) e
+reads_on row (Opens ∷ ps) z r s x e = on_with row ps (after_piece r Opens) s (with_brace r.blocks r.line row (without_blanks ps) x) (λ q y g. reads_on row ps z.1 q s y g) e
+reads_on row (Closes ∷ ps) z r s x e = on_with row ps (after_piece r Closes) s (with_end r.blocks r.line row (without_blanks ps) x) (λ q y g. reads_on row ps z.1 q s y g) e
+reads_on row (Does act ∷ ps) z r s x e = on_with row ps (after_piece r (Does act)) s (with_letter r.blocks r.line act row (without_blanks ps) z.0 x) (λ q y g. reads_on row ps z.1 q s y g) e
 
 ends_begin : (bs : List OpenBlock) (line : Line) (row : List Piece) → is_done (here bs line) ≡ true → Reached bs line row [] → Begins (whole (here bs line)) row []
 ends_begin (b ∷ bs) line row e x = absurd cc
@@ -282,7 +282,7 @@ ends_begin [] (Looping (h ∷ hs)) row e (start, x, y) = loops_begin h hs row []
 ends_begin [] (Addressed hs a) row e (start, x, y) = address_begins hs a row [] (subst (λ (r : List Piece). InLoops hs r (At a ∷ [])) (sym x) y)
 ends_begin [] (Ended c) row e (start, x, y) = subst (λ (r : List Piece). Begins c r []) (sym x) y
 
-joined_written : (ps : List Piece) (text : List ℕ) → BeginsWith ps text [] → (r : Reading) → joined_on (Some begin) ps ≡ Some r → is_done r ≡ true → Writes ps (whole r)
+joined_written : (ps : List Piece) (text : List ℕ) → BeginsWith ps text [] → (r : Reading) → after_pieces (Some begin) ps ≡ Some r → is_done r ≡ true → Writes ps (whole r)
 joined_written ps text cut r e done =
     ends_begin r.blocks r.line (without_blanks ps) done (reads_on (without_blanks ps) ps (row_plain ps text [] cut) begin r (without_blanks ps, refl, refl) e)
 

@@ -7,7 +7,7 @@ use Rattle.edit_parts.specs.Pieces.{Piece, Blank, EndsLine, At, Loops, Opens, Cl
 use Rattle.edit_parts.specs.declared.kind.Kind.{Kind}
 use Rattle.edit_parts.specs.declared.kind.Kind.TheVariants as kind
 use Rattle.edit_parts.proofs.Once.{one_piece}
-use Rattle.sam_syntax.specs.Joined.{Reading, OpenBlock, Line, Opened, Looping, Addressed, Ended, with_line, block_of, is_done, joined, joined_on}
+use Rattle.sam_syntax.specs.Joined.{Reading, OpenBlock, Line, Opened, Looping, Addressed, Ended, with_line, block_of, is_done, after_piece, after_pieces}
 use Rattle.sam_syntax.specs.Grammar.{BeginsWith}
 use Rattle.edit_parts.proofs.Closes.{piece_ends_line}
 
@@ -79,17 +79,17 @@ nothing_left (p ∷ ps) x = absurd (no_piece p x.0 x.1 (next_of x.1) x.2 x.3)
 
 -- ---- joining
 
-pub joined_none : (ps : List Piece) → joined_on None ps ≡ None
+pub joined_none : (ps : List Piece) → after_pieces None ps ≡ None
 joined_none [] = refl
 joined_none (p ∷ ps) = refl
 
-pub joined_append : (o : Option Reading) (ps qs : List Piece) → joined_on o (ps ++ qs) ≡ joined_on (joined_on o ps) qs
+pub joined_append : (o : Option Reading) (ps qs : List Piece) → after_pieces o (ps ++ qs) ≡ after_pieces (after_pieces o ps) qs
 joined_append o [] qs = refl
 joined_append None (p ∷ ps) qs = sym (joined_none qs)
-joined_append (Some r) (p ∷ ps) qs = joined_append (joined r p) ps qs
+joined_append (Some r) (p ∷ ps) qs = joined_append (after_piece r p) ps qs
 
-pub joined_snoc : (o : Option Reading) (ps : List Piece) (p : Piece) (r : Reading) → joined_on o ps ≡ Some r → joined_on o (ps ++ p ∷ []) ≡ joined r p
-joined_snoc o ps p r e = joined_append o ps (p ∷ []) ∙ ap (λ (x : Option Reading). joined_on x (p ∷ [])) e
+pub joined_snoc : (o : Option Reading) (ps : List Piece) (p : Piece) (r : Reading) → after_pieces o ps ≡ Some r → after_pieces o (ps ++ p ∷ []) ≡ after_piece r p
+joined_snoc o ps p r e = joined_append o ps (p ∷ []) ∙ ap (λ (x : Option Reading). after_pieces x (p ∷ [])) e
 
 -- ---- a line behind `{` is inside a block, and what is read is at most as deep as it is long
 
@@ -107,7 +107,7 @@ abbrev pub few : List OpenBlock → Option Reading → Type 0
 few bs None = Unit {0}
 few bs (Some s) = (is_sane s ≡ true) × (length s.blocks ≤ length bs + 1)
 
-piece_sane : (bs : List OpenBlock) (line : Line) (p : Piece) → is_sane (record { blocks = bs; line = line }) ≡ true → few bs (joined (record { blocks = bs; line = line }) p)
+piece_sane : (bs : List OpenBlock) (line : Line) (p : Piece) → is_sane (record { blocks = bs; line = line }) ≡ true → few bs (after_piece (record { blocks = bs; line = line }) p)
 piece_sane bs line Blank e = (e, omega arith)
 piece_sane [] line EndsLine e = tt
 piece_sane (b ∷ bs) line EndsLine e = (refl, omega arith)
@@ -140,16 +140,16 @@ piece_sane [] (Addressed hs a) (Does act) e = (refl, omega arith)
 piece_sane (b ∷ bs) (Addressed hs a) (Does act) e = (refl, omega arith)
 piece_sane bs (Ended c) (Does act) e = tt
 
-pub pieces_sane : (ps : List Piece) (r s : Reading) → is_sane r ≡ true → joined_on (Some r) ps ≡ Some s → (is_sane s ≡ true) × (length s.blocks ≤ length r.blocks + length ps)
+pub pieces_sane : (ps : List Piece) (r s : Reading) → is_sane r ≡ true → after_pieces (Some r) ps ≡ Some s → (is_sane s ≡ true) × (length s.blocks ≤ length r.blocks + length ps)
 pieces_sane [] r s e f =
     let same : r ≡ s = cc in
     (sym (ap is_sane same) ∙ e, omega (arith, ap (λ (x : Reading). length x.blocks) same))
-pieces_sane (p ∷ ps) r s e f = go (joined r p) refl (piece_sane r.blocks r.line p e) (λ x g h. pieces_sane ps x s g h)
+pieces_sane (p ∷ ps) r s e f = go (after_piece r p) refl (piece_sane r.blocks r.line p e) (λ x g h. pieces_sane ps x s g h)
   where
-    go : (o : Option Reading) → joined r p ≡ o → few r.blocks o → ((x : Reading) → is_sane x ≡ true → joined_on (Some x) ps ≡ Some s → (is_sane s ≡ true) × (length s.blocks ≤ length x.blocks + length ps)) → (is_sane s ≡ true) × (length s.blocks ≤ length r.blocks + length (p ∷ ps))
-    go None t k on = let g : joined_on None ps ≡ Some s = sym (ap (λ (o : Option Reading). joined_on o ps) t) ∙ f in let n : joined_on None ps ≡ None = joined_none ps in absurd cc
+    go : (o : Option Reading) → after_piece r p ≡ o → few r.blocks o → ((x : Reading) → is_sane x ≡ true → after_pieces (Some x) ps ≡ Some s → (is_sane s ≡ true) × (length s.blocks ≤ length x.blocks + length ps)) → (is_sane s ≡ true) × (length s.blocks ≤ length r.blocks + length (p ∷ ps))
+    go None t k on = let g : after_pieces None ps ≡ Some s = sym (ap (λ (o : Option Reading). after_pieces o ps) t) ∙ f in let n : after_pieces None ps ≡ None = joined_none ps in absurd cc
     go (Some x) t k on =
-        let y = on x k.0 (sym (ap (λ (o : Option Reading). joined_on o ps) t) ∙ f) in
+        let y = on x k.0 (sym (ap (λ (o : Option Reading). after_pieces o ps) t) ∙ f) in
         (y.0, omega (arith, y.1, k.1))
 
 -- each piece has a rune
@@ -184,7 +184,7 @@ close_piece : (next : Option ℕ) → IsPiece Closes (125 ∷ []) next
 close_piece next rest e = subst (λ (k : Kind). GoesOnAs k Closes 125 rest rest) (sym close_kind) (refl, refl)
 
 abbrev pub Closed : List OpenBlock → Reading → Type 0
-Closed bs r = (ps : List Piece) × (s : Reading) × BeginsWith ps (closings bs) [] × (joined_on (Some r) ps ≡ Some s) × (is_done s ≡ true)
+Closed bs r = (ps : List Piece) × (s : Reading) × BeginsWith ps (closings bs) [] × (after_pieces (Some r) ps ≡ Some s) × (is_done s ≡ true)
 
 all_close : (bs : List OpenBlock) (line : Line) → is_sane (record { blocks = bs; line = line }) ≡ true → Closed bs (record { blocks = bs; line = line })
 all_close [] Opened e = absurd cc

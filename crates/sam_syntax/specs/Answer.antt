@@ -5,7 +5,7 @@ use Rattle.addr_syntax.specs.declared.address.SynFault.TheVariants.{Bad, Nodes, 
 use Rattle.edit_parts.specs.Tree.{Command}
 use Rattle.edit_parts.specs.Pieces.{Piece}
 use Rattle.sam_syntax.specs.Limits.{is_large, is_deep}
-use Rattle.sam_syntax.specs.Joined.{Reading, begin, joined_on}
+use Rattle.sam_syntax.specs.Joined.{Reading, begin, after_pieces}
 use Rattle.sam_syntax.specs.Grammar.{BeginsWith, IsEdit, GoesOn}
 
 -- the place is the first at which no command goes on, or where a text that only stops short ends
@@ -32,4 +32,4 @@ pub record Reaches (text : List ℕ) (at : ℕ) (r : Reading) : Type 0 where
   pub pieces : List Piece
   pub within : at ≤ length text
   pub cut : BeginsWith pieces text (drop at text)
-  pub joins : joined_on (Some begin) pieces ≡ Some r
+  pub joins : after_pieces (Some begin) pieces ≡ Some r

@@ -9,6 +9,7 @@ abbrev pub round : List OpenBlock → ℕ
 round [] = 0
 round (b ∷ bs) = round bs + length b.heads + 1
 
+-- the loops that the line is behind
 abbrev pub heads_of : Line → List Head
 heads_of Opened = []
 heads_of (Looping hs) = hs

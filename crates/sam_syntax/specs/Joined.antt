@@ -52,6 +52,7 @@ abbrev pub in_loops : List Head → Command → Command
 in_loops [] c = c
 in_loops (h ∷ hs) c = in_loops hs (h.addr, Loops h.kind h.re c.0 c.1)
 
+-- the commands of a list
 abbrev pub commands_of : List Command → Commands
 commands_of [] = Done
 commands_of (c ∷ cs) = Then c.0 c.1 (commands_of cs)
@@ -64,6 +65,7 @@ command_of (Looping (h ∷ hs)) = in_loops (h ∷ hs) (Missing, Print)
 command_of (Addressed heads a) = in_loops heads (a, Nothing)
 command_of (Ended c) = c
 
+-- the block with a command more
 abbrev pub with_command : OpenBlock → Command → OpenBlock
 with_command b c = record b { commands = b.commands ++ c ∷ [] }
 
@@ -76,20 +78,24 @@ with_line b line = with_command b (command_of line)
 abbrev pub block_of : OpenBlock → Command
 block_of b = in_loops b.heads (b.addr, Block (commands_of b.commands))
 
+-- with the address of a command
 abbrev pub join_address : List OpenBlock → Line → address.Tree → Option Reading
 join_address bs (Looping heads) a = Some (record { blocks = bs; line = Addressed heads a })
 join_address bs Opened a = None
 join_address bs (Addressed heads b) a = None
 join_address bs (Ended c) a = None
 
+-- with a loop, whose command comes next
 abbrev pub join_loop : List OpenBlock → Option Start → Loop → expression.Tree → Option Reading
 join_loop bs None kind re = None
 join_loop bs (Some s) kind re = Some (record { blocks = bs; line = Looping (record { addr = s.addr; kind = kind; re = re } ∷ s.heads) })
 
+-- with what the line's command does
 abbrev pub join_action : List OpenBlock → Option Start → Action → Option Reading
 join_action bs None act = None
 join_action bs (Some s) act = Some (record { blocks = bs; line = Ended (in_loops s.heads (s.addr, act)) })
 
+-- with a block that opens
 abbrev pub open_block : List OpenBlock → Option Start → Option Reading
 open_block bs None = None
 open_block bs (Some s) = Some (record { blocks = record { heads = s.heads; addr = s.addr; commands = [] } ∷ bs; line = Opened })
@@ -109,22 +115,24 @@ close_block (b ∷ bs) (Addressed heads a) = None
 close_block (b ∷ bs) (Ended c) = None
 
 -- one piece more; None where no command goes on so
-abbrev pub joined : Reading → Piece → Option Reading
-joined r Blank = Some r
-joined r EndsLine = end_line r.blocks r.line
-joined r (At a) = join_address r.blocks r.line a
-joined r (piece.Loops kind re) = join_loop r.blocks (start_of r.line) kind re
-joined r Opens = open_block r.blocks (start_of r.line)
-joined r Closes = close_block r.blocks r.line
-joined r (Does act) = join_action r.blocks (start_of r.line) act
+abbrev pub after_piece : Reading → Piece → Option Reading
+after_piece r Blank = Some r
+after_piece r EndsLine = end_line r.blocks r.line
+after_piece r (At a) = join_address r.blocks r.line a
+after_piece r (piece.Loops kind re) = join_loop r.blocks (start_of r.line) kind re
+after_piece r Opens = open_block r.blocks (start_of r.line)
+after_piece r Closes = close_block r.blocks r.line
+after_piece r (Does act) = join_action r.blocks (start_of r.line) act
 
+-- before the first piece
 abbrev pub begin : Reading
 begin = record { blocks = []; line = Looping [] }
 
-abbrev pub joined_on : Option Reading → List Piece → Option Reading
-joined_on r [] = r
-joined_on None (p ∷ ps) = None
-joined_on (Some r) (p ∷ ps) = joined_on (joined r p) ps
+-- all pieces, one after another
+abbrev pub after_pieces : Option Reading → List Piece → Option Reading
+after_pieces r [] = r
+after_pieces None (p ∷ ps) = None
+after_pieces (Some r) (p ∷ ps) = after_pieces (after_piece r p) ps
 
 -- no block is open
 abbrev pub is_done : Reading → Bool
@@ -138,9 +146,10 @@ is_done r = ends_here r.blocks r.line
     ends_here (b ∷ bs) line = false
 
 -- the command of the whole, all open blocks closed
-abbrev pub closed : List OpenBlock → Line → Command
-closed [] line = command_of line
-closed (b ∷ bs) line = closed bs (Ended (block_of (with_line b line)))
+abbrev pub close_all : List OpenBlock → Line → Command
+close_all [] line = command_of line
+close_all (b ∷ bs) line = close_all bs (Ended (block_of (with_line b line)))
 
+-- the command of all so far
 abbrev pub whole : Reading → Command
-whole r = closed r.blocks r.line
+whole r = close_all r.blocks r.line

@@ -35,6 +35,10 @@ is_large c = address.is_large c.0 || part.is_large c.1
 abbrev pub is_long : Command → Bool
 is_long c = is_long_address c.0 || part.is_long c.1
 
+-- a command may have so many levels
+abbrev pub level_limit : ℕ
+level_limit = 32
+
 -- there are more than 32 levels, or an address has more than 1,024 operators
 abbrev pub is_deep : Command → Bool
-is_deep c = nat_lt 32 (levels c.1) || is_long c
+is_deep c = nat_lt level_limit (levels c.1) || is_long c

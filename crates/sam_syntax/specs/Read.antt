@@ -11,9 +11,9 @@ use Rattle.edit_parts.specs.Kinds.{loop_of}
 use Rattle.edit_parts.specs.Limits as part
 use Rattle.edit_parts.specs.Limits.{is_large_expression, is_long_address}
 use Rattle.edit_parts.specs.Pieces.{Piece, Blank, EndsLine, At, Loops, Opens, Closes, Does}
-use Rattle.sam_syntax.specs.Joined.{Head, OpenBlock, Line, Opened, Looping, Addressed, Ended, Reading, Start, is_done, joined, whole}
+use Rattle.sam_syntax.specs.Joined.{Head, OpenBlock, Line, Opened, Looping, Addressed, Ended, Reading, Start, is_done, after_piece, whole}
 use Rattle.sam_syntax.specs.Limits.{levels, is_large, is_deep}
-use Rattle.sam_syntax.specs.Position.{position_of, positioned}
+use Rattle.sam_syntax.specs.Position.{position_of, position_if}
 use Rattle.sam_syntax.specs.Depth.{depth}
 use Rattle.sam_syntax.specs.declared.reading.Head as head
 use Rattle.sam_syntax.specs.declared.reading.OpenBlock as block
@@ -26,27 +26,32 @@ use Rattle.sam_syntax.specs.declared.progress.Progress.{Progress}
 use Rattle.sam_syntax.specs.declared.progress.Progress.TheVariants.{Whole, Past}
 use Rattle.sam_syntax.specs.declared.reading.Line.TheVariants as lines
 
+-- a loop of the program
 abbrev pub head_of : head.Head → Head
 head_of h = record { addr = address.tree_of h.addr; kind = loop_of h.kind; re = expression.tree h.re }
 
+-- an open block of the program
 abbrev pub block_is : block.OpenBlock → OpenBlock
 block_is b = record { heads = map head_of b.heads.items; addr = address.tree_of b.addr; commands = map command b.commands.items }
 
+-- what stands before a command, of the program
 abbrev pub start_is : start.Start → Start
 start_is s = record { heads = map head_of s.heads.items; addr = address.tree_of s.addr }
 
+-- a line of the program
 abbrev pub line_is : line.Line → Line
 line_is lines.Opened = Opened
 line_is (lines.Looping heads) = Looping (map head_of heads.items)
 line_is (lines.Addressed heads a) = Addressed (map head_of heads.items) (address.tree a)
 line_is (lines.Ended c) = Ended (command c)
 
+-- all that a sheet holds
 abbrev pub reading_of : sheet.Sheet → Reading
 reading_of s = record { blocks = map block_is s.blocks.items; line = line_is s.line }
 
 -- a sheet is the next behind a piece
 abbrev pub IsNext : sheet.Sheet → Piece → sheet.Sheet → Type 0
-IsNext old p new = (joined (reading_of old) p ≡ Some (reading_of new)) × (old.depth ≡ depth (reading_of old) → new.depth ≡ depth (reading_of new))
+IsNext old p new = (after_piece (reading_of old) p ≡ Some (reading_of new)) × (old.depth ≡ depth (reading_of old) → new.depth ≡ depth (reading_of new))
 
 -- The program builds inside the limits; past one it knows which, and where it is.
 abbrev pub Follows : Progress → Reading → Type 0
@@ -56,16 +61,17 @@ Follows (Past at Large) r = (at ≡ position_of r) × (is_large (whole r) ≡ tr
 
 -- what is read goes on with the piece to a place, where the program has this
 abbrev pub GoesTo : Reading → Piece → Position → Progress → Type 0
-GoesTo r p next new = positioned (joined r p) ≡ Some next → (s : Reading) × (joined r p ≡ Some s) × Follows new s
+GoesTo r p next new = position_if (after_piece r p) ≡ Some next → (s : Reading) × (after_piece r p ≡ Some s) × Follows new s
 
 -- the program's answer to the piece: what is read with it, or that no command goes on so
 abbrev pub Joins : Progress → Piece → Position → Option Progress → Type 0
-Joins old p next None = (r : Reading) → Follows old r → joined r p ≡ None
+Joins old p next None = (r : Reading) → Follows old r → after_piece r p ≡ None
 Joins old p next (Some new) = (r : Reading) → Follows old r → GoesTo r p next new
 
-abbrev pub kept : Option sheet.Sheet → Option Progress
-kept None = None
-kept (Some s) = Some (Whole s)
+-- the sheet as what is read, if there is one
+abbrev pub whole_if : Option sheet.Sheet → Option Progress
+whole_if None = None
+whole_if (Some s) = Some (Whole s)
 
 -- it is told that an expression has more than 2,048 nodes
 abbrev pub is_told_large : {T : Type 0} → Limited T → Bool

@@ -1,14 +1,13 @@
 //! Reads a command.
 
-ghost use Rattle.std.specs.Prelude.{◌≡◌, ◌<◌, ℕ, List, length, IfOk, IfErr};
-ghost use Rattle.edit_parts.specs.Tree.{Command, command};
+ghost use Rattle.std.specs.Prelude.{◌≡◌, ◌<◌, length, IfOk, IfErr};
+ghost use Rattle.edit_parts.specs.Tree.{command};
 ghost use Rattle.sam_syntax.specs.Joined.{Reading};
 ghost use Rattle.sam_syntax.specs.Grammar.{IsEdit};
 ghost use Rattle.sam_syntax.specs.Answer.{IsInLimits, Refuses, Reaches};
 ghost use Rattle.sam_syntax.specs.Read.{Follows};
-ghost use Rattle.sam_syntax.specs.Laws.{JoinsAsWritten, EditsAreWritten, LoopsTakeTheRest, BlocksHoldTheirLines};
 
-use crate::position::passed;
+use crate::position::after_kind;
 use crate::progress::{self, Progress, join, position_of};
 use am_text::Rune;
 use edit_parts::{Cmd, SynFault, kind_of, token_at};
@@ -26,7 +25,7 @@ fn step(
     ensures ok { IfOk result (λ a. (r : Reading) → Reaches text.now at r → Follows progress r → (s : Reading) × Reaches text.now a.1 s × Follows a.0 s) }
     ensures err { IfErr result (λ e. (r : Reading) → Reaches text.now at r → Follows progress r → Refuses text.now e) }
 {
-    let Some(next) = passed(position_of(&progress), kind_of(text[at])) else {
+    let Some(next) = after_kind(position_of(&progress), kind_of(text[at])) else {
         drop(progress);
         return Err(SynFault::Bad(at));
     };
@@ -39,7 +38,7 @@ fn step(
     };
     match join(alloc, progress, token, next)? {
         Some(more) => Ok((more, end)),
-        // never reached: `passed` has refused each piece that can't be joined
+        // never reached: `after_kind` has refused each piece that can't be joined
         None => Err(SynFault::Bad(at)),
     }
 }
@@ -64,24 +63,3 @@ pub fn parse_edit(alloc: Global, text: &[Rune]) -> Result<Cmd, SynFault>
     }
     progress::finish(alloc, progress, at)
 }
-
-/// A text has one command at most.
-pub fn an_edit_has_one_tree()
-    ensures { (text : List ℕ) (a b : Command) → IsEdit text a → IsEdit text b → a ≡ b }
-{}
-
-/// The pieces of a text are joined to a command exactly where the grammar writes the command with them.
-pub fn an_edit_is_as_written()
-    ensures pieces { JoinsAsWritten }
-    ensures text { EditsAreWritten }
-{}
-
-/// A loop does all that stands behind it.
-pub fn a_loop_takes_the_rest()
-    ensures { LoopsTakeTheRest }
-{}
-
-/// The commands of a block are those of its lines, in their order.
-pub fn a_block_holds_its_lines()
-    ensures { BlocksHoldTheirLines }
-{}

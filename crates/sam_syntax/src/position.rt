@@ -1,7 +1,7 @@
 //! Where in a command the reader is.
 
 ghost use Rattle.std.specs.Prelude.{◌≡◌, ◌+◌, ◌<◌, ◌^◌};
-ghost use Rattle.sam_syntax.specs.Position.{begun, addressed, closed, ended, passed, is_end};
+ghost use Rattle.sam_syntax.specs.Position.{behind_start, behind_address, behind_block, behind_line, after_kind, is_end};
 
 use edit_parts::Kind;
 
@@ -27,6 +27,7 @@ pub struct Position {
     pub place: Place,
 }
 
+// This place, inside so many blocks.
 fn to(blocks: usize, place: Place) -> Option<Position>
     ensures { result ≡ Some (record { blocks = blocks; place = place }) }
 {
@@ -34,8 +35,8 @@ fn to(blocks: usize, place: Place) -> Option<Position>
 }
 
 // Behind something that begins or is a command.
-fn begun(position: Position, blocks: usize, place: Place) -> Option<Position>
-    ensures { result ≡ begun position.place blocks place }
+fn behind_start(position: Position, blocks: usize, place: Place) -> Option<Position>
+    ensures { result ≡ behind_start position.place blocks place }
 {
     match position.place {
         Place::Begins => to(blocks, place),
@@ -47,8 +48,8 @@ fn begun(position: Position, blocks: usize, place: Place) -> Option<Position>
 }
 
 // Behind an address.
-fn addressed(position: Position) -> Option<Position>
-    ensures { result ≡ addressed position.place position.blocks }
+fn behind_address(position: Position) -> Option<Position>
+    ensures { result ≡ behind_address position.place position.blocks }
 {
     match position.place {
         Place::Begins => to(position.blocks, Place::Addressed),
@@ -59,8 +60,9 @@ fn addressed(position: Position) -> Option<Position>
     }
 }
 
-fn closed(position: Position) -> Option<Position>
-    ensures { result ≡ closed position.place position.blocks }
+// Behind the end of a block.
+fn behind_block(position: Position) -> Option<Position>
+    ensures { result ≡ behind_block position.place position.blocks }
 {
     if position.blocks == 0 {
         return None;
@@ -74,8 +76,9 @@ fn closed(position: Position) -> Option<Position>
     }
 }
 
-fn ended(position: Position) -> Option<Position>
-    ensures { result ≡ ended position.blocks }
+// Behind the end of a line.
+fn behind_line(position: Position) -> Option<Position>
+    ensures { result ≡ behind_line position.blocks }
 {
     if position.blocks == 0 {
         None
@@ -85,17 +88,17 @@ fn ended(position: Position) -> Option<Position>
 }
 
 /// Where the reader is behind a piece of this kind; `None` where none can stand.
-pub fn passed(position: Position, kind: Kind) -> Option<Position>
-    ensures { position.blocks + 1 < 2 ^ 64 → result ≡ passed position kind }
+pub fn after_kind(position: Position, kind: Kind) -> Option<Position>
+    ensures { position.blocks + 1 < 2 ^ 64 → result ≡ after_kind position kind }
 {
     match kind {
         Kind::Blank => Some(position),
-        Kind::EndsLine => ended(position),
-        Kind::Address => addressed(position),
-        Kind::Loops(_) => begun(position, position.blocks, Place::Looping),
-        Kind::Opens => begun(position, position.blocks.saturating_add(1), Place::Opened),
-        Kind::Closes => closed(position),
-        Kind::Acts(_) => begun(position, position.blocks, Place::Ended),
+        Kind::EndsLine => behind_line(position),
+        Kind::Address => behind_address(position),
+        Kind::Loops(_) => behind_start(position, position.blocks, Place::Looping),
+        Kind::Opens => behind_start(position, position.blocks.saturating_add(1), Place::Opened),
+        Kind::Closes => behind_block(position),
+        Kind::Acts(_) => behind_start(position, position.blocks, Place::Ended),
         Kind::Other => None,
     }
 }

@@ -13,7 +13,7 @@ ghost use Rattle.edit_parts.specs.Answer.{IsToken, IsBuiltExpression, IsBuiltAct
 ghost use Rattle.sam_syntax.specs.Limits.{levels};
 ghost use Rattle.sam_syntax.specs.Joined.{Reading, begin, is_done, whole};
 ghost use Rattle.sam_syntax.specs.Position.{place_of, position_of};
-ghost use Rattle.sam_syntax.specs.Read.{line_is, Follows, GoesTo, Joins, kept, is_told_large, piece_large, piece_levels, PastFails, FinishFails};
+ghost use Rattle.sam_syntax.specs.Read.{line_is, Follows, GoesTo, Joins, whole_if, is_told_large, piece_large, piece_levels, PastFails, FinishFails};
 ghost use Rattle.sam_syntax.specs.Answer.{IsInLimits};
 
 use crate::position::{Place, Position, is_end};
@@ -82,8 +82,8 @@ fn past(sheet: Sheet, next: Position, limit: Limit) -> Option<Progress>
     Some(Progress::Past(next, limit))
 }
 
-fn kept(sheet: Option<Sheet>) -> Option<Progress>
-    ensures { result ≡ kept sheet }
+fn whole_if(sheet: Option<Sheet>) -> Option<Progress>
+    ensures { result ≡ whole_if sheet }
 {
     match sheet {
         Some(sheet) => Some(Progress::Whole(sheet)),
@@ -96,7 +96,7 @@ fn with_address(sheet: Sheet, built: Limited<Addr>, next: Position) -> Option<Pr
     ensures { (a : address.Tree) → IsLimited built a → Joins (Progress.Whole sheet) (At a) next result }
 {
     match built {
-        Limited::Whole(addr) => kept(join_address(sheet, addr)),
+        Limited::Whole(addr) => whole_if(join_address(sheet, addr)),
         Limited::Deep => past(sheet, next, Limit::Deep),
         Limited::Large => past(sheet, next, Limit::Large),
     }
@@ -111,7 +111,7 @@ fn with_small_loop(
     ensures { IfOk result (λ o. (t : expression.Tree) → IsBuiltExpression (Some re) t → Joins (Progress.Whole sheet) (piece.Loops (loop_of kind) t) next o) }
 {
     if sheet.depth < MOST {
-        Ok(kept(join_loop(sheet, kind, re)?))
+        Ok(whole_if(join_loop(sheet, kind, re)?))
     } else {
         Ok(past(sheet, next, Limit::Deep))
     }
@@ -135,7 +135,7 @@ fn with_block(alloc: Global, sheet: Sheet, next: Position) -> Result<Option<Prog
     ensures { IfOk result (Joins (Progress.Whole sheet) Opens next) }
 {
     if sheet.depth < MOST {
-        Ok(kept(open_block(alloc, sheet)?))
+        Ok(whole_if(open_block(alloc, sheet)?))
     } else {
         Ok(past(sheet, next, Limit::Deep))
     }
@@ -150,7 +150,7 @@ fn with_action(
     ensures { IfOk result (λ o. (act : Action) → IsBuiltAction built act → levels act ≡ 0 → Joins (Progress.Whole sheet) (Does act) next o) }
 {
     match built {
-        Limited::Whole(act) => Ok(kept(join_action(alloc, sheet, act)?)),
+        Limited::Whole(act) => Ok(whole_if(join_action(alloc, sheet, act)?)),
         Limited::Deep => Ok(past(sheet, next, Limit::Deep)),
         Limited::Large => Ok(past(sheet, next, Limit::Large)),
     }
@@ -166,11 +166,11 @@ fn with_token(
 {
     match token {
         Token::Blank => Ok(Some(Progress::Whole(sheet))),
-        Token::EndsLine => Ok(kept(end_line(alloc, sheet)?)),
+        Token::EndsLine => Ok(whole_if(end_line(alloc, sheet)?)),
         Token::At(built) => Ok(with_address(sheet, built, next)),
         Token::Loops(kind, re) => with_loop(sheet, kind, re, next),
         Token::Opens => with_block(alloc, sheet, next),
-        Token::Closes => Ok(kept(close_block(alloc, sheet)?)),
+        Token::Closes => Ok(whole_if(close_block(alloc, sheet)?)),
         Token::Does(built) => with_action(alloc, sheet, built, next),
     }
 }
@@ -226,7 +226,7 @@ fn past_on(limit: Limit, token: Token, next: Position) -> Progress
 }
 
 /// What is read with one token more, behind which the reader is at the position; `None` where no command goes on so, which
-/// `passed` tells before.
+/// `after_kind` tells before.
 pub fn join(
     alloc: Global,
     progress: Progress,

@@ -1,6 +1,6 @@
 //! Joins the pieces of commands to their tree.
 //!
-//! `None` says that no command goes on so. The parser never meets it, since it asks `position::passed` before.
+//! `None` says that no command goes on so. The parser never meets it, since it asks `position::after_kind` before.
 
 ghost use Rattle.std.specs.Prelude.{◌≡◌, ◌<◌, ◌↔◌, IsTrue, [], length, map, Some, None, IfOk, IfSome, IfNone};
 ghost use Rattle.re_syntax.specs.Tree as expression;
@@ -10,8 +10,9 @@ ghost use Rattle.edit_parts.specs.Tree.{action, command, Loops, Nothing, Print};
 ghost use Rattle.edit_parts.specs.Kinds.{loop_of};
 ghost use Rattle.edit_parts.specs.Pieces as piece;
 ghost use Rattle.edit_parts.specs.Pieces.{EndsLine, At, Opens, Closes, Does};
+ghost use Rattle.sam_syntax.specs.Limits.{level_limit};
 ghost use Rattle.sam_syntax.specs.Depth.{heads_of};
-ghost use Rattle.sam_syntax.specs.Joined.{Looping, begin, in_loops, command_of, with_command, with_line, block_of, start_of, joined};
+ghost use Rattle.sam_syntax.specs.Joined.{Looping, begin, in_loops, command_of, with_command, with_line, block_of, start_of, after_piece};
 ghost use Rattle.sam_syntax.specs.Read.{head_of, block_is, line_is, start_is, reading_of, IsNext};
 
 use am_text::NoMemory;
@@ -92,6 +93,7 @@ fn in_loops(alloc: Global, mut heads: VecDeque<Head>, cmd: Cmd) -> Result<Cmd, N
     Ok(whole)
 }
 
+// A command without an address.
 fn alone(act: Act) -> Cmd
     ensures { command result ≡ (Missing, action act) }
 {
@@ -148,6 +150,7 @@ fn command_of(alloc: Global, line: Line) -> Result<Cmd, NoMemory>
     }
 }
 
+// A block with a command more.
 fn with_command(block: OpenBlock, cmd: Cmd) -> Result<OpenBlock, NoMemory>
     ensures { IfOk result (λ new. block_is new ≡ with_command (block_is block) (command cmd)) }
 {
@@ -205,7 +208,7 @@ fn no_sheet(line: Line, addr: Addr) -> Option<Sheet>
 /// With the address of a command.
 pub fn join_address(sheet: Sheet, addr: Addr) -> Option<Sheet>
     ensures some { IfSome result (IsNext sheet (At (address.tree addr))) }
-    ensures none { IfNone result (joined (reading_of sheet) (At (address.tree addr)) ≡ None) }
+    ensures none { IfNone result (after_piece (reading_of sheet) (At (address.tree addr)) ≡ None) }
 {
     let Sheet {
         blocks,
@@ -227,9 +230,9 @@ pub fn join_address(sheet: Sheet, addr: Addr) -> Option<Sheet>
 
 /// With a loop, whose command comes next.
 pub fn join_loop(sheet: Sheet, kind: Loop, re: Re) -> Result<Option<Sheet>, NoMemory>
-    requires { sheet.depth < 32 }
+    requires { sheet.depth < level_limit }
     ensures some { IfOk result (λ o. IfSome o (IsNext sheet (piece.Loops (loop_of kind) (expression.tree re)))) }
-    ensures none { IfOk result (λ o. IfNone o (joined (reading_of sheet) (piece.Loops (loop_of kind) (expression.tree re)) ≡ None)) }
+    ensures none { IfOk result (λ o. IfNone o (after_piece (reading_of sheet) (piece.Loops (loop_of kind) (expression.tree re)) ≡ None)) }
 {
     let Sheet {
         blocks,
@@ -251,7 +254,7 @@ pub fn join_loop(sheet: Sheet, kind: Loop, re: Re) -> Result<Option<Sheet>, NoMe
 /// With what the line's command does.
 pub fn join_action(alloc: Global, sheet: Sheet, act: Act) -> Result<Option<Sheet>, NoMemory>
     ensures some { IfOk result (λ o. IfSome o (IsNext sheet (Does (action act)))) }
-    ensures none { IfOk result (λ o. IfNone o (joined (reading_of sheet) (Does (action act)) ≡ None)) }
+    ensures none { IfOk result (λ o. IfNone o (after_piece (reading_of sheet) (Does (action act)) ≡ None)) }
 {
     let Sheet {
         blocks,
@@ -274,9 +277,9 @@ pub fn join_action(alloc: Global, sheet: Sheet, act: Act) -> Result<Option<Sheet
 
 /// With a block that opens.
 pub fn open_block(alloc: Global, sheet: Sheet) -> Result<Option<Sheet>, NoMemory>
-    requires { sheet.depth < 32 }
+    requires { sheet.depth < level_limit }
     ensures some { IfOk result (λ o. IfSome o (IsNext sheet Opens)) }
-    ensures none { IfOk result (λ o. IfNone o (joined (reading_of sheet) Opens ≡ None)) }
+    ensures none { IfOk result (λ o. IfNone o (after_piece (reading_of sheet) Opens ≡ None)) }
 {
     let Sheet {
         mut blocks,
@@ -299,6 +302,7 @@ pub fn open_block(alloc: Global, sheet: Sheet) -> Result<Option<Sheet>, NoMemory
     }))
 }
 
+// How many loops the line is behind.
 fn loops_of(line: &Line) -> usize
     ensures { result ≡ length (heads_of (line_is line.now)) }
 {
@@ -313,7 +317,7 @@ fn loops_of(line: &Line) -> usize
 /// With the end of a line.
 pub fn end_line(alloc: Global, sheet: Sheet) -> Result<Option<Sheet>, NoMemory>
     ensures some { IfOk result (λ o. IfSome o (IsNext sheet EndsLine)) }
-    ensures none { IfOk result (λ o. IfNone o (joined (reading_of sheet) EndsLine ≡ None)) }
+    ensures none { IfOk result (λ o. IfNone o (after_piece (reading_of sheet) EndsLine ≡ None)) }
 {
     let Sheet {
         mut blocks,
@@ -334,6 +338,7 @@ pub fn end_line(alloc: Global, sheet: Sheet) -> Result<Option<Sheet>, NoMemory>
     }))
 }
 
+// Whether the line is at its beginning.
 fn begins(line: &Line) -> bool
     ensures { IsTrue result ↔ (line_is line.now ≡ Looping []) }
 {
@@ -346,7 +351,7 @@ fn begins(line: &Line) -> bool
 /// With the end of a block.
 pub fn close_block(alloc: Global, sheet: Sheet) -> Result<Option<Sheet>, NoMemory>
     ensures some { IfOk result (λ o. IfSome o (IsNext sheet Closes)) }
-    ensures none { IfOk result (λ o. IfNone o (joined (reading_of sheet) Closes ≡ None)) }
+    ensures none { IfOk result (λ o. IfNone o (after_piece (reading_of sheet) Closes ≡ None)) }
 {
     let Sheet {
         mut blocks,

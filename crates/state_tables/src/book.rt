@@ -31,14 +31,12 @@ use crate::items::{Put, read_put};
 use am_text::{Bytes, decimal};
 use event_book::{BackFault, Book, ItemView, ItemViews};
 use std::alloc::Global;
-use wait_queue::Asker;
+use wait_queue::{Asker, MAX_OPENINGS};
 use win_events::{BackMsg, read_back};
-
-const MOST_OPENINGS: usize = 4294967295;
 
 fn add(alloc: Global, book: &mut Book, numbers: &[u32]) -> Result<Bytes, Fault> {
     let window = one_of(numbers)?;
-    if book.openings() >= MOST_OPENINGS {
+    if book.openings() >= MAX_OPENINGS {
         return Err(Fault::NoCase);
     }
     let opening = book.add_opening(window)?;

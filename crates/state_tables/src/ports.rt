@@ -24,13 +24,11 @@ use crate::answers::{asked_line, next_line, says, says_whether, served_line};
 use crate::call::{Call, asker_of, bytes_of, cut, one_of, tag_of, two_of};
 use crate::fault::Fault;
 use am_text::{Bytes, decimal};
-use plumb_ports::{PortFault, Ports, is_port_name};
+use plumb_ports::{MAX_PORTS, PortFault, Ports, is_port_name};
 use std::alloc::Global;
 
-const MOST_PORTS: usize = 65536;
-
 fn add(alloc: Global, ports: &mut Ports, name: &[u8]) -> Result<Bytes, Fault> {
-    if ports.len() >= MOST_PORTS || !is_port_name(name) {
+    if ports.len() >= MAX_PORTS || !is_port_name(name) {
         return Err(Fault::NoCase);
     }
     let number = ports.add(name)?;

@@ -1,6 +1,7 @@
 -- What each opening has left of its last item.
 use Rattle.std.specs.Prelude.{◌==◌, ℕ, Bool, List, [], ◌∷◌, not, filter, if◌then◌else◌}
 
+-- an opening, with what it has left
 pub record OpenCarry : Type 0 where
   pub opening : ℕ
   pub carry : List ℕ

@@ -5,15 +5,19 @@ use Rattle.wait_queue.specs.declared.types.Asker.{Asker}
 use Rattle.wait_queue.specs.declared.waiting_list.Waiting.{Waiting}
 use Rattle.wait_queue.specs.declared.waiting_list.Place.{Place}
 
+-- no read
 abbrev pub no_asker : Asker
 no_asker = record { conn = 0; tag = 0; opening = 0; count = 0 }
 
+-- no read that waits
 abbrev pub no_waiting : Waiting
 no_waiting = record { asker = no_asker; gone = false }
 
+-- the read that is held at a place
 abbrev pub waiting_at : Slab Asker → Place → Waiting
 waiting_at s p = record { asker = unwrap_or (get s p.key) no_asker; gone = p.gone }
 
+-- whether the read at a place waits still
 abbrev pub is_kept : Place → Bool
 is_kept p = not p.gone
 

@@ -14,6 +14,7 @@ taken_from (b ∷ bs) items = []
 taken_from [] (item ∷ items) = item.bytes
 taken_from [] [] = []
 
+-- the bytes of the item that a read takes, where it takes one
 abbrev pub taken_by : WaitState → Asker → List ℕ
 taken_by w r = if r.count == 0 then [] else taken_from (carry_of w.openings r.opening) w.items
 
@@ -58,6 +59,7 @@ pub record OnlyAskAdds (w : WaitState) : Type 0 where
   pub leave : (opening : ℕ) → AddsNone w.reads (after_leave w opening).reads
   pub close : AddsNone w.reads (after_close w).reads
 
+-- only a read that asks begins to wait
 abbrev pub OnlyAskWaits : Type 0
 OnlyAskWaits = (w : WaitState) → OnlyAskAdds w
 

@@ -5,3 +5,4 @@ pub mod Held
 pub mod Waiting
 pub mod WaitState
 pub mod Laws
+pub mod Limits

@@ -15,12 +15,15 @@ is_on opening r = r.opening == opening
 abbrev pub can_answer : Bool → List OpenCarry → Asker → Bool
 can_answer any_item carries r = any_item || nat_lt 0 (length (carry_of carries r.opening))
 
+-- all but the first that passes
 abbrev pub without_first : (Asker → Bool) → List Asker → List Asker
 without_first p [] = []
 without_first p (r ∷ rs) = if p r then rs else r ∷ without_first p rs
 
+-- all but the read with that tag on that connection
 abbrev pub without_read : List Asker → ℕ → ℕ → List Asker
 without_read rs conn tag = filter (λ r. not (is_read conn tag r)) rs
 
+-- all but the reads on that opening
 abbrev pub without_reads_on : List Asker → ℕ → List Asker
 without_reads_on rs opening = filter (λ r. not (is_on opening r)) rs

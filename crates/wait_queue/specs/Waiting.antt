@@ -3,9 +3,11 @@ use Rattle.std.specs.Prelude.{◌&&◌, ◌||◌, Bool, false, not}
 use Rattle.wait_queue.specs.declared.types.Asker.{Asker}
 use Rattle.wait_queue.specs.declared.waiting_list.Waiting.{Waiting}
 
+-- the read
 abbrev pub asker_of : Waiting → Asker
 asker_of w = w.asker
 
+-- whether a read waits still
 abbrev pub is_here : Waiting → Bool
 is_here w = not w.gone
 
@@ -17,5 +19,6 @@ is_ready p w = is_here w && p w.asker
 abbrev pub mark : (Asker → Bool) → Waiting → Waiting
 mark p w = record { asker = w.asker; gone = w.gone || p w.asker }
 
+-- waiting again
 abbrev pub here_again : Waiting → Waiting
 here_again w = record { asker = w.asker; gone = false }

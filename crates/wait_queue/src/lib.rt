@@ -3,6 +3,7 @@
 
 mod carries;
 mod laws;
+mod limits;
 mod pending;
 mod queue;
 mod reads;
@@ -10,6 +11,7 @@ mod types;
 mod waiting_list;
 
 pub use laws::{cancelled_is_gone, leaves_others, loses_nothing, only_ask_waits};
+pub use limits::MAX_OPENINGS;
 pub use queue::WaitQueue;
 pub use reads::{Answers, Reads};
 pub use types::{Asked, Asker, Piece};

@@ -2,6 +2,7 @@
 use Rattle.std.specs.Prelude.{◌≡◌, ◌≢◌, ℕ, Bool, ◌==◌, ◌||◌, nat_eq, nat_le, List, [], ◌∷◌, length, codes, Option, Some, None, Result, Ok, Err, if◌then◌else◌}
 use Rattle.std.specs.Str.{bytes_eq}
 use Rattle.std.specs.List.{starts_with, list_any}
+use Rattle.am_text.specs.Ascii.{space}
 use Rattle.am_text.specs.Utf8.{decode}
 use Rattle.am_text.specs.Front.{after_front}
 use Rattle.win_ctl.specs.declared.message.CtlMsg.{CtlMsg}
@@ -16,11 +17,13 @@ abbrev pub message_beside : List (List ℕ × CtlMsg) → List ℕ → Option Ct
 message_beside [] line = None
 message_beside (r ∷ rs) line = if bytes_eq line r.0 then Some r.1 else message_beside rs line
 
+-- those that change a range or the mark
 abbrev pub range_messages : List (List ℕ × CtlMsg)
 range_messages =
     (codes "addr=dot", msg.AddrDot) ∷ (codes "dot=addr", msg.DotAddr) ∷ (codes "limit=addr", msg.LimitAddr)
     ∷ (codes "mark", msg.Mark) ∷ (codes "nomark", msg.NoMark) ∷ []
 
+-- those that change a window, its tag or its file
 abbrev pub window_messages : List (List ℕ × CtlMsg)
 window_messages =
     (codes "clean", msg.Clean) ∷ (codes "dirty", msg.Dirty) ∷ (codes "cleartag", msg.ClearTag) ∷ (codes "del", msg.Del)
@@ -32,6 +35,7 @@ idle_messages =
     (codes "dump", msg.Idle) ∷ (codes "dumpdir", msg.Idle) ∷ (codes "scroll", msg.Idle) ∷ (codes "noscroll", msg.Idle)
     ∷ (codes "show", msg.Idle) ∷ []
 
+-- the first message, or the other where there is none
 abbrev pub or_else : Option CtlMsg → Option CtlMsg → Option CtlMsg
 or_else None other = other
 or_else (Some m) other = Some m
@@ -50,17 +54,19 @@ plain_msg line = if is_dump line
 
 -- a rune is at most U+0020
 abbrev pub has_blank : List ℕ → Bool
-has_blank name = list_any (λ c. nat_le c 0x20) name
+has_blank name = list_any (λ c. nat_le c space) name
 
 -- no name for a window: an empty text, or one with such a rune
 abbrev pub is_bad_name : List ℕ → Bool
 is_bad_name name = (length name == 0) || has_blank name
 
+-- the message that gives this name
 abbrev pub name_msg : List ℕ → Result CtlMsg CtlFault
 name_msg name = if is_bad_name name then Err fault.BadName else Ok (msg.Name name)
 
 -- ---- all lines
 
+-- the message, or that there is none
 abbrev pub or_unknown : Option CtlMsg → Result CtlMsg CtlFault
 or_unknown None = Err fault.Unknown
 or_unknown (Some m) = Ok m

@@ -2,16 +2,17 @@
 
 ghost use Rattle.std.specs.Prelude.{◌≡◌, ◌++◌, length, IfOk, OnOk};
 ghost use Rattle.am_text.specs.Column.{column11};
-ghost use Rattle.win_ctl.specs.Columns.{flag, columns, ctl_text, first_line, index_line};
+ghost use Rattle.am_text.specs.Lines.{first_line};
+ghost use Rattle.win_ctl.specs.Columns.{flag, columns, ctl_text, index_line};
 
-use am_text::{Bytes, NoMemory, Rune, Runes, column11, encode};
+use am_text::{Bytes, NEWLINE, NoMemory, Rune, Runes, column11, encode};
 use std::alloc::Global;
 
 /// The width of the window in `ctl`, in pixels.
-const WIDTH: u64 = 800;
+const DISPLAY_WIDTH: u64 = 800;
 
 /// The width of a tab in `ctl`, in pixels.
-const TAB: u64 = 32;
+const TAB_WIDTH: u64 = 32;
 
 fn flag(holds: bool) -> u64
     ensures { result ≡ flag holds }
@@ -60,9 +61,9 @@ pub fn ctl_text(
     ensures { IfOk result (λ bytes. bytes ≡ ctl_text id tag body dir modified) }
 {
     let mut bytes = columns(alloc, id, tag, body, dir, modified)?;
-    put_column(alloc, &mut bytes, WIDTH)?;
+    put_column(alloc, &mut bytes, DISPLAY_WIDTH)?;
     bytes.append(b"fixed ")?;
-    put_column(alloc, &mut bytes, TAB)?;
+    put_column(alloc, &mut bytes, TAB_WIDTH)?;
     Ok(bytes)
 }
 
@@ -72,7 +73,7 @@ fn first_line(text: &[Rune]) -> &[Rune]
 {
     let mut at = 0;
     for rune in text {
-        if *rune == 10 {
+        if *rune == NEWLINE {
             let (line, _) = text.split_at(at);
             return line;
         }

@@ -12,5 +12,5 @@ pub use columns::{ctl_text, index_line};
 pub use limits::TAG_RUNES;
 pub use message::{CtlFault, CtlMsg};
 pub use parsing::parse_ctl;
-pub use paths::{ERRORS, SLASH, directory, errors_name};
+pub use paths::{ERRORS, directory, errors_name};
 pub use tags::{Shown, Tag, tag_text};

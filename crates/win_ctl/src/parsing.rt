@@ -5,11 +5,8 @@ ghost use Rattle.am_text.specs.Utf8.{decode};
 ghost use Rattle.win_ctl.specs.Messages.{message_beside, range_messages, window_messages, idle_messages, is_dump, plain_msg, has_blank, is_bad_name, name_msg, ctl_of, Refuses};
 
 use crate::message::{CtlFault, CtlMsg};
-use am_text::{Rune, after_front, decode_whole};
+use am_text::{Rune, SPACE, after_front, decode_whole};
 use std::alloc::Global;
-
-/// A space, the last of the runes that no name has.
-const SPACE: Rune = 0x20;
 
 fn range_msg(line: &[u8]) -> Option<CtlMsg>
     ensures { result ≡ message_beside range_messages line.now }
@@ -93,7 +90,7 @@ fn plain_msg(line: &[u8]) -> Option<CtlMsg>
     idle_msg(line)
 }
 
-// Whether a rune is a blank or a control.
+// Whether a rune is a blank or a control: none past the blank is.
 fn has_blank(name: &[Rune]) -> bool
     ensures { result ≡ has_blank name.now }
 {

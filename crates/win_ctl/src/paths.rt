@@ -3,14 +3,19 @@
 ghost use Rattle.std.specs.Prelude.{◌≡◌, ◌≤◌, length, IfOk};
 ghost use Rattle.win_ctl.specs.Directory.{dir_width, directory, errors_name};
 
-use am_text::{NoMemory, Rune, Runes};
+use am_text::{NoMemory, PLUS, Rune, Runes, SLASH};
 use std::alloc::Global;
 
-/// The rune `/`.
-pub const SLASH: Rune = 0x2F;
-
 /// The end of the name of an errors window: `+Errors`.
-pub const ERRORS: [Rune; 7] = [43, 69, 114, 114, 111, 114, 115];
+pub const ERRORS: [Rune; 7] = [
+    PLUS,
+    b'E' as Rune,
+    b'r' as Rune,
+    b'r' as Rune,
+    b'o' as Rune,
+    b'r' as Rune,
+    b's' as Rune,
+];
 
 // How many runes a name has up to and with its last `/`.
 fn dir_width(name: &[Rune]) -> usize

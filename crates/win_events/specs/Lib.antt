@@ -1,2 +1,4 @@
+pub mod Letters
+pub mod Limits
 pub mod Spelling
 pub mod Back

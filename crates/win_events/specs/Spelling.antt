@@ -1,31 +1,36 @@
 -- How the events of a window are spelled.
 use Rattle.std.specs.Prelude.{ℕ, Bool, true, false, ◌||◌, List, [], ◌∷◌, ◌++◌, length, nat_le, Option, Some, None, if◌then◌else◌}
 use Rattle.std.specs.Fmt.{decimal}
+use Rattle.am_text.specs.Ascii.{newline, space}
 use Rattle.am_text.specs.Utf8.{utf8}
 use Rattle.am_text.specs.declared.range.Range.{Range}
+use Rattle.win_events.specs.Letters.{letter_E, letter_F, letter_K, letter_M, letter_D, letter_d, letter_I, letter_i, letter_L, letter_l, letter_X, letter_x}
+use Rattle.win_events.specs.Limits.{long_text}
 use Rattle.win_events.specs.declared.item.Item.{Item}
 use Rattle.win_events.specs.declared.item.Origin.{Origin}
 use Rattle.win_events.specs.declared.item.Origin.TheVariants.{E, F, K, M}
 use Rattle.win_events.specs.declared.item.Sort.{Sort}
 use Rattle.win_events.specs.declared.item.Sort.TheVariants.{BodyDel, TagDel, BodyIns, TagIns, BodyLook, TagLook, BodyExec, TagExec}
 
+-- the letter of an origin
 abbrev pub origin_letter : Origin → ℕ
-origin_letter E = 69
-origin_letter F = 70
-origin_letter K = 75
-origin_letter M = 77
+origin_letter E = letter_E
+origin_letter F = letter_F
+origin_letter K = letter_K
+origin_letter M = letter_M
 
 -- capitals are the body, small letters the tag
 abbrev pub sort_letter : Sort → ℕ
-sort_letter BodyDel = 68
-sort_letter TagDel = 100
-sort_letter BodyIns = 73
-sort_letter TagIns = 105
-sort_letter BodyLook = 76
-sort_letter TagLook = 108
-sort_letter BodyExec = 88
-sort_letter TagExec = 120
+sort_letter BodyDel = letter_D
+sort_letter TagDel = letter_d
+sort_letter BodyIns = letter_I
+sort_letter TagIns = letter_i
+sort_letter BodyLook = letter_L
+sort_letter TagLook = letter_l
+sort_letter BodyExec = letter_X
+sort_letter TagExec = letter_x
 
+-- whether an event of this type is a deletion
 abbrev pub is_deletion : Sort → Bool
 is_deletion BodyDel = true
 is_deletion TagDel = true
@@ -38,17 +43,17 @@ is_deletion TagExec = false
 
 -- the text that a message shows: none of a deletion, and none of 256 runes and more
 abbrev pub shown : Sort → List ℕ → List ℕ
-shown sort text = if is_deletion sort || nat_le 256 (length text) then [] else text
+shown sort text = if is_deletion sort || nat_le long_text (length text) then [] else text
 
 -- a number and a blank
 abbrev pub field : ℕ → List ℕ
-field n = decimal n ++ 32 ∷ []
+field n = decimal n ++ space ∷ []
 
 -- one message: letters, the range, the flag, the count of the runes shown, these, a newline
 unfoldable pub message : Origin → Sort → Range → ℕ → List ℕ → List ℕ
 message origin sort range flag text =
     (origin_letter origin ∷ sort_letter sort ∷ []) ++ field range.q0 ++ field range.q1 ++ field flag
-    ++ field (length (shown sort text)) ++ utf8 (shown sort text) ++ 10 ∷ []
+    ++ field (length (shown sort text)) ++ utf8 (shown sort text) ++ newline ∷ []
 
 -- the text of the first message: none where the click was expanded
 abbrev pub first_text : Item → Option (Range × List ℕ) → List ℕ

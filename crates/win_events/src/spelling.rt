@@ -8,6 +8,9 @@ use crate::item::{Item, Origin, Sort};
 use am_text::{Bytes, NoMemory, Range, Runes, encode};
 use std::alloc::Global;
 
+/// A text of so many runes or more isn't shown in a message.
+const LONG_TEXT: usize = 256;
+
 fn origin_letter(origin: Origin) -> u8
     ensures { result ≡ origin_letter origin }
 {
@@ -67,7 +70,7 @@ fn push_field(bytes: &mut Bytes, n: u64) -> Result<(), NoMemory>
 fn shown(alloc: Global, sort: Sort, text: &[u32]) -> Result<Runes, NoMemory>
     ensures { IfOk result (λ runes. runes ≡ shown sort text.now) }
 {
-    if is_deletion(sort) || text.len() >= 256 {
+    if is_deletion(sort) || text.len() >= LONG_TEXT {
         return Ok(Runes::new(alloc));
     }
     Runes::copied(alloc, text)

@@ -20,9 +20,11 @@ pub record History : Type 0 where
   -- what the next change does with the groups
   pub marking : Marking
 
+-- the history of a log
 abbrev pub history_of : Log → History
 history_of l = record { past = l.past; future = l.future; marking = l.marking }
 
+-- nothing was done
 abbrev pub no_history : History
 no_history = record { past = []; future = []; marking = no_marking }
 
@@ -76,10 +78,12 @@ pub record IsInside (text : List ℕ) (r : Range) : Type 0 where
 abbrev pub moved : Range → List Edit → Range
 moved r es = record { q0 = images r.q0 es; q1 = images r.q1 es }
 
+-- a limit moved by edits
 abbrev pub moved_limit : Option Range → List Edit → Option Range
 moved_limit None es = None
 moved_limit (Some r) es = Some (moved r es)
 
+-- a limit lies in a text
 abbrev pub IsLimitInside : List ℕ → Option Range → Type 0
 IsLimitInside text None = Unit {0}
 IsLimitInside text (Some r) = IsInside text r
@@ -150,9 +154,11 @@ pub record BodyState : Type 0 where
   pub limit : Option Range
   pub history : History
 
+-- the null range at the front
 abbrev pub null_range : Range
 null_range = record { q0 = 0; q1 = 0 }
 
+-- the body of a new window
 abbrev pub empty_body : BodyState
 empty_body = record { text = []; dot = null_range; addr = null_range; limit = None; history = no_history }
 
@@ -163,15 +169,19 @@ pub record IsSound (s : BodyState) : Type 0 where
   pub limit : IsLimitInside s.text s.limit
   pub history : IsHistoryOf s.text s.history.past s.history.future
 
+-- with this dot
 abbrev pub with_dot : BodyState → Range → BodyState
 with_dot s r = record s { dot = r }
 
+-- with this address
 abbrev pub with_addr : BodyState → Range → BodyState
 with_addr s r = record s { addr = r }
 
+-- with this limit
 abbrev pub with_limit : BodyState → Option Range → BodyState
 with_limit s r = record s { limit = r }
 
+-- with marks that come of themselves, or don't
 abbrev pub marked_body : BodyState → Bool → BodyState
 marked_body s automatic = record s { history = marked_history s.history automatic }
 

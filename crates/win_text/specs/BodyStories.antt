@@ -20,9 +20,11 @@ pub record BodyStory : Type 0 where
   pub limit : Option KeptRange
   pub history : History
 
+-- a range that was set behind so many edits
 abbrev pub set_at : ℕ → Range → KeptRange
 set_at at r = record { range = r; at = at }
 
+-- a limit that was set behind so many edits
 abbrev pub limit_at : ℕ → Option Range → Option KeptRange
 limit_at at None = None
 limit_at at (Some r) = Some (set_at at r)
@@ -41,10 +43,12 @@ story_text s = text_after [] s.edits
 abbrev pub range_now : List Edit → KeptRange → Range
 range_now edits k = moved k.range (drop k.at edits)
 
+-- a limit, moved by all edits since it was set
 abbrev pub limit_now : List Edit → Option KeptRange → Option Range
 limit_now edits None = None
 limit_now edits (Some k) = Some (range_now edits k)
 
+-- the body of a story
 abbrev pub shown : BodyStory → BodyState
 shown s = record {
   text = story_text s;
@@ -61,6 +65,7 @@ pub record BodyChange : Type 0 where
   pub edits : List Edit
   pub dot : Option Range
 
+-- the range that is set, or the one before
 abbrev pub kept_or_set : KeptRange → ℕ → Option Range → KeptRange
 kept_or_set k at None = k
 kept_or_set k at (Some r) = set_at at r
@@ -75,15 +80,19 @@ story_changed s c number = record {
   history = after_group s.history (done_group (story_text s) c.edits) number;
 }
 
+-- with this dot
 abbrev pub story_with_dot : BodyStory → Range → BodyStory
 story_with_dot s r = record s { dot = set_at (length s.edits) r }
 
+-- with this address
 abbrev pub story_with_addr : BodyStory → Range → BodyStory
 story_with_addr s r = record s { addr = set_at (length s.edits) r }
 
+-- with this limit
 abbrev pub story_with_limit : BodyStory → Option Range → BodyStory
 story_with_limit s r = record s { limit = limit_at (length s.edits) r }
 
+-- with marks that come of themselves, or don't
 abbrev pub story_marked : BodyStory → Bool → BodyStory
 story_marked s automatic = record s { history = marked_history s.history automatic }
 
@@ -108,10 +117,12 @@ story_redone s = story_moved s (edits_to_redo s.history) (redone_history s.histo
 
 -- ---- the same change, planned over the text and ranges as they are now
 
+-- the range that is set, or the one before moved by the edits
 abbrev pub moved_or_set : Range → List Edit → Option Range → Range
 moved_or_set r es None = moved r es
 moved_or_set r es (Some set) = set
 
+-- the plan of a change
 abbrev pub plan_of : BodyState → BodyChange → ℕ → TextPlan
 plan_of s c number = record { edits = c.edits; dot = moved_or_set s.dot c.edits c.dot; kind = Change; number = number }
 

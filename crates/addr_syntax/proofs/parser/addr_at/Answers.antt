@@ -18,8 +18,8 @@ returns-in_err-next-clause-refused c =
     let p = err_from_is_err_and c.from_residual.result c.from_residual.ensures.1 in
     rw (p.1, p.2) (step_fails_from c.args.text.now c.args.from c.loop-at.at i.0 i.1 c.loop-at-test.true (sym c.begins_piece.ensures ∙ c.if-begins_piece.true) c.in_err-next.field-0.0 (c.in_err-next.ensures.err i.0 i.2))
 
-pub returns-in_err-limited-clause-refused : goal.returns-in_err-limited-clause-refused
-returns-in_err-limited-clause-refused c =
+pub returns-in_err-in_limits-clause-refused : goal.returns-in_err-in_limits-clause-refused
+returns-in_err-in_limits-clause-refused c =
     let i = c.loop-at.invariant in
     let text = c.args.text.now in
     let at = c.loop-at.at in
@@ -27,8 +27,8 @@ returns-in_err-limited-clause-refused c =
       | then-loop-at-test+else-begins_piece w ↦ stops_there text at w.loop-at-test.true (sym w.begins_piece.ensures ∙ w.if-begins_piece.false)
       | else-loop-at-test w ↦ stops_at_end text at (omega (arith, w.loop-at-test.false, i.1.within))
     ] in
-    let p = err_from_is_err_and c.from_residual-in_err-limited.result c.from_residual-in_err-limited.ensures.1 in
-    rw (p.1, p.2) (limited_fails_from text c.args.from at i.0 i.1 stop c.in_err-limited.field-0.0 (c.in_err-limited.ensures.err i.0 i.2))
+    let p = err_from_is_err_and c.from_residual-in_err-in_limits.result c.from_residual-in_err-in_limits.ensures.1 in
+    rw (p.1, p.2) (limited_fails_from text c.args.from at i.0 i.1 stop c.in_err-in_limits.field-0.0 (c.in_err-in_limits.ensures.err i.0 i.2))
 
 pub returns-clause-read : goal.returns-clause-read
 returns-clause-read c =
@@ -39,5 +39,5 @@ returns-clause-read c =
       | then-loop-at-test+else-begins_piece w ↦ stops_there text at w.loop-at-test.true (sym w.begins_piece.ensures ∙ w.if-begins_piece.false)
       | else-loop-at-test w ↦ stops_at_end text at (omega (arith, w.loop-at-test.false, i.1.within))
     ] in
-    let built = c.in_ok-limited.ensures.ok i.0 i.2 in
-    (whole i.0, built, addr_read text c.args.from at i.0 c.in_ok-limited.field-0 i.1 stop built)
+    let built = c.in_ok-in_limits.ensures.ok i.0 i.2 in
+    (whole i.0, built, addr_read text c.args.from at i.0 c.in_ok-in_limits.field-0 i.1 stop built)

@@ -12,4 +12,4 @@ returns-clause-err c =
       | else-is_for_each-via-then-is_for_each+else-not-is_at w ↦ λ e. sym w.is_at.ensures ∙ w.if-not-is_at.false
       | else-is_for_each-via-else-is_for_each w ↦ λ e. absurd (not_both (is_for_each c.args.kind) e (sym c.is_for_each.ensures ∙ w.if-is_for_each.false))
     ] in
-    IfErr-weaker c.quoted.result _ _ (λ e x. loop_fails c.args.kind c.args.text.now c.args.from e needs x) c.quoted.ensures.err
+    IfErr-weaker c.quoted_expression.result _ _ (λ e x. loop_fails c.args.kind c.args.text.now c.args.from e needs x) c.quoted_expression.ensures.err

@@ -1,19 +1,19 @@
 use Rattle.std.proofs.Common.{◌≡◌, length}
 use Rattle.re_syntax.specs.Tree.{tree}
 use Rattle.edit_run.specs.Ranges.{AreMatches}
-use Rattle.edit_run.specs.Replacing.{substituted}
-use Rattle.edit_run.specs.Meaning.{replaced}
+use Rattle.edit_run.specs.Replacing.{substitute}
+use Rattle.edit_run.specs.Meaning.{replace_each}
 use Rattle.edit_run.specs.Within.{IsWithin}
 use Rattle.edit_run.proofs.acts.replace_all.Given as goal
 
 abbrev pub invariant-loop-rest : goal.invariant-loop-rest
 invariant-loop-rest g l =
     let t = g.T.Letters.letters l.over.text.now in
-    let text = substituted (tree l.re) t l.with in
+    let text = substitute (tree l.re) t l.with in
     record {
       matches : AreMatches (tree l.re) t l.rest;
       within : IsWithin t l.effects;
-      same : replaced text l.rest l.effects ≡ replaced text l.spans l.fn.effects;
+      same : replace_each text l.rest l.effects ≡ replace_each text l.spans l.fn.effects;
     }
 
 abbrev pub decreases-loop-rest : goal.decreases-loop-rest

@@ -2,7 +2,7 @@ use Rattle.std.proofs.Common.{◌≡◌, length, drop}
 use Rattle.edit_parts.specs.Tree.{command}
 use Rattle.edit_run.specs.Ranges.{AreInside}
 use Rattle.edit_run.specs.Lines.{IsCursorOf}
-use Rattle.edit_run.specs.Meaning.{meaning, for_each, list_done}
+use Rattle.edit_run.specs.Meaning.{meaning, for_each, do_list}
 use Rattle.edit_run.specs.Within.{IsWithin}
 use Rattle.edit_run.specs.Kept.{AreOf}
 use Rattle.edit_run.proofs.running.+command.Given as goal
@@ -14,7 +14,7 @@ invariant-run_all-loop-cmd g l =
       kept : AreOf l.rest (drop l.cmd-index l.commands);
       cursor : IsCursorOf t l.doing.cursor;
       within : IsWithin t l.doing.effects;
-      same : list_done (drop l.cmd-index l.commands) t l.over.site.now l.dot l.doing.effects ≡ list_done l.commands t l.over.site.now l.dot l.fn.doing.effects;
+      same : do_list (drop l.cmd-index l.commands) t l.over.site.now l.dot l.doing.effects ≡ do_list l.commands t l.over.site.now l.dot l.fn.doing.effects;
     }
 
 abbrev pub invariant-run_each-loop-rest : goal.invariant-run_each-loop-rest

@@ -4,16 +4,16 @@ use Rattle.sam_address.proofs.Starts.{back_at_start, back_within, back_at_zero, 
 use Rattle.sam_address.specs.Value.{back_along}
 use Rattle.sam_address.specs.Lines.{starts_back, line_at}
 use Rattle.sam_address.proofs.lines.line_back.Goals as goal
-use Rattle.sam_address.proofs.lines.line_back.Goals.{then-at-eq10+else-left-eq0, else-at-eq10}
+use Rattle.sam_address.proofs.lines.line_back.Goals.{then-at-eq-NEWLINE+else-left-eq0, else-at-eq-NEWLINE}
 
 pub loop-at-preserved : goal.loop-at-preserved
 loop-at-preserved g c =
     let t = g.T.Letters.letters c.args.text.now in
     let at = c.loop-at.at in
     let inside : at ≤ length t = omega arith in
-    elim c.if-at-eq10.branch [
-      | then-at-eq10+else-left-eq0 w ↦
-          let newline : get_or t (at - 1) 0 ≡ 10 = sym c.at.ensures ∙ w.if-at-eq10.true in
+    elim c.if-at-eq-NEWLINE.branch [
+      | then-at-eq-NEWLINE+else-left-eq0 w ↦
+          let newline : get_or t (at - 1) 0 ≡ 10 = sym c.at.ensures ∙ w.if-at-eq-NEWLINE.true in
           rw (w.left-is, w.end-is) (record {
             down = omega arith;
             order = omega arith;
@@ -22,8 +22,8 @@ loop-at-preserved g c =
             same = sym (back_at_start t at c.loop-at.left c.loop-at-test.true inside newline ∙ cond-false _ _ _ (ne_eqb c.loop-at.left 0 w.if-left-eq0.false)) ∙ c.loop-at.invariant.same;
             ends = λ _. sym (end_at_start t at c.loop-at-test.true inside newline);
           })
-      | else-at-eq10 w ↦
-          let other : get_or t (at - 1) 0 ≡ 10 → ⊥ = λ e. w.if-at-eq10.false (c.at.ensures ∙ e) in
+      | else-at-eq-NEWLINE w ↦
+          let other : get_or t (at - 1) 0 ≡ 10 → ⊥ = λ e. w.if-at-eq-NEWLINE.false (c.at.ensures ∙ e) in
           rw (w.left-is, w.end-is) (record {
             down = omega arith;
             order = omega arith;
@@ -38,7 +38,7 @@ pub returns-then-left-eq0-clause-value : goal.returns-then-left-eq0-clause-value
 returns-then-left-eq0-clause-value g c =
     let t = g.T.Letters.letters c.args.text.now in
     let at = c.loop-at.at in
-    let newline : get_or t (at - 1) 0 ≡ 10 = sym c.at.ensures ∙ c.if-at-eq10.true in
+    let newline : get_or t (at - 1) 0 ≡ 10 = sym c.at.ensures ∙ c.if-at-eq-NEWLINE.true in
     let along = back_at_start t at c.loop-at.left c.loop-at-test.true (omega arith) newline ∙ cond-true _ _ _ (eq-eqb c.loop-at.left 0 c.if-left-eq0.true) in
     found_back t at c.loop-at.end (c.loop-at.invariant.ends (omega arith)) ∙ sym (lines_back_is t c.args.place c.args.n c.requires.counted ∙ (sym c.loop-at.invariant.same ∙ along))
 

@@ -1,5 +1,5 @@
 use Rattle.std.proofs.Common.{◌≡◌, ◌++◌, take, drop}
-use Rattle.win_ctl.specs.Columns.{first_line}
+use Rattle.am_text.specs.Lines.{first_line}
 use Rattle.win_ctl.proofs.columns.first_line.Given as goal
 
 abbrev pub invariant-loop-rune : goal.invariant-loop-rune

@@ -1,5 +1,0 @@
-use Rattle.addr_syntax.proofs.Places.{one_address}
-use Rattle.addr_syntax.proofs.parser.an_address_has_one_tree.Goals as goal
-
-pub returns : goal.returns
-returns c = one_address

@@ -1,5 +1,0 @@
-use Rattle.re_syntax.proofs.Complete.{one_tree}
-use Rattle.re_syntax.proofs.parser.a_text_has_one_tree.Goals as goal
-
-pub returns : goal.returns
-returns c = one_tree
