@@ -1,15 +1,20 @@
 //! The messages of an event.
 
-ghost use Rattle.std.specs.Prelude.{◌≡◌, ◌++◌, ◌∷◌, [], length, IfOk, OnOk, OnErr};
+ghost use Rattle.std.specs.Prelude.{◌≡◌, ◌++◌, ◌∷◌, [], length, IfOk, OnOk, OnErr, if◌then◌else◌};
 ghost use Rattle.std.specs.Fmt.{decimal};
+ghost use lib.Utf8.{scalar};
+ghost use Rattle.am_text.specs.Utf8.{rune_bytes, utf8};
 ghost use Rattle.win_events.specs.Spelling.{origin_letter, sort_letter, is_deletion, shown, field, message, first_text, expansion, argument, spelling};
 
 use crate::item::{Item, Origin, Sort};
-use am_text::{Bytes, NoMemory, Range, Runes, encode};
+use am_text::{Bytes, NoMemory, Range, Rune};
 use std::alloc::Global;
 
 /// A text of so many runes or more isn't shown in a message.
 const LONG_TEXT: usize = 256;
+
+/// How many bytes a message takes at most beside its text, where its numbers are small.
+const MOST_BUT_TEXT: usize = 32;
 
 fn origin_letter(origin: Origin) -> u8
     ensures { result ≡ origin_letter origin }
@@ -67,13 +72,44 @@ fn push_field(bytes: &mut Bytes, n: u64) -> Result<(), NoMemory>
 }
 
 // The text that a message shows.
-fn shown(alloc: Global, sort: Sort, text: &[u32]) -> Result<Runes, NoMemory>
-    ensures { IfOk result (λ runes. runes ≡ shown sort text.now) }
+fn shown(sort: Sort, text: &[u32]) -> &[u32]
+    ensures { result.now ≡ shown sort text.now }
 {
     if is_deletion(sort) || text.len() >= LONG_TEXT {
-        return Ok(Runes::new(alloc));
+        return &[];
     }
-    Runes::copied(alloc, text)
+    text
+}
+
+fn scalar_or_replacement(rune: Rune) -> char
+    ensures { result ≡ (if scalar rune then rune else 0xFFFD) }
+{
+    match char::from_u32(rune) {
+        Some(c) => c,
+        None => '\u{FFFD}',
+    }
+}
+
+// Puts the bytes of a rune at the end.
+fn push_rune(bytes: &mut Bytes, rune: Rune) -> Result<(), NoMemory>
+    ensures { OnOk result (bytes.new ≡ bytes.old ++ rune_bytes rune) }
+{
+    let c = scalar_or_replacement(rune);
+    bytes.append(c.encode_utf8(&mut [0; 4]).as_bytes())?;
+    Ok(())
+}
+
+// Puts the bytes of a text at the end.
+#[tactic(auto, using(crate::proofs::Digits::joined))]
+fn push_text(bytes: &mut Bytes, text: &[u32]) -> Result<(), NoMemory>
+    ensures { OnOk result (bytes.new ≡ bytes.old ++ utf8 text.now) }
+{
+    let mut rest = text;
+    while let [rune, after @ ..] = rest {
+        push_rune(bytes, *rune)?;
+        rest = after;
+    }
+    Ok(())
 }
 
 // One message.
@@ -87,15 +123,15 @@ fn message(
 ) -> Result<Bytes, NoMemory>
     ensures { IfOk result (λ bytes. bytes ≡ message item.now.origin item.now.sort range flag text.now) }
 {
-    let shown = shown(alloc, item.sort, text)?;
-    let mut bytes = Bytes::new(alloc);
+    let shown = shown(item.sort, text);
+    let mut bytes = Bytes::from_vec(Vec::with_capacity(alloc, MOST_BUT_TEXT + shown.len())?);
     bytes.push(origin_letter(item.origin))?;
     bytes.push(sort_letter(item.sort))?;
     push_field(&mut bytes, range.q0 as u64)?;
     push_field(&mut bytes, range.q1 as u64)?;
     push_field(&mut bytes, u64::from(flag))?;
     push_field(&mut bytes, shown.len() as u64)?;
-    bytes.append(encode(alloc, &shown)?.as_slice())?;
+    push_text(&mut bytes, shown)?;
     bytes.push(b'\n')?;
     Ok(bytes)
 }
