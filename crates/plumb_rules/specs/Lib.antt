@@ -2,6 +2,7 @@ pub mod Attributes
 pub mod Drafts
 pub mod Laws
 pub mod Patterns
+pub mod Refused
 pub mod Routes
 pub mod Texts
 pub mod Unchanged

@@ -19,5 +19,6 @@ pub use answer::{Route, Way};
 pub use laws::{expressions_have_trees, first_set_is_taken, messages_are_delivered_whole};
 pub use routing::route;
 pub use rule_syntax::{
-    Argument, Field, Late, Piece, Rule, RuleFault, RuleSets, Rules, Var, Vars, Verb, parse_rules,
+    Argument, Field, Late, Piece, ReadRule, Rule, RuleFault, RuleSets, Rules, Var, Vars, Verb,
+    parse_rules,
 };

@@ -12,7 +12,7 @@ use crate::verbs::{keeps_message, rule_done};
 use am_text::{Bytes, NoMemory};
 use name_tree::Tree;
 use plumb_msg::{PlumbMsg, can_spell};
-use rule_syntax::Rule;
+use rule_syntax::ReadRule;
 use std::alloc::Global;
 
 // Before the first rule of a set.
@@ -31,12 +31,17 @@ fn begun(msg: &PlumbMsg) -> State
 
 // A rule that leaves a message which can't be spelled doesn't hold. A message that stays as it is can still be spelled.
 #[tactic(auto, using(crate::proofs::Same::same))]
-fn rule_holds(alloc: Global, tree: &Tree, state: &mut State, rule: &Rule) -> Result<bool, NoMemory>
+fn rule_holds(
+    alloc: Global,
+    tree: &Tree,
+    state: &mut State,
+    rule: &ReadRule,
+) -> Result<bool, NoMemory>
     requires { spelling.can_spell state.old.msg ≡ true }
     ensures value { IfOk result (λ holds. where_holds state.new holds ≡ rule_holds tree.now.present state.old rule.now) }
     ensures spelled { IfOk result (λ holds. IsTrue holds → spelling.can_spell state.new.msg ≡ true) }
 {
-    let is_same = keeps_message(state.msg.get(), rule.verb);
+    let is_same = keeps_message(state.msg.get(), rule.get().verb);
     if !rule_done(alloc, tree, state, rule)? {
         return Ok(false);
     }
@@ -51,7 +56,7 @@ fn rules_hold(
     alloc: Global,
     tree: &Tree,
     state: &mut State,
-    rules: &[Rule],
+    rules: &[ReadRule],
 ) -> Result<bool, NoMemory>
     requires { spelling.can_spell state.old.msg ≡ true }
     ensures { IfOk result (λ holds. where_holds state.new holds ≡ rules_hold tree.now.present state.old rules.now) }
@@ -105,7 +110,7 @@ pub fn set_route(
     alloc: Global,
     tree: &Tree,
     msg: &PlumbMsg,
-    rules: &[Rule],
+    rules: &[ReadRule],
 ) -> Result<Option<Route>, NoMemory>
     requires { spelling.can_spell msg.now ≡ true }
     ensures { IfOk result (λ r. r ≡ set_route tree.now.present msg.now rules.now) }

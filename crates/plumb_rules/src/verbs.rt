@@ -1,8 +1,12 @@
 //! What each verb does to the state, and whether the rule holds.
 
-ghost use Rattle.std.specs.Prelude.{◌≡◌, IfOk, OnOk};
+ghost use Rattle.std.specs.Prelude.{◌≡◌, true, IfOk, OnOk, IsTrue};
 ghost use Rattle.re_syntax.specs.Tree.{tree};
 ghost use Rattle.plumb_rules.specs.Patterns.{click_span, IsMatchIn};
+ghost use Rattle.rule_syntax.specs.Edged.{NeverMatches};
+ghost use Rattle.rule_syntax.specs.declared.rule.Verb.TheVariants as verbs;
+ghost use Rattle.plumb_rules.specs.Refused.{IsRefused};
+ghost use Rattle.plumb_rules.specs.Texts as texts;
 ghost use Rattle.plumb_rules.specs.Unchanged.{keeps_message};
 ghost use Rattle.plumb_rules.specs.Verbs.{where_holds, is_text, set, with_match, whole_data, clicked_msg, clicked, data_matches, field_matches, tree_matches, matches, isfile, isdir, add, delete, to, verb_done, rule_done};
 
@@ -16,7 +20,7 @@ use am_text::{Items, NoMemory, Range, Runes, encode};
 use name_tree::Tree;
 use plumb_msg::{PlumbMsg, read_attrs};
 use re_syntax::Re;
-use rule_syntax::{Field, Rule, Verb};
+use rule_syntax::{Field, ReadRule, Verb};
 use std::alloc::Global;
 
 /// Whether a rule with this verb leaves the message as it is, where it holds.
@@ -273,15 +277,60 @@ fn verb_done(
     }
 }
 
+// Whether the edges of a rule's expression tell that it doesn't match the field.
+fn never_matches(
+    alloc: Global,
+    state: &State,
+    rule: &ReadRule,
+    field: Field,
+) -> Result<bool, NoMemory>
+    ensures { IfOk result (λ never. IsTrue never → NeverMatches rule.now.argument (texts.field_text state.now.msg field)) }
+{
+    let present = field_text(alloc, state.msg.get(), field)?;
+    Ok(rule.never_matches(present.as_slice()))
+}
+
+// The same of a rule that has the field, where a part of it isn't enough.
+fn field_refused(
+    alloc: Global,
+    state: &State,
+    rule: &ReadRule,
+    field: Field,
+) -> Result<bool, NoMemory>
+    requires field { rule.now.verb ≡ verbs.Matches field }
+    requires keeps { keeps_message state.now.msg (verbs.Matches field) ≡ true }
+    ensures { IfOk result (λ refused. IsTrue refused → IsRefused state.now rule.now) }
+{
+    let never = never_matches(alloc, state, rule, field)?;
+    Ok(never)
+}
+
+// Whether it is known before the expression of a rule is read that the rule doesn't hold. At a click a part of the data is enough.
+fn is_refused(alloc: Global, state: &State, rule: &ReadRule) -> Result<bool, NoMemory>
+    ensures { IfOk result (λ refused. IsTrue refused → IsRefused state.now rule.now) }
+{
+    let Verb::Matches(field) = rule.get().verb else {
+        return Ok(false);
+    };
+    if !keeps_message(state.msg.get(), Verb::Matches(field)) {
+        return Ok(false);
+    }
+    field_refused(alloc, state, rule, field)
+}
+
 /// Does a rule to the state, and answers whether it holds. Where it doesn't, the state is of no use any more.
 pub fn rule_done(
     alloc: Global,
     tree: &Tree,
     state: &mut State,
-    rule: &Rule,
+    rule: &ReadRule,
 ) -> Result<bool, NoMemory>
     ensures { IfOk result (λ holds. where_holds state.new holds ≡ rule_done tree.now.present state.old rule.now) }
 {
+    if is_refused(alloc, state, rule)? {
+        return Ok(false);
+    }
+    let rule = rule.get();
     let text = argument_text(alloc, state, rule.argument.as_slice())?;
     verb_done(alloc, tree, state, rule.verb, text)
 }

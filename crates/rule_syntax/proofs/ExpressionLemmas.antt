@@ -1,6 +1,6 @@
 -- The size of an expression.
-use Rattle.std.proofs.Common.{◌≡◌, ℕ, ◌+◌, ◌-◌, ◌<◌, ◌≤◌, Bool, true, false, cond, List, length, Option, Some, None, Result, Ok, Err, refl, ap, sym, subst, ◌∙◌, inl, inr, le-ltb, lt-ltb, drop, arith}
-use Rattle.std.specs.Prelude.{IsTrue, IfOk, IfErr, slice_range, slice_index}
+use Rattle.std.proofs.Common.{◌≡◌, ℕ, ◌+◌, ◌-◌, ◌<◌, ◌≤◌, Bool, true, false, cond, not, List, length, Option, Some, None, Result, Ok, Err, refl, ap, sym, subst, ◌∙◌, inl, inr, le-ltb, lt-ltb, drop, arith}
+use Rattle.std.specs.Prelude.{IsTrue, IfOk, IfErr, IfSome, slice_range, slice_index}
 use Rattle.std.proofs.lemmas.Bool.{cases_lt, false≢true}
 use Rattle.std.proofs.lemmas.List.{take_all, take-append-drop}
 use Rattle.re_syntax.specs.Tree.{Tree, nodes, tree}
@@ -13,13 +13,25 @@ use Rattle.re_syntax.specs.declared.re.ReFault.TheVariants as fault
 use Rattle.am_text.specs.declared.memory.NoMemory.{NoMemory}
 use Rattle.re_syntax.specs.Read.{Reading, begin, reads, is_complete}
 use Rattle.re_syntax.proofs.Sound.{whole}
-use Rattle.re_syntax.proofs.Complete.{complete_read}
-use Rattle.rule_syntax.specs.Expressions.{size_read, size_of, size_fit, parsed_fit, HasSize}
+use Rattle.re_syntax.proofs.Complete.{complete_read, one_tree}
+use Rattle.re_edges.specs.Edges.{edges_of, may_be_whole}
+use Rattle.re_edges.specs.declared.edges.Edges.{Edges}
+use Rattle.re_edges.proofs.Keeping.{keep_to_edges}
+use Rattle.rule_syntax.specs.Arguments.{is_literal, runes_of}
+use Rattle.rule_syntax.specs.Edged.{AreEdges, AreEdgesOf, NeverMatches}
+use Rattle.rule_syntax.specs.Expressions.{size_read, size_of, size_fit, parsed_fit, parsed_edges, HasSize}
 use Rattle.rule_syntax.specs.declared.fit.Fit.{Fit}
 use Rattle.rule_syntax.specs.declared.fit.Fit.TheVariants.{Unfit, Fits, TooLarge}
+use Rattle.rule_syntax.specs.declared.rule.Piece.{Piece}
 
 tree_is : (r s : Tree) → Some r ≡ Some s → r ≡ s
 tree_is r s e = cc
+
+abbrev fitted : Fit → Result Fit NoMemory
+fitted a = Ok a
+
+fit_same : (a b : Fit) → fitted a ≡ fitted b → a ≡ b
+fit_same a b e = cc
 
 number_is : (m n : ℕ) → Some m ≡ Some n → m ≡ n
 number_is m n e = cc
@@ -86,8 +98,32 @@ fit_bad text place bad = of (size_of text) refl
     of None e = refl
     of (Some n) e = absurd (let u = unsized text n e in never_written text place bad u.0 u.1)
 
-pub fit_is : (text : List ℕ) (r : Result (Re × ℕ) ReFault) (o : Result Fit NoMemory) → o ≡ parsed_fit r → IfOk r (λ a. IsRead None text 0 a.1 (tree a.0)) → IfOk r (λ a. nodes (tree a.0) ≤ 2048) → IfErr r (Refuses None text 0) → IfOk o (λ fit. fit ≡ size_fit (size_of text))
-fit_is text (Ok a) o e read small refused = subst (λ (x : Result Fit NoMemory). IfOk x (λ fit. fit ≡ size_fit (size_of text))) (sym e) (fit_ok text a.1 (tree a.0) read small)
-fit_is text (Err fault.Nodes) o e read small refused = subst (λ (x : Result Fit NoMemory). IfOk x (λ fit. fit ≡ size_fit (size_of text))) (sym e) (fit_nodes text refused.0 refused.1 refused.2 refused.3)
-fit_is text (Err (fault.Bad place)) o e read small refused = subst (λ (x : Result Fit NoMemory). IfOk x (λ fit. fit ≡ size_fit (size_of text))) (sym e) (fit_bad text place refused)
-fit_is text (Err fault.NoMemory) o e read small refused = subst (λ (x : Result Fit NoMemory). IfOk x (λ fit. fit ≡ size_fit (size_of text))) (sym e) tt
+pub fit_is : (text : List ℕ) (r : Result (Re × ℕ) ReFault) (fit : Fit) → Ok fit ≡ parsed_fit r → IfOk r (λ a. IsRead None text 0 a.1 (tree a.0)) → IfOk r (λ a. nodes (tree a.0) ≤ 2048) → IfErr r (Refuses None text 0) → fit ≡ size_fit (size_of text)
+fit_is text (Ok a) fit e read small refused = fit_same fit Fits e ∙ fit_ok text a.1 (tree a.0) read small
+fit_is text (Err fault.Nodes) fit e read small refused = fit_same fit TooLarge e ∙ fit_nodes text refused.0 refused.1 refused.2 refused.3
+fit_is text (Err (fault.Bad place)) fit e read small refused = fit_same fit Unfit e ∙ fit_bad text place refused
+fit_is text (Err fault.NoMemory) fit e read small refused = absurd cc
+
+-- ---- the edges of an expression
+
+pub edges_are : (text : List ℕ) (r : Result (Re × ℕ) ReFault) (o : Option Edges) → o ≡ parsed_edges r → IfOk r (λ a. IsRead None text 0 a.1 (tree a.0)) → IfSome o (AreEdges text)
+edges_are text (Ok a) o e read =
+    subst (λ (x : Option Edges). IfSome x (AreEdges text)) (sym e) (λ r is. ap edges_of (one_tree None text (tree a.0) r (read_whole text a.1 (tree a.0) read) is))
+edges_are text (Err f) o e read = subst (λ (x : Option Edges). IfSome x (AreEdges text)) (sym e) tt
+
+pub literal_edges : (pieces : List Piece) (text : List ℕ) (o : Option Edges) → is_literal pieces ≡ true → text ≡ runes_of pieces → IfSome o (AreEdges text) → IfSome o (AreEdgesOf pieces)
+literal_edges pieces text None literal e h = tt
+literal_edges pieces text (Some edges) literal e h = record { literal = literal; edges = λ r is. h r (subst (λ (t : List ℕ). IsExpression None t r) (sym e) is) }
+
+neither : (b : Bool) → b ≡ true → not b ≡ true → ⊥
+neither true e h = false≢true h
+neither false e h = false≢true e
+
+never : (pieces : List Piece) (e : Edges) (text : List ℕ) → AreEdgesOf pieces e → not (may_be_whole e text) ≡ true → NeverMatches pieces text
+never pieces e text are h = record {
+  literal = are.literal;
+  never = λ r is m. neither (may_be_whole e text) (subst (λ (x : Edges). may_be_whole x text ≡ true) (sym (are.edges r is)) (keep_to_edges r text m)) h;
+}
+
+pub never_by : (pieces : List Piece) (o : Option Edges) (e : Edges) (text : List ℕ) → o ≡ Some e → IfSome o (AreEdgesOf pieces) → not (may_be_whole e text) ≡ true → NeverMatches pieces text
+never_by pieces o e text is are h = never pieces e text (subst (λ (x : Option Edges). IfSome x (AreEdgesOf pieces)) is are) h

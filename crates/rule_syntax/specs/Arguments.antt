@@ -2,6 +2,7 @@
 use Rattle.std.specs.Prelude.{ℕ, ◌-◌, Bool, true, false, ◌==◌, List, [], ◌∷◌, ◌++◌, map, Option, Some, None, if◌then◌else◌, codes}
 use Rattle.std.specs.List.{list_all}
 use Rattle.std.specs.Str.{bytes_eq}
+use Rattle.am_text.specs.Ascii as ascii
 use Rattle.rule_syntax.specs.Words.{is_digit, is_name_rune, trimmed}
 use Rattle.rule_syntax.specs.declared.rule.Late.{Late}
 use Rattle.rule_syntax.specs.declared.rule.Late.TheVariants as late
@@ -54,20 +55,20 @@ abbrev pub with_rune : List Piece → ℕ → List Piece
 with_rune pieces c = pieces ++ piece.Rune c ∷ []
 
 abbrev pub plain : List Piece → ℕ → Reader
-plain pieces c = if c == 39 then reader pieces Quoted else (if c == 36 then reader pieces Dollar else reader (with_rune pieces c) Plain)
+plain pieces c = if c == ascii.quote then reader pieces Quoted else (if c == ascii.dollar then reader pieces Dollar else reader (with_rune pieces c) Plain)
 
 abbrev pub quoted : List Piece → ℕ → Reader
-quoted pieces c = if c == 39 then reader pieces Closed else reader (with_rune pieces c) Quoted
+quoted pieces c = if c == ascii.quote then reader pieces Closed else reader (with_rune pieces c) Quoted
 
 -- after a quote in quotes: another one makes it a quote of the text
 abbrev pub closed : List Piece → ℕ → Reader
-closed pieces c = if c == 39 then reader (with_rune pieces c) Quoted else plain pieces c
+closed pieces c = if c == ascii.quote then reader (with_rune pieces c) Quoted else plain pieces c
 
 -- after `$`: a digit, a name, or else the `$` stands
 abbrev pub dollar : List Piece → ℕ → Reader
 dollar pieces c =
-    if is_digit c then reader (pieces ++ piece.Late (late.Group (c - 48)) ∷ []) Plain
-    else (if is_name_rune c then reader pieces (Name (c ∷ [])) else plain (with_rune pieces 36) c)
+    if is_digit c then reader (pieces ++ piece.Late (late.Group (c - ascii.digit_0)) ∷ []) Plain
+    else (if is_name_rune c then reader pieces (Name (c ∷ [])) else plain (with_rune pieces ascii.dollar) c)
 
 abbrev pub naming : List Var → List Piece → List ℕ → ℕ → Reader
 naming vars pieces name c = if is_name_rune c then reader pieces (Name (name ++ c ∷ [])) else plain (pieces ++ named vars name) c
@@ -93,7 +94,7 @@ abbrev pub ended_at : Mode → List Var → List Piece → Option (List Piece)
 ended_at Plain vars pieces = Some pieces
 ended_at Quoted vars pieces = None
 ended_at Closed vars pieces = Some pieces
-ended_at Dollar vars pieces = Some (with_rune pieces 36)
+ended_at Dollar vars pieces = Some (with_rune pieces ascii.dollar)
 ended_at (Name name) vars pieces = Some (pieces ++ named vars name)
 
 abbrev pub ended : List Var → Reader → Option (List Piece)

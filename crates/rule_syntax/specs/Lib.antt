@@ -1,4 +1,5 @@
 pub mod Arguments
+pub mod Edged
 pub mod Expressions
 pub mod Laws
 pub mod Parsing

@@ -1,5 +1,6 @@
 -- Texts of rules, line by line.
 use Rattle.std.specs.Prelude.{◌≡◌, ℕ, ◌+◌, Bool, true, false, ◌&&◌, ◌||◌, ◌==◌, not, List, [], ◌∷◌, ◌++◌, length, Option, Some, None, Result, Ok, Err, if◌then◌else◌}
+use Rattle.am_text.specs.Ascii.{equals}
 use Rattle.am_text.specs.Lines.{lines_of}
 use Rattle.rule_syntax.specs.Words.{word, after_word, after_gaps, after_blanks, trimmed, name_part, after_name, is_blank_line, is_comment, begins_with_digit}
 use Rattle.rule_syntax.specs.Arguments.{argument_of, runes_of}
@@ -19,7 +20,7 @@ use Rattle.rule_syntax.specs.declared.rule.Verb.{Verb}
 -- the text after a `=` and the blanks behind it
 abbrev pub after_equals : List ℕ → Option (List ℕ)
 after_equals [] = None
-after_equals (c ∷ cs) = if c == 61 then Some (after_blanks cs) else None
+after_equals (c ∷ cs) = if c == equals then Some (after_blanks cs) else None
 
 -- the text of the value, where the line defines a variable: a name that begins with no digit, and `=`, with blanks round it allowed
 abbrev pub value_text : List ℕ → Option (List ℕ)

@@ -2,6 +2,7 @@
 use Rattle.std.specs.Prelude.{ℕ, Bool, true, false, ◌&&◌, ◌||◌, ◌==◌, not, nat_le, List, [], ◌∷◌, length, Option, Some, None, if◌then◌else◌, codes}
 use Rattle.std.specs.List.{list_all, list_any}
 use Rattle.std.specs.Str.{bytes_eq}
+use Rattle.am_text.specs.Ascii.{dot, minus}
 use Rattle.rule_syntax.specs.Words.{is_name_rune}
 use Rattle.rule_syntax.specs.Arguments.{is_literal, runes_of}
 use Rattle.rule_syntax.specs.Expressions.{size_of, size_fit}
@@ -76,7 +77,7 @@ needs_none verb.Start = false
 needs_none verb.Client = false
 
 abbrev pub is_port_rune : ℕ → Bool
-is_port_rune c = is_name_rune c || c == 46 || c == 45
+is_port_rune c = is_name_rune c || c == dot || c == minus
 
 abbrev pub are_port_runes : List ℕ → Bool
 are_port_runes name = list_all is_port_rune name

@@ -2,20 +2,21 @@
 use Rattle.std.specs.Prelude.{ℕ, ◌-◌, Bool, false, ◌||◌, ◌==◌, List, [], ◌∷◌, length, take, if◌then◌else◌}
 use Rattle.std.specs.Int.{is_in_range}
 use Rattle.std.specs.List.{list_all, suffix_len}
+use Rattle.am_text.specs.Ascii as ascii
 
 -- a blank or a tab
 abbrev pub is_gap : ℕ → Bool
-is_gap c = c == 32 || c == 9
+is_gap c = c == ascii.space || c == ascii.tab
 
 abbrev pub is_blank : ℕ → Bool
-is_blank c = c == 32
+is_blank c = c == ascii.space
 
 abbrev pub is_digit : ℕ → Bool
-is_digit c = is_in_range 48 57 c
+is_digit c = is_in_range ascii.digit_0 ascii.digit_9 c
 
 -- a letter of ASCII, a digit or `_`
 abbrev pub is_name_rune : ℕ → Bool
-is_name_rune c = is_digit c || is_in_range 65 90 c || is_in_range 97 122 c || c == 95
+is_name_rune c = is_digit c || is_in_range 65 90 c || is_in_range 97 122 c || c == ascii.underscore
 
 -- the text up to its first blank or tab, and the text from there on
 abbrev pub word : List ℕ → List ℕ
@@ -56,7 +57,7 @@ is_blank_line line = list_all is_gap line
 -- a line with `#` at its front
 abbrev pub is_comment : List ℕ → Bool
 is_comment [] = false
-is_comment (c ∷ cs) = c == 35
+is_comment (c ∷ cs) = c == ascii.hash
 
 abbrev pub begins_with_digit : List ℕ → Bool
 begins_with_digit [] = false

@@ -7,12 +7,8 @@ ghost use Rattle.rule_syntax.specs.declared.argument.Mode.TheVariants as mode;
 
 use crate::rule::{Argument, Late, Piece, Var};
 use crate::words::{is_digit, is_name_rune, is_word, trimmed};
-use am_text::{NoMemory, Rune, Runes};
+use am_text::{DIGIT_0, DOLLAR, NoMemory, QUOTE, Rune, Runes};
 use std::alloc::Global;
-
-const QUOTE: Rune = 0x27;
-
-const DOLLAR: Rune = 0x24;
 
 /// Where in an argument the next rune stands.
 #[derive(Drop)]
@@ -145,7 +141,7 @@ fn dollar(alloc: Global, pieces: Argument, c: Rune) -> Result<Reader, NoMemory>
 {
     if is_digit(c) {
         let mut pieces = pieces;
-        pieces.push(Piece::Late(Late::Group((c - 0x30) as u8)))?;
+        pieces.push(Piece::Late(Late::Group((c - DIGIT_0) as u8)))?;
         return Ok(with_mode(pieces, Mode::Plain));
     }
     if is_name_rune(c) {

@@ -6,15 +6,17 @@ ghost use Rattle.am_text.specs.Utf8.{decode};
 ghost use Rattle.rule_syntax.specs.Parsing.{after_equals, value_text, defined, rule_added, rule_judged, rule_told, rule_from, rule_line, definition_or_rule, set_ended, line_read, told, end_told, lines_read, begun, rules_of, Refuses};
 
 use crate::argument::{argument_of, runes_of};
+use crate::expression::Judged;
 use crate::fault::RuleFault;
 use crate::fit::Fit;
-use crate::rule::{Argument, Rule, RuleSets, Rules, Var, Vars, Verb};
-use crate::verbs::{argument_fit, is_repeated, needs_none, plumbs, verb_of};
+use crate::read_rule::{ReadRule, RuleSets, Rules};
+use crate::rule::{Argument, Rule, Var, Vars, Verb};
+use crate::verbs::{argument_judged, is_repeated, needs_none, plumbs, verb_of};
 use crate::words::{
     after_blanks, after_gaps, begins_with_digit, cut_line, is_blank_line, is_comment, split_name,
     split_word, trimmed,
 };
-use am_text::{NoMemory, Rune, Runes, decode_whole};
+use am_text::{EQUALS, NoMemory, Rune, Runes, decode_whole};
 use std::alloc::Global;
 
 /// What the lines so far gave: the sets, the rules of the set that is read, the variables, and whether an expression is too large.
@@ -31,7 +33,7 @@ fn after_equals(text: &[Rune]) -> Option<&[Rune]>
     ensures { option_copied result ≡ after_equals text.now }
 {
     match text {
-        [0x3D, rest @ ..] => Some(after_blanks(rest)),
+        [EQUALS, rest @ ..] => Some(after_blanks(rest)),
         _ => None,
     }
 }
@@ -68,10 +70,10 @@ fn defined(
 }
 
 // A set has some rules once.
-fn rule_added(state: State, rule: Rule, large: bool) -> Result<Option<State>, NoMemory>
+fn rule_added(state: State, rule: ReadRule, large: bool) -> Result<Option<State>, NoMemory>
     ensures { IfOk result (λ s. s ≡ rule_added state rule large) }
 {
-    if is_repeated(rule.verb, state.rules.as_slice()) {
+    if is_repeated(rule.get().verb, state.rules.as_slice()) {
         return Ok(None);
     }
     let mut state = state;
@@ -80,7 +82,7 @@ fn rule_added(state: State, rule: Rule, large: bool) -> Result<Option<State>, No
     Ok(Some(state))
 }
 
-fn rule_judged(state: State, rule: Rule, fit: Fit) -> Result<Option<State>, NoMemory>
+fn rule_judged(state: State, rule: ReadRule, fit: Fit) -> Result<Option<State>, NoMemory>
     ensures { IfOk result (λ s. s ≡ rule_judged state rule fit) }
 {
     match fit {
@@ -101,8 +103,8 @@ fn rule_told(
     let Some(argument) = argument else {
         return Ok(None);
     };
-    let fit = argument_fit(alloc, verb, argument.as_slice())?;
-    rule_judged(state, Rule { verb, argument }, fit)
+    let Judged { fit, edges } = argument_judged(alloc, verb, argument.as_slice())?;
+    rule_judged(state, ReadRule::new(Rule { verb, argument }, edges), fit)
 }
 
 fn rule_from(

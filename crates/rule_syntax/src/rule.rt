@@ -76,12 +76,6 @@ pub struct Rule {
     pub argument: Argument,
 }
 
-/// The rules of one set, in order.
-pub type Rules = Items<Rule>;
-
-/// Sets of rules, in order.
-pub type RuleSets = Items<Rules>;
-
 /// A variable that rules define.
 #[derive(Drop)]
 pub struct Var {

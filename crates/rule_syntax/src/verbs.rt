@@ -1,14 +1,18 @@
 //! Objects and verbs of rules, and what their arguments have to be.
 
-ghost use Rattle.std.specs.Prelude.{◌≡◌, IfOk};
+ghost use Rattle.std.specs.Prelude.{◌≡◌, true, IfOk, IfSome};
+ghost use Rattle.rule_syntax.specs.Arguments as arguments;
+ghost use Rattle.rule_syntax.specs.Expressions.{size_of, size_fit};
+ghost use Rattle.rule_syntax.specs.Edged.{AreEdgesOf, without_edges};
 ghost use Rattle.rule_syntax.specs.Verbs.{field_of, text_verb, data_verb, field_verb, arg_verb, attr_verb, plumb_verb, verb_of, needs_none, is_port_rune, are_port_runes, is_taken, is_port_name, pattern_fit, port_fit, argument_fit, is_to, is_request, any_to, any_request, is_repeated, plumbs};
 
 use crate::argument::{is_literal, runes_of};
-use crate::expression::expression_fit;
+use crate::expression::{Judged, expression_judged};
 use crate::fit::Fit;
-use crate::rule::{Field, Piece, Rule, Verb};
+use crate::read_rule::ReadRule;
+use crate::rule::{Field, Piece, Verb};
 use crate::words::{is_name_rune, is_word};
-use am_text::{NoMemory, Rune};
+use am_text::{DOT, MINUS, NoMemory, Rune};
 use std::alloc::Global;
 
 #[tactic(auto, unfolding(crate::specs::Verbs::field_of))]
@@ -145,7 +149,7 @@ pub(crate) fn needs_none(verb: Verb) -> bool
 fn is_port_rune(c: Rune) -> bool
     ensures { result ≡ is_port_rune c }
 {
-    is_name_rune(c) || c == 0x2E || c == 0x2D
+    is_name_rune(c) || c == DOT || c == MINUS
 }
 
 fn are_port_runes(name: &[Rune]) -> bool
@@ -171,13 +175,33 @@ fn is_port_name(name: &[Rune]) -> bool
     }
 }
 
-fn pattern_fit(alloc: Global, pieces: &[Piece]) -> Result<Fit, NoMemory>
-    ensures { IfOk result (λ fit. fit ≡ pattern_fit pieces.now) }
+// Of an argument that is no expression, or one with variables.
+fn without_edges(fit: Fit) -> Judged
+    ensures { result ≡ without_edges fit }
 {
-    if !is_literal(pieces) {
-        return Ok(Fit::Fits);
+    Judged { fit, edges: None }
+}
+
+// The same of one without variables.
+fn literal_judged(alloc: Global, pieces: &[Piece]) -> Result<Judged, NoMemory>
+    requires { arguments.is_literal pieces.now ≡ true }
+    ensures fit { IfOk result (λ judged. judged.fit ≡ size_fit (size_of (arguments.runes_of pieces.now))) }
+    ensures edges { IfOk result (λ judged. IfSome judged.edges (AreEdgesOf pieces.now)) }
+{
+    let text = runes_of(alloc, pieces)?;
+    let judged = expression_judged(alloc, text.as_slice())?;
+    Ok(judged)
+}
+
+// How an argument fits as an expression, and its edges.
+fn pattern_judged(alloc: Global, pieces: &[Piece]) -> Result<Judged, NoMemory>
+    ensures fit { IfOk result (λ judged. judged.fit ≡ pattern_fit pieces.now) }
+    ensures edges { IfOk result (λ judged. IfSome judged.edges (AreEdgesOf pieces.now)) }
+{
+    if is_literal(pieces) {
+        return literal_judged(alloc, pieces);
     }
-    expression_fit(alloc, runes_of(alloc, pieces)?.as_slice())
+    Ok(without_edges(Fit::Fits))
 }
 
 fn port_fit(alloc: Global, pieces: &[Piece]) -> Result<Fit, NoMemory>
@@ -193,14 +217,19 @@ fn port_fit(alloc: Global, pieces: &[Piece]) -> Result<Fit, NoMemory>
     }
 }
 
-/// How an argument fits a verb.
-pub(crate) fn argument_fit(alloc: Global, verb: Verb, pieces: &[Piece]) -> Result<Fit, NoMemory>
-    ensures { IfOk result (λ fit. fit ≡ argument_fit verb pieces.now) }
+/// How an argument fits a verb, and its edges.
+pub(crate) fn argument_judged(
+    alloc: Global,
+    verb: Verb,
+    pieces: &[Piece],
+) -> Result<Judged, NoMemory>
+    ensures fit { IfOk result (λ judged. judged.fit ≡ argument_fit verb pieces.now) }
+    ensures edges { IfOk result (λ judged. IfSome judged.edges (AreEdgesOf pieces.now)) }
 {
     match verb {
-        Verb::Matches(_) => pattern_fit(alloc, pieces),
-        Verb::To => port_fit(alloc, pieces),
-        _ => Ok(Fit::Fits),
+        Verb::Matches(_) => pattern_judged(alloc, pieces),
+        Verb::To => Ok(without_edges(port_fit(alloc, pieces)?)),
+        _ => Ok(without_edges(Fit::Fits)),
     }
 }
 
@@ -223,27 +252,27 @@ fn is_request(verb: Verb) -> bool
     }
 }
 
-fn any_to(rules: &[Rule]) -> bool
+fn any_to(rules: &[ReadRule]) -> bool
     ensures { result ≡ any_to rules.now }
 {
-    rules.iter().any(|rule| is_to(rule.verb))
+    rules.iter().any(|rule| is_to(rule.get().verb))
 }
 
-fn any_request(rules: &[Rule]) -> bool
+fn any_request(rules: &[ReadRule]) -> bool
     ensures { result ≡ any_request rules.now }
 {
-    rules.iter().any(|rule| is_request(rule.verb))
+    rules.iter().any(|rule| is_request(rule.get().verb))
 }
 
 /// Whether a set has a rule already that it may have once: a port, or a command.
-pub(crate) fn is_repeated(verb: Verb, rules: &[Rule]) -> bool
+pub(crate) fn is_repeated(verb: Verb, rules: &[ReadRule]) -> bool
     ensures { result ≡ is_repeated verb rules.now }
 {
     (is_to(verb) && any_to(rules)) || (is_request(verb) && any_request(rules))
 }
 
 /// Whether a set has a port or a command.
-pub(crate) fn plumbs(rules: &[Rule]) -> bool
+pub(crate) fn plumbs(rules: &[ReadRule]) -> bool
     ensures { result ≡ plumbs rules.now }
 {
     any_to(rules) || any_request(rules)

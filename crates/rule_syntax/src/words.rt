@@ -6,13 +6,15 @@ ghost use Rattle.std.specs.Str.{bytes_eq};
 ghost use Rattle.am_text.specs.Lines.{first_line, after_line};
 ghost use Rattle.rule_syntax.specs.Words.{is_gap, is_blank, is_digit, is_name_rune, word, after_word, after_gaps, after_blanks, trimmed, name_part, after_name, is_blank_line, is_comment, begins_with_digit};
 
-use am_text::Rune;
+use am_text::{DIGIT_0, DIGIT_9, HASH, NEWLINE, Rune, SPACE, TAB, UNDERSCORE};
 
-const BLANK: Rune = 0x20;
+const UPPER_A: Rune = 0x41;
 
-const TAB: Rune = 0x09;
+const UPPER_Z: Rune = 0x5A;
 
-const NEWLINE: Rune = 0x0A;
+const LOWER_A: Rune = 0x61;
+
+const LOWER_Z: Rune = 0x7A;
 
 fn is_within(low: Rune, high: Rune, c: Rune) -> bool
     ensures { result ≡ is_in_range low high c }
@@ -23,19 +25,22 @@ fn is_within(low: Rune, high: Rune, c: Rune) -> bool
 pub(crate) fn is_digit(c: Rune) -> bool
     ensures { result ≡ is_digit c }
 {
-    is_within(0x30, 0x39, c)
+    is_within(DIGIT_0, DIGIT_9, c)
 }
 
 pub(crate) fn is_name_rune(c: Rune) -> bool
     ensures { result ≡ is_name_rune c }
 {
-    is_digit(c) || is_within(0x41, 0x5A, c) || is_within(0x61, 0x7A, c) || c == 0x5F
+    is_digit(c)
+        || is_within(UPPER_A, UPPER_Z, c)
+        || is_within(LOWER_A, LOWER_Z, c)
+        || c == UNDERSCORE
 }
 
 fn is_gap(c: Rune) -> bool
     ensures { result ≡ is_gap c }
 {
-    c == BLANK || c == TAB
+    c == SPACE || c == TAB
 }
 
 /// Whether a text is this word of ASCII.
@@ -122,7 +127,7 @@ pub(crate) fn after_blanks(text: &[Rune]) -> &[Rune]
 {
     let mut rest = text;
     while let [c, after @ ..] = rest {
-        if *c != BLANK {
+        if *c != SPACE {
             return rest;
         }
         rest = after;
@@ -135,7 +140,7 @@ pub(crate) fn trimmed(text: &[Rune]) -> &[Rune]
     ensures { result.now ≡ trimmed text.now }
 {
     let mut end = text.len();
-    while end > 0 && text[end - 1] == BLANK {
+    while end > 0 && text[end - 1] == SPACE {
         end -= 1;
     }
     text.split_at(end).0
@@ -153,7 +158,7 @@ pub(crate) fn is_comment(line: &[Rune]) -> bool
     ensures { result ≡ is_comment line.now }
 {
     match line {
-        [c, ..] => *c == 0x23,
+        [c, ..] => *c == HASH,
         [] => false,
     }
 }

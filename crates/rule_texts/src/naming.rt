@@ -6,7 +6,7 @@ ghost use Rattle.rule_syntax.specs.Verbs.{is_to};
 ghost use Rattle.rule_texts.specs.Naming.{port_of, set_ports, ports_of};
 
 use am_text::{Bytes, Names, NoMemory, Runes, encode};
-use rule_syntax::{Piece, Rule, Rules, Verb};
+use rule_syntax::{Piece, ReadRule, Rules, Verb};
 use std::alloc::Global;
 
 fn is_to(verb: Verb) -> bool
@@ -44,9 +44,10 @@ fn runes_of(alloc: Global, pieces: &[Piece]) -> Result<Runes, NoMemory>
 
 // Puts the port that a rule names at the end.
 #[tactic(auto, using(crate::proofs::Further::rules))]
-fn put_port(alloc: Global, names: &mut Names, rule: &Rule) -> Result<(), NoMemory>
+fn put_port(alloc: Global, names: &mut Names, rule: &ReadRule) -> Result<(), NoMemory>
     ensures { OnOk result (names.new ≡ names.old ++ port_of rule.now) }
 {
+    let rule = rule.get();
     if is_to(rule.verb) {
         let name: Bytes = encode(alloc, &runes_of(alloc, rule.argument.as_slice())?)?;
         names.push(name)?;
@@ -56,7 +57,7 @@ fn put_port(alloc: Global, names: &mut Names, rule: &Rule) -> Result<(), NoMemor
 
 // Puts the ports that a set names at the end.
 #[tactic(auto, using(crate::proofs::Further::rules))]
-fn put_ports(alloc: Global, names: &mut Names, rules: &[Rule]) -> Result<(), NoMemory>
+fn put_ports(alloc: Global, names: &mut Names, rules: &[ReadRule]) -> Result<(), NoMemory>
     ensures { OnOk result (names.new ≡ names.old ++ set_ports rules.now) }
 {
     for rule in rules {

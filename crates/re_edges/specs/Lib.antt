@@ -1,0 +1,3 @@
+pub mod Runes
+pub mod Edges
+pub mod Laws
