@@ -42,3 +42,8 @@ pub record IsKept (gap : Range) (buffer before behind : List ℕ) (plain : Bool)
   pub before_gap : IsMarked before (around gap buffer) gap.q0
   pub behind_gap : IsMarkedBack behind (around gap buffer) (length buffer - gap.q1)
   pub is_plain : IsPlain plain (around gap buffer)
+
+-- such a text, of whose gap so much is given out as room
+pub record IsRoomy (gap : Range) (spare : ℕ) (buffer before behind : List ℕ) (plain : Bool) : Type 0 where
+  pub kept : IsKept gap buffer before behind plain
+  pub given : spare ≤ gap.q1 - gap.q0

@@ -85,7 +85,7 @@ pub fn plain_bytes(alloc: Global, text: &[Rune]) -> Result<Bytes, NoMemory>
     requires { size text.now ≡ length text.now }
     ensures { IfOk result (λ bytes. bytes ≡ utf8 text.now) }
 {
-    let mut bytes = Bytes::new(alloc);
+    let mut bytes = Bytes::from_vec(Vec::with_capacity(alloc, text.len())?);
     for rune in text {
         bytes.push(*rune as u8)?;
     }
@@ -173,6 +173,15 @@ impl Marks {
     {
         reserve(&mut self.before, runes)?;
         reserve(&mut self.behind, runes)
+    }
+
+    /// Whether there are marks for the strides of a buffer of so many runes.
+    pub fn has_room(&self, runes: usize) -> bool
+        ensures before { result ≡ true → runes < (length self.now.before.items + 1) * stride }
+        ensures behind { result ≡ true → runes < (length self.now.behind.items + 1) * stride }
+    {
+        let strides = runes / STRIDE;
+        strides <= self.before.len() && strides <= self.behind.len()
     }
 
     /// Notes the strides before a gap and behind it, of which those of the unchanged runes are noted.
