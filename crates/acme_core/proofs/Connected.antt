@@ -16,18 +16,19 @@ use Rattle.am_journal.specs.Lawful.{IsLawful}
 use Rattle.am_counter.specs.declared.ask.Ask.TheVariants as ask
 use Rattle.am_counter.specs.Laws.{TellsConnections}
 use Rattle.am_counter.specs.Played.{ArePlayed, IsPlayed, has_dial, has_hang, is_dial_of, is_hang_of, dial_why, hang_why, IsMessageWhy}
-use Rattle.core_intents.specs.declared.connection.Connection.{Connection}
-use Rattle.core_intents.specs.declared.connection.Connection.TheVariants.{Undialed, Live, Ended}
-use Rattle.acme_core.specs.Asks.{answer_at, is_ended}
-use Rattle.core_intents.specs.Connections.{connection_at, connections_after}
+use Rattle.core_parts.specs.declared.connection.Connection.{Connection}
+use Rattle.core_parts.specs.declared.connection.Connection.TheVariants.{Undialed, Live, Ended}
+use Rattle.acme_core.specs.Asks.{answer_at}
+use Rattle.core_views.specs.Asks.{is_ended}
+use Rattle.core_parts.specs.Connections.{connection_at, connections_after}
 use Rattle.core_intents.specs.Doings.{enabled_at, is_tag_used}
 use Rattle.core_intents.specs.Enabled.{dial_refusal, live_refusal, first_why, msg_refusal, size_refusal, most_bytes, tag_refusal, replies_refusal}
-use Rattle.core_intents.specs.Kinds.{kind_of}
+use Rattle.core_parts.specs.Kinds.{kind_of}
 use Rattle.acme_core.specs.Run.{step, run, enabled, present_after}
 use Rattle.acme_core.proofs.Few.{length-connections}
 use Rattle.acme_core.proofs.Goes.{run-push}
 use Rattle.core_steps.proofs.Joins.{here, elsewhere}
-use Rattle.core_intents.specs.States.{Present, State, unsent_count}
+use Rattle.core_parts.specs.States.{Present, State, unsent_count}
 
 -- ---- one event
 

@@ -19,17 +19,17 @@ use Rattle.core_scene.proofs.Settled.{settled_in}
 use Rattle.core_events.specs.Sound.{IsSound, IsIdle}
 use Rattle.core_ports.specs.Sound.{ArePortsSound, ArePortsIdle}
 use Rattle.core_ports.proofs.Sounds.{sound_beginning}
-use Rattle.core_steps.specs.declared.prepared.Prepared.{Prepared}
-use Rattle.core_intents.specs.declared.parts.Parts.{Parts}
-use Rattle.core_intents.specs.declared.connection.Connection.TheVariants.{Undialed}
-use Rattle.core_intents.specs.Connections.{connection_at, connections_after, live_count, was_dialed, AreJoined}
+use Rattle.core_closing.specs.declared.prepared.Prepared.{Prepared}
+use Rattle.core_parts.specs.declared.parts.Parts.{Parts}
+use Rattle.core_parts.specs.declared.connection.Connection.TheVariants.{Undialed}
+use Rattle.core_parts.specs.Connections.{connection_at, connections_after, live_count, was_dialed, AreJoined}
 use Rattle.core_intents.specs.Doings.{doing_of, entry_of, CanBeDone}
-use Rattle.core_intents.specs.Kinds.{kind_of}
+use Rattle.core_parts.specs.Kinds.{kind_of}
 use Rattle.acme_core.specs.Kept.{IsKept, IsReady, IsPrepared, AreSound, planned_of}
-use Rattle.core_intents.specs.Parts.{present_of, AreSteady}
+use Rattle.core_parts.specs.Parts.{present_of, AreSteady}
 use Rattle.acme_core.specs.Run.{step, run, present_after, enabled, ArePossible, IsPossible}
 use Rattle.core_steps.specs.Stages.{after}
-use Rattle.core_intents.specs.States.{Present, State, present, start}
+use Rattle.core_parts.specs.States.{Present, State, present, start}
 use Rattle.acme_core.proofs.Few.{length-connections}
 use Rattle.core_steps.proofs.Joins.{joins_on}
 use Rattle.core_intents.proofs.Kinded.{numbered, found}

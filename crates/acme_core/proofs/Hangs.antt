@@ -21,20 +21,20 @@ use Rattle.core_ports.proofs.Idles.{none_said, none_taken}
 use Rattle.core_events.proofs.Turns.{all_none, book_all_none}
 use Rattle.acme_core.proofs.Few.{lives_less}
 use Rattle.core_steps.proofs.Idling.{none_served}
-use Rattle.core_intents.specs.declared.parts.Parts.{Parts}
+use Rattle.core_parts.specs.declared.parts.Parts.{Parts}
 use Rattle.core_outputs.specs.declared.reply.Reply.{Reply}
-use Rattle.core_intents.specs.declared.connection.Connection.{Connection}
-use Rattle.core_intents.specs.declared.connection.Connection.TheVariants.{Ended}
-use Rattle.core_steps.specs.declared.prepared.Prepared.{Prepared}
-use Rattle.core_intents.specs.Connections.{connection_at, connections_after, live_count, IsOfJoined, IsJoinedFor}
+use Rattle.core_parts.specs.declared.connection.Connection.{Connection}
+use Rattle.core_parts.specs.declared.connection.Connection.TheVariants.{Ended}
+use Rattle.core_closing.specs.declared.prepared.Prepared.{Prepared}
+use Rattle.core_parts.specs.Connections.{connection_at, connections_after, live_count, IsOfJoined, IsJoinedFor}
 use Rattle.core_intents.specs.Enabled.{live_refusal}
 use Rattle.acme_core.specs.Kept.{HasEntries, IsPrepared}
 use Rattle.core_tasks.specs.Tasks.{task_deeds, task_held}
 use Rattle.core_intents.specs.Doings.{enabled_at, doing_of, CanBeDone}
-use Rattle.core_intents.specs.Kinds.{kind_of, is_hang}
-use Rattle.core_intents.specs.Parts.{present_of, AreSteady}
+use Rattle.core_parts.specs.Kinds.{kind_of, is_hang}
+use Rattle.core_parts.specs.Parts.{present_of, AreSteady}
 use Rattle.core_steps.specs.Ready.{HasReady}
-use Rattle.core_intents.specs.States.{Present}
+use Rattle.core_parts.specs.States.{Present}
 use Rattle.core_steps.specs.Replies.{replies_of}
 use Rattle.core_outputs.specs.Unsent.{put_replies}
 

@@ -5,9 +5,9 @@ use Rattle.am_journal.specs.declared.event.Event.{Event}
 use Rattle.core_events.specs.Sound.{IsIdle}
 use Rattle.core_ports.specs.Sound.{ArePortsIdle}
 use Rattle.core_events.proofs.Idles.{AreIdle, empty_idle, idle_end}
-use Rattle.core_intents.specs.States.{State, present, start}
+use Rattle.core_parts.specs.States.{State, present, start}
 use Rattle.core_intents.specs.Doings.{doing_of}
-use Rattle.core_intents.specs.Kinds.{kind_of}
+use Rattle.core_parts.specs.Kinds.{kind_of}
 use Rattle.acme_core.specs.Run.{step, run}
 use Rattle.core_steps.proofs.Idling.{idle_on, ports_idle_on}
 

@@ -1,12 +1,12 @@
 -- An event finds its connection as it wants it, where nothing is ready.
-use Rattle.core_intents.specs.declared.parts.Parts.{Parts}
-use Rattle.core_intents.specs.Parts.{present_of}
+use Rattle.core_parts.specs.declared.parts.Parts.{Parts}
+use Rattle.core_parts.specs.Parts.{present_of}
 use Rattle.acme_core.specs.Kept.{AreSound}
 use Rattle.std.proofs.Common.{◌≡◌, None}
 use Rattle.am_journal.specs.declared.event.Event.{Event}
-use Rattle.core_intents.specs.Kinds.{kind_of}
+use Rattle.core_parts.specs.Kinds.{kind_of}
 use Rattle.core_intents.proofs.Kinded.{found}
-use Rattle.core_intents.specs.Connections.{IsJoinedFor}
+use Rattle.core_parts.specs.Connections.{IsJoinedFor}
 use Rattle.core_intents.specs.Doings.{enabled_at}
 use Rattle.core_steps.proofs.Joins.{joined_for}
 

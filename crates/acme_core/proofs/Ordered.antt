@@ -3,10 +3,10 @@ use Rattle.std.proofs.Common.{◌≡◌, List, subst}
 use Rattle.am_journal.specs.declared.event.Event.{Event}
 use Rattle.event_book.specs.Laws.{IsLawful, WindowOrder, WhatAFidGets}
 use Rattle.event_book.proofs.FidLemmas.{gets, in_order}
-use Rattle.core_intents.specs.declared.parts.Parts.{Parts}
-use Rattle.core_intents.specs.Parts.{present_of}
+use Rattle.core_parts.specs.declared.parts.Parts.{Parts}
+use Rattle.core_parts.specs.Parts.{present_of}
 use Rattle.acme_core.specs.Run.{run, present_after}
-use Rattle.core_intents.specs.States.{Present}
+use Rattle.core_parts.specs.States.{Present}
 
 lawful : (p : Parts) (journal : List Event) → present_of p ≡ present_after journal → IsLawful p.scene.book.kept → IsLawful (run journal).scene.book
 lawful p journal e h = subst (λ (x : Present). IsLawful x.scene.book) e h

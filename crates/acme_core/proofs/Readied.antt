@@ -4,17 +4,17 @@ use Rattle.std.specs.Prelude.{IfOk, OnOk}
 use Rattle.am_text.specs.declared.memory.NoMemory.{NoMemory}
 use Rattle.am_journal.specs.declared.event.Event.{Event}
 use Rattle.am_journal.specs.Lawful.{IsLawful}
-use Rattle.core_intents.specs.declared.connection.Connection.{Connection}
+use Rattle.core_parts.specs.declared.connection.Connection.{Connection}
 use Rattle.core_intents.specs.declared.intent.Intent.{Intent}
-use Rattle.core_intents.specs.declared.parts.Parts.{Parts}
-use Rattle.core_intents.specs.Connections.{connections_after, live_count}
+use Rattle.core_parts.specs.declared.parts.Parts.{Parts}
+use Rattle.core_parts.specs.Connections.{connections_after, live_count}
 use Rattle.core_intents.specs.Doings.{enabled_at, doing_of, resolved, CanBeDone}
 use Rattle.core_intents.specs.Intents.{intent_of}
-use Rattle.core_intents.specs.Kinds.{kind_of}
-use Rattle.core_intents.specs.Parts.{present_of}
-use Rattle.core_intents.specs.States.{Present}
+use Rattle.core_parts.specs.Kinds.{kind_of}
+use Rattle.core_parts.specs.Parts.{present_of}
+use Rattle.core_parts.specs.States.{Present}
 use Rattle.core_intents.proofs.Kinded.{numbered}
-use Rattle.core_steps.specs.declared.prepared.Prepared.{Prepared}
+use Rattle.core_closing.specs.declared.prepared.Prepared.{Prepared}
 use Rattle.core_steps.specs.Ready.{HasReady}
 use Rattle.acme_core.specs.Kept.{HasEntries, IsPrepared}
 use Rattle.acme_core.proofs.Few.{lives_more, lives_few}

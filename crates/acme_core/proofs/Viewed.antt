@@ -1,7 +1,6 @@
--- Views, one entry further, and the addresses of windows.
-use Rattle.std.proofs.Common.{◌≡◌, ℕ, List, Option, Some, None, refl, sym, ap, subst, ◌∙◌, append_assoc}
+-- The addresses of windows.
+use Rattle.std.proofs.Common.{◌≡◌, ℕ, List, Option, Some, None, refl, sym, ap, subst, ◌∙◌}
 use Rattle.std.specs.Prelude.{IfSome}
-use Rattle.std.proofs.lemmas.List.{append-nil}
 use Rattle.am_journal.specs.declared.event.Event.{Event}
 use Rattle.am_text.specs.declared.range.Range.{Range}
 use Rattle.std.specs.Option.{option_map}
@@ -11,14 +10,10 @@ use Rattle.core_windows.proofs.Steps.{window_of_story, lawful_at}
 use Rattle.win_text.proofs.Stories.{all_inside}
 use Rattle.win_text.specs.Bodies.{IsInside}
 use Rattle.acme_core.specs.Addresses.{addr_of, addr_at, body_of, body_at}
-use Rattle.core_intents.specs.Parts.{present_of}
+use Rattle.core_parts.specs.Parts.{present_of}
 use Rattle.acme_core.specs.Run.{run, present_after}
-use Rattle.core_intents.specs.States.{Present}
-use Rattle.core_intents.specs.declared.parts.Parts.{Parts}
-
-pub ruleset viewing = (append_assoc, append-nil)
-
--- ---- addresses
+use Rattle.core_parts.specs.States.{Present}
+use Rattle.core_parts.specs.declared.parts.Parts.{Parts}
 
 addr_shown : (o : Option WindowStory) → option_map window_addr (shown_if_live o) ≡ addr_of o
 addr_shown None = refl

@@ -1,31 +1,9 @@
--- The answers to what is asked of the editor.
-use Rattle.std.specs.Prelude.{ℕ, Bool, true, false, nat_lt, List}
+-- The answers to what is asked of the editor after a journal.
+use Rattle.std.specs.Prelude.{Bool, List}
 use Rattle.am_journal.specs.declared.event.Event.{Event}
 use Rattle.am_counter.specs.declared.ask.Ask.{Ask}
-use Rattle.am_counter.specs.declared.ask.Ask.TheVariants as ask
-use Rattle.event_book.specs.BookState.{is_open_window}
-use Rattle.core_intents.specs.declared.connection.Connection.{Connection}
-use Rattle.core_intents.specs.declared.connection.Connection.TheVariants.{Undialed, Live, Ended}
-use Rattle.core_intents.specs.Connections.{connection_at}
-use Rattle.core_intents.specs.Limits.{max_replies}
+use Rattle.core_views.specs.Asks.{answer_in}
 use Rattle.acme_core.specs.Run.{present_after}
-use Rattle.core_intents.specs.States.{Present, unsent_count}
-
--- whether a connection has ended
-abbrev pub is_ended : Connection → Bool
-is_ended Undialed = false
-is_ended Live = false
-is_ended (Ended why) = true
-
--- a message may come while fewer than 256 replies are unsent
-abbrev pub has_room : ℕ → Bool
-has_room count = nat_lt count max_replies
-
--- the answer as the editor stands
-abbrev pub answer_in : Present → Ask → Bool
-answer_in s (ask.EventOpen window) = is_open_window s.scene.book window
-answer_in s (ask.Room conn) = has_room (unsent_count s conn)
-answer_in s (ask.Ended conn) = is_ended (connection_at s.connections conn)
 
 -- the answer after a journal
 abbrev pub answer_at : List Event → Ask → Bool

@@ -7,16 +7,16 @@ use Rattle.am_counter.specs.Played.{IsPlayed}
 use Rattle.core_windows.specs.Stories.{AreLawful}
 use Rattle.core_events.specs.Sound.{IsSound, IsIdle}
 use Rattle.core_ports.specs.Sound.{ArePortsSound, ArePortsIdle}
-use Rattle.core_intents.specs.declared.parts.Parts.{Parts}
-use Rattle.core_steps.specs.declared.prepared.Prepared.{Prepared}
-use Rattle.core_intents.specs.Connections.{connections_after, live_count, AreJoined}
+use Rattle.core_parts.specs.declared.parts.Parts.{Parts}
+use Rattle.core_closing.specs.declared.prepared.Prepared.{Prepared}
+use Rattle.core_parts.specs.Connections.{connections_after, live_count, AreJoined}
 use Rattle.core_intents.specs.Doings.{enabled_at, doing_of, CanBeDone}
-use Rattle.core_intents.specs.Kinds.{kind_of}
-use Rattle.core_intents.specs.Parts.{present_of, AreSteady}
+use Rattle.core_parts.specs.Kinds.{kind_of}
+use Rattle.core_parts.specs.Parts.{present_of, AreSteady}
 use Rattle.core_steps.specs.Ready.{HasReady}
 use Rattle.am_journal.specs.Limits.{connection_count}
 use Rattle.acme_core.specs.Run.{run, present_after, enabled, IsPossible}
-use Rattle.core_intents.specs.States.{Present}
+use Rattle.core_parts.specs.States.{Present}
 
 -- the event of a plan that waits
 abbrev pub planned_of : Option Prepared → Option Event

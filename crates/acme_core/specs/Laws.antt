@@ -6,7 +6,7 @@ use Rattle.am_journal.specs.declared.event.Event.TheVariants as event
 use Rattle.core_fids.specs.declared.effect.Answer.{Answer}
 use Rattle.core_answers.specs.Laws.{IsAnswered}
 use Rattle.core_intents.specs.Doings.{doing_of}
-use Rattle.core_intents.specs.States.{Present}
+use Rattle.core_parts.specs.States.{Present}
 
 -- a message has an answer, of its type or a refusal
 abbrev pub HasAnswer : TBody → Option Answer → Type 0

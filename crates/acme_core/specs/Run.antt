@@ -5,11 +5,11 @@ use Rattle.am_journal.specs.declared.event.Event.{Event}
 use Rattle.am_journal.specs.declared.event.Why.{Why}
 use Rattle.am_journal.specs.declared.event.Refused.{Refused}
 use Rattle.am_journal.specs.declared.event.Refused.TheVariants.{NotEnabled, NoMemory}
-use Rattle.core_intents.specs.States.{Present, State, present, start}
+use Rattle.core_parts.specs.States.{Present, State, present, start}
 use Rattle.core_intents.specs.Doings.{enabled_at, doing_of, CanBeDone}
 use Rattle.core_steps.specs.Stages.{after_story}
 use Rattle.core_outputs.specs.Unsent.{unsent_at}
-use Rattle.core_intents.specs.Kinds.{is_hang}
+use Rattle.core_parts.specs.Kinds.{is_hang}
 
 -- one event: what it does is told by the editor as it stands
 unfoldable pub step : State → Event → State

@@ -1,46 +1,15 @@
 -- What the report tells of the editor after a journal.
-use Rattle.std.specs.Prelude.{ℕ, ◌+◌, List, [], ◌∷◌, length, Option, Some, None}
+use Rattle.std.specs.Prelude.{List, length}
 use Rattle.am_journal.specs.declared.event.Event.{Event}
-use Rattle.am_journal.specs.declared.view.ConnView.{ConnView}
-use Rattle.am_journal.specs.declared.view.WindowView.{WindowView}
 use Rattle.am_journal.specs.declared.view.ItemView.{ItemView}
 use Rattle.am_journal.specs.declared.view.View.{View}
-use Rattle.am_journal.specs.declared.ending.Ending.{Ending}
-use Rattle.core_windows.specs.Windows.{Window}
-use Rattle.core_intents.specs.declared.connection.Connection.{Connection}
-use Rattle.core_intents.specs.declared.connection.Connection.TheVariants.{Undialed, Live, Ended}
 use Rattle.event_book.specs.WindowFiles.{ledger_of}
+use Rattle.core_views.specs.Views.{view_at}
 use Rattle.acme_core.specs.Run.{run, present_after}
-use Rattle.core_intents.specs.States.{Present}
-
--- what the report tells of a connection
-abbrev pub conn_view : ℕ → Option Ending → ConnView
-conn_view c ending = record { conn = c; ending = ending }
-
--- the dialled connections, of which the first has this number
-unfoldable pub conn_views : ℕ → List Connection → List ConnView
-conn_views c [] = []
-conn_views c (Undialed ∷ cs) = conn_views (c + 1) cs
-conn_views c (Live ∷ cs) = conn_view c None ∷ conn_views (c + 1) cs
-conn_views c (Ended why ∷ cs) = conn_view c (Some why) ∷ conn_views (c + 1) cs
-
--- what the report tells of a window
-abbrev pub window_view : ℕ → Window → WindowView
-window_view w window = record { id = w; modified = window.modified; dot = window.body.dot; name = window.name; body = window.body.text }
-
--- the live windows, of which the first in the list has this number
-unfoldable pub window_views : ℕ → List (Option Window) → List WindowView
-window_views w [] = []
-window_views w (None ∷ ws) = window_views (w + 1) ws
-window_views w (Some window ∷ ws) = window_view w window ∷ window_views (w + 1) ws
 
 -- each item that was ever made, with its life, by window and number
 abbrev pub ledger : List Event → List ItemView
 ledger journal = ledger_of (run journal).scene.book.files
-
--- what the report tells
-abbrev pub view_at : ℕ → Present → View
-view_at entries s = record { entries = entries; conns = conn_views 0 s.connections; windows = window_views 1 s.scene.windows; items = ledger_of s.scene.book.files; jobs = s.scene.jobs }
 
 -- what the report tells after a journal
 unfoldable pub view_of : List Event → View

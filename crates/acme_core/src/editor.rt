@@ -14,16 +14,16 @@ ghost use Rattle.core_ports.specs.Sound.{ArePortsIdle};
 ghost use Rattle.acme_core.specs.Asks.{answer_at};
 ghost use Rattle.acme_core.specs.Views.{ledger, view_of};
 
-use crate::asking::answer;
 use crate::planning::prepare;
-use crate::view::view_of;
 use am_counter::Ask;
 use am_journal::{Event, ItemViews, Journal, Refused, View};
 use am_text::{NoMemory, Range, Roomy};
-use core_intents::Parts;
+use core_closing::Prepared;
 use core_outputs::reply_at;
+use core_parts::Parts;
 use core_scene::deeds_show;
-use core_steps::{Prepared, apply};
+use core_steps::apply;
+use core_views::{answer, view_of};
 use core_windows::{changes_are_lawful, group_numbers_never_fall};
 use std::alloc::Global;
 use std::marker::Model;
@@ -104,8 +104,13 @@ impl Core {
     {
         self.drop_plan();
         let before = self.journal.len();
-        let prepared = prepare(self.alloc, &mut self.journal, &mut self.parts, event)?;
-        self.prepared = Some(prepared);
+        prepare(
+            self.alloc,
+            &mut self.journal,
+            &mut self.parts,
+            event,
+            &mut self.prepared,
+        )?;
         Ok(Plan { before })
     }
 
@@ -182,7 +187,8 @@ impl Core {
         requires settled { self.now.planned ≡ None }
         ensures { IfOk result (λ view. view ≡ view_of self.now.journal) }
     {
-        view_of(self.alloc, self.journal.len() as u64, &self.parts)
+        let items = self.ledger()?;
+        view_of(self.alloc, self.journal.len() as u64, items, &self.parts)
     }
 
     /// All items that were ever made, each with its life and its spelling, by window and number.

@@ -1,11 +1,9 @@
 //! The editor of one thread: it takes one event at a time and keeps a journal of them.
 #![tactic(auto)]
 
-mod asking;
 mod editor;
 mod laws;
 mod planning;
-mod view;
 
 pub use am_counter::Ask;
 pub use am_journal::{

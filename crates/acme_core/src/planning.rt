@@ -1,22 +1,24 @@
 //! Deciding whether an event is enabled, and making its step ready.
 
-ghost use Rattle.std.specs.Prelude.{◌≡◌, ◌+◌, ◌<◌, ◌≤◌, ◌^◌, true, false, None, length, IfOk, IfErr, OnErr};
+ghost use Rattle.std.specs.Prelude.{◌≡◌, ◌+◌, ◌<◌, ◌≤◌, ◌^◌, true, false, Some, None, length, IfOk, IfErr, OnOk, OnErr};
 ghost use Rattle.am_journal.specs.Lawful.{IsLawful};
-ghost use Rattle.core_intents.specs.Connections.{live_count, IsJoinedFor};
+ghost use Rattle.core_parts.specs.Connections.{live_count, IsJoinedFor};
 ghost use Rattle.core_events.specs.Sound.{IsSound, IsIdle};
 ghost use Rattle.core_ports.specs.Sound.{ArePortsSound, ArePortsIdle};
-ghost use Rattle.core_intents.specs.Kinds.{kind_of, is_hang};
+ghost use Rattle.core_parts.specs.Kinds.{kind_of, is_hang};
 ghost use Rattle.core_intents.specs.Doings.{enabled_at, doing_of};
-ghost use Rattle.acme_core.specs.Kept.{AreSound, IsPrepared, HasEntries};
-ghost use Rattle.core_intents.specs.Parts.{present_of, AreSteady};
+ghost use Rattle.acme_core.specs.Kept.{AreSound, IsPrepared, IsReady, HasEntries, planned_of};
+ghost use Rattle.core_parts.specs.Parts.{present_of, AreSteady};
 ghost use Rattle.core_steps.specs.Ready.{HasReady};
 ghost use Rattle.acme_core.specs.Run.{Refuses, IsHang, IsWhy};
 
 use am_journal::{Event, Refused};
 use am_text::{Items, NoMemory, Roomy};
+use core_closing::Prepared;
 use core_fids::{Effect, EventChange};
-use core_intents::{CONNECTIONS, Parts, intent_of, is_hang};
-use core_steps::{Prepared, grow};
+use core_intents::{intent_of, why_not};
+use core_parts::{CONNECTIONS, Parts, is_hang};
+use core_steps::grow;
 use std::alloc::Global;
 
 // Makes an enabled event ready.
@@ -70,15 +72,16 @@ fn hanging(alloc: Global, parts: &Parts, event: Event) -> Prepared
     }
 }
 
-/// Decides whether an event is enabled, and makes it ready in tables in which nothing is ready. What they mean stays, and a refusal leaves
-/// nothing ready in them.
+/// Decides whether an event is enabled, and makes it ready in tables in which nothing is ready. It stands in `prepared` then: it is large,
+/// so it is moved once. What the tables mean stays, and a refusal leaves nothing ready in them.
 #[tactic(auto, using(crate::proofs::Joins::joined, crate::proofs::Hangs::hung))]
 pub(crate) fn prepare(
     alloc: Global,
     journal: &mut Roomy<Event>,
     parts: &mut Parts,
     event: Event,
-) -> Result<Prepared, Refused>
+    prepared: &mut Option<Prepared>,
+) -> Result<(), Refused>
     requires lawful { IsLawful event }
     requires sound { AreSound parts.old }
     requires steady { AreSteady parts.old }
@@ -87,20 +90,25 @@ pub(crate) fn prepare(
     ensures items { journal.new.items ≡ journal.old.items }
     ensures spare { journal.old.spare ≤ journal.new.spare }
     ensures state { present_of parts.new ≡ present_of parts.old }
-    ensures event { IfOk result (λ p. p.event ≡ event) }
-    ensures prepared { IfOk result (IsPrepared (present_of parts.old) journal.new.spare parts.new) }
+    ensures event { OnOk result (planned_of prepared.new ≡ Some event) }
+    ensures prepared { OnOk result (IsReady (present_of parts.old) journal.new.spare parts.new prepared.new) }
+    ensures stays { OnErr result (prepared.new ≡ prepared.old) }
     ensures refused { IfErr result (λ e. Refuses e (enabled_at (present_of parts.old) event)) }
     ensures hang { IsHang event → IfErr result IsWhy }
     ensures steady { OnErr result (AreSteady parts.new) }
 {
-    if let Some(why) = parts.why_not(&event) {
+    if let Some(why) = why_not(parts, &event) {
         return Err(Refused::NotEnabled(why));
     }
     if is_hang(&event) {
-        return Ok(hanging(alloc, parts, event));
+        *prepared = Some(hanging(alloc, parts, event));
+        return Ok(());
     }
     match ready(alloc, journal, parts, event) {
-        Ok(prepared) => Ok(prepared),
+        Ok(made) => {
+            *prepared = Some(made);
+            Ok(())
+        }
         Err(NoMemory) => {
             parts.back(alloc);
             Err(Refused::NoMemory)

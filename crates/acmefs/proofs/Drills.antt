@@ -12,8 +12,8 @@ use Rattle.am_drill.specs.declared.driving.DrillEnd.TheVariants as end
 use Rattle.am_drill.specs.Drill.{events}
 use Rattle.am_drill.specs.Ends.{DrillSays}
 use Rattle.acmefs.specs.Ends.{drill_status, Drilled, IsDrilled}
-use Rattle.acmefs.specs.Own.{RoundTrips}
-use Rattle.acmefs.proofs.RoundTrip.{AreDone, done-from, front-done, played-done, trips}
+use Rattle.am_replay.specs.Own.{RoundTrips}
+use Rattle.am_replay.proofs.RoundTrip.{AreDone, done-from, front-done, played-done, trips}
 use Rattle.acmefs.specs.declared.status.Status.{Status}
 use Rattle.acmefs.specs.declared.status.Status.TheVariants as exit
 use Rattle.acmefs.specs.Statuses.{number_of}

@@ -5,10 +5,6 @@ use Rattle.std.specs.Prelude.{IfSome}
 use Rattle.am_base.specs.Outside.{BytesTold, AreTold, told_then}
 use Rattle.am_base.specs.Seen.{Given, Seen}
 use Rattle.am_journal.specs.declared.event.Event.{Event}
-use Rattle.am_counter.specs.Played.{ArePlayed, IsPlayed}
-use Rattle.acme_core.specs.Run.{enabled, IsPossible}
-use Rattle.acme_core.proofs.Goes.{none_possible}
-use Rattle.core_laws.specs.Journals.{JournalLaws, JournalsAreLawful}
 use Rattle.am_drill.specs.declared.driving.DrillEnd.TheVariants as drilling
 use Rattle.am_drill.specs.Drill.{events}
 use Rattle.am_slots.specs.Slots.{Outside}
@@ -16,26 +12,15 @@ use Rattle.am_server.specs.Ends.{SaysServe}
 use Rattle.am_server.specs.declared.served.Served.{Served}
 use Rattle.am_server.specs.declared.writing.ServeEnd.{ServeEnd}
 use Rattle.am_server.specs.declared.writing.ServeEnd.TheVariants as serving
-use Rattle.acmefs.specs.declared.replay.End.{End}
-use Rattle.acmefs.specs.declared.replay.End.TheVariants as end
-use Rattle.acmefs.specs.Scripts as scripts
-use Rattle.acmefs.specs.Scripts.{script_of, replied_from, text_of}
-use Rattle.acmefs.specs.Ends.{IsComplete, RanOut, RanTold, Says, Drilled, status_of, serve_status}
-use Rattle.acmefs.specs.Own.{PutsOwn, RoundTrips}
-use Rattle.acmefs.proofs.RoundTrip as round
+use Rattle.am_replay.specs.declared.replaying.End.{End}
+use Rattle.am_replay.specs.declared.replaying.End.TheVariants as end
+use Rattle.am_replay.specs.Scripts as scripts
+use Rattle.am_replay.specs.Scripts.{script_of, replied_from, text_of}
+use Rattle.acmefs.specs.Ends.{IsComplete, Drilled, status_of, serve_status}
+use Rattle.am_replay.specs.Ends.{RanOut, RanTold, Says}
+use Rattle.am_replay.specs.Own.{PutsOwn}
 use Rattle.acmefs.specs.declared.status.Status.{Status}
 use Rattle.acmefs.specs.declared.status.Status.TheVariants as exit
-use Rattle.acmefs.specs.Statuses.{number_of}
-
-pub trips : (journal : List Event) → journal ≡ [] → RoundTrips journal
-trips journal none = subst RoundTrips (sym none) (round.trips [] tt)
-
-pub plays : (journal : List Event) → journal ≡ [] → IsPlayed enabled journal
-unfolding ArePlayed
-plays journal none = subst (IsPlayed enabled) (sym none) tt
-
-pub laws : JournalsAreLawful → (journal : List Event) → journal ≡ [] → JournalLaws journal
-laws all journal none = all journal (record { played = plays journal none; possible = subst IsPossible (sym none) none_possible })
 
 nothing_told : (held : Option (List ℕ)) → held ≡ told_then held []
 nothing_told None = refl

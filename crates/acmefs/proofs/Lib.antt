@@ -1,17 +1,9 @@
-pub mod Fronts
 pub mod Promised
-pub mod Ran
-pub mod Traced
-pub mod Replied
-pub mod Wrote
-pub mod OwnText
-pub mod RoundTrip
 pub mod Drills
 pub mod Idle
 pub mod Words
 pub mod ServeEnds
 pub mod OneWord
-pub mod PackBack
 pub mod TraceEnds
 pub mod PackEnds
 pub mod Does

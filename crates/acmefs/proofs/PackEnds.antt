@@ -10,7 +10,7 @@ use Rattle.am_pack.specs.declared.program.PackEnd.{PackEnd}
 use Rattle.am_pack.specs.declared.program.PackEnd.TheVariants.{Done, Script, ReadFault, WriteFault, NoMemory}
 use Rattle.am_pack.specs.Ends.{Packs, PacksSome, PackSays}
 use Rattle.am_pack.specs.Packing.{packing_of}
-use Rattle.acmefs.specs.Ends as replays
+use Rattle.am_replay.specs.Ends as replays
 use Rattle.acmefs.specs.Packs.{pack_status, IsPacked, PackEnds}
 use Rattle.acmefs.specs.declared.status.Status.{Status}
 use Rattle.acmefs.specs.declared.status.Status.TheVariants as exit

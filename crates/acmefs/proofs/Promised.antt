@@ -3,12 +3,13 @@ use Rattle.std.proofs.Common.{◌≡◌, inl, inr, ℕ, List, Option, Some, None
 use Rattle.std.specs.Prelude.{IfSome}
 use Rattle.am_base.specs.Outside.{BytesTold, HasRisen}
 use Rattle.am_journal.specs.declared.event.Event.{Event}
-use Rattle.acmefs.specs.declared.replay.End.{End}
-use Rattle.acmefs.specs.declared.replay.End.TheVariants.{Done, Usage, Script, ReadFault, WriteFault, NoMemory}
-use Rattle.acmefs.specs.Scripts.{script_of}
-use Rattle.acmefs.specs.Scripts as scripts
+use Rattle.am_replay.specs.declared.replaying.End.{End}
+use Rattle.am_replay.specs.declared.replaying.End.TheVariants.{Done, Usage, Script, ReadFault, WriteFault, NoMemory}
+use Rattle.am_replay.specs.Scripts.{script_of}
+use Rattle.am_replay.specs.Scripts as scripts
 use Rattle.am_base.specs.Seen.{Seen}
-use Rattle.acmefs.specs.Ends.{Ran, RanTold, Replays, Says, IsIdle, IsComplete, status_of}
+use Rattle.acmefs.specs.Ends.{IsComplete, status_of}
+use Rattle.am_replay.specs.Ends.{Ran, RanTold, Replays, Says, IsIdle}
 use Rattle.acmefs.specs.declared.status.Status.{Status}
 use Rattle.acmefs.specs.declared.status.Status.TheVariants as exit
 use Rattle.acmefs.specs.Statuses.{number_of}

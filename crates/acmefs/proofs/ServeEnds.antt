@@ -14,7 +14,7 @@ use Rattle.am_server.specs.Complete.{IsComplete}
 use Rattle.am_server.specs.Replied.{GotAll}
 use Rattle.am_server.specs.Sound.{EndsWell}
 use Rattle.am_server.proofs.Completing.{says_complete}
-use Rattle.acmefs.proofs.RoundTrip.{AreDone, done-from, none-done}
+use Rattle.am_replay.proofs.RoundTrip.{AreDone, done-from, none-done}
 use Rattle.am_server.specs.Texts.{has_failed}
 use Rattle.am_server.specs.declared.served.Served.{Served}
 use Rattle.am_server.specs.declared.writing.ServeEnd.{ServeEnd}

@@ -6,17 +6,19 @@ use Rattle.am_base.specs.Seen.{Seen, seen}
 use Rattle.am_journal.specs.declared.event.Event.{Event}
 use Rattle.am_counter.specs.Played.{IsPlayed}
 use Rattle.acme_core.specs.Run.{enabled}
-use Rattle.core_intents.specs.States.{start}
-use Rattle.acmefs.specs.declared.replay.End.{End}
-use Rattle.acmefs.specs.declared.replay.End.TheVariants.{Done, Usage, Script, ReadFault, WriteFault, NoMemory}
-use Rattle.acmefs.specs.Ends.{IsIdle, status_of}
-use Rattle.acmefs.specs.Own.{RoundTrips}
-use Rattle.acmefs.specs.Scripts as scripts
-use Rattle.acmefs.specs.Scripts.{script_of}
-use Rattle.acmefs.specs.Traces.{Traces, TracesSome, TraceSays, IsTraced, TraceEnds, AllHaveWords, PacksBack}
-use Rattle.acmefs.proofs.PackBack.{packs_back}
-use Rattle.acmefs.proofs.RoundTrip.{AreDone, front-done, none-done, played-done, script-done, trips}
-use Rattle.acmefs.proofs.Traced.{says_none}
+use Rattle.core_parts.specs.States.{start}
+use Rattle.am_replay.specs.declared.replaying.End.{End}
+use Rattle.am_replay.specs.declared.replaying.End.TheVariants.{Done, Usage, Script, ReadFault, WriteFault, NoMemory}
+use Rattle.acmefs.specs.Ends.{status_of}
+use Rattle.am_replay.specs.Ends.{IsIdle}
+use Rattle.am_replay.specs.Own.{RoundTrips}
+use Rattle.am_replay.specs.Scripts as scripts
+use Rattle.am_replay.specs.Scripts.{script_of}
+use Rattle.acmefs.specs.Traces.{IsTraced, TraceEnds}
+use Rattle.am_replay.specs.Traces.{Traces, TracesSome, TraceSays, AllHaveWords, PacksBack}
+use Rattle.am_replay.proofs.PackBack.{packs_back}
+use Rattle.am_replay.proofs.RoundTrip.{AreDone, front-done, none-done, played-done, script-done, trips}
+use Rattle.am_replay.proofs.Traced.{says_none}
 use Rattle.acmefs.specs.declared.status.Status.{Status}
 use Rattle.acmefs.specs.declared.status.Status.TheVariants as exit
 use Rattle.acmefs.specs.Statuses.{number_of}

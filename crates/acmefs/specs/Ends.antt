@@ -1,8 +1,8 @@
 -- How a replay ends.
-use Rattle.std.specs.Prelude.{◌≡◌, ◌⊎◌, ℕ, List, [], Option, Some, None, IfSome}
-use Rattle.am_base.specs.Outside.{BytesTold, AreTold, HasRisen}
+use Rattle.std.specs.Prelude.{◌≡◌, ◌⊎◌, ℕ, List, None}
+use Rattle.am_base.specs.Outside.{BytesTold, HasRisen}
 use Rattle.am_base.specs.Seen.{Given, Seen}
-use Rattle.am_base.specs.Written.{IsWhole, IsCut}
+use Rattle.am_base.specs.Written.{IsWhole}
 use Rattle.am_journal.specs.declared.event.Event.{Event}
 use Rattle.am_slots.specs.Slots.{Outside}
 use Rattle.am_server.specs.Complete.{NothingFails, whole_text}
@@ -14,11 +14,10 @@ use Rattle.am_drill.specs.declared.driving.DrillEnd.TheVariants as drilling
 use Rattle.am_drill.specs.Drill.{events}
 use Rattle.am_drill.specs.Ends.{DrillSays}
 use Rattle.am_drill.specs.Summary.{summary}
-use Rattle.acmefs.specs.declared.replay.End.{End}
-use Rattle.acmefs.specs.declared.replay.End.TheVariants.{Done, Usage, Script, ReadFault, WriteFault, NoMemory}
-use Rattle.acmefs.specs.Scripts as scripts
-use Rattle.acmefs.specs.Scripts.{script_of, text_of}
-use Rattle.acmefs.specs.Written.{IsFront, IsCaughtUp}
+use Rattle.am_replay.specs.declared.replaying.End.{End}
+use Rattle.am_replay.specs.declared.replaying.End.TheVariants.{Done, Usage, Script, ReadFault, WriteFault, NoMemory}
+use Rattle.am_replay.specs.Ends.{Ran}
+use Rattle.am_replay.specs.Scripts as scripts
 use Rattle.acmefs.specs.declared.status.Status.{Status}
 use Rattle.acmefs.specs.declared.status.Status.TheVariants as exit
 
@@ -45,46 +44,6 @@ abbrev pub drill_status : DrillEnd → Status
 drill_status drilling.Done = exit.Done
 drill_status drilling.WriteFault = exit.WriteFault
 drill_status drilling.NoMemory = exit.NoMemory
-
--- Memory ran out: a front of the events was done, and what was put is the lines of their replies, but perhaps those of the last.
-pub record RanOut (script : scripts.Script) (o : Seen) (journal : List Event) : Type 0 where
-  pub events : IsFront journal script.events
-  pub put : (text : List ℕ) × IsCaughtUp journal text × IsFront text (text_of script) × (IsWhole o text ⊎ IsCut o text)
-
--- nothing was written and nothing was done
-pub record IsIdle (o : Seen) (journal : List Event) : Type 0 where
-  pub silent : o.now.bytes ≡ o.before.bytes
-  pub empty : journal ≡ []
-
--- a line, or the whole input, is refused
-abbrev pub IsRefused : scripts.Script → Type 0
-IsRefused script = (refusal : scripts.Refusal) × (script.refused ≡ Some refusal)
-
--- what each end says of a script, the output and the journal
-abbrev pub Ran : End → scripts.Script → Seen → List Event → Type 0
-Ran Done script o journal = (journal ≡ script.events) × (script.refused ≡ None) × IsWhole o (text_of script)
-Ran Usage script o journal = ⊥
-Ran Script script o journal = (journal ≡ script.events) × IsRefused script × (IsWhole o (text_of script) ⊎ IsCut o (text_of script))
-Ran ReadFault script o journal = ⊥
-Ran WriteFault script o journal = (journal ≡ script.events) × (script.refused ≡ None) × IsCut o (text_of script)
-Ran NoMemory script o journal = RanOut script o journal
-
--- Some bytes, those that the input told where it tells them, were replayed so.
-abbrev pub Replays : End → Option (List ℕ) → Seen → List Event → Type 0
-Replays end told o journal = (bytes : List ℕ) × AreTold told bytes × Ran end (script_of bytes) o journal
-
--- what each end says of an input, by what it told and its count of faults, the output and the journal
-abbrev pub Says : End → BytesTold → BytesTold → Seen → List Event → Type 0
-Says Done before now o journal = Replays Done before.bytes o journal
-Says Usage before now o journal = ⊥
-Says Script before now o journal = Replays Script before.bytes o journal
-Says ReadFault before now o journal = IsIdle o journal × HasRisen before.faults now.faults
-Says WriteFault before now o journal = Replays WriteFault before.bytes o journal
-Says NoMemory before now o journal = Replays NoMemory before.bytes o journal
-
--- where the input tells its bytes, their script ran so
-abbrev pub RanTold : End → Option (List ℕ) → Seen → List Event → Type 0
-RanTold end told o journal = IfSome told (λ bytes. Ran end (script_of bytes) o journal)
 
 -- Completeness: where no event is refused and no count of faults rises, the whole text is written, or memory runs out.
 abbrev pub IsComplete : Status → scripts.Script → BytesTold → BytesTold → Seen → List Event → Type 0

@@ -1,9 +1,5 @@
 pub mod Statuses
-pub mod Scripts
-pub mod Written
-pub mod Playing
 pub mod Ends
-pub mod Own
 pub mod Traces
 pub mod Packs
 pub mod Does

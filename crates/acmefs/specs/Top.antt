@@ -16,12 +16,13 @@ use Rattle.am_server.specs.Replied.{GotAll}
 use Rattle.am_server.specs.Sound.{EndsWell}
 use Rattle.am_server.specs.declared.served.Served.{Served}
 use Rattle.am_server.specs.declared.writing.ServeEnd.{ServeEnd}
-use Rattle.acmefs.specs.declared.replay.End.{End}
-use Rattle.acmefs.specs.declared.replay.End.TheVariants as ends
-use Rattle.acmefs.specs.Scripts.{script_of}
-use Rattle.acmefs.specs.Ends.{Says, IsIdle, RanTold, IsComplete, Drilled, IsDrilled, IsServeComplete, status_of, serve_status}
+use Rattle.am_replay.specs.declared.replaying.End.{End}
+use Rattle.am_replay.specs.declared.replaying.End.TheVariants as ends
+use Rattle.am_replay.specs.Scripts.{script_of}
+use Rattle.acmefs.specs.Ends.{IsComplete, Drilled, IsDrilled, IsServeComplete, status_of, serve_status}
+use Rattle.am_replay.specs.Ends.{Says, IsIdle, RanTold}
 use Rattle.acmefs.specs.Does.{Does}
-use Rattle.acmefs.specs.Own.{PutsOwn, RoundTrips}
+use Rattle.am_replay.specs.Own.{PutsOwn, RoundTrips}
 use Rattle.acmefs.specs.Packs.{PackEnds}
 use Rattle.acmefs.specs.Traces.{TraceEnds}
 use Rattle.acmefs.specs.declared.status.Status.{Status}

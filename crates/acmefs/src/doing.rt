@@ -9,10 +9,10 @@ ghost use Rattle.core_laws.specs.Journals.{JournalLaws};
 ghost use Rattle.acmefs.specs.Does.{Does, closed_by, do_status, ended_by, entry_of, how_ended, listed, undialled};
 
 use crate::outcome::{Outcome, idle};
-use crate::replay::End;
 use crate::status::Status;
 use am_base::{Host, Sink, Source};
 use am_do::{DoEnd, Doing, Stop, do_path};
+use am_replay::End;
 use am_server::{Served, ServedEnd};
 use am_text::Items;
 use am_words::Tree;

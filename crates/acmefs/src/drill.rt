@@ -6,12 +6,12 @@ ghost use Rattle.am_counter.specs.Played.{IsPlayed};
 ghost use Rattle.acme_core.specs.Run.{enabled};
 ghost use Rattle.am_drill.specs.Drill.{most_rounds};
 ghost use Rattle.acmefs.specs.Ends.{drill_status, Drilled};
-ghost use Rattle.acmefs.specs.Own.{RoundTrips};
+ghost use Rattle.am_replay.specs.Own.{RoundTrips};
 ghost use Rattle.core_laws.specs.Journals.{JournalLaws};
 ghost use Rattle.event_laws.specs.Laws.{EventLaws};
 ghost use Rattle.port_laws.specs.Laws.{PortLaws};
 
-use crate::replay::ReplayEnd;
+use crate::outcome::ReplayEnd;
 use crate::status::Status;
 use am_base::Sink;
 use am_drill::{DrillEnd, drill, drill_is_played};

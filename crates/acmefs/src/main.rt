@@ -6,11 +6,8 @@ mod doing;
 mod drill;
 mod outcome;
 mod program;
-mod replay;
-mod script;
 mod serving;
 mod status;
-mod trace;
 
 use am_base::{InputSource, OutputSink, UnixHost};
 use am_text::{Items, NoMemory, Words};

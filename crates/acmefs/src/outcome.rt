@@ -4,17 +4,24 @@ ghost use Rattle.std.specs.Prelude.{◌≡◌, []};
 ghost use Rattle.am_counter.specs.Played.{IsPlayed};
 ghost use Rattle.acme_core.specs.Run.{enabled};
 ghost use Rattle.acmefs.specs.Ends.{status_of};
-ghost use Rattle.acmefs.specs.Own.{RoundTrips};
+ghost use Rattle.am_replay.specs.Own.{RoundTrips};
 ghost use Rattle.core_laws.specs.Journals.{JournalLaws};
 
-use crate::replay::{End, status_of};
 use crate::status::Status;
 use am_base::Host;
 use am_journal::Journal;
+use am_replay::End;
 use am_server::ServedList;
 use am_text::Items;
 use core_laws::journals_are_lawful;
 use std::alloc::Global;
+
+/// How a replay ended: the exit status, and the events that were done.
+#[derive(Drop)]
+pub struct ReplayEnd {
+    pub status: Status,
+    pub journal: Journal,
+}
 
 /// What a run of the program comes to: the exit status, the events that were done, and the
 /// connections that were served, or the one that was dialled.
@@ -23,6 +30,20 @@ pub struct Outcome<H: Host> {
     pub status: Status,
     pub journal: Journal,
     pub served: ServedList<H>,
+}
+
+/// The exit status of an end.
+pub(crate) fn status_of(end: End) -> Status
+    ensures { result ≡ status_of end }
+{
+    match end {
+        End::Done => Status::Done,
+        End::Usage => Status::Usage,
+        End::Script => Status::Refused,
+        End::ReadFault => Status::ReadFault,
+        End::WriteFault => Status::WriteFault,
+        End::NoMemory => Status::NoMemory,
+    }
 }
 
 /// Nothing is done, for this reason.

@@ -8,7 +8,7 @@ ghost use Rattle.acme_core.specs.Run.{enabled};
 ghost use Rattle.am_journal.specs.Limits.{connection_count};
 ghost use Rattle.acmefs.specs.declared.status.Status.TheVariants as exit;
 ghost use Rattle.acmefs.specs.Ends.{IsServeComplete, serve_status};
-ghost use Rattle.acmefs.specs.Own.{RoundTrips};
+ghost use Rattle.am_replay.specs.Own.{RoundTrips};
 ghost use Rattle.am_server.specs.Ends.{SaysServe};
 ghost use Rattle.am_server.specs.Replied.{GotAll};
 ghost use Rattle.am_server.specs.Sound.{EndsWell};

@@ -6,16 +6,18 @@ use Rattle.am_journal.specs.declared.event.Event.{Event}
 use Rattle.am_counter.specs.declared.ask.Ask.TheVariants as ask
 use Rattle.core_outputs.specs.declared.reply.Reply.{Reply}
 use Rattle.core_outputs.specs.Unsent.{Unsent, nothing_unsent, unsent_at, with_reply, put_reply, put_replies}
-use Rattle.core_intents.specs.declared.connection.Connection.TheVariants.{Undialed}
-use Rattle.core_intents.specs.declared.kind.Kind.{Kind}
-use Rattle.core_intents.specs.declared.kind.Kind.TheVariants as kind
-use Rattle.acme_core.specs.Asks.{answer_at, is_ended}
+use Rattle.core_parts.specs.declared.connection.Connection.TheVariants.{Undialed}
+use Rattle.core_parts.specs.declared.kind.Kind.{Kind}
+use Rattle.core_parts.specs.declared.kind.Kind.TheVariants as kind
+use Rattle.acme_core.specs.Asks.{answer_at}
+use Rattle.core_views.specs.Asks.{is_ended}
 use Rattle.core_intents.specs.Doings.{doing_of}
-use Rattle.core_intents.specs.Kinds.{kind_of}
+use Rattle.core_parts.specs.Kinds.{kind_of}
 use Rattle.core_steps.specs.Replies.{replies_of}
 use Rattle.acme_core.specs.Run.{step, run, output_at}
-use Rattle.core_steps.specs.Stages.{left_unsent, said}
-use Rattle.core_intents.specs.States.{State, present, start}
+use Rattle.core_steps.specs.Stages.{said}
+use Rattle.core_closing.specs.Closing.{left_unsent}
+use Rattle.core_parts.specs.States.{State, present, start}
 use Rattle.acme_core.proofs.Few.{length-connections}
 
 length_put : (us : List Unsent) (xs : List Reply) → length (put_replies us xs) ≡ length us

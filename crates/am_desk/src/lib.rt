@@ -4,8 +4,6 @@
 mod counting;
 mod desk;
 mod settled;
-#[cfg(test)]
-mod tests;
 
 pub use acme_core::{Core, Event, NoMemory, Refused, Why};
 pub use am_counter::{Ask, Counter, Taken, Told};

@@ -13,7 +13,7 @@ use Rattle.acme_tree.specs.declared.node.WinFile.TheVariants as file
 use Rattle.acme_tree.specs.Trees.{qid_of}
 use Rattle.core_intents.specs.Doings.{enabled_at}
 use Rattle.acme_core.specs.Run.{step}
-use Rattle.core_intents.specs.States.{State, present, start}
+use Rattle.core_parts.specs.States.{State, present, start}
 use Rattle.ninep_types.specs.Limits.{no_tag}
 use Rattle.am_drill.specs.Brief.{IsBrief}
 use Rattle.am_drill.specs.Drill.{opening}

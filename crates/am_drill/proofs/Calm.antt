@@ -16,7 +16,7 @@ use Rattle.wait_queue.specs.declared.pending.Pending.{Pending}
 use Rattle.core_intents.specs.Doings.{enabled_at}
 use Rattle.core_intents.specs.Enabled.{replies_refusal}
 use Rattle.acme_core.specs.Run.{step}
-use Rattle.core_intents.specs.States.{State, present}
+use Rattle.core_parts.specs.States.{State, present}
 use Rattle.am_drill.specs.Brief.{IsBrief}
 use Rattle.am_drill.specs.Drill.{write, key, poll, flush, read}
 use Rattle.am_drill.proofs.Editing.{text_of, dot_of}

@@ -36,11 +36,12 @@ use Rattle.event_book.specs.Lives.{fresh}
 use Rattle.event_book.specs.WindowFiles.{WindowFile}
 use Rattle.core_tasks.specs.declared.task.Task.TheVariants as task
 use Rattle.core_tasks.specs.Tasks.{task_deeds, task_refusal, task_held}
-use Rattle.core_intents.specs.Doings.{Doing, resolved, doing_of, message_doing}
+use Rattle.core_intents.specs.Doings.{resolved, doing_of, message_doing}
+use Rattle.core_parts.specs.Doing.{Doing}
 use Rattle.core_intents.specs.Intents.{acting}
 use Rattle.acme_core.specs.Run.{step}
 use Rattle.core_steps.specs.Stages.{after_story, response}
-use Rattle.core_intents.specs.States.{State, present}
+use Rattle.core_parts.specs.States.{State, present}
 use Rattle.core_intents.specs.Typing.{edits_with_dot}
 use Rattle.core_steps.specs.Replies.{replies_of}
 use Rattle.core_outputs.specs.Unsent.{nothing_unsent, put_replies}

@@ -37,10 +37,10 @@ use Rattle.win_events.specs.declared.item.Origin.TheVariants.{F}
 use Rattle.core_tasks.specs.Tasks.{task_deeds, task_refusal, task_held}
 use Rattle.core_intents.specs.Doings.{message_doing}
 use Rattle.core_steps.specs.Stages.{after_story}
-use Rattle.core_intents.specs.declared.connection.Connection.TheVariants.{Undialed, Live}
+use Rattle.core_parts.specs.declared.connection.Connection.TheVariants.{Undialed, Live}
 use Rattle.core_outputs.specs.declared.reply.Reply.{Reply}
 use Rattle.acme_core.specs.Run.{step}
-use Rattle.core_intents.specs.States.{State, present, start}
+use Rattle.core_parts.specs.States.{State, present, start}
 use Rattle.core_outputs.specs.Unsent.{Unsent, nothing_unsent, with_reply}
 use Rattle.ninep_types.specs.Limits.{no_tag, no_fid}
 use Rattle.am_drill.specs.Drill.{message}

@@ -9,7 +9,7 @@ use Rattle.std.proofs.lemmas.Option.{slice_get_within, get_or_from_slice_get}
 use Rattle.am_journal.specs.declared.event.Event.{Event}
 use Rattle.core_outputs.specs.declared.reply.Reply.{Reply}
 use Rattle.acme_core.specs.Run.{step, run}
-use Rattle.core_intents.specs.States.{State, start}
+use Rattle.core_parts.specs.States.{State, start}
 use Rattle.am_drill.specs.declared.counting.Count.{Count}
 use Rattle.am_drill.specs.Brief.{IsBrief, IsNext, IsCounted}
 use Rattle.am_drill.specs.Summary.{bytes_in, replies_from, replies_of, count_of, count_at}

@@ -8,7 +8,7 @@ use Rattle.am_journal.specs.declared.event.Event.{Event}
 use Rattle.am_journal.specs.declared.event.Event.TheVariants as event
 use Rattle.am_counter.specs.Played.{ArePlayed, IsPlayed}
 use Rattle.acme_core.specs.Run.{step, run, enabled}
-use Rattle.core_intents.specs.States.{State, start}
+use Rattle.core_parts.specs.States.{State, start}
 use Rattle.am_drill.specs.declared.numbers.Turn.{Turn}
 use Rattle.am_drill.specs.declared.numbers.Turn.TheVariants as turn
 use Rattle.am_drill.specs.Brief.{IsBrief, AreNext}

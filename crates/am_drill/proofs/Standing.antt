@@ -12,9 +12,9 @@ use Rattle.event_book.specs.declared.lives.Recorded.{Recorded}
 use Rattle.event_book.specs.BookState.{BookState}
 use Rattle.event_book.specs.WindowFiles.{EventFile}
 use Rattle.wait_queue.specs.declared.types.Asker.{Asker}
-use Rattle.core_intents.specs.declared.connection.Connection.TheVariants.{Undialed, Live}
+use Rattle.core_parts.specs.declared.connection.Connection.TheVariants.{Undialed, Live}
 use Rattle.core_outputs.specs.declared.reply.Reply.{Reply}
-use Rattle.core_intents.specs.States.{State}
+use Rattle.core_parts.specs.States.{State}
 use Rattle.core_outputs.specs.Unsent.{Unsent, nothing_unsent}
 
 -- ---- what stands fixed: fid 0 is the root, fid 1 the body of window 1, fid 2 its event file

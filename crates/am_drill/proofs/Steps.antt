@@ -26,7 +26,7 @@ use Rattle.core_events.proofs.Turns.{all_none, book_all_none}
 use Rattle.core_events.specs.Asking.{said_to, waits_unless, book_asked}
 use Rattle.core_events.specs.Waits.{ended}
 use Rattle.core_steps.specs.Stages.{response, if_said}
-use Rattle.core_intents.specs.States.{State}
+use Rattle.core_parts.specs.States.{State}
 use Rattle.core_steps.specs.Replies.{replies_of}
 use Rattle.event_book.specs.BookState.{BookState, read_waits, after_answer, after_cancel, served_of, piece_for}
 use Rattle.am_drill.proofs.Standing.{Facts, tables_with, book_with, standing}

@@ -13,7 +13,7 @@ use Rattle.edit_log.specs.Edited.{after, text_after, images}
 use Rattle.event_book.specs.Lives.{pending_from}
 use Rattle.event_book.specs.BookState.{BookState, piece_for}
 use Rattle.acme_core.specs.Run.{step}
-use Rattle.core_intents.specs.States.{State}
+use Rattle.core_parts.specs.States.{State}
 use Rattle.am_drill.specs.declared.numbers.Turn.{Turn}
 use Rattle.am_drill.specs.declared.numbers.Turn.TheVariants as turn
 use Rattle.am_drill.specs.Brief.{IsBrief}

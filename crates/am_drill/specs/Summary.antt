@@ -9,7 +9,7 @@ use Rattle.win_events.specs.declared.item.Life.{Life}
 use Rattle.win_events.specs.declared.item.Life.TheVariants.{Pending, Taken, Back, Dropped}
 use Rattle.core_outputs.specs.declared.reply.Reply.{Reply}
 use Rattle.acme_core.specs.Run.{step}
-use Rattle.core_intents.specs.States.{State, start}
+use Rattle.core_parts.specs.States.{State, start}
 use Rattle.acme_core.specs.Views.{view_of}
 use Rattle.am_text.specs.Ascii.{newline}
 use Rattle.am_drill.specs.declared.counting.Count.{Count}

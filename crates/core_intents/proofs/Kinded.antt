@@ -4,14 +4,14 @@ use Rattle.am_journal.specs.declared.event.Event.{Event}
 use Rattle.am_journal.specs.declared.event.Event.TheVariants as event
 use Rattle.am_journal.specs.declared.event.Why.{Why}
 use Rattle.am_journal.specs.Lawful.{IsLawful}
-use Rattle.core_intents.specs.declared.connection.Connection.{Connection}
-use Rattle.core_intents.specs.declared.kind.Kind.{Kind}
-use Rattle.core_intents.specs.declared.kind.Kind.TheVariants as kind
-use Rattle.core_intents.specs.Connections.{connection_at}
+use Rattle.core_parts.specs.declared.connection.Connection.{Connection}
+use Rattle.core_parts.specs.declared.kind.Kind.{Kind}
+use Rattle.core_parts.specs.declared.kind.Kind.TheVariants as kind
+use Rattle.core_parts.specs.Connections.{connection_at}
 use Rattle.core_intents.specs.Doings.{enabled_at}
 use Rattle.core_intents.specs.Enabled.{dial_refusal, live_refusal, first_why}
-use Rattle.core_intents.specs.Kinds.{kind_of}
-use Rattle.core_intents.specs.States.{Present}
+use Rattle.core_parts.specs.Kinds.{kind_of}
+use Rattle.core_parts.specs.States.{Present}
 use Rattle.std.specs.Prelude.{List}
 
 -- the connection that it dials or ends is one of 64

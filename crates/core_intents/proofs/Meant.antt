@@ -33,7 +33,7 @@ use Rattle.core_intents.specs.Doings.{entry_by, CanBeMeant}
 use Rattle.core_intents.specs.Enabled.{first_why, new_refusal, tree_refusal}
 use Rattle.core_intents.specs.Intents.{acting, nothing, back_task, item_or_refusal, item_named, demanded_task}
 use Rattle.core_intents.specs.Spots.{window_refusal, text_refusal, spot_refusal, arg_refusal}
-use Rattle.core_intents.specs.States.{Present, next_entry}
+use Rattle.core_parts.specs.States.{Present, next_entry}
 use Rattle.core_intents.proofs.Kinded.{first_is, first_then}
 
 -- ---- messages

@@ -13,22 +13,19 @@ use Rattle.am_journal.specs.declared.event.Event.{Event}
 use Rattle.am_journal.specs.declared.event.Event.TheVariants as event
 use Rattle.am_journal.specs.declared.event.Why.{Why}
 use Rattle.core_windows.specs.Windows.{window_at, world_of}
-use Rattle.core_fids.specs.declared.effect.Effect.{Effect}
-use Rattle.core_fids.specs.declared.effect.EventChange.{EventChange}
 use Rattle.core_fids.specs.declared.effect.Answer.{Answer}
 use Rattle.core_fids.specs.declared.effect.Reaction.{Reaction}
 use Rattle.core_fids.specs.Done.{HasSpelling}
-use Rattle.core_events.specs.declared.closing.BackItem.{BackItem}
-use Rattle.core_scene.specs.declared.deed.Deed.{Deed}
 use Rattle.core_scene.specs.declared.deed.Entry.{Entry}
 use Rattle.core_scene.specs.Scenes.{CanDoAll}
 use Rattle.core_tasks.specs.Tasks.{task_deeds, task_refusal, task_held, CanDoTask}
 use Rattle.core_intents.specs.declared.intent.Intent.{Intent}
-use Rattle.core_intents.specs.Connections.{connection_at}
+use Rattle.core_parts.specs.Connections.{connection_at}
+use Rattle.core_parts.specs.Doing.{Doing}
 use Rattle.core_intents.specs.Enabled.{dial_refusal, live_refusal, msg_refusal, took_refusal, new_refusal, tree_refusal}
 use Rattle.core_intents.specs.Intents.{answer_or, with_held, message_intent, intent_of}
 use Rattle.core_intents.specs.Spots.{spot_refusal, arg_refusal}
-use Rattle.core_intents.specs.States.{Present, unsent_count, next_entry}
+use Rattle.core_parts.specs.States.{Present, unsent_count, next_entry}
 use Rattle.core_intents.specs.Typing.{key_refusal, sel_refusal}
 
 -- ---- what may come
@@ -59,16 +56,6 @@ enabled_at s (event.File path text) = tree_refusal (file_clashes s.scene.files p
 enabled_at s (event.Dir path) = tree_refusal (directory_clashes s.scene.files path)
 
 -- ---- what it does
-
--- To the fids and the session of its connection, to event files and ports, and by deeds to the scene; what the items come from that it makes; how
--- its message is answered, where it is one; and the item that it writes back.
-pub record Doing : Type 0 where
-  pub effect : Effect
-  pub events : EventChange
-  pub deeds : List Deed
-  pub origin : Origin
-  pub answer : Option Answer
-  pub back : Option BackItem
 
 -- the number of the step, and what the items come from that it makes
 abbrev pub entry_by : Present → Origin → Entry

@@ -3,9 +3,9 @@ use Rattle.std.specs.Prelude.{ℕ, Bool, ◌==◌, nat_le, nat_lt, Option, Some,
 use Rattle.ninep_types.specs.Limits.{max_msize}
 use Rattle.am_journal.specs.declared.event.Why.{Why}
 use Rattle.am_journal.specs.declared.event.Why.TheVariants as why
-use Rattle.core_intents.specs.Limits.{max_replies}
-use Rattle.core_intents.specs.declared.connection.Connection.{Connection}
-use Rattle.core_intents.specs.declared.connection.Connection.TheVariants.{Undialed, Live, Ended}
+use Rattle.core_parts.specs.Limits.{max_replies}
+use Rattle.core_parts.specs.declared.connection.Connection.{Connection}
+use Rattle.core_parts.specs.declared.connection.Connection.TheVariants.{Undialed, Live, Ended}
 
 -- the first of two
 abbrev pub first_why : Option Why → Option Why → Option Why

@@ -33,7 +33,7 @@ use Rattle.core_tasks.specs.declared.task.Task.{Task}
 use Rattle.core_tasks.specs.declared.task.Task.TheVariants as task
 use Rattle.core_intents.specs.declared.intent.Intent.{Intent}
 use Rattle.core_intents.specs.Origins.{message_origin}
-use Rattle.core_intents.specs.States.{Present}
+use Rattle.core_parts.specs.States.{Present}
 use Rattle.core_intents.specs.Typing.{key_changes, sel_changes}
 
 -- ---- answers

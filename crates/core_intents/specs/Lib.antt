@@ -1,11 +1,6 @@
-pub mod Limits
-pub mod Kinds
-pub mod Connections
 pub mod Enabled
 pub mod Typing
 pub mod Origins
 pub mod Spots
-pub mod States
 pub mod Intents
 pub mod Doings
-pub mod Parts

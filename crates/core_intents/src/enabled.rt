@@ -3,9 +3,8 @@
 ghost use Rattle.std.specs.Prelude.{◌≡◌};
 ghost use Rattle.core_intents.specs.Enabled.{first_why, dial_refusal, live_refusal, size_refusal, tag_refusal, replies_refusal, msg_refusal, took_refusal, new_refusal, tree_refusal};
 
-use crate::connection::Connection;
-use crate::limits::REPLIES;
 use am_journal::Why;
+use core_parts::{Connection, REPLIES};
 use ninep_types::MAX_MSIZE;
 
 /// The first of two reasons, of which the second counts where there is no first one.

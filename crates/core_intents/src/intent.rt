@@ -9,16 +9,16 @@ ghost use Rattle.core_fids.specs.Done.{HasSpelling};
 ghost use Rattle.core_intents.specs.Doings.{enabled_at, IsAnswerable, CanBeMeant};
 ghost use Rattle.core_intents.specs.Intents.{is_refusal, or_refused, answer_or, held_or, with_held, not_found, item_of_text, back_task, item_if_any, refusal_if_any, demanded_task, demanded_item, demand_refusal, reaction_at, message_intent, acting, nothing, intent_of};
 ghost use Rattle.core_intents.specs.Origins.{message_origin};
-ghost use Rattle.core_intents.specs.Parts.{present_of, AreSteady};
+ghost use Rattle.core_parts.specs.Parts.{present_of, AreSteady};
 
 use crate::origin::message_origin;
-use crate::parts::Parts;
 use crate::typing::{key_changes, sel_changes};
 use am_journal::{Event, Spot};
 use am_text::{Bytes, Items, NoMemory, Runes, encode};
 use core_answers::reaction_of;
 use core_events::BackItem;
 use core_fids::{Answer, Demand, Effect, EventChange, Reaction, Refusal, Server, error};
+use core_parts::Parts;
 use core_scene::{Change, Changes};
 use core_tasks::Task;
 use event_book::{BackFault, Book};

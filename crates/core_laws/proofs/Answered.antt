@@ -49,15 +49,16 @@ use Rattle.core_ports.proofs.Idles.{none_said, idle_read}
 use Rattle.core_events.specs.Waits.{clunked, deletions, ended}
 use Rattle.core_events.proofs.Idles.{AreIdle, read_idle, idle_for, idle_end}
 use Rattle.core_tasks.specs.Tasks.{task_deeds, task_refusal}
-use Rattle.core_intents.specs.declared.kind.Kind.TheVariants as kind
-use Rattle.core_intents.specs.Doings.{Doing, doing_of, entry_of, message_doing}
+use Rattle.core_parts.specs.declared.kind.Kind.TheVariants as kind
+use Rattle.core_intents.specs.Doings.{doing_of, entry_of, message_doing}
+use Rattle.core_parts.specs.Doing.{Doing}
 use Rattle.core_intents.specs.Intents.{reaction_at}
 use Rattle.acme_core.specs.Laws.{HasAnswer, EachIsAnswered}
 use Rattle.core_intents.specs.Origins.{message_origin}
 use Rattle.acme_core.specs.Run.{step, run, present_after, enabled}
 use Rattle.core_steps.specs.PortReads.{port_read_in, if_port_said, asked_said, asked_ports}
 use Rattle.core_steps.specs.Stages.{response, asker_of, if_said, answer_said, answer_book, acted, with_fid, read_tables, read_book, put_book, open_ports, said, tables_after}
-use Rattle.core_intents.specs.States.{Present, State, present, next_entry}
+use Rattle.core_parts.specs.States.{Present, State, present, next_entry}
 use Rattle.acme_core.proofs.Goes.{run-push}
 use Rattle.acme_core.proofs.Idling.{run_idle, ports_idle_after}
 use Rattle.core_steps.proofs.Idling.{silent}

@@ -10,7 +10,7 @@ use Rattle.core_tasks.specs.Tasks.{task_refusal, task_held}
 use Rattle.core_intents.specs.Doings.{entry_by, message_doing}
 use Rattle.core_fids.specs.Refusals.{refusal_text}
 use Rattle.core_intents.specs.Intents.{is_refusal, or_refused, demanded_task, demand_refusal}
-use Rattle.core_intents.specs.States.{Present}
+use Rattle.core_parts.specs.States.{Present}
 
 -- what the fid that a message puts holds then, where its task says it
 abbrev pub held_of : Present → Reaction → Origin → Option (List ℕ)

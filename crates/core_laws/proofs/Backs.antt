@@ -20,13 +20,14 @@ use Rattle.core_fids.specs.declared.effect.Demand.TheVariants as demand
 use Rattle.core_events.specs.declared.closing.BackItem.{BackItem}
 use Rattle.core_events.specs.Closing.{written_back}
 use Rattle.core_events.proofs.Idles.{AreIdle}
-use Rattle.core_intents.specs.declared.kind.Kind.{Kind}
-use Rattle.core_intents.specs.Doings.{Doing, doing_of}
+use Rattle.core_parts.specs.declared.kind.Kind.{Kind}
+use Rattle.core_intents.specs.Doings.{doing_of}
+use Rattle.core_parts.specs.Doing.{Doing}
 use Rattle.core_intents.specs.Intents.{item_if_any, item_named, item_or_refusal, demanded_item, reaction_at}
-use Rattle.core_intents.specs.Kinds.{kind_of}
+use Rattle.core_parts.specs.Kinds.{kind_of}
 use Rattle.acme_core.specs.Run.{step, run}
 use Rattle.core_steps.specs.Stages.{grown_book, book_after}
-use Rattle.core_intents.specs.States.{Present, State, present}
+use Rattle.core_parts.specs.States.{Present, State, present}
 use Rattle.acme_core.proofs.Goes.{run-push, entries_counted}
 use Rattle.acme_core.proofs.Idling.{run_idle}
 use Rattle.core_laws.specs.Laws.{IsBackAt, LivesNameTheEntry, WrittenBackOnce}

@@ -24,15 +24,17 @@ use Rattle.core_exec.specs.Acting.{exec_click, exec_clicked, exec_at_deeds, look
 use Rattle.core_events.specs.Putting.{put_one}
 use Rattle.core_events.specs.Serving.{served_all, book_served_all}
 use Rattle.core_tasks.specs.Tasks.{task_deeds}
-use Rattle.core_intents.specs.declared.kind.Kind.{Kind}
-use Rattle.core_intents.specs.declared.kind.Kind.TheVariants as kind
-use Rattle.core_intents.specs.Connections.{connections_after}
-use Rattle.core_intents.specs.Doings.{Doing, entry_by, doing_of}
-use Rattle.core_intents.specs.Kinds.{kind_of}
+use Rattle.core_parts.specs.declared.kind.Kind.{Kind}
+use Rattle.core_parts.specs.declared.kind.Kind.TheVariants as kind
+use Rattle.core_parts.specs.Connections.{connections_after}
+use Rattle.core_intents.specs.Doings.{entry_by, doing_of}
+use Rattle.core_parts.specs.Doing.{Doing}
+use Rattle.core_parts.specs.Kinds.{kind_of}
 use Rattle.acme_core.specs.Run.{step, run}
 use Rattle.core_steps.specs.Replies.{replies_of}
-use Rattle.core_steps.specs.Stages.{said, tables_after, scene_after, left_unsent}
-use Rattle.core_intents.specs.States.{State, present, start, next_entry}
+use Rattle.core_steps.specs.Stages.{said, tables_after, scene_after}
+use Rattle.core_closing.specs.Closing.{left_unsent}
+use Rattle.core_parts.specs.States.{State, present, start, next_entry}
 use Rattle.plumb_ports.specs.PortsState.{PortsState}
 use Rattle.core_events.specs.declared.response.Response.{Response}
 use Rattle.core_ports.specs.Serving.{ports_served, ports_after_serving}

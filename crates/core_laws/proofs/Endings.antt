@@ -20,11 +20,11 @@ use Rattle.core_events.specs.declared.response.Response.{Response}
 use Rattle.core_events.specs.Closing.{freed, cancelled, opening_in}
 use Rattle.core_events.specs.Waits.{is_of_fid, clunked, ended, without_cancelled}
 use Rattle.core_ports.specs.Closing.{ports_freed, ports_cancelled, opening_in as port_in}
-use Rattle.core_intents.specs.declared.kind.Kind.{Kind}
-use Rattle.core_intents.specs.declared.kind.Kind.TheVariants as kind
-use Rattle.core_intents.specs.Connections.{ended_with}
-use Rattle.core_intents.specs.Doings.{Doing}
-use Rattle.core_steps.specs.Stages.{left_book, left_ports, ended_tables}
+use Rattle.core_parts.specs.declared.kind.Kind.{Kind}
+use Rattle.core_parts.specs.declared.kind.Kind.TheVariants as kind
+use Rattle.core_parts.specs.Connections.{ended_with}
+use Rattle.core_parts.specs.Doing.{Doing}
+use Rattle.core_closing.specs.Closing.{left_book, left_ports, ended_tables}
 use Rattle.core_laws.specs.Waits.{opening_by, AreApart}
 use Rattle.core_laws.proofs.Books.{IsBook}
 use Rattle.core_laws.proofs.Lists.{without, without_both, without_none, IsIn}

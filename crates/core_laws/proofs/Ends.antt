@@ -12,18 +12,19 @@ use Rattle.am_journal.specs.declared.event.Event.TheVariants as event
 use Rattle.am_counter.specs.Played.{ArePlayed, IsPlayed, has_hang, is_hang_of}
 use Rattle.am_counter.specs.Sent.{sent, sent_from}
 use Rattle.core_events.specs.declared.response.Response.{Response}
-use Rattle.core_intents.specs.declared.connection.Connection.{Connection}
-use Rattle.core_intents.specs.declared.connection.Connection.TheVariants.{Undialed, Live, Ended}
-use Rattle.acme_core.specs.Asks.{is_ended}
-use Rattle.core_intents.specs.Connections.{connection_at, is_live}
-use Rattle.core_intents.specs.declared.kind.Kind.{Kind}
-use Rattle.core_intents.specs.declared.kind.Kind.TheVariants as kind
-use Rattle.core_intents.specs.Doings.{Doing, enabled_at, doing_of}
+use Rattle.core_parts.specs.declared.connection.Connection.{Connection}
+use Rattle.core_parts.specs.declared.connection.Connection.TheVariants.{Undialed, Live, Ended}
+use Rattle.core_views.specs.Asks.{is_ended}
+use Rattle.core_parts.specs.Connections.{connection_at, is_live}
+use Rattle.core_parts.specs.declared.kind.Kind.{Kind}
+use Rattle.core_parts.specs.declared.kind.Kind.TheVariants as kind
+use Rattle.core_intents.specs.Doings.{enabled_at, doing_of}
+use Rattle.core_parts.specs.Doing.{Doing}
 use Rattle.core_intents.specs.Enabled.{dial_refusal}
-use Rattle.core_intents.specs.Kinds.{kind_of}
+use Rattle.core_parts.specs.Kinds.{kind_of}
 use Rattle.acme_core.specs.Run.{step, run, enabled, output_at}
 use Rattle.core_steps.specs.Stages.{grown_tables, read_book, open_ports, said}
-use Rattle.core_intents.specs.States.{Present, State, present}
+use Rattle.core_parts.specs.States.{Present, State, present}
 use Rattle.core_steps.specs.Replies.{replies_of}
 use Rattle.acme_core.proofs.Connected.{tells_connections}
 use Rattle.acme_core.proofs.Goes.{run-push}

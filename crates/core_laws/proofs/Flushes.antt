@@ -13,9 +13,9 @@ use Rattle.wait_queue.specs.Reads.{is_read}
 use Rattle.wait_queue.specs.declared.types.Asker.{Asker}
 use Rattle.win_events.specs.declared.item.Origin.TheVariants.{F}
 use Rattle.am_journal.specs.declared.event.Event.{Event}
-use Rattle.core_intents.specs.declared.kind.Kind.{Kind}
-use Rattle.core_intents.specs.declared.kind.Kind.TheVariants as kind
-use Rattle.core_intents.specs.Kinds.{kind_of}
+use Rattle.core_parts.specs.declared.kind.Kind.{Kind}
+use Rattle.core_parts.specs.declared.kind.Kind.TheVariants as kind
+use Rattle.core_parts.specs.Kinds.{kind_of}
 use Rattle.am_counter.specs.Played.{ArePlayed}
 use Rattle.core_fids.specs.declared.effect.Reaction.{Reaction}
 use Rattle.core_fids.specs.declared.refusal.Refusal.TheVariants as refusal
@@ -28,7 +28,7 @@ use Rattle.core_tasks.specs.Tasks.{task_deeds, task_refusal}
 use Rattle.core_intents.specs.Doings.{message_doing, doing_of}
 use Rattle.acme_core.specs.Run.{step, run, enabled}
 use Rattle.core_steps.specs.Stages.{response, said, grown_book, grown_ports, tables_after, book_after, ports_after}
-use Rattle.core_intents.specs.States.{Present, State, present, next_entry}
+use Rattle.core_parts.specs.States.{Present, State, present, next_entry}
 use Rattle.core_steps.specs.Replies.{replies_of}
 use Rattle.acme_core.proofs.Goes.{run-push}
 use Rattle.acme_core.proofs.Idling.{idle_after, ports_idle_after}

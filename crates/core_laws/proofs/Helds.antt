@@ -18,14 +18,16 @@ use Rattle.core_events.specs.Asking.{read_said}
 use Rattle.core_events.specs.Waits.{ended}
 use Rattle.core_ports.specs.Asking.{port_said}
 use Rattle.core_ports.specs.Closing.{opening_in, ports_freed, ports_without_fids}
-use Rattle.core_intents.specs.declared.kind.Kind.{Kind}
-use Rattle.core_intents.specs.declared.kind.Kind.TheVariants as kind
-use Rattle.core_intents.specs.Connections.{grown_with, ended_with}
-use Rattle.core_intents.specs.Doings.{Doing, enabled_at, doing_of, entry_of}
-use Rattle.core_intents.specs.Kinds.{kind_of}
-use Rattle.core_intents.specs.States.{Present, State, present}
+use Rattle.core_parts.specs.declared.kind.Kind.{Kind}
+use Rattle.core_parts.specs.declared.kind.Kind.TheVariants as kind
+use Rattle.core_parts.specs.Connections.{grown_with, ended_with}
+use Rattle.core_intents.specs.Doings.{enabled_at, doing_of, entry_of}
+use Rattle.core_parts.specs.Doing.{Doing}
+use Rattle.core_parts.specs.Kinds.{kind_of}
+use Rattle.core_parts.specs.States.{Present, State, present}
 use Rattle.core_steps.specs.PortReads.{port_read_in, asked_ports, asked_tables}
-use Rattle.core_steps.specs.Stages.{asker_of, answer_tables, acted, read_tables, grown_tables, open_ports, grown_ports, left_ports, ended_tables, tables_after, ports_after, said}
+use Rattle.core_steps.specs.Stages.{asker_of, answer_tables, acted, read_tables, grown_tables, open_ports, grown_ports, tables_after, ports_after, said}
+use Rattle.core_closing.specs.Closing.{left_ports, ended_tables}
 use Rattle.acme_core.specs.Run.{step, run, enabled}
 use Rattle.acme_core.proofs.Goes.{run-push}
 use Rattle.core_laws.proofs.Fids.{IsHeld, held_join, held_put, held_take, held_version, held_same}

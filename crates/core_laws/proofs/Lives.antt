@@ -33,11 +33,12 @@ use Rattle.core_fids.specs.Fids.{event_opening}
 use Rattle.core_events.specs.Closing.{written_back, without_opening, without_fid, opening_in, freed, cancelled, closed_with}
 use Rattle.core_events.specs.Putting.{put_one, put_all, is_ending, put_if_lives, put_living, ending}
 use Rattle.core_events.specs.Serving.{book_served_most, book_served_all}
-use Rattle.core_intents.specs.declared.kind.Kind.{Kind}
-use Rattle.core_intents.specs.declared.kind.Kind.TheVariants as kind
-use Rattle.core_intents.specs.Doings.{Doing}
-use Rattle.core_steps.specs.Stages.{asker_of, answer_book, message_book, acted, with_fid, grown_tables, read_book, put_book, grown_book, left_book, book_after}
-use Rattle.core_intents.specs.States.{Present, next_entry}
+use Rattle.core_parts.specs.declared.kind.Kind.{Kind}
+use Rattle.core_parts.specs.declared.kind.Kind.TheVariants as kind
+use Rattle.core_parts.specs.Doing.{Doing}
+use Rattle.core_steps.specs.Stages.{asker_of, answer_book, message_book, acted, with_fid, grown_tables, read_book, put_book, grown_book, book_after}
+use Rattle.core_closing.specs.Closing.{left_book}
+use Rattle.core_parts.specs.States.{Present, next_entry}
 
 -- ---- items of such a life stay as they are
 

@@ -35,7 +35,7 @@ use Rattle.core_exec.specs.Acting.{exec_click, exec_clicked}
 use Rattle.core_tasks.specs.Tasks.{task_deeds}
 use Rattle.core_intents.specs.Doings.{doing_of, entry_by}
 use Rattle.acme_core.specs.Run.{step, run, present_after, IsPossible}
-use Rattle.core_intents.specs.States.{State, present, next_entry}
+use Rattle.core_parts.specs.States.{State, present, next_entry}
 use Rattle.acme_core.proofs.Goes.{run-push}
 use Rattle.core_laws.specs.Moving.{moved_story, moved_story_if, TextIsMoved, MovesAreWhole, builtin_of, ExecutedMovesAreMoves}
 use Rattle.core_laws.proofs.Windows.{possible_prefix, all_lawful, one_lawful}

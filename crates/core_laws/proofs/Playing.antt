@@ -10,7 +10,7 @@ use Rattle.core_events.specs.declared.response.Response.{Response}
 use Rattle.core_ports.specs.Serving.{ports_served}
 use Rattle.core_ports.proofs.Idles.{none_said}
 use Rattle.acme_core.specs.Run.{step, run, enabled}
-use Rattle.core_intents.specs.States.{State, start}
+use Rattle.core_parts.specs.States.{State, start}
 use Rattle.acme_core.proofs.Idling.{idle_after, ports_idle_after}
 use Rattle.core_steps.proofs.Idling.{silent}
 

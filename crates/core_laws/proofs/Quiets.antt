@@ -14,19 +14,21 @@ use Rattle.core_events.specs.Asking.{read_said}
 use Rattle.core_events.specs.Closing.{written_back, freed, opening_in}
 use Rattle.core_events.specs.Waits.{ended}
 use Rattle.core_scene.specs.Scenes.{deleted_by}
-use Rattle.core_intents.specs.Connections.{grown_with, ended_with}
-use Rattle.core_intents.specs.declared.kind.Kind.{Kind}
-use Rattle.core_intents.specs.declared.kind.Kind.TheVariants as kind
+use Rattle.core_parts.specs.Connections.{grown_with, ended_with}
+use Rattle.core_parts.specs.declared.kind.Kind.{Kind}
+use Rattle.core_parts.specs.declared.kind.Kind.TheVariants as kind
 use Rattle.plumb_ports.specs.PortsState.{PortsState}
 use Rattle.core_ports.specs.Asking.{port_said}
 use Rattle.core_ports.specs.Closing.{ports_freed}
 use Rattle.core_steps.specs.PortReads.{port_read_in, port_read_of, asked_tables, asked_ports}
 use Rattle.core_laws.proofs.Ports.{read_reads, joined_reads, acted_reads, served_reads, cancelled_reads, freed_reads, without_fids_reads}
-use Rattle.core_intents.specs.Doings.{Doing, doing_of, entry_of}
-use Rattle.core_intents.specs.Kinds.{kind_of}
+use Rattle.core_intents.specs.Doings.{doing_of, entry_of}
+use Rattle.core_parts.specs.Doing.{Doing}
+use Rattle.core_parts.specs.Kinds.{kind_of}
 use Rattle.acme_core.specs.Run.{step, run, enabled}
-use Rattle.core_steps.specs.Stages.{asker_of, answer_book, answer_tables, acted, read_tables, grown_tables, grown_book, open_ports, grown_ports, read_book, left_book, left_ports, ended_tables, book_after, said}
-use Rattle.core_intents.specs.States.{Present, State, present, next_entry}
+use Rattle.core_steps.specs.Stages.{asker_of, answer_book, answer_tables, acted, read_tables, grown_tables, grown_book, open_ports, grown_ports, read_book, book_after, said}
+use Rattle.core_closing.specs.Closing.{left_book, left_ports, ended_tables}
+use Rattle.core_parts.specs.States.{Present, State, present, next_entry}
 use Rattle.acme_core.proofs.Goes.{run-push}
 use Rattle.core_laws.specs.Saying.{said_from}
 use Rattle.core_laws.proofs.Books.{IsBook, book_without, book_without_fids, book_cancelled, book_written, book_closed}

@@ -3,7 +3,7 @@ use Rattle.std.proofs.Common.{◌≡◌, ℕ, List, [], ◌∷◌, ◌++◌, ref
 use Rattle.core_laws.specs.Replies.{bytes_to, replies_from, replies}
 use Rattle.am_journal.specs.declared.event.Event.{Event}
 use Rattle.acme_core.specs.Run.{run}
-use Rattle.core_intents.specs.States.{State}
+use Rattle.core_parts.specs.States.{State}
 use Rattle.acme_core.proofs.Goes.{run-push}
 
 -- what an entry replies to the connection, after the entries before it

@@ -34,8 +34,8 @@ use Rattle.core_fids.specs.Refusals.{refusal_reaction, refusal_with_effect, reac
 use Rattle.core_events.specs.declared.response.Response.{Response}
 use Rattle.core_events.specs.Asking.{read_said, waits_unless}
 use Rattle.core_events.specs.Waits.{ended, without_cancelled}
-use Rattle.core_intents.specs.declared.kind.Kind.TheVariants as kind
-use Rattle.core_intents.specs.Connections.{grown_with, ended_with}
+use Rattle.core_parts.specs.declared.kind.Kind.TheVariants as kind
+use Rattle.core_parts.specs.Connections.{grown_with, ended_with}
 use Rattle.core_events.specs.Putting.{put_living}
 use Rattle.core_events.specs.Serving.{served_all}
 use Rattle.core_tasks.specs.Tasks.{task_deeds, task_refusal}
@@ -46,12 +46,13 @@ use Rattle.core_ports.specs.Asking.{port_said}
 use Rattle.core_ports.specs.Serving.{ports_served}
 use Rattle.core_steps.specs.PortReads.{port_read_in, asked_tables}
 use Rattle.win_events.specs.declared.item.Origin.{Origin}
-use Rattle.core_intents.specs.Doings.{Doing, message_doing, doing_of}
+use Rattle.core_intents.specs.Doings.{message_doing, doing_of}
+use Rattle.core_parts.specs.Doing.{Doing}
 use Rattle.core_intents.specs.Intents.{reaction_at}
 use Rattle.core_intents.specs.Origins.{message_origin}
 use Rattle.acme_core.specs.Run.{step, run}
 use Rattle.core_steps.specs.Stages.{asker_of, answer_tables, acted, said}
-use Rattle.core_intents.specs.States.{Present, State, present, start, next_entry}
+use Rattle.core_parts.specs.States.{Present, State, present, start, next_entry}
 use Rattle.core_laws.specs.Laws.{FlushesAreAnswered}
 use Rattle.core_laws.specs.Saying.{flushed}
 use Rattle.core_laws.proofs.Answering.{message_reads, message_reads_port}

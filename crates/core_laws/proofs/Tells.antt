@@ -21,12 +21,12 @@ use Rattle.core_events.specs.Responses.{feed_at, error, errors}
 use Rattle.core_events.specs.Serving.{then_served, served_most, served_all}
 use Rattle.core_events.specs.Waits.{is_of_fid, is_of_window, clunked, deletions}
 use Rattle.core_scene.specs.Scenes.{deleted_by}
-use Rattle.core_intents.specs.Doings.{Doing}
-use Rattle.core_intents.specs.declared.kind.Kind.{Kind}
-use Rattle.core_intents.specs.declared.kind.Kind.TheVariants as kind
-use Rattle.core_intents.specs.Kinds.{conn_of}
+use Rattle.core_parts.specs.Doing.{Doing}
+use Rattle.core_parts.specs.declared.kind.Kind.{Kind}
+use Rattle.core_parts.specs.declared.kind.Kind.TheVariants as kind
+use Rattle.core_parts.specs.Kinds.{conn_of}
 use Rattle.core_steps.specs.Stages.{asker_of, if_said, answer_said, message_said, acted, with_fid, read_tables, read_book, put_book, open_ports, said}
-use Rattle.core_intents.specs.States.{Present, next_entry}
+use Rattle.core_parts.specs.States.{Present, next_entry}
 use Rattle.plumb_ports.specs.PortsState.{PortsState}
 use Rattle.core_ports.specs.Asking.{port_said}
 use Rattle.core_ports.specs.Serving.{ports_served}

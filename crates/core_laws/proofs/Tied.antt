@@ -53,19 +53,21 @@ use Rattle.core_ports.specs.Asking.{joined_with, port_said, ports_read}
 use Rattle.core_ports.specs.Closing.{without_opening, without_fid, ports_freed, ports_cancelled, opening_in}
 use Rattle.core_ports.specs.Serving.{after_serving_most}
 use Rattle.core_tasks.specs.Tasks.{task_deeds}
-use Rattle.core_intents.specs.declared.kind.Kind.{Kind}
-use Rattle.core_intents.specs.declared.kind.Kind.TheVariants as kind
+use Rattle.core_parts.specs.declared.kind.Kind.{Kind}
+use Rattle.core_parts.specs.declared.kind.Kind.TheVariants as kind
 use Rattle.core_answers.specs.Reactions.{reaction}
-use Rattle.core_intents.specs.Connections.{connection_at, grown_with}
-use Rattle.core_intents.specs.Doings.{Doing, enabled_at, doing_of, message_doing, entry_by, entry_of, is_version, is_tag_used}
+use Rattle.core_parts.specs.Connections.{connection_at, grown_with}
+use Rattle.core_intents.specs.Doings.{enabled_at, doing_of, message_doing, entry_by, entry_of, is_version, is_tag_used}
+use Rattle.core_parts.specs.Doing.{Doing}
 use Rattle.core_intents.specs.Enabled.{first_why, live_refusal, size_refusal, tag_refusal, replies_refusal}
 use Rattle.core_intents.specs.Intents.{with_held, demanded_task, reaction_at}
-use Rattle.core_intents.specs.Kinds.{kind_of}
+use Rattle.core_parts.specs.Kinds.{kind_of}
 use Rattle.core_intents.specs.Origins.{message_origin}
-use Rattle.core_intents.specs.States.{Present, State, present, unsent_count, next_entry}
+use Rattle.core_parts.specs.States.{Present, State, present, unsent_count, next_entry}
 use Rattle.core_steps.specs.declared.reading.PortRead.{PortRead}
 use Rattle.core_steps.specs.PortReads.{port_read_of, port_read_in, if_port_said, asked_said, asked_ports, asked_tables}
-use Rattle.core_steps.specs.Stages.{response, read_response, asker_of, if_said, answer_said, answer_book, answer_tables, acted, read_tables, grown_tables, read_book, grown_book, open_ports, grown_ports, left_ports, tables_after, book_after, ports_after}
+use Rattle.core_steps.specs.Stages.{response, read_response, asker_of, if_said, answer_said, answer_book, answer_tables, acted, read_tables, grown_tables, read_book, grown_book, open_ports, grown_ports, tables_after, book_after, ports_after}
+use Rattle.core_closing.specs.Closing.{left_ports}
 use Rattle.acme_core.specs.Run.{step, run, enabled}
 use Rattle.acme_core.proofs.Goes.{run-push}
 use Rattle.core_laws.specs.Waits.{AreApart, WaitsAreTied}

@@ -7,12 +7,13 @@ use Rattle.am_journal.specs.declared.event.Event.{Event}
 use Rattle.am_journal.specs.declared.event.Event.TheVariants as event
 use Rattle.am_counter.specs.Sent.{sent_by, sent_from}
 use Rattle.core_outputs.specs.declared.reply.Reply.{Reply}
-use Rattle.core_intents.specs.Kinds.{kind_of}
+use Rattle.core_parts.specs.Kinds.{kind_of}
 use Rattle.acme_core.specs.Run.{step, run, output_at}
-use Rattle.core_intents.specs.declared.kind.Kind.{Kind}
-use Rattle.core_intents.specs.declared.kind.Kind.TheVariants as kind
-use Rattle.core_steps.specs.Stages.{left_unsent, said}
-use Rattle.core_intents.specs.States.{State, present, start}
+use Rattle.core_parts.specs.declared.kind.Kind.{Kind}
+use Rattle.core_parts.specs.declared.kind.Kind.TheVariants as kind
+use Rattle.core_steps.specs.Stages.{said}
+use Rattle.core_closing.specs.Closing.{left_unsent}
+use Rattle.core_parts.specs.States.{State, present, start}
 use Rattle.core_intents.specs.Doings.{doing_of}
 use Rattle.core_steps.specs.Replies.{replies_of}
 use Rattle.core_outputs.specs.Unsent.{Unsent, nothing_unsent, unsent_at, with_reply, put_reply, put_replies}

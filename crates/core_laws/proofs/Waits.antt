@@ -19,13 +19,14 @@ use Rattle.core_events.specs.Putting.{ending}
 use Rattle.core_events.specs.Serving.{served_all, book_served_all}
 use Rattle.core_events.specs.Waits.{clunked, deletions}
 use Rattle.core_ports.specs.Serving.{ports_served}
-use Rattle.core_intents.specs.declared.kind.Kind.{Kind}
-use Rattle.core_intents.specs.declared.kind.Kind.TheVariants as kind
-use Rattle.core_intents.specs.Doings.{Doing}
-use Rattle.core_intents.specs.Kinds.{conn_of}
-use Rattle.core_intents.specs.States.{Present, next_entry}
+use Rattle.core_parts.specs.declared.kind.Kind.{Kind}
+use Rattle.core_parts.specs.declared.kind.Kind.TheVariants as kind
+use Rattle.core_parts.specs.Doing.{Doing}
+use Rattle.core_parts.specs.Kinds.{conn_of}
+use Rattle.core_parts.specs.States.{Present, next_entry}
 use Rattle.core_steps.specs.PortReads.{port_read_of, asked_said}
-use Rattle.core_steps.specs.Stages.{message_said, acted, with_fid, read_tables, grown_tables, read_book, put_book, grown_book, open_ports, grown_ports, left_book, said, tables_after, book_after, ports_after}
+use Rattle.core_steps.specs.Stages.{message_said, acted, with_fid, read_tables, grown_tables, read_book, put_book, grown_book, open_ports, grown_ports, said, tables_after, book_after, ports_after}
+use Rattle.core_closing.specs.Closing.{left_book}
 use Rattle.core_laws.specs.Waits.{told}
 use Rattle.core_laws.proofs.Books.{IsBook, book_written}
 use Rattle.core_laws.proofs.Lists.{without, without_both, without_same, IsIn, in_without, which_any}

@@ -36,19 +36,21 @@ use Rattle.core_events.specs.Closing.{written_back, freed, cancelled, closed_wit
 use Rattle.core_events.specs.Putting.{ending}
 use Rattle.core_events.specs.Serving.{book_served_all}
 use Rattle.core_events.specs.Waits.{ended, without_cancelled}
-use Rattle.core_intents.specs.declared.connection.Connection.{Connection}
-use Rattle.core_intents.specs.declared.connection.Connection.TheVariants.{Undialed, Live, Ended}
-use Rattle.core_intents.specs.declared.kind.Kind.{Kind}
-use Rattle.core_intents.specs.declared.kind.Kind.TheVariants as kind
-use Rattle.core_intents.specs.Connections.{connection_at, connections_after, is_live, grown_with, ended_with}
-use Rattle.core_intents.specs.Kinds.{kind_of}
-use Rattle.core_intents.specs.Doings.{Doing, enabled_at, doing_of, message_doing}
+use Rattle.core_parts.specs.declared.connection.Connection.{Connection}
+use Rattle.core_parts.specs.declared.connection.Connection.TheVariants.{Undialed, Live, Ended}
+use Rattle.core_parts.specs.declared.kind.Kind.{Kind}
+use Rattle.core_parts.specs.declared.kind.Kind.TheVariants as kind
+use Rattle.core_parts.specs.Connections.{connection_at, connections_after, is_live, grown_with, ended_with}
+use Rattle.core_parts.specs.Kinds.{kind_of}
+use Rattle.core_intents.specs.Doings.{enabled_at, doing_of, message_doing}
+use Rattle.core_parts.specs.Doing.{Doing}
 use Rattle.core_intents.specs.Intents.{reaction_at}
 use Rattle.core_intents.specs.Origins.{message_origin}
 use Rattle.core_intents.specs.Enabled.{first_why, live_refusal}
 use Rattle.acme_core.specs.Run.{step, run, enabled}
-use Rattle.core_steps.specs.Stages.{asker_of, answer_book, answer_tables, acted, read_tables, grown_tables, read_book, put_book, grown_book, left_book, ended_tables, tables_after, book_after, said}
-use Rattle.core_intents.specs.States.{Present, State, present, start, next_entry}
+use Rattle.core_steps.specs.Stages.{asker_of, answer_book, answer_tables, acted, read_tables, grown_tables, read_book, put_book, grown_book, tables_after, book_after, said}
+use Rattle.core_closing.specs.Closing.{left_book, ended_tables}
+use Rattle.core_parts.specs.States.{Present, State, present, start, next_entry}
 use Rattle.acme_core.proofs.Goes.{run-push}
 use Rattle.core_steps.proofs.Joins.{elsewhere}
 use Rattle.core_laws.proofs.Fids.{AllFids, no_fids, fids_weaker, fids_at, IsHeld, fids_join, fids_put, fids_take, fids_version, fids_same, held_join, held_put, held_take, held_version, held_same}

@@ -9,7 +9,7 @@ use Rattle.core_windows.specs.Stories.{WindowStory, story_at, IsLawfulWindow, Is
 use Rattle.core_windows.proofs.Steps.{lawful_at}
 use Rattle.core_scene.specs.SceneLaws.{DeedsShow}
 use Rattle.acme_core.specs.Run.{run, ArePossible, IsPossible}
-use Rattle.core_intents.specs.States.{State}
+use Rattle.core_parts.specs.States.{State}
 use Rattle.acme_core.proofs.Goes.{run-push, lawful_on}
 use Rattle.core_laws.specs.Journals.{BodiesAreTheirHistories}
 

@@ -42,11 +42,12 @@ use Rattle.core_answers.specs.Writing.{if_lives, write_content, write_fid}
 use Rattle.core_events.specs.declared.closing.BackItem.{BackItem}
 use Rattle.core_exec.specs.Acting.{act_on_deeds}
 use Rattle.core_tasks.specs.Tasks.{task_deeds, task_refusal}
-use Rattle.core_intents.specs.Doings.{Doing, doing_of, message_doing, resolved}
+use Rattle.core_intents.specs.Doings.{doing_of, message_doing, resolved}
+use Rattle.core_parts.specs.Doing.{Doing}
 use Rattle.core_intents.specs.Intents.{or_refused, item_or_refusal, item_named, item_of_text, back_task, item_if_any, refusal_if_any, reaction_at}
 use Rattle.core_intents.specs.Origins.{is_text, origin_at, message_origin}
 use Rattle.acme_core.specs.Run.{run, present_after}
-use Rattle.core_intents.specs.States.{Present}
+use Rattle.core_parts.specs.States.{Present}
 use Rattle.acme_core.proofs.Goes.{entries_counted}
 use Rattle.core_laws.specs.Laws.{IsBackAt, written_by}
 use Rattle.core_laws.specs.WriteBacks.{IsNamed, numbered, IsActedOn, write_of, WritesAreActedOn, ActedOnOnce}

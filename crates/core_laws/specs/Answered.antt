@@ -21,7 +21,7 @@ use Rattle.core_ports.specs.Asking.{port_said}
 use Rattle.core_intents.specs.Doings.{doing_of}
 use Rattle.acme_core.specs.Run.{run, present_after}
 use Rattle.core_steps.specs.Stages.{response, asker_of}
-use Rattle.core_intents.specs.States.{State}
+use Rattle.core_parts.specs.States.{State}
 use Rattle.core_laws.specs.Saying.{said_after, is_told}
 
 -- its own R message, whose type byte is one more, or Rerror with the text of a named refusal

@@ -20,7 +20,7 @@ use Rattle.core_intents.specs.Doings.{doing_of}
 use Rattle.acme_core.specs.Run.{run, present_after, enabled, output_at}
 use Rattle.core_steps.specs.Replies.{replies_of}
 use Rattle.core_steps.specs.Stages.{response}
-use Rattle.core_intents.specs.States.{State}
+use Rattle.core_parts.specs.States.{State}
 use Rattle.am_journal.specs.Limits.{connection_count}
 use Rattle.core_laws.specs.Replies.{replies}
 use Rattle.core_laws.specs.Saying.{said_after, said_from, is_told, is_message, flush_of, flushed, flush_body}

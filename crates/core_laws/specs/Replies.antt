@@ -3,7 +3,7 @@ use Rattle.std.specs.Prelude.{ℕ, ◌==◌, List, [], ◌∷◌, ◌++◌, if�
 use Rattle.am_journal.specs.declared.event.Event.{Event}
 use Rattle.core_outputs.specs.declared.reply.Reply.{Reply}
 use Rattle.acme_core.specs.Run.{step}
-use Rattle.core_intents.specs.States.{State, start}
+use Rattle.core_parts.specs.States.{State, start}
 
 -- the bytes of those to a connection, one after another
 abbrev pub bytes_to : ℕ → List Reply → List ℕ

@@ -8,7 +8,7 @@ use Rattle.fid_table.specs.Tables.{Tables, fid_of, is_waiting}
 use Rattle.wait_queue.specs.declared.types.Asker.{Asker}
 use Rattle.core_fids.specs.Fids.{is_there, event_opening, port_opening}
 use Rattle.core_events.specs.Responses.{feed_at}
-use Rattle.core_intents.specs.States.{State}
+use Rattle.core_parts.specs.States.{State}
 
 -- a read that waits: its connection, its tag, and the opening that it reads
 pub record WaitingRead : Type 0 where

@@ -9,18 +9,19 @@ use Rattle.core_scene.specs.Scenes.{SceneState, scene_of, kept_of, scene_in}
 use Rattle.core_events.specs.declared.response.Response.{Response}
 use Rattle.core_outputs.specs.declared.reply.Reply.{Reply}
 use Rattle.core_outputs.specs.Unsent.{Unsent}
-use Rattle.core_intents.specs.declared.connection.Connection.{Connection}
-use Rattle.core_intents.specs.Doings.{Doing}
-use Rattle.core_intents.specs.declared.kind.Kind.{Kind}
-use Rattle.core_intents.specs.declared.parts.Parts.{Parts}
-use Rattle.core_steps.specs.declared.prepared.Prepared.{Prepared}
-use Rattle.core_intents.specs.Connections.{connections_after}
-use Rattle.core_intents.specs.Kinds.{kind_of}
-use Rattle.core_intents.specs.Parts.{present_of}
+use Rattle.core_parts.specs.declared.connection.Connection.{Connection}
+use Rattle.core_parts.specs.Doing.{Doing}
+use Rattle.core_parts.specs.declared.kind.Kind.{Kind}
+use Rattle.core_parts.specs.declared.parts.Parts.{Parts}
+use Rattle.core_closing.specs.declared.prepared.Prepared.{Prepared}
+use Rattle.core_parts.specs.Connections.{connections_after}
+use Rattle.core_parts.specs.Kinds.{kind_of}
+use Rattle.core_parts.specs.Parts.{present_of}
 use Rattle.core_steps.specs.Ready.{HasReady}
 use Rattle.core_steps.specs.Replies.{replies_of}
-use Rattle.core_steps.specs.Stages.{acted, grown_tables, grown_book, said, closed_book, left_ports, ended_tables, book_after, ports_after, scene_after, left_unsent, after}
-use Rattle.core_intents.specs.States.{Present, next_entry}
+use Rattle.core_steps.specs.Stages.{acted, grown_tables, grown_book, said, book_after, ports_after, scene_after, after}
+use Rattle.core_closing.specs.Closing.{closed_book, left_ports, ended_tables, left_unsent}
+use Rattle.core_parts.specs.States.{Present, next_entry}
 
 present_same : (n m : ℕ) (cs ds : List Connection) (t u : Tables) (s r : SceneState) (us vs : List Unsent) (rs qs : List Reply) → n ≡ m → cs ≡ ds → t ≡ u → s ≡ r → us ≡ vs → rs ≡ qs
     → ◌≡◌ {A = Present} (record { entries = n; connections = cs; tables = t; scene = s; unsent = us; replies = rs })

@@ -23,11 +23,12 @@ use Rattle.plumb_ports.specs.PortsState.{PortsState}
 use Rattle.core_ports.specs.Closing.{ports_freed}
 use Rattle.core_ports.specs.Sound.{ArePortsIdle}
 use Rattle.core_ports.proofs.Idles.{idle_served, idle_freed, idle_cancelled, idle_without_fids}
-use Rattle.core_intents.specs.declared.kind.Kind.{Kind}
-use Rattle.core_intents.specs.declared.kind.Kind.TheVariants as kind
-use Rattle.core_steps.specs.Stages.{asker_of, answer_book, message_book, acted, with_fid, grown_tables, read_book, put_book, grown_book, left_book, book_after, open_ports, grown_ports, left_ports, ports_after}
-use Rattle.core_intents.specs.States.{Present, next_entry}
-use Rattle.core_intents.specs.Doings.{Doing}
+use Rattle.core_parts.specs.declared.kind.Kind.{Kind}
+use Rattle.core_parts.specs.declared.kind.Kind.TheVariants as kind
+use Rattle.core_steps.specs.Stages.{asker_of, answer_book, message_book, acted, with_fid, grown_tables, read_book, put_book, grown_book, book_after, open_ports, grown_ports, ports_after}
+use Rattle.core_closing.specs.Closing.{left_book, left_ports}
+use Rattle.core_parts.specs.States.{Present, next_entry}
+use Rattle.core_parts.specs.Doing.{Doing}
 
 module _ (deleted : List ℕ) (at : ℕ) where
   answered : (t : Tables) (b : BookState) (conn tag : ℕ) (a : Option Answer) → AreIdle deleted at b → AreIdle deleted at (answer_book t b conn tag a at)

@@ -5,20 +5,20 @@ use Rattle.std.specs.List.{list_any}
 use Rattle.std.proofs.lemmas.Bool.{eqb-true, eqb-false}
 use Rattle.std.proofs.lemmas.List.{get_or-set_same, get_or-set_other}
 use Rattle.std.proofs.lemmas.List.Folds.{list_any-append}
-use Rattle.core_intents.specs.declared.kind.Kind.{Kind}
-use Rattle.core_intents.specs.declared.kind.Kind.TheVariants as kind
+use Rattle.core_parts.specs.declared.kind.Kind.{Kind}
+use Rattle.core_parts.specs.declared.kind.Kind.TheVariants as kind
 use Rattle.core_intents.proofs.Kinded.{IsNumbered, IsFound}
 use Rattle.fid_table.specs.declared.session.Session.{Session}
 use Rattle.fid_table.specs.Tables.{Tables, HasJoined, is_session, has_joined, on_session, put_in, taken_from, begun, after_join, after_done, after_hangup}
-use Rattle.core_intents.specs.declared.connection.Connection.{Connection}
-use Rattle.core_intents.specs.declared.connection.Connection.TheVariants.{Undialed, Live, Ended}
+use Rattle.core_parts.specs.declared.connection.Connection.{Connection}
+use Rattle.core_parts.specs.declared.connection.Connection.TheVariants.{Undialed, Live, Ended}
 use Rattle.core_fids.specs.declared.effect.Effect.{Effect}
 use Rattle.core_fids.specs.declared.effect.Effect.TheVariants as effect
-use Rattle.core_intents.specs.Connections.{connection_at, connections_after, was_dialed, AreJoined, IsJoinedFor, IsOfJoined, grown, grown_with, ended_with}
+use Rattle.core_parts.specs.Connections.{connection_at, connections_after, was_dialed, AreJoined, IsJoinedFor, IsOfJoined, grown, grown_with, ended_with}
 use Rattle.core_intents.specs.Enabled.{dial_refusal, live_refusal}
-use Rattle.core_intents.specs.States.{Present}
+use Rattle.core_parts.specs.States.{Present}
 use Rattle.core_steps.specs.Stages.{asker_of, answer_tables, message_tables, acted, said, tables_after}
-use Rattle.core_intents.specs.Doings.{Doing}
+use Rattle.core_parts.specs.Doing.{Doing}
 use Rattle.ninep_types.specs.declared.message.RBody.{RBody}
 use Rattle.event_book.specs.BookState.{BookState}
 use Rattle.core_fids.specs.declared.effect.Answer.{Answer}

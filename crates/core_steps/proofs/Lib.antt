@@ -1,6 +1,5 @@
 pub mod Saids
 pub mod Moved
-pub mod Places
 pub mod Joins
 pub mod Idling
 pub mod Applied

@@ -3,17 +3,17 @@ use Rattle.std.specs.Prelude.{◌≡◌, []}
 use Rattle.core_scene.specs.Scenes.{SceneState, scene_of, deleted_by}
 use Rattle.core_events.specs.Sound.{IsSound}
 use Rattle.core_ports.specs.Sound.{ArePortsSound}
-use Rattle.core_intents.specs.Doings.{Doing}
-use Rattle.core_intents.specs.declared.kind.Kind.{Kind}
-use Rattle.core_intents.specs.declared.parts.Parts.{Parts}
-use Rattle.core_steps.specs.declared.prepared.Prepared.{Prepared}
-use Rattle.core_intents.specs.Connections.{IsOfJoined}
-use Rattle.core_intents.specs.Kinds.{kind_of}
+use Rattle.core_parts.specs.Doing.{Doing}
+use Rattle.core_parts.specs.declared.kind.Kind.{Kind}
+use Rattle.core_parts.specs.declared.parts.Parts.{Parts}
+use Rattle.core_closing.specs.declared.prepared.Prepared.{Prepared}
+use Rattle.core_parts.specs.Connections.{IsOfJoined}
+use Rattle.core_parts.specs.Kinds.{kind_of}
 use Rattle.core_steps.specs.Stages.{acted, grown_tables, grown_book, grown_ports, said}
-use Rattle.core_intents.specs.States.{Present, next_entry}
+use Rattle.core_parts.specs.States.{Present, next_entry}
 use Rattle.core_steps.specs.Replies.{replies_of}
 use Rattle.core_outputs.specs.Unsent.{put_replies}
-use Rattle.core_intents.specs.Parts.{present_of}
+use Rattle.core_parts.specs.Parts.{present_of}
 
 -- the scene with all that a step makes
 abbrev pub grown_scene : Present → Kind → Doing → SceneState

@@ -1,9 +1,9 @@
 -- A step, part by part. First comes what it makes: deeds are done; the message is answered, or waits; items come; waiting reads are
 -- answered. Then comes what it ends: the item that is written back, openings of freed fids and of deleted windows, and reads that wait no
 -- more.
-use Rattle.std.specs.Prelude.{ℕ, List, [], ◌∷◌, ◌++◌, Option, Some, None}
+use Rattle.std.specs.Prelude.{ℕ, ◌==◌, ◌&&◌, Bool, List, [], ◌∷◌, ◌++◌, length, Option, Some, None}
 use Rattle.ninep_types.specs.declared.message.RBody.{RBody}
-use Rattle.fid_table.specs.Tables.{Tables, after_hangup}
+use Rattle.fid_table.specs.Tables.{Tables}
 use Rattle.wait_queue.specs.declared.types.Asker.{Asker}
 use Rattle.am_journal.specs.declared.event.Event.{Event}
 use Rattle.event_book.specs.BookState.{BookState}
@@ -15,23 +15,23 @@ use Rattle.core_fids.specs.declared.effect.Answer.{Answer}
 use Rattle.core_fids.specs.declared.effect.Answer.TheVariants.{Says, Reads, ReadsPort}
 use Rattle.core_events.specs.declared.response.Response.{Response}
 use Rattle.core_events.specs.Asking.{opened, read_said, book_read, tables_read}
-use Rattle.core_events.specs.Closing.{written_back, freed, cancelled, closed_with, without_fids}
 use Rattle.core_events.specs.Putting.{put_all, put_living, ending}
 use Rattle.core_events.specs.Responses.{event_feed}
 use Rattle.core_events.specs.Serving.{served_all, book_served_all}
-use Rattle.core_events.specs.Waits.{clunked, deletions, ended, without_cancelled}
+use Rattle.core_events.specs.Waits.{clunked, deletions}
 use Rattle.core_ports.specs.Asking.{joined_with}
 use Rattle.core_ports.specs.Serving.{ports_served, ports_after_serving}
-use Rattle.core_ports.specs.Closing.{ports_freed, ports_cancelled, ports_without_fids}
-use Rattle.core_intents.specs.declared.kind.Kind.{Kind}
-use Rattle.core_intents.specs.declared.kind.Kind.TheVariants as kind
-use Rattle.core_intents.specs.Connections.{connections_after, grown, ended_with}
-use Rattle.core_intents.specs.Doings.{Doing, entry_of}
-use Rattle.core_intents.specs.Kinds.{kind_of, conn_of}
-use Rattle.core_intents.specs.States.{Present, State, next_entry}
+use Rattle.core_parts.specs.declared.kind.Kind.{Kind}
+use Rattle.core_parts.specs.declared.kind.Kind.TheVariants as kind
+use Rattle.core_parts.specs.Connections.{connections_after, grown}
+use Rattle.core_intents.specs.Doings.{entry_of}
+use Rattle.core_parts.specs.Doing.{Doing}
+use Rattle.core_parts.specs.Kinds.{kind_of, conn_of}
+use Rattle.core_parts.specs.States.{Present, State, next_entry}
+use Rattle.core_closing.specs.Closing.{closed_book, left_ports, ended_tables, left_unsent}
 use Rattle.core_steps.specs.Replies.{replies_of}
 use Rattle.core_steps.specs.PortReads.{port_read_of, asked_said, asked_ports, asked_tables}
-use Rattle.core_outputs.specs.Unsent.{Unsent, put_replies, taken}
+use Rattle.core_outputs.specs.Unsent.{put_replies}
 
 -- ---- the answer to the message, unless it reads a port
 
@@ -137,6 +137,11 @@ open_ports s k d = joined_with (asked_ports (read_tables s k d) (acted s d).port
 abbrev pub grown_ports : Present → Kind → Doing → PortsState
 grown_ports s k d = ports_after_serving (open_ports s k d)
 
+-- whether nothing is said but the answer to the message, if it is
+abbrev pub is_answer_alone : List Response → List Response → List Response → List Response → List Response → Bool
+is_answer_alone clunked deleted served asked ports_served =
+    ((((length clunked == 0) && (length deleted == 0)) && (length served == 0)) && (length asked == 0)) && (length ports_served == 0)
+
 -- What is said: to the reads of a fid that is freed, to the message, to the reads of windows that are deleted, and to the reads that
 -- can be answered then. No step makes items and delivers to ports as well, so these are the oldest first over all files.
 abbrev pub said : Present → Kind → Doing → List Response
@@ -147,44 +152,6 @@ said s k d =
     ++ deletions s.tables (deleted_by d.deeds)
     ++ served_all (next_entry s) (put_book s k d)
     ++ ports_served (open_ports s k d)
-
--- ---- what a step ends
-
--- the openings of fids that a message frees, and the read that it cancels
-abbrev pub left_book : ℕ → Tables → Kind → Doing → BookState → BookState
-left_book at tables (kind.Dials conn) d book = book
-left_book at tables (kind.Asks conn tag) d book = cancelled (freed at book tables conn d.effect) conn d.events
-left_book at tables (kind.Ends conn why) d book = without_fids at book tables conn
-left_book at tables (kind.Takes conn) d book = book
-left_book at tables kind.Acts d book = book
-
--- first the item that is written back, and at last the event files of the windows that are deleted
-abbrev pub closed_book : ℕ → Tables → Kind → Doing → BookState → BookState
-closed_book at tables k d book = closed_with at (left_book at tables k d (written_back at book d.back)) (deleted_by d.deeds)
-
--- the same of ports
-abbrev pub left_ports : Tables → Kind → Doing → PortsState → PortsState
-left_ports tables (kind.Dials conn) d ports = ports
-left_ports tables (kind.Asks conn tag) d ports = ports_cancelled (ports_freed ports tables conn d.effect) conn d.events
-left_ports tables (kind.Ends conn why) d ports = ports_without_fids ports tables conn
-left_ports tables (kind.Takes conn) d ports = ports
-left_ports tables kind.Acts d ports = ports
-
--- the sessions without the fids that are freed, and the reads that were answered wait no more
-abbrev pub ended_tables : Tables → Kind → Doing → List Response → Tables
-ended_tables tables (kind.Dials conn) d responses = ended tables responses
-ended_tables tables (kind.Asks conn tag) d responses = without_cancelled (ended (ended_with tables conn d.effect) responses) conn d.events
-ended_tables tables (kind.Ends conn why) d responses = ended (after_hangup tables conn) responses
-ended_tables tables (kind.Takes conn) d responses = ended tables responses
-ended_tables tables kind.Acts d responses = ended tables responses
-
--- the unsent replies without those that an event of this kind takes
-abbrev pub left_unsent : List Unsent → Kind → List Unsent
-left_unsent unsent (kind.Dials conn) = unsent
-left_unsent unsent (kind.Asks conn tag) = unsent
-left_unsent unsent (kind.Ends conn why) = unsent
-left_unsent unsent (kind.Takes conn) = taken unsent conn
-left_unsent unsent kind.Acts = unsent
 
 -- ---- the whole
 

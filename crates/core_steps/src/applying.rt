@@ -1,36 +1,19 @@
 //! Doing what is ready.
 
 ghost use Rattle.std.specs.Prelude.{◌≡◌};
-ghost use Rattle.am_text.specs.Twice.{both, IsSteady};
 ghost use Rattle.core_events.specs.Sound.{IsSound};
 ghost use Rattle.core_ports.specs.Sound.{ArePortsSound};
-ghost use Rattle.core_intents.specs.Doings.{Doing};
-ghost use Rattle.core_intents.specs.Parts.{present_of, AreSteady};
+ghost use Rattle.core_parts.specs.Doing.{Doing};
+ghost use Rattle.core_parts.specs.Parts.{present_of, AreSteady};
 ghost use Rattle.core_steps.specs.Ready.{HasReady};
-ghost use Rattle.core_steps.specs.Stages.{after, left_unsent};
-ghost use Rattle.core_intents.specs.States.{present};
+ghost use Rattle.core_steps.specs.Stages.{after};
 
-use crate::closing::{change_book, change_ports};
-use crate::connections::{change_connections, change_sessions};
-use crate::prepared::Prepared;
 use am_journal::Event;
-use core_intents::{Kind, Parts, kind_of};
-use core_outputs::Outputs;
+use core_closing::{
+    Prepared, change_book, change_connections, change_ports, change_sessions, take_replies,
+};
+use core_parts::{Parts, kind_of};
 use std::alloc::Global;
-
-// Takes the replies of a connection, where an event of this kind does.
-fn take_replies(alloc: Global, outputs: &mut Outputs, kind: Kind)
-    requires { IsSteady outputs.old }
-    ensures { outputs.new ≡ both (left_unsent outputs.old.present kind) }
-{
-    match kind {
-        Kind::Takes { conn } => outputs.take(alloc, conn),
-        Kind::Dials { .. } => {}
-        Kind::Asks { .. } => {}
-        Kind::Ends { .. } => {}
-        Kind::Acts => {}
-    }
-}
 
 /// Does an event that is ready in the tables, and gives it back. It takes no memory.
 pub fn apply(alloc: Global, parts: &mut Parts, prepared: Prepared) -> Event

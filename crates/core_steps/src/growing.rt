@@ -16,31 +16,32 @@ ghost use Rattle.core_events.specs.Sound.{IsSound, IsIdle};
 ghost use Rattle.core_ports.specs.Asking.{joined_with};
 ghost use Rattle.core_ports.specs.Serving.{ports_served, ports_after_serving};
 ghost use Rattle.core_ports.specs.Sound.{ArePortsSound};
-ghost use Rattle.core_intents.specs.Connections.{IsJoinedFor, IsOfJoined, grown};
-ghost use Rattle.core_intents.specs.Kinds.{kind_of, conn_of, is_hang};
-ghost use Rattle.core_intents.specs.Parts.{present_of, AreSteady};
+ghost use Rattle.core_parts.specs.Connections.{IsJoinedFor, IsOfJoined, grown};
+ghost use Rattle.core_parts.specs.Kinds.{kind_of, conn_of, is_hang};
+ghost use Rattle.core_parts.specs.Parts.{present_of, AreSteady};
 ghost use Rattle.ninep_types.specs.Limits.{rread_head};
 ghost use Rattle.core_steps.specs.Ready.{HasReady};
 ghost use Rattle.core_intents.specs.Doings.{IsAnswerable, CanBeDone, CanBeMeant, resolved};
 ghost use Rattle.core_intents.specs.Intents.{answer_or};
 ghost use Rattle.core_steps.specs.PortReads.{asked_said, asked_ports, asked_tables, IsReadable};
-ghost use Rattle.core_steps.specs.Stages.{response, if_said, message_said, message_book, message_tables};
-ghost use Rattle.core_intents.specs.States.{next_entry};
+ghost use Rattle.core_steps.specs.Stages.{response, if_said, message_said, message_book, message_tables, is_answer_alone};
+ghost use Rattle.core_parts.specs.States.{next_entry};
 ghost use Rattle.core_steps.specs.Replies.{replies_of};
-ghost use Rattle.core_outputs.specs.Unsent.{HaveBytes};
+ghost use Rattle.core_outputs.specs.Unsent.{HaveBytes, put_replies};
 
-use crate::connections::grow_sessions;
-use crate::prepared::Prepared;
 use crate::reading::{PortRead, ask_port, port_read_of};
+use crate::sessions::grow_sessions;
 use am_journal::Event;
 use am_text::{Bytes, Ids, Items, NoMemory};
+use core_closing::Prepared;
 use core_events::{
     Book, EventRead, Feed, Response, Responses, clunked, deletions, event_feed, joined,
     open_events, put_all, put_living, read_events, serve_all,
 };
 use core_fids::{Answer, Effect, EventChange};
-use core_intents::{Intent, Kind, Parts, answer_or, conn_of, kind_of, with_held};
-use core_outputs::Reply;
+use core_intents::{Intent, answer_or, with_held};
+use core_outputs::{Outputs, Reply};
+use core_parts::{Kind, Parts, conn_of, kind_of};
 use core_ports::{Ports, open_port, serve_ports};
 use core_scene::{Entry, Scene, WindowItems};
 use core_tasks::{Ended, Task, do_task};
@@ -62,6 +63,23 @@ struct EndedSaid {
 struct PortsSaid {
     asked: Responses,
     served: Responses,
+}
+
+// All that is said in a step: to waiting reads that end, to the message, of ports, and to the waiting reads of event files that can be
+// answered.
+#[derive(Drop)]
+struct Heard {
+    ended: EndedSaid,
+    answered: Responses,
+    ports: PortsSaid,
+    served: Responses,
+}
+
+// What is said, in order, and its bytes.
+#[derive(Drop)]
+struct Told {
+    said: Responses,
+    replies: Vec<Reply>,
 }
 
 // What a task makes: items, and windows that are deleted; what is held then; and the answer to the message.
@@ -338,27 +356,60 @@ fn grow_ports(
     })
 }
 
+// Whether nothing is said but the answer to the message, if it is.
+fn is_answer_alone(heard: &Heard) -> bool
+    ensures { result ≡ is_answer_alone heard.now.ended.clunked heard.now.ended.deleted heard.now.served heard.now.ports.asked heard.now.ports.served }
+{
+    heard.ended.clunked.is_empty()
+        && heard.ended.deleted.is_empty()
+        && heard.served.is_empty()
+        && heard.ports.asked.is_empty()
+        && heard.ports.served.is_empty()
+}
+
 // All that is said, in order: the answer to a message and what follows from it, with what is said of event files before what is said of
 // ports.
-fn in_order(
-    ended: EndedSaid,
-    answered: Responses,
-    served: Responses,
-    ports: PortsSaid,
-) -> Result<Responses, NoMemory>
-    requires ended { AreSaid ended.clunked × AreSaid ended.deleted }
-    requires answered { AreSaid answered }
-    requires served { AreSaid served }
-    requires ports { AreSaid ports.asked × AreSaid ports.served }
-    ensures exact { IfOk result (λ said. said ≡ ended.clunked ++ answered ++ ports.asked ++ ended.deleted ++ served ++ ports.served) }
+fn in_order(heard: Heard) -> Result<Responses, NoMemory>
+    requires ended { AreSaid heard.ended.clunked × AreSaid heard.ended.deleted }
+    requires answered { AreSaid heard.answered }
+    requires served { AreSaid heard.served }
+    requires ports { AreSaid heard.ports.asked × AreSaid heard.ports.served }
+    ensures exact { IfOk result (λ said. said ≡ heard.ended.clunked ++ heard.answered ++ heard.ports.asked ++ heard.ended.deleted ++ heard.served ++ heard.ports.served) }
     ensures said { IfOk result AreSaid }
 {
+    let is_alone = is_answer_alone(&heard);
+    let Heard {
+        ended,
+        answered,
+        ports,
+        served,
+    } = heard;
+    if is_alone {
+        return Ok(answered);
+    }
     let EndedSaid { clunked, deleted } = ended;
     let said = joined(clunked, answered)?;
     let said = joined(said, ports.asked)?;
     let said = joined(said, deleted)?;
     let said = joined(said, served)?;
     joined(said, ports.served)
+}
+
+// All that is said, in order, with its bytes, which are put to the unsent replies.
+fn tell(alloc: Global, outputs: &mut Outputs, heard: Heard) -> Result<Told, NoMemory>
+    requires ended { AreSaid heard.ended.clunked × AreSaid heard.ended.deleted }
+    requires answered { AreSaid heard.answered }
+    requires served { AreSaid heard.served }
+    requires ports { AreSaid heard.ports.asked × AreSaid heard.ports.served }
+    ensures said { IfOk result (λ told. told.said ≡ heard.ended.clunked ++ heard.answered ++ heard.ports.asked ++ heard.ended.deleted ++ heard.served ++ heard.ports.served) }
+    ensures replies { IfOk result (λ told. told.replies.items ≡ replies_of told.said) }
+    ensures put { IfOk result (λ told. outputs.new.present ≡ put_replies outputs.old.present (replies_of told.said)) }
+    ensures kept { outputs.new.kept ≡ outputs.old.kept }
+{
+    let said = in_order(heard)?;
+    let replies = spelled(alloc, said.as_slice())?;
+    outputs.put_all(&replies)?;
+    Ok(Told { said, replies })
 }
 
 /// Makes all that an event does ready, by what it is to do and the number of its entry. What the tables mean stays. `NoMemory`
@@ -429,9 +480,13 @@ pub fn grow(
         events,
     )?;
     let served = grow_items(alloc, &mut parts.scene.book, items, deleted.as_slice(), at)?;
-    let said = in_order(ended, answered, served, ports)?;
-    let replies = spelled(alloc, said.as_slice())?;
-    parts.outputs.put_all(&replies)?;
+    let heard = Heard {
+        ended,
+        answered,
+        ports,
+        served,
+    };
+    let Told { said, replies } = tell(alloc, &mut parts.outputs, heard)?;
     Ok(Prepared {
         event,
         at,

@@ -1,14 +1,11 @@
-//! A step: what it makes, which can be taken back, and what it ends.
+//! A step: what it makes, which can be taken back, and then all of it done.
 #![tactic(auto)]
 
 mod applying;
-mod closing;
-mod connections;
 mod growing;
-mod prepared;
 mod reading;
+mod sessions;
 
 pub use applying::apply;
 pub use growing::grow;
-pub use prepared::Prepared;
 pub use reading::PortRead;

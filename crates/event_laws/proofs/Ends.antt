@@ -13,11 +13,12 @@ use Rattle.core_fids.specs.declared.effect.EventChange.{EventChange}
 use Rattle.core_fids.specs.declared.effect.EventChange.TheVariants as events
 use Rattle.core_events.specs.declared.closing.BackItem.{BackItem}
 use Rattle.core_events.specs.Closing.{written_back, without_opening, without_fid, opening_in, freed, cancelled, closed_with}
-use Rattle.core_intents.specs.declared.kind.Kind.{Kind}
-use Rattle.core_intents.specs.declared.kind.Kind.TheVariants as kind
-use Rattle.core_intents.specs.Doings.{Doing}
-use Rattle.core_steps.specs.Stages.{grown_tables, grown_book, left_book, book_after}
-use Rattle.core_intents.specs.States.{Present, next_entry}
+use Rattle.core_parts.specs.declared.kind.Kind.{Kind}
+use Rattle.core_parts.specs.declared.kind.Kind.TheVariants as kind
+use Rattle.core_parts.specs.Doing.{Doing}
+use Rattle.core_steps.specs.Stages.{grown_tables, grown_book, book_after}
+use Rattle.core_closing.specs.Closing.{left_book}
+use Rattle.core_parts.specs.States.{Present, next_entry}
 
 module _ (at : ℕ) (first : BookState) where
   abbrev E : BookState → Type 0

@@ -8,11 +8,12 @@ use Rattle.book_calls.proofs.Entries.{lawful}
 use Rattle.book_calls.proofs.Trails.{IsEnded}
 use Rattle.core_events.proofs.Idles.{AreIdle}
 use Rattle.core_events.specs.declared.response.Response.{Response}
-use Rattle.core_intents.specs.Doings.{Doing, doing_of}
-use Rattle.core_intents.specs.Kinds.{kind_of}
+use Rattle.core_intents.specs.Doings.{doing_of}
+use Rattle.core_parts.specs.Doing.{Doing}
+use Rattle.core_parts.specs.Kinds.{kind_of}
 use Rattle.acme_core.specs.Run.{step, run}
 use Rattle.core_steps.specs.Stages.{grown_book, book_after as book_of, said}
-use Rattle.core_intents.specs.States.{Present, State, present}
+use Rattle.core_parts.specs.States.{Present, State, present}
 use Rattle.acme_core.proofs.Goes.{run-push, entries_counted}
 use Rattle.acme_core.proofs.Idling.{run_idle}
 use Rattle.core_laws.specs.Saying.{said_after}

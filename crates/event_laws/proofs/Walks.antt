@@ -33,17 +33,17 @@ use Rattle.core_events.specs.Responses.{feed_at, errors}
 use Rattle.core_events.specs.Serving.{response_to, then_served, served_most, book_served_most, served_all, book_served_all}
 use Rattle.core_events.specs.Waits.{is_of_fid, is_of_window, clunked, deletions}
 use Rattle.core_events.proofs.Turns.{idle, book_none_more}
-use Rattle.core_intents.specs.declared.kind.Kind.{Kind}
-use Rattle.core_intents.specs.declared.kind.Kind.TheVariants as kind
-use Rattle.core_intents.specs.Doings.{Doing}
-use Rattle.core_intents.specs.Kinds.{conn_of}
+use Rattle.core_parts.specs.declared.kind.Kind.{Kind}
+use Rattle.core_parts.specs.declared.kind.Kind.TheVariants as kind
+use Rattle.core_parts.specs.Doing.{Doing}
+use Rattle.core_parts.specs.Kinds.{conn_of}
 use Rattle.plumb_ports.specs.PortsState.{PortsState, served_of as port_served_of, after_serve as after_port_serve}
 use Rattle.core_ports.specs.Asking.{port_said}
 use Rattle.core_ports.specs.Serving.{then_served as then_port_served, served_most as ports_served_most, ports_served}
 use Rattle.core_steps.specs.declared.reading.PortRead.{PortRead}
 use Rattle.core_steps.specs.PortReads.{port_read_of, if_port_said, asked_said}
 use Rattle.core_steps.specs.Stages.{asker_of, if_said, answer_said, answer_book, message_said, message_book, acted, with_fid, read_tables, read_book, put_book, grown_book, open_ports, said}
-use Rattle.core_intents.specs.States.{Present, next_entry}
+use Rattle.core_parts.specs.States.{Present, next_entry}
 use Rattle.event_laws.specs.Rreads.{Rread, rread_on, rread_in, rreads_of}
 use Rattle.event_laws.specs.Laws.{rread_to}
 

@@ -2,8 +2,8 @@
 use Rattle.std.proofs.Common.{List, [], ◌∷◌, ◌++◌, sym, subst}
 use Rattle.am_journal.specs.declared.event.Event.{Event}
 use Rattle.core_intents.specs.Doings.{doing_of}
-use Rattle.core_intents.specs.Kinds.{kind_of}
-use Rattle.core_intents.specs.States.{State, present}
+use Rattle.core_parts.specs.Kinds.{kind_of}
+use Rattle.core_parts.specs.States.{State, present}
 use Rattle.acme_core.specs.Run.{step, run}
 use Rattle.acme_core.proofs.Goes.{run-push}
 use Rattle.core_laws.specs.Saying.{said_after}

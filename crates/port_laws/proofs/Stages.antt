@@ -42,14 +42,16 @@ use Rattle.core_ports.specs.Asking.{next_opening, can_join, joined_with, read_re
 use Rattle.core_ports.specs.Closing.{without_opening, without_fid, opening_in, ports_freed, ports_cancelled}
 use Rattle.core_ports.specs.Serving.{response_to, then_served, served_most, after_serving_most}
 use Rattle.core_ports.proofs.Turns.{idle}
-use Rattle.core_intents.specs.declared.kind.Kind.{Kind}
-use Rattle.core_intents.specs.declared.kind.Kind.TheVariants as kind
-use Rattle.core_intents.specs.Doings.{Doing, entry_of}
-use Rattle.core_intents.specs.Kinds.{conn_of}
-use Rattle.core_intents.specs.States.{Present, next_entry}
+use Rattle.core_parts.specs.declared.kind.Kind.{Kind}
+use Rattle.core_parts.specs.declared.kind.Kind.TheVariants as kind
+use Rattle.core_intents.specs.Doings.{entry_of}
+use Rattle.core_parts.specs.Doing.{Doing}
+use Rattle.core_parts.specs.Kinds.{conn_of}
+use Rattle.core_parts.specs.States.{Present, next_entry}
 use Rattle.core_steps.specs.declared.reading.PortRead.{PortRead}
 use Rattle.core_steps.specs.PortReads.{port_read_of, if_port_said, asked_said, asked_ports}
-use Rattle.core_steps.specs.Stages.{if_said, answer_said, message_said, acted, with_fid, read_tables, grown_tables, put_book, open_ports, said, left_ports, ports_after}
+use Rattle.core_steps.specs.Stages.{if_said, answer_said, message_said, acted, with_fid, read_tables, grown_tables, put_book, open_ports, said, ports_after}
+use Rattle.core_closing.specs.Closing.{left_ports}
 use Rattle.port_laws.specs.Calls.{deed_calls, ask_unless, read_calls, join_calls, leave_calls, fid_calls, freed_calls, cancel_calls, left_calls, calls_at, asked_of as asked_at}
 use Rattle.port_laws.specs.Laws.{data_on, data_in, data_of}
 

@@ -15,10 +15,10 @@ use Rattle.core_fids.specs.declared.effect.EventChange.TheVariants as events
 use Rattle.core_fids.specs.declared.refusal.Refusal.{Refusal}
 use Rattle.core_ports.specs.Asking.{next_opening, can_join, read_refusal}
 use Rattle.core_ports.specs.Closing.{opening_in}
-use Rattle.core_intents.specs.declared.kind.Kind.{Kind}
-use Rattle.core_intents.specs.declared.kind.Kind.TheVariants as kind
-use Rattle.core_intents.specs.Doings.{Doing}
-use Rattle.core_intents.specs.States.{Present}
+use Rattle.core_parts.specs.declared.kind.Kind.{Kind}
+use Rattle.core_parts.specs.declared.kind.Kind.TheVariants as kind
+use Rattle.core_parts.specs.Doing.{Doing}
+use Rattle.core_parts.specs.States.{Present}
 use Rattle.core_steps.specs.declared.reading.PortRead.{PortRead}
 use Rattle.core_steps.specs.PortReads.{port_read_of, asked_ports}
 use Rattle.core_steps.specs.Stages.{acted, read_tables, grown_tables, open_ports}

@@ -13,7 +13,7 @@ use Rattle.core_events.specs.declared.response.FeedKind.{FeedKind}
 use Rattle.core_events.specs.declared.response.FeedKind.TheVariants.{Events, Port}
 use Rattle.core_events.specs.declared.response.Response.{Response}
 use Rattle.core_intents.specs.Doings.{doing_of}
-use Rattle.core_intents.specs.Kinds.{kind_of}
+use Rattle.core_parts.specs.Kinds.{kind_of}
 use Rattle.acme_core.specs.Run.{run, present_after}
 use Rattle.core_laws.specs.Saying.{said_after}
 use Rattle.port_laws.specs.Calls.{calls_at}

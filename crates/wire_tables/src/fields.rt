@@ -1,9 +1,10 @@
 //! Fields of a line, and what answers are made of.
 
 use crate::fault::Fault;
-use am_text::{Bytes, Items, decode_whole, encode, escape, unescape};
+use am_text::{Bytes, Items, Runes, decode_whole, encode, escape, unescape};
 use hex::FromHexError;
 use std::alloc::Global;
+use std::str::FromStr;
 
 /// The fields before and after the first tab.
 pub fn cut(fields: &str) -> Result<(&str, &str), Fault> {
@@ -13,11 +14,27 @@ pub fn cut(fields: &str) -> Result<(&str, &str), Fault> {
     }
 }
 
-fn bytes_of_text(alloc: Global, escaped: &str) -> Result<Bytes, Fault> {
-    match unescape(alloc, escaped.as_bytes())? {
-        Some(text) => Ok(encode(alloc, &text)?),
+/// The number that a field is.
+pub fn number_of<N: FromStr>(field: &str) -> Result<N, Fault>
+where
+    N::Err: Drop,
+{
+    match field.parse() {
+        Ok(number) => Ok(number),
+        Err(_) => Err(Fault::NoCase),
+    }
+}
+
+/// The text of an escaped field.
+pub fn text_of(alloc: Global, field: &str) -> Result<Runes, Fault> {
+    match unescape(alloc, field.as_bytes())? {
+        Some(text) => Ok(text),
         None => Err(Fault::NoCase),
     }
+}
+
+fn bytes_of_text(alloc: Global, escaped: &str) -> Result<Bytes, Fault> {
+    Ok(encode(alloc, &text_of(alloc, escaped)?)?)
 }
 
 /// Bytes: a colon and a text that is escaped, or hexadecimal digits.

@@ -1,7 +1,7 @@
-// Tables of cases for bytes and lines: each line of standard input is a case, and its answer is written in a line. A
-// line that is no case is answered `?`. The heads of the modules have the cases: `texts` those of am_text, `messages` of
-// ninep_wire, `records` of ninep_frame, `streams` of ninep_cut, `journal` of am_journal, `words` of ninep_trace, `events` of win_events and
-// `plumbing` of plumb_msg.
+// Tables of cases for bytes and lines, and for the trees: each line of standard input is a case, and its answer is
+// written in a line. A line that is no case is answered `?`. The heads of the modules have the cases: `texts` those of
+// am_text, `messages` of ninep_wire, `records` of ninep_frame, `streams` of ninep_cut, `journal` of am_journal, `words`
+// of ninep_trace, `events` of win_events, `plumbing` of plumb_msg, `trees` of acme_tree and `windows` of win_ctl.
 //
 // A line is a word, a tab and fields, with a tab between two. BYTES are a colon and a text in which a newline is written
 // `\n` and a backslash `\\`, or they are in hexadecimal.
@@ -19,6 +19,8 @@ mod plumbing;
 mod records;
 mod streams;
 mod texts;
+mod trees;
+mod windows;
 mod words;
 
 use am_text::Bytes;
@@ -75,6 +77,9 @@ fn answer(alloc: Global, stream: &mut Stream, line: &str) -> Result<Bytes, Fault
         "report" => journal::small_report(alloc),
         "spell" => events::spelled(alloc, fields),
         "pair" => pair(alloc, fields),
+        "node" | "walk" | "pass" | "open" | "list" | "full" => trees::answer(alloc, word, fields),
+        "tag" => windows::tag(alloc, fields),
+        "index" => windows::index(alloc, fields),
         _ => with_bytes(alloc, word, fields::bytes(alloc, fields)?.as_slice()),
     }
 }

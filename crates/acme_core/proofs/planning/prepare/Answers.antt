@@ -1,6 +1,6 @@
 use Rattle.std.proofs.Common.{rules, ◌≡◌, ◌∙◌, None, sym, refl}
-use Rattle.core_intents.specs.Parts.{present_of}
-use Rattle.core_intents.specs.States.{Present}
+use Rattle.core_parts.specs.Parts.{present_of}
+use Rattle.core_parts.specs.States.{Present}
 use Rattle.acme_core.proofs.Hangs.{hang_prepared}
 use Rattle.acme_core.proofs.planning.prepare.Goals as goal
 

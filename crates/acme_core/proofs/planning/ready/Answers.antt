@@ -1,6 +1,6 @@
 use Rattle.std.proofs.Common.{◌≡◌, List, length, ap, arith}
 use Rattle.am_journal.specs.declared.event.Event.{Event}
-use Rattle.core_intents.specs.Parts.{present_of}
+use Rattle.core_parts.specs.Parts.{present_of}
 use Rattle.acme_core.proofs.Readied.{entry_room, readied}
 use Rattle.acme_core.proofs.planning.ready.Goals as goal
 

@@ -7,7 +7,8 @@ use Rattle.am_words.specs.Words.{AreKnown}
 use Rattle.acmefs.proofs.Does as does
 use Rattle.acmefs.proofs.Drills.{drill_usage, drill_write_fault, drill_complete}
 use Rattle.acmefs.proofs.Idle as idle
-use Rattle.acmefs.proofs.OwnText.{says_own}
+use Rattle.am_replay.proofs.Idle as nothing
+use Rattle.am_replay.proofs.OwnText.{says_own}
 use Rattle.acmefs.proofs.OneWord.{trace_no_replay, trace_no_pack, trace_no_drill, trace_no_serving, trace_no_do, pack_no_replay, pack_no_drill, pack_no_serving, pack_no_do}
 use Rattle.acmefs.proofs.PackEnds as packs
 use Rattle.acmefs.proofs.Promised as promised
@@ -578,10 +579,10 @@ returns-in-Ok-Some-Do-clause-does g c = λ path tree a. does.of_tree {G = g.row.
     c.in-Ok-Some-Do.tree tree _ _ _ (tree_once c.args.words.now (string_bytes c.in-Ok-Some-Do.path) path c.in-Ok-Some-Do.tree tree (asked_at c.args.words.now _ c.in-Ok-Some-Do.field-0 c.in-Ok-Some-Do.field-0-0 (asked.Do c.in-Ok-Some-Do.path c.in-Ok-Some-Do.tree) c.in-Ok-Some-Do.field-0-is c.in-Ok-Some-Do.field-0-0-is c.as_slice.ensures c.in-Ok-Some-Do.ensures.asked).0 a.0) c.do_main.ensures.does
 
 pub returns-in-Ok-Some-Do-clause-played : goal.returns-in-Ok-Some-Do-clause-played
-returns-in-Ok-Some-Do-clause-played g c = λ p. idle.plays _ c.do_main.ensures.journal
+returns-in-Ok-Some-Do-clause-played g c = λ p. nothing.plays _ c.do_main.ensures.journal
 
 pub returns-in-Ok-Some-Do-clause-round_trip : goal.returns-in-Ok-Some-Do-clause-round_trip
-returns-in-Ok-Some-Do-clause-round_trip g c = λ p. idle.trips _ c.do_main.ensures.journal
+returns-in-Ok-Some-Do-clause-round_trip g c = λ p. nothing.trips _ c.do_main.ensures.journal
 
 pub returns-in-Ok-Some-Replay-clause-does : goal.returns-in-Ok-Some-Replay-clause-does
 returns-in-Ok-Some-Replay-clause-does g c = λ path tree a. absurd (let e = sym (replay_no_do c.args.words.now (asked_at c.args.words.now _ c.in-Ok-Some-Replay.field-0 c.in-Ok-Some-Replay.field-0-0 asked.Replay c.in-Ok-Some-Replay.field-0-is c.in-Ok-Some-Replay.field-0-0-is c.as_slice.ensures c.in-Ok-Some-Replay.ensures.asked)) ∙ a.0 in cc)

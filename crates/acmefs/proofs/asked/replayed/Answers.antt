@@ -1,4 +1,4 @@
-use Rattle.acmefs.proofs.RoundTrip.{says_played, says_trips}
+use Rattle.am_replay.proofs.RoundTrip.{says_played, says_trips}
 use Rattle.acmefs.proofs.asked.replayed.Goals as goal
 
 pub returns-clause-played : goal.returns-clause-played

@@ -2,7 +2,7 @@ use Rattle.std.proofs.Common.{refl}
 use Rattle.am_slots.specs.Slots.{outside}
 use Rattle.am_words.specs.Words.{tree_name}
 use Rattle.acmefs.proofs.Does.{done, idle}
-use Rattle.acmefs.proofs.Idle.{laws}
+use Rattle.am_replay.proofs.Idle.{laws}
 use Rattle.acmefs.proofs.doing.do_main.Goals as goal
 
 pub returns-in_default-clause-does : goal.returns-in_default-clause-does

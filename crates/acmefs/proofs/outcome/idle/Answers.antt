@@ -1,4 +1,4 @@
-use Rattle.acmefs.proofs.Idle.{plays, trips, laws}
+use Rattle.am_replay.proofs.Idle.{plays, trips, laws}
 use Rattle.acmefs.proofs.outcome.idle.Goals as goal
 
 pub returns-clause-played : goal.returns-clause-played

@@ -1,5 +1,5 @@
-use Rattle.acmefs.proofs.OwnText.{says_own}
-use Rattle.acmefs.proofs.RoundTrip.{says_played, says_trips}
+use Rattle.am_replay.proofs.OwnText.{says_own}
+use Rattle.am_replay.proofs.RoundTrip.{says_played, says_trips}
 use Rattle.acmefs.proofs.program.replay_main.Goals as goal
 
 pub returns-clause-own_text : goal.returns-clause-own_text

@@ -2,7 +2,7 @@ use Rattle.std.proofs.Common.{[]}
 use Rattle.am_base.specs.Seen.{given}
 use Rattle.am_slots.specs.Slots.{outside}
 use Rattle.acmefs.proofs.ServeEnds.{serve_complete, serve_done, serve_replied, serve_sound}
-use Rattle.acmefs.proofs.RoundTrip.{played-done, trips}
+use Rattle.am_replay.proofs.RoundTrip.{played-done, trips}
 use Rattle.acmefs.proofs.serving.serve_main.Goals as goal
 
 pub returns-clause-serves : goal.returns-clause-serves

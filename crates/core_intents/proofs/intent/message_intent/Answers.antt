@@ -1,4 +1,4 @@
-use Rattle.core_intents.specs.Parts.{present_of}
+use Rattle.core_parts.specs.Parts.{present_of}
 use Rattle.core_intents.proofs.Meant.{message_can}
 use Rattle.core_intents.proofs.intent.message_intent.Goals as goal
 

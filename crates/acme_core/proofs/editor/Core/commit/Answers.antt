@@ -1,5 +1,5 @@
 use Rattle.std.proofs.Common.{Option, sym, subst, ◌∙◌}
-use Rattle.core_steps.specs.declared.prepared.Prepared.{Prepared}
+use Rattle.core_closing.specs.declared.prepared.Prepared.{Prepared}
 use Rattle.acme_core.specs.Kept.{IsKept}
 use Rattle.acme_core.proofs.Goes.{kept_on}
 use Rattle.acme_core.proofs.editor.Core.commit.Goals as goal

@@ -1,0 +1,9 @@
+pub mod Fronts
+pub mod Ran
+pub mod Traced
+pub mod Replied
+pub mod Wrote
+pub mod OwnText
+pub mod RoundTrip
+pub mod PackBack
+pub mod Idle

@@ -1,0 +1,5 @@
+use Rattle.am_replay.proofs.Idle.{laws}
+use Rattle.am_replay.proofs.replaying.no_events.Goals as goal
+
+pub returns-clause-laws : goal.returns-clause-laws
+returns-clause-laws c = laws c.journals_are_lawful.ensures _ c.new.ensures

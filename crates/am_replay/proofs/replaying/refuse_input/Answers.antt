@@ -1,0 +1,11 @@
+use Rattle.std.proofs.Common.{◌∙◌}
+use Rattle.am_replay.proofs.Ran.{ran_refused, ran_none}
+use Rattle.am_replay.proofs.replaying.refuse_input.Goals as goal
+
+pub returns-in-Ok-clause-ran : goal.returns-in-Ok-clause-ran
+returns-in-Ok-clause-ran g c =
+    rw (c.no_events.ensures.end, c.no_events.ensures.journal)
+    (ran_refused c.put-failed.result _ c.as_slice.result.now (c.as_slice.ensures ∙ c.in-Ok.ensures) c.put-failed.ensures)
+
+pub returns-in-Err-clause-ran : goal.returns-in-Err-clause-ran
+returns-in-Err-clause-ran g c = rw (c.no_events-in-Err.ensures.end, c.no_events-in-Err.ensures.journal) (ran_none _ _)

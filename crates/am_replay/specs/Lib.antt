@@ -1,0 +1,6 @@
+pub mod Scripts
+pub mod Written
+pub mod Playing
+pub mod Ends
+pub mod Own
+pub mod Traces

@@ -1,0 +1,61 @@
+-- The editor as it stands, and by all that was ever done.
+use Rattle.std.specs.Prelude.{ℕ, ◌+◌, List, [], replicate, Option}
+use Rattle.fid_table.specs.Tables.{Tables, nothing}
+use Rattle.core_scene.specs.Scenes.{SceneState, no_scene}
+use Rattle.core_windows.specs.Stories.{WindowStory, shown_windows}
+use Rattle.am_journal.specs.Limits.{connection_count}
+use Rattle.core_parts.specs.declared.connection.Connection.{Connection}
+use Rattle.core_parts.specs.declared.connection.Connection.TheVariants.{Undialed}
+use Rattle.core_outputs.specs.declared.reply.Reply.{Reply}
+use Rattle.core_outputs.specs.Unsent.{Unsent, nothing_unsent, unsent_at}
+
+-- the editor as it stands: how many entries were done, its 64 connections, their sessions, fids and waiting reads, the scene that steps
+-- play on, the unsent replies of each connection, and the replies that the last entry made
+pub record Present : Type 0 where
+  pub entries : ℕ
+  pub connections : List Connection
+  pub tables : Tables
+  pub scene : SceneState
+  pub unsent : List Unsent
+  pub replies : List Reply
+
+-- the editor with its windows by all edits that were ever made; the rest of the scene, whose windows are left out, is as it stands
+pub record State : Type 0 where
+  pub entries : ℕ
+  pub connections : List Connection
+  pub tables : Tables
+  pub windows : List (Option WindowStory)
+  pub scene : SceneState
+  pub unsent : List Unsent
+  pub replies : List Reply
+
+-- the story as it stands
+abbrev pub present : State → Present
+present s = record {
+  entries = s.entries;
+  connections = s.connections;
+  tables = s.tables;
+  scene = record s.scene { windows = shown_windows s.windows };
+  unsent = s.unsent;
+  replies = s.replies;
+}
+
+-- the empty editor
+abbrev pub start : State
+start = record {
+  entries = 0;
+  connections = replicate connection_count Undialed;
+  tables = nothing;
+  windows = [];
+  scene = no_scene;
+  unsent = replicate connection_count nothing_unsent;
+  replies = [];
+}
+
+-- how many unsent replies a connection has
+abbrev pub unsent_count : Present → ℕ → ℕ
+unsent_count s conn = (unsent_at s.unsent conn).count
+
+-- the number of the entry that comes
+abbrev pub next_entry : Present → ℕ
+next_entry s = s.entries + 1

@@ -1,0 +1,58 @@
+//! The tables of the editor: what is kept of the state that its journal leads to.
+
+ghost use Rattle.std.specs.Prelude.{◌≡◌, IfOk};
+ghost use Rattle.am_text.specs.Twice.{both};
+ghost use Rattle.core_scene.specs.Scenes.{kept_of, scene_in};
+ghost use Rattle.core_parts.specs.Parts.{present_of, AreSteady};
+ghost use Rattle.core_parts.specs.States.{start, present};
+
+use crate::connection::Connection;
+use am_journal::CONNECTIONS;
+use am_text::NoMemory;
+use core_outputs::{Outputs, Reply};
+use core_scene::Scene;
+use fid_table::Sessions;
+use std::alloc::Global;
+
+/// The tables of the editor: what is kept of the state that a journal leads to, and what is ready for one step more.
+#[derive(Drop)]
+pub struct Parts {
+    /// How many entries were done.
+    pub entries: u64,
+    /// The 64 connections.
+    pub connections: Vec<Connection>,
+    /// Their sessions, fids and waiting reads.
+    pub sessions: Sessions,
+    /// What steps play on: windows, event files and the rest.
+    pub scene: Scene,
+    /// The unsent replies of each connection.
+    pub outputs: Outputs,
+    /// The replies that the last entry made.
+    pub replies: Vec<Reply>,
+}
+
+impl Parts {
+    /// The tables of the empty editor, with nothing ready in them.
+    pub fn new(alloc: Global) -> Result<Parts, NoMemory>
+        ensures state { IfOk result (λ parts. present_of parts ≡ present start) }
+        ensures steady { IfOk result AreSteady }
+    {
+        Ok(Parts {
+            entries: 0,
+            connections: vec![in alloc; Connection::Undialed; CONNECTIONS]?,
+            sessions: Sessions::new(alloc)?,
+            scene: Scene::new(alloc)?,
+            outputs: Outputs::new(alloc)?,
+            replies: Vec::new(alloc),
+        })
+    }
+
+    /// Takes back what was made ready for an event that wasn't done. It takes no memory.
+    pub fn back(&mut self, alloc: Global)
+        ensures new { self.new ≡ record self.old { sessions = both self.old.sessions.kept; scene = scene_in (kept_of self.old.scene); outputs = both self.old.outputs.kept } }
+    {
+        self.sessions.back();
+        self.scene.back(alloc);
+        self.outputs.back();
+    }
+}
