@@ -29,12 +29,23 @@ use std::alloc::Global;
 use std::marker::Model;
 
 /// An editor of one thread. Its journal tells all that it is.
-#[derive(Drop)]
 pub struct Core {
     alloc: Global,
     journal: Roomy<Event>,
     parts: Parts,
     prepared: Option<Prepared>,
+}
+
+// By hand, so that a crate that drops an editor goes by this drop, and has not to prove those of all that is in it.
+impl Drop for Core {
+    fn drop(self) {
+        let Core {
+            alloc: _,
+            journal: _,
+            parts: _,
+            prepared: _,
+        } = self;
+    }
 }
 
 impl Model for Core {
@@ -276,7 +287,12 @@ impl Core {
     pub fn into_journal(self) -> Journal
         ensures { result ≡ self.journal }
     {
-        let Core { journal, .. } = self;
+        let Core {
+            alloc: _,
+            journal,
+            parts: _,
+            prepared: _,
+        } = self;
         journal.into_items()
     }
 }

@@ -15,7 +15,6 @@ use fid_table::Sessions;
 use std::alloc::Global;
 
 /// The tables of the editor: what is kept of the state that a journal leads to, and what is ready for one step more.
-#[derive(Drop)]
 pub struct Parts {
     /// How many entries were done.
     pub entries: u64,
@@ -29,6 +28,20 @@ pub struct Parts {
     pub outputs: Outputs,
     /// The replies that the last entry made.
     pub replies: Vec<Reply>,
+}
+
+// By hand, so that a crate that drops the tables goes by this drop, and has not to prove those of all that is in them.
+impl Drop for Parts {
+    fn drop(self) {
+        let Parts {
+            entries: _,
+            connections: _,
+            sessions: _,
+            scene: _,
+            outputs: _,
+            replies: _,
+        } = self;
+    }
 }
 
 impl Parts {
