@@ -13,11 +13,17 @@ use std::alloc::Global;
 use std::marker::Model;
 
 /// The unsent replies of the 64 connections, in two states.
-#[derive(Drop)]
 pub struct Outputs {
     all: Vec<Unsent>,
     /// Where replies may have come since the last `keep`.
     touched: Range,
+}
+
+// By hand, so that a crate that drops outputs goes by this drop, and has not to prove those of all that is in them.
+impl Drop for Outputs {
+    fn drop(self) {
+        let Outputs { all: _, touched: _ } = self;
+    }
 }
 
 impl Model for Outputs {

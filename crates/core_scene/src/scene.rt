@@ -20,7 +20,6 @@ use win_events::Item;
 
 /// What deeds are done to: the windows, the event files, the tree of files, the snarfed text, the requests, and the rules and
 /// ports of the plumber, each in two states, and the items that the step has made so far, and the windows that it has deleted.
-#[derive(Drop)]
 pub struct Scene {
     pub windows: Windows,
     pub book: Book,
@@ -31,6 +30,23 @@ pub struct Scene {
     pub ports: Ports,
     pub items: WindowItems,
     pub deleted: Ids,
+}
+
+// By hand, so that a crate that drops a scene goes by this drop, and has not to prove those of all that is in it.
+impl Drop for Scene {
+    fn drop(self) {
+        let Scene {
+            windows: _,
+            book: _,
+            files: _,
+            snarf: _,
+            jobs: _,
+            rules: _,
+            ports: _,
+            items: _,
+            deleted: _,
+        } = self;
+    }
 }
 
 impl Scene {

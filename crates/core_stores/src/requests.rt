@@ -10,9 +10,15 @@ use std::alloc::Global;
 use std::marker::Model;
 
 /// The requests that were made, in their order, in two states. They are numbered from 1, and none is ever taken away.
-#[derive(Drop)]
 pub struct Requests {
     jobs: Growing<Job>,
+}
+
+// By hand, so that a crate that drops requests goes by this drop, and has not to prove those of all that is in them.
+impl Drop for Requests {
+    fn drop(self) {
+        let Requests { jobs: _ } = self;
+    }
 }
 
 impl Model for Requests {

@@ -9,9 +9,15 @@ use std::alloc::Global;
 use std::marker::Model;
 
 /// The text that Cut or Snarf took last, which Paste puts, in two states. There is one for all windows, as in acme(1).
-#[derive(Drop)]
 pub struct Snarf {
     text: Swapped<Runes>,
+}
+
+// By hand, so that a crate that drops a snarfed text goes by this drop, and has not to prove those of all that is in it.
+impl Drop for Snarf {
+    fn drop(self) {
+        let Snarf { text: _ } = self;
+    }
 }
 
 impl Model for Snarf {

@@ -23,9 +23,15 @@ use win_events::{BackMsg, Item};
 ///
 /// An opening is one opening of a window's event file, numbered from 1 over all windows; the items of
 /// a window are numbered from 1. `at` is the number of the entry at which a call is made.
-#[derive(Drop)]
 pub struct Book {
     tables: Tables,
+}
+
+// By hand, so that a crate that drops a book goes by this drop, and has not to prove those of all that is in it.
+impl Drop for Book {
+    fn drop(self) {
+        let Book { tables: _ } = self;
+    }
 }
 
 impl Model for Book {

@@ -19,12 +19,22 @@ use std::marker::Model;
 /// A call that may want memory changes the present state alone, and where it answers `NoMemory` the
 /// present state is the kept one again. The other calls that change something want both states
 /// equal, and change both.
-#[derive(Drop)]
 pub struct Sessions {
     alloc: Global,
     table: Table,
     // What takes the growths since the last `keep` back, the oldest first.
     trail: Vec<Undo>,
+}
+
+// By hand, so that a crate that drops sessions goes by this drop, and has not to prove those of all that is in them.
+impl Drop for Sessions {
+    fn drop(self) {
+        let Sessions {
+            alloc: _,
+            table: _,
+            trail: _,
+        } = self;
+    }
 }
 
 impl Model for Sessions {

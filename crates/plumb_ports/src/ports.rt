@@ -57,7 +57,6 @@ impl<'a> Answers for Offer<'a> {
 /// A call that may want memory changes the present state alone, and where it answers `NoMemory` the
 /// present state is the kept one again. The other calls that change something want both states
 /// equal, and change both.
-#[derive(Drop)]
 pub struct Ports {
     alloc: Global,
     table: PortTable,
@@ -67,6 +66,21 @@ pub struct Ports {
     reads: Reads,
     // Whether the present state may differ from the kept one.
     changed: bool,
+}
+
+// By hand, so that a crate that drops ports goes by this drop, and has not to prove those of all that is in them.
+impl Drop for Ports {
+    fn drop(self) {
+        let Ports {
+            alloc: _,
+            table: _,
+            openings: _,
+            joined: _,
+            kept_joined: _,
+            reads: _,
+            changed: _,
+        } = self;
+    }
 }
 
 impl Model for Ports {

@@ -17,7 +17,6 @@ pub enum Side {
 }
 
 /// What the matches of an expression look like at their edges.
-#[derive(Drop)]
 pub struct Edges {
     /// Whether the null text may be a match.
     pub null: bool,
@@ -25,6 +24,17 @@ pub struct Edges {
     pub first: RuneSet,
     /// The runes with which a match may end.
     pub last: RuneSet,
+}
+
+// By hand, so that a crate that drops edges goes by this drop, and has not to prove those of all that is in them.
+impl Drop for Edges {
+    fn drop(self) {
+        let Edges {
+            null: _,
+            first: _,
+            last: _,
+        } = self;
+    }
 }
 
 // Puts the runes that may stand at a side of a match, and answers whether the null text may be one.

@@ -33,10 +33,16 @@ pub enum Form {
 /// An expression made ready to be searched for in many texts. Contracts see its tree.
 ///
 /// A search reads the text from where it begins, and no further than its match needs.
-#[derive(Drop)]
 pub struct Machine {
     re: Re,
     form: Form,
+}
+
+// By hand, so that a crate that drops a machine goes by this drop, and has not to prove those of all that is in it.
+impl Drop for Machine {
+    fn drop(self) {
+        let Machine { re: _, form: _ } = self;
+    }
 }
 
 impl Model for Machine {

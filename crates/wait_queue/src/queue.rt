@@ -33,7 +33,6 @@ impl<'a> Answers for Offer<'a> {
 }
 
 /// Items, and the reads that wait for them, in two states.
-#[derive(Drop)]
 pub struct WaitQueue {
     alloc: Global,
     items: PendingItems,
@@ -41,6 +40,19 @@ pub struct WaitQueue {
     reads: Reads,
     // Whether the present state may differ from the kept one.
     changed: bool,
+}
+
+// By hand, so that a crate that drops a queue goes by this drop, and has not to prove those of all that is in it.
+impl Drop for WaitQueue {
+    fn drop(self) {
+        let WaitQueue {
+            alloc: _,
+            items: _,
+            carries: _,
+            reads: _,
+            changed: _,
+        } = self;
+    }
 }
 
 impl Model for WaitQueue {
