@@ -74,9 +74,6 @@ front_up k n now within front =
     let same : k + (n - k) ≡ n = omega arith in
     subst (λ (m : ℕ). IsFront now (events m)) same (front_more k (n - k) now front)
 
-whole_front : (now whole : List Event) → now ≡ whole → IsFront now whole
-whole_front now whole is = ([], append-nil now ∙ is)
-
 -- ---- the events before the rounds
 
 pub opening_next : (before es : List Event) → before ≡ [] → es ≡ opening → AreNext before es
@@ -116,9 +113,6 @@ round_stopped k s before es now at seed is stop =
       ap (λ (x : List Event). x ++ rest) (stop.2 ∙ ap (λ (x : List Event). x ++ done) at) ∙ append_assoc (events k) done rest
           ∙ ap (λ (x : List Event). events k ++ x) (stop.1.1 ∙ round_is k s es seed is) ∙ sym (next_events k),
     )
-
-pub round_unmade : (k : ℕ) (now : List Event) → now ≡ events k → IsFront now (events (k + 1))
-round_unmade k now at = front_up k (k + 1) now (omega arith) (whole_front now (events k) at)
 
 -- what holds where a call ended well or failed holds where that result is passed on
 pub on_ok : {T E : Type 0} (r : Result T E) (P S : Type 0) → OnOk r P → (P → S) → OnOk r S

@@ -8,7 +8,7 @@ ghost use Rattle.am_drill.specs.Drill.{most_rounds, events, seed_of};
 ghost use Rattle.am_drill.specs.Ends.{Wrote, DrillSays};
 ghost use Rattle.am_drill.specs.Summary.{summary};
 
-use crate::events::{opening, round};
+use crate::events::opening;
 use crate::numbers::{FIRST_SEED, next_seed};
 use crate::runner::Runner;
 use crate::summary::summary_text;
@@ -61,8 +61,7 @@ fn play_round(alloc: Global, done: u64, seed: u64, runner: &mut Runner) -> Resul
     ensures idle { runner.new.core.planned ≡ None }
     ensures counted { IsCounted runner.new.count runner.new.core.journal }
 {
-    let next = round(alloc, done + 1, seed)?;
-    runner.play(next)
+    runner.play_round(alloc, done + 1, seed)
 }
 
 // Does all events of so many rounds.

@@ -2,9 +2,8 @@
 
 ghost use Rattle.std.specs.Prelude.{◌≡◌, ◌∷◌, [], codes, IfOk};
 ghost use Rattle.ninep_types.specs.Limits.{no_tag, no_fid, version_name};
-ghost use Rattle.am_drill.specs.Drill.{asked_msize, message, opening, write, poll, flush, key, read, played_turn, round, drawn};
+ghost use Rattle.am_drill.specs.Drill.{asked_msize, message, opening, write, poll, flush, key, read};
 
-use crate::numbers::{Turn, drawn, letter, turn_of};
 use am_journal::{Event, Journal, Side};
 use am_text::{Items, Names, NoMemory, Rune};
 use ninep_types::{NO_FID, NO_TAG, TBody, TMsg, VERSION_NAME};
@@ -98,7 +97,8 @@ pub(crate) fn opening(alloc: Global) -> Result<Journal, NoMemory>
     Ok(events)
 }
 
-fn write(alloc: Global, letter: u8) -> Result<Event, NoMemory>
+/// A letter is written to the body.
+pub(crate) fn write(alloc: Global, letter: u8) -> Result<Event, NoMemory>
     ensures { IfOk result (λ e. e ≡ write letter) }
 {
     Ok(message(
@@ -111,7 +111,8 @@ fn write(alloc: Global, letter: u8) -> Result<Event, NoMemory>
     ))
 }
 
-fn poll() -> Event
+/// The event file is read.
+pub(crate) fn poll() -> Event
     ensures { result ≡ poll }
 {
     message(
@@ -124,13 +125,15 @@ fn poll() -> Event
     )
 }
 
-fn flush() -> Event
+/// The read of the event file is flushed.
+pub(crate) fn flush() -> Event
     ensures { result ≡ flush }
 {
     message(11, TBody::Flush { oldtag: 10 })
 }
 
-fn key(alloc: Global, letter: u8) -> Result<Event, NoMemory>
+/// A letter is typed into the body.
+pub(crate) fn key(alloc: Global, letter: u8) -> Result<Event, NoMemory>
     ensures { IfOk result (λ e. e ≡ key letter) }
 {
     Ok(Event::Key {
@@ -140,7 +143,8 @@ fn key(alloc: Global, letter: u8) -> Result<Event, NoMemory>
     })
 }
 
-fn read() -> Event
+/// The body is read.
+pub(crate) fn read() -> Event
     ensures { result ≡ read }
 {
     message(
@@ -151,34 +155,4 @@ fn read() -> Event
             count: BODY_BYTES,
         },
     )
-}
-
-fn played_turn(alloc: Global, turn: Turn, letter: u8) -> Result<Journal, NoMemory>
-    ensures { IfOk result (λ events. events ≡ played_turn turn letter) }
-{
-    let mut events = Items::new(alloc);
-    match turn {
-        Turn::Write => events.push(write(alloc, letter)?)?,
-        Turn::Events => {
-            events.push(poll())?;
-            events.push(flush())?;
-        }
-        Turn::Key => events.push(key(alloc, letter)?)?,
-        Turn::Read => events.push(read())?,
-    }
-    Ok(events)
-}
-
-/// The events of the round of this number, from 1, with this seed.
-pub(crate) fn round(alloc: Global, number: u64, seed: u64) -> Result<Journal, NoMemory>
-    ensures { IfOk result (λ events. events ≡ round number (drawn seed)) }
-{
-    let drawn = drawn(seed);
-    if number % 50 == 0 {
-        let mut events = Items::new(alloc);
-        events.push(read())?;
-        events.push(Event::Took { conn: 0 })?;
-        return Ok(events);
-    }
-    played_turn(alloc, turn_of(drawn), letter(drawn))
 }

@@ -213,13 +213,13 @@ fn copy_of(alloc: Global, text: &RuneText, added: usize) -> Result<RuneText, NoM
     Ok(copy)
 }
 
-// What the edits cut and put, found by doing them.
+// What the edits cut and put, found by doing them. The list takes room for them alone, since it is kept for Undo.
 fn group_over(alloc: Global, text: &mut RuneText, edits: &[Edit]) -> Result<DoneList, NoMemory>
     requires range { AreInRange text.old.items edits.now }
     requires room { put_length edits.now ≤ text.old.spare }
     ensures { IfOk result (λ group. group ≡ done_group text.old.items edits.now) }
 {
-    let mut group = Items::new(alloc);
+    let mut group = Items::from_vec(Vec::with_capacity(alloc, edits.len())?);
     for edit in edits {
         group.push(done_by(alloc, text, edit)?)?;
         make_edit(text, edit);
@@ -240,7 +240,7 @@ fn group_of(
     requires fits { length text.now.items + added < 2 ^ 64 }
     ensures { IfOk result (λ group. group ≡ done_group text.now.items edits.now) }
 {
-    let mut group = Items::new(alloc);
+    let mut group = Items::from_vec(Vec::with_capacity(alloc, edits.len())?);
     match edits {
         [] => {}
         [edit] => group.push(done_by(alloc, text, edit)?)?,
