@@ -1,7 +1,8 @@
 // Tables of cases for bytes and lines, and for the trees: each line of standard input is a case, and its answer is
 // written in a line. A line that is no case is answered `?`. The heads of the modules have the cases: `texts` those of
 // am_text, `messages` of ninep_wire, `records` of ninep_frame, `streams` of ninep_cut, `journal` of am_journal, `words`
-// of ninep_trace, `events` of win_events, `plumbing` of plumb_msg, `trees` of acme_tree and `windows` of win_ctl.
+// of ninep_trace, `events` of win_events, `plumbing` of plumb_msg, `trees` of acme_tree, `windows` of win_ctl, `outside`
+// of the objects in memory that am_base has, `client` of ninep_client and `talk` of am_do over them.
 //
 // A line is a word, a tab and fields, with a tab between two. BYTES are a colon and a text in which a newline is written
 // `\n` and a backslash `\\`, or they are in hexadecimal.
@@ -10,14 +11,17 @@
 // writes.
 #![tactic(auto)]
 
+mod client;
 mod events;
 mod fault;
 mod fields;
 mod journal;
 mod messages;
+mod outside;
 mod plumbing;
 mod records;
 mod streams;
+mod talk;
 mod texts;
 mod trees;
 mod windows;
@@ -80,6 +84,11 @@ fn answer(alloc: Global, stream: &mut Stream, line: &str) -> Result<Bytes, Fault
         "node" | "walk" | "pass" | "open" | "list" | "full" => trees::answer(alloc, word, fields),
         "tag" => windows::tag(alloc, fields),
         "index" => windows::index(alloc, fields),
+        "whole" | "sure" | "reads" | "writes" | "link" | "gate" | "host" | "dial" => {
+            outside::answer(alloc, word, fields)
+        }
+        "client" => client::client_line(alloc, fields),
+        "do" => talk::do_line(alloc, fields),
         _ => with_bytes(alloc, word, fields::bytes(alloc, fields)?.as_slice()),
     }
 }

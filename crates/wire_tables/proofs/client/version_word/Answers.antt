@@ -1,7 +1,7 @@
 use Rattle.std.proofs.Common.{List, sym, subst, rules, ◌≡◌, true}
 use Rattle.ninep_client.specs.declared.asked.Asked.{Asked}
 use Rattle.ninep_client.specs.Asking.{MaySend}
-use Rattle.outside_tables.proofs.client.version_word.Goals as goal
+use Rattle.wire_tables.proofs.client.version_word.Goals as goal
 
 pub call-requires : goal.call-requires
 call-requires c =

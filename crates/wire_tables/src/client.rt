@@ -19,7 +19,8 @@
 ghost use Rattle.std.specs.Prelude.{◌≡◌, ◌<◌, IfOk};
 
 use crate::fault::Fault;
-use crate::outside::{cut, numbers_of, put, sink_of, size_of, source_of};
+use crate::fields::{cut, number_of};
+use crate::outside::{numbers_of, put, sink_of, source_of};
 use am_base::{MemSink, MemSource};
 use am_text::{Bytes, Items, decimal};
 use ninep_client::{CallFault, Client, RBody, TBody, version_message};
@@ -129,7 +130,7 @@ fn put_call(
             sent_text(alloc, client.send(TBody::Clunk { fid: FID }))?.as_slice(),
         ),
         "write" => put(line, write_text(alloc, client)?.as_slice()),
-        tag => put(line, wait_word(client, size_of(tag)? as u64)),
+        tag => put(line, wait_word(client, number_of::<usize>(tag)? as u64)),
     }
 }
 

@@ -18,9 +18,8 @@
 
 ghost use Rattle.std.specs.Prelude.{◌≡◌, IfOk};
 
-use crate::client::client_line;
 use crate::fault::Fault;
-use crate::talk::do_line;
+use crate::fields::{cut, number_of};
 use am_base::{
     Failed, Gate, Host, Link, MemGate, MemHost, MemLink, MemSink, MemSource, NeverFails, ReadStop,
     Source, read_to_end, write_all,
@@ -42,41 +41,13 @@ const PATH: &str = "/tmp/acme";
 
 const SLOT: u32 = 1;
 
-pub(crate) fn cut(fields: &str) -> Result<(&str, &str), Fault> {
-    match fields.split_once('\t') {
-        Some(parts) => Ok(parts),
-        None => Err(Fault::NoCase),
-    }
-}
-
-fn number_of(field: &str) -> Result<u64, Fault> {
-    match field.parse() {
-        Ok(number) => Ok(number),
-        Err(_) => Err(Fault::NoCase),
-    }
-}
-
-pub(crate) fn size_of(field: &str) -> Result<usize, Fault> {
-    match field.parse() {
-        Ok(size) => Ok(size),
-        Err(_) => Err(Fault::NoCase),
-    }
-}
-
-fn slot_of(field: &str) -> Result<u32, Fault> {
-    match field.parse() {
-        Ok(slot) => Ok(slot),
-        Err(_) => Err(Fault::NoCase),
-    }
-}
-
 pub(crate) fn numbers_of(alloc: Global, field: &str) -> Result<Numbers, Fault> {
     let mut numbers = Items::new(alloc);
     if field == "-" {
         return Ok(numbers);
     }
     for number in field.split(',') {
-        numbers.push(number_of(number)?)?;
+        numbers.push(number_of::<u64>(number)?)?;
     }
     Ok(numbers)
 }
@@ -101,7 +72,7 @@ pub(crate) fn source_of(
 ) -> Result<MemSource, Fault>
     ensures { IfOk result (λ source. source.calls.fail_at ≡ fails) }
 {
-    let piece = size_of(piece)?;
+    let piece = number_of::<usize>(piece)?;
     if piece == 0 {
         return Err(Fault::NoCase);
     }
@@ -114,11 +85,11 @@ pub(crate) fn sink_of(
     fails: Numbers,
     room: &str,
 ) -> Result<MemSink, Fault> {
-    let piece = size_of(piece)?;
+    let piece = number_of::<usize>(piece)?;
     if piece == 0 {
         return Err(Fault::NoCase);
     }
-    Ok(MemSink::new(alloc, size_of(room)?, piece, fails)?)
+    Ok(MemSink::new(alloc, number_of::<usize>(room)?, piece, fails)?)
 }
 
 // Puts what a call gave behind the answers before it.
@@ -138,7 +109,7 @@ fn word_of<T: Drop>(outcome: Result<T, Failed>) -> &'static [u8] {
 }
 
 fn read_all<S: Source>(alloc: Global, source: &mut S, limit: &str) -> Result<Bytes, Fault> {
-    match read_to_end(alloc, source, size_of(limit)?) {
+    match read_to_end(alloc, source, number_of::<usize>(limit)?) {
         Ok(bytes) => Ok(bytes),
         Err(ReadStop::ReadFault) => Ok(Bytes::copied(alloc, b"failed")?),
         Err(ReadStop::TooLong) => Ok(Bytes::copied(alloc, b"too long")?),
@@ -185,7 +156,7 @@ fn reads_line(alloc: Global, fields: &str) -> Result<Bytes, Fault> {
         text_of(alloc, text)?,
     )?;
     let mut line = Bytes::new(alloc);
-    for _ in 0..size_of(times)? {
+    for _ in 0..number_of::<usize>(times)? {
         put_read(&mut line, &mut source)?;
     }
     Ok(line)
@@ -204,7 +175,7 @@ fn writes_line(alloc: Global, fields: &str) -> Result<Bytes, Fault> {
     let (times, text) = cut(fields)?;
     let mut sink = sink_of(alloc, piece, numbers_of(alloc, fails)?, room)?;
     let mut line = Bytes::new(alloc);
-    for _ in 0..size_of(times)? {
+    for _ in 0..number_of::<usize>(times)? {
         put_write(&mut line, &mut sink, text)?;
     }
     Ok(line)
@@ -248,7 +219,7 @@ fn dial_line(alloc: Global, fields: &str) -> Result<Bytes, Fault> {
     }
     let mut host = MemHost::new(gates, numbers_of(alloc, fails)?);
     let mut line = Bytes::new(alloc);
-    for _ in 0..size_of(times)? {
+    for _ in 0..number_of::<usize>(times)? {
         put(&mut line, word_of(host.dial(path)))?;
     }
     Ok(line)
@@ -262,14 +233,13 @@ fn host_line(alloc: Global, fields: &str) -> Result<Bytes, Fault> {
     let mut host = MemHost::new(gates, numbers_of(alloc, fails)?);
     let mut line = Bytes::new(alloc);
     for slot in slots.split(',') {
-        put(&mut line, word_of(host.bind(path, slot_of(slot)?)))?;
+        put(&mut line, word_of(host.bind(path, number_of::<u32>(slot)?)))?;
     }
     Ok(line)
 }
 
-/// The answer to a line, without its newline.
-pub fn answer(alloc: Global, line: &str) -> Result<Bytes, Fault> {
-    let (word, fields) = cut(line)?;
+/// The answer to a line of this word, without its newline.
+pub fn answer(alloc: Global, word: &str, fields: &str) -> Result<Bytes, Fault> {
     match word {
         "whole" => whole_line(alloc, fields),
         "sure" => sure_line(alloc, fields),
@@ -279,8 +249,6 @@ pub fn answer(alloc: Global, line: &str) -> Result<Bytes, Fault> {
         "gate" => gate_line(alloc, fields),
         "host" => host_line(alloc, fields),
         "dial" => dial_line(alloc, fields),
-        "client" => client_line(alloc, fields),
-        "do" => do_line(alloc, fields),
         _ => Err(Fault::NoCase),
     }
 }

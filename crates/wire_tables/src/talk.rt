@@ -15,7 +15,8 @@ ghost use Rattle.do_lines.specs.Lawful.{AreLawful};
 
 use crate::client::{MemClient, fault_word, put_held, told_sink, told_source};
 use crate::fault::Fault;
-use crate::outside::{cut, put};
+use crate::fields::cut;
+use crate::outside::put;
 use am_base::MemSink;
 use am_do::{Done, Stop, do_lines};
 use am_text::{Bytes, decimal};
