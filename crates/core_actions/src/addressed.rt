@@ -50,14 +50,15 @@ fn range_of(alloc: Global, body: &Body, address: &[Rune]) -> Result<Option<Range
     ensures inside { IfOk result (λ range. IfSome range (IsInside body.now.state.text)) }
 {
     body.is_sound();
-    let Some(address) = read_address(alloc, address)? else {
-        return Ok(None);
-    };
     let whole = Range {
         q0: 0,
         q1: body.len(),
     };
-    match value(alloc, &address, body, body.dot(), whole) {
+    let found = match read_address(alloc, address)? {
+        Some(address) => value(alloc, &address, body, body.dot(), whole),
+        None => return Ok(None),
+    };
+    match found {
         Ok(range) => Ok(Some(range)),
         Err(AddrFault::Range) => Ok(None),
         Err(AddrFault::NoMatch) => Ok(None),

@@ -412,29 +412,35 @@ fn tell(alloc: Global, outputs: &mut Outputs, heard: Heard) -> Result<Told, NoMe
     Ok(Told { said, replies })
 }
 
-/// Makes all that an event does ready, by what it is to do and the number of its entry. What the tables mean stays. `NoMemory`
-/// where there is none for that: `Parts::back` then takes back what was made ready.
+// What a step makes: what its message does to fids, the windows that it deletes, and what is said.
+#[derive(Drop)]
+struct Grown {
+    effect: Effect,
+    deleted: Ids,
+    told: Told,
+}
+
+// All that an event makes ready. The event is only lent: at each way out it would have to be dropped.
 #[tactic(auto, using(crate::proofs::Joins::joining))]
-pub fn grow(
+fn grow_parts(
     alloc: Global,
     parts: &mut Parts,
-    event: Event,
+    event: &Event,
     intent: Intent,
     at: u64,
-) -> Result<Prepared, NoMemory>
-    requires stays { is_hang event ≡ false }
+) -> Result<Grown, NoMemory>
+    requires stays { is_hang event.now ≡ false }
     requires possible { CanBeMeant (present_of parts.old) intent }
     requires answerable { IsAnswerable intent.answer }
-    requires joined { IsJoinedFor parts.old.sessions.kept (kind_of event) }
+    requires joined { IsJoinedFor parts.old.sessions.kept (kind_of event.now) }
     requires steady { AreSteady parts.old }
     requires sound { IsSound at parts.old.scene.book.kept }
     requires idle { IsIdle parts.old.scene.book.kept }
     requires ports { ArePortsSound parts.old.scene.ports.kept }
     requires at { at ≡ next_entry (present_of parts.old) }
     ensures state { present_of parts.new ≡ present_of parts.old }
-    ensures event { IfOk result (λ p. p.event ≡ event) }
     ensures possible { OnOk result (CanBeDone (present_of parts.old) (resolved (present_of parts.old) intent)) }
-    ensures ready { IfOk result (λ p. HasReady parts.new p (resolved (present_of parts.old) intent)) }
+    ensures ready { IfOk result (λ g. HasReady parts.new (record { event = event.now; at = at; effect = g.effect; events = intent.events; deleted = g.deleted; back = intent.back; said = g.told.said; replies = g.told.replies }) (resolved (present_of parts.old) intent)) }
 {
     let Intent {
         effect,
@@ -442,9 +448,9 @@ pub fn grow(
         task,
         origin,
         answer,
-        back,
+        ..
     } = intent;
-    let kind = kind_of(&event);
+    let kind = kind_of(event);
     let Acted {
         items,
         deleted,
@@ -486,7 +492,43 @@ pub fn grow(
         ports,
         served,
     };
-    let Told { said, replies } = tell(alloc, &mut parts.outputs, heard)?;
+    let told = tell(alloc, &mut parts.outputs, heard)?;
+    Ok(Grown {
+        effect,
+        deleted,
+        told,
+    })
+}
+
+/// Makes all that an event does ready, by what it is to do and the number of its entry. What the tables mean stays. `NoMemory`
+/// where there is none for that: `Parts::back` then takes back what was made ready.
+pub fn grow(
+    alloc: Global,
+    parts: &mut Parts,
+    event: Event,
+    intent: Intent,
+    at: u64,
+) -> Result<Prepared, NoMemory>
+    requires stays { is_hang event ≡ false }
+    requires possible { CanBeMeant (present_of parts.old) intent }
+    requires answerable { IsAnswerable intent.answer }
+    requires joined { IsJoinedFor parts.old.sessions.kept (kind_of event) }
+    requires steady { AreSteady parts.old }
+    requires sound { IsSound at parts.old.scene.book.kept }
+    requires idle { IsIdle parts.old.scene.book.kept }
+    requires ports { ArePortsSound parts.old.scene.ports.kept }
+    requires at { at ≡ next_entry (present_of parts.old) }
+    ensures state { present_of parts.new ≡ present_of parts.old }
+    ensures event { IfOk result (λ p. p.event ≡ event) }
+    ensures possible { OnOk result (CanBeDone (present_of parts.old) (resolved (present_of parts.old) intent)) }
+    ensures ready { IfOk result (λ p. HasReady parts.new p (resolved (present_of parts.old) intent)) }
+{
+    let (events, back) = (intent.events, intent.back);
+    let Grown {
+        effect,
+        deleted,
+        told: Told { said, replies },
+    } = grow_parts(alloc, parts, &event, intent, at)?;
     Ok(Prepared {
         event,
         at,

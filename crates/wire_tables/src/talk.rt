@@ -42,7 +42,7 @@ fn put_exchanged(line: &mut Bytes, bytes: &[u8], old: u8, new: u8) -> Result<(),
     Ok(())
 }
 
-#[tactic(auto, using(crate::proofs::Trees::acme_is, crate::proofs::Trees::plumb_is))]
+#[tactic(auto, using(crate::proofs::TreeNames::acme_is, crate::proofs::TreeNames::plumb_is))]
 fn tree_of(field: &str) -> Result<&'static [u8], Fault>
     ensures { IfOk result (λ tree. IsString tree.now) }
 {

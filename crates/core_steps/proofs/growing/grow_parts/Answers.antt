@@ -1,5 +1,5 @@
 use Rattle.core_steps.proofs.Joins.{readable}
-use Rattle.core_steps.proofs.growing.grow.Goals as goal
+use Rattle.core_steps.proofs.growing.grow_parts.Goals as goal
 
 pub grow_ports-requires-clause-readable : goal.grow_ports-requires-clause-readable
 grow_ports-requires-clause-readable c =
