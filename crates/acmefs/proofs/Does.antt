@@ -147,55 +147,8 @@ module _ {L S K : Type 0} where
   said_written m tree i o d (inr (inr (inl w))) h = absurd (omega (arith, ap number_of (code_at doing.NoMemory d w.nothing), ap number_of h))
   said_written m tree i o d (inr (inr (inr (bytes, told, fits, lined)))) h = lined_written m tree (lines_from 1 (lines_of bytes)) i o d lined h
 
--- ---- no entry of a client tells of a served connection's end
-
-not_served : (f : CallFault) (why : Ending) → closed_by f ≡ end.Ended why → ⊥
-not_served (fault.Remote text) why e = cc
-not_served fault.Large why e = cc
-not_served fault.Tags why e = cc
-not_served fault.Closed why e = cc
-not_served fault.WriteFault why e = cc
-not_served fault.ReadFault why e = cc
-not_served fault.Ended why e = cc
-not_served fault.Torn why e = cc
-not_served (fault.Wire f) why e = cc
-not_served (fault.Unasked n) why e = cc
-not_served (fault.Kind kind) why e = cc
-not_served fault.NoMemory why e = cc
-
-not_ended : (why : Option Stop) (cause : Ending) → ended_by why ≡ end.Ended cause → ⊥
-not_ended None cause e = cc
-not_ended (Some stop.Refused) cause e = cc
-not_ended (Some (stop.Fault f)) cause e = not_served f cause e
-
-not_dialled : (e : DoEnd) (cause : Ending) → undialled e ≡ Some (end.Ended cause) → ⊥
-not_dialled doing.Done cause is = cc
-not_dialled doing.Script cause is = cc
-not_dialled doing.ReadFault cause is = cc
-not_dialled doing.HostFault cause is = cc
-not_dialled doing.Talk cause is = cc
-not_dialled doing.NoMemory cause is = cc
-not_dialled doing.WriteFault cause is = cc
-
-never_ended : (e : DoEnd) (is_linked is_halved : Bool) (why : Option Stop) (cause : Ending) → how_ended e is_linked is_halved why ≡ Some (end.Ended cause) → ⊥
-never_ended e is_linked true why cause is = not_ended why cause (let k : ended_by why ≡ end.Ended cause = cc in k)
-never_ended e true false why cause is = cc
-never_ended e false false why cause is = not_dialled e cause is
-
 module _ {G L S K : Type 0} where
-  -- what is promised of connections that were served holds of an entry that tells of none
-  all_at : (P : Served G L S K → Type 0) (d : Doing L S K) (o : Option ServedEnd) → ((s : Served G L S K) → o ≡ Some s.end → P s) → AllByRecursion P (listed (entry_at {G = G} d o))
-  all_at P d None f = tt
-  all_at P d (Some e) f = (f (record { slot = 0; gate = None; link = d.link; reader = d.reader; writer = d.writer; end = e }) refl, tt)
-
-  all_of : (P : Served G L S K → Type 0) (served : List (Served G L S K)) (d : Doing L S K) → served ≡ listed (entry_of d)
-      → ((s : Served G L S K) → how_ended d.end (is_some d.link) (is_some d.reader) d.stop ≡ Some s.end → P s) → AllByRecursion P served
-  all_of P served d is f = subst (λ (l : List (Served G L S K)). AllByRecursion P l) (sym is) (all_at P d (how_ended d.end (is_some d.link) (is_some d.reader) d.stop) f)
-
-  no_cause : (d : Doing L S K) (s : Served G L S K) (cause : Ending) → how_ended d.end (is_some d.link) (is_some d.reader) d.stop ≡ Some s.end → s.end ≡ end.Ended cause → ⊥
-  no_cause d s cause is e = never_ended d.end (is_some d.link) (is_some d.reader) d.stop cause (is ∙ ap (λ (x : ServedEnd). Some x) e)
-
-  pub complete_at : (status : Status) (m : Outside G L S K) (tree : List ℕ) (i : Given) (o : Seen) (d : Doing L S K) → status ≡ do_status d.end → Says (peer_of m) tree i o d
+  complete_at : (status : Status) (m : Outside G L S K) (tree : List ℕ) (i : Given) (o : Seen) (d : Doing L S K) → status ≡ do_status d.end → Says (peer_of m) tree i o d
       → IfSome i.input.before.bytes (λ bytes. NothingFails (peer_of m) tree bytes i o d → (status ≡ exit.Done) ⊎ (status ≡ exit.NoMemory))
   complete_at status m tree i o d is says = by_case i.input.before.bytes refl
     where
@@ -212,15 +165,6 @@ module _ {G L S K : Type 0} where
 
     pub write_cause : status ≡ exit.WriteFault → HasRisen o.before.faults o.now.faults
     write_cause h = said_written (peer_of m) tree i o does.doing does.says (sym does.coded ∙ h)
-
-    pub replied : (journal : List Event) → AllByRecursion (GotAll m journal) served
-    replied journal = all_of (GotAll m journal) served does.doing does.told (λ s is why sink ended other there fine. absurd (no_cause does.doing s why is ended))
-
-    pub sound : (journal : List Event) → AllByRecursion (EndsWell m journal) served
-    sound journal = all_of (EndsWell m journal) served does.doing does.told (λ s is cause ended sound. absurd (no_cause does.doing s cause is ended))
-
-  pub of_tree : (status : Status) (m : Outside G L S K) (a b : Tree) (i : Given) (o : Seen) (served : List (Served G L S K)) → a ≡ b → Does status m (tree_name a) i o served → Does status m (tree_name b) i o served
-  of_tree status m a b i o served same d = subst (λ (t : Tree). Does status m (tree_name t) i o served) same d
 
   -- what came of lines
   pub done : (status : Status) (m : Outside G L S K) (name tree : List ℕ) (i : Given) (o : Seen) (served : List (Served G L S K)) (d : Doing L S K) (entry : Option (Served G L S K))

@@ -12,11 +12,11 @@ use Rattle.am_drill.specs.declared.driving.DrillEnd.TheVariants as end
 use Rattle.am_drill.specs.Drill.{events}
 use Rattle.am_drill.specs.Ends.{DrillSays}
 use Rattle.acmefs.specs.Ends.{drill_status, Drilled, IsDrilled}
-use Rattle.am_replay.specs.Own.{RoundTrips}
-use Rattle.am_replay.proofs.RoundTrip.{AreDone, done-from, front-done, played-done, trips}
+use Rattle.am_replay.proofs.RoundTrip.{AreDone, done-from, front-done}
 use Rattle.acmefs.specs.declared.status.Status.{Status}
 use Rattle.acmefs.specs.declared.status.Status.TheVariants as exit
 use Rattle.acmefs.specs.Statuses.{number_of}
+use Rattle.acmefs.specs.Top.{OfDrill, OfJournal, Run}
 
 -- ---- the journal
 
@@ -25,13 +25,9 @@ said-done end.Done rounds o journal d h = subst (AreDone []) (sym h.0) d
 said-done end.WriteFault rounds o journal d h = subst (AreDone []) (sym h.0) d
 said-done end.NoMemory rounds o journal d h = front-done journal h.0.0 [] (subst (AreDone []) (sym h.0.1) d)
 
-pub drill_trips : (e : DrillEnd) (rounds : ℕ) (o : Seen) (journal : List Event) → IsPlayed enabled (events rounds) → AllByRecursion IsInRange (events rounds)
-    → DrillSays e rounds o journal → RoundTrips journal
-drill_trips e rounds o journal played ranged says = trips journal (said-done e rounds o journal (done-from [] (events rounds) played ranged) says)
-
-pub drill_played : (e : DrillEnd) (rounds : ℕ) (o : Seen) (journal : List Event) → IsPlayed enabled (events rounds) → AllByRecursion IsInRange (events rounds)
-    → DrillSays e rounds o journal → IsPlayed enabled journal
-drill_played e rounds o journal played ranged says = played-done [] journal (said-done e rounds o journal (done-from [] (events rounds) played ranged) says)
+pub drill_done : (e : DrillEnd) (rounds : ℕ) (o : Seen) (journal : List Event) → IsPlayed enabled (events rounds) → AllByRecursion IsInRange (events rounds)
+    → DrillSays e rounds o journal → AreDone [] journal
+drill_done e rounds o journal played ranged says = said-done e rounds o journal (done-from [] (events rounds) played ranged) says
 
 -- ---- the status
 
@@ -64,5 +60,13 @@ complete_at end.Done status rounds o journal h says = λ unrisen. inl (h, says.0
 complete_at end.WriteFault status rounds o journal h says = λ unrisen. absurd (unrisen says.1.risen)
 complete_at end.NoMemory status rounds o journal h says = λ unrisen. inr h
 
-pub drill_complete : (rounds asked : ℕ) (status : Status) (o : Seen) (journal : List Event) → rounds ≡ asked → Drilled status rounds o journal → IsDrilled status asked o journal
-drill_complete rounds asked status o journal same d = subst (λ (n : ℕ). IsDrilled status n o journal) same (complete_at d.0 status rounds o journal d.1 d.2)
+-- all that is promised of a drill
+pub of_drill : {G L S K : Type 0} (rounds : ℕ) (r : Run G L S K) → Drilled r.status rounds r.output r.journal → r.given.input.now.bytes ≡ r.given.input.before.bytes
+    → r.served ≡ [] → OfJournal r.journal → OfDrill rounds r
+of_drill {G} {L} {S} {K} rounds r d unread none journal = record {
+  drills = d;
+  drilled = complete_at d.0 r.status rounds r.output r.journal d.1 d.2;
+  reads_none = unread;
+  unserved = none;
+  journal = journal;
+}

@@ -1,9 +1,10 @@
+pub mod Kept
 pub mod Promised
 pub mod Drills
-pub mod Idle
 pub mod Words
 pub mod ServeEnds
-pub mod OneWord
 pub mod TraceEnds
 pub mod PackEnds
 pub mod Does
+pub mod Idle
+pub mod Promises

@@ -1,5 +1,5 @@
--- What each exit status says, from how the run ended.
-use Rattle.std.proofs.Common.{◌≡◌, inl, inr, ℕ, List, Option, Some, None, sym, subst, arith, ap}
+-- What each exit status of a replay says, from how it ended.
+use Rattle.std.proofs.Common.{◌≡◌, inl, inr, ℕ, List, [], Option, Some, None, sym, subst, arith, ap}
 use Rattle.std.specs.Prelude.{IfSome}
 use Rattle.am_base.specs.Outside.{BytesTold, HasRisen}
 use Rattle.am_journal.specs.declared.event.Event.{Event}
@@ -13,6 +13,8 @@ use Rattle.am_replay.specs.Ends.{Ran, RanTold, Replays, Says, IsIdle}
 use Rattle.acmefs.specs.declared.status.Status.{Status}
 use Rattle.acmefs.specs.declared.status.Status.TheVariants as exit
 use Rattle.acmefs.specs.Statuses.{number_of}
+use Rattle.acmefs.specs.Top.{OfJournal, OfReplay, Run}
+use Rattle.am_replay.proofs.OwnText.{says_own}
 
 told_ran : (end : End) (told : Option (List ℕ)) (o : Seen) (journal : List Event) → Replays end told o journal → RanTold end told o journal
 told_ran end None o journal r = tt
@@ -117,3 +119,21 @@ complete Script status before now o journal e p = told_part Script status before
 complete ReadFault status before now o journal e p = risen_in before.bytes status before now o journal p.1
 complete WriteFault status before now o journal e p = told_part WriteFault status before.bytes before now o journal p (λ s r none in_ok out_ok. absurd (out_ok r.2.risen))
 complete NoMemory status before now o journal e p = told_part NoMemory status before.bytes before now o journal p (λ s r none in_ok out_ok. inr e)
+
+-- all that is promised of a replay
+pub of_replay : {G L S K : Type 0} (r : Run G L S K) (end : End) → r.status ≡ status_of end → Says end r.given.input.before r.given.input.now r.output r.journal
+    → r.served ≡ [] → OfJournal r.journal → OfReplay r
+of_replay {G} {L} {S} {K} r end is says none journal =
+    let before : BytesTold = r.given.input.before in
+    let now : BytesTold = r.given.input.now in
+    record {
+      done = done end r.status before now r.output r.journal is says;
+      script = script end r.status before now r.output r.journal is says;
+      write_fault = write_fault end r.status before now r.output r.journal is says;
+      no_memory = no_memory end r.status before now r.output r.journal is says;
+      complete = complete end r.status before now r.output r.journal is says;
+      headline = (end, is, says);
+      own_text = (end, is, says_own end before now r.output r.journal says);
+      unserved = none;
+      journal = journal;
+    }

@@ -15,6 +15,10 @@ use Rattle.am_server.specs.Replied.{GotAll}
 use Rattle.am_server.specs.Sound.{EndsWell}
 use Rattle.am_server.proofs.Completing.{says_complete}
 use Rattle.am_replay.proofs.RoundTrip.{AreDone, done-from, none-done}
+use Rattle.acme_core.specs.Run.{IsPossible}
+use Rattle.core_laws.specs.Journals.{JournalsAreLawful}
+use Rattle.acmefs.specs.Top.{OfServe, run}
+use Rattle.acmefs.proofs.Kept.{of_done}
 use Rattle.am_server.specs.Texts.{has_failed}
 use Rattle.am_server.specs.declared.served.Served.{Served}
 use Rattle.am_server.specs.declared.writing.ServeEnd.{ServeEnd}
@@ -107,7 +111,7 @@ module _ {G L S K : Type 0} where
   none_replied m journal served none = subst (λ (l : List (Served G L S K)). AllByRecursion (GotAll m journal) l) (sym none) tt
 
   -- with status 0 and 4 each sink that has not failed got all replies
-  pub serve_replied : (m : Outside G L S K) (path : List ℕ) (clients : ℕ) (i : Given) (o : Seen) (journal : List Event) (served : List (Served G L S K)) (status : Status) (e : ServeEnd)
+  serve_replied : (m : Outside G L S K) (path : List ℕ) (clients : ℕ) (i : Given) (o : Seen) (journal : List Event) (served : List (Served G L S K)) (status : Status) (e : ServeEnd)
       → status ≡ serve_status e → SaysServe m path clients i o journal served e → (status ≡ exit.Done) ⊎ (status ≡ exit.WriteFault) → AllByRecursion (GotAll m journal) served
   serve_replied m path clients i o journal served status e is (inl s) h = none_replied m journal served s.2.none
   serve_replied m path clients i o journal served status e is (inr (inl (long, t))) h = none_replied m journal served t.none
@@ -120,7 +124,7 @@ module _ {G L S K : Type 0} where
   none_ended m journal served none = subst (λ (l : List (Served G L S K)). AllByRecursion (EndsWell m journal) l) (sym none) tt
 
   -- a connection with sound objects ends well
-  pub serve_sound : (m : Outside G L S K) (path : List ℕ) (clients : ℕ) (i : Given) (o : Seen) (journal : List Event) (served : List (Served G L S K)) (e : ServeEnd)
+  serve_sound : (m : Outside G L S K) (path : List ℕ) (clients : ℕ) (i : Given) (o : Seen) (journal : List Event) (served : List (Served G L S K)) (e : ServeEnd)
       → SaysServe m path clients i o journal served e → AllByRecursion (EndsWell m journal) served
   serve_sound m path clients i o journal served e (inl s) = none_ended m journal served s.2.none
   serve_sound m path clients i o journal served e (inr (inl (long, t))) = none_ended m journal served t.none
@@ -128,7 +132,7 @@ module _ {G L S K : Type 0} where
   serve_sound m path clients i o journal served e (inr (inr (inr (lines, told, fits, s)))) = s.sound
 
   -- the journal's events were enabled, and their numbers fit their fields
-  pub serve_done : (m : Outside G L S K) (path : List ℕ) (clients : ℕ) (i : Given) (o : Seen) (journal : List Event) (served : List (Served G L S K)) (e : ServeEnd)
+  serve_done : (m : Outside G L S K) (path : List ℕ) (clients : ℕ) (i : Given) (o : Seen) (journal : List Event) (served : List (Served G L S K)) (e : ServeEnd)
       → SaysServe m path clients i o journal served e → AreDone [] journal
   serve_done m path clients i o journal served e (inl s) = none-done journal s.2.empty
   serve_done m path clients i o journal served e (inr (inl (long, t))) = none-done journal t.empty
@@ -140,7 +144,7 @@ module _ {G L S K : Type 0} where
   complete_as m clients lines i o journal served status e is h = λ n. ⊎_elim (λ w. inl (is ∙ ap serve_status w.0, w.1)) (λ w. inr (is ∙ ap serve_status w)) (h n)
 
   -- a script that tells its bytes is done, and its text written, where nothing fails
-  pub serve_complete : (m : Outside G L S K) (path : List ℕ) (clients : ℕ) (i : Given) (o : Seen) (journal : List Event) (served : List (Served G L S K)) (status : Status) (e : ServeEnd)
+  serve_complete : (m : Outside G L S K) (path : List ℕ) (clients : ℕ) (i : Given) (o : Seen) (journal : List Event) (served : List (Served G L S K)) (status : Status) (e : ServeEnd)
       → status ≡ serve_status e → SaysServe m path clients i o journal served e → IfSome i.input.before.bytes (λ bytes. IsServeComplete status m clients bytes i o journal served)
   serve_complete m path clients i o journal served status e is says = by_case i.input.before.bytes refl
     where
@@ -153,16 +157,13 @@ module _ {G L S K : Type 0} where
   none_complete m clients None i o journal served status is = tt
   none_complete m clients (Some bytes) i o journal served status is = λ h. inr is
 
-  pub complete_at : (m : Outside G L S K) (a b : ℕ) (told : Option (List ℕ)) (i : Given) (o : Seen) (journal : List Event) (served : List (Served G L S K)) (status : Status)
-      → a ≡ b → IfSome told (λ bytes. IsServeComplete status m a bytes i o journal served) → IfSome told (λ bytes. IsServeComplete status m b bytes i o journal served)
-  complete_at m a b told i o journal served status same h = subst (λ (n : ℕ). IfSome told (λ bytes. IsServeComplete status m n bytes i o journal served)) same h
-
-module _ {G L S K : Type 0} where
-  -- a status of serving, and what it says
-  abbrev pub Said : Outside G L S K → List ℕ → ℕ → Given → Seen → List Event → List (Served G L S K) → Status → Type 0
-  Said m path clients i o journal served status = (e : ServeEnd) × (status ≡ serve_status e) × SaysServe m path clients i o journal served e
-
-  pub at_path : (m : Outside G L S K) (p q : List ℕ) (a b : ℕ) (i : Given) (o : Seen) (journal : List Event) (served : List (Served G L S K)) (status : Status)
-      → p ≡ q → a ≡ b → Said m p a i o journal served status → Said m q b i o journal served status
-  at_path m p q a b i o journal served status e f s =
-      subst (λ (x : List ℕ). Said m x b i o journal served status) e (subst (λ (x : ℕ). Said m p x i o journal served status) f s)
+  -- all that is promised of serving
+  pub of_serve : JournalsAreLawful → (m : Outside G L S K) (path : List ℕ) (clients : ℕ) (i : Given) (o : Seen) (journal : List Event) (served : List (Served G L S K)) (status : Status) (e : ServeEnd)
+      → status ≡ serve_status e → SaysServe m path clients i o journal served e → IsPossible journal → OfServe path clients (run status m i o journal served)
+  of_serve all m path clients i o journal served status e is says possible = record {
+    serves = (e, is, says);
+    replied = serve_replied m path clients i o journal served status e is says;
+    sound = serve_sound m path clients i o journal served e says;
+    complete = serve_complete m path clients i o journal served status e is says;
+    journal = of_done all journal (serve_done m path clients i o journal served e says) possible;
+  }

@@ -4,20 +4,16 @@ use Rattle.std.specs.Prelude.{IfSome}
 use Rattle.am_base.specs.Outside.{BytesTold, AreTold, HasRisen}
 use Rattle.am_base.specs.Seen.{Seen, seen}
 use Rattle.am_journal.specs.declared.event.Event.{Event}
-use Rattle.am_counter.specs.Played.{IsPlayed}
-use Rattle.acme_core.specs.Run.{enabled}
-use Rattle.core_parts.specs.States.{start}
 use Rattle.am_replay.specs.declared.replaying.End.{End}
 use Rattle.am_replay.specs.declared.replaying.End.TheVariants.{Done, Usage, Script, ReadFault, WriteFault, NoMemory}
 use Rattle.acmefs.specs.Ends.{status_of}
 use Rattle.am_replay.specs.Ends.{IsIdle}
-use Rattle.am_replay.specs.Own.{RoundTrips}
 use Rattle.am_replay.specs.Scripts as scripts
 use Rattle.am_replay.specs.Scripts.{script_of}
 use Rattle.acmefs.specs.Traces.{IsTraced, TraceEnds}
 use Rattle.am_replay.specs.Traces.{Traces, TracesSome, TraceSays, AllHaveWords, PacksBack}
 use Rattle.am_replay.proofs.PackBack.{packs_back}
-use Rattle.am_replay.proofs.RoundTrip.{AreDone, front-done, none-done, played-done, script-done, trips}
+use Rattle.am_replay.proofs.RoundTrip.{AreDone, front-done, none-done, script-done}
 use Rattle.am_replay.proofs.Traced.{says_none}
 use Rattle.acmefs.specs.declared.status.Status.{Status}
 use Rattle.acmefs.specs.declared.status.Status.TheVariants as exit
@@ -82,19 +78,13 @@ traces-done ReadFault script o journal d h = absurd h
 traces-done WriteFault script o journal d h = subst (AreDone []) (sym h.0) d
 traces-done NoMemory script o journal d h = front-done journal h.0.0 [] (subst (AreDone []) (sym h.0.1) d)
 
-says-done : (end : End) (before now : BytesTold) (o : Seen) (journal : List Event) → TraceSays end before now o journal → AreDone [] journal
+pub says-done : (end : End) (before now : BytesTold) (o : Seen) (journal : List Event) → TraceSays end before now o journal → AreDone [] journal
 says-done Done before now o journal h = traces-done Done (script_of h.0) o journal (script-done h.0) h.2
 says-done Usage before now o journal h = absurd h
 says-done Script before now o journal h = traces-done Script (script_of h.0) o journal (script-done h.0) h.2
 says-done ReadFault before now o journal h = none-done journal h.0.empty
 says-done WriteFault before now o journal h = traces-done WriteFault (script_of h.0) o journal (script-done h.0) h.2
 says-done NoMemory before now o journal h = traces-done NoMemory (script_of h.0) o journal (script-done h.0) h.2
-
-pub says_trips : (end : End) (before now : BytesTold) (o : Seen) (journal : List Event) → TraceSays end before now o journal → RoundTrips journal
-says_trips end before now o journal h = trips journal (says-done end before now o journal h)
-
-pub says_played : (end : End) (before now : BytesTold) (o : Seen) (journal : List Event) → TraceSays end before now o journal → IsPlayed enabled journal
-says_played end before now o journal h = played-done [] journal (says-done end before now o journal h)
 
 done_back : (end : End) (status : Status) (before now : BytesTold) (o : Seen) (journal : List Event)
     → status ≡ status_of end → TraceSays end before now o journal → status ≡ exit.Done → PacksBack journal

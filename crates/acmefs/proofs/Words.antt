@@ -1,11 +1,12 @@
 -- Words ask for one thing.
-use Rattle.std.proofs.Common.{◌≡◌, ℕ, Bool, true, false, cond, List, [], ◌∷◌, Option, Some, None, ◌∙◌, refl, sym, ap, subst, codes}
+use Rattle.std.proofs.Common.{◌≡◌, inl, inr, ℕ, Bool, true, false, cond, List, [], ◌∷◌, Option, Some, None, ◌∙◌, refl, sym, ap, subst, arith, codes}
 use Rattle.std.proofs.lemmas.Slice.Eq.{bytes_eq-Decides}
 use Rattle.std.specs.Str.{bytes_eq}
-use Rattle.std.specs.Prelude.{IfSome, IfNone}
+use Rattle.std.specs.Prelude.{IfSome, IfNone, string_bytes}
 use Rattle.am_words.specs.declared.asked.Asked.{Asked}
+use Rattle.am_words.specs.declared.asked.Asked.TheVariants as asked
 use Rattle.am_words.specs.declared.asked.Tree.{Tree}
-use Rattle.am_words.specs.Words.{are_replay, asks_do, asks_drill, asks_serve, in_two, AsksFor, AreKnown}
+use Rattle.am_words.specs.Words.{are_alone, are_replay, asks_do, asks_drill, asks_serve, in_two, in_three, rounds_of, tree_of, with_tree, AsksFor, AreKnown}
 
 -- what was read is asked for
 pub asked_at : (words list : List (List ℕ)) (read : Option Asked) (x y : Asked) → read ≡ Some x → x ≡ y → list ≡ words → IfSome read (AsksFor list) → AsksFor words y
@@ -16,6 +17,91 @@ asked_at words list read x y some same e h =
 pub none_at : (words list : List (List ℕ)) (read : Option Asked) → read ≡ None → list ≡ words → IfNone read (¬ AreKnown list) → ¬ AreKnown words
 none_at words list read none e h =
     subst (λ (w : List (List ℕ)). ¬ AreKnown w) e (subst (λ (r : Option Asked). IfNone r (¬ AreKnown list)) none h)
+
+-- words that ask for something are known
+pub known : (words : List (List ℕ)) (a : Asked) → AsksFor words a → AreKnown words
+known words asked.Replay h = inl (inl h)
+known words asked.Trace h = inl (inr (inl h))
+known words asked.Pack h = inl (inr (inr h))
+known words (asked.Drill rounds) h = inr (inl (rounds, h))
+known words (asked.Serve path clients) h = inr (inr (inl (string_bytes path, clients, h)))
+known words (asked.Do path tree) h = inr (inr (inr (string_bytes path, tree, h)))
+
+-- ---- the first word is the command
+
+abbrev first : List (List ℕ) → List ℕ
+first [] = []
+first (word ∷ words) = word
+
+replay_first : (words : List (List ℕ)) → are_replay words ≡ true → first words ≡ codes "replay"
+replay_first [] h = absurd cc
+replay_first (word ∷ []) h = (bytes_eq-Decides word (codes "replay")).0 h
+replay_first (word ∷ other ∷ words) h = absurd cc
+
+alone_first : (name : List ℕ) (words : List (List ℕ)) → are_alone name words ≡ true → first words ≡ name
+alone_first name [] h = absurd cc
+alone_first name (word ∷ []) h = (bytes_eq-Decides word name).0 h
+alone_first name (word ∷ other ∷ words) h = absurd cc
+
+-- a word behind which something is asked for
+named : {A : Type 0} (word name : List ℕ) (o : Option A) (x : A) → cond (bytes_eq word name) o None ≡ Some x → word ≡ name
+named {A} word name o x h = by_test (bytes_eq word name) refl h
+  where
+    by_test : (t : Bool) → bytes_eq word name ≡ t → cond t o None ≡ Some x → word ≡ name
+    by_test true e k = (bytes_eq-Decides word name).0 e
+    by_test false e k = absurd cc
+
+drill_first : (words : List (List ℕ)) (rounds : ℕ) → asks_drill words ≡ Some rounds → first words ≡ codes "drill"
+drill_first [] rounds h = absurd cc
+drill_first (word ∷ []) rounds h = absurd cc
+drill_first (word ∷ number ∷ []) rounds h = named word (codes "drill") (rounds_of number) rounds h
+drill_first (word ∷ number ∷ other ∷ words) rounds h = absurd cc
+
+serve_first : (words : List (List ℕ)) (x : List ℕ × ℕ) → asks_serve words ≡ Some x → first words ≡ codes "serve"
+serve_first [] x h = absurd cc
+serve_first (word ∷ []) x h = absurd cc
+serve_first (word ∷ a ∷ []) x h = absurd cc
+serve_first (word ∷ a ∷ b ∷ []) x h = named word (codes "serve") (in_two a b) x h
+serve_first (word ∷ a ∷ b ∷ c ∷ []) x h = named word (codes "serve") (in_three a b c) x h
+serve_first (word ∷ a ∷ b ∷ c ∷ d ∷ words) x h = absurd cc
+
+do_first : (words : List (List ℕ)) (x : List ℕ × Tree) → asks_do words ≡ Some x → first words ≡ codes "do"
+do_first [] x h = absurd cc
+do_first (word ∷ []) x h = absurd cc
+do_first (word ∷ a ∷ []) x h = absurd cc
+do_first (word ∷ a ∷ b ∷ []) x h = named word (codes "do") (with_tree a (tree_of b)) x h
+do_first (word ∷ a ∷ b ∷ c ∷ words) x h = absurd cc
+
+-- ---- each command has a number
+
+abbrev numbered : List ℕ → ℕ
+numbered word = cond (bytes_eq word (codes "replay")) 0
+    (cond (bytes_eq word (codes "trace")) 1
+    (cond (bytes_eq word (codes "pack")) 2
+    (cond (bytes_eq word (codes "drill")) 3
+    (cond (bytes_eq word (codes "serve")) 4 5))))
+
+abbrev pub number : Asked → ℕ
+number asked.Replay = 0
+number asked.Trace = 1
+number asked.Pack = 2
+number (asked.Drill rounds) = 3
+number (asked.Serve path clients) = 4
+number (asked.Do path tree) = 5
+
+is_numbered : (words : List (List ℕ)) (a : Asked) → AsksFor words a → numbered (first words) ≡ number a
+is_numbered words asked.Replay h = ap numbered (replay_first words h)
+is_numbered words asked.Trace h = ap numbered (alone_first (codes "trace") words h)
+is_numbered words asked.Pack h = ap numbered (alone_first (codes "pack") words h)
+is_numbered words (asked.Drill rounds) h = ap numbered (drill_first words rounds h)
+is_numbered words (asked.Serve path clients) h = ap numbered (serve_first words (string_bytes path, clients) h.0)
+is_numbered words (asked.Do path tree) h = ap numbered (do_first words (string_bytes path, tree) h.0)
+
+-- what words ask for has one number
+pub one_number : (words : List (List ℕ)) (a b : Asked) → AsksFor words a → AsksFor words b → number a ≡ number b
+one_number words a b x y = sym (is_numbered words a x) ∙ is_numbered words b y
+
+-- ---- one thing of each kind
 
 -- words ask for one path and one number
 pub asked_once : (words : List (List ℕ)) (p q : List ℕ) (a b : ℕ) → asks_serve words ≡ Some (p, a) → asks_serve words ≡ Some (q, b) → (p ≡ q) × (a ≡ b)
@@ -29,25 +115,6 @@ asked_once words p q a b h k = let e : Some (p, a) ≡ Some (q, b) = sym h ∙ k
     number_in other None = other
     number_in other (Some x) = x.1
 
--- words that ask for a replay ask for nothing else
-pub replay_alone : (words : List (List ℕ)) → are_replay words ≡ true → asks_serve words ≡ None
-replay_alone [] h = cc
-replay_alone (word ∷ []) h = cc
-replay_alone (word ∷ other ∷ words) h = absurd (cc)
-
--- words that ask for a replay ask for no drill
-pub replay_no_drill : (words : List (List ℕ)) → are_replay words ≡ true → asks_drill words ≡ None
-replay_no_drill [] h = refl
-replay_no_drill (word ∷ []) h = refl
-replay_no_drill (word ∷ other ∷ words) h = absurd (cc)
-
--- words that ask for a drill ask for no serving
-pub drill_no_serving : (words : List (List ℕ)) (rounds : ℕ) → asks_drill words ≡ Some rounds → asks_serve words ≡ None
-drill_no_serving [] rounds h = refl
-drill_no_serving (command ∷ []) rounds h = refl
-drill_no_serving (command ∷ number ∷ []) rounds h = refl
-drill_no_serving (command ∷ number ∷ other ∷ words) rounds h = absurd (cc)
-
 -- a number of rounds is asked for once
 pub rounds_once : (words : List (List ℕ)) (a b : ℕ) → asks_drill words ≡ Some a → asks_drill words ≡ Some b → a ≡ b
 rounds_once words a b h k = let e : Some a ≡ Some b = sym h ∙ k in ap (rounds_in a) e
@@ -55,30 +122,6 @@ rounds_once words a b h k = let e : Some a ≡ Some b = sym h ∙ k in ap (round
     rounds_in : ℕ → Option ℕ → ℕ
     rounds_in other None = other
     rounds_in other (Some x) = x
-
--- ---- doing lines
-
-pub replay_no_do : (words : List (List ℕ)) → are_replay words ≡ true → asks_do words ≡ None
-replay_no_do [] h = refl
-replay_no_do (word ∷ []) h = refl
-replay_no_do (word ∷ other ∷ words) h = absurd (cc)
-
-pub drill_no_do : (words : List (List ℕ)) (rounds : ℕ) → asks_drill words ≡ Some rounds → asks_do words ≡ None
-drill_no_do [] rounds h = refl
-drill_no_do (command ∷ []) rounds h = refl
-drill_no_do (command ∷ number ∷ []) rounds h = refl
-drill_no_do (command ∷ number ∷ other ∷ words) rounds h = absurd (cc)
-
-pub serve_no_do : (words : List (List ℕ)) (x : List ℕ × ℕ) → asks_serve words ≡ Some x → asks_do words ≡ None
-serve_no_do [] x h = refl
-serve_no_do (command ∷ []) x h = refl
-serve_no_do (command ∷ a ∷ []) x h = refl
-serve_no_do (command ∷ a ∷ b ∷ []) x h = by_word (bytes_eq command (codes "serve")) refl h
-  where
-    by_word : (t : Bool) → bytes_eq command (codes "serve") ≡ t → cond t (in_two a b) None ≡ Some x → asks_do (command ∷ a ∷ b ∷ []) ≡ None
-    by_word false e h = absurd cc
-    by_word true e h = ap (λ (word : List ℕ). asks_do (word ∷ a ∷ b ∷ [])) ((bytes_eq-Decides command (codes "serve")).0 e)
-serve_no_do (command ∷ a ∷ b ∷ c ∷ words) x h = refl
 
 -- one tree is asked for
 pub tree_once : (words : List (List ℕ)) (p q : List ℕ) (a b : Tree) → asks_do words ≡ Some (p, a) → asks_do words ≡ Some (q, b) → a ≡ b

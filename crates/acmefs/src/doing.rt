@@ -5,8 +5,8 @@ ghost use Rattle.am_base.specs.Seen.{given, seen};
 ghost use Rattle.ninep_types.specs.Spelling.{IsString};
 ghost use Rattle.am_slots.specs.Slots.{outside};
 ghost use Rattle.am_words.specs.Words.{tree_name};
-ghost use Rattle.core_laws.specs.Journals.{JournalLaws};
-ghost use Rattle.acmefs.specs.Does.{Does, closed_by, do_status, ended_by, entry_of, how_ended, listed, undialled};
+ghost use Rattle.acmefs.specs.Does.{closed_by, do_status, ended_by, entry_of, how_ended, listed, undialled};
+ghost use Rattle.acmefs.specs.Top.{OfDo, run};
 
 use crate::outcome::{Outcome, idle};
 use crate::status::Status;
@@ -146,12 +146,11 @@ pub fn do_main<I: Source, O: Sink, H: Host>(
     output: &mut O,
     host: &mut H,
 ) -> Outcome<H>
-    ensures does { Does result.status
-        (outside H.G.told H.G.L.told H.G.L.R.told H.G.L.W.told) (tree_name tree)
+    // What doing lines promises.
+    ensures { OfDo tree (run result.status
+        (outside H.G.told H.G.L.told H.G.L.R.told H.G.L.W.told)
         (given (I.told input.old) (I.told input.new) (H.faults host.old) (H.faults host.new))
-        (seen (O.told output.old) (O.told output.new)) result.served }
-    ensures journal { result.journal ≡ [] }
-    ensures laws { JournalLaws result.journal }
+        (seen (O.told output.old) (O.told output.new)) result.journal result.served) }
 {
     journals_are_lawful();
     let Ok(room) = Vec::with_capacity(alloc, 1) else {

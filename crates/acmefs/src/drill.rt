@@ -2,12 +2,9 @@
 
 ghost use Rattle.std.specs.Prelude.{◌≡◌, ◌≤◌};
 ghost use Rattle.am_base.specs.Seen.{seen};
-ghost use Rattle.am_counter.specs.Played.{IsPlayed};
-ghost use Rattle.acme_core.specs.Run.{enabled};
 ghost use Rattle.am_drill.specs.Drill.{most_rounds};
 ghost use Rattle.acmefs.specs.Ends.{drill_status, Drilled};
-ghost use Rattle.am_replay.specs.Own.{RoundTrips};
-ghost use Rattle.core_laws.specs.Journals.{JournalLaws};
+ghost use Rattle.acmefs.specs.Top.{OfJournal};
 ghost use Rattle.event_laws.specs.Laws.{EventLaws};
 ghost use Rattle.port_laws.specs.Laws.{PortLaws};
 
@@ -36,13 +33,8 @@ pub fn drill_main<O: Sink>(alloc: Global, rounds: u64, output: &mut O) -> Replay
     requires rounds { (1 ≤ rounds) × (rounds ≤ most_rounds) }
     ensures drills { Drilled result.status rounds
         (seen (O.told output.old) (O.told output.new)) result.journal }
-    // Each event of the journal is lawful, and was enabled at its place.
-    ensures played { IsPlayed enabled result.journal }
-    // The journal's lines and then its report ask for the journal's events again, and are a transcript, where they aren't too long, that
-    // gives the same report.
-    ensures round_trip { RoundTrips result.journal }
-    // All laws of journals hold of it.
-    ensures laws { JournalLaws result.journal }
+    // Each event of the journal was enabled at its place, all laws of journals hold of it, and it is a transcript.
+    ensures journal { OfJournal result.journal }
     // What came of the items of event files.
     ensures events { EventLaws result.journal }
     // What each opening of a port got of the messages that came to it.

@@ -6,6 +6,7 @@ mod doing;
 mod drill;
 mod outcome;
 mod program;
+mod replaying;
 mod serving;
 mod status;
 

@@ -1,11 +1,8 @@
 //! What a run of the program comes to.
 
 ghost use Rattle.std.specs.Prelude.{◌≡◌, []};
-ghost use Rattle.am_counter.specs.Played.{IsPlayed};
-ghost use Rattle.acme_core.specs.Run.{enabled};
 ghost use Rattle.acmefs.specs.Ends.{status_of};
-ghost use Rattle.am_replay.specs.Own.{RoundTrips};
-ghost use Rattle.core_laws.specs.Journals.{JournalLaws};
+ghost use Rattle.acmefs.specs.Top.{OfJournal};
 
 use crate::status::Status;
 use am_base::Host;
@@ -49,11 +46,9 @@ pub(crate) fn status_of(end: End) -> Status
 /// Nothing is done, for this reason.
 pub(crate) fn idle<H: Host>(alloc: Global, end: End) -> Outcome<H>
     ensures status { result.status ≡ status_of end }
-    ensures journal { result.journal ≡ [] }
-    ensures played { IsPlayed enabled result.journal }
-    ensures round_trip { RoundTrips result.journal }
-    ensures laws { JournalLaws result.journal }
-    ensures none_served { result.served ≡ [] }
+    ensures empty { result.journal ≡ [] }
+    ensures journal { OfJournal result.journal }
+    ensures unserved { result.served ≡ [] }
 {
     journals_are_lawful();
     Outcome {

@@ -2,24 +2,17 @@
 
 ghost use Rattle.std.specs.Prelude.{◌≡◌, None};
 ghost use Rattle.am_base.specs.Seen.{given, seen};
-ghost use Rattle.am_counter.specs.Played.{IsPlayed};
-ghost use Rattle.acme_core.specs.Run.{enabled};
 ghost use Rattle.acme_core.specs.Laws.{EachIsAnswered};
-ghost use Rattle.acmefs.specs.Ends.{status_of};
-ghost use Rattle.am_replay.specs.Ends.{Says};
-ghost use Rattle.am_replay.specs.Own.{PutsOwn, RoundTrips};
-ghost use Rattle.acmefs.specs.Top.{OfDoing, OfDrill, OfReplay, OfServing, OfWords, run};
+ghost use Rattle.acmefs.specs.Top.{OfWords, run};
 ghost use Rattle.am_words.specs.Words.{asks_do, asks_serve};
-ghost use Rattle.core_laws.specs.Journals.{JournalLaws};
 ghost use Rattle.event_laws.specs.Laws.{EventLaws};
 ghost use Rattle.port_laws.specs.Laws.{PortLaws};
 ghost use Rattle.am_slots.specs.Slots.{outside};
 
 use crate::asked::do_asked;
-use crate::outcome::{Outcome, ReplayEnd, status_of};
+use crate::outcome::Outcome;
 use acme_core::messages_are_answered;
 use am_base::{Host, Sink, Source};
-use am_replay::replay;
 use am_text::Words;
 use event_laws::events_are_lawful;
 use port_laws::ports_are_lawful;
@@ -45,28 +38,8 @@ pub fn acmefs<I: Source, O: Sink, H: Host, R: Threads + Wait + Sync>(
     output: &mut O,
     host: &mut H,
 ) -> Outcome<H>
-    // Which words are known, what statuses 1, 3 and 4 say of any words, and what holds of every journal.
-    ensures words { OfWords (run words.now result.status
-        (outside H.G.told H.G.L.told H.G.L.R.told H.G.L.W.told)
-        (given (I.told input.old) (I.told input.new) (H.faults host.old) (H.faults host.new))
-        (seen (O.told output.old) (O.told output.new)) result.journal result.served) }
-    // A replay, a trace and packing.
-    ensures replay { OfReplay (run words.now result.status
-        (outside H.G.told H.G.L.told H.G.L.R.told H.G.L.W.told)
-        (given (I.told input.old) (I.told input.new) (H.faults host.old) (H.faults host.new))
-        (seen (O.told output.old) (O.told output.new)) result.journal result.served) }
-    // A drill.
-    ensures drill { OfDrill (run words.now result.status
-        (outside H.G.told H.G.L.told H.G.L.R.told H.G.L.W.told)
-        (given (I.told input.old) (I.told input.new) (H.faults host.old) (H.faults host.new))
-        (seen (O.told output.old) (O.told output.new)) result.journal result.served) }
-    // Serving.
-    ensures serve { OfServing (run words.now result.status
-        (outside H.G.told H.G.L.told H.G.L.R.told H.G.L.W.told)
-        (given (I.told input.old) (I.told input.new) (H.faults host.old) (H.faults host.new))
-        (seen (O.told output.old) (O.told output.new)) result.journal result.served) }
-    // Doing lines.
-    ensures doing { OfDoing (run words.now result.status
+    // What the words ask for is done as its record says, and what statuses 1, 3 and 4 say of any words.
+    ensures words { OfWords words.now (run result.status
         (outside H.G.told H.G.L.told H.G.L.R.told H.G.L.W.told)
         (given (I.told input.old) (I.told input.new) (H.faults host.old) (H.faults host.new))
         (seen (O.told output.old) (O.told output.new)) result.journal result.served) }
@@ -84,35 +57,4 @@ pub fn acmefs<I: Source, O: Sink, H: Host, R: Threads + Wait + Sync>(
     events_are_lawful();
     ports_are_lawful();
     do_asked(rt, alloc, words, input, output, host)
-}
-
-/// Replays the transcript that the input gives, and writes a line for each reply and the report.
-pub fn replay_main<I: Source, O: Sink>(alloc: Global, input: &mut I, output: &mut O) -> ReplayEnd
-    ensures headline { (end : _) × (result.status ≡ status_of end)
-        × Says end (I.told input.old) (I.told input.new)
-        (seen (O.told output.old) (O.told output.new))
-        result.journal }
-    // The output got the lines of the journal's replies, and then the report of its run or a line `refused`: by the
-    // status all of it, or a front.
-    ensures own_text { (end : _) × (result.status ≡ status_of end)
-        × PutsOwn end (seen (O.told output.old) (O.told output.new)) result.journal }
-    // Each event of the journal is lawful, and was enabled at its place.
-    ensures played { IsPlayed enabled result.journal }
-    // The journal's lines and then its report ask for the journal's events again, and are a transcript, where they aren't too long, that
-    // gives the same report.
-    ensures round_trip { RoundTrips result.journal }
-    // All laws of journals hold of it.
-    ensures laws { JournalLaws result.journal }
-    // What came of the items of event files.
-    ensures events { EventLaws result.journal }
-    // What each opening of a port got of the messages that came to it.
-    ensures ports { PortLaws result.journal }
-{
-    events_are_lawful();
-    ports_are_lawful();
-    let ended = replay(alloc, input, output);
-    ReplayEnd {
-        status: status_of(ended.end),
-        journal: ended.journal,
-    }
 }

@@ -1,19 +1,11 @@
 //! Serving, by its exit status.
 
-ghost use Rattle.std.specs.Prelude.{◌≡◌, ◌⊎◌, ◌≤◌, IfSome};
-ghost use Rattle.std.specs.List.{AllByRecursion};
+ghost use Rattle.std.specs.Prelude.{◌≡◌, ◌≤◌};
 ghost use Rattle.am_base.specs.Seen.{given, seen};
-ghost use Rattle.am_counter.specs.Played.{IsPlayed};
-ghost use Rattle.acme_core.specs.Run.{enabled};
 ghost use Rattle.am_journal.specs.Limits.{connection_count};
-ghost use Rattle.acmefs.specs.declared.status.Status.TheVariants as exit;
-ghost use Rattle.acmefs.specs.Ends.{IsServeComplete, serve_status};
-ghost use Rattle.am_replay.specs.Own.{RoundTrips};
-ghost use Rattle.am_server.specs.Ends.{SaysServe};
-ghost use Rattle.am_server.specs.Replied.{GotAll};
-ghost use Rattle.am_server.specs.Sound.{EndsWell};
+ghost use Rattle.acmefs.specs.Ends.{serve_status};
+ghost use Rattle.acmefs.specs.Top.{OfServe, run};
 ghost use Rattle.am_slots.specs.Slots.{outside};
-ghost use Rattle.core_laws.specs.Journals.{JournalLaws};
 ghost use Rattle.event_laws.specs.Laws.{EventLaws};
 ghost use Rattle.port_laws.specs.Laws.{PortLaws};
 
@@ -70,26 +62,11 @@ pub fn serve_main<I: Source, O: Sink, H: Host, R: Threads + Wait + Sync>(
     host: &mut H,
 ) -> Outcome<H>
     requires clients { (1 ≤ site.now.clients) × (site.now.clients ≤ connection_count) }
-    ensures serves { (end : _) × (result.status ≡ serve_status end)
-        × SaysServe (outside H.G.told H.G.L.told H.G.L.R.told H.G.L.W.told) site.now.path.now site.now.clients
+    // What serving promises.
+    ensures serves { OfServe site.now.path.now site.now.clients (run result.status
+        (outside H.G.told H.G.L.told H.G.L.R.told H.G.L.W.told)
         (given (I.told input.old) (I.told input.new) (H.faults host.old) (H.faults host.new))
-        (seen (O.told output.old) (O.told output.new))
-        result.journal result.served end }
-    ensures replied { (result.status ≡ exit.Done) ⊎ (result.status ≡ exit.WriteFault) → AllByRecursion
-        (GotAll (outside H.G.told H.G.L.told H.G.L.R.told H.G.L.W.told) result.journal)
-        result.served }
-    ensures sound { AllByRecursion
-        (EndsWell (outside H.G.told H.G.L.told H.G.L.R.told H.G.L.W.told) result.journal)
-        result.served }
-    ensures complete { IfSome (I.told input.old).bytes (λ bytes. IsServeComplete result.status
-        (outside H.G.told H.G.L.told H.G.L.R.told H.G.L.W.told) site.now.clients bytes
-        (given (I.told input.old) (I.told input.new) (H.faults host.old) (H.faults host.new))
-        (seen (O.told output.old) (O.told output.new))
-        result.journal result.served) }
-    ensures played { IsPlayed enabled result.journal }
-    ensures round_trip { RoundTrips result.journal }
-    // All laws of journals hold of it.
-    ensures laws { JournalLaws result.journal }
+        (seen (O.told output.old) (O.told output.new)) result.journal result.served) }
     // What came of the items of event files.
     ensures events { EventLaws result.journal }
     // What each opening of a port got of the messages that came to it.
