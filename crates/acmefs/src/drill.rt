@@ -9,15 +9,14 @@ ghost use Rattle.acmefs.specs.Ends.{drill_status, Drilled};
 ghost use Rattle.am_replay.specs.Own.{RoundTrips};
 ghost use Rattle.core_laws.specs.Journals.{JournalLaws};
 ghost use Rattle.event_laws.specs.Laws.{EventLaws};
-ghost use Rattle.port_laws.specs.Laws.{PortLaws};
+ghost use Rattle.event_laws.specs.PortLaws.{PortLaws};
 
 use crate::outcome::ReplayEnd;
 use crate::status::Status;
 use am_base::Sink;
 use am_drill::{DrillEnd, drill, drill_is_played};
 use core_laws::journals_are_lawful;
-use event_laws::events_are_lawful;
-use port_laws::ports_are_lawful;
+use event_laws::{events_are_lawful, ports_are_lawful};
 use std::alloc::Global;
 
 fn drill_status(end: DrillEnd) -> Status
