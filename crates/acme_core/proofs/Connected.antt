@@ -19,7 +19,7 @@ use Rattle.am_counter.specs.Played.{ArePlayed, IsPlayed, has_dial, has_hang, is_
 use Rattle.core_parts.specs.declared.connection.Connection.{Connection}
 use Rattle.core_parts.specs.declared.connection.Connection.TheVariants.{Undialed, Live, Ended}
 use Rattle.acme_core.specs.Asks.{answer_at}
-use Rattle.core_views.specs.Asks.{is_ended}
+use Rattle.core_closing.specs.Asks.{is_ended}
 use Rattle.core_parts.specs.Connections.{connection_at, connections_after}
 use Rattle.core_intents.specs.Doings.{enabled_at, is_tag_used}
 use Rattle.core_intents.specs.Enabled.{dial_refusal, live_refusal, first_why, msg_refusal, size_refusal, most_bytes, tag_refusal, replies_refusal}

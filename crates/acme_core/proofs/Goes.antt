@@ -17,8 +17,8 @@ use Rattle.core_scene.specs.Scenes.{kept_of, scene_in}
 use Rattle.core_scene.specs.SceneLaws.{changes_in, AreShown, DeedsShow}
 use Rattle.core_scene.proofs.Settled.{settled_in}
 use Rattle.core_events.specs.Sound.{IsSound, IsIdle}
-use Rattle.core_ports.specs.Sound.{ArePortsSound, ArePortsIdle}
-use Rattle.core_ports.proofs.Sounds.{sound_beginning}
+use Rattle.core_events.specs.PortSound.{ArePortsSound, ArePortsIdle}
+use Rattle.core_events.proofs.PortSounds.{sound_beginning}
 use Rattle.core_closing.specs.declared.prepared.Prepared.{Prepared}
 use Rattle.core_parts.specs.declared.parts.Parts.{Parts}
 use Rattle.core_parts.specs.declared.connection.Connection.TheVariants.{Undialed}

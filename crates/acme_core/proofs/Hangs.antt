@@ -15,9 +15,9 @@ use Rattle.core_events.specs.declared.response.Response.{Response}
 use Rattle.core_events.specs.Serving.{served_all, book_served_all}
 use Rattle.core_events.specs.Sound.{IsSound, IsIdle}
 use Rattle.plumb_ports.specs.PortsState.{PortsState}
-use Rattle.core_ports.specs.Serving.{ports_served}
-use Rattle.core_ports.specs.Sound.{ArePortsSound, ArePortsIdle}
-use Rattle.core_ports.proofs.Idles.{none_said, none_taken}
+use Rattle.core_events.specs.PortServing.{ports_served}
+use Rattle.core_events.specs.PortSound.{ArePortsSound, ArePortsIdle}
+use Rattle.core_events.proofs.PortIdles.{none_said, none_taken}
 use Rattle.core_events.proofs.Turns.{all_none, book_all_none}
 use Rattle.acme_core.proofs.Few.{lives_less}
 use Rattle.core_steps.proofs.Idling.{none_served}

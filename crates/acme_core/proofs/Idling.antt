@@ -3,7 +3,7 @@ use Rattle.std.proofs.Common.{List, [], ◌∷◌, refl}
 use Rattle.std.specs.List.{fold}
 use Rattle.am_journal.specs.declared.event.Event.{Event}
 use Rattle.core_events.specs.Sound.{IsIdle}
-use Rattle.core_ports.specs.Sound.{ArePortsIdle}
+use Rattle.core_events.specs.PortSound.{ArePortsIdle}
 use Rattle.core_events.proofs.Idles.{AreIdle, empty_idle, idle_end}
 use Rattle.core_parts.specs.States.{State, present, start}
 use Rattle.core_intents.specs.Doings.{doing_of}

@@ -2,7 +2,7 @@
 use Rattle.std.specs.Prelude.{Bool, List}
 use Rattle.am_journal.specs.declared.event.Event.{Event}
 use Rattle.am_counter.specs.declared.ask.Ask.{Ask}
-use Rattle.core_views.specs.Asks.{answer_in}
+use Rattle.core_closing.specs.Asks.{answer_in}
 use Rattle.acme_core.specs.Run.{present_after}
 
 -- the answer after a journal

@@ -6,7 +6,7 @@ use Rattle.am_journal.specs.Lawful.{IsLawful}
 use Rattle.am_counter.specs.Played.{IsPlayed}
 use Rattle.core_windows.specs.Stories.{AreLawful}
 use Rattle.core_events.specs.Sound.{IsSound, IsIdle}
-use Rattle.core_ports.specs.Sound.{ArePortsSound, ArePortsIdle}
+use Rattle.core_events.specs.PortSound.{ArePortsSound, ArePortsIdle}
 use Rattle.core_parts.specs.declared.parts.Parts.{Parts}
 use Rattle.core_closing.specs.declared.prepared.Prepared.{Prepared}
 use Rattle.core_parts.specs.Connections.{connections_after, live_count, AreJoined}

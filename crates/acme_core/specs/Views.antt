@@ -4,7 +4,7 @@ use Rattle.am_journal.specs.declared.event.Event.{Event}
 use Rattle.am_journal.specs.declared.view.ItemView.{ItemView}
 use Rattle.am_journal.specs.declared.view.View.{View}
 use Rattle.event_book.specs.WindowFiles.{ledger_of}
-use Rattle.core_views.specs.Views.{view_at}
+use Rattle.core_closing.specs.Views.{view_at}
 use Rattle.acme_core.specs.Run.{run, present_after}
 
 -- each item that was ever made, with its life, by window and number

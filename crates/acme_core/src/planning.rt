@@ -4,7 +4,7 @@ ghost use Rattle.std.specs.Prelude.{◌≡◌, ◌+◌, ◌<◌, ◌≤◌, ◌^
 ghost use Rattle.am_journal.specs.Lawful.{IsLawful};
 ghost use Rattle.core_parts.specs.Connections.{live_count, IsJoinedFor};
 ghost use Rattle.core_events.specs.Sound.{IsSound, IsIdle};
-ghost use Rattle.core_ports.specs.Sound.{ArePortsSound, ArePortsIdle};
+ghost use Rattle.core_events.specs.PortSound.{ArePortsSound, ArePortsIdle};
 ghost use Rattle.core_parts.specs.Kinds.{kind_of, is_hang};
 ghost use Rattle.core_intents.specs.Doings.{enabled_at, doing_of};
 ghost use Rattle.acme_core.specs.Kept.{AreSound, IsPrepared, IsReady, HasEntries, planned_of};

@@ -14,8 +14,8 @@ use Rattle.ninep_types.specs.Spelling.{IsString}
 use Rattle.ninep_client.specs.Asking.{Talk, begun}
 use Rattle.ninep_client.specs.declared.fault.CallFault.{CallFault}
 use Rattle.ninep_client.specs.declared.fault.CallFault.TheVariants as fault
-use Rattle.do_lines.specs.declared.line.DoLine.{DoLine}
-use Rattle.do_lines.specs.Lines.{lines_from}
+use Rattle.am_do.specs.declared.line.DoLine.{DoLine}
+use Rattle.am_do.specs.Lines.{lines_from}
 use Rattle.am_do.specs.declared.running.DoEnd.{DoEnd}
 use Rattle.am_do.specs.declared.running.DoEnd.TheVariants as doing
 use Rattle.am_do.specs.declared.running.Doing.{Doing}

@@ -4,11 +4,11 @@ use Rattle.am_base.specs.Outside.{BytesTold, HasRisen}
 use Rattle.am_base.specs.Seen.{Seen}
 use Rattle.am_journal.specs.declared.event.Event.{Event}
 use Rattle.am_journal.specs.Journal.{AreSpelled}
-use Rattle.am_pack.specs.declared.packing.Packing.{Packing}
-use Rattle.am_pack.specs.declared.program.PackEnd.{PackEnd}
-use Rattle.am_pack.specs.declared.program.PackEnd.TheVariants.{Done, Script, ReadFault, WriteFault, NoMemory}
-use Rattle.am_pack.specs.Ends.{Packs, PackSays}
-use Rattle.am_pack.specs.Packing.{packing_of}
+use Rattle.am_replay.specs.declared.packing.Packing.{Packing}
+use Rattle.am_replay.specs.declared.program.PackEnd.{PackEnd}
+use Rattle.am_replay.specs.declared.program.PackEnd.TheVariants.{Done, Script, ReadFault, WriteFault, NoMemory}
+use Rattle.am_replay.specs.PackEnds.{Packs, PackSays}
+use Rattle.am_replay.specs.Packing.{packing_of}
 use Rattle.acmefs.specs.declared.status.Status.{Status}
 use Rattle.acmefs.specs.declared.status.Status.TheVariants as exit
 

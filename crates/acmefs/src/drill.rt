@@ -6,15 +6,14 @@ ghost use Rattle.am_drill.specs.Drill.{most_rounds};
 ghost use Rattle.acmefs.specs.Ends.{drill_status, Drilled};
 ghost use Rattle.acmefs.specs.Top.{OfJournal};
 ghost use Rattle.event_laws.specs.Laws.{EventLaws};
-ghost use Rattle.port_laws.specs.Laws.{PortLaws};
+ghost use Rattle.event_laws.specs.PortLaws.{PortLaws};
 
 use crate::outcome::ReplayEnd;
 use crate::status::Status;
 use am_base::Sink;
 use am_drill::{DrillEnd, drill, drill_is_played};
 use core_laws::journals_are_lawful;
-use event_laws::events_are_lawful;
-use port_laws::ports_are_lawful;
+use event_laws::{events_are_lawful, ports_are_lawful};
 use std::alloc::Global;
 
 fn drill_status(end: DrillEnd) -> Status

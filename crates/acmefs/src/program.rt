@@ -6,7 +6,7 @@ ghost use Rattle.acme_core.specs.Laws.{EachIsAnswered};
 ghost use Rattle.acmefs.specs.Top.{OfWords, run};
 ghost use Rattle.am_words.specs.Words.{asks_do, asks_serve};
 ghost use Rattle.event_laws.specs.Laws.{EventLaws};
-ghost use Rattle.port_laws.specs.Laws.{PortLaws};
+ghost use Rattle.event_laws.specs.PortLaws.{PortLaws};
 ghost use Rattle.am_slots.specs.Slots.{outside};
 
 use crate::asked::do_asked;
@@ -14,8 +14,7 @@ use crate::outcome::Outcome;
 use acme_core::messages_are_answered;
 use am_base::{Host, Sink, Source};
 use am_text::Words;
-use event_laws::events_are_lawful;
-use port_laws::ports_are_lawful;
+use event_laws::{events_are_lawful, ports_are_lawful};
 use std::alloc::Global;
 use std::sync::Wait;
 use std::thread::Threads;

@@ -7,13 +7,12 @@ ghost use Rattle.acmefs.specs.Top.{OfJournal};
 ghost use Rattle.am_replay.specs.Ends.{Says};
 ghost use Rattle.am_replay.specs.Own.{PutsOwn};
 ghost use Rattle.event_laws.specs.Laws.{EventLaws};
-ghost use Rattle.port_laws.specs.Laws.{PortLaws};
+ghost use Rattle.event_laws.specs.PortLaws.{PortLaws};
 
 use crate::outcome::{ReplayEnd, status_of};
 use am_base::{Sink, Source};
 use am_replay::replay;
-use event_laws::events_are_lawful;
-use port_laws::ports_are_lawful;
+use event_laws::{events_are_lawful, ports_are_lawful};
 use std::alloc::Global;
 
 /// Replays the transcript that the input gives, and writes a line for each reply and the report.

@@ -7,7 +7,7 @@ ghost use Rattle.acmefs.specs.Ends.{serve_status};
 ghost use Rattle.acmefs.specs.Top.{OfServe, run};
 ghost use Rattle.am_slots.specs.Slots.{outside};
 ghost use Rattle.event_laws.specs.Laws.{EventLaws};
-ghost use Rattle.port_laws.specs.Laws.{PortLaws};
+ghost use Rattle.event_laws.specs.PortLaws.{PortLaws};
 
 use crate::outcome::Outcome;
 use crate::status::Status;
@@ -15,8 +15,7 @@ use am_base::{Host, Sink, Source};
 use am_server::{HostServing, ServeEnd, Serving, serve};
 use am_slots::Site;
 use core_laws::journals_are_lawful;
-use event_laws::events_are_lawful;
-use port_laws::ports_are_lawful;
+use event_laws::{events_are_lawful, ports_are_lawful};
 use std::alloc::Global;
 use std::sync::Wait;
 use std::thread::Threads;

@@ -10,7 +10,7 @@ use Rattle.core_parts.specs.declared.connection.Connection.TheVariants.{Undialed
 use Rattle.core_parts.specs.declared.kind.Kind.{Kind}
 use Rattle.core_parts.specs.declared.kind.Kind.TheVariants as kind
 use Rattle.acme_core.specs.Asks.{answer_at}
-use Rattle.core_views.specs.Asks.{is_ended}
+use Rattle.core_closing.specs.Asks.{is_ended}
 use Rattle.core_intents.specs.Doings.{doing_of}
 use Rattle.core_parts.specs.Kinds.{kind_of}
 use Rattle.core_steps.specs.Replies.{replies_of}

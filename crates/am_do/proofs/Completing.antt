@@ -10,8 +10,8 @@ use Rattle.ninep_client.specs.Asking.{begun}
 use Rattle.ninep_client.specs.Hearing.{Came}
 use Rattle.ninep_client.specs.declared.fault.CallFault.{CallFault}
 use Rattle.ninep_client.specs.declared.fault.CallFault.TheVariants as fault
-use Rattle.do_lines.specs.declared.line.DoLine.{DoLine}
-use Rattle.do_lines.specs.Lines.{lines_from}
+use Rattle.am_do.specs.declared.line.DoLine.{DoLine}
+use Rattle.am_do.specs.Lines.{lines_from}
 use Rattle.am_do.specs.declared.running.DoEnd.{DoEnd}
 use Rattle.am_do.specs.declared.running.DoEnd.TheVariants as end
 use Rattle.am_do.specs.declared.running.Doing.{Doing}

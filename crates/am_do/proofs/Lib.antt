@@ -8,3 +8,5 @@ pub mod Begun
 pub mod Ran
 pub mod Steady
 pub mod Completing
+pub mod Named
+pub mod Read

@@ -4,8 +4,8 @@ use Rattle.std.proofs.lemmas.List.{append-nil}
 use Rattle.am_base.specs.Outside.{BytesTold, PutsFront, HasRisen}
 use Rattle.am_base.specs.Seen.{Seen, seen}
 use Rattle.ninep_client.specs.Asking.{Talk}
-use Rattle.do_lines.specs.declared.line.DoLine.{DoLine}
-use Rattle.do_lines.specs.Lawful.{AreLawful}
+use Rattle.am_do.specs.declared.line.DoLine.{DoLine}
+use Rattle.am_do.specs.Lawful.{AreLawful}
 use Rattle.am_do.specs.declared.stop.Stop.{Stop}
 use Rattle.am_do.specs.Talks.{Got, Value, Lacks, Faulty, Refused, Told, then_got, and_then, gives, line_told, lines_told, begins, told_of}
 use Rattle.am_do.specs.Went.{Ends, Went, StopsFor, Halted}

@@ -5,8 +5,8 @@ use Rattle.am_base.specs.Outside.{BytesTold, untold, AreTold}
 use Rattle.am_base.specs.Stops.{input_limit}
 use Rattle.am_base.specs.Seen.{Seen, given}
 use Rattle.am_text.specs.Lines.{lines_of}
-use Rattle.do_lines.specs.declared.line.DoLine.{DoLine}
-use Rattle.do_lines.specs.Lines.{lines_from}
+use Rattle.am_do.specs.declared.line.DoLine.{DoLine}
+use Rattle.am_do.specs.Lines.{lines_from}
 use Rattle.am_do.specs.declared.running.Doing.{Doing}
 use Rattle.am_do.specs.Ends.{Peer, Lined, Reads, Says}
 

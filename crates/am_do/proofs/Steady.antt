@@ -13,8 +13,8 @@ use Rattle.ninep_cut.proofs.Fronts.{first_is_message, first_and_behind, front_is
 use Rattle.ninep_client.specs.declared.fault.CallFault.{CallFault}
 use Rattle.ninep_client.specs.declared.fault.CallFault.TheVariants as fault
 use Rattle.ninep_client.specs.Alone.{spelled, reply_to}
-use Rattle.do_lines.specs.declared.line.DoLine.{DoLine}
-use Rattle.do_lines.specs.declared.line.DoLine.TheVariants as line
+use Rattle.am_do.specs.declared.line.DoLine.{DoLine}
+use Rattle.am_do.specs.declared.line.DoLine.TheVariants as line
 use Rattle.am_do.specs.Talks.{Got, Value, Lacks, Faulty, Refused, Told, Reply, and_then, then_got, gives, says, refuses, reply_got, front_got, asks}
 use Rattle.am_do.specs.Talks.{ok_line, error_line, read_answer, write_answer, ok_or_error, walked, agreed, attached, after_open, after_walk, after_attach, after_version}
 use Rattle.am_do.specs.Talks.{back_told, open_told, walk_told, read_told, write_told, close_told, line_told, attach_of, attach_told, begins, lines_told, told_of}

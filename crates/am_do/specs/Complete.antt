@@ -4,8 +4,8 @@ use Rattle.am_base.specs.Outside.{HasRisen}
 use Rattle.am_base.specs.Stops.{input_limit}
 use Rattle.am_base.specs.Seen.{Given, Seen}
 use Rattle.am_text.specs.Lines.{lines_of}
-use Rattle.do_lines.specs.declared.line.DoLine.{DoLine}
-use Rattle.do_lines.specs.Lines.{lines_from}
+use Rattle.am_do.specs.declared.line.DoLine.{DoLine}
+use Rattle.am_do.specs.Lines.{lines_from}
 use Rattle.am_do.specs.declared.running.Doing.{Doing}
 use Rattle.am_do.specs.Ends.{Peer}
 use Rattle.am_do.specs.Talks.{Got, Value, Lacks, Faulty, Refused, told_of}

@@ -8,8 +8,8 @@ use Rattle.am_text.specs.Lines.{lines_of}
 use Rattle.am_journal.specs.Texts.{refused_text}
 use Rattle.ninep_client.specs.declared.fault.CallFault.TheVariants as fault
 use Rattle.ninep_client.specs.Asking.{begun}
-use Rattle.do_lines.specs.declared.line.DoLine.{DoLine}
-use Rattle.do_lines.specs.Lines.{lines_from}
+use Rattle.am_do.specs.declared.line.DoLine.{DoLine}
+use Rattle.am_do.specs.Lines.{lines_from}
 use Rattle.am_do.specs.declared.stop.Stop.{Stop}
 use Rattle.am_do.specs.declared.stop.Stop.TheVariants as stop
 use Rattle.am_do.specs.declared.running.DoEnd.{DoEnd}

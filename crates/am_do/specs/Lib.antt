@@ -5,3 +5,7 @@ pub mod Went
 pub mod Written
 pub mod Ends
 pub mod Complete
+pub mod Fields
+pub mod Lines
+pub mod Lawful
+pub mod LineLimits

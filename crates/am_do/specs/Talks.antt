@@ -19,8 +19,8 @@ use Rattle.ninep_cut.specs.Cuts.{cut_of, first_of, behind_first}
 use Rattle.ninep_client.specs.declared.fault.CallFault.{CallFault}
 use Rattle.ninep_client.specs.declared.fault.CallFault.TheVariants as fault
 use Rattle.ninep_client.specs.Alone.{spelled, reply_to}
-use Rattle.do_lines.specs.declared.line.DoLine.{DoLine}
-use Rattle.do_lines.specs.declared.line.DoLine.TheVariants as line
+use Rattle.am_do.specs.declared.line.DoLine.{DoLine}
+use Rattle.am_do.specs.declared.line.DoLine.TheVariants as line
 use Rattle.am_do.specs.Limits.{asked_msize}
 
 -- What came of a part of a talk: a value, with the bytes behind the messages that were read; the next reply isn't there whole; the

@@ -4,16 +4,16 @@ ghost use Rattle.std.specs.Prelude.{◌≡◌, ◌≤◌, OnOk};
 ghost use Rattle.am_base.specs.Seen.{seen};
 ghost use Rattle.ninep_types.specs.Spelling.{IsString};
 ghost use Rattle.ninep_client.specs.Asking.{begun};
-ghost use Rattle.do_lines.specs.Lawful.{AreLawful};
+ghost use Rattle.am_do.specs.Lawful.{AreLawful};
 ghost use Rattle.am_do.specs.Talks.{lines_told, told_of};
 ghost use Rattle.am_do.specs.Written.{Put, Comes};
 ghost use Rattle.am_do.specs.Went.{IsReady, ends};
 
+use crate::DoLines;
 use crate::beginning::begin;
 use crate::opening::do_line;
 use crate::stop::Stop;
 use am_base::{Sink, Source, write_all};
-use do_lines::DoLines;
 use ninep_client::Client;
 use std::alloc::Global;
 

@@ -2,18 +2,18 @@
 
 ghost use Rattle.std.specs.Prelude.{◌≡◌, ◌≤◌, [], length, IfOk, IfErr, OnOk};
 ghost use Rattle.ninep_types.specs.Spelling.{AreNames};
-ghost use Rattle.do_lines.specs.Limits.{most_bytes};
-ghost use Rattle.do_lines.specs.Lawful.{IsLawful};
+ghost use Rattle.am_do.specs.LineLimits.{most_bytes};
+ghost use Rattle.am_do.specs.Lawful.{IsLawful};
 ghost use Rattle.am_do.specs.Sorting.{said_as};
 ghost use Rattle.am_do.specs.Talks.{line_told, back_told, open_told, walk_told, read_told, write_told, close_told};
 ghost use Rattle.am_do.specs.Went.{IsReady, Went, Halted, ends};
 
+use crate::DoLine;
 use crate::answers::{error_line, ok_line, ok_or_error, read_answer, walked, write_answer};
 use crate::asking::ask;
 use crate::stop::Stop;
 use am_base::{Sink, Source};
 use am_text::{Bytes, Names, NoMemory};
-use do_lines::DoLine;
 use ninep_client::{CallFault, Client, TBody};
 use std::alloc::Global;
 

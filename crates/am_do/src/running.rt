@@ -5,16 +5,16 @@ ghost use Rattle.am_base.specs.Outside.{untold};
 ghost use Rattle.am_base.specs.Seen.{given, seen};
 ghost use Rattle.ninep_types.specs.Spelling.{IsString};
 ghost use Rattle.am_do.specs.Ends.{Says, Reads, Dials, TalksOver, Refuses, end_at, peer};
-ghost use Rattle.do_lines.specs.Lines.{lines_from};
-ghost use Rattle.do_lines.specs.Lawful.{AreLawful};
+ghost use Rattle.am_do.specs.Lines.{lines_from};
+ghost use Rattle.am_do.specs.Lawful.{AreLawful};
 ghost use Rattle.am_text.specs.Lines.{lines_of};
 
 use crate::doing::{Done, do_lines};
 use crate::stop::Stop;
+use crate::{DoLines, LinesFault, read_do_lines};
 use am_base::{Gate, Host, INPUT_LIMIT, Link, ReadStop, Sink, Source, read_to_end, write_all};
 use am_journal::refused_line;
 use am_text::NoMemory;
-use do_lines::{DoLines, LinesFault, read_do_lines};
 use ninep_client::{CallFault, Client};
 use std::alloc::Global;
 

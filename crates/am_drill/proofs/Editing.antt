@@ -18,7 +18,7 @@ use Rattle.core_windows.specs.declared.change.Change.TheVariants as change
 use Rattle.core_windows.specs.Windows.{Window}
 use Rattle.core_windows.specs.declared.change.Setting.TheVariants as setting
 use Rattle.core_windows.specs.Stories.{WindowStory, shown_windows, edited_story, set_story}
-use Rattle.core_items.specs.NewItems.{plain_item, put_item, items_of_edits}
+use Rattle.core_scene.specs.NewItems.{plain_item, put_item, items_of_edits}
 use Rattle.core_fids.specs.declared.refusal.Refusal.TheVariants as refusal
 use Rattle.core_answers.specs.Erring.{appends, fits_in}
 use Rattle.core_fids.specs.Fids.{fid_with_part}
@@ -29,7 +29,7 @@ use Rattle.core_scene.specs.declared.deed.WindowItem.{WindowItem}
 use Rattle.core_scene.specs.Scenes.{no_scene}
 use Rattle.core_scene.specs.Told.{of_window}
 use Rattle.core_events.specs.Putting.{put_all, put_living, ending}
-use Rattle.core_ports.specs.Serving.{served_most as port_served_most, after_serving_most}
+use Rattle.core_events.specs.PortServing.{served_most as port_served_most, after_serving_most}
 use Rattle.core_events.specs.Serving.{served_most, book_served_most, served_all, book_served_all}
 use Rattle.core_events.specs.Waits.{ended}
 use Rattle.event_book.specs.Lives.{fresh}

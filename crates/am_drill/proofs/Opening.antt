@@ -24,7 +24,7 @@ use Rattle.event_book.specs.BookState.{BookState, empty_book}
 use Rattle.core_scene.specs.Scenes.{no_scene}
 use Rattle.plumb_ports.specs.PortList.{names_of}
 use Rattle.plumb_ports.specs.PortsState.{beginning}
-use Rattle.core_ports.specs.Serving.{served_most as port_served_most, after_serving_most}
+use Rattle.core_events.specs.PortServing.{served_most as port_served_most, after_serving_most}
 use Rattle.core_events.specs.Serving.{served_most, book_served_most}
 use Rattle.core_windows.specs.Stories.{WindowStory, named_story, shown_windows}
 use Rattle.core_windows.specs.Windows.{world_of}

@@ -20,7 +20,7 @@ use Rattle.wait_queue.specs.declared.types.Asked.TheVariants.{Now, Waits}
 use Rattle.wait_queue.specs.declared.types.Piece.{Piece}
 use Rattle.core_scene.specs.Scenes.{no_scene}
 use Rattle.core_events.specs.declared.response.Response.{Response}
-use Rattle.core_ports.specs.Serving.{served_most as port_served_most, after_serving_most}
+use Rattle.core_events.specs.PortServing.{served_most as port_served_most, after_serving_most}
 use Rattle.core_events.specs.Serving.{served_most, book_served_most, served_all, book_served_all}
 use Rattle.core_events.proofs.Turns.{all_none, book_all_none}
 use Rattle.core_events.specs.Asking.{said_to, waits_unless, book_asked}

@@ -7,3 +7,5 @@ pub mod OwnText
 pub mod RoundTrip
 pub mod PackBack
 pub mod Idle
+pub mod Packings
+pub mod Ended

@@ -17,9 +17,9 @@ use Rattle.ninep_trace.specs.Reading.{line_of}
 use Rattle.ninep_trace.specs.Words.{event_words, line_words, words_r, IsWorded}
 use Rattle.ninep_trace.proofs.LineLaws.{words-again}
 use Rattle.ninep_trace.proofs.OneLine.{words_in_lines, words_no_report}
-use Rattle.am_pack.specs.declared.packing.Packing.{Packing}
-use Rattle.am_pack.specs.Packing.{all_of, pack, pack_line, pack_limit, packing_of}
-use Rattle.am_pack.proofs.Packings.{short_text}
+use Rattle.am_replay.specs.declared.packing.Packing.{Packing}
+use Rattle.am_replay.specs.Packing.{all_of, pack, pack_line, pack_limit, packing_of}
+use Rattle.am_replay.proofs.Packings.{short_text}
 use Rattle.core_outputs.specs.declared.reply.Reply.{Reply}
 use Rattle.acme_core.specs.Run.{step}
 use Rattle.core_parts.specs.States.{State, start}

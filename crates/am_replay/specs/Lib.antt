@@ -4,3 +4,5 @@ pub mod Playing
 pub mod Ends
 pub mod Own
 pub mod Traces
+pub mod Packing
+pub mod PackEnds

@@ -14,7 +14,7 @@ use Rattle.ninep_trace.specs.Words.{event_words, words_r, IsReply, IsReplyInRang
 use Rattle.core_outputs.specs.declared.reply.Reply.{Reply}
 use Rattle.acme_core.specs.Run.{step}
 use Rattle.core_parts.specs.States.{State, start}
-use Rattle.am_pack.specs.Packing.{all_of, pack_limit, packed_text, packing_of}
+use Rattle.am_replay.specs.Packing.{all_of, pack_limit, packed_text, packing_of}
 use Rattle.am_text.specs.Ascii.{newline}
 use Rattle.am_replay.specs.declared.replaying.End.{End}
 use Rattle.am_replay.specs.declared.replaying.End.TheVariants.{Done, Usage, Script, ReadFault, WriteFault, NoMemory}

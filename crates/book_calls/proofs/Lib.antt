@@ -6,3 +6,6 @@ pub mod Takes
 pub mod Entries
 pub mod Rests
 pub mod Trails
+pub mod PortSteps
+pub mod Runs
+pub mod PortTrails

@@ -1,2 +1,4 @@
 pub mod Calls
 pub mod Laws
+pub mod PortCalls
+pub mod PortLaws

@@ -7,7 +7,7 @@ use Rattle.core_scene.specs.Scenes.{deleted_by}
 use Rattle.core_events.specs.declared.response.Response.{Response}
 use Rattle.core_events.specs.Closing.{written_back, freed, cancelled, closed_with, without_fids}
 use Rattle.core_events.specs.Waits.{ended, without_cancelled}
-use Rattle.core_ports.specs.Closing.{ports_freed, ports_cancelled, ports_without_fids}
+use Rattle.core_events.specs.PortClosing.{ports_freed, ports_cancelled, ports_without_fids}
 use Rattle.core_parts.specs.declared.kind.Kind.{Kind}
 use Rattle.core_parts.specs.declared.kind.Kind.TheVariants as kind
 use Rattle.core_parts.specs.Connections.{ended_with}

@@ -3,15 +3,17 @@
 ghost use Rattle.std.specs.Prelude.{◌≡◌};
 ghost use Rattle.am_text.specs.Twice.{both, IsSteady};
 ghost use Rattle.core_events.specs.Sound.{IsSound};
-ghost use Rattle.core_ports.specs.Sound.{ArePortsSound};
+ghost use Rattle.core_events.specs.PortSound.{ArePortsSound};
 ghost use Rattle.core_scene.specs.Scenes.{deleted_by};
 ghost use Rattle.core_parts.specs.Doing.{Doing};
 ghost use Rattle.core_closing.specs.Closing.{left_book, closed_book, left_ports};
 
 use crate::prepared::Prepared;
-use core_events::{Book, cancel_read, close_events, free_fids, free_openings, write_back};
+use core_events::{
+    Book, Ports, cancel_port_read, cancel_read, close_events, free_fids, free_openings,
+    free_port_fids, free_port_openings, write_back,
+};
 use core_parts::Kind;
-use core_ports::{Ports, cancel_port_read, free_port_fids, free_port_openings};
 use fid_table::Sessions;
 
 // Closes the openings of the fids that an event of this kind frees, and drops a read that it cancels.

@@ -1,13 +1,17 @@
 //! What a step ends: connections, their sessions and fids, openings of event files and ports, waiting reads that were answered, and
-//! replies that are taken.
+//! replies that are taken; and what the report tells of the editor, with answers to what is asked of it.
 #![tactic(auto)]
 
+mod asking;
 mod closing;
 mod connections;
 mod prepared;
 mod replies;
+mod view;
 
+pub use asking::answer;
 pub use closing::{change_book, change_ports};
 pub use connections::{change_connections, change_sessions};
 pub use prepared::Prepared;
 pub use replies::take_replies;
+pub use view::view_of;

@@ -3,7 +3,7 @@ use Rattle.std.specs.Prelude.{◌≡◌, ℕ, ◌+◌, ◌-◌, List, [], ◌∷
 use Rattle.edit_log.specs.declared.types.Edit.{Edit}
 use Rattle.edit_log.specs.Edited.{text_after}
 use Rattle.edit_parts.specs.Tree.{Command}
-use Rattle.edit_trees.specs.Edits.{small_edit}
+use Rattle.sam_syntax.specs.Edits.{small_edit}
 use Rattle.edit_run.specs.declared.fault.EditFault.{EditFault}
 use Rattle.edit_run.specs.declared.types.EditPlan.{EditPlan}
 use Rattle.edit_run.specs.declared.types.Site.{Site}

@@ -12,7 +12,7 @@ use am_text::{Letters, NoMemory, Rune, Runes};
 use core_scene::Windows;
 use core_windows::Pane;
 use edit_run::{Cmd, Edit, EditPlan, Site, changes};
-use edit_trees::read_edit;
+use sam_syntax::read_edit;
 use std::alloc::Global;
 use win_text::{BODY_RUNES, Body};
 

@@ -4,3 +4,7 @@ pub mod Saids
 pub mod Endings
 pub mod Turns
 pub mod Idles
+pub mod PortSounds
+pub mod PortTurns
+pub mod PortIdles
+pub mod Ends

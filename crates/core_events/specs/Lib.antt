@@ -6,3 +6,7 @@ pub mod Putting
 pub mod Serving
 pub mod Closing
 pub mod Sound
+pub mod PortAsking
+pub mod PortServing
+pub mod PortClosing
+pub mod PortSound

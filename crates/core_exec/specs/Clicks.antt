@@ -9,7 +9,7 @@ use Rattle.acme_cmd.specs.declared.expansion.Click.{Click}
 use Rattle.am_journal.specs.declared.event.Side.{Side}
 use Rattle.am_journal.specs.declared.event.Side.TheVariants as side
 use Rattle.am_text.specs.declared.range.Range.{Range}
-use Rattle.core_items.specs.NewItems.{tag_with}
+use Rattle.core_scene.specs.NewItems.{tag_with}
 use Rattle.core_windows.specs.Windows.{Window, window_at}
 use Rattle.core_actions.specs.Seen.{name_of}
 use Rattle.win_text.specs.Bodies.{IsInside}

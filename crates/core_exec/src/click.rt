@@ -1,7 +1,7 @@
 //! What clicks on texts of windows stand for.
 
 ghost use Rattle.std.specs.Prelude.{◌≡◌, [], Some, None, IfSome, IfOk};
-ghost use Rattle.core_items.specs.NewItems.{tag_with};
+ghost use Rattle.core_scene.specs.NewItems.{tag_with};
 ghost use Rattle.win_text.specs.Bodies.{IsInside};
 ghost use Rattle.core_windows.specs.Panes.{window_of};
 ghost use Rattle.core_windows.specs.Windows.{window_at};

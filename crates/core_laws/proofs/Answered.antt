@@ -42,10 +42,10 @@ use Rattle.core_events.specs.Putting.{put_living}
 use Rattle.core_events.specs.Serving.{served_all}
 use Rattle.core_events.specs.Responses.{event_feed, port_feed}
 use Rattle.plumb_ports.specs.PortsState.{PortsState, read_waits as port_waits, piece_for as port_piece}
-use Rattle.core_ports.specs.Asking.{read_refusal, said_unless, port_said, ports_read}
-use Rattle.core_ports.specs.Serving.{ports_served}
-use Rattle.core_ports.specs.Sound.{ArePortsIdle}
-use Rattle.core_ports.proofs.Idles.{none_said, idle_read}
+use Rattle.core_events.specs.PortAsking.{read_refusal, said_unless, port_said, ports_read}
+use Rattle.core_events.specs.PortServing.{ports_served}
+use Rattle.core_events.specs.PortSound.{ArePortsIdle}
+use Rattle.core_events.proofs.PortIdles.{none_said, idle_read}
 use Rattle.core_events.specs.Waits.{clunked, deletions, ended}
 use Rattle.core_events.proofs.Idles.{AreIdle, read_idle, idle_for, idle_end}
 use Rattle.core_tasks.specs.Tasks.{task_deeds, task_refusal}

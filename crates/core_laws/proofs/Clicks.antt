@@ -37,9 +37,9 @@ use Rattle.core_closing.specs.Closing.{left_unsent}
 use Rattle.core_parts.specs.States.{State, present, start, next_entry}
 use Rattle.plumb_ports.specs.PortsState.{PortsState}
 use Rattle.core_events.specs.declared.response.Response.{Response}
-use Rattle.core_ports.specs.Serving.{ports_served, ports_after_serving}
-use Rattle.core_ports.specs.Sound.{ArePortsIdle}
-use Rattle.core_ports.proofs.Idles.{none_said, none_taken}
+use Rattle.core_events.specs.PortServing.{ports_served, ports_after_serving}
+use Rattle.core_events.specs.PortSound.{ArePortsIdle}
+use Rattle.core_events.proofs.PortIdles.{none_said, none_taken}
 use Rattle.acme_core.proofs.Goes.{run-push}
 use Rattle.acme_core.proofs.Idling.{ports_idle_after}
 use Rattle.core_laws.specs.Laws.{OnlyTells, ClicksAreTold}

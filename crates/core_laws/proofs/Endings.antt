@@ -19,7 +19,7 @@ use Rattle.core_fids.specs.declared.refusal.Refusal.TheVariants as refusal
 use Rattle.core_events.specs.declared.response.Response.{Response}
 use Rattle.core_events.specs.Closing.{freed, cancelled, opening_in}
 use Rattle.core_events.specs.Waits.{is_of_fid, clunked, ended, without_cancelled}
-use Rattle.core_ports.specs.Closing.{ports_freed, ports_cancelled, opening_in as port_in}
+use Rattle.core_events.specs.PortClosing.{ports_freed, ports_cancelled, opening_in as port_in}
 use Rattle.core_parts.specs.declared.kind.Kind.{Kind}
 use Rattle.core_parts.specs.declared.kind.Kind.TheVariants as kind
 use Rattle.core_parts.specs.Connections.{ended_with}

@@ -14,7 +14,7 @@ use Rattle.am_counter.specs.Sent.{sent, sent_from}
 use Rattle.core_events.specs.declared.response.Response.{Response}
 use Rattle.core_parts.specs.declared.connection.Connection.{Connection}
 use Rattle.core_parts.specs.declared.connection.Connection.TheVariants.{Undialed, Live, Ended}
-use Rattle.core_views.specs.Asks.{is_ended}
+use Rattle.core_closing.specs.Asks.{is_ended}
 use Rattle.core_parts.specs.Connections.{connection_at, is_live}
 use Rattle.core_parts.specs.declared.kind.Kind.{Kind}
 use Rattle.core_parts.specs.declared.kind.Kind.TheVariants as kind

@@ -36,7 +36,7 @@ use Rattle.core_fids.specs.declared.refusal.Refusal.TheVariants as refusal
 use Rattle.core_fids.specs.Refusals.{refusal_text}
 use Rattle.core_events.specs.Asking.{opened, reads_are_full, said_to, book_asked, read_said, book_read}
 use Rattle.core_events.specs.Waits.{is_of_window, deletions}
-use Rattle.core_ports.specs.Asking.{next_opening, can_join, joined_with, read_refusal, said_unless, read_unless, port_said, ports_read}
+use Rattle.core_events.specs.PortAsking.{next_opening, can_join, joined_with, read_refusal, said_unless, read_unless, port_said, ports_read}
 use Rattle.core_laws.specs.Waits.{told}
 use Rattle.core_laws.proofs.Lists.{IsIn}
 use Rattle.core_laws.proofs.Zips.{HasWaiting, asker_waits}

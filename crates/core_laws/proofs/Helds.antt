@@ -16,8 +16,8 @@ use Rattle.core_fids.specs.declared.effect.Effect.TheVariants as effect
 use Rattle.core_events.specs.declared.response.Response.{Response}
 use Rattle.core_events.specs.Asking.{read_said}
 use Rattle.core_events.specs.Waits.{ended}
-use Rattle.core_ports.specs.Asking.{port_said}
-use Rattle.core_ports.specs.Closing.{opening_in, ports_freed, ports_without_fids}
+use Rattle.core_events.specs.PortAsking.{port_said}
+use Rattle.core_events.specs.PortClosing.{opening_in, ports_freed, ports_without_fids}
 use Rattle.core_parts.specs.declared.kind.Kind.{Kind}
 use Rattle.core_parts.specs.declared.kind.Kind.TheVariants as kind
 use Rattle.core_parts.specs.Connections.{grown_with, ended_with}

@@ -7,8 +7,8 @@ use Rattle.am_counter.specs.Played.{ArePlayed}
 use Rattle.core_events.specs.Putting.{put_living}
 use Rattle.core_events.specs.Serving.{served_all}
 use Rattle.core_events.specs.declared.response.Response.{Response}
-use Rattle.core_ports.specs.Serving.{ports_served}
-use Rattle.core_ports.proofs.Idles.{none_said}
+use Rattle.core_events.specs.PortServing.{ports_served}
+use Rattle.core_events.proofs.PortIdles.{none_said}
 use Rattle.acme_core.specs.Run.{step, run, enabled}
 use Rattle.core_parts.specs.States.{State, start}
 use Rattle.acme_core.proofs.Idling.{idle_after, ports_idle_after}

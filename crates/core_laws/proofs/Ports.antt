@@ -25,9 +25,9 @@ use Rattle.core_fids.specs.declared.effect.EventChange.{EventChange}
 use Rattle.core_fids.specs.declared.effect.EventChange.TheVariants as events
 use Rattle.core_fids.specs.declared.refusal.Refusal.{Refusal}
 use Rattle.core_events.specs.declared.response.Response.{Response}
-use Rattle.core_ports.specs.Asking.{next_opening, can_join, joined_with, read_refusal, read_unless, ports_read}
-use Rattle.core_ports.specs.Closing.{without_opening, without_fid, ports_without_fids, opening_in, ports_freed, ports_cancelled}
-use Rattle.core_ports.specs.Serving.{then_served, served_most, after_serving_most, ports_served, ports_after_serving}
+use Rattle.core_events.specs.PortAsking.{next_opening, can_join, joined_with, read_refusal, read_unless, ports_read}
+use Rattle.core_events.specs.PortClosing.{without_opening, without_fid, ports_without_fids, opening_in, ports_freed, ports_cancelled}
+use Rattle.core_events.specs.PortServing.{then_served, served_most, after_serving_most, ports_served, ports_after_serving}
 use Rattle.core_steps.specs.PortReads.{port_response}
 use Rattle.core_laws.proofs.Books.{all_without_first}
 

@@ -18,8 +18,8 @@ use Rattle.core_parts.specs.Connections.{grown_with, ended_with}
 use Rattle.core_parts.specs.declared.kind.Kind.{Kind}
 use Rattle.core_parts.specs.declared.kind.Kind.TheVariants as kind
 use Rattle.plumb_ports.specs.PortsState.{PortsState}
-use Rattle.core_ports.specs.Asking.{port_said}
-use Rattle.core_ports.specs.Closing.{ports_freed}
+use Rattle.core_events.specs.PortAsking.{port_said}
+use Rattle.core_events.specs.PortClosing.{ports_freed}
 use Rattle.core_steps.specs.PortReads.{port_read_in, port_read_of, asked_tables, asked_ports}
 use Rattle.core_laws.proofs.Ports.{read_reads, joined_reads, acted_reads, served_reads, cancelled_reads, freed_reads, without_fids_reads}
 use Rattle.core_intents.specs.Doings.{doing_of, entry_of}

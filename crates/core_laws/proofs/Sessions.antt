@@ -42,8 +42,8 @@ use Rattle.core_tasks.specs.Tasks.{task_deeds, task_refusal}
 use Rattle.core_laws.proofs.Playing.{silent_after}
 use Rattle.plumb_ports.specs.PortsState.{PortsState}
 use Rattle.core_fids.specs.Plumbers.{Plumber, plumber_of}
-use Rattle.core_ports.specs.Asking.{port_said}
-use Rattle.core_ports.specs.Serving.{ports_served}
+use Rattle.core_events.specs.PortAsking.{port_said}
+use Rattle.core_events.specs.PortServing.{ports_served}
 use Rattle.core_steps.specs.PortReads.{port_read_in, asked_tables}
 use Rattle.win_events.specs.declared.item.Origin.{Origin}
 use Rattle.core_intents.specs.Doings.{message_doing, doing_of}

@@ -27,9 +27,9 @@ use Rattle.core_events.specs.Responses.{errors}
 use Rattle.core_events.specs.Serving.{then_served, served_most, book_served_most}
 use Rattle.core_events.specs.Waits.{is_of_window, deletions, ended}
 use Rattle.core_events.proofs.Turns.{book_none_more}
-use Rattle.core_ports.specs.Closing.{without_opening as without_port, without_fid as without_port_fid}
-use Rattle.core_ports.specs.Serving.{then_served as then_port, served_most as served_ports, after_serving_most}
-use Rattle.core_ports.proofs.Turns.{after_none_more}
+use Rattle.core_events.specs.PortClosing.{without_opening as without_port, without_fid as without_port_fid}
+use Rattle.core_events.specs.PortServing.{then_served as then_port, served_most as served_ports, after_serving_most}
+use Rattle.core_events.proofs.PortTurns.{after_none_more}
 use Rattle.core_laws.specs.Waits.{AreApart}
 use Rattle.core_laws.proofs.Books.{IsBook, book_without}
 use Rattle.core_laws.proofs.Lists.{without, without_both, without_none, IsIn, any_in}

@@ -28,8 +28,8 @@ use Rattle.core_parts.specs.Kinds.{conn_of}
 use Rattle.core_steps.specs.Stages.{asker_of, if_said, answer_said, message_said, acted, with_fid, read_tables, read_book, put_book, open_ports, said}
 use Rattle.core_parts.specs.States.{Present, next_entry}
 use Rattle.plumb_ports.specs.PortsState.{PortsState}
-use Rattle.core_ports.specs.Asking.{port_said}
-use Rattle.core_ports.specs.Serving.{ports_served}
+use Rattle.core_events.specs.PortAsking.{port_said}
+use Rattle.core_events.specs.PortServing.{ports_served}
 use Rattle.core_steps.specs.PortReads.{port_read_in, port_read_of, if_port_said, asked_said}
 use Rattle.core_laws.proofs.Books.{IsBook, book_opened, book_put_living, book_serve}
 use Rattle.core_laws.proofs.Ports.{served_said}

@@ -49,9 +49,9 @@ use Rattle.core_events.specs.declared.response.Response.{Response}
 use Rattle.core_events.specs.Asking.{opened, read_said, book_read, waits_unless}
 use Rattle.core_events.specs.Responses.{feed_of, feed_in, feed_at}
 use Rattle.core_events.specs.Waits.{clunked, deletions}
-use Rattle.core_ports.specs.Asking.{joined_with, port_said, ports_read}
-use Rattle.core_ports.specs.Closing.{without_opening, without_fid, ports_freed, ports_cancelled, opening_in}
-use Rattle.core_ports.specs.Serving.{after_serving_most}
+use Rattle.core_events.specs.PortAsking.{joined_with, port_said, ports_read}
+use Rattle.core_events.specs.PortClosing.{without_opening, without_fid, ports_freed, ports_cancelled, opening_in}
+use Rattle.core_events.specs.PortServing.{after_serving_most}
 use Rattle.core_tasks.specs.Tasks.{task_deeds}
 use Rattle.core_parts.specs.declared.kind.Kind.{Kind}
 use Rattle.core_parts.specs.declared.kind.Kind.TheVariants as kind

@@ -18,7 +18,7 @@ use Rattle.core_events.specs.Closing.{written_back}
 use Rattle.core_events.specs.Putting.{ending}
 use Rattle.core_events.specs.Serving.{served_all, book_served_all}
 use Rattle.core_events.specs.Waits.{clunked, deletions}
-use Rattle.core_ports.specs.Serving.{ports_served}
+use Rattle.core_events.specs.PortServing.{ports_served}
 use Rattle.core_parts.specs.declared.kind.Kind.{Kind}
 use Rattle.core_parts.specs.declared.kind.Kind.TheVariants as kind
 use Rattle.core_parts.specs.Doing.{Doing}

@@ -57,7 +57,7 @@ use Rattle.core_laws.proofs.Fids.{AllFids, no_fids, fids_weaker, fids_at, IsHeld
 use Rattle.plumb_ports.specs.PortsState.{PortsState}
 use Rattle.core_fids.specs.Fids.{at_event, event_opening, port_opening}
 use Rattle.core_fids.specs.Plumbers.{plumber_of}
-use Rattle.core_ports.specs.Asking.{port_said}
+use Rattle.core_events.specs.PortAsking.{port_said}
 use Rattle.core_windows.specs.Windows.{world_of}
 use Rattle.core_intents.specs.Intents.{held_or, with_held}
 use Rattle.core_steps.specs.PortReads.{port_read_in, asked_tables}

@@ -17,7 +17,7 @@ use Rattle.core_events.specs.declared.response.Feed.{Feed}
 use Rattle.core_events.specs.declared.response.Response.{Response}
 use Rattle.core_events.specs.Responses.{event_feed, port_feed}
 use Rattle.core_events.specs.Asking.{read_said}
-use Rattle.core_ports.specs.Asking.{port_said}
+use Rattle.core_events.specs.PortAsking.{port_said}
 use Rattle.core_intents.specs.Doings.{doing_of}
 use Rattle.acme_core.specs.Run.{run, present_after}
 use Rattle.core_steps.specs.Stages.{response, asker_of}

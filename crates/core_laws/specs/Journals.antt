@@ -9,7 +9,7 @@ use Rattle.win_text.specs.BodyStories.{BodyStory, story_text, range_now, limit_n
 use Rattle.core_windows.specs.Stories.{WindowStory, story_at, AreLawful}
 use Rattle.core_windows.specs.WindowLaws.{AreNumbered}
 use Rattle.core_events.specs.Sound.{IsIdle}
-use Rattle.core_ports.specs.Sound.{ArePortsIdle}
+use Rattle.core_events.specs.PortSound.{ArePortsIdle}
 use Rattle.acme_core.specs.Run.{enabled, run, output_at, IsPossible}
 use Rattle.am_journal.specs.Limits.{connection_count}
 use Rattle.core_laws.specs.Replies.{replies}

@@ -14,7 +14,7 @@ use Rattle.core_fids.specs.Fids.{is_there}
 use Rattle.core_events.specs.declared.response.Response.{Response}
 use Rattle.core_events.specs.Serving.{served_all, book_served_all}
 use Rattle.core_events.specs.Sound.{IsIdle}
-use Rattle.core_ports.specs.Sound.{ArePortsIdle}
+use Rattle.core_events.specs.PortSound.{ArePortsIdle}
 use Rattle.core_events.specs.declared.closing.BackItem.{BackItem}
 use Rattle.core_intents.specs.Doings.{doing_of}
 use Rattle.acme_core.specs.Run.{run, present_after, enabled, output_at}

@@ -11,8 +11,8 @@ use Rattle.rule_syntax.specs.Verbs.{is_port_name}
 use Rattle.rule_syntax.specs.declared.fault.RuleFault.{RuleFault}
 use Rattle.rule_syntax.specs.declared.rule.Rule.{Rule}
 use Rattle.rule_syntax.specs.declared.rule.Var.{Var}
-use Rattle.rule_texts.specs.Cutting.{sets_end, whole_sets, begun_set}
-use Rattle.rule_texts.specs.Naming.{ports_of}
+use Rattle.rule_syntax.specs.Cutting.{sets_end, whole_sets, begun_set}
+use Rattle.rule_syntax.specs.Naming.{ports_of}
 use Rattle.plumb_ports.specs.PortList.{Port, named, number_of, is_there, with_name}
 use Rattle.core_stores.specs.Stores.{RuleState, added, has_room}
 use Rattle.core_scene.specs.declared.deed.Entry.{Entry}

@@ -1,2 +1,4 @@
 pub mod Named
 pub mod Added
+pub mod Cutting
+pub mod Rest

@@ -6,7 +6,7 @@ use Rattle.rule_syntax.specs.declared.fault.RuleFault.{RuleFault}
 use Rattle.rule_syntax.specs.declared.fault.RuleFault.TheVariants as fault
 use Rattle.rule_syntax.specs.declared.rule.Rule.{Rule}
 use Rattle.rule_syntax.specs.declared.rule.Var.{Var}
-use Rattle.rule_texts.specs.Naming.{ports_of}
+use Rattle.rule_syntax.specs.Naming.{ports_of}
 use Rattle.core_stores.specs.Stores.{has_room}
 use Rattle.core_scene.specs.declared.deed.Deed.{Deed}
 use Rattle.core_scene.specs.declared.deed.Deed.TheVariants as deed

@@ -1,6 +1,6 @@
 -- What is written to the plumber's file `rules`, after plumber(4).
 use Rattle.std.specs.Prelude.{ℕ, ◌==◌, List, [], ◌∷◌, length, Option, Some, None, if◌then◌else◌}
-use Rattle.rule_texts.specs.Cutting.{whole_sets, begun_set}
+use Rattle.rule_syntax.specs.Cutting.{whole_sets, begun_set}
 use Rattle.core_scene.specs.declared.deed.Deed.{Deed}
 use Rattle.core_scene.specs.declared.deed.Deed.TheVariants as deed
 use Rattle.core_scene.specs.Scenes.{SceneState}

@@ -3,7 +3,7 @@
 ghost use Rattle.std.specs.Prelude.{◌≡◌, ◌≤◌, true, length, IfOk, OnOk};
 ghost use Rattle.std.specs.List.{list_all};
 ghost use Rattle.rule_syntax.specs.Verbs.{is_port_name};
-ghost use Rattle.rule_texts.specs.Naming as naming;
+ghost use Rattle.rule_syntax.specs.Naming as naming;
 ghost use Rattle.core_scene.specs.Scenes.{scene_of, kept_of, Did};
 ghost use Rattle.core_rules.specs.NewNames.{new_names};
 ghost use Rattle.core_rules.specs.Adding.{set_deeds, fits, names_added, sets_added, adds};
@@ -13,8 +13,7 @@ use crate::refusal::RulesRefusal;
 use am_text::{Bytes, NoMemory};
 use core_scene::{Deed, Deeds, Entry, RuleSets, Scene, Vars};
 use plumb_ports::MAX_PORTS;
-use rule_syntax::RuleFault;
-use rule_texts::{names_are_ports, ports_of};
+use rule_syntax::{RuleFault, names_are_ports, ports_of};
 use std::alloc::Global;
 
 /// Text that is to be added, and how many bytes count as held with it.

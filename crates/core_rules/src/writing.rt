@@ -8,7 +8,7 @@ use crate::adding::{Written, add};
 use crate::refusal::RulesRefusal;
 use am_text::NoMemory;
 use core_scene::{Deed, Entry, Scene};
-use rule_texts::sets_end;
+use rule_syntax::sets_end;
 use std::alloc::Global;
 
 /// Adds the whole sets of a text: what a fid of `rules` holds, with the bytes that are now written to it. A set ends at a

@@ -12,7 +12,7 @@ use Rattle.plumb_ports.specs.PortsState.{PortsState, beginning, after_add, refus
 use Rattle.core_windows.specs.Windows.{Window, changed}
 use Rattle.core_windows.specs.declared.change.Change.{Change}
 use Rattle.core_windows.specs.Possible.{CanChange}
-use Rattle.core_items.specs.NewItems.{items_of}
+use Rattle.core_scene.specs.NewItems.{items_of}
 use Rattle.plumb_ports.specs.Limits.{max_ports}
 use Rattle.core_scene.specs.declared.deed.WindowItem.{WindowItem}
 use Rattle.core_scene.specs.declared.deed.Entry.{Entry}

@@ -1,11 +1,16 @@
 //! What a step is made of: deeds, done one after another to one scene: the windows, the event files, the tree of files, the
-//! snarfed text, the requests, and the rules and ports of the plumber.
+//! snarfed text, the requests, and the rules and ports of the plumber; and the items that a change of the windows makes.
 #![tactic(auto)]
 
 mod changing;
 mod deed;
+mod edits;
 mod laws;
+mod making;
+mod plain;
 mod scene;
+mod size;
+mod tags;
 mod told;
 
 pub use am_text::{Bytes, Items, Job, JobKind, NoMemory, Runes};
@@ -15,7 +20,9 @@ pub use core_windows::{Change, Changes, Setting, Windows, World};
 pub use deed::{Deed, Deeds, Entry, WindowItem, WindowItems};
 pub use event_book::Book;
 pub use laws::{deeds_join, deeds_show};
+pub use making::items_of;
 pub use name_tree::{Found, Tree};
+pub use plain::NewItems;
 pub use plumb_ports::Ports;
 pub use rule_syntax::{RuleSets, Vars};
 pub use scene::Scene;

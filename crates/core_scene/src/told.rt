@@ -2,12 +2,12 @@
 
 ghost use Rattle.std.specs.Prelude.{◌≡◌, ◌++◌, ◌∷◌, [], map, OnOk};
 ghost use Rattle.std.specs.Option.{option_to_list};
-ghost use Rattle.core_items.specs.NewItems.{items_of};
+ghost use Rattle.core_scene.specs.NewItems.{items_of};
 ghost use Rattle.core_scene.specs.Told.{of_window, told_in, told_if_any, teller_of, deletes};
 
 use crate::deed::{WindowItem, WindowItems};
+use crate::{NewItems, items_of};
 use am_text::{Ids, NoMemory};
-use core_items::{NewItems, items_of};
 use core_windows::{Change, Windows};
 use event_book::Book;
 use std::alloc::Global;

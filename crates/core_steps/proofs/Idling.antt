@@ -20,9 +20,9 @@ use Rattle.core_events.specs.Sound.{IsSound, IsIdle}
 use Rattle.core_events.proofs.Idles.{AreIdle, IsKept, read_idle, open_idle, living_kept, written_idle, served_idle, ending_idle, all_freed_idle, freed_idle, cancelled_idle, closed_idle, idle_for, idle_from, idle_end}
 use Rattle.core_events.proofs.Turns.{all_none, book_all_none}
 use Rattle.plumb_ports.specs.PortsState.{PortsState}
-use Rattle.core_ports.specs.Closing.{ports_freed}
-use Rattle.core_ports.specs.Sound.{ArePortsIdle}
-use Rattle.core_ports.proofs.Idles.{idle_served, idle_freed, idle_cancelled, idle_without_fids}
+use Rattle.core_events.specs.PortClosing.{ports_freed}
+use Rattle.core_events.specs.PortSound.{ArePortsIdle}
+use Rattle.core_events.proofs.PortIdles.{idle_served, idle_freed, idle_cancelled, idle_without_fids}
 use Rattle.core_parts.specs.declared.kind.Kind.{Kind}
 use Rattle.core_parts.specs.declared.kind.Kind.TheVariants as kind
 use Rattle.core_steps.specs.Stages.{asker_of, answer_book, message_book, acted, with_fid, grown_tables, read_book, put_book, grown_book, book_after, open_ports, grown_ports, ports_after}

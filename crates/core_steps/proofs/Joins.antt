@@ -29,7 +29,7 @@ use Rattle.core_events.specs.declared.response.Response.{Response}
 use Rattle.core_events.specs.Asking.{read_said, waits_unless}
 use Rattle.core_events.specs.Waits.{ended, without_cancelled}
 use Rattle.plumb_ports.specs.PortsState.{PortsState}
-use Rattle.core_ports.specs.Asking.{port_said}
+use Rattle.core_events.specs.PortAsking.{port_said}
 use Rattle.core_intents.specs.Doings.{IsAnswerable}
 use Rattle.core_steps.specs.declared.reading.PortRead.{PortRead}
 use Rattle.core_steps.specs.PortReads.{port_read_in, port_read_of, asked_tables, IsReadable}

@@ -8,8 +8,8 @@ use Rattle.core_scene.specs.declared.scene.Scene.{Scene}
 use Rattle.core_scene.specs.Scenes.{SceneState, scene_of, kept_of, IsSettled, done, done_all, deleted_by, CanDoAll, Did}
 use Rattle.core_scene.proofs.Dids.{deleted_done, book_stays}
 use Rattle.core_scene.proofs.Settled.{settled_is}
-use Rattle.core_ports.specs.Sound.{ArePortsSound}
-use Rattle.core_ports.proofs.Sounds.{sound_add, sound_deliver}
+use Rattle.core_events.specs.PortSound.{ArePortsSound}
+use Rattle.core_events.proofs.PortSounds.{sound_add, sound_deliver}
 use Rattle.core_tasks.specs.declared.task.Task.{Task}
 use Rattle.core_tasks.specs.Tasks.{task_deeds, CanDoTask}
 

@@ -8,7 +8,7 @@ use Rattle.core_fids.specs.declared.effect.Answer.{Answer}
 use Rattle.core_fids.specs.declared.effect.Answer.TheVariants.{Says, Reads, ReadsPort}
 use Rattle.core_events.specs.declared.response.Response.{Response}
 use Rattle.core_events.specs.Responses.{port_feed}
-use Rattle.core_ports.specs.Asking.{port_said, ports_read, tables_read_port}
+use Rattle.core_events.specs.PortAsking.{port_said, ports_read, tables_read_port}
 use Rattle.core_parts.specs.declared.kind.Kind.{Kind}
 use Rattle.core_parts.specs.declared.kind.Kind.TheVariants as kind
 use Rattle.ninep_types.specs.Limits.{rread_head}

@@ -2,7 +2,7 @@
 use Rattle.std.specs.Prelude.{◌≡◌, []}
 use Rattle.core_scene.specs.Scenes.{SceneState, scene_of, deleted_by}
 use Rattle.core_events.specs.Sound.{IsSound}
-use Rattle.core_ports.specs.Sound.{ArePortsSound}
+use Rattle.core_events.specs.PortSound.{ArePortsSound}
 use Rattle.core_parts.specs.Doing.{Doing}
 use Rattle.core_parts.specs.declared.kind.Kind.{Kind}
 use Rattle.core_parts.specs.declared.parts.Parts.{Parts}

@@ -19,8 +19,8 @@ use Rattle.core_events.specs.Putting.{put_all, put_living, ending}
 use Rattle.core_events.specs.Responses.{event_feed}
 use Rattle.core_events.specs.Serving.{served_all, book_served_all}
 use Rattle.core_events.specs.Waits.{clunked, deletions}
-use Rattle.core_ports.specs.Asking.{joined_with}
-use Rattle.core_ports.specs.Serving.{ports_served, ports_after_serving}
+use Rattle.core_events.specs.PortAsking.{joined_with}
+use Rattle.core_events.specs.PortServing.{ports_served, ports_after_serving}
 use Rattle.core_parts.specs.declared.kind.Kind.{Kind}
 use Rattle.core_parts.specs.declared.kind.Kind.TheVariants as kind
 use Rattle.core_parts.specs.Connections.{connections_after, grown}

@@ -2,7 +2,7 @@
 
 ghost use Rattle.std.specs.Prelude.{◌≡◌};
 ghost use Rattle.core_events.specs.Sound.{IsSound};
-ghost use Rattle.core_ports.specs.Sound.{ArePortsSound};
+ghost use Rattle.core_events.specs.PortSound.{ArePortsSound};
 ghost use Rattle.core_parts.specs.Doing.{Doing};
 ghost use Rattle.core_parts.specs.Parts.{present_of, AreSteady};
 ghost use Rattle.core_steps.specs.Ready.{HasReady};

@@ -13,9 +13,9 @@ ghost use Rattle.core_events.specs.Putting.{put_all, put_living, ending};
 ghost use Rattle.core_events.specs.Serving.{served_all, book_served_all};
 ghost use Rattle.core_events.specs.Waits.{clunked, deletions};
 ghost use Rattle.core_events.specs.Sound.{IsSound, IsIdle};
-ghost use Rattle.core_ports.specs.Asking.{joined_with};
-ghost use Rattle.core_ports.specs.Serving.{ports_served, ports_after_serving};
-ghost use Rattle.core_ports.specs.Sound.{ArePortsSound};
+ghost use Rattle.core_events.specs.PortAsking.{joined_with};
+ghost use Rattle.core_events.specs.PortServing.{ports_served, ports_after_serving};
+ghost use Rattle.core_events.specs.PortSound.{ArePortsSound};
 ghost use Rattle.core_parts.specs.Connections.{IsJoinedFor, IsOfJoined, grown};
 ghost use Rattle.core_parts.specs.Kinds.{kind_of, conn_of, is_hang};
 ghost use Rattle.core_parts.specs.Parts.{present_of, AreSteady};
@@ -35,14 +35,13 @@ use am_journal::Event;
 use am_text::{Bytes, Ids, Items, NoMemory};
 use core_closing::Prepared;
 use core_events::{
-    Book, EventRead, Feed, Response, Responses, clunked, deletions, event_feed, joined,
-    open_events, put_all, put_living, read_events, serve_all,
+    Book, EventRead, Feed, Ports, Response, Responses, clunked, deletions, event_feed, joined,
+    open_events, open_port, put_all, put_living, read_events, serve_all, serve_ports,
 };
 use core_fids::{Answer, Effect, EventChange};
 use core_intents::{Intent, answer_or, with_held};
 use core_outputs::{Outputs, Reply};
 use core_parts::{Kind, Parts, conn_of, kind_of};
-use core_ports::{Ports, open_port, serve_ports};
 use core_scene::{Entry, Scene, WindowItems};
 use core_tasks::{Ended, Task, do_task};
 use fid_table::Sessions;

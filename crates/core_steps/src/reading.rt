@@ -3,14 +3,13 @@
 ghost use Rattle.std.specs.Prelude.{◌≡◌, ◌∷◌, [], Some, IfOk, IfSome, OnOk};
 ghost use Rattle.core_fids.specs.Done.{IsSent};
 ghost use Rattle.core_events.specs.Responses.{AreSaid};
-ghost use Rattle.core_ports.specs.Sound.{ArePortsSound};
+ghost use Rattle.core_events.specs.PortSound.{ArePortsSound};
 ghost use Rattle.core_steps.specs.PortReads.{port_read_in, port_read_of, port_response, asked_said, asked_ports, asked_tables, IsReadable};
 
 use am_text::{Items, NoMemory};
-use core_events::{Response, Responses, port_feed};
+use core_events::{Ports, Response, Responses, port_feed, read_port};
 use core_fids::Answer;
 use core_parts::Kind;
-use core_ports::{Ports, read_port};
 use fid_table::Sessions;
 use ninep_types::{RBody, RMsg};
 use std::alloc::Global;

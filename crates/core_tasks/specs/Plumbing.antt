@@ -4,8 +4,8 @@ use Rattle.core_plumb.specs.declared.refusal.PlumbRefusal.{PlumbRefusal}
 use Rattle.core_plumb.specs.declared.refusal.PlumbRefusal.TheVariants as plumb
 use Rattle.core_rules.specs.declared.refusal.RulesRefusal.{RulesRefusal}
 use Rattle.core_rules.specs.declared.refusal.RulesRefusal.TheVariants as rules
-use Rattle.core_sends.specs.declared.refusal.SendRefusal.{SendRefusal}
-use Rattle.core_sends.specs.declared.refusal.SendRefusal.TheVariants as send
+use Rattle.core_rules.specs.declared.send_refusal.SendRefusal.{SendRefusal}
+use Rattle.core_rules.specs.declared.send_refusal.SendRefusal.TheVariants as send
 use Rattle.core_fids.specs.declared.refusal.Refusal.{Refusal}
 use Rattle.core_fids.specs.declared.refusal.Refusal.TheVariants as refusal
 

@@ -11,7 +11,7 @@ use Rattle.core_scene.specs.Changing.{deeds_of}
 use Rattle.core_scene.specs.Scenes.{SceneState}
 use Rattle.core_fids.specs.declared.refusal.Refusal.{Refusal}
 use Rattle.core_rules.specs.Writing.{rules_outcome, rest_outcome, held_after, clear_deeds}
-use Rattle.core_sends.specs.Sending.{send_outcome}
+use Rattle.core_rules.specs.Sending.{send_outcome}
 use Rattle.core_exec.specs.Clicks.{IsSpot}
 use Rattle.core_exec.specs.Acting.{exec_at_deeds, look_at_deeds, act_on_deeds}
 use Rattle.core_tasks.specs.declared.task.Task.{Task}

@@ -2,7 +2,7 @@
 
 ghost use Rattle.std.specs.Prelude.{◌≡◌, None, Some, IfOk, OnOk};
 ghost use Rattle.core_rules.specs.Writing.{rules_outcome, rest_outcome, held_after};
-ghost use Rattle.core_sends.specs.Sending.{send_outcome};
+ghost use Rattle.core_rules.specs.Sending.{send_outcome};
 ghost use Rattle.core_scene.specs.Scenes.{scene_of, kept_of, Did};
 ghost use Rattle.core_tasks.specs.Plumbing.{of_rules, of_plumb, of_send, rules_if_any, send_if_any};
 
@@ -10,9 +10,8 @@ use crate::ended::Ended;
 use am_text::{Bytes, NoMemory};
 use core_fids::Refusal;
 use core_plumb::PlumbRefusal;
-use core_rules::{RulesRefusal, held_after, write_rules};
+use core_rules::{RulesRefusal, SendRefusal, Sent, held_after, send, write_rules};
 use core_scene::{Entry, Scene};
-use core_sends::{SendRefusal, Sent, send};
 use std::alloc::Global;
 
 fn of_rules(refusal: RulesRefusal) -> Refusal

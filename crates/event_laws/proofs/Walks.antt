@@ -38,8 +38,8 @@ use Rattle.core_parts.specs.declared.kind.Kind.TheVariants as kind
 use Rattle.core_parts.specs.Doing.{Doing}
 use Rattle.core_parts.specs.Kinds.{conn_of}
 use Rattle.plumb_ports.specs.PortsState.{PortsState, served_of as port_served_of, after_serve as after_port_serve}
-use Rattle.core_ports.specs.Asking.{port_said}
-use Rattle.core_ports.specs.Serving.{then_served as then_port_served, served_most as ports_served_most, ports_served}
+use Rattle.core_events.specs.PortAsking.{port_said}
+use Rattle.core_events.specs.PortServing.{then_served as then_port_served, served_most as ports_served_most, ports_served}
 use Rattle.core_steps.specs.declared.reading.PortRead.{PortRead}
 use Rattle.core_steps.specs.PortReads.{port_read_of, if_port_said, asked_said}
 use Rattle.core_steps.specs.Stages.{asker_of, if_said, answer_said, answer_book, message_said, message_book, acted, with_fid, read_tables, read_book, put_book, grown_book, open_ports, said}

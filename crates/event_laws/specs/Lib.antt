@@ -1,2 +1,4 @@
 pub mod Rreads
 pub mod Laws
+pub mod Calls
+pub mod PortLaws

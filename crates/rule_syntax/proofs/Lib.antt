@@ -2,3 +2,6 @@ pub mod ArgumentLemmas
 pub mod ExpressionLemmas
 pub mod ParsingLemmas
 pub mod PartLemmas
+pub mod Further
+pub mod Lines
+pub mod PortNames

@@ -5,3 +5,6 @@ pub mod Laws
 pub mod Parsing
 pub mod Verbs
 pub mod Words
+pub mod Cutting
+pub mod Naming
+pub mod NamingLaws

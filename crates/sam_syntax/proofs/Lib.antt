@@ -8,3 +8,9 @@ pub mod Places
 pub mod Rules
 pub mod Written
 pub mod Reached
+pub mod Cuts
+pub mod Texts
+pub mod Parts
+pub mod Pieces
+pub mod Local
+pub mod Edits

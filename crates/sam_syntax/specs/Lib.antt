@@ -7,3 +7,8 @@ pub mod Position
 pub mod Read
 pub mod Answer
 pub mod Laws
+pub mod Cuts
+pub mod Texts
+pub mod Pieces
+pub mod Edits
+pub mod TreeLaws

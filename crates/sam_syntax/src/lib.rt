@@ -1,11 +1,13 @@
-//! Edit's commands, as sam has them: how they are written, and a reader of them.
+//! Edit's commands, as sam has them: how they are written, a reader of them, and the command that a text is, as a function of the text.
 #![tactic(auto)]
 
 mod laws;
 mod parser;
 mod position;
 mod progress;
+mod reader;
 mod reading;
+mod tree_laws;
 
 pub use addr_syntax::parse_addr;
 pub use edit_parts::{Act, Addr, Cmd, Cmds, SynFault};
@@ -13,3 +15,5 @@ pub use laws::{
     a_block_holds_its_lines, a_loop_takes_the_rest, an_edit_has_one_tree, an_edit_is_as_written,
 };
 pub use parser::parse_edit;
+pub use reader::read_edit;
+pub use tree_laws::edits_have_commands;

@@ -18,8 +18,7 @@ use crate::fields::{cut_twice, number_of, range_in, text_of};
 use crate::plans::plan_line;
 use am_text::{Range, Rune, Runes};
 use edit_run::{EditFault, Site, changes};
-use edit_trees::read_edit;
-use sam_syntax::{Cmd, parse_edit};
+use sam_syntax::{Cmd, parse_edit, read_edit};
 use std::alloc::Global;
 
 impl From<EditFault> for Fault {

@@ -11,16 +11,15 @@
 ghost use Rattle.std.specs.Prelude.{IfOk, ◌≡◌};
 ghost use Rattle.ninep_types.specs.Spelling.{IsString};
 ghost use Rattle.ninep_client.specs.Asking.{begun};
-ghost use Rattle.do_lines.specs.Lawful.{AreLawful};
+ghost use Rattle.am_do.specs.Lawful.{AreLawful};
 
 use crate::client::{MemClient, fault_word, put_held, told_sink, told_source};
 use crate::fault::Fault;
 use crate::fields::cut;
 use crate::outside::put;
 use am_base::MemSink;
-use am_do::{Done, Stop, do_lines};
+use am_do::{DoLines, Done, LinesFault, Stop, do_lines, read_do_lines};
 use am_text::{Bytes, decimal};
-use do_lines::{DoLines, LinesFault, read_do_lines};
 use ninep_client::Client;
 use std::alloc::Global;
 

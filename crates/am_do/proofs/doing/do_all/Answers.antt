@@ -1,7 +1,7 @@
 use Rattle.std.proofs.Common.{◌≡◌, ℕ, false, List, [], ◌∷◌, refl, sym, subst, ◌∙◌, arith}
 use Rattle.am_base.specs.Seen.{seen}
-use Rattle.do_lines.specs.declared.line.DoLine.{DoLine}
-use Rattle.do_lines.specs.Lawful.{AreLawful}
+use Rattle.am_do.specs.declared.line.DoLine.{DoLine}
+use Rattle.am_do.specs.Lawful.{AreLawful}
 use Rattle.am_do.specs.Talks.{line_told}
 use Rattle.am_do.specs.Went.{ends, Went, Halted}
 use Rattle.am_do.proofs.Lines.{SoFar, far_none, far_more, far_halted, lawful_rest, put_of}

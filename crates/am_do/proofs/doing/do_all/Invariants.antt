@@ -1,6 +1,6 @@
 use Rattle.std.proofs.Common.{◌≡◌, ◌≤◌}
 use Rattle.am_base.specs.Seen.{seen}
-use Rattle.do_lines.specs.Lawful.{AreLawful}
+use Rattle.am_do.specs.Lawful.{AreLawful}
 use Rattle.am_do.specs.Went.{IsReady}
 use Rattle.am_do.proofs.Lines.{SoFar}
 use Rattle.am_do.proofs.doing.do_all.Given as goal

@@ -1,7 +1,7 @@
 use Rattle.std.proofs.Common.{◌≡◌, length, sym, ap, subst, ◌∙◌, arith}
 use Rattle.std.proofs.lemmas.List.{with_items_is}
 use Rattle.core_parts.specs.Connections.{connections_after}
-use Rattle.core_ports.specs.Sound.{ArePortsSound}
+use Rattle.core_events.specs.PortSound.{ArePortsSound}
 use Rattle.core_steps.proofs.Applied.{applied}
 use Rattle.core_steps.proofs.applying.apply.Goals as goal
 

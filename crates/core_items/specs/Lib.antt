@@ -1,2 +1,0 @@
-pub mod NewItems
-pub mod Sizes

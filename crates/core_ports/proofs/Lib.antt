@@ -1,4 +1,0 @@
-pub mod Sounds
-pub mod Turns
-pub mod Idles
-pub mod Ends

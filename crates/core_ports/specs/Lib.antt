@@ -1,4 +1,0 @@
-pub mod Asking
-pub mod Serving
-pub mod Closing
-pub mod Sound

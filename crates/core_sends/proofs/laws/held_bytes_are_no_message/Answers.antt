@@ -1,5 +1,0 @@
-use Rattle.core_sends.proofs.Rest.{held_is_begun}
-use Rattle.core_sends.proofs.laws.held_bytes_are_no_message.Goals as goal
-
-pub returns : goal.returns
-returns c = held_is_begun

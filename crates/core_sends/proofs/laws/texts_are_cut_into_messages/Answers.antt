@@ -1,5 +1,0 @@
-use Rattle.core_sends.proofs.Cutting.{messages_read}
-use Rattle.core_sends.proofs.laws.texts_are_cut_into_messages.Goals as goal
-
-pub returns : goal.returns
-returns c = messages_read

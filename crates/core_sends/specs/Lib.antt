@@ -1,3 +1,0 @@
-pub mod Messages
-pub mod Sending
-pub mod SendLaws

@@ -1,5 +1,0 @@
-use Rattle.do_lines.proofs.Read.{found_lawful}
-use Rattle.do_lines.proofs.reading.read_do_line.Goals as goal
-
-pub returns-clause-lawful : goal.returns-clause-lawful
-returns-clause-lawful c = found_lawful c.args.line.now c.line_in.result c.line_in.ensures

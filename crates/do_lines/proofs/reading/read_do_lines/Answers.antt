@@ -1,7 +1,0 @@
-use Rattle.std.proofs.Common.{◌≡◌, ◌+◌, ◌++◌, List, [], ◌∷◌, Some, None, length, sym, ap, ◌∙◌, subst, refl, arith, rules}
-use Rattle.std.specs.Prelude.{Result, Ok}
-use Rattle.am_text.specs.Lines.{lines_of}
-use Rattle.do_lines.specs.Lines.{line_of, lines_from}
-use Rattle.do_lines.specs.Lawful.{AreLawful}
-use Rattle.do_lines.proofs.Read.{onto_all, onto_none, read_more, read_none, read_end, lawful_more}
-use Rattle.do_lines.proofs.reading.read_do_lines.Goals as goal

@@ -1,4 +1,0 @@
-pub mod Fields
-pub mod Lines
-pub mod Lawful
-pub mod Limits

@@ -1,6 +1,0 @@
-use Rattle.std.proofs.Common.{◌≡◌, take}
-use Rattle.rule_texts.specs.Naming.{ports_of}
-use Rattle.rule_texts.proofs.naming.ports_of.Given as goal
-
-abbrev pub invariant-loop-rules : goal.invariant-loop-rules
-invariant-loop-rules l = l.names ≡ ports_of (take l.rules-index l.sets)
