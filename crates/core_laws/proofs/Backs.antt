@@ -30,7 +30,7 @@ use Rattle.core_steps.specs.Stages.{grown_book, book_after}
 use Rattle.core_parts.specs.States.{Present, State, present}
 use Rattle.acme_core.proofs.Goes.{run-push, entries_counted}
 use Rattle.acme_core.proofs.Idling.{run_idle}
-use Rattle.core_laws.specs.Laws.{IsBackAt, LivesNameTheEntry, WrittenBackOnce}
+use Rattle.core_laws.specs.Laws.{IsBackAt, LivesNameTheEntry, WrittenBackOnce, written_by}
 use Rattle.core_laws.proofs.Lives.{ended_keep, is_settled, settled_keep, IsKeptTo, kept_first, keep_grown, end_written, end_after}
 
 -- ---- what ended stays so, whatever comes
@@ -92,6 +92,14 @@ was_taken s (event.Look at) b is = absurd cc
 was_taken s (event.File path text) b is = absurd cc
 was_taken s (event.Dir path) b is = absurd cc
 
+-- the item was taken before, and is written back after
+pub record IsBackFrom (old new : BookState) (b : BackItem) (at : ℕ) : Type 0 where
+  pub item : Item
+  pub opening : ℕ
+  pub taken : ℕ
+  pub was : recorded_of old b.window b.number ≡ Some (record { item = item; life = Taken opening taken })
+  pub is : recorded_of new b.window b.number ≡ Some (record { item = item; life = Back opening taken at })
+
 -- a taken item, as it is recorded
 record TakenItem (o : Option Recorded) : Type 0 where
   item : Item
@@ -130,7 +138,7 @@ now_back s b at lawful t =
     (written_there s b.window b.number at (record { item = t.item; life = Taken t.opening t.taken }) lawful t.is)
 
 step_back : (s : State) (e : Event) (b : BackItem) → IsLawful s.scene.book → s.scene.book.latest ≤ s.entries → (doing_of (present s) e).back ≡ Some b
-    → IsBackAt (step s e).scene.book b (s.entries + 1)
+    → IsBackFrom s.scene.book (step s e).scene.book b (s.entries + 1)
 unfolding step
 step_back s e b lawful latest is =
     let p : Present = present s in
@@ -150,21 +158,28 @@ step_back s e b lawful latest is =
     let first : IsKeptTo is_ended g at g = kept_first is_ended at g grown.lawful grown.latest in
     let made : IsKeptTo is_ended g at written = end_written g at g d.back first in
     let last : IsKeptTo is_ended written at (book_after p k d) = end_after written at p k d refl (kept_first is_ended at written made.lawful made.latest) in
-    record { item = t.item; opening = t.opening; taken = t.taken; is = last.keeps b.window b.number _ back refl }
+    record { item = t.item; opening = t.opening; taken = t.taken; was = t.is; is = last.keeps b.window b.number _ back refl }
 
 -- ---- every journal
 
-pub named : LivesNameTheEntry
-named before behind e b is =
+pub back_from : (before behind : List Event) (e : Event) (b : BackItem) → written_by before e ≡ Some b
+    → IsBackFrom (run before).scene.book (run (before ++ e ∷ behind)).scene.book b (length before + 1)
+back_from before behind e b is =
     let s : State = run before in
+    let old : BookState = s.scene.book in
     let idle : AreIdle [] s.entries s.scene.book = run_idle before in
-    let back : IsBackAt (step s e).scene.book b (s.entries + 1) = step_back s e b idle.lawful idle.latest is in
-    let next : IsBackAt (run (before ++ e ∷ [])).scene.book b (s.entries + 1) = subst (λ (t : State). IsBackAt t.scene.book b (s.entries + 1)) (sym (run-push before e)) back in
+    let back : IsBackFrom old (step s e).scene.book b (s.entries + 1) = step_back s e b idle.lawful idle.latest is in
+    let next : IsBackFrom old (run (before ++ e ∷ [])).scene.book b (s.entries + 1) = subst (λ (t : State). IsBackFrom old t.scene.book b (s.entries + 1)) (sym (run-push before e)) back in
     let kept : KeepsEnded (run (before ++ e ∷ [])).scene.book (run (before ++ e ∷ behind)).scene.book =
     subst (λ (l : List Event). KeepsEnded (run (before ++ e ∷ [])).scene.book (run l).scene.book) (append_assoc before (e ∷ []) behind) (all_end (before ++ e ∷ []) behind)
     in
-    subst (λ (n : ℕ). IsBackAt (run (before ++ e ∷ behind)).scene.book b (n + 1)) (entries_counted before)
-    (record { item = next.item; opening = next.opening; taken = next.taken; is = kept b.window b.number _ next.is refl })
+    subst (λ (n : ℕ). IsBackFrom old (run (before ++ e ∷ behind)).scene.book b (n + 1)) (entries_counted before)
+    (record { item = next.item; opening = next.opening; taken = next.taken; was = next.was; is = kept b.window b.number _ next.is refl })
+
+pub named : LivesNameTheEntry
+named before behind e b is =
+    let x : IsBackFrom (run before).scene.book (run (before ++ e ∷ behind)).scene.book b (length before + 1) = back_from before behind e b is in
+    record { item = x.item; opening = x.opening; taken = x.taken; is = x.is }
 
 not_taken : (o : Option Recorded) (item : Item) (opening taken at : ℕ) → o ≡ Some (record { item = item; life = Back opening taken at }) → has_taken o ≡ true → ⊥
 not_taken o item opening taken at is t = let no : has_taken o ≡ false = ap has_taken is in cc

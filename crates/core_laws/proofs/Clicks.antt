@@ -1,6 +1,7 @@
 -- An Exec or a Look in a window whose event file is open does nothing but to make an item.
 use Rattle.std.proofs.Common.{◌≡◌, ℕ, ◌+◌, Bool, true, cond, List, [], ◌∷◌, ◌++◌, Option, Some, None, refl, sym, ap, subst, ◌∙◌, append-nil}
 use Rattle.std.specs.List.{fold}
+use Rattle.std.specs.Option.{option_map}
 use Rattle.win_events.specs.declared.item.Item.{Item}
 use Rattle.win_events.specs.declared.item.Origin.TheVariants.{M}
 use Rattle.acme_cmd.specs.declared.expansion.Click.TheVariants as click
@@ -30,7 +31,7 @@ use Rattle.core_parts.specs.Connections.{connections_after}
 use Rattle.core_intents.specs.Doings.{entry_by, doing_of}
 use Rattle.core_parts.specs.Doing.{Doing}
 use Rattle.core_parts.specs.Kinds.{kind_of}
-use Rattle.acme_core.specs.Run.{step, run}
+use Rattle.acme_core.specs.Run.{step, run, present_after}
 use Rattle.core_steps.specs.Replies.{replies_of}
 use Rattle.core_steps.specs.Stages.{said, tables_after, scene_after}
 use Rattle.core_closing.specs.Closing.{left_unsent}
@@ -42,7 +43,7 @@ use Rattle.core_events.specs.PortSound.{ArePortsIdle}
 use Rattle.core_events.proofs.PortIdles.{none_said, none_taken}
 use Rattle.acme_core.proofs.Goes.{run-push}
 use Rattle.acme_core.proofs.Idling.{ports_idle_after}
-use Rattle.core_laws.specs.Laws.{OnlyTells, ClicksAreTold}
+use Rattle.core_laws.specs.Laws.{OnlyTells, ClicksAreTold, item_of_click}
 use Rattle.core_laws.specs.Saying.{said_after}
 use Rattle.core_laws.proofs.Wells.{done_sessions}
 
@@ -82,8 +83,8 @@ after_kind s k d = record {
   replies = replies_of (said (present s) k d);
 }
 
-abbrev Told : State → Kind → ℕ → Doing → Type 0
-Told s k w d = OnlyTells s (after_kind s k d) (said (present s) k d) w
+abbrev Told : State → Kind → ℕ → Doing → Option Item → Type 0
+Told s k w d o = OnlyTells s (after_kind s k d) (said (present s) k d) w o
 
 -- nothing is said to reads of ports
 quiet : (x : SceneState) (heard : List Response) → ArePortsIdle x.ports → heard ++ ports_served x.ports ≡ heard
@@ -97,9 +98,8 @@ stays x idle = ap (λ (p : PortsState). record x { ports = p }) (none_taken x.po
 put_is : (b : BookState) (w : ℕ) (item : Item) → is_open_window b w ≡ true → put_one b (record { window = w; item = item }) ≡ after_put b w item
 put_is b w item opened = subst (λ (t : Bool). cond t (after_put b w item) b ≡ after_put b w item) (sym opened) refl
 
-tells : (s : State) (x : SceneState) (w : ℕ) (o : Option Item) → ArePortsIdle x.ports → is_open_window x.book w ≡ true → Told (record s { scene = tidy x }) kind.Acts w (telling (item_deeds w o))
+tells : (s : State) (x : SceneState) (w : ℕ) (o : Option Item) → ArePortsIdle x.ports → is_open_window x.book w ≡ true → Told (record s { scene = tidy x }) kind.Acts w (telling (item_deeds w o)) o
 tells s x w None idle opened = record {
-  item = None;
   book = refl;
   says = quiet x (served_all (s.entries + 1) x.book) idle;
   connections = refl;
@@ -108,7 +108,6 @@ tells s x w None idle opened = record {
   scene = stays (tidy x) idle;
 }
 tells s x w (Some item) idle opened = record {
-  item = Some item;
   book = rw opened (ap (λ (b : BookState). book_served_all (s.entries + 1) b) (put_is x.book w item opened));
   says = rw opened (quiet x (served_all (s.entries + 1) (put_one x.book (record { window = w; item = item }))) idle
       ∙ ap (λ (b : BookState). served_all (s.entries + 1) b) (put_is x.book w item opened));
@@ -119,65 +118,71 @@ tells s x w (Some item) idle opened = record {
 }
 
 -- the same of a story that is tidy, with deeds that are such
-told : (s : State) (w : ℕ) (o : Option Item) (deeds : List Deed) → s.scene ≡ tidy s.scene → ArePortsIdle s.scene.ports → is_open_window s.scene.book w ≡ true → deeds ≡ item_deeds w o → Told s kind.Acts w (telling deeds)
+told : (s : State) (w : ℕ) (o : Option Item) (deeds : List Deed) → s.scene ≡ tidy s.scene → ArePortsIdle s.scene.ports → is_open_window s.scene.book w ≡ true → deeds ≡ item_deeds w o → Told s kind.Acts w (telling deeds) o
 told s w o deeds h idle opened is =
-    subst (λ (ds : List Deed). Told s kind.Acts w (telling ds)) (sym is)
-    (subst (λ (x : SceneState). Told (record s { scene = x }) kind.Acts w (telling (item_deeds w o))) (sym h) (tells s s.scene w o idle opened))
+    subst (λ (ds : List Deed). Told s kind.Acts w (telling ds) o) (sym is)
+    (subst (λ (x : SceneState). Told (record s { scene = x }) kind.Acts w (telling (item_deeds w o)) o) (sym h) (tells s s.scene w o idle opened))
 
 -- ---- what a click does
 
-exec_one : (e : Entry) (at : Spot) (argument : Option (List ℕ × List ℕ)) (c : Option Clicked) (s : SceneState) → is_open_window s.book at.window ≡ true
-    → (o : Option Item) × (exec_clicked e at argument c s ≡ item_deeds at.window o)
-unfolding exec_click
-exec_one e at argument None s opened = (None, refl)
-exec_one e at argument (Some c) s opened = (Some (exec_item at c argument), rw opened refl)
+-- the item of an Exec, or of a Look, if it stands for a text
+abbrev of_exec : Spot → Option (List ℕ × List ℕ) → Option Clicked → Option Item
+of_exec at argument c = option_map (λ x. exec_item at x argument) c
 
-look_one : (e : Entry) (at : Spot) (c : Option Clicked) (s : SceneState) → is_open_window s.book at.window ≡ true → (o : Option Item) × (look_clicked e at c s ≡ item_deeds at.window o)
+abbrev of_look : Spot → SceneState → Option Clicked → Option Item
+of_look at s c = option_map (λ x. look_item at x (look_step at.window (own_text x.text x.expanded) s)) c
+
+exec_one : (e : Entry) (at : Spot) (argument : Option (List ℕ × List ℕ)) (c : Option Clicked) (s : SceneState) → is_open_window s.book at.window ≡ true
+    → exec_clicked e at argument c s ≡ item_deeds at.window (of_exec at argument c)
+unfolding exec_click
+exec_one e at argument None s opened = refl
+exec_one e at argument (Some c) s opened = rw opened refl
+
+look_one : (e : Entry) (at : Spot) (c : Option Clicked) (s : SceneState) → is_open_window s.book at.window ≡ true → look_clicked e at c s ≡ item_deeds at.window (of_look at s c)
 unfolding look_click
-look_one e at None s opened = (None, refl)
-look_one e at (Some c) s opened = (Some (look_item at c (look_step at.window (own_text c.text c.expanded) s)), rw opened refl)
+look_one e at None s opened = refl
+look_one e at (Some c) s opened = rw opened refl
 
 told_exec : (s : State) (at : Spot) (chord : Option Spot) → s.scene ≡ tidy s.scene → ArePortsIdle s.scene.ports → is_open_window s.scene.book at.window ≡ true
     → Told s kind.Acts at.window (telling (exec_at_deeds (entry_by (present s) M) at chord (present s).scene))
+    (of_exec at (argument_if_any (present s).scene.windows chord) (clicked_at (present s).scene.windows at click.Exec))
 told_exec s at chord h idle opened =
     let x : SceneState = (present s).scene in
-    let one : (o : Option Item) × (exec_at_deeds (entry_by (present s) M) at chord x ≡ item_deeds at.window o) =
-    exec_one (entry_by (present s) M) at (argument_if_any x.windows chord) (clicked_at x.windows at click.Exec) x opened
-    in
-    told s at.window one.0 (exec_at_deeds (entry_by (present s) M) at chord x) h idle opened one.1
+    let argument : Option (List ℕ × List ℕ) = argument_if_any x.windows chord in
+    let c : Option Clicked = clicked_at x.windows at click.Exec in
+    told s at.window (of_exec at argument c) (exec_at_deeds (entry_by (present s) M) at chord x) h idle opened (exec_one (entry_by (present s) M) at argument c x opened)
 
 told_look : (s : State) (at : Spot) → s.scene ≡ tidy s.scene → ArePortsIdle s.scene.ports → is_open_window s.scene.book at.window ≡ true
-    → Told s kind.Acts at.window (telling (look_at_deeds (entry_by (present s) M) at (present s).scene))
+    → Told s kind.Acts at.window (telling (look_at_deeds (entry_by (present s) M) at (present s).scene)) (of_look at (present s).scene (clicked_at (present s).scene.windows at click.Look))
 told_look s at h idle opened =
     let x : SceneState = (present s).scene in
-    let one : (o : Option Item) × (look_at_deeds (entry_by (present s) M) at x ≡ item_deeds at.window o) =
-    look_one (entry_by (present s) M) at (clicked_at x.windows at click.Look) x opened
-    in
-    told s at.window one.0 (look_at_deeds (entry_by (present s) M) at x) h idle opened one.1
+    let c : Option Clicked = clicked_at x.windows at click.Look in
+    told s at.window (of_look at x c) (look_at_deeds (entry_by (present s) M) at x) h idle opened (look_one (entry_by (present s) M) at c x opened)
 
 -- ---- every journal
 
-behind : (before : List Event) (e : Event) (w : ℕ) → Told (run before) (kind_of e) w (doing_of (present (run before)) e) → OnlyTells (run before) (run (before ++ e ∷ [])) (said_after before e) w
+behind : (before : List Event) (e : Event) (w : ℕ) (o : Option Item) → Told (run before) (kind_of e) w (doing_of (present (run before)) e) o
+    → OnlyTells (run before) (run (before ++ e ∷ [])) (said_after before e) w o
 unfolding step
-behind before e w h = subst (λ (s : State). OnlyTells (run before) s (said_after before e) w) (sym (run-push before e)) h
+behind before e w o h = subst (λ (s : State). OnlyTells (run before) s (said_after before e) w o) (sym (run-push before e)) h
 
 pub clicks : ClicksAreTold
 unfolding task_deeds
 clicks before (event.Exec at) w is opened =
     let same : at.window ≡ w = cc in
     let mine : is_open_window (run before).scene.book at.window ≡ true = subst (λ (v : ℕ). is_open_window (run before).scene.book v ≡ true) (sym same) opened in
-    subst (λ (v : ℕ). OnlyTells (run before) (run (before ++ event.Exec at ∷ [])) (said_after before (event.Exec at)) v) same
-    (behind before (event.Exec at) at.window (told_exec (run before) at None (run_tidy before) (ports_idle_after before) mine))
+    subst (λ (v : ℕ). OnlyTells (run before) (run (before ++ event.Exec at ∷ [])) (said_after before (event.Exec at)) v (item_of_click (present_after before).scene (event.Exec at))) same
+    (behind before (event.Exec at) at.window (item_of_click (present_after before).scene (event.Exec at)) (told_exec (run before) at None (run_tidy before) (ports_idle_after before) mine))
 clicks before (event.Arg at chord) w is opened =
     let same : at.window ≡ w = cc in
     let mine : is_open_window (run before).scene.book at.window ≡ true = subst (λ (v : ℕ). is_open_window (run before).scene.book v ≡ true) (sym same) opened in
-    subst (λ (v : ℕ). OnlyTells (run before) (run (before ++ event.Arg at chord ∷ [])) (said_after before (event.Arg at chord)) v) same
-    (behind before (event.Arg at chord) at.window (told_exec (run before) at (Some chord) (run_tidy before) (ports_idle_after before) mine))
+    subst (λ (v : ℕ). OnlyTells (run before) (run (before ++ event.Arg at chord ∷ [])) (said_after before (event.Arg at chord)) v (item_of_click (present_after before).scene (event.Arg at chord))) same
+    (behind before (event.Arg at chord) at.window (item_of_click (present_after before).scene (event.Arg at chord)) (told_exec (run before) at (Some chord) (run_tidy before) (ports_idle_after before) mine))
 clicks before (event.Look at) w is opened =
     let same : at.window ≡ w = cc in
     let mine : is_open_window (run before).scene.book at.window ≡ true = subst (λ (v : ℕ). is_open_window (run before).scene.book v ≡ true) (sym same) opened in
-    subst (λ (v : ℕ). OnlyTells (run before) (run (before ++ event.Look at ∷ [])) (said_after before (event.Look at)) v) same
-    (behind before (event.Look at) at.window (told_look (run before) at (run_tidy before) (ports_idle_after before) mine))
+    subst (λ (v : ℕ). OnlyTells (run before) (run (before ++ event.Look at ∷ [])) (said_after before (event.Look at)) v (item_of_click (present_after before).scene (event.Look at))) same
+    (behind before (event.Look at) at.window (item_of_click (present_after before).scene (event.Look at)) (told_look (run before) at (run_tidy before) (ports_idle_after before) mine))
 clicks before (event.Dial conn) w is opened = absurd cc
 clicks before (event.Msg conn msg) w is opened = absurd cc
 clicks before (event.Hang conn why) w is opened = absurd cc

@@ -27,7 +27,11 @@ mod Waits
 mod Tied
 mod Windows
 mod Moves
+mod Begun
+mod Beginnings
+mod Executed
 mod Answered
 mod Entries
+mod Demands
 mod WriteBacks
 mod Lawful

@@ -29,7 +29,7 @@ use Rattle.core_actions.specs.declared.undoing.Move.{Move}
 use Rattle.core_actions.specs.declared.undoing.Move.TheVariants as move
 use Rattle.core_actions.specs.Undoing.{next_group, moves, is_number, moves_from, linked_deeds, move_deeds}
 use Rattle.core_exec.specs.declared.click.Clicked.{Clicked}
-use Rattle.core_exec.specs.Clicks.{own_text}
+use Rattle.core_exec.specs.Clicks.{own_text, text_if_any}
 use Rattle.core_exec.specs.Executing.{builtin_deeds, command_deeds, exec_deeds}
 use Rattle.core_exec.specs.Acting.{exec_click, exec_clicked}
 use Rattle.core_tasks.specs.Tasks.{task_deeds}
@@ -37,7 +37,7 @@ use Rattle.core_intents.specs.Doings.{doing_of, entry_by}
 use Rattle.acme_core.specs.Run.{step, run, present_after, IsPossible}
 use Rattle.core_parts.specs.States.{State, present, next_entry}
 use Rattle.acme_core.proofs.Goes.{run-push}
-use Rattle.core_laws.specs.Moving.{moved_story, moved_story_if, TextIsMoved, MovesAreWhole, builtin_of, ExecutedMovesAreMoves}
+use Rattle.core_laws.specs.Moving.{moved_story, moved_story_if, TextIsMoved, MovesAreWhole, builtin_of}
 use Rattle.core_laws.proofs.Windows.{possible_prefix, all_lawful, one_lawful}
 
 -- ---- which windows move
@@ -122,21 +122,19 @@ moves_whole show journal all before behind e m w is moved =
 
 -- ---- an executed move is one
 
-command_moves : (e : Entry) (w : ℕ) (text : List ℕ) (c : Command) (m : Move) (r : Range) (s : SceneState) → c ≡ command.Builtin (builtin_of m) r
-    → command_deeds e w text None c s ≡ move_deeds m w s
+pub command_moves : (e : Entry) (w : ℕ) (text : List ℕ) (chord : Option (List ℕ)) (c : Command) (m : Move) (r : Range) (s : SceneState) → c ≡ command.Builtin (builtin_of m) r
+    → command_deeds e w text chord c s ≡ move_deeds m w s
 unfolding command_deeds builtin_deeds
-command_moves e w text c move.Undo r s is = ap (λ (x : Command). command_deeds e w text None x s) is
-command_moves e w text c move.Redo r s is = ap (λ (x : Command). command_deeds e w text None x s) is
+command_moves e w text chord c move.Undo r s is = ap (λ (x : Command). command_deeds e w text chord x s) is
+command_moves e w text chord c move.Redo r s is = ap (λ (x : Command). command_deeds e w text chord x s) is
 
-click_moves : (e : Entry) (at : Spot) (c : Clicked) (m : Move) (r : Range) (s : SceneState) → is_open_window s.book at.window ≡ false
-    → classified (own_text c.text c.expanded) ≡ command.Builtin (builtin_of m) r → exec_click e at None c s ≡ move_deeds m at.window s
+click_moves : (e : Entry) (at : Spot) (argument : Option (List ℕ × List ℕ)) (c : Clicked) (m : Move) (r : Range) (s : SceneState) → is_open_window s.book at.window ≡ false
+    → classified (own_text c.text c.expanded) ≡ command.Builtin (builtin_of m) r → exec_click e at argument c s ≡ move_deeds m at.window s
 unfolding exec_click exec_deeds
-click_moves e at c m r s closed is = rw closed (command_moves e at.window (own_text c.text c.expanded) (classified (own_text c.text c.expanded)) m r s is)
+click_moves e at argument c m r s closed is =
+    rw closed (command_moves e at.window (own_text c.text c.expanded) (text_if_any argument) (classified (own_text c.text c.expanded)) m r s is)
 
-pub executed_moves : ExecutedMovesAreMoves
-unfolding task_deeds
-executed_moves before at c m r closed clicked is =
-    let x : SceneState = (present_after before).scene in
-    ap (λ (o : Option Clicked). exec_clicked (entry_by (present_after before) M) at None o x) clicked ∙ click_moves (entry_by (present_after before) M) at c m r x closed is
-
-pub ruleset executing = (executed_moves)
+-- of an Exec with this argument
+pub clicked_moves : (e : Entry) (at : Spot) (argument : Option (List ℕ × List ℕ)) (o : Option Clicked) (c : Clicked) (m : Move) (r : Range) (s : SceneState) → is_open_window s.book at.window ≡ false
+    → o ≡ Some c → classified (own_text c.text c.expanded) ≡ command.Builtin (builtin_of m) r → exec_clicked e at argument o s ≡ move_deeds m at.window s
+clicked_moves e at argument o c m r s closed clicked is = ap (λ (x : Option Clicked). exec_clicked e at argument x s) clicked ∙ click_moves e at argument c m r s closed is

@@ -1,7 +1,9 @@
 -- What a write to an event file does that is answered by Rwrite: the item that it names is acted on.
-use Rattle.std.proofs.Common.{◌≡◌, ℕ, ◌+◌, ◌==◌, ◌&&◌, ◌||◌, Bool, true, false, not, cond, List, ◌∷◌, ◌++◌, length, Option, Some, None, Result, Ok, Err, refl, sym, ap, subst, ◌∙◌}
+use Rattle.std.specs.Option.{option_map}
+use Rattle.std.proofs.Common.{◌≡◌, ◌⊎◌, inl, inr, ℕ, ◌+◌, ◌==◌, ◌&&◌, ◌||◌, Bool, true, false, not, cond, List, ◌∷◌, ◌++◌, length, Option, Some, None, Result, Ok, Err, refl, sym, ap, subst, ◌∙◌}
 use Rattle.std.proofs.lemmas.Bool.{eqb-true}
 use Rattle.ninep_types.specs.declared.message.RBody.TheVariants as r
+use Rattle.ninep_types.specs.declared.message.TBody.{TBody}
 use Rattle.ninep_types.specs.declared.message.TBody.TheVariants as t
 use Rattle.ninep_types.specs.declared.message.TMsg.{TMsg}
 use Rattle.acme_tree.specs.declared.node.Node.{Node}
@@ -18,15 +20,18 @@ use Rattle.win_events.specs.declared.item.Origin.TheVariants.{E, F}
 use Rattle.win_events.specs.declared.item.Sort.{Sort}
 use Rattle.win_events.specs.declared.item.Sort.TheVariants as sort
 use Rattle.win_events.proofs.BackLemmas.{back_is}
-use Rattle.event_book.specs.BookState.{BookState, found_of}
+use Rattle.event_book.specs.BookState.{BookState, found_of, item_of}
+use Rattle.event_book.specs.declared.lives.Recorded.{Recorded}
 use Rattle.event_book.specs.Finding.{fits, same_range, expands_to}
 use Rattle.event_book.specs.Laws.{IsFound}
 use Rattle.event_book.specs.declared.finding.BackFault.{BackFault}
 use Rattle.event_book.proofs.FidLemmas.{found_fits}
 use Rattle.am_journal.specs.declared.event.Event.{Event}
+use Rattle.am_journal.specs.declared.event.Event.TheVariants as event
 use Rattle.core_windows.specs.Windows.{Window, window_at, world_of}
 use Rattle.core_fids.specs.Plumbers.{plumber_of}
 use Rattle.core_fids.specs.declared.effect.Answer.TheVariants.{Says}
+use Rattle.core_fids.specs.declared.effect.Demand.{Demand}
 use Rattle.core_fids.specs.declared.effect.Demand.TheVariants as demand
 use Rattle.core_fids.specs.declared.effect.Effect.TheVariants as effect
 use Rattle.core_fids.specs.declared.effect.EventChange.TheVariants as events
@@ -42,17 +47,18 @@ use Rattle.core_answers.specs.Writing.{if_lives, write_content, write_fid}
 use Rattle.core_events.specs.declared.closing.BackItem.{BackItem}
 use Rattle.core_exec.specs.Acting.{act_on_deeds}
 use Rattle.core_tasks.specs.Tasks.{task_deeds, task_refusal}
-use Rattle.core_intents.specs.Doings.{doing_of, message_doing, resolved}
+use Rattle.core_intents.specs.Doings.{doing_of, entry_by, message_doing, resolved}
 use Rattle.core_parts.specs.Doing.{Doing}
-use Rattle.core_intents.specs.Intents.{or_refused, item_or_refusal, item_named, item_of_text, back_task, item_if_any, refusal_if_any, reaction_at}
+use Rattle.core_intents.specs.Intents.{answer_or, demanded_item, or_refused, item_or_refusal, item_named, item_of_text, back_task, item_if_any, refusal_if_any, reaction_at}
 use Rattle.core_intents.specs.Origins.{is_text, origin_at, message_origin}
 use Rattle.acme_core.specs.Run.{run, present_after}
 use Rattle.core_parts.specs.States.{Present}
 use Rattle.acme_core.proofs.Goes.{entries_counted}
 use Rattle.core_laws.specs.Laws.{IsBackAt, written_by}
-use Rattle.core_laws.specs.WriteBacks.{IsNamed, numbered, IsActedOn, write_of, WritesAreActedOn, ActedOnOnce}
-use Rattle.core_laws.proofs.Backs.{named, once}
+use Rattle.core_laws.specs.WriteBacks.{IsNamed, numbered, IsActedOn, write_of, WritesAreActedOn, HasItsEntry, BacksAreWrites, ActedOnOnce}
+use Rattle.core_laws.proofs.Backs.{IsBackFrom, back_from, named, once}
 use Rattle.core_laws.proofs.Clicks.{clicks}
+use Rattle.core_laws.proofs.Demands.{IsWriteBack, is_back, reaction_backs}
 use Rattle.core_laws.proofs.Entries.{have_entries, one_item}
 
 -- ---- the item that bytes name
@@ -182,12 +188,137 @@ writes_acted : (journal : List Event) → WritesAreActedOn journal
 writes_acted journal before behind conn tag fid offset count w bytes f is there node answered =
     subst (λ (l : List Event). IsActedOn before l (write_of conn tag fid offset bytes) w bytes) is (acted_on before behind conn tag fid offset count w bytes f there node answered)
 
+-- ---- the entry that wrote an item back
+
+any_item : (x : Result BackItem Refusal) (b : BackItem) → item_if_any x ≡ Some b → x ≡ Ok b
+any_item (Ok item) b is = let same : ◌≡◌ {A = BackItem} item b = cc in ap (λ (i : BackItem). Ok i) same
+any_item (Err y) b is = absurd cc
+
+not_plain : (book : BookState) (b : BackItem) (d : Demand) → is_back d ≡ false → demanded_item book d ≡ Some b → ⊥
+not_plain book b demand.Nothing plain is = cc
+not_plain book b (demand.Controls w text) plain is = cc
+not_plain book b (demand.WriteBack w text) plain is = cc
+not_plain book b demand.ClearsRules plain is = cc
+not_plain book b (demand.AddsRules text) plain is = cc
+not_plain book b (demand.AddsRest text) plain is = cc
+not_plain book b (demand.Sends text) plain is = cc
+
+-- the item that is found is answered for
+found_answer : (s : Present) (origin : Origin) (count : ℕ) (x : Result BackItem Refusal) (b : BackItem) → x ≡ Ok b
+    → answer_or (task_refusal (entry_by s origin) (back_task x) s.scene) (Some (or_refused (refusal_if_any x) (Says (r.Write count)))) ≡ Some (Says (r.Write count))
+unfolding task_refusal
+found_answer s origin count x b is =
+    ap (λ (y : Result BackItem Refusal). answer_or (task_refusal (entry_by s origin) (back_task y) s.scene) (Some (or_refused (refusal_if_any y) (Says (r.Write count))))) is
+
+-- the item is written back, and acted on, by a Twrite to an event file of its window that is answered
+pub record IsBackBy (before : List Event) (e : Event) (b : BackItem) : Type 0 where
+  pub conn : ℕ
+  pub tag : ℕ
+  pub fid : ℕ
+  pub offset : ℕ
+  pub bytes : List ℕ
+  pub value : Fid
+  pub is : e ≡ write_of conn tag fid offset bytes
+  pub there : fid_of (run before).tables conn fid ≡ Some value
+  pub node : value.node ≡ File b.window EventsFile
+  pub answered : (doing_of (present_after before) e).answer ≡ Some (Says (r.Write (length bytes)))
+  pub item : Item
+  pub found : item_of (run before).scene.book b.window b.number ≡ Some item
+  pub action : is_action item.sort ≡ true
+  pub origin : Origin
+  pub deeds : (doing_of (present_after before) e).deeds ≡ act_on_deeds (entry_by (present_after before) origin) b.window b.number (present_after before).scene
+
+by_write : (before : List Event) (conn : ℕ) (msg : TMsg) (b : BackItem) → written_by before (event.Msg conn msg) ≡ Some b → (x : IsWriteBack (run before).tables conn msg.body (reaction_at (present_after before) conn msg))
+    → IsBackBy before (event.Msg conn msg) b
+unfolding task_deeds
+by_write before conn msg b is x =
+    let s : Present = present_after before in
+    let asks : demanded_item s.scene.book (demand.WriteBack x.window x.bytes) ≡ Some b = sym (ap (λ (d : Reaction). demanded_item s.scene.book d.demand) x.asks) ∙ is in
+    let found : item_of_text s.scene.book x.window x.bytes ≡ Ok b = any_item (item_of_text s.scene.book x.window x.bytes) b asks in
+    let named : Names s.scene.book x.window x.bytes b = names s.scene.book x.window x.bytes b (back_of x.bytes) refl found in
+    let there : BackItem = numbered x.window named.0 in
+    let same : ◌≡◌ {A = BackItem} there b = sym named.1 in
+    record {
+      conn = conn;
+      tag = msg.tag;
+      fid = x.fid;
+      offset = x.offset;
+      bytes = x.bytes;
+      value = x.value;
+      is = ap (λ (body : TBody). event.Msg conn (record { tag = msg.tag; body = body })) x.is;
+      there = x.there;
+      node = x.node ∙ ap (λ (i : BackItem). File i.window EventsFile) same;
+      answered = ap (λ (d : Reaction). (message_doing s d (message_origin s.tables conn msg.body)).answer) x.asks
+          ∙ found_answer s (message_origin s.tables conn msg.body) (length x.bytes) (item_of_text s.scene.book x.window x.bytes) b found;
+      item = named.2.item;
+      found = subst (λ (i : BackItem). item_of s.scene.book i.window i.number ≡ Some named.2.item) same named.2.there;
+      action = named.2.action;
+      origin = message_origin s.tables conn msg.body;
+      deeds = ap (λ (d : Reaction). (message_doing s d (message_origin s.tables conn msg.body)).deeds) x.asks
+          ∙ ap (λ (y : Result BackItem Refusal). task_deeds (entry_by s (message_origin s.tables conn msg.body)) (back_task y) s.scene) found;
+    }
+
+by_message : (before : List Event) (conn : ℕ) (msg : TMsg) (b : BackItem) → written_by before (event.Msg conn msg) ≡ Some b
+    → (is_back (reaction_at (present_after before) conn msg).demand ≡ false) ⊎ IsWriteBack (run before).tables conn msg.body (reaction_at (present_after before) conn msg)
+    → IsBackBy before (event.Msg conn msg) b
+by_message before conn msg b is (inl plain) = absurd (not_plain (present_after before).scene.book b (reaction_at (present_after before) conn msg).demand plain is)
+by_message before conn msg b is (inr x) = by_write before conn msg b is x
+
+pub back_by : (before : List Event) (e : Event) (b : BackItem) → written_by before e ≡ Some b → IsBackBy before e b
+back_by before (event.Msg conn msg) b is =
+    let s : Present = present_after before in
+    by_message before conn msg b is (reaction_backs s.tables conn s.scene.windows (plumber_of s.scene.rules s.scene.ports) (length s.scene.book.owners) msg.body)
+back_by before (event.Dial conn) b is = absurd cc
+back_by before (event.Hang conn why) b is = absurd cc
+back_by before (event.Took conn) b is = absurd cc
+back_by before event.New b is = absurd cc
+back_by before (event.Key w side text) b is = absurd cc
+back_by before (event.Sel w range) b is = absurd cc
+back_by before (event.Exec at) b is = absurd cc
+back_by before (event.Arg at chord) b is = absurd cc
+back_by before (event.Look at) b is = absurd cc
+back_by before (event.File path text) b is = absurd cc
+back_by before (event.Dir path) b is = absurd cc
+
+some_item : (a b : Item) → Some a ≡ Some b → a ≡ b
+some_item a b is = cc
+
+life_item : (a b : Recorded) → Some a ≡ Some b → a.item ≡ b.item
+life_item a b is = let same : a ≡ b = cc in ap (λ (x : Recorded). x.item) same
+
+pub back_writes : (journal : List Event) → BacksAreWrites journal
+back_writes journal w n item opening taken at is =
+    let h : HasItsEntry journal w n at = have_entries journal w n item opening taken at is in
+    let x : IsBackBy h.before h.entry (numbered w n) = back_by h.before h.entry (numbered w n) h.writes in
+    let kept : IsBackFrom (run h.before).scene.book (run journal).scene.book (numbered w n) (length h.before + 1) =
+    subst (λ (l : List Event). IsBackFrom (run h.before).scene.book (run l).scene.book (numbered w n) (length h.before + 1)) h.is (back_from h.before h.behind h.entry (numbered w n) h.writes)
+    in
+    let now : kept.item ≡ item = life_item _ _ (sym kept.is ∙ is) in
+    let same : kept.item ≡ x.item = some_item kept.item x.item (sym (ap (λ (o : Option Recorded). option_map (λ e. e.item) o) kept.was) ∙ x.found) in
+    record {
+      before = h.before;
+      behind = h.behind;
+      conn = x.conn;
+      tag = x.tag;
+      fid = x.fid;
+      offset = x.offset;
+      bytes = x.bytes;
+      value = x.value;
+      is = subst (λ (e : Event). h.before ++ e ∷ h.behind ≡ journal) x.is h.is;
+      number = h.number;
+      there = x.there;
+      node = x.node;
+      answered = subst (λ (e : Event). (doing_of (present_after h.before) e).answer ≡ Some (Says (r.Write (length x.bytes)))) x.is x.answered;
+      action = subst (λ (i : Item). is_action i.sort ≡ true) (sym same ∙ now) x.action;
+    }
+
 pub acted_once : (journal : List Event) → ActedOnOnce journal
 acted_once journal = record {
   writes = writes_acted journal;
   named = λ before behind e b is written. subst (λ (l : List Event). IsBackAt (run l).scene.book b (length before + 1)) is (named before behind e b written);
   once = λ before between behind e f b is first second. once before between e f b first second;
   entries = have_entries journal;
+  backs = back_writes journal;
   one = one_item journal;
   told = λ before behind e w is clicked opened. clicks before e w clicked opened;
 }

@@ -1,8 +1,9 @@
 -- What holds of each journal of the editor: one record of all laws of journals.
-use Rattle.std.specs.Prelude.{◌≡◌, ℕ, ◌<◌, false, List, [], ◌∷◌, ◌++◌, length, All, Some}
+use Rattle.std.specs.Prelude.{◌≡◌, ℕ, ◌<◌, true, false, List, [], ◌∷◌, ◌++◌, length, All, Some}
 use Rattle.std.specs.List.{Contains, list_any}
 use Rattle.am_journal.specs.declared.event.Event.{Event}
-use Rattle.am_counter.specs.Played.{IsPlayed, IsPrefix}
+use Rattle.fid_table.specs.Tables.{is_waiting, msize_of}
+use Rattle.am_counter.specs.Played.{IsPlayed, IsPrefix, has_hang}
 use Rattle.am_counter.specs.Sent.{sent}
 use Rattle.win_text.specs.Bodies.{IsInside, IsLimitInside, text_of_groups}
 use Rattle.win_text.specs.BodyStories.{BodyStory, story_text, range_now, limit_now}
@@ -13,9 +14,13 @@ use Rattle.core_events.specs.PortSound.{ArePortsIdle}
 use Rattle.acme_core.specs.Run.{enabled, run, output_at, IsPossible}
 use Rattle.am_journal.specs.Limits.{connection_count}
 use Rattle.core_laws.specs.Replies.{replies}
-use Rattle.core_laws.specs.Saying.{said_after, said_from, is_told, is_message, flush_of, flushed}
+use Rattle.core_fids.specs.Fids.{is_there}
+use Rattle.core_steps.specs.Replies.{replies_of}
+use Rattle.core_steps.specs.Stages.{response}
+use Rattle.core_laws.specs.Saying.{said_after, said_from, is_told, is_message, flush_of, flushed, flush_body}
 use Rattle.core_laws.specs.Laws.{IsFree}
-use Rattle.core_laws.specs.Moving.{MovesAreWhole}
+use Rattle.core_laws.specs.Groups.{GroupsAreBegun}
+use Rattle.core_laws.specs.Moving.{MovesAreWhole, MovesAreExecuted}
 use Rattle.core_laws.specs.Answered.{MessagesAreAnswered}
 use Rattle.core_laws.specs.Waits.{WaitsAreTied, AreApart}
 use Rattle.core_laws.specs.WriteBacks.{ActedOnOnce}
@@ -50,6 +55,41 @@ FlushedTagsAreSilent journal =
     → Contains (said_after before (flush_of conn tag oldtag)) (flushed conn tag) → list_any (is_message conn oldtag) middle ≡ false
     → IsSilent (before ++ flush_of conn tag oldtag ∷ []) middle conn oldtag
 
+-- What an entry replies is the bytes of what it says, each time to the message of a tag on a connection.
+abbrev pub EntriesReplyWhatTheySay : List Event → Type 0
+EntriesReplyWhatTheySay journal =
+    (before behind : List Event) (e : Event) → before ++ e ∷ behind ≡ journal → (run (before ++ e ∷ [])).replies ≡ replies_of (said_after before e)
+
+-- A Tflush is answered alone: by Rflush where its connection has a session, whatever stood before it, and else by a refusal.
+abbrev pub TflushesAreAnswered : List Event → Type 0
+TflushesAreAnswered journal =
+    (before behind : List Event) (conn tag oldtag : ℕ) → before ++ flush_of conn tag oldtag ∷ behind ≡ journal
+    → said_after before (flush_of conn tag oldtag) ≡ response conn tag (flush_body (is_there (msize_of (run before).tables conn))) ∷ []
+
+-- A Tflush says Rflush alone, which isn't said to the flushed tag; nor is anything behind it.
+pub record IsFlushed (before middle : List Event) (conn tag oldtag : ℕ) : Type 0 where
+  pub alone : said_after before (flush_of conn tag oldtag) ≡ flushed conn tag ∷ []
+  pub other : is_told conn oldtag (flushed conn tag) ≡ false
+  pub silent : IsSilent (before ++ flush_of conn tag oldtag ∷ []) middle conn oldtag
+
+-- A read that waits at the entry of a Tflush for its tag is answered by no reply, at that entry or behind it: nothing is said to its tag up
+-- to the next message of that tag, and no read waits with it.
+abbrev pub FlushedReadsGetNothing : List Event → Type 0
+FlushedReadsGetNothing journal =
+    (before middle behind : List Event) (conn tag oldtag : ℕ) → before ++ flush_of conn tag oldtag ∷ (middle ++ behind) ≡ journal
+    → list_any (is_waiting conn oldtag) (run before).tables.waiting ≡ true → list_any (is_message conn oldtag) middle ≡ false
+    → IsFlushed before middle conn tag oldtag
+
+-- A connection whose hang-up a beginning has is replied nothing by the entries behind; so where nothing is unsent then, it was sent all that
+-- it was ever replied.
+pub record GetsNoMore (before journal : List Event) (conn : ℕ) : Type 0 where
+  pub replied : replies journal conn ≡ replies before conn
+  pub sent_all : output_at before conn ≡ [] → sent output_at journal conn ≡ replies journal conn
+
+abbrev pub NothingBehindHangUps : List Event → Type 0
+NothingBehindHangUps journal =
+    (before : List Event) (conn : ℕ) → conn < connection_count → IsPrefix before journal → has_hang before conn ≡ true → GetsNoMore before journal conn
+
 -- The laws of a journal. What is said of its beginnings holds after each of its entries.
 pub record JournalLaws (journal : List Event) : Type 0 where
   -- Each window is lawful: each range was set inside the text of its time, each group of edits is what was done to the text before it.
@@ -59,21 +99,33 @@ pub record JournalLaws (journal : List Event) : Type 0 where
   -- Along the groups of edits of a window, those that are past and then those undone, the numbers never fall; none is above the last
   -- entry's.
   pub groups : (before : List Event) → IsPrefix before journal → AreNumbered (length before) (run before).windows
+  -- Each group's first edit was made, in that window, by the entry whose number the group has.
+  pub begun : (before : List Event) → IsPrefix before journal → GroupsAreBegun before
   -- Undo and Redo move the groups that one step began, in all windows, and leave each other window whole. The text then is that before the
   -- group, or behind it.
   pub moves : MovesAreWhole journal
+  -- Executing Undo or Redo is such a move: by an Exec with an argument or without one, and by an item that is written back.
+  pub executed : MovesAreExecuted journal
   -- The reads that wait in the sessions are those of the event files and of the ports, in order, and no others.
   pub waiting : (before : List Event) → IsPrefix before journal → WaitsAreTied (run before)
   -- No two reads that wait have one connection and tag.
   pub tags : (before : List Event) → IsPrefix before journal → AreApart (run before).tables.waiting
   -- Each message has in its step just one reply to its tag, its own R message or Rerror, or is a read that waits.
   pub answered : MessagesAreAnswered journal
+  -- Each entry replies the bytes of what it says.
+  pub said : EntriesReplyWhatTheySay journal
+  -- Each Tflush of a session is answered by Rflush alone.
+  pub flushes : TflushesAreAnswered journal
+  -- A read that still waits at the entry of a Tflush for its tag is answered by no reply, there or later.
+  pub flushed_reads : FlushedReadsGetNothing journal
   -- Behind an Rflush nothing is said to the tag that was flushed, up to the next message of that tag.
   pub silent : FlushedTagsAreSilent journal
   -- An item that is written back is acted on once.
   pub acted : ActedOnOnce journal
   -- What was replied to a connection is what was sent to it, and then what is unsent.
   pub replied : (conn : ℕ) → conn < connection_count → replies journal conn ≡ sent output_at journal conn ++ output_at journal conn
+  -- Nothing is replied to a connection behind its hang-up.
+  pub hung_up : NothingBehindHangUps journal
   -- No read that waits can be answered.
   pub idle : (before : List Event) → IsPrefix before journal → IsIdle (run before).scene.book × ArePortsIdle (run before).scene.ports
 

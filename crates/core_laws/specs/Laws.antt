@@ -10,6 +10,11 @@ use Rattle.am_journal.specs.declared.event.Event.{Event}
 use Rattle.am_journal.specs.declared.event.Event.TheVariants as event
 use Rattle.am_counter.specs.Played.{IsPrefix, IsPlayed, has_hang}
 use Rattle.am_counter.specs.Sent.{sent}
+use Rattle.acme_cmd.specs.declared.expansion.Click.TheVariants as click
+use Rattle.std.specs.Option.{option_map}
+use Rattle.core_scene.specs.Scenes.{SceneState}
+use Rattle.core_exec.specs.Clicks.{clicked_at, own_text, argument_if_any, exec_item, look_item}
+use Rattle.core_exec.specs.Looking.{look_step}
 use Rattle.core_fids.specs.Fids.{is_there}
 use Rattle.core_events.specs.declared.response.Response.{Response}
 use Rattle.core_events.specs.Serving.{served_all, book_served_all}
@@ -87,9 +92,15 @@ abbrev pub with_item : BookState → ℕ → Option Item → BookState
 with_item book w None = book
 with_item book w (Some item) = after_put book w item
 
--- At most an item comes, in this window, and reads are answered that waited. Nothing else changes, and nothing else is said.
-pub record OnlyTells (old new : State) (heard : List Response) (w : ℕ) : Type 0 where
-  pub item : Option Item
+-- the item of a click, if it stands for a text
+abbrev pub item_of_click : SceneState → Event → Option Item
+item_of_click s (event.Exec at) = option_map (λ c. exec_item at c None) (clicked_at s.windows at click.Exec)
+item_of_click s (event.Arg at chord) = option_map (λ c. exec_item at c (argument_if_any s.windows (Some chord))) (clicked_at s.windows at click.Exec)
+item_of_click s (event.Look at) = option_map (λ c. look_item at c (look_step at.window (own_text c.text c.expanded) s)) (clicked_at s.windows at click.Look)
+item_of_click s e = None
+
+-- This item comes in this window, if it is one, and reads are answered that waited. Nothing else changes, and nothing else is said.
+pub record OnlyTells (old new : State) (heard : List Response) (w : ℕ) (item : Option Item) : Type 0 where
   pub book : new.scene.book ≡ book_served_all (old.entries + 1) (with_item old.scene.book w item)
   pub says : heard ≡ served_all (old.entries + 1) (with_item old.scene.book w item)
   pub connections : new.connections ≡ old.connections
@@ -97,11 +108,11 @@ pub record OnlyTells (old new : State) (heard : List Response) (w : ℕ) : Type 
   pub windows : new.windows ≡ old.windows
   pub scene : record new.scene { book = old.scene.book } ≡ old.scene
 
--- An Exec or a Look in a window whose event file is open is told by its item, and does nothing else.
+-- An Exec or a Look in a window whose event file is open is told by the item of that click, and does nothing else.
 abbrev pub ClicksAreTold : Type 0
 ClicksAreTold =
     (before : List Event) (e : Event) (w : ℕ) → clicked_window e ≡ Some w → is_open_window (run before).scene.book w ≡ true
-    → OnlyTells (run before) (run (before ++ e ∷ [])) (said_after before e) w
+    → OnlyTells (run before) (run (before ++ e ∷ [])) (said_after before e) w (item_of_click (present_after before).scene e)
 
 -- ---- items that are written back
 

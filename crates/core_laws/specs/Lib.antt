@@ -2,6 +2,7 @@ pub mod Replies
 pub mod Saying
 pub mod Laws
 pub mod Moving
+pub mod Groups
 pub mod Waits
 pub mod Answered
 pub mod WriteBacks

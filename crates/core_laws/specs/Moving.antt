@@ -1,5 +1,5 @@
 -- Undo and Redo of the windows that one step changed, over journals.
-use Rattle.std.specs.Prelude.{◌≡◌, ℕ, false, List, [], ◌∷◌, ◌++◌, map, Option, Some, None, if◌then◌else◌}
+use Rattle.std.specs.Prelude.{◌≡◌, ℕ, Bool, true, false, List, [], ◌∷◌, ◌++◌, map, Option, Some, None, if◌then◌else◌}
 use Rattle.std.specs.Option.{option_map}
 use Rattle.acme_cmd.specs.Commands.{classified}
 use Rattle.acme_cmd.specs.declared.command.Builtin.{Builtin}
@@ -11,7 +11,10 @@ use Rattle.am_journal.specs.declared.event.Event.{Event}
 use Rattle.am_journal.specs.declared.event.Event.TheVariants as event
 use Rattle.am_journal.specs.declared.event.Spot.{Spot}
 use Rattle.edit_log.specs.Groups.{DoneGroup, before_last, with_first_of}
-use Rattle.event_book.specs.BookState.{is_open_window}
+use Rattle.event_book.specs.BookState.{is_open_window, item_of}
+use Rattle.win_events.specs.declared.item.Item.{Item}
+use Rattle.win_events.specs.declared.item.Sort.{Sort}
+use Rattle.win_events.specs.declared.item.Sort.TheVariants as sort
 use Rattle.win_text.specs.Bodies.{History, text_of_groups}
 use Rattle.win_text.specs.BodyStories.{story_text}
 use Rattle.core_windows.specs.Windows.{window_at}
@@ -23,6 +26,7 @@ use Rattle.core_exec.specs.declared.click.Clicked.{Clicked}
 use Rattle.core_exec.specs.Clicks.{clicked_at, own_text}
 use Rattle.core_intents.specs.Doings.{doing_of}
 use Rattle.acme_core.specs.Run.{run, present_after}
+use Rattle.core_laws.specs.Laws.{written_by}
 
 -- What an entry does, after the entries before it, is Undo, or Redo, in this window.
 abbrev pub IsMove : List Event → Event → Move → ℕ → Type 0
@@ -65,9 +69,27 @@ abbrev pub builtin_of : Move → Builtin
 builtin_of move.Undo = builtin.Undo
 builtin_of move.Redo = builtin.Redo
 
--- Executing Undo, or Redo, where the window's event file isn't open, is such an entry.
+-- an item of this type is of an Exec
+abbrev pub is_exec : Sort → Bool
+is_exec sort.BodyExec = true
+is_exec sort.TagExec = true
+is_exec other = false
+
+-- Executing Undo, or Redo, is such an entry of a journal.
+pub record MovesAreExecuted (journal : List Event) : Type 0 where
+  -- An Exec of it in a window whose event file isn't open,
+  pub exec : (before behind : List Event) (at : Spot) (c : Clicked) (m : Move) (r : Range) → before ++ event.Exec at ∷ behind ≡ journal
+      → is_open_window (present_after before).scene.book at.window ≡ false → clicked_at (present_after before).scene.windows at click.Exec ≡ Some c
+      → classified (own_text c.text c.expanded) ≡ command.Builtin (builtin_of m) r → IsMove before (event.Exec at) m at.window
+  -- also one with an argument,
+  pub arg : (before behind : List Event) (at chord : Spot) (c : Clicked) (m : Move) (r : Range) → before ++ event.Arg at chord ∷ behind ≡ journal
+      → is_open_window (present_after before).scene.book at.window ≡ false → clicked_at (present_after before).scene.windows at click.Exec ≡ Some c
+      → classified (own_text c.text c.expanded) ≡ command.Builtin (builtin_of m) r → IsMove before (event.Arg at chord) m at.window
+  -- and an entry that writes back the item of one.
+  pub back : (before behind : List Event) (e : Event) (w n : ℕ) (item : Item) (m : Move) (r : Range) → before ++ e ∷ behind ≡ journal
+      → written_by before e ≡ Some (record { window = w; number = n }) → item_of (present_after before).scene.book w n ≡ Some item → is_exec item.sort ≡ true
+      → classified (own_text item.text item.expanded) ≡ command.Builtin (builtin_of m) r → IsMove before e m w
+
+-- So it is in each journal.
 abbrev pub ExecutedMovesAreMoves : Type 0
-ExecutedMovesAreMoves =
-    (before : List Event) (at : Spot) (c : Clicked) (m : Move) (r : Range) → is_open_window (present_after before).scene.book at.window ≡ false
-    → clicked_at (present_after before).scene.windows at click.Exec ≡ Some c → classified (own_text c.text c.expanded) ≡ command.Builtin (builtin_of m) r
-    → IsMove before (event.Exec at) m at.window
+ExecutedMovesAreMoves = (journal : List Event) → MovesAreExecuted journal

@@ -20,7 +20,7 @@ use Rattle.core_events.specs.declared.closing.BackItem.{BackItem}
 use Rattle.core_exec.specs.Acting.{act_on_deeds}
 use Rattle.core_intents.specs.Doings.{doing_of}
 use Rattle.acme_core.specs.Run.{run, present_after}
-use Rattle.core_laws.specs.Laws.{OnlyTells, IsBackAt, clicked_window, written_by}
+use Rattle.core_laws.specs.Laws.{OnlyTells, IsBackAt, clicked_window, item_of_click, written_by}
 use Rattle.core_laws.specs.Saying.{said_after}
 
 -- The bytes name the item of this number: of the window's items that were taken, and not written back, the last that fits the message.
@@ -74,6 +74,29 @@ abbrev pub BacksHaveEntries : List Event → Type 0
 BacksHaveEntries journal =
     (w n : ℕ) (item : Item) (opening taken at : ℕ) → recorded_of (run journal).scene.book w n ≡ Some (record { item = item; life = Back opening taken at }) → HasItsEntry journal w n at
 
+-- At the entry of this number there is a Twrite to an event file of the item's window, through a fid that is open on it, that was answered
+-- by Rwrite; and the item's type is one of X, x, L and l.
+pub record IsWrittenBack (journal : List Event) (w : ℕ) (item : Item) (at : ℕ) : Type 0 where
+  pub before : List Event
+  pub behind : List Event
+  pub conn : ℕ
+  pub tag : ℕ
+  pub fid : ℕ
+  pub offset : ℕ
+  pub bytes : List ℕ
+  pub value : Fid
+  pub is : before ++ write_of conn tag fid offset bytes ∷ behind ≡ journal
+  pub number : length before + 1 ≡ at
+  pub there : fid_of (run before).tables conn fid ≡ Some value
+  pub node : value.node ≡ File w EventsFile
+  pub answered : (doing_of (present_after before) (write_of conn tag fid offset bytes)).answer ≡ Some (Says (r.Write (length bytes)))
+  pub action : is_action item.sort ≡ true
+
+-- So it is with each item whose life is written back.
+abbrev pub BacksAreWrites : List Event → Type 0
+BacksAreWrites journal =
+    (w n : ℕ) (item : Item) (opening taken at : ℕ) → recorded_of (run journal).scene.book w n ≡ Some (record { item = item; life = Back opening taken at }) → IsWrittenBack journal w item at
+
 -- So no two items were written back at one entry.
 abbrev pub OneItemAnEntry : List Event → Type 0
 OneItemAnEntry journal =
@@ -90,7 +113,9 @@ pub record ActedOnOnce (journal : List Event) : Type 0 where
       → written_by (before ++ e ∷ between) f ≡ Some b → ⊥
   -- The other way round, each life that names an entry is that of the item that the entry wrote back; so no two items have one entry.
   pub entries : BacksHaveEntries journal
+  -- That entry is a Twrite to an event file of its window that was answered by Rwrite, and the item's type is X, x, L or l.
+  pub backs : BacksAreWrites journal
   pub one : OneItemAnEntry journal
-  -- An Exec or a Look in a window whose event file is open is told by its item, and does nothing else.
+  -- An Exec or a Look in a window whose event file is open is told by the item of that click, if it stands for a text, and does nothing else.
   pub told : (before behind : List Event) (e : Event) (w : ℕ) → before ++ e ∷ behind ≡ journal → clicked_window e ≡ Some w → is_open_window (run before).scene.book w ≡ true
-      → OnlyTells (run before) (run (before ++ e ∷ [])) (said_after before e) w
+      → OnlyTells (run before) (run (before ++ e ∷ [])) (said_after before e) w (item_of_click (present_after before).scene e)

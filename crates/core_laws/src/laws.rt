@@ -28,7 +28,8 @@ pub fn flushed_reads_are_not_answered()
     ensures behind { NothingToAFlushedTag }
 {}
 
-/// An Exec or a Look in a window whose event file is open makes an item at most, which answers reads that wait. Nothing else changes.
+/// An Exec or a Look in a window whose event file is open makes the item of that click, if it stands for a text, and no other, which answers
+/// reads that wait. Nothing else changes.
 #[tactic(auto, using(crate::proofs::Clicks::clicking))]
 pub fn clicks_are_told_where_the_event_file_is_open()
     ensures { ClicksAreTold }
@@ -46,8 +47,9 @@ pub fn no_waiting_read_can_be_answered()
     ensures { NoReadCanBeAnswered }
 {}
 
-/// Executing the built-in Undo, or Redo, in a window whose event file isn't open does just that.
-#[tactic(auto, using(crate::proofs::Moves::executing))]
+/// Executing the built-in Undo, or Redo, does just that: by an Exec in a window whose event file isn't open, with an argument or without one, and
+/// by an item that is written back.
+#[tactic(auto, using(crate::proofs::Executed::executing))]
 pub fn executed_moves_are_moves()
     ensures { ExecutedMovesAreMoves }
 {}
