@@ -2,18 +2,18 @@
 
 ghost use Rattle.std.specs.Prelude.{◌≡◌, None};
 ghost use Rattle.am_base.specs.Seen.{given, seen};
-ghost use Rattle.acme_core.specs.Laws.{EachIsAnswered};
 ghost use Rattle.acmefs.specs.Top.{OfWords, run};
 ghost use Rattle.am_words.specs.Words.{asks_do, asks_serve};
+ghost use Rattle.core_laws.specs.Refusals.{RefusalsAreExact};
 ghost use Rattle.event_laws.specs.Laws.{EventLaws};
 ghost use Rattle.event_laws.specs.PortLaws.{PortLaws};
 ghost use Rattle.am_slots.specs.Slots.{outside};
 
 use crate::asked::do_asked;
 use crate::outcome::Outcome;
-use acme_core::messages_are_answered;
 use am_base::{Host, Sink, Source};
 use am_text::Words;
+use core_laws::refusals_follow_from_the_state;
 use event_laws::{events_are_lawful, ports_are_lawful};
 use std::alloc::Global;
 use std::sync::Wait;
@@ -44,15 +44,15 @@ pub fn acmefs<I: Source, O: Sink, H: Host, R: Threads + Wait + Sync>(
         (seen (O.told output.old) (O.told output.new)) result.journal result.served) }
     // Only words that ask for serving, or for doing lines, touch the host.
     ensures untouched { asks_serve words.now ≡ None → asks_do words.now ≡ None → host.new ≡ host.old }
-    // Each message of the journal is answered by its own R message, unless one of the named refusals applies, whose
-    // text is answered then.
-    ensures answered { EachIsAnswered }
+    // Each message of the journal is answered by the text of the refusal that the state gives it, exactly where there is one, and else by its
+    // own R message, unless it is a read that waits.
+    ensures answered { RefusalsAreExact result.journal }
     // What came of the items of event files: their order, what each opening got of them, and when they were dropped.
     ensures events { EventLaws result.journal }
     // What each opening of a port got of the messages that came to it.
     ensures ports { PortLaws result.journal }
 {
-    messages_are_answered();
+    refusals_follow_from_the_state();
     events_are_lawful();
     ports_are_lawful();
     do_asked(rt, alloc, words, input, output, host)

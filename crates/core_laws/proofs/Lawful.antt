@@ -23,6 +23,7 @@ use Rattle.core_laws.proofs.Executed.{executed_moves}
 use Rattle.core_laws.proofs.Flushes.{each_flush, none_can, nothing_to_a_flushed, replies_said}
 use Rattle.core_laws.proofs.Moves.{moves_whole}
 use Rattle.core_laws.proofs.Playing.{played_first, played_parts}
+use Rattle.core_laws.proofs.Refused.{refusals_exact}
 use Rattle.core_laws.proofs.Sessions.{flushes_answered}
 use Rattle.core_laws.proofs.Tied.{tag_or_version, waits_tied, tags_apart}
 use Rattle.core_laws.proofs.WriteBacks.{acted_once}
@@ -102,6 +103,7 @@ all_laws show inside numbers answers journal is = record {
   waiting = λ before front. waits_tied before (played_prefix before journal front is.played);
   tags = λ before front. tags_apart before (played_prefix before journal front is.played);
   answered = messages_answered answers journal is.played;
+  refused = refusals_exact journal;
   said = λ before behind e at. replies_said before e;
   flushes = λ before behind conn tag oldtag at. each_flush before conn tag oldtag;
   flushed_reads = flushed_by journal is.played;

@@ -33,5 +33,6 @@ mod Executed
 mod Answered
 mod Entries
 mod Demands
+mod Refused
 mod WriteBacks
 mod Lawful

@@ -58,7 +58,7 @@ use Rattle.core_laws.specs.Laws.{IsBackAt, written_by}
 use Rattle.core_laws.specs.WriteBacks.{IsNamed, numbered, IsActedOn, write_of, WritesAreActedOn, HasItsEntry, BacksAreWrites, ActedOnOnce}
 use Rattle.core_laws.proofs.Backs.{IsBackFrom, back_from, named, once}
 use Rattle.core_laws.proofs.Clicks.{clicks}
-use Rattle.core_laws.proofs.Demands.{IsWriteBack, is_back, reaction_backs}
+use Rattle.core_laws.proofs.Demands.{IsWriteBack, is_back, reaction_sound}
 use Rattle.core_laws.proofs.Entries.{have_entries, one_item}
 
 -- ---- the item that bytes name
@@ -267,7 +267,7 @@ by_message before conn msg b is (inr x) = by_write before conn msg b is x
 pub back_by : (before : List Event) (e : Event) (b : BackItem) → written_by before e ≡ Some b → IsBackBy before e b
 back_by before (event.Msg conn msg) b is =
     let s : Present = present_after before in
-    by_message before conn msg b is (reaction_backs s.tables conn s.scene.windows (plumber_of s.scene.rules s.scene.ports) (length s.scene.book.owners) msg.body)
+    by_message before conn msg b is (reaction_sound s.tables conn s.scene.windows (plumber_of s.scene.rules s.scene.ports) (length s.scene.book.owners) msg.body).0
 back_by before (event.Dial conn) b is = absurd cc
 back_by before (event.Hang conn why) b is = absurd cc
 back_by before (event.Took conn) b is = absurd cc

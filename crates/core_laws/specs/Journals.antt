@@ -22,6 +22,7 @@ use Rattle.core_laws.specs.Laws.{IsFree}
 use Rattle.core_laws.specs.Groups.{GroupsAreBegun}
 use Rattle.core_laws.specs.Moving.{MovesAreWhole, MovesAreExecuted}
 use Rattle.core_laws.specs.Answered.{MessagesAreAnswered}
+use Rattle.core_laws.specs.Refusals.{RefusalsAreExact}
 use Rattle.core_laws.specs.Waits.{WaitsAreTied, AreApart}
 use Rattle.core_laws.specs.WriteBacks.{ActedOnOnce}
 
@@ -112,6 +113,9 @@ pub record JournalLaws (journal : List Event) : Type 0 where
   pub tags : (before : List Event) → IsPrefix before journal → AreApart (run before).tables.waiting
   -- Each message has in its step just one reply to its tag, its own R message or Rerror, or is a read that waits.
   pub answered : MessagesAreAnswered journal
+  -- Which refusal a message gets is told by the state: it is answered by that refusal's text, exactly where there is one, and else by its own
+  -- R message, unless it waits.
+  pub refused : RefusalsAreExact journal
   -- Each entry replies the bytes of what it says.
   pub said : EntriesReplyWhatTheySay journal
   -- Each Tflush of a session is answered by Rflush alone.

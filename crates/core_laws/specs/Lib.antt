@@ -5,5 +5,6 @@ pub mod Moving
 pub mod Groups
 pub mod Waits
 pub mod Answered
+pub mod Refusals
 pub mod WriteBacks
 pub mod Journals

@@ -2,6 +2,7 @@
 
 ghost use Rattle.core_laws.specs.Laws.{RepliesAreSentOrUnsent, NothingAfterTheHangUp, EndedGetAllReplies, RepliesAreSaid, FlushesAreAnswered, EachFlushIsAnswered, NothingToAFlushedTag, ClicksAreTold, LivesNameTheEntry, WrittenBackOnce, NoReadCanBeAnswered};
 ghost use Rattle.core_laws.specs.Moving.{ExecutedMovesAreMoves};
+ghost use Rattle.core_laws.specs.Refusals.{RefusalsFollow};
 
 /// All that was ever replied to a connection is what was sent to it, and then what is unsent.
 #[tactic(auto, using(crate::proofs::Unsents::sent_or_unsent))]
@@ -52,4 +53,11 @@ pub fn no_waiting_read_can_be_answered()
 #[tactic(auto, using(crate::proofs::Executed::executing))]
 pub fn executed_moves_are_moves()
     ensures { ExecutedMovesAreMoves }
+{}
+
+/// Which refusal a message gets follows from the state: its text is said for the message exactly where there is one, and else its own R message,
+/// unless it is a read that waits.
+#[tactic(auto, using(crate::proofs::Refused::refusing))]
+pub fn refusals_follow_from_the_state()
+    ensures { RefusalsFollow }
 {}
