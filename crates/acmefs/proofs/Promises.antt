@@ -26,6 +26,10 @@ module _ {G L S K : Type 0} where
   served_at : (p q : List ℕ) (a b : ℕ) (r : Run G L S K) → (p ≡ q) × (a ≡ b) → OfServe p a r → OfServe q b r
   served_at p q a b r e of = subst (λ (x : List ℕ). OfServe x b r) e.0 (subst (λ (n : ℕ). OfServe p n r) e.1 of)
 
+  -- serving one path under two names
+  pub at_path : (p q : List ℕ) (clients : ℕ) (r : Run G L S K) → p ≡ q → OfServe p clients r → OfServe q clients r
+  at_path p q clients r e of = subst (λ (x : List ℕ). OfServe x clients r) e of
+
   by_number : (words : List (List ℕ)) (a b : Asked) (r : Run G L S K) → number a ≡ number b → AsksFor words a → AsksFor words b → OfAsked a r → OfAsked b r
   by_number words asked.Replay asked.Replay r e x y of = of
   by_number words asked.Trace asked.Trace r e x y of = of

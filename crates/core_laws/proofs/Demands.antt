@@ -10,6 +10,7 @@ use Rattle.ninep_types.specs.declared.message.TBody.TheVariants as t
 use Rattle.ninep_types.specs.declared.message.RBody.TheVariants as r
 use Rattle.ninep_types.specs.Kinds.{rattach, rwalk, ropen, rcreate, rread, rwrite, rclunk, rstat, rwstat}
 use Rattle.ninep_types.specs.Spelling.{kind_r, kind_t}
+use Rattle.acme_tree.specs.Access.{truncates}
 use Rattle.acme_tree.specs.Trees.{is_live}
 use Rattle.acme_tree.specs.declared.node.Node.{Node}
 use Rattle.acme_tree.specs.declared.node.Node.TheVariants as nodes
@@ -40,7 +41,7 @@ use Rattle.core_fids.specs.Contents.{content_of}
 use Rattle.core_answers.specs.Reactions.{session_reaction, comes_first, reaction}
 use Rattle.core_answers.specs.Erring.{fits_in, fits_tag, errors_of, root_errors, errors_refusal}
 use Rattle.core_fids.specs.Fids.{event_opening, port_opening, holds_rules, is_for_reading, is_for_writing}
-use Rattle.core_fids.specs.Opening.{open_refusal, or_opens, open_fid, denial, clunk_fid, remove_fid}
+use Rattle.core_fids.specs.Opening.{opening_demand, open_refusal, or_opens, open_fid, denial, clunk_fid, remove_fid}
 use Rattle.core_fids.specs.Plainly.{does, demands}
 use Rattle.core_fids.specs.Plumbers.{Plumber}
 use Rattle.core_fids.specs.Directories.{place_at, read_dir, stat_fid}
@@ -88,16 +89,16 @@ or_done kind false x d h = h
 
 attaches_at : (fid : ℕ) (o : Option Node) → Plainly rattach (attach_to fid o)
 attaches_at fid None = tt
-attaches_at fid (Some n) = (refl, refl, refl)
+attaches_at fid (Some n) = (refl, (refl, refl))
 
 attaches : (fid : ℕ) (aname : List ℕ) (o : Option Refusal) → Plainly rattach (or_attaches o fid aname)
 attaches fid aname None = attaches_at fid (root_of aname)
 attaches fid aname (Some x) = tt
 
 arrives : (newfid : ℕ) (world : World) (qids : List Qid) (e : WalkEnd) → Plainly rwalk (arrives_at newfid world qids e)
-arrives newfid world qids (end.At n) = (refl, refl, refl)
-arrives newfid world qids (end.Makes f) = (refl, refl, refl)
-arrives newfid world qids (end.Stops x) = or_done rwalk (length qids == 0) x (does effect.Nothing [] (r.Walk qids)) (refl, refl, refl)
+arrives newfid world qids (end.At n) = (refl, (refl, refl))
+arrives newfid world qids (end.Makes f) = (refl, (refl, refl))
+arrives newfid world qids (end.Stops x) = or_done rwalk (length qids == 0) x (does effect.Nothing [] (r.Walk qids)) (refl, (refl, refl))
 
 or_walks_plain : (kind : ℕ) (o : Option Refusal) (x : Result Reaction Refusal) → Plainly kind x → Plainly kind (or_walks o x)
 or_walks_plain kind None x h = h
@@ -108,8 +109,13 @@ walks tables world ports conn number newfid names None = tt
 walks tables world ports conn number newfid names (Some f) =
     or_walks_plain rwalk (walk_refusal tables conn number newfid f) _ (arrives newfid world (course world ports f.node names).qids (course world ports f.node names).end)
 
+opening_plain : (truncated : Bool) (c : Content) → is_back (opening_demand truncated c) ≡ false
+opening_plain false c = refl
+opening_plain true content.RulesText = refl
+opening_plain true c = refl
+
 opens_plain : (tables : Tables) (plumber : Plumber) (openings number mode : ℕ) (f : Fid) (o : Option Refusal) → Plainly ropen (or_opens tables plumber o openings number f mode)
-opens_plain tables plumber openings number mode f None = (refl, refl, refl)
+opens_plain tables plumber openings number mode f None = (opening_plain (truncates mode) (content_of f.node), (refl, refl))
 opens_plain tables plumber openings number mode f (Some x) = tt
 
 opens : (tables : Tables) (world : World) (plumber : Plumber) (openings number mode : ℕ) (o : Option Fid) → Plainly ropen (open_fid tables world plumber openings number mode o)
@@ -126,7 +132,7 @@ or_reads_plain kind (Some y) x h = tt
 
 read_dir_plain : (world : World) (ports : List (List ℕ)) (number offset count : ℕ) (f : Fid) (o : Option ℕ) → Plainly rread (read_dir world ports number f offset count o)
 read_dir_plain world ports number offset count f None = tt
-read_dir_plain world ports number offset count f (Some skip) = (refl, refl, refl)
+read_dir_plain world ports number offset count f (Some skip) = (refl, (refl, refl))
 
 read_opening_plain : (number count : ℕ) (o : Option ℕ) → Plainly rread (read_opening number count o)
 read_opening_plain number count None = tt
@@ -137,28 +143,28 @@ read_port_plain number count None = tt
 read_port_plain number count (Some opening) = (refl, refl)
 
 data_plain : (w count : ℕ) (o : Option Window) → Plain rread (data_reaction w count o)
-data_plain w count None = (refl, refl, refl)
-data_plain w count (Some window) = (refl, refl, refl)
+data_plain w count None = (refl, (refl, refl))
+data_plain w count (Some window) = (refl, (refl, refl))
 
 xdata_plain : (w count : ℕ) (o : Option Window) → Plain rread (xdata_reaction w count o)
-xdata_plain w count None = (refl, refl, refl)
-xdata_plain w count (Some window) = (refl, refl, refl)
+xdata_plain w count None = (refl, (refl, refl))
+xdata_plain w count (Some window) = (refl, (refl, refl))
 
 read_content_plain : (world : World) (windows : List (Option Window)) (plumber : Plumber) (number offset count : ℕ) (f : Fid) (c : Content) → Plainly rread (read_content world windows plumber number f offset count c)
 read_content_plain world windows plumber number offset count f content.Directory = read_dir_plain world plumber.names number offset count f (place_at f offset)
-read_content_plain world windows plumber number offset count f (content.BodyText w) = (refl, refl, refl)
-read_content_plain world windows plumber number offset count f (content.TagText w) = (refl, refl, refl)
-read_content_plain world windows plumber number offset count f (content.CtlText w) = (refl, refl, refl)
-read_content_plain world windows plumber number offset count f (content.AddrText w) = (refl, refl, refl)
+read_content_plain world windows plumber number offset count f (content.BodyText w) = (refl, (refl, refl))
+read_content_plain world windows plumber number offset count f (content.TagText w) = (refl, (refl, refl))
+read_content_plain world windows plumber number offset count f (content.CtlText w) = (refl, (refl, refl))
+read_content_plain world windows plumber number offset count f (content.AddrText w) = (refl, (refl, refl))
 read_content_plain world windows plumber number offset count f (content.DataOf w) = data_plain w count (window_at windows w)
 read_content_plain world windows plumber number offset count f (content.XdataOf w) = xdata_plain w count (window_at windows w)
-read_content_plain world windows plumber number offset count f content.IndexText = (refl, refl, refl)
+read_content_plain world windows plumber number offset count f content.IndexText = (refl, (refl, refl))
 read_content_plain world windows plumber number offset count f (content.ErrorsOf w) = tt
-read_content_plain world windows plumber number offset count f content.ConsErrors = (refl, refl, refl)
-read_content_plain world windows plumber number offset count f content.Empty = (refl, refl, refl)
+read_content_plain world windows plumber number offset count f content.ConsErrors = (refl, (refl, refl))
+read_content_plain world windows plumber number offset count f content.Empty = (refl, (refl, refl))
 read_content_plain world windows plumber number offset count f (content.EventsOf w) = read_opening_plain number count (event_opening f)
 read_content_plain world windows plumber number offset count f content.SendText = tt
-read_content_plain world windows plumber number offset count f content.RulesText = (refl, refl, refl)
+read_content_plain world windows plumber number offset count f content.RulesText = (refl, (refl, refl))
 read_content_plain world windows plumber number offset count f (content.PortOf k) = read_port_plain number count (port_opening f)
 
 reads : (world : World) (windows : List (Option Window)) (plumber : Plumber) (number offset count : ℕ) (o : Option Fid) → Plainly rread (read_fid world windows plumber number offset count o)
@@ -172,11 +178,11 @@ rest_plain false text = refl
 
 clunks : (number : ℕ) (o : Option Fid) → Plainly rclunk (clunk_fid number o)
 clunks number None = tt
-clunks number (Some f) = (rest_plain (holds_rules f) f.held, refl, refl)
+clunks number (Some f) = (rest_plain (holds_rules f) f.held, (refl, refl))
 
 stats : (world : World) (ports : List (List ℕ)) (o : Option Fid) → Plainly rstat (stat_fid world ports o)
 stats world ports None = tt
-stats world ports (Some f) = done_or rstat (is_live world ports f.node) _ refusal.WindowDeleted (refl, refl, refl)
+stats world ports (Some f) = done_or rstat (is_live world ports f.node) _ refusal.WindowDeleted (refl, (refl, refl))
 
 -- ---- a Twrite
 
@@ -218,21 +224,21 @@ module _ (tables : Tables) (conn fid offset : ℕ) (bytes : List ℕ) where
 
   append_plain : (windows : List (Option Window)) (number w count : ℕ) (f : Fid) (decoded : Decoded) → Plainly rwrite (append_reaction windows number f w count decoded)
   append_plain windows number w count f decoded =
-      if_lives_plain (window_at windows w) _ (done_or rwrite (fits_in (text_at windows w) decoded.text) _ refusal.TextTooLong (refl, refl, refl))
+      if_lives_plain (window_at windows w) _ (done_or rwrite (fits_in (text_at windows w) decoded.text) _ refusal.TextTooLong (refl, (refl, refl)))
 
   add_plain : (windows : List (Option Window)) (number w count : ℕ) (f : Fid) (decoded : Decoded) → Plainly rwrite (add_reaction windows number f w count decoded)
   add_plain windows number w count f decoded =
-      if_lives_plain (window_at windows w) _ (done_or rwrite (fits_tag (right_of (window_at windows w)) decoded.text) _ refusal.TextTooLong (refl, refl, refl))
+      if_lives_plain (window_at windows w) _ (done_or rwrite (fits_tag (right_of (window_at windows w)) decoded.text) _ refusal.TextTooLong (refl, (refl, refl)))
 
   or_errors_plain : (o : Option Refusal) (d : Reaction) → Plain rwrite d → Plainly rwrite (or_errors o d)
   or_errors_plain None d h = h
   or_errors_plain (Some x) d h = tt
 
   errors_plain : (windows : List (Option Window)) (number count : ℕ) (name : List ℕ) (f : Fid) (decoded : Decoded) → Plainly rwrite (errors_reaction windows number f name count decoded)
-  errors_plain windows number count name f decoded = or_errors_plain (errors_refusal windows (named windows name) decoded.text) _ (refl, refl, refl)
+  errors_plain windows number count name f decoded = or_errors_plain (errors_refusal windows (named windows name) decoded.text) _ (refl, (refl, refl))
 
   addr_set_plain : (w count : ℕ) (x : Result Range RangeFault) → Plainly rwrite (addr_or_refusal w count x)
-  addr_set_plain w count (Ok range) = (refl, refl, refl)
+  addr_set_plain w count (Ok range) = (refl, (refl, refl))
   addr_set_plain w count (Err f) = tt
 
   addr_plain : (w : ℕ) (o : Option Window) → Plainly rwrite (addr_reaction w bytes o)
@@ -240,7 +246,7 @@ module _ (tables : Tables) (conn fid offset : ℕ) (bytes : List ℕ) where
   addr_plain w (Some window) = addr_set_plain w (length bytes) (address_range window.body bytes)
 
   data_set_plain : (w count : ℕ) (x : Result Taken RangeFault) → Plainly rwrite (data_or_refusal w count x)
-  data_set_plain w count (Ok taken) = (refl, refl, refl)
+  data_set_plain w count (Ok taken) = (refl, (refl, refl))
   data_set_plain w count (Err f) = tt
 
   taking_plain : (w : ℕ) (o : Option Window) → Plainly rwrite (taking_reaction w bytes o)
@@ -273,14 +279,14 @@ module _ (tables : Tables) (conn fid offset : ℕ) (bytes : List ℕ) where
   content_right windows f content.Directory there e = tt
   content_right windows f (content.BodyText w) there e = plainly _ (append_plain windows fid w (length bytes) f (whole_runes f bytes))
   content_right windows f (content.TagText w) there e = plainly _ (add_plain windows fid w (length bytes) f (whole_runes f bytes))
-  content_right windows f (content.CtlText w) there e = plainly _ (if_lives_plain (window_at windows w) _ (refl, refl, refl))
+  content_right windows f (content.CtlText w) there e = plainly _ (if_lives_plain (window_at windows w) _ (refl, (refl, refl)))
   content_right windows f (content.AddrText w) there e = plainly _ (addr_plain w (window_at windows w))
   content_right windows f (content.DataOf w) there e = plainly _ (taking_plain w (window_at windows w))
   content_right windows f (content.XdataOf w) there e = plainly _ (taking_plain w (window_at windows w))
   content_right windows f content.IndexText there e = tt
   content_right windows f (content.ErrorsOf w) there e = plainly _ (errors_plain windows fid (length bytes) (errors_of (window_at windows w)) f (whole_runes f bytes))
   content_right windows f content.ConsErrors there e = plainly _ (errors_plain windows fid (length bytes) root_errors f (whole_runes f bytes))
-  content_right windows f content.Empty there e = (inl refl, refl, refl)
+  content_right windows f content.Empty there e = (inl refl, (refl, refl))
   content_right windows f (content.EventsOf w) there e = if_lives_right (window_at windows w) _ (
     inr (record {
       fid = fid;
@@ -296,8 +302,8 @@ module _ (tables : Tables) (conn fid offset : ℕ) (bytes : List ℕ) where
     refl,
     refl,
   )
-  content_right windows f content.SendText there e = (inl refl, refl, refl)
-  content_right windows f content.RulesText there e = (inl refl, refl, refl)
+  content_right windows f content.SendText there e = (inl refl, (refl, refl))
+  content_right windows f content.RulesText there e = (inl refl, (refl, refl))
   content_right windows f (content.PortOf k) there e = tt
 
   write_right : (world : World) (windows : List (Option Window)) (ports : List (List ℕ)) (o : Option Fid) → fid_of tables conn fid ≡ o → Rightly (write_fid world windows ports fid bytes o)
@@ -333,8 +339,8 @@ module _ (tables : Tables) (conn : ℕ) where
 
   agrees : (asked msize : ℕ) (version : List ℕ) (same : Bool)
       → Sound (t.Version asked version) None (cond {A = Reaction} same (does (effect.Begins (Some msize)) [] (r.Version msize (codes "9P2000"))) (does (effect.Begins None) [] (r.Version msize (codes "unknown"))))
-  agrees asked msize version true = (inl refl, refl, refl)
-  agrees asked msize version false = (inl refl, refl, refl)
+  agrees asked msize version true = (inl refl, (refl, refl))
+  agrees asked msize version false = (inl refl, (refl, refl))
 
   versioned : (msize : ℕ) (version : List ℕ) (low : Bool)
       → Sound (t.Version msize version) (cond low (Some refusal.MsizeTooSmall) None) (cond low (refusal_with_effect (effect.Begins None) refusal.MsizeTooSmall) (agreement (min msize 65560) version))
@@ -345,7 +351,7 @@ module _ (tables : Tables) (conn : ℕ) where
       → Soundly body (session_refusal tables world windows plumber openings conn body) (session_reaction tables world windows plumber openings conn body)
   served world windows plumber openings (t.Version msize version) = versioned msize version (nat_lt msize 256)
   served world windows plumber openings (t.Auth afid uname aname) = refl
-  served world windows plumber openings (t.Flush oldtag) = (inl refl, refl, refl)
+  served world windows plumber openings (t.Flush oldtag) = (inl refl, (refl, refl))
   served world windows plumber openings (t.Attach fid afid uname aname) = soundly (t.Attach fid afid uname aname) _ (attaches fid aname (attach_refusal tables conn fid afid))
   served world windows plumber openings (t.Walk fid newfid names) = soundly (t.Walk fid newfid names) _ (walks tables world plumber.names conn fid newfid names (fid_of tables conn fid))
   served world windows plumber openings (t.Open fid mode) = soundly (t.Open fid mode) _ (opens tables world plumber openings fid mode (fid_of tables conn fid))

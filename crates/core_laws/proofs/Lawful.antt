@@ -3,6 +3,7 @@ use Rattle.std.proofs.Common.{◌≡◌, ℕ, eqb, ◌&&◌, Bool, true, false, 
 use Rattle.std.specs.List.{Contains, list_any}
 use Rattle.std.proofs.lemmas.Bool.{eqb-true, false≢true}
 use Rattle.am_journal.specs.declared.event.Event.{Event}
+use Rattle.ninep_types.specs.declared.message.TBody.TheVariants as t
 use Rattle.win_text.specs.Laws.{RangesAreInside}
 use Rattle.fid_table.specs.declared.session.Waiting.{Waiting}
 use Rattle.fid_table.specs.Tables.{is_waiting}
@@ -65,7 +66,7 @@ other_tag conn tag oldtag ws free waits =
 -- the tag of a Tflush that was enabled is no waiting read's
 own_tag : (before : List Event) (conn tag oldtag : ℕ) → enabled before (flush_of conn tag oldtag) ≡ None → list_any (is_waiting conn tag) (run before).tables.waiting ≡ false
 own_tag before conn tag oldtag allowed =
-    elim (tag_or_version (present_after before) conn _ allowed) as (λ z. list_any (is_waiting conn tag) (run before).tables.waiting ≡ false) [
+    elim (tag_or_version (present_after before) conn (record { tag = tag; body = t.Flush oldtag }) allowed) as (λ z. list_any (is_waiting conn tag) (run before).tables.waiting ≡ false) [
       | inl free ↦ free
       | inr version ↦ absurd (false≢true version)
     ]

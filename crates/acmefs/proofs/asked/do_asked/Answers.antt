@@ -3,12 +3,11 @@ use Rattle.am_base.specs.Seen.{given}
 use Rattle.am_slots.specs.Slots.{outside}
 use Rattle.am_words.specs.declared.asked.Asked.TheVariants as asked
 use Rattle.am_words.specs.Words.{AreKnown}
-use Rattle.acmefs.specs.Top.{OfServe}
 use Rattle.acmefs.proofs.Drills.{of_drill}
 use Rattle.acmefs.proofs.Idle.{of_want}
 use Rattle.acmefs.proofs.PackEnds as packs
 use Rattle.acmefs.proofs.Promised.{of_replay}
-use Rattle.acmefs.proofs.Promises.{of_asked, of_other}
+use Rattle.acmefs.proofs.Promises.{at_path, of_asked, of_other}
 use Rattle.acmefs.proofs.TraceEnds as traces
 use Rattle.acmefs.proofs.Words.{asked_at, none_at}
 use Rattle.acmefs.proofs.asked.do_asked.Goals as goal
@@ -46,7 +45,7 @@ returns-in-Ok-Some-Serve-clause-words g c =
     of_asked {G = g.row.H-G.Denot} {L = g.row.H-G-L.Denot} {S = g.row.H-G-L-R.Denot} {K = g.row.H-G-L-W.Denot}
     c.args.words.now (asked.Serve c.in-Ok-Some-Serve.path c.in-Ok-Some-Serve.clients) _
     (asked_at c.args.words.now _ c.in-Ok-Some-Serve.field-0 c.in-Ok-Some-Serve.field-0-0 (asked.Serve c.in-Ok-Some-Serve.path c.in-Ok-Some-Serve.clients) c.in-Ok-Some-Serve.field-0-is c.in-Ok-Some-Serve.field-0-0-is c.as_slice.ensures c.in-Ok-Some-Serve.ensures.asked)
-    (subst (λ (path : List ℕ). OfServe path c.in-Ok-Some-Serve.clients _) c.deref.ensures c.serve_main.ensures.serves)
+    (at_path {G = g.row.H-G.Denot} {L = g.row.H-G-L.Denot} {S = g.row.H-G-L-R.Denot} {K = g.row.H-G-L-W.Denot} _ _ c.in-Ok-Some-Serve.clients _ c.deref.ensures c.serve_main.ensures.serves)
 
 pub returns-in-Ok-Some-Do-clause-words : goal.returns-in-Ok-Some-Do-clause-words
 returns-in-Ok-Some-Do-clause-words g c =
