@@ -192,5 +192,3 @@ clicks before (event.Key v side text) w is opened = absurd cc
 clicks before (event.Sel v range) w is opened = absurd cc
 clicks before (event.File path text) w is opened = absurd cc
 clicks before (event.Dir path) w is opened = absurd cc
-
-pub ruleset clicking = (clicks)

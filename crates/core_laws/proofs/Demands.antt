@@ -299,8 +299,7 @@ module _ (tables : Tables) (conn fid offset : ℕ) (bytes : List ℕ) where
       node = event_node f.node w e;
       asks = refl;
     }),
-    refl,
-    refl,
+    (refl, refl),
   )
   content_right windows f content.SendText there e = (inl refl, (refl, refl))
   content_right windows f content.RulesText there e = (inl refl, (refl, refl))

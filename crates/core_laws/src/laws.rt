@@ -31,7 +31,6 @@ pub fn flushed_reads_are_not_answered()
 
 /// An Exec or a Look in a window whose event file is open makes the item of that click, if it stands for a text, and no other, which answers
 /// reads that wait. Nothing else changes.
-#[tactic(auto, using(crate::proofs::Clicks::clicking))]
 pub fn clicks_are_told_where_the_event_file_is_open()
     ensures { ClicksAreTold }
 {}
