@@ -102,5 +102,3 @@ refusals_exact journal before behind conn msg is =
     let s : Present = present_after before in
     by_refusals s conn msg.tag msg.body (reaction_at s conn msg).answer (reaction_refusal s conn msg.body) (item_refusal s conn msg) (scene_refusal s conn msg)
     (reaction_sound s.tables conn s.scene.windows (plumber_of s.scene.rules s.scene.ports) (length s.scene.book.owners) msg.body).1
-
-pub ruleset refusing = (refusals_exact)

@@ -56,7 +56,6 @@ pub fn executed_moves_are_moves()
 
 /// Which refusal a message gets follows from the state: its text is said for the message exactly where there is one, and else its own R message,
 /// unless it is a read that waits.
-#[tactic(auto, using(crate::proofs::Refused::refusing))]
 pub fn refusals_follow_from_the_state()
     ensures { RefusalsFollow }
 {}
