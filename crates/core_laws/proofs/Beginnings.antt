@@ -6,7 +6,7 @@ use Rattle.edit_log.specs.Groups.{DoneGroup}
 use Rattle.edit_log.specs.declared.types.Done.{Done}
 use Rattle.edit_log.specs.declared.types.Edit.{Edit}
 use Rattle.core_windows.specs.Places.{live_at}
-use Rattle.core_windows.specs.Stories.{WindowStory, story_at, all_changed_stories}
+use Rattle.core_windows.specs.Stories.{WindowStory, all_changed_stories}
 use Rattle.core_windows.specs.declared.change.Change.{Change}
 use Rattle.core_scene.specs.SceneLaws.{changes_in}
 use Rattle.core_intents.specs.Doings.{doing_of}

@@ -16,7 +16,6 @@ use Rattle.win_text.specs.Bodies.{History, text_of_groups, undone_history, redon
 use Rattle.win_text.specs.BodyStories.{BodyStory, story_text, story_moved}
 use Rattle.win_text.specs.Laws.{IsLawful}
 use Rattle.win_text.proofs.Stories.{calls_keep_lawful}
-use Rattle.win_events.specs.declared.item.Origin.TheVariants.{M}
 use Rattle.core_windows.specs.Places.{at_place}
 use Rattle.core_windows.specs.Windows.{window_at}
 use Rattle.core_windows.specs.Stories.{WindowStory, IsLawfulWindow, AreLawful, shown_if_live, shown_windows, changed_stories, all_changed_stories}
@@ -32,9 +31,8 @@ use Rattle.core_exec.specs.declared.click.Clicked.{Clicked}
 use Rattle.core_exec.specs.Clicks.{own_text, text_if_any}
 use Rattle.core_exec.specs.Executing.{builtin_deeds, command_deeds, exec_deeds}
 use Rattle.core_exec.specs.Acting.{exec_click, exec_clicked}
-use Rattle.core_tasks.specs.Tasks.{task_deeds}
-use Rattle.core_intents.specs.Doings.{doing_of, entry_by}
-use Rattle.acme_core.specs.Run.{step, run, present_after, IsPossible}
+use Rattle.core_intents.specs.Doings.{doing_of}
+use Rattle.acme_core.specs.Run.{step, run, IsPossible}
 use Rattle.core_parts.specs.States.{State, present, next_entry}
 use Rattle.acme_core.proofs.Goes.{run-push}
 use Rattle.core_laws.specs.Moving.{moved_story, moved_story_if, TextIsMoved, MovesAreWhole, builtin_of}

@@ -1,35 +1,27 @@
 -- Each message gets the refusal whose condition holds, and no other.
-use Rattle.std.proofs.Common.{◌≡◌, ℕ, ◌+◌, ◌&&◌, Bool, true, false, cond, List, [], ◌∷◌, ◌++◌, length, Option, Some, None, refl, sym, ap, subst, ◌∙◌, arith}
-use Rattle.ninep_types.specs.Kinds.{tread}
-use Rattle.ninep_types.specs.Spelling.{kind_t, kind_r}
-use Rattle.ninep_types.specs.declared.message.RBody.{RBody}
+use Rattle.std.proofs.Common.{◌≡◌, ℕ, ◌+◌, ◌&&◌, Bool, true, false, cond, List, length, Option, Some, None, refl, sym, ap, ◌∙◌, arith}
+use Rattle.ninep_types.specs.Spelling.{kind_t}
 use Rattle.ninep_types.specs.declared.message.RBody.TheVariants as r
 use Rattle.ninep_types.specs.declared.message.TBody.{TBody}
-use Rattle.ninep_types.specs.declared.message.TMsg.{TMsg}
 use Rattle.fid_table.specs.Tables.{Tables}
-use Rattle.wait_queue.specs.declared.types.Asked.{Asked}
 use Rattle.wait_queue.specs.declared.types.Asked.TheVariants.{Now, Waits}
 use Rattle.wait_queue.specs.declared.types.Asker.{Asker}
 use Rattle.event_book.specs.BookState.{BookState, is_living, read_waits, piece_for}
-use Rattle.plumb_ports.specs.PortsState.{PortsState, has_joined}
+use Rattle.plumb_ports.specs.PortsState.{PortsState}
 use Rattle.plumb_ports.specs.PortsState.{read_waits as port_waits, piece_for as port_piece}
-use Rattle.am_journal.specs.declared.event.Event.{Event}
-use Rattle.am_journal.specs.declared.event.Event.TheVariants as event
 use Rattle.core_fids.specs.Plumbers.{plumber_of}
 use Rattle.core_fids.specs.Refusals.{refusal_text}
 use Rattle.core_fids.specs.declared.effect.Answer.{Answer}
 use Rattle.core_fids.specs.declared.effect.Answer.TheVariants.{Says, Reads, ReadsPort}
-use Rattle.core_fids.specs.declared.effect.Reaction.{Reaction}
 use Rattle.core_fids.specs.declared.refusal.Refusal.{Refusal}
 use Rattle.core_fids.specs.declared.refusal.Refusal.TheVariants as refusal
 use Rattle.core_events.specs.Asking.{said_to, reads_are_full}
 use Rattle.core_events.specs.PortAsking.{said_unless, read_refusal}
-use Rattle.core_intents.specs.Doings.{doing_of}
 use Rattle.core_intents.specs.Intents.{is_refusal, or_refused, reaction_at}
 use Rattle.core_parts.specs.States.{Present}
 use Rattle.acme_core.specs.Run.{present_after}
 use Rattle.core_steps.specs.Stages.{asker_of}
-use Rattle.core_laws.specs.Refusals.{event_refusal, item_refusal, opening_refusal, or_later, reaction_refusal, refusal_for, reply_of, scene_refusal, IsSaidFor, RefusalsFollow}
+use Rattle.core_laws.specs.Refusals.{item_refusal, opening_refusal, or_later, reaction_refusal, reply_of, scene_refusal, IsSaidFor, RefusalsFollow}
 use Rattle.core_laws.proofs.Demands.{IsExact, Owns, reaction_sound}
 
 -- ---- reads
