@@ -104,7 +104,9 @@ def build(why: str) -> None:
 
 
 def version() -> str:
-    """The commit that stands here, and whether the program is built of it. Nothing is built."""
+    """The version and the commit that stand here, and whether the program is built of it. Nothing is built."""
+    with open(f"{TOP}/VERSION", encoding="utf-8") as file:
+        number = file.read().strip()
     commit = "an unknown commit"
     if os.path.exists(f"{TOP}/.git"):
         git = ["git", "-C", TOP]
@@ -113,7 +115,7 @@ def version() -> str:
         if subprocess.call([*git, "diff", "--quiet", "HEAD"]):
             commit += ", with changes"
     built = "is built of the sources as they are" if is_current() else "will be proved and built at its next use"
-    return f"acmefs at {commit}\nThe program {built}.\n"
+    return f"acmefs {number} at {commit}\nThe program {built}.\n"
 
 
 def needs_toolchain() -> None:
