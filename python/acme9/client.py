@@ -12,7 +12,7 @@ from typing import Callable, Iterator, List, Optional, Type, TypeVar, Union
 
 from . import wire
 from .connection import HANDSHAKE, Connection, namespace
-from .errors import BadMessage, Error, NotFound, Refused
+from .errors import BadMessage, Error, FidClunked, NotFound, Refused
 
 MODES = {
     "r": wire.OREAD,
@@ -80,8 +80,14 @@ class File:
         """One Tread from a place."""
         count = self._most_read if count is None else min(count, self._most_read)
         with about(self.name):
-            asked = {"fid": self.fid, "offset": offset, "count": count}
-            return self.connection.call("Tread", timeout, self._keep, **asked)["data"]
+            reply = self.connection.call("Tread", timeout, self._keep, fid=self._fid(), offset=offset, count=count)
+            data: bytes = reply["data"]
+            return data
+
+    def _fid(self) -> int:
+        if self.fid == wire.NOFID:
+            raise FidClunked("fid clunked")
+        return self.fid
 
     def _keep(self, reply: wire.Message) -> None:
         """What came for a thread that was interrupted is for the next read."""
@@ -108,8 +114,8 @@ class File:
         given = data.encode("utf-8") if isinstance(data, str) else data
         with self._writing, about(self.name):
             for piece in pieces(given, self._most_written, cut):
-                asked = {"fid": self.fid, "offset": self._written, "data": piece}
-                count = self.connection.call("Twrite", **asked)["count"]
+                reply = self.connection.call("Twrite", fid=self._fid(), offset=self._written, data=piece)
+                count: int = reply["count"]
                 if count != len(piece):
                     raise Error(f"{self.name}: the server took {count} of {len(piece)} bytes")
                 self._written += count
@@ -126,9 +132,13 @@ class File:
     def __enter__(self) -> "File":
         return self
 
-    def __exit__(self, *_: object) -> None:
-        if not self.connection.end:
+    def __exit__(self, kind: object, *_: object) -> None:
+        """A refused clunk is raised where nothing else is."""
+        try:
             self.close()
+        except Error:
+            if kind is None:
+                raise
 
 
 @contextmanager

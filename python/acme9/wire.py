@@ -134,9 +134,9 @@ def _written(form: str, value: Any) -> bytes:
     if form == "q":
         return b"".join(_number(size, it) for size, it in zip((1, 4, 8), value))
     if form == "s":
-        form, value = "d2", value.encode("utf-8")
+        return _written("d2", value.encode("utf-8"))
     if form.startswith("d"):
-        return _number(int(form[1:]), len(value)) + value
+        return _number(int(form[1:]), len(value)) + bytes(value)
     return _number(int(form), value)
 
 
