@@ -225,7 +225,8 @@ class Writer:
         refused = re.fullmatch(r"refused (\d+) ([a-z]+)", why)
         if refused and int(refused[1]) > self._before:
             place = int(refused[1]) - self._before - 1
-            return Fault(f"line {self._numbers[place]} is refused ({refused[2]}): {self._desk.lines[place + self._before]}")
+            number = self._numbers[place]
+            why = f"`{self._desk.lines[place + self._before]}` is refused: {refused[2]}"
         hint = "; what clients do is known from a journal alone (--after)" if self._awaits else ""
         return Fault(f"line {number}: {why}{hint}")
 
