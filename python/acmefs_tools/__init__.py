@@ -1,0 +1,1 @@
+"""What the programs acmefs-view, acmefs-tree and acmefs-script stand on: transcripts, reports and replays."""
