@@ -17,7 +17,8 @@ TOP = os.path.dirname(os.path.dirname(os.path.realpath(__file__)))
 BIN = f"{TOP}/bin"
 EXAMPLES = f"{TOP}/examples"
 PROGRAM = os.environ.get("ACMEFS_PROGRAM", f"{TOP}/crates/acmefs/out/acmefs")
-SECONDS = 120
+# how long a program may run
+SECONDS = int(os.environ.get("ACMEFS_SECONDS", "120"))
 os.environ.update({"ACMEFS": PROGRAM, "PYTHONDONTWRITEBYTECODE": "1"})
 sys.dont_write_bytecode = True
 sys.path.insert(0, f"{TOP}/python")
