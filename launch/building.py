@@ -4,8 +4,7 @@ import os
 import re
 import shutil
 import subprocess
-import sys
-from typing import IO, Iterator, List, Set
+from typing import IO, Iterator, List, Set, Union
 
 from launch import child
 from launch.telling import TOP, fail, say, write
@@ -17,8 +16,6 @@ STAMP = f"{PROGRAM}.built"
 # what proves the crates, and all that the last build said
 PROVE = f"{TOP}/.ci/prove"
 SAID = f"{PROGRAM}.said"
-# how long an unproved run may take, in seconds
-LONGEST = 86400
 # what tells of a fault: lines that only say that a crate failed give no reason
 FAULT = re.compile(r": error|error:|not proved|no proof|NOT PROVED|^rt: (?!chose |note: |C is allowed)")
 # how many lines of what was said are shown
@@ -84,6 +81,12 @@ def faults(lines: List[str]) -> List[str]:
     return found[:SHOWN] if found and not is_broken else lines[-SHOWN:]
 
 
+def does_replay(program: str, said: Union[IO[str], int]) -> bool:
+    """Whether a program is there and does a transcript without lines."""
+    quiet = subprocess.DEVNULL
+    return os.access(program, os.X_OK) and not subprocess.call([program, "replay"], stdin=quiet, stdout=quiet, stderr=said)
+
+
 def build(why: str) -> None:
     """Proves and builds the program, and tries it on a transcript without lines. The stamp has the time of the start,
     so that a source which changes meanwhile is seen at the next use."""
@@ -92,9 +95,8 @@ def build(why: str) -> None:
     with open(SAID, "w+", encoding="utf-8", errors="replace") as said:
         said.write(f"{why}\n")
         said.flush()
-        started, quiet = os.stat(SAID).st_mtime_ns, subprocess.DEVNULL
-        well = prove(said) and os.access(PROGRAM, os.X_OK)
-        if not well or subprocess.call([PROGRAM, "replay"], stdin=quiet, stdout=quiet, stderr=said):
+        started = os.stat(SAID).st_mtime_ns
+        if not (prove(said) and does_replay(PROGRAM, said)):
             said.flush()
             said.seek(0)
             write(2, "".join(faults(said.readlines())))

@@ -31,8 +31,7 @@ def usage() -> str:
         return file.read()
 
 
-def tell(status: int, unproved: bool = False) -> None:
-    """Says what an exit status means. One of `rt try` is the program's only where the program has ended."""
+def tell(status: int) -> None:
+    """Says what an exit status means."""
     found = re.search(rf"^status {status}:.*", usage(), re.M)
-    doubt = ", if the line above says run=ended; else the program did not come to its end" if unproved else ""
-    say((found[0] if found else f"status {status}") + doubt)
+    say(found[0] if found else f"status {status}")
