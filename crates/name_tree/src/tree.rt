@@ -173,16 +173,18 @@ impl Tree {
         ensures found { IfOk result (λ found. found ≡ found_at self.now.present path.now) }
         ensures ordered { IsOrdered self.now.present }
     {
-        let _count = self.growing.places.len(); // for its clause on the order of the paths
-        if self.is_directory(path) {
-            return Ok(Found::Dir(self.growing.places.listing(path)?));
+        let places = &self.growing.places;
+        let _count = places.len(); // for its clause on the order of the paths
+        if is_root(path) {
+            return Ok(Found::Dir(places.listing(path)?));
         }
-        match self.growing.places.at(path) {
+        match places.at(path) {
             Some(Node::File(bytes)) => Ok(Found::File(Bytes::copied(
                 self.alloc,
                 bytes.as_slice(),
             )?)),
-            _ => Ok(Found::None),
+            Some(Node::Directory) => Ok(Found::Dir(places.listing(path)?)),
+            None => Ok(Found::None),
         }
     }
 }
