@@ -2,6 +2,8 @@
 run from file to file."""
 
 import os
+import re
+import shutil
 import subprocess
 import sys
 import tempfile
@@ -63,6 +65,19 @@ def processor_time(program, lines, room):
     if status:
         sys.exit(f"{program} ended with status {os.waitstatus_to_exitcode(status)}")
     return usage.ru_utime + usage.ru_stime, os.path.getsize(made)
+
+
+def instructions(program, lines):
+    """The instructions of a replay of these lines as valgrind's callgrind counts them, or None where it isn't there."""
+    valgrind = shutil.which("valgrind")
+    if not valgrind:
+        return None
+    words = [valgrind, "--tool=callgrind", "--callgrind-out-file=/dev/null", program, "replay"]
+    ran = subprocess.run(words, input=b"".join(lines), stdout=subprocess.DEVNULL, stderr=subprocess.PIPE)
+    counted = re.search(rb"Collected : (\d+)", ran.stderr)
+    if ran.returncode or not counted:
+        sys.exit(f"{program} ended with status {ran.returncode} under valgrind")
+    return int(counted[1])
 
 
 def least(program, transcripts, runs):
