@@ -8,8 +8,8 @@ ghost use Rattle.re_sets.specs.Numbers.{letters};
 ghost use Rattle.re_machine.specs.Machines.{IsFormOf};
 
 use crate::copy::copy;
-use crate::count::room_after;
 use crate::found::{search_back, search_on};
+use crate::leaves::letter_count;
 use crate::set::LetterSet;
 use crate::tables::Tables;
 use crate::wide::Wide;
@@ -83,10 +83,11 @@ impl Form {
     fn build(alloc: Global, re: &Re) -> Result<Form, NoMemory>
         ensures { IfOk result (IsFormOf (tree re.now)) }
     {
-        if room_after(re, u64::SIZE).is_some() {
+        let count = letter_count(alloc, re)?;
+        if count <= u64::SIZE {
             return Form::word(alloc, re);
         }
-        if room_after(re, Wide::SIZE).is_some() {
+        if count <= Wide::SIZE {
             return Form::wide(alloc, re);
         }
         Ok(Form::Spans)
