@@ -75,7 +75,7 @@ pub struct Part<S> {
     pub last: S,
 }
 
-/// What is filled so far: the parts that no seen node has taken yet, the last one first, and how many letters they have.
+/// What is filled so far: the parts that no node has taken yet, the last one first, and how many letters were seen.
 #[derive(Drop)]
 pub struct Filling<S> {
     pub parts: VecDeque<Part<S>>,
