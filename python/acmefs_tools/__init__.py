@@ -1,1 +1,1 @@
-"""What the programs acmefs-view, acmefs-tree and acmefs-script stand on: transcripts, reports and replays."""
+"""The programs around the server: acmefs-front, acmefs-view, acmefs-tree and acmefs-script."""
