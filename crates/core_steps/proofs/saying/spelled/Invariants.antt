@@ -1,7 +1,7 @@
 use Rattle.std.proofs.Common.{◌≡◌, ◌++◌, drop}
 use Rattle.core_steps.specs.Replies.{replies_of}
 use Rattle.core_outputs.specs.Unsent.{HaveBytes}
-use Rattle.core_steps.proofs.growing.spelled.Given as goal
+use Rattle.core_steps.proofs.saying.spelled.Given as goal
 
 abbrev pub invariant-loop-response : goal.invariant-loop-response
 invariant-loop-response l = record {

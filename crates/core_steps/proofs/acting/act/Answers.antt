@@ -1,5 +1,5 @@
 use Rattle.core_steps.proofs.Moved.{task_deleted, task_ports}
-use Rattle.core_steps.proofs.growing.act.Goals as goal
+use Rattle.core_steps.proofs.acting.act.Goals as goal
 
 pub returns-clause-deleted : goal.returns-clause-deleted
 returns-clause-deleted c =
