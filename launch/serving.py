@@ -26,6 +26,8 @@ CLEAN = [signal.SIGHUP, signal.SIGINT, signal.SIGTERM]
 PIDFD_GETFD = 438
 # how often the sockets are looked for, and when those that aren't there by then are told, in seconds
 LOOKS, SETTLED = 0.05, 0.5
+# the status of a server that has a slot without a socket
+NO_SOCKET = 5
 # the bytes of a script at most, and how long it is looked through, in seconds
 SCRIPT_LIMIT, CHECKED = 16_777_216, 10
 
@@ -123,7 +125,7 @@ def why_not(path: str) -> str:
     if len(os.fsencode(path)) > 107:
         return "its name has more than 107 bytes"
     if os.path.lexists(path):
-        return "a server listens there already" if is_socket(path) else "there is a file of that name, which is no socket"
+        return "a server listens there, it seems" if is_socket(path) else "there is a file of that name, which is no socket"
     if not os.path.isdir(folder):
         return f"there is no folder {folder}"
     return "the system did not make it" if os.access(folder, os.W_OK) else f"the folder {folder} can't be written to"
@@ -200,9 +202,12 @@ class Server:
         """Waits until it has ended, and says where it serves once the sockets are there."""
         since, count = time.monotonic(), 0
         while not self.is_settled(since):
-            with contextlib.suppress(subprocess.TimeoutExpired):
-                return self.process.wait(LOOKS)
             self.look()
+            with contextlib.suppress(subprocess.TimeoutExpired):
+                status = self.process.wait(LOOKS)
+                if status == NO_SOCKET:
+                    self.say_lost(self.asked.sockets()[:1])
+                return status
             if len(self.made) != count:
                 since, count = time.monotonic(), len(self.made)
         if not self.signals:
@@ -215,7 +220,11 @@ class Server:
         lost = [it for it in paths if it not in self.made]
         where = f"each of {paths[0]} to {paths[-1]}" if not lost and len(paths) > 1 else ", ".join(self.made)
         say(f"serving one connection at {where}; the journal and the report come when all have ended")
-        for path in lost:
+        self.say_lost(lost)
+
+    def say_lost(self, paths: List[str]) -> None:
+        """Says why slots can't be served."""
+        for path in paths:
             say(f"nothing is served at {path}: {why_not(path)}")
 
     def ends(self, number: int) -> None:
@@ -293,8 +302,8 @@ def say_faults(program: str, text: bytes) -> None:
 
 def run(words: List[str], asked: Serving) -> int:
     """The status of a server that is run as a child. Its script is read first, as it would do itself."""
-    remove_stale(asked)
     text = script()
+    remove_stale(asked)
     server = Server(asked)
     child.handle(child.PASSED, server.gets)
     with tempfile.TemporaryFile() as given:

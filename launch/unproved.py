@@ -63,7 +63,7 @@ def copy(made: str, to: str) -> None:
     part = f"{to}.{os.getpid()}"
     shutil.copy(made, part)
     os.replace(part, to)
-    others = sorted((f"{KEPT}/{it}" for it in os.listdir(KEPT)), key=lambda it: os.stat(it).st_mtime_ns)
+    others = sorted((f"{KEPT}/{it}" for it in os.listdir(KEPT) if "." not in it), key=lambda it: os.stat(it).st_mtime_ns)
     for it in others[:-MOST_KEPT]:
         os.remove(it)
 
