@@ -4,6 +4,7 @@ import json
 import os
 import re
 import time
+from dataclasses import dataclass
 from typing import Any, Dict, Iterator, List, Optional, Sequence, Tuple
 
 from . import states
@@ -57,20 +58,30 @@ def changes(window: int, old: Shown, new: Shown) -> Iterator[Change]:
         yield body_change(window, old.text(), new.text())
 
 
+@dataclass(frozen=True)
+class Seen:
+    """What was seen after an entry: the live windows, where it may change them, the bodies that were read, and the
+    report on the front that ends with it, where there is one."""
+
+    index: Optional[Dict[int, Shown]]
+    bodies: Dict[int, bytes]
+    front: Optional[Front]
+
+
 class Scene:
     """The windows while the entries are gone through."""
 
     def __init__(self, story: Story):
         self._story, self._windows = story, {}  # type: Story, Dict[int, Shown]
 
-    def enter(self, entry: int, index: Optional[Dict[int, Shown]], texts: Dict[int, bytes], front: Optional[Front]) -> List[Change]:
-        """What an entry changes: the live windows, where it may change them, the bodies that were read after it, and
-        the report on the front that ends with it."""
+    def enter(self, entry: int, seen: Seen) -> List[Change]:
+        """What an entry changes, by what was seen after it."""
         before = self._windows
-        after = {it: Shown(**vars(one)) for it, one in before.items()} if index is None else self._indexed(index)
-        for window, body in texts.items():
+        is_same = seen.index is None
+        after = {it: Shown(**vars(one)) for it, one in before.items()} if is_same else self._indexed(seen.index or {})
+        for window, body in seen.bodies.items():
             after[window].body = body
-        self._point(entry, after, front)
+        self._point(entry, after, seen.front)
         self._windows = after
         return [*self._compared(before, after)]
 
@@ -174,7 +185,7 @@ def read_all(journal: Journal, most: int, progress: Any) -> Tuple[Story, Dict[in
             ahead = next(fronts, None)
         if story.touches[entry].windows is None and story.told[entry - 1].connection is None:
             story.told[entry - 1].words = scene.spelled(story.told[entry - 1].words)
-        changed[entry] = scene.enter(entry, found.pop(entry, None), held.pop(entry, {}), front)
+        changed[entry] = scene.enter(entry, Seen(found.pop(entry, None), held.pop(entry, {}), front))
     return story, {entry: it for entry, it in changed.items() if it}, makings
 
 
@@ -200,8 +211,8 @@ def cost(story: Story, seconds: float) -> str:
     """What making the page took."""
     of = "" if len(story.fronts) == len(story.touches) else f" of {len(story.touches)}"
     return (
-        f"{story.report.entries:,} entries. Names, tags and bodies: two replays with {story.reads:,} reads added over a "
-        f"connection of their own; the replies and the report were the same without them. Dots, events and requests: "
+        f"{story.report.entries:,} entries. Names, tags and bodies: two replays with {story.reads:,} reads added over "
+        f"a connection of their own; the replies and the report were the same without them. Dots, events and requests: "
         f"replays of {len(story.fronts):,}{of} fronts, up to entries that may change them. Made in {seconds:.1f} s."
     )
 

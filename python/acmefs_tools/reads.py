@@ -203,7 +203,7 @@ def without(report: Sequence[str], woven: Woven) -> Iterator[str]:
         elif word == "connections":
             yield f"connections {int(rest) - 1}"
         elif word == "item":
-            yield WHEN.sub(lambda found: found[1] + found[2] + as_before(found[2], found[3], woven.origins) + found[4], line)
+            yield WHEN.sub(lambda it: it[1] + it[2] + as_before(it[2], it[3], woven.origins) + it[4], line)
         elif word != "connection" or rest != f"{woven.connection} live":
             yield line
 

@@ -9,9 +9,9 @@ the texts stand at that point: what stands before is replayed for it.
     select W body TEXT                  a text is selected: `sel`
     type W SIDE TEXT                    a text is typed: `key`
 
-W and V are numbers or names of windows, SIDE is body or tag. TEXT is the rest of the line, or "TEXT" with \\n, \\t, \\"
-and \\\\ in it; "TEXT" 2 is its second place. @ADDRESS is an address in the body as sam has them, in which . is dot. Lines
-of a transcript stay as they are. Empty lines and lines that begin with # are left out.
+W and V are numbers or names of windows, SIDE is body or tag. TEXT is the rest of the line, or "TEXT" with \\n, \\t,
+\\" and \\\\ in it; "TEXT" 2 is its second place. @ADDRESS is an address in the body as sam has them, in which . is dot.
+Lines of a transcript stay as they are. Empty lines and lines that begin with # are left out.
 
     --after JOURNAL     the words come behind the events of a journal, which aren't written
     --help              this text
@@ -19,12 +19,12 @@ of a transcript stay as they are. Empty lines and lines that begin with # are le
 More: docs/manual/acmefs-script.1.md
 """
 
-import os
 import re
 import sys
 from dataclasses import dataclass
-from typing import Dict, List, NoReturn, Optional, Tuple
+from typing import Dict, List, Optional, Tuple
 
+from .commands import BadWords, content, run
 from .lines import Fault, Journal, Report, decoded, escape, split_lines
 from .program import traced
 from .reads import MOST_READ, Reader, data_of, unused_connection
@@ -277,39 +277,19 @@ def written(words: List[str], before: List[str]) -> List[str]:
     return found
 
 
-def content(path: Optional[str]) -> bytes:
-    if path is None or path == "-":
-        return sys.stdin.buffer.read()
-    with open(path, "rb") as file:
-        return file.read()
-
-
-def bad_words(why: str) -> NoReturn:
-    """Ends with what is wrong with the words."""
-    sys.stderr.write(f"acmefs-script: {why}\n{(__doc__ or '').split(chr(10) * 2)[0]}\n")
-    sys.exit(1)
-
-
-def main(given: List[str]) -> int:
-    """The command: the exit status is 1 where the words aren't known, and 2 where a line can't be written."""
-    if given[:1] in (["--help"], ["-h"]):
-        sys.stdout.write(__doc__ or "")
-        return 0
+def write(words: List[str]) -> int:
+    """Does what the words ask for."""
     after = None
-    if given[:1] == ["--after"]:
-        after, given = given[1] if len(given) > 1 else bad_words("--after needs a journal"), given[2:]
-    if len(given) > 1 or any(it.startswith("-") and it != "-" for it in given):
-        bad_words(f"these words aren't known: {' '.join(given)}")
-    sys.stdout.reconfigure(encoding="utf-8", newline="\n")
-    try:
-        before = Journal.of(content(after), after).entries if after else []
-        words = split_lines(decoded(content(given[0] if given else None), "the words"))
-        for line in written(words, before):
-            sys.stdout.write(f"{line}\n")
-        sys.stdout.flush()
-    except BrokenPipeError:
-        os.dup2(os.open(os.devnull, os.O_WRONLY), 1)
-    except (Fault, OSError) as why:
-        sys.stderr.write(f"acmefs-script: {why}\n")
-        return 2
+    if words[:1] == ["--after"]:
+        after, words = (words[1] if len(words) > 1 else ""), words[2:]
+    if after == "" or len(words) > 1 or any(it.startswith("-") and it != "-" for it in words):
+        raise BadWords("one file of words is named at most, and behind --after a journal")
+    before = Journal.of(content(after), after).entries if after else []
+    for line in written(split_lines(decoded(content(words[0] if words else None), "the words")), before):
+        sys.stdout.write(f"{line}\n")
     return 0
+
+
+def main(words: List[str]) -> int:
+    """The command: the exit status is 1 where the words aren't known, and 2 where a line can't be written."""
+    return run("acmefs-script", __doc__ or "", words, write)

@@ -48,10 +48,10 @@ def touch_of(step: Step, file: str) -> Optional[Touch]:
         return Touch(frozenset([int(rest.partition(" ")[0])]), word == "sel")
     if word == "new":
         return Touch(frozenset())
-    verb = step.spoken.message.name if step.spoken else ""
-    if verb == "Twalk" and ("new" in step.spoken.message["names"] or file == "new/"):
+    message = step.spoken.message if step.spoken else None
+    if message and message.name == "Twalk" and ("new" in message["names"] or file == "new/"):
         return Touch(frozenset())
-    if verb != "Twrite":
+    if not message or message.name != "Twrite":
         return None
     found = WINDOW_FILE.fullmatch(file)
     if found and found[2] in OWN:
@@ -161,9 +161,12 @@ def wanted_bodies(story: Story, found: Dict[int, Dict[int, Shown]]) -> Dict[int,
     return wanted
 
 
-def bodies(journal: Journal, story: Story, wanted: Dict[int, List[str]], step: Steps) -> Iterator[Tuple[int, Dict[int, bytes]]]:
+Bodies = Dict[int, bytes]
+
+
+def bodies(journal: Journal, story: Story, wanted: Dict[int, List[str]], step: Steps) -> Iterator[Tuple[int, Bodies]]:
     """The third: bodies after the entries that may have changed them, in order."""
-    held, entry = {}, 0  # type: Dict[int, bytes], int
+    held, entry = {}, 0  # type: Bodies, int
     for read in gathered(journal.entries, wanted, SHOWN, story.plain):
         if read.entry != entry and held:
             yield entry, held

@@ -16,11 +16,13 @@ More: docs/manual/acmefs-tree.1.md
 import os
 import re
 import sys
-from typing import Dict, Iterator, List, NoReturn, Optional, Tuple
+from typing import Iterator, List, Set, Tuple
 
+from .commands import BadWords, content, run, say
 from .folder import Folder, Found
 from .lines import INPUT_LIMIT, Fault, Report, decoded, escape, report_lines
 
+NAME = "acmefs-tree"
 # what no part of a path of the editor's tree has
 BAD_RUNE = re.compile(r"[\0-\x20\\]")
 
@@ -29,7 +31,8 @@ def parts_of(path: str) -> List[str]:
     """The parts of a path of the editor's tree. `/` has none."""
     parts = path[1:].split("/") if path != "/" else []
     if not path.startswith("/") or any(it in ("", ".", "..") or BAD_RUNE.search(it) for it in parts):
-        raise Fault(f"`{path}` is no path of the editor: it begins with /, its parts aren't empty, . or .., and have no blanks")
+        form = "it begins with /, its parts aren't empty, . or .., and have no blanks"
+        raise Fault(f"`{path}` is no path of the editor: {form}")
     return parts
 
 
@@ -46,12 +49,11 @@ class Loading:
 
     def __init__(self, at: List[str]):
         self._at, self._room = at, INPUT_LIMIT
-        self._empty: Dict[str, bool] = {}
         self.left_out: List[str] = []
 
     def lines(self, found: Iterator[Found]) -> Iterator[str]:
         """The lines of what was found: of files, and then of the folders that no file makes."""
-        made = set()
+        made: Set[str] = set()
         folders = [[*self._at]] if self._at else []
         for it in found:
             line = self._line(it)
@@ -108,7 +110,7 @@ def load(path: str, at: List[str]) -> int:
             sys.stdout.write(f"{line}\n")
     sys.stdout.flush()
     for it in loading.left_out:
-        say(f"left out {path}{it}")
+        say(NAME, f"left out {path}{it}")
     return 0
 
 
@@ -126,7 +128,7 @@ def saves(report: Report, at: List[str]) -> Iterator[Tuple[str, List[str], str]]
 
 def save(path: str, at: List[str], only_said: bool) -> int:
     """Stores what a report asks to save; the status is 2 where something isn't."""
-    lines = report_lines(decoded(sys.stdin.buffer.read(), "the journal"))
+    lines = report_lines(decoded(content(None), "the journal"))
     if not lines:
         raise Fault("there is no report in what is read: save needs what acmefs serve or acmefs replay wrote")
     status = 0
@@ -134,9 +136,10 @@ def save(path: str, at: List[str], only_said: bool) -> int:
         for name, parts, text in saves(Report.of(lines), at):
             try:
                 data = stored(folder, parts, text, only_said)
-                print(f"{'would save' if only_said else 'saved'} {name} as {path.rstrip('/')}{below([], parts)}: {len(data)} bytes")
+                done = "would save" if only_said else "saved"
+                print(f"{done} {name} as {path.rstrip('/')}{below([], parts)}: {len(data)} bytes")
             except Fault as why:
-                say(f"refused {name}: {why}")
+                say(NAME, f"refused {name}: {why}")
                 status = 2
     sys.stdout.flush()
     return status
@@ -155,34 +158,17 @@ def stored(folder: Folder, parts: List[str], text: str, only_said: bool) -> byte
 # -- the command
 
 
-def say(text: str) -> None:
-    sys.stderr.write(f"acmefs-tree: {text}\n".encode("utf-8", "backslashreplace").decode("utf-8"))
-
-
-def bad_words(why: str) -> NoReturn:
-    """Ends with what is wrong with the words."""
-    say(f"{why}\n{(__doc__ or '').split(chr(10) * 2)[0]}")
-    sys.exit(1)
-
-
-def main(words: List[str]) -> int:
-    """The command: the exit status is 1 where the words aren't known, and 2 where something isn't done."""
-    if words[:1] in (["--help"], ["-h"]):
-        sys.stdout.write(__doc__ or "")
-        return 0
+def do(words: List[str]) -> int:
+    """Does what the words ask for."""
     verb, rest = (words[0], words[1:]) if words else ("", [])
     only_said = verb == "save" and rest[:1] == ["-n"]
     rest = rest[1:] if only_said else rest
     if verb not in ("load", "save") or not 1 <= len(rest) <= 2 or any(it.startswith("-") or not it for it in rest):
-        bad_words(f"these words aren't known: {' '.join(words)}" if words else "what is to be done? load or save")
-    sys.stdout.reconfigure(encoding="utf-8", errors="surrogateescape", newline="\n")
-    try:
-        at = parts_of(rest[1] if len(rest) > 1 else os.path.abspath(rest[0]))
-        return load(rest[0], at) if verb == "load" else save(rest[0], at, only_said)
-    except BrokenPipeError:
-        os.dup2(os.open(os.devnull, os.O_WRONLY), 1)
-        return 0
-    except (Fault, OSError) as why:
-        sys.stdout.flush()
-        say(str(why))
-        return 2
+        raise BadWords(f"these words aren't known: {' '.join(words)}" if words else "what is to be done? load or save")
+    at = parts_of(rest[1] if len(rest) > 1 else os.path.abspath(rest[0]))
+    return load(rest[0], at) if verb == "load" else save(rest[0], at, only_said)
+
+
+def main(words: List[str]) -> int:
+    """The command: the exit status is 1 where the words aren't known, and 2 where something isn't done."""
+    return run(NAME, __doc__ or "", words, do)

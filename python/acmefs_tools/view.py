@@ -18,7 +18,8 @@ import sys
 import time
 from typing import Iterator, List, Optional, TextIO
 
-from .lines import Fault, Journal
+from .commands import BadWords, content, run
+from .lines import Journal
 from .program import traced
 from .telling import Teller
 from .trace import Trace
@@ -54,14 +55,6 @@ class Progress:
             self._stream.flush()
 
 
-def content(path: str) -> bytes:
-    """The bytes of a file; of the standard input for `-`."""
-    if path == "-":
-        return sys.stdin.buffer.read()
-    with open(path, "rb") as file:
-        return file.read()
-
-
 def lines(journal: Journal, numbered: bool) -> Iterator[str]:
     """A line for each operation, and for each answer that comes later. That replies are taken isn't told."""
     teller = Teller()
@@ -93,61 +86,44 @@ class Words:
     """What the words of the command ask for."""
 
     def __init__(self, words: List[str]):
-        self.path: Optional[str] = None
         self.html: Optional[str] = None
         self.numbered, self.fronts = False, FRONTS
+        paths = []
         left = iter(words)
         for word in left:
             if word == "-n":
                 self.numbered = True
             elif word == "--html":
-                self.html = next(left, None) or bad_words("--html needs a file")
+                self.html = next(left, "")
             elif word == "--fronts":
                 self.fronts = count_of(next(left, ""))
-            elif word.startswith("-") and word != "-" or self.path is not None:
-                bad_words(f"`{word}` isn't known here")
+            elif word.startswith("-") and word != "-":
+                raise BadWords(f"`{word}` isn't known here")
             else:
-                self.path = word
-        if self.path is None:
-            bad_words("no journal is named")
+                paths.append(word)
+        if len(paths) != 1 or self.html == "":
+            raise BadWords("one journal is named, and behind --html a file")
+        self.path = paths[0]
 
 
 def count_of(word: str) -> int:
     if not (word.isdecimal() and word.isascii() and int(word) > 0):
-        bad_words("--fronts needs a number above 0")
+        raise BadWords("--fronts needs a number above 0")
     return int(word)
 
 
-def bad_words(why: str) -> str:
-    """Ends with what is wrong with the words."""
-    sys.stderr.write(f"acmefs-view: {why}\n{(__doc__ or '').split(chr(10) * 2)[0]}\n")
-    sys.exit(1)
-
-
-def show(words: Words) -> None:
-    path = words.path or "-"
-    journal = Journal.of(content(path), path)
+def show(given: List[str]) -> int:
+    """Does what the words ask for."""
+    words = Words(given)
+    journal = Journal.of(content(words.path), words.path)
     if words.html:
-        write_page(words.html, os.path.basename(path), journal, words.fronts)
-        return
+        write_page(words.html, os.path.basename(words.path), journal, words.fronts)
+        return 0
     for line in lines(journal, words.numbered):
         sys.stdout.write(f"{line}\n")
-    sys.stdout.flush()
-
-
-def main(given: List[str]) -> int:
-    """The command: the exit status is 1 where the words aren't known, and 2 where the journal can't be shown."""
-    if given[:1] in (["--help"], ["-h"]):
-        sys.stdout.write(__doc__ or "")
-        return 0
-    words = Words(given)
-    sys.stdout.reconfigure(encoding="utf-8", errors="backslashreplace")
-    try:
-        show(words)
-    except BrokenPipeError:
-        os.dup2(os.open(os.devnull, os.O_WRONLY), 1)
-    except (Fault, OSError) as why:
-        sys.stdout.flush()
-        sys.stderr.write(f"acmefs-view: {why}\n")
-        return 2
     return 0
+
+
+def main(words: List[str]) -> int:
+    """The command: the exit status is 1 where the words aren't known, and 2 where the journal can't be shown."""
+    return run("acmefs-view", __doc__ or "", words, show)
