@@ -7,7 +7,7 @@
 
 import getpass
 import threading
-from contextlib import contextmanager
+from contextlib import contextmanager, suppress
 from typing import Callable, Iterator, List, Optional, Type, TypeVar, Union
 
 from . import wire
@@ -49,11 +49,12 @@ def whole_lines(data: bytes, most: int) -> int:
 
 def pieces(data: bytes, most: int, cut: Callable[[bytes, int], int]) -> Iterator[bytes]:
     """Bytes in pieces of at most so many, at least one piece, cut where a function says."""
-    while len(data) > most:
-        end = cut(data, most)
-        yield data[:end]
-        data = data[end:]
-    yield data
+    at = 0
+    while len(data) - at > most:
+        end = at + cut(data[at : at + most + 1], most)
+        yield data[at:end]
+        at = end
+    yield data[at:]
 
 
 class File:
@@ -127,7 +128,7 @@ class File:
         fid, self.fid = self.fid, wire.NOFID
         if fid != wire.NOFID:
             with about(self.name):
-                clunk(self.connection, fid)
+                self.connection.call("Tclunk", fid=fid)
 
     def __enter__(self) -> "File":
         return self
@@ -149,14 +150,6 @@ def about(name: str) -> Iterator[None]:
     except Refused as why:
         why.file = why.file or name
         raise
-
-
-def clunk(connection: Connection, fid: int) -> None:
-    """A Tclunk, after which the fid is free, whatever the answer."""
-    try:
-        connection.call("Tclunk", fid=fid)
-    finally:
-        connection.fids.give(fid)
 
 
 def open_mode(mode: str) -> int:
@@ -182,13 +175,9 @@ class Tree:
             raise
 
     def __init__(self, connection: Connection, name: Optional[str] = None, user: Optional[str] = None):
-        self.connection, self.fid = connection, connection.fids.take()
+        self.connection, self.fid = connection, connection.new_fid()
         who, which = user or user_name(), self.NAME if name is None else name
-        try:
-            connection.call("Tattach", fid=self.fid, afid=wire.NOFID, uname=who, aname=which)
-        except Refused:
-            connection.fids.give(self.fid)
-            raise
+        connection.call("Tattach", fid=self.fid, afid=wire.NOFID, uname=who, aname=which)
 
     def open(self, name: str, mode: str = "r") -> File:
         """Walks to a file and opens it: `r` to read, `w` to write, `rw` for both, `t` to write from nothing on."""
@@ -211,7 +200,7 @@ class Tree:
         """What the server says of a file."""
         with self._walked(name) as fid:
             told = self.connection.call("Tstat", fid=fid)["stat"]
-            clunk(self.connection, fid)
+        self.connection.call("Tclunk", fid=fid)
         return wire.decode_stats(told)[0]
 
     def ls(self, name: str = "") -> List[wire.Stat]:
@@ -222,7 +211,7 @@ class Tree:
     @contextmanager
     def _walked(self, name: str) -> Iterator[int]:
         """A fid of what a name leads to, which is free again where what is done with it fails."""
-        fid, here = self.connection.fids.take(), self.fid
+        fid, here = self.connection.new_fid(), self.fid
         names = [it for it in name.split("/") if it]
         try:
             with about(name):
@@ -231,7 +220,9 @@ class Tree:
                     here, names = fid, names[done:]
                 yield fid
         except BaseException:
-            self.connection.fids.give(fid) if here != fid else clunk(self.connection, fid)
+            if here == fid:
+                with suppress(Error):
+                    self.connection.call("Tclunk", fid=fid)
             raise
 
     def _walk_some(self, here: int, fid: int, names: List[str]) -> int:

@@ -4,6 +4,7 @@ Each message has a tag of its own, and a thread of the connection gives each rep
 message whose answer doesn't come in time, or whose thread is interrupted, is taken back by a Tflush.
 """
 
+import itertools
 import os
 import socket
 import threading
@@ -48,25 +49,26 @@ def dial_socket(address: str, wait: float = 0.0) -> socket.socket:
             raise Error(f"{path}: {why.strerror or why}") from None
 
 
-class Numbers:
-    """Numbers that are in use, each once: tags, or fids."""
+class Tags:
+    """Numbers of messages, each of which is in use once."""
 
-    def __init__(self, limit: int):
-        self._limit, self._next, self._free = limit, 0, []  # type: int, int, List[int]
+    def __init__(self) -> None:
+        self._next = 0
+        self._free: List[int] = []
         self._lock = threading.Lock()
 
     def take(self) -> int:
         with self._lock:
             if self._free:
                 return self._free.pop()
-            if self._next == self._limit:
-                raise Error(f"{self._limit} tags or fids are in use")
+            if self._next == wire.NOTAG:
+                raise Error("no tag is free: too many messages wait for their answers")
             self._next += 1
             return self._next - 1
 
-    def give(self, number: int) -> None:
+    def give(self, tag: int) -> None:
         with self._lock:
-            self._free.append(number)
+            self._free.append(tag)
 
 
 class _Call:
@@ -90,8 +92,7 @@ class Connection:
 
     def __init__(self, stream: socket.socket, address: str = "the server", timeout: float = HANDSHAKE):
         self.address, self.msize = address, MSIZE
-        self.fids = Numbers(wire.NOFID)
-        self._socket, self._tags = stream, Numbers(wire.NOTAG)
+        self._socket, self._tags, self._fids = stream, Tags(), itertools.count()
         self._lock, self._sending = threading.Lock(), threading.Lock()
         self._calls: Dict[int, _Call] = {}
         self._end: Optional[str] = None
@@ -111,6 +112,10 @@ class Connection:
         if answer["version"] != VERSION or not LEAST_MSIZE <= answer["msize"] <= MSIZE:
             raise Error(f"{self.address}: it speaks {answer['version']!r} with messages of {answer['msize']} bytes")
         self.msize = answer["msize"]
+
+    def new_fid(self) -> int:
+        """A number for a fid. None is given twice, so that a thread that asks late can't meet another file."""
+        return next(self._fids)
 
     # -- asking
 

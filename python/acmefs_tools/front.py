@@ -269,7 +269,8 @@ def served(words: Words) -> bool:
     bell, rings = socket.socketpair()
     rings.setblocking(False)
     for number in SIGNALS:
-        signal.signal(number, lambda *_: None)
+        if signal.getsignal(number) != signal.SIG_IGN:
+            signal.signal(number, lambda *_: None)
     signal.set_wakeup_fd(rings.fileno())
     listening = listeners(paths_of(words.socket))
     where = ", ".join(it.getsockname() for it in listening)
