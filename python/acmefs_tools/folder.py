@@ -14,7 +14,7 @@ import os
 import stat
 from typing import Callable, Iterator, List, NamedTuple, Optional, Sequence
 
-from .lines import Fault
+from .lines import INPUT_LIMIT, Fault
 
 DIRECTORY = os.O_RDONLY | os.O_DIRECTORY | os.O_NOFOLLOW | os.O_CLOEXEC
 FILE = os.O_RDONLY | os.O_NOFOLLOW | os.O_NONBLOCK | os.O_CLOEXEC
@@ -153,6 +153,6 @@ def seen(place: int, parts: List[str], why: Callable[[str], str]) -> Iterator[Fo
 
 
 def content(place: int, name: str) -> bytes:
-    """The bytes of a plain file in a folder."""
+    """The bytes of a plain file in a folder; of one that no input has room for the first alone."""
     with open(os.open(name, FILE, dir_fd=place), "rb") as file:
-        return file.read()
+        return file.read(INPUT_LIMIT + 4)

@@ -6,7 +6,7 @@ without the reads, and the report must be the same but for that connection and t
 """
 
 import re
-from typing import Dict, Iterator, List, NamedTuple, Optional, Sequence, Tuple
+from typing import Dict, Iterator, List, NamedTuple, Optional, Sequence
 
 from acme9 import wire
 

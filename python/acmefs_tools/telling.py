@@ -31,7 +31,7 @@ def quoted_text(text: str) -> str:
 
 def quoted(data: bytes) -> str:
     """Bytes so, where those that are no UTF-8 are shown as `\\xNN`."""
-    return "'" + "".join(it.translate(CONTROL) for it in data.decode("utf-8", "surrogateescape")) + "'"
+    return quoted_text(data.decode("utf-8", "surrogateescape"))
 
 
 def file_name(qid: Qid, walked: str) -> str:

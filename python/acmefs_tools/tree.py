@@ -23,6 +23,7 @@ from .folder import Folder, Found
 from .lines import INPUT_LIMIT, Fault, Report, decoded, escape, report_lines
 
 NAME = "acmefs-tree"
+NO_ROOM = "there is no room for it in a script"
 # what no part of a path of the editor's tree has
 BAD_RUNE = re.compile(r"[\0-\x20\\]")
 
@@ -74,7 +75,7 @@ class Loading:
         if not why and it.data is not None:
             line = f"file {below(self._at, [*it.parts])} :{escape(it.data.decode('utf-8'))}"
             size = len(line.encode("utf-8")) + 1
-            why = "there is no room for it in a script" if size > self._room else ""
+            why = NO_ROOM if size > self._room else ""
             self._room -= 0 if why else size
         if why:
             self.left_out.append(f"{below([], [*it.parts])}: {why}")
@@ -83,7 +84,9 @@ class Loading:
     @staticmethod
     def _why(it: Found) -> str:
         """Why something is left out, or nothing."""
-        return it.why or ("" if it.data is None or is_text(it.data) else "it is not UTF-8")
+        if it.why or it.data is None:
+            return it.why
+        return NO_ROOM if len(it.data) > INPUT_LIMIT else "" if is_text(it.data) else "it is not UTF-8"
 
 
 def why_not(name: str) -> str:
