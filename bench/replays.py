@@ -2,46 +2,48 @@
 run from file to file."""
 
 import os
-import struct
+import re
+import shutil
 import subprocess
 import sys
 import tempfile
 
 TOP = os.path.dirname(os.path.dirname(os.path.realpath(__file__)))
 PROGRAM = f"{TOP}/crates/acmefs/out/acmefs"
-NOTAG, NOFID = 0xFFFF, 0xFFFFFFFF
-TVERSION, TATTACH, TWALK, TOPEN, TREAD, TWRITE, TCLUNK = 100, 104, 110, 112, 116, 118, 120
 # A message is refused at 256 replies that were not taken.
 TAKES = 100
 
+sys.path.insert(0, f"{TOP}/python")
+from acme9 import wire  # noqa: E402
 
-def string(text):
-    return struct.pack("<H", len(text)) + text
 
-
-def message(kind, tag, fields):
+def message(name, tag, **fields):
     """A line for a message of connection 0."""
-    return b"msg 0 %s\n" % (struct.pack("<IBH", 7 + len(fields), kind, tag) + fields).hex().encode()
+    return b"msg 0 %s\n" % wire.encode(name, tag, **fields).hex().encode()
 
 
-def dialled(tree=b""):
+def dialled(tree="", msize=65560, user="u"):
     """Connection 0 with a session, and fid 0 the root of a tree."""
-    version = message(TVERSION, NOTAG, struct.pack("<I", 65560) + string(b"9P2000"))
-    return b"dial 0\n" + version + message(TATTACH, 1, struct.pack("<II", 0, NOFID) + string(b"u") + string(tree))
+    version = message("Tversion", wire.NOTAG, msize=msize, version="9P2000")
+    return b"dial 0\n" + version + message("Tattach", 1, fid=0, afid=wire.NOFID, uname=user, aname=tree)
 
 
-def opened(fid, names, mode):
+def opened(fid, name, mode):
     """A fid of a file below the root."""
-    walk = struct.pack("<IIH", 0, fid, len(names)) + b"".join(string(name) for name in names)
-    return message(TWALK, 1, walk) + message(TOPEN, 1, struct.pack("<IB", fid, mode))
+    walk = message("Twalk", 1, fid=0, newfid=fid, names=name.split("/"))
+    return walk + message("Topen", 1, fid=fid, mode=mode)
 
 
 def write(fid, data):
-    return message(TWRITE, 1, struct.pack("<IQI", fid, 0, len(data)) + data)
+    return message("Twrite", 1, fid=fid, offset=0, data=data)
 
 
 def read(fid, offset, count):
-    return message(TREAD, 1, struct.pack("<IQI", fid, offset, count))
+    return message("Tread", 1, fid=fid, offset=offset, count=count)
+
+
+def clunk(fid):
+    return message("Tclunk", 1, fid=fid)
 
 
 def taken(messages):
@@ -63,6 +65,19 @@ def processor_time(program, lines, room):
     if status:
         sys.exit(f"{program} ended with status {os.waitstatus_to_exitcode(status)}")
     return usage.ru_utime + usage.ru_stime, os.path.getsize(made)
+
+
+def instructions(program, lines):
+    """The instructions of a replay of these lines as valgrind's callgrind counts them, or None where it isn't there."""
+    valgrind = shutil.which("valgrind")
+    if not valgrind:
+        return None
+    words = [valgrind, "--tool=callgrind", "--callgrind-out-file=/dev/null", program, "replay"]
+    ran = subprocess.run(words, input=b"".join(lines), stdout=subprocess.DEVNULL, stderr=subprocess.PIPE)
+    counted = re.search(rb"Collected : (\d+)", ran.stderr)
+    if ran.returncode or not counted:
+        sys.exit(f"{program} ended with status {ran.returncode} under valgrind")
+    return int(counted[1])
 
 
 def least(program, transcripts, runs):

@@ -16,9 +16,14 @@ use program::acmefs;
 use status::Status;
 use std::alloc::Global;
 use std::env;
+use std::fs::File;
 use std::io::{self, ErrorKind};
+use std::os::fd::AsRawFd;
 use std::process::ExitCode;
-use std::rt::Env;
+use std::rt::{Env, Files};
+
+// The descriptor of the standard error. Those of the input and the output are below it.
+const LAST_STANDARD: i32 = 2;
 
 // The words after the program's name, or none where one isn't UTF-8.
 fn words_of(rt: &(impl Env + AllocGlobal)) -> Result<Option<Words>, NoMemory> {
@@ -36,7 +41,19 @@ fn words_of(rt: &(impl Env + AllocGlobal)) -> Result<Option<Words>, NoMemory> {
     Ok(Some(words))
 }
 
+// A folder in place of a standard stream that the program was started without: it can be neither read nor written. Else the first socket
+// would stand there. None where all three are there, or where it can't be opened.
+fn stand_in<R: Files<File = File>>(rt: &R) -> Option<File> {
+    let folder = File::open(rt, "/").ok()?;
+    if folder.as_raw_fd() <= LAST_STANDARD {
+        Some(folder)
+    } else {
+        None
+    }
+}
+
 fn main(rt: HostRuntime) -> ExitCode {
+    let _stand_ins = (stand_in(&rt), stand_in(&rt), stand_in(&rt));
     let words = match words_of(&rt) {
         Ok(Some(words)) => words,
         Ok(None) => return ExitCode::from(Status::Usage.number()),

@@ -3,4 +3,5 @@ pub mod Outside
 pub mod Seen
 pub mod Sockets
 pub mod Stops
+pub mod Streams
 pub mod Written

@@ -1,34 +1,40 @@
 -- The objects in memory, as their callers see them.
 use Rattle.std.specs.Prelude.{ℕ, ◌+◌, ◌-◌, ◌^◌, ◌&&◌, ◌||◌, min, Bool, true, false, List, [], ◌++◌, length, take, drop, remove, slice_get, Option, Some, None, is_none, nat_lt, nat_le, ◌==◌, if◌then◌else◌, bytes_eq, position, option_map, option_and_then}
 use Rattle.std.specs.List.{list_any}
+use Rattle.am_base.specs.Outside.{one_more}
 
--- The calls that were made, and the numbers, from 1, of those that fail.
+-- The calls that were made, the numbers, from 1, of those that fail, and whether the object was ended, so that all later calls fail.
 pub record CallLog : Type 0 where
   pub fail_at : List ℕ
   pub made : ℕ
   pub faults : ℕ
+  pub is_ended : Bool
 
 -- no call was made, and those of these numbers will fail
 abbrev pub no_calls : List ℕ → CallLog
-no_calls numbers = record { fail_at = numbers; made = 0; faults = 0 }
-
--- a count of 64 bits, one further; it stays at its end
-abbrev pub one_more : ℕ → ℕ
-one_more n = if nat_lt n (2 ^ 64 - 1) then n + 1 else n
+no_calls numbers = record { fail_at = numbers; made = 0; faults = 0; is_ended = false }
 
 -- whether the number of the next call is among those that fail
+abbrev pub is_next_numbered : CallLog → Bool
+is_next_numbered c = list_any (λ number. number == c.made + 1) c.fail_at
+
+-- whether the next call fails: the object was ended, or it is the number of the call
 abbrev pub fails_next : CallLog → Bool
-fails_next c = list_any (λ number. number == c.made + 1) c.fail_at
+fails_next c = c.is_ended || is_next_numbered c
 
 -- one call more, which failed or didn't
 abbrev pub after_call : CallLog → Bool → CallLog
 after_call c failed = record c { made = one_more c.made; faults = if failed then one_more c.faults else c.faults }
 
--- as handed out: its count of faults begins
+-- as handed out: its count of faults begins, and it isn't ended
 abbrev pub begun_calls : CallLog → CallLog
-begun_calls c = record c { faults = 0 }
+begun_calls c = record c { faults = 0; is_ended = false }
 
--- A source: the bytes left, the most that one read gives, the calls of read.
+-- the object was ended
+abbrev pub ended_calls : CallLog → CallLog
+ended_calls c = record c { is_ended = true }
+
+-- A source: the bytes left, the most that one read gives, the calls of read, all of which fail once it was ended.
 pub record SourceState : Type 0 where
   pub left : List ℕ
   pub piece : ℕ
@@ -43,11 +49,16 @@ abbrev pub after_read : SourceState → Option ℕ → SourceState
 after_read s None = record s { calls = after_call s.calls true }
 after_read s (Some n) = record s { left = drop n s.left; calls = after_call s.calls false }
 
--- a source whose faults weren't counted yet
+-- a source that was ended
+abbrev pub ended_source : SourceState → SourceState
+ended_source s = record s { calls = ended_calls s.calls }
+
+-- a source whose faults weren't counted yet, and that isn't ended
 abbrev pub begun_source : SourceState → SourceState
 begun_source s = record s { calls = begun_calls s.calls }
 
--- A sink: the bytes got, how many it has room for in all, the most that one write takes, the calls of write.
+-- A sink: the bytes got, how many it has room for in all, the most that one write takes, the calls of write, all of which fail once it was
+-- ended.
 pub record SinkState : Type 0 where
   pub held : List ℕ
   pub room : ℕ
@@ -67,15 +78,20 @@ abbrev pub after_write : SinkState → List ℕ → Option ℕ → SinkState
 after_write s bytes None = record s { calls = after_call s.calls true }
 after_write s bytes (Some n) = record s { held = s.held ++ take n bytes; calls = after_call s.calls false }
 
--- a sink whose faults weren't counted yet
+-- a sink that was ended
+abbrev pub ended_sink : SinkState → SinkState
+ended_sink s = record s { calls = ended_calls s.calls }
+
+-- a sink whose faults weren't counted yet, and that isn't ended
 abbrev pub begun_sink : SinkState → SinkState
 begun_sink s = record s { held = []; calls = begun_calls s.calls }
 
--- A link: what it still hands out, what its source begins with, whether it is to fail.
+-- A link: what it still hands out, what its source begins with, whether it is to fail, whether it has given its halves.
 pub record LinkState : Type 0 where
   pub halves : Option (SourceState × SinkState)
   pub begins : List ℕ
   pub fails : Bool
+  pub is_halved : Bool
   pub faults : ℕ
 
 -- what a link hands out at the next call, or None where that fails
@@ -85,18 +101,19 @@ halves_of l = if l.fails then None else option_map (λ h. (begun_source h.0, beg
 -- a link after it gave its halves, or failed to
 abbrev pub after_halves : LinkState → Option (SourceState × SinkState) → LinkState
 after_halves l None = record l { faults = one_more l.faults }
-after_halves l (Some h) = record l { halves = None }
+after_halves l (Some h) = record l { halves = None; is_halved = true }
 
--- a link whose faults weren't counted yet
+-- a link whose halves and faults weren't counted yet
 abbrev pub begun_link : LinkState → LinkState
-begun_link l = record l { faults = 0 }
+begun_link l = record l { is_halved = false; faults = 0 }
 
--- A gate: its name, the link that it still hands out, whether it is to fail.
+-- A gate: its name, the link that it still hands out, whether it is to fail, how many links it has given.
 pub record GateState : Type 0 where
   pub path : List ℕ
   pub slot : ℕ
   pub link : Option LinkState
   pub fails : Bool
+  pub given : ℕ
   pub faults : ℕ
 
 -- what a gate is called
@@ -110,16 +127,17 @@ link_of g = if g.fails then None else option_map begun_link g.link
 -- a gate after a link was taken, or none
 abbrev pub after_accept : GateState → Option LinkState → GateState
 after_accept g None = record g { faults = one_more g.faults }
-after_accept g (Some l) = record g { link = None }
+after_accept g (Some l) = record g { link = None; given = one_more g.given }
 
--- a gate whose faults weren't counted yet
+-- a gate whose links and faults weren't counted yet
 abbrev pub begun_gate : GateState → GateState
-begun_gate g = record g { faults = 0 }
+begun_gate g = record g { given = 0; faults = 0 }
 
--- A host: the gates that it still hands out or dials, the calls of bind and dial.
+-- A host: the gates that it still hands out or dials, the calls of bind and dial, how many gates and links it has given.
 pub record HostState : Type 0 where
   pub gates : List GateState
   pub calls : CallLog
+  pub given : ℕ
 
 -- whether a gate is of this path and slot
 abbrev pub is_gate_of : List ℕ → ℕ → GateState → Bool
@@ -136,7 +154,7 @@ gate_of h path slot = option_map begun_gate (option_and_then (slice_get h.gates)
 -- a host after a gate was made, or none
 abbrev pub after_bind : HostState → Option ℕ → HostState
 after_bind h None = record h { calls = after_call h.calls true }
-after_bind h (Some at) = record h { gates = remove h.gates at; calls = after_call h.calls false }
+after_bind h (Some at) = record h { gates = remove h.gates at; calls = after_call h.calls false; given = one_more h.given }
 
 -- whether a gate is of this path, whatever its slot
 abbrev pub is_gate_at : List ℕ → GateState → Bool
@@ -157,4 +175,8 @@ gates_without gates (Some at) = remove gates at
 
 -- a host after a dialling
 abbrev pub after_dial : HostState → List ℕ → HostState
-after_dial h path = record h { gates = gates_without h.gates (dialled_place h path); calls = after_call h.calls (is_none (dialled h path)) }
+after_dial h path = record h {
+  gates = gates_without h.gates (dialled_place h path);
+  calls = after_call h.calls (is_none (dialled h path));
+  given = if is_none (dialled h path) then h.given else one_more h.given;
+}

@@ -1,18 +1,19 @@
 //! Which calls of an object in memory fail.
 
 ghost use Rattle.std.specs.Prelude.{◌≡◌, ◌≤◌, IsTrue};
-ghost use Rattle.am_base.specs.Outside.{HasRisen};
-ghost use Rattle.am_base.specs.Memory.{no_calls, one_more, fails_next, after_call, begun_calls};
+ghost use Rattle.am_base.specs.Outside.{HasRisen, one_more};
+ghost use Rattle.am_base.specs.Memory.{no_calls, fails_next, is_next_numbered, after_call, begun_calls, ended_calls};
 
 use am_text::Numbers;
 use std::marker::Model;
 
-/// The calls that were made, and the numbers of those that fail.
+/// The calls that were made, the numbers of those that fail, and whether all later ones do.
 #[derive(Drop)]
 pub(crate) struct Calls {
     fail_at: Numbers,
     made: u64,
     faults: u64,
+    is_ended: bool,
 }
 
 impl Model for Calls {
@@ -20,7 +21,7 @@ impl Model for Calls {
 
     ghost Value = { CallLog };
 
-    ghost view = { λ c. record { fail_at = c.fail_at; made = c.made; faults = c.faults } };
+    ghost view = { λ c. record { fail_at = c.fail_at; made = c.made; faults = c.faults; is_ended = c.is_ended } };
 }
 
 impl Calls {
@@ -32,6 +33,7 @@ impl Calls {
             fail_at,
             made: 0,
             faults: 0,
+            is_ended: false,
         }
     }
 
@@ -47,9 +49,16 @@ impl Calls {
         }
     }
 
-    /// Whether the next call fails by its number.
+    /// Whether the next call fails, by its number, or since the object was ended.
     pub(crate) fn fails_next(&self) -> bool
         ensures { result ≡ fails_next self.now }
+    {
+        self.is_ended || self.is_next_numbered()
+    }
+
+    // Whether the number of the next call is among those that fail.
+    fn is_next_numbered(&self) -> bool
+        ensures { result ≡ is_next_numbered self.now }
     {
         let number = u128::from(self.made) + 1;
         self.fail_at
@@ -58,11 +67,19 @@ impl Calls {
             .any(|at| u128::from(*at) == number)
     }
 
-    /// Begins the count of faults.
+    /// Begins the count of faults. An object that was ended isn't any more.
     pub(crate) fn begin(&mut self)
         ensures { self.new ≡ begun_calls self.old }
     {
         self.faults = 0;
+        self.is_ended = false;
+    }
+
+    /// Lets all later calls fail.
+    pub(crate) fn end(&mut self)
+        ensures { self.new ≡ ended_calls self.old }
+    {
+        self.is_ended = true;
     }
 }
 

@@ -1,7 +1,7 @@
 //! What connections come from.
 
 ghost use Rattle.std.specs.Prelude.{◌≡◌, ℕ, [], true, false, OnOk, OnErr, IfOk};
-ghost use Rattle.am_base.specs.Outside.{GateTold, LinkTold, AreTold, IsNamed, HasCause};
+ghost use Rattle.am_base.specs.Outside.{GateTold, LinkTold, AreTold, Counts, IsNamed, HasCause};
 
 use crate::sink::Sink;
 use crate::source::{Failed, Source};
@@ -20,6 +20,7 @@ pub trait Link: Drop + Send {
         ensures source { IfOk result (λ h. (Self.R.told h.0).bytes ≡ (told self.old).begins) }
         ensures sink { IfOk result (λ h. AreTold (Self.W.told h.1).bytes []) }
         ensures fresh { IfOk result (λ h. ((Self.R.told h.0).faults ≡ 0) × ((Self.W.told h.1).faults ≡ 0)) }
+        ensures open { IfOk result (λ h. ((Self.R.told h.0).is_ended ≡ false) × ((Self.W.told h.1).is_ended ≡ false)) }
         ensures begins { (told self.new).begins ≡ (told self.old).begins }
         ensures once { OnOk result (((told self.old).is_halved ≡ false) × ((told self.new).is_halved ≡ true)) }
         ensures err { OnErr result ((told self.new).is_halved ≡ (told self.old).is_halved) }
@@ -30,13 +31,15 @@ pub trait Link: Drop + Send {
 pub trait Gate: Drop + Send {
     type L: Link;
 
-    /// Its path and slot, where it tells them, and how often it has failed.
+    /// Its path and slot, where it tells them, how many links it has given, and how often it has failed.
     ghost told: { Self → GateTold };
 
     /// Waits for a connection and hands it out.
     fn accept(&mut self) -> Result<Self::L, Failed>
         ensures fresh { IfOk result (λ link. (Self.L.told link).faults ≡ 0) }
+        ensures whole { IfOk result (λ link. (Self.L.told link).is_halved ≡ false) }
         ensures name { (told self.new).name ≡ (told self.old).name }
+        ensures given { Counts (told self.old).given (told self.new).given result }
         ensures cause { HasCause (told self.old).faults (told self.new).faults result };
 }
 
@@ -47,14 +50,21 @@ pub trait Host {
     /// How often it has failed.
     ghost faults: { Self → ℕ };
 
+    /// How many gates and links it has given.
+    ghost given: { Self → ℕ };
+
     /// Makes the gate of a path and a slot.
     fn bind(&mut self, path: &str, slot: u32) -> Result<Self::G, Failed>
         ensures named { IfOk result (λ gate. IsNamed (Self.G.told gate).name path.now slot) }
         ensures fresh { IfOk result (λ gate. (Self.G.told gate).faults ≡ 0) }
+        ensures unasked { IfOk result (λ gate. (Self.G.told gate).given ≡ 0) }
+        ensures given { Counts (given self.old) (given self.new) result }
         ensures cause { HasCause (faults self.old) (faults self.new) result };
 
     /// Connects to the gate of a path, which is taken as it stands.
     fn dial(&mut self, path: &str) -> Result<<Self::G as Gate>::L, Failed>
         ensures fresh { IfOk result (λ link. (Self.G.L.told link).faults ≡ 0) }
+        ensures whole { IfOk result (λ link. (Self.G.L.told link).is_halved ≡ false) }
+        ensures given { Counts (given self.old) (given self.new) result }
         ensures cause { HasCause (faults self.old) (faults self.new) result };
 }

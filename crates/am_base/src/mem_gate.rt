@@ -1,7 +1,7 @@
 //! A gate in memory.
 
-ghost use Rattle.std.specs.Prelude.{◌≡◌, Some, None, IfOk, OnErr};
-ghost use Rattle.am_base.specs.Outside.{HasCause};
+ghost use Rattle.std.specs.Prelude.{◌≡◌, Some, None, false, IfOk, OnErr};
+ghost use Rattle.am_base.specs.Outside.{Counts, HasCause};
 ghost use Rattle.am_base.specs.Memory.{link_of, after_accept, begun_gate, is_gate_of, is_gate_at, name_of};
 
 use crate::calls::raised;
@@ -18,6 +18,7 @@ pub struct MemGate {
     slot: u32,
     link: Option<MemLink>,
     fails: bool,
+    given: u64,
     faults: u64,
 }
 
@@ -26,20 +27,21 @@ impl Model for MemGate {
 
     ghost Value = { GateState };
 
-    ghost view = { λ g. record { path = g.path; slot = g.slot; link = g.link; fails = g.fails; faults = g.faults } };
+    ghost view = { λ g. record { path = g.path; slot = g.slot; link = g.link; fails = g.fails; given = g.given; faults = g.faults } };
 }
 
 impl MemGate {
     /// The gate of this path and slot. It hands out this link once, and not where `fail` holds.
     /// The link's count of faults begins then. It takes no memory.
     pub fn new(path: Bytes, slot: u32, link: MemLink, fail: bool) -> MemGate
-        ensures { result ≡ record { path = path; slot = slot; link = Some link; fails = fail; faults = 0 } }
+        ensures { result ≡ record { path = path; slot = slot; link = Some link; fails = fail; given = 0; faults = 0 } }
     {
         MemGate {
             path,
             slot,
             link: Some(link),
             fails: fail,
+            given: 0,
             faults: 0,
         }
     }
@@ -58,11 +60,12 @@ impl MemGate {
         self.path.as_slice() == path
     }
 
-    /// The gate as it is handed out: its count of faults begins.
+    /// The gate as it is handed out: its counts begin.
     pub(crate) fn begun(self) -> MemGate
         ensures { result ≡ begun_gate self }
     {
         let mut gate = self;
+        gate.given = 0;
         gate.faults = 0;
         gate
     }
@@ -71,11 +74,13 @@ impl MemGate {
 impl Gate for MemGate {
     type L = MemLink;
 
-    ghost told = { λ g. record { name = Some (name_of g); faults = g.faults } };
+    ghost told = { λ g. record { name = Some (name_of g); given = g.given; faults = g.faults } };
 
     fn accept(&mut self) -> Result<MemLink, Failed>
         ensures fresh { IfOk result (λ link. link.faults ≡ 0) }
+        ensures whole { IfOk result (λ link. link.is_halved ≡ false) }
         ensures name { Some (name_of self.new) ≡ Some (name_of self.old) }
+        ensures given { Counts self.old.given self.new.given result }
         ensures cause { HasCause self.old.faults self.new.faults result }
         // What is handed out, and which calls fail.
         ensures gives { IfOk result (λ link. link_of self.old ≡ Some link) }
@@ -87,7 +92,10 @@ impl Gate for MemGate {
             return Err(Failed);
         }
         match self.link.take() {
-            Some(link) => Ok(link.begun()),
+            Some(link) => {
+                self.given = raised(self.given);
+                Ok(link.begun())
+            }
             None => {
                 self.faults = raised(self.faults);
                 Err(Failed)

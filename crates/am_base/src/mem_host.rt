@@ -1,10 +1,10 @@
 //! A host in memory.
 
-ghost use Rattle.std.specs.Prelude.{◌≡◌, Some, None, IfOk, OnErr, ◌<◌, length, position, remove, slice_get};
-ghost use Rattle.am_base.specs.Outside.{HasCause};
+ghost use Rattle.std.specs.Prelude.{◌≡◌, Some, None, false, IfOk, OnErr, ◌<◌, length, position, remove, slice_get};
+ghost use Rattle.am_base.specs.Outside.{Counts, HasCause};
 ghost use Rattle.am_base.specs.Memory.{no_calls, place_of, after_bind, is_gate_of, gate_of, is_gate_at, dialled_place, dialled, after_dial};
 
-use crate::calls::Calls;
+use crate::calls::{Calls, raised};
 use crate::link::{Gate, Host};
 use crate::mem_gate::MemGate;
 use crate::mem_link::MemLink;
@@ -20,6 +20,7 @@ pub type MemGates = Items<MemGate>;
 pub struct MemHost {
     gates: Vec<MemGate>,
     calls: Calls,
+    given: u64,
 }
 
 impl Model for MemHost {
@@ -27,7 +28,7 @@ impl Model for MemHost {
 
     ghost Value = { HostState };
 
-    ghost view = { λ h. record { gates = h.gates.items; calls = h.calls } };
+    ghost view = { λ h. record { gates = h.gates.items; calls = h.calls; given = h.given } };
 }
 
 impl MemHost {
@@ -35,11 +36,12 @@ impl MemHost {
     /// from 1, stand in `fail_at`, and those for which no gate is there, or one that hands out no link,
     /// and no others. It takes no memory.
     pub fn new(gates: MemGates, fail_at: Numbers) -> MemHost
-        ensures { result ≡ record { gates = gates; calls = no_calls fail_at } }
+        ensures { result ≡ record { gates = gates; calls = no_calls fail_at; given = 0 } }
     {
         MemHost {
             gates: gates.into_vec(),
             calls: Calls::new(fail_at),
+            given: 0,
         }
     }
 
@@ -90,9 +92,13 @@ impl Host for MemHost {
 
     ghost faults = { λ h. h.calls.faults };
 
+    ghost given = { λ h. h.given };
+
     fn bind(&mut self, path: &str, slot: u32) -> Result<MemGate, Failed>
         ensures named { IfOk result (λ gate. (gate.path ≡ path.now) × (gate.slot ≡ slot)) }
         ensures fresh { IfOk result (λ gate. gate.faults ≡ 0) }
+        ensures unasked { IfOk result (λ gate. gate.given ≡ 0) }
+        ensures given { Counts self.old.given self.new.given result }
         ensures cause { HasCause self.old.calls.faults self.new.calls.faults result }
         // What is handed out, and which calls fail.
         ensures gives { IfOk result (λ gate. gate_of self.old path.now slot ≡ Some gate) }
@@ -104,11 +110,14 @@ impl Host for MemHost {
             return Err(Failed);
         };
         self.calls.count(false);
+        self.given = raised(self.given);
         Ok(self.take(at).begun())
     }
 
     fn dial(&mut self, path: &str) -> Result<MemLink, Failed>
         ensures fresh { IfOk result (λ link. link.faults ≡ 0) }
+        ensures whole { IfOk result (λ link. link.is_halved ≡ false) }
+        ensures given { Counts self.old.given self.new.given result }
         ensures cause { HasCause self.old.calls.faults self.new.calls.faults result }
         // What is handed out, and which calls fail.
         ensures gives { IfOk result (λ link. dialled self.old path.now ≡ Some link) }
@@ -122,6 +131,7 @@ impl Host for MemHost {
         match self.take(at).accept() {
             Ok(link) => {
                 self.calls.count(false);
+                self.given = raised(self.given);
                 Ok(link)
             }
             Err(Failed) => {

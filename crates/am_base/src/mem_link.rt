@@ -1,6 +1,6 @@
 //! A link in memory.
 
-ghost use Rattle.std.specs.Prelude.{◌≡◌, [], true, false, Some, None, is_none, IfOk, OnOk, OnErr};
+ghost use Rattle.std.specs.Prelude.{◌≡◌, [], true, false, Some, None, IfOk, OnOk, OnErr};
 ghost use Rattle.am_base.specs.Outside.{HasCause};
 ghost use Rattle.am_base.specs.Memory.{halves_of, after_halves, begun_link};
 
@@ -18,40 +18,43 @@ pub struct MemLink {
     halves: Option<(MemSource, MemSink)>,
     source: Snapshot<MemSource>,
     fails: bool,
+    is_halved: bool,
     faults: u64,
 }
 
 impl Model for MemLink {
-    ghost use Rattle.std.specs.Prelude.{◌≡◌};
+    ghost use Rattle.std.specs.Prelude.{◌≡◌, false};
     ghost use Rattle.std.specs.Option.{ForSome};
     ghost use Rattle.am_base.specs.Memory.{LinkState};
 
     ghost Value = { LinkState };
 
-    ghost view = { λ l. record { halves = l.halves; begins = l.source.value.left; fails = l.fails; faults = l.faults } };
+    ghost view = { λ l. record { halves = l.halves; begins = l.source.value.left; fails = l.fails; is_halved = l.is_halved; faults = l.faults } };
 
-    ghost invariant = { λ l. ForSome l.halves (λ h. h.0.left ≡ l.source.value.left) };
+    ghost invariant = { λ l. ForSome l.halves (λ h. (h.0.left ≡ l.source.value.left) × (l.is_halved ≡ false)) };
 }
 
 impl MemLink {
     /// Hands out this source and this sink once, and not where `fail` holds. The sink is emptied
-    /// then, and the counts of faults of both begin. It takes no memory.
+    /// then, the counts of faults of both begin, and neither is ended. It takes no memory.
     pub fn new(source: MemSource, sink: MemSink, fail: bool) -> MemLink
-        ensures { result ≡ record { halves = Some (source, sink); begins = source.left; fails = fail; faults = 0 } }
+        ensures { result ≡ record { halves = Some (source, sink); begins = source.left; fails = fail; is_halved = false; faults = 0 } }
     {
         MemLink {
             source: Snapshot::of(&source),
             halves: Some((source, sink)),
             fails: fail,
+            is_halved: false,
             faults: 0,
         }
     }
 
-    /// The link as it is handed out: its count of faults begins.
+    /// The link as it is handed out: its count of faults begins, and it has given no halves yet.
     pub(crate) fn begun(self) -> MemLink
         ensures { result ≡ begun_link self }
     {
         let mut link = self;
+        link.is_halved = false;
         link.faults = 0;
         link
     }
@@ -62,15 +65,16 @@ impl Link for MemLink {
 
     type W = MemSink;
 
-    ghost told = { λ l. record { begins = Some l.begins; is_halved = is_none l.halves; faults = l.faults } };
+    ghost told = { λ l. record { begins = Some l.begins; is_halved = l.is_halved; faults = l.faults } };
 
     fn halves(&mut self) -> Result<(MemSource, MemSink), Failed>
         ensures source { IfOk result (λ h. Some h.0.left ≡ Some self.old.begins) }
         ensures sink { IfOk result (λ h. h.1.held ≡ []) }
         ensures fresh { IfOk result (λ h. (h.0.calls.faults ≡ 0) × (h.1.calls.faults ≡ 0)) }
+        ensures open { IfOk result (λ h. (h.0.calls.is_ended ≡ false) × (h.1.calls.is_ended ≡ false)) }
         ensures begins { Some self.new.begins ≡ Some self.old.begins }
-        ensures once { OnOk result ((is_none self.old.halves ≡ false) × (is_none self.new.halves ≡ true)) }
-        ensures err { OnErr result (is_none self.new.halves ≡ is_none self.old.halves) }
+        ensures once { OnOk result ((self.old.is_halved ≡ false) × (self.new.is_halved ≡ true)) }
+        ensures err { OnErr result (self.new.is_halved ≡ self.old.is_halved) }
         ensures cause { HasCause self.old.faults self.new.faults result }
         // What is handed out, and which calls fail.
         ensures gives { IfOk result (λ h. halves_of self.old ≡ Some h) }
@@ -82,7 +86,10 @@ impl Link for MemLink {
             return Err(Failed);
         }
         match self.halves.take() {
-            Some((source, sink)) => Ok((source.begun(), sink.begun())),
+            Some((source, sink)) => {
+                self.is_halved = true;
+                Ok((source.begun(), sink.begun()))
+            }
             None => {
                 self.faults = raised(self.faults);
                 Err(Failed)

@@ -1,8 +1,8 @@
 //! A sink in memory.
 
 ghost use Rattle.std.specs.Prelude.{◌≡◌, ◌≤◌, ◌<◌, [], Some, None, take, length, IfOk, OnErr};
-ghost use Rattle.am_base.specs.Outside.{told_then, HasCause};
-ghost use Rattle.am_base.specs.Memory.{no_calls, write_count, after_write, begun_sink};
+ghost use Rattle.am_base.specs.Outside.{WasEnded, bytes_told, told_then, HasCause};
+ghost use Rattle.am_base.specs.Memory.{no_calls, write_count, after_write, begun_sink, ended_sink};
 
 use crate::calls::Calls;
 use crate::sink::Sink;
@@ -34,7 +34,8 @@ impl Model for MemSink {
 
 impl MemSink {
     /// Takes room for `room` bytes, of which one write fills at most `piece`. The writes fail
-    /// whose numbers, from 1, stand in `fail_at`, and those where the room is full, and no others.
+    /// whose numbers, from 1, stand in `fail_at`, those where the room is full, those once it was
+    /// ended, and no others.
     pub fn new(
         alloc: Global,
         room: usize,
@@ -59,7 +60,7 @@ impl MemSink {
         self.held.as_slice()
     }
 
-    /// The sink as it is handed out: empty, and its count of faults begins.
+    /// The sink as it is handed out: empty, its count of faults begins, and it isn't ended.
     pub(crate) fn begun(self) -> MemSink
         ensures { result ≡ begun_sink self }
     {
@@ -81,7 +82,7 @@ impl MemSink {
 }
 
 impl Sink for MemSink {
-    ghost told = { λ s. record { bytes = Some s.held; faults = s.calls.faults } };
+    ghost told = { λ s. record { bytes = Some s.held; faults = s.calls.faults; is_ended = s.calls.is_ended } };
 
     fn write(&mut self, buf: &[u8]) -> Result<usize, Failed>
         requires { 0 < length buf.now }
@@ -89,6 +90,7 @@ impl Sink for MemSink {
         ensures within { IfOk result (λ n. n ≤ length buf.now) }
         ensures put { IfOk result (λ n. Some self.new.held ≡ told_then (Some self.old.held) (take n buf.now)) }
         ensures err { OnErr result (Some self.new.held ≡ Some self.old.held) }
+        ensures ended { self.new.calls.is_ended ≡ self.old.calls.is_ended }
         ensures cause { HasCause self.old.calls.faults self.new.calls.faults result }
         // How many bytes are taken, and which calls fail.
         ensures count { IfOk result (λ n. write_count self.old (length buf.now) ≡ Some n) }
@@ -105,5 +107,15 @@ impl Sink for MemSink {
             Ok(()) => Ok(n),
             Err(_) => unreachable!(),
         }
+    }
+
+    fn end(&mut self)
+        ensures ends { WasEnded
+            (bytes_told (Some self.old.held) self.old.calls.faults self.old.calls.is_ended)
+            (bytes_told (Some self.new.held) self.new.calls.faults self.new.calls.is_ended) }
+        // It takes no more bytes.
+        ensures state { self.new ≡ ended_sink self.old }
+    {
+        self.calls.end();
     }
 }

@@ -1,8 +1,8 @@
 //! A source in memory.
 
 ghost use Rattle.std.specs.Prelude.{◌≡◌, ◌≤◌, ◌<◌, ◌++◌, [], Some, None, drop, take, length, IfOk, OnErr};
-ghost use Rattle.am_base.specs.Outside.{then_told, HasCause};
-ghost use Rattle.am_base.specs.Memory.{no_calls, read_count, after_read, begun_source};
+ghost use Rattle.am_base.specs.Outside.{WasEnded, bytes_told, then_told, HasCause};
+ghost use Rattle.am_base.specs.Memory.{no_calls, read_count, after_read, begun_source, ended_source};
 
 use crate::calls::Calls;
 use crate::source::{Failed, Source};
@@ -31,7 +31,7 @@ impl Model for MemSource {
 
 impl MemSource {
     /// Gives these bytes, at most `piece` of them a read. The reads fail whose numbers, from 1,
-    /// stand in `fail_at`, and no others. It takes no memory.
+    /// stand in `fail_at`, those once it was ended, and no others. It takes no memory.
     pub fn new(bytes: Bytes, piece: usize, fail_at: Numbers) -> MemSource
         requires { 0 < piece }
         ensures { result ≡ record { left = bytes; piece = piece; calls = no_calls fail_at } }
@@ -55,7 +55,7 @@ impl MemSource {
         Some(rest.min(room).min(self.piece))
     }
 
-    /// The source as it is handed out: its count of faults begins.
+    /// The source as it is handed out: its count of faults begins, and it isn't ended.
     pub(crate) fn begun(self) -> MemSource
         ensures { result ≡ begun_source self }
     {
@@ -66,7 +66,7 @@ impl MemSource {
 }
 
 impl Source for MemSource {
-    ghost told = { λ s. record { bytes = Some s.left; faults = s.calls.faults } };
+    ghost told = { λ s. record { bytes = Some s.left; faults = s.calls.faults; is_ended = s.calls.is_ended } };
 
     #[tactic(auto, using(crate::proofs::Told::moves))]
     fn read(&mut self, buf: &mut [u8]) -> Result<usize, Failed>
@@ -75,6 +75,7 @@ impl Source for MemSource {
         ensures moved { IfOk result (λ n. Some self.old.left ≡ then_told (take n buf.new) (Some self.new.left)) }
         ensures end { IfOk result (λ n. n ≡ 0 → self.new.left ≡ []) }
         ensures err { OnErr result (Some self.new.left ≡ Some self.old.left) }
+        ensures ended { self.new.calls.is_ended ≡ self.old.calls.is_ended }
         ensures cause { HasCause self.old.calls.faults self.new.calls.faults result }
         // How many bytes are read, and which calls fail.
         ensures count { IfOk result (λ n. read_count self.old (length buf.old) ≡ Some n) }
@@ -93,5 +94,15 @@ impl Source for MemSource {
         buf[..n].copy_from_slice(front);
         self.at += n;
         Ok(n)
+    }
+
+    fn end(&mut self)
+        ensures ends { WasEnded
+            (bytes_told (Some self.old.left) self.old.calls.faults self.old.calls.is_ended)
+            (bytes_told (Some self.new.left) self.new.calls.faults self.new.calls.is_ended) }
+        // It gives no more bytes.
+        ensures state { self.new ≡ ended_source self.old }
+    {
+        self.calls.end();
     }
 }

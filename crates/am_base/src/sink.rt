@@ -1,13 +1,13 @@
 //! Where bytes go.
 
 ghost use Rattle.std.specs.Prelude.{◌≡◌, ◌<◌, ◌≤◌, length, take, IfOk, OnOk, OnErr};
-ghost use Rattle.am_base.specs.Outside.{BytesTold, told_then, PutsFront, HasCause};
+ghost use Rattle.am_base.specs.Outside.{BytesTold, WasEnded, told_then, PutsFront, HasCause};
 
 use crate::source::Failed;
 
 /// What takes bytes.
 pub trait Sink {
-    /// The bytes got so far, where it tells them, and how often it has failed.
+    /// The bytes got so far, where it tells them, how often it has failed, and whether it was ended.
     ghost told: { Self → BytesTold };
 
     /// Takes a front of the bytes, of one byte at least, and answers how many. A failure takes
@@ -18,7 +18,12 @@ pub trait Sink {
         ensures within { IfOk result (λ n. n ≤ length buf.now) }
         ensures put { IfOk result (λ n. (told self.new).bytes ≡ told_then (told self.old).bytes (take n buf.now)) }
         ensures err { OnErr result ((told self.new).bytes ≡ (told self.old).bytes) }
+        ensures ended { (told self.new).is_ended ≡ (told self.old).is_ended }
         ensures cause { HasCause (told self.old).faults (told self.new).faults result };
+
+    /// Ends it: nothing more is to be written. What it tells of its bytes stays.
+    fn end(&mut self)
+        ensures ends { WasEnded (told self.old) (told self.new) };
 }
 
 /// Writes all the bytes. At a failure a front of them was written. It takes no memory.

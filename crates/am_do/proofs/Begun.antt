@@ -101,7 +101,7 @@ went_attached most now tree body {t} {m} {h} {i} {l} {n} reply is same w =
     let asked : Went (asks most (attach_of tree)) t m h i l n [] (Ok reply) = subst (λ (b : TBody). Went (asks most b) t m h i l n [] (Ok reply)) is w in
     subst (λ (x : ℕ). Went (attach_told most tree) t m h i l n [] x) (sym same) (went_same (attach_is most tree) (went_then (after_attach most) asked (went_gives most m i n)))
 
-pub halted_unattached : (most : ℕ) (tree : List ℕ) (body : TBody) {t m : Talk} {h i l n : Option (List ℕ)} (text : List ℕ) (f g a b : ℕ) → body ≡ attach_of tree → f ≤ g → a ≤ b → Went (asks most body) t m h i l n [] (Err text) → Halted stop.Refused (attach_told most tree) t (ends (bytes_told h f) (bytes_told i g) (bytes_told l a) (bytes_told n b)) []
+pub halted_unattached : {shut shut' done done' : Bool} (most : ℕ) (tree : List ℕ) (body : TBody) {t m : Talk} {h i l n : Option (List ℕ)} (text : List ℕ) (f g a b : ℕ) → body ≡ attach_of tree → f ≤ g → a ≤ b → Went (asks most body) t m h i l n [] (Err text) → Halted stop.Refused (attach_told most tree) t (ends (bytes_told h f shut) (bytes_told i g shut') (bytes_told l a done) (bytes_told n b done')) []
 halted_unattached most tree body {t} {m} {h} {i} {l} {n} text f g a b is s r w =
     let asked : Went (asks most (attach_of tree)) t m h i l n [] (Err text) = subst (λ (x : TBody). Went (asks most x) t m h i l n [] (Err text)) is w in
     halted_same (attach_is most tree) (halted_then (after_attach most) f a asked refl refl s r (halted_refused m i n g b))
@@ -121,8 +121,8 @@ halted_version {end} most tree body {talk} {e} size is h =
     halted_same (begins_is tree) (halted_first (after_version tree)
     (subst (λ (x : ℕ). Halted end (asks x (t.Version 8192 (codes "9P2000"))) talk e []) size (subst (λ (b : TBody). Halted end (asks most b) talk e []) is h)))
 
-pub halted_unversioned : (most : ℕ) (tree : List ℕ) (body : TBody) {talk m : Talk} {h i l n : Option (List ℕ)} (reply : Reply) (f g a b : ℕ) → most ≡ 65560 → body ≡ t.Version 8192 (codes "9P2000") → agreed reply ≡ None → f ≤ g → a ≤ b → Went (asks most body) talk m h i l n [] reply
-    → Halted stop.Refused (begins tree) talk (ends (bytes_told h f) (bytes_told i g) (bytes_told l a) (bytes_told n b)) []
+pub halted_unversioned : {shut shut' done done' : Bool} (most : ℕ) (tree : List ℕ) (body : TBody) {talk m : Talk} {h i l n : Option (List ℕ)} (reply : Reply) (f g a b : ℕ) → most ≡ 65560 → body ≡ t.Version 8192 (codes "9P2000") → agreed reply ≡ None → f ≤ g → a ≤ b → Went (asks most body) talk m h i l n [] reply
+    → Halted stop.Refused (begins tree) talk (ends (bytes_told h f shut) (bytes_told i g shut') (bytes_told l a done) (bytes_told n b done')) []
 halted_unversioned most tree body {talk} {m} {h} {i} {l} {n} reply f g a b size is none s r w =
     halted_same (begins_is tree) (halted_then (after_version tree) f a (begun_with most body reply size is w) refl refl s r
     (halted_same (λ bytes. sym (ap (λ (o : Option ℕ). attached tree o bytes) none)) (halted_refused m i n g b)))
@@ -136,7 +136,7 @@ pub went_attaching : (most now last : ℕ) (tree : List ℕ) (body : TBody) {tal
 went_attaching most now last tree body reply size is agrees w v =
     went_same (begins_is tree) (went_then (after_version tree) (begun_with most body reply size is w) (went_same (λ bytes. same_talk tree reply now bytes agrees) v))
 
-pub halted_then_attaching : {end : Stop} (most now : ℕ) (tree : List ℕ) (body : TBody) {talk m : Talk} {h i l n : Option (List ℕ)} (reply : Reply) (f a : ℕ) {e : Ends} → most ≡ 65560 → body ≡ t.Version 8192 (codes "9P2000") → agreed reply ≡ Some now → Went (asks most body) talk m h i l n [] reply
-    → e.sink.before.bytes ≡ i → e.source.before.bytes ≡ n → f ≤ e.sink.before.faults → a ≤ e.source.before.faults → Halted end (attach_told now tree) m e [] → Halted end (begins tree) talk (before h f l a e) []
+pub halted_then_attaching : {end : Stop} {shut done : Bool} (most now : ℕ) (tree : List ℕ) (body : TBody) {talk m : Talk} {h i l n : Option (List ℕ)} (reply : Reply) (f a : ℕ) {e : Ends} → most ≡ 65560 → body ≡ t.Version 8192 (codes "9P2000") → agreed reply ≡ Some now → Went (asks most body) talk m h i l n [] reply
+    → e.sink.before.bytes ≡ i → e.source.before.bytes ≡ n → f ≤ e.sink.before.faults → a ≤ e.source.before.faults → Halted end (attach_told now tree) m e [] → Halted end (begins tree) talk (before h f shut l a done e) []
 halted_then_attaching most now tree body reply f a size is agrees w held left s r h =
     halted_same (begins_is tree) (halted_then (after_version tree) f a (begun_with most body reply size is w) held left s r (halted_same (λ bytes. same_talk tree reply now bytes agrees) h))

@@ -80,8 +80,8 @@ went_line most made line a b =
     went_same (λ bytes. sym (lines_append most made (line ∷ []) bytes)) (went_then (λ _ bytes. lines_told most (line ∷ []) bytes) a (went_same (lines_one most line) b))
 
 -- a line at which the talk stops
-pub halted_line : {end : Stop} (most : ℕ) (made : List DoLine) (line : DoLine) (rest : List DoLine) {t m : Talk} {h i l n : Option (List ℕ)} {v said : List ℕ} (f a : ℕ) {e : Ends} → Went (lines_told most made) t m h i l n v tt → e.sink.before.bytes ≡ i → e.source.before.bytes ≡ n → f ≤ e.sink.before.faults → a ≤ e.source.before.faults
-    → Halted end (line_told most line) m e said → Halted end (lines_told most (made ++ line ∷ rest)) t (before h f l a e) (v ++ said)
+pub halted_line : {end : Stop} (most : ℕ) (made : List DoLine) (line : DoLine) (rest : List DoLine) {t m : Talk} {h i l n : Option (List ℕ)} {v said : List ℕ} {shut done : Bool} (f a : ℕ) {e : Ends} → Went (lines_told most made) t m h i l n v tt → e.sink.before.bytes ≡ i → e.source.before.bytes ≡ n → f ≤ e.sink.before.faults → a ≤ e.source.before.faults
+    → Halted end (line_told most line) m e said → Halted end (lines_told most (made ++ line ∷ rest)) t (before h f shut l a done e) (v ++ said)
 halted_line {end} most made line rest f a w held left s r d =
     halted_same (λ bytes. sym (lines_append most made (line ∷ rest) bytes))
     (halted_then (λ _ bytes. lines_told most (line ∷ rest) bytes) f a w held left s r (halted_same (λ bytes. sym (lines_first most line rest bytes)) (halted_first (λ _ bytes. lines_told most rest bytes) d)))
@@ -146,12 +146,12 @@ far_all {most} {lines} {t} {now} {h} {i} {l} {n} {failed} {o} e a b c d far = re
 }
 
 -- a line at which the talk stops
-pub far_halted : {end : Stop} {most : ℕ} {lines : List DoLine} (line : DoLine) {rest : List DoLine} {t m : Talk} {h i l n : Option (List ℕ)} {failed : Bool} {o : Seen} (f a : ℕ) {e : Ends} → SoFar most lines (line ∷ rest) t m h i l n failed o → e.sink.before.bytes ≡ i → e.source.before.bytes ≡ n → f ≤ e.sink.before.faults → a ≤ e.source.before.faults
-    → Halted end (line_told most line) m e [] → HasHalted end (lines_told most lines) t (before h f l a e) failed o
-far_halted {end} {most} {lines} line {rest} {t} {m} {h} {i} {l} {n} {failed} {o} f a {e} far held left s r d = record {
+pub far_halted : {end : Stop} {most : ℕ} {lines : List DoLine} (line : DoLine) {rest : List DoLine} {t m : Talk} {h i l n : Option (List ℕ)} {failed : Bool} {o : Seen} {shut done : Bool} (f a : ℕ) {e : Ends} → SoFar most lines (line ∷ rest) t m h i l n failed o → e.sink.before.bytes ≡ i → e.source.before.bytes ≡ n → f ≤ e.sink.before.faults → a ≤ e.source.before.faults
+    → Halted end (line_told most line) m e [] → HasHalted end (lines_told most lines) t (before h f shut l a done e) failed o
+far_halted {end} {most} {lines} line {rest} {t} {m} {h} {i} {l} {n} {failed} {o} {shut} {done} f a {e} far held left s r d = record {
   text = far.text;
-  halted = subst (λ (x : List DoLine). Halted end (lines_told most x) t (before h f l a e) far.text) far.joined
-      (subst (λ (x : List ℕ). Halted end (lines_told most (far.made ++ line ∷ rest)) t (before h f l a e) x) (append-nil far.text) (halted_line most far.made line rest f a far.went held left s r d));
+  halted = subst (λ (x : List DoLine). Halted end (lines_told most x) t (before h f shut l a done e) far.text) far.joined
+      (subst (λ (x : List ℕ). Halted end (lines_told most (far.made ++ line ∷ rest)) t (before h f shut l a done e) x) (append-nil far.text) (halted_line most far.made line rest f a far.went held left s r d));
   wrote = far.wrote;
 }
 
@@ -161,8 +161,8 @@ pub told_is : (tree : List ℕ) (lines : List DoLine) (bytes : List ℕ) → and
 unfolding told_of
 told_is tree lines bytes = refl
 
-pub well_begun : (tree : List ℕ) (lines : List DoLine) {most : ℕ} {t m : Talk} {h i l n : Option (List ℕ)} {failed : Bool} {o : Seen} {f a : ℕ} {e : Ends} → Went (begins tree) t m h i l n [] most → e.sink.before.bytes ≡ i → e.source.before.bytes ≡ n → WentWell (lines_told most lines) m e failed o → WentWell (told_of tree lines) t (before h f l a e) failed o
-well_begun tree lines {most} {t} {m} {h} {i} {l} {n} {failed} {o} {f} {a} {e} w held left well = record {
+pub well_begun : (tree : List ℕ) (lines : List DoLine) {most : ℕ} {t m : Talk} {h i l n : Option (List ℕ)} {failed : Bool} {o : Seen} {shut done : Bool} {f a : ℕ} {e : Ends} → Went (begins tree) t m h i l n [] most → e.sink.before.bytes ≡ i → e.source.before.bytes ≡ n → WentWell (lines_told most lines) m e failed o → WentWell (told_of tree lines) t (before h f shut l a done e) failed o
+well_begun tree lines {most} {t} {m} {h} {i} {l} {n} {failed} {o} {shut} {done} {f} {a} {e} w held left well = record {
   after = well.after;
   text = well.text;
   went = went_same (told_is tree lines) (went_then (λ most rest. lines_told most lines rest) w
@@ -171,8 +171,8 @@ well_begun tree lines {most} {t} {m} {h} {i} {l} {n} {failed} {o} {f} {a} {e} w 
   wrote = well.wrote;
 }
 
-pub halted_begun : {end : Stop} (tree : List ℕ) (lines : List DoLine) {most : ℕ} {t m : Talk} {h i l n : Option (List ℕ)} {failed : Bool} {o : Seen} (f a : ℕ) {e : Ends} → Went (begins tree) t m h i l n [] most → e.sink.before.bytes ≡ i → e.source.before.bytes ≡ n → f ≤ e.sink.before.faults → a ≤ e.source.before.faults
-    → HasHalted end (lines_told most lines) m e failed o → HasHalted end (told_of tree lines) t (before h f l a e) failed o
+pub halted_begun : {end : Stop} (tree : List ℕ) (lines : List DoLine) {most : ℕ} {t m : Talk} {h i l n : Option (List ℕ)} {failed : Bool} {o : Seen} {shut done : Bool} (f a : ℕ) {e : Ends} → Went (begins tree) t m h i l n [] most → e.sink.before.bytes ≡ i → e.source.before.bytes ≡ n → f ≤ e.sink.before.faults → a ≤ e.source.before.faults
+    → HasHalted end (lines_told most lines) m e failed o → HasHalted end (told_of tree lines) t (before h f shut l a done e) failed o
 halted_begun {end} tree lines {most} f a w held left s r has = record {
   text = has.text;
   halted = halted_same (told_is tree lines) (halted_then (λ most rest. lines_told most lines rest) f a w held left s r has.halted);
@@ -180,8 +180,8 @@ halted_begun {end} tree lines {most} f a w held left s r has = record {
 }
 
 -- by whether it has stopped
-pub comes_begun : (end : Option Stop) (tree : List ℕ) (lines : List DoLine) {most : ℕ} {t m : Talk} {h i l n : Option (List ℕ)} (failed : Bool) (o : Seen) (f a : ℕ) (e : Ends) → Went (begins tree) t m h i l n [] most → e.sink.before.bytes ≡ i → e.source.before.bytes ≡ n → f ≤ e.sink.before.faults → a ≤ e.source.before.faults
-    → Comes end (lines_told most lines) m e failed o → Comes end (told_of tree lines) t (before h f l a e) failed o
+pub comes_begun : (end : Option Stop) (tree : List ℕ) (lines : List DoLine) {most : ℕ} {t m : Talk} {h i l n : Option (List ℕ)} (failed : Bool) (o : Seen) {shut done : Bool} (f a : ℕ) (e : Ends) → Went (begins tree) t m h i l n [] most → e.sink.before.bytes ≡ i → e.source.before.bytes ≡ n → f ≤ e.sink.before.faults → a ≤ e.source.before.faults
+    → Comes end (lines_told most lines) m e failed o → Comes end (told_of tree lines) t (before h f shut l a done e) failed o
 comes_begun None tree lines failed o f a e w held left s r comes = well_begun tree lines w held left comes
 comes_begun (Some end) tree lines failed o f a e w held left s r comes = halted_begun tree lines f a w held left s r comes
 

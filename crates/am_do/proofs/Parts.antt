@@ -1,5 +1,5 @@
 -- The parts of a talk by its lines.
-use Rattle.std.proofs.Common.{◌≡◌, ℕ, suc, ◌*◌, ◌<◌, ◌≤◌, List, [], ◌∷◌, length, Option, refl, sym, subst, arith}
+use Rattle.std.proofs.Common.{◌≡◌, ℕ, suc, ◌*◌, ◌<◌, ◌≤◌, Bool, List, [], ◌∷◌, length, Option, refl, sym, subst, arith}
 use Rattle.am_base.specs.Outside.{bytes_told}
 use Rattle.std.specs.Prelude.{Result, Ok, Err, IfOk, IfErr, All, codes}
 use Rattle.std.specs.List.{flat_map}
@@ -40,8 +40,8 @@ module _ {A : Type 0} where
   went_saying two {t} {m} {h} {i} {l} {n} text is line w = went_same is (went_then two w (went_same line (went_says text m i n)))
 
   -- a part, and then memory runs out
-  pub halted_saying : {one : List ℕ → Told A} {whole : List ℕ → Told (Unit {0})} (two : A → List ℕ → Told (Unit {0})) {t m : Talk} {h i l n : Option (List ℕ)} (f g a b : ℕ) {x : A} → ((bytes : List ℕ) → and_then (one bytes) two ≡ whole bytes) → f ≤ g → a ≤ b
-      → Went one t m h i l n [] x → Halted (stop.Fault fault.NoMemory) whole t (ends (bytes_told h f) (bytes_told i g) (bytes_told l a) (bytes_told n b)) []
+  pub halted_saying : {one : List ℕ → Told A} {whole : List ℕ → Told (Unit {0})} (two : A → List ℕ → Told (Unit {0})) {t m : Talk} {h i l n : Option (List ℕ)} {shut shut' done done' : Bool} (f g a b : ℕ) {x : A} → ((bytes : List ℕ) → and_then (one bytes) two ≡ whole bytes) → f ≤ g → a ≤ b
+      → Went one t m h i l n [] x → Halted (stop.Fault fault.NoMemory) whole t (ends (bytes_told h f shut) (bytes_told i g shut') (bytes_told l a done) (bytes_told n b done')) []
   halted_saying two {t} {m} {h} {i} {l} {n} f g a b {x} is s r w = halted_same is (halted_then two f a w refl refl s r (halted_memory (two x) m i n g b))
 
   -- the talk stops in its first part
@@ -54,8 +54,8 @@ module _ {A : Type 0} where
   went_going two is same w v = went_same is (went_then two w (went_same same v))
 
   -- the talk stops in its second part
-  pub halted_going : {end : Stop} {one : List ℕ → Told A} {next whole : List ℕ → Told (Unit {0})} (two : A → List ℕ → Told (Unit {0})) {t m : Talk} {h i l n : Option (List ℕ)} (f a : ℕ) {e : Ends} {x : A} → ((bytes : List ℕ) → and_then (one bytes) two ≡ whole bytes) → ((bytes : List ℕ) → next bytes ≡ two x bytes)
-      → Went one t m h i l n [] x → e.sink.before.bytes ≡ i → e.source.before.bytes ≡ n → f ≤ e.sink.before.faults → a ≤ e.source.before.faults → Halted end next m e [] → Halted end whole t (before h f l a e) []
+  pub halted_going : {end : Stop} {one : List ℕ → Told A} {next whole : List ℕ → Told (Unit {0})} (two : A → List ℕ → Told (Unit {0})) {t m : Talk} {h i l n : Option (List ℕ)} {shut done : Bool} (f a : ℕ) {e : Ends} {x : A} → ((bytes : List ℕ) → and_then (one bytes) two ≡ whole bytes) → ((bytes : List ℕ) → next bytes ≡ two x bytes)
+      → Went one t m h i l n [] x → e.sink.before.bytes ≡ i → e.source.before.bytes ≡ n → f ≤ e.sink.before.faults → a ≤ e.source.before.faults → Halted end next m e [] → Halted end whole t (before h f shut l a done e) []
   halted_going two f a is same w held left s r h = halted_same is (halted_then two f a w held left s r (halted_same same h))
 
 -- ---- the lines

@@ -1,5 +1,5 @@
 -- Parts of a talk, one after another.
-use Rattle.std.proofs.Common.{◌≡◌, ℕ, ◌≤◌, List, [], ◌++◌, Option, refl, sym, ap, ◌∙◌, subst, append_assoc}
+use Rattle.std.proofs.Common.{◌≡◌, ℕ, ◌≤◌, Bool, List, [], ◌++◌, Option, refl, sym, ap, ◌∙◌, subst, append_assoc}
 use Rattle.am_base.specs.Outside.{bytes_told, told_then, PutsFront}
 use Rattle.ninep_client.specs.declared.fault.CallFault.{CallFault}
 use Rattle.ninep_client.specs.declared.fault.CallFault.TheVariants as fault
@@ -95,18 +95,18 @@ module _ {A B : Type 0} where
 -- ---- a talk that stops in its second part
 
 -- what a sink and a source were before
-abbrev pub before : Option (List ℕ) → ℕ → Option (List ℕ) → ℕ → Ends → Ends
-before held sink left source e = ends (bytes_told held sink) e.sink.now (bytes_told left source) e.source.now
+abbrev pub before : Option (List ℕ) → ℕ → Bool → Option (List ℕ) → ℕ → Bool → Ends → Ends
+before held sink shut left source done e = ends (bytes_told held sink shut) e.sink.now (bytes_told left source done) e.source.now
 
 module _ {B : Type 0} where
-  left_behind : (sent text : List ℕ) (told : Told B) (h l : Option (List ℕ)) (f a : ℕ) (e : Ends) (said : List ℕ) → e.sink.before.bytes ≡ told_then h sent → IsLeft told e said → IsLeft (behind sent text told) (before h f l a e) (text ++ said)
+  left_behind : {shut done : Bool} (sent text : List ℕ) (told : Told B) (h l : Option (List ℕ)) (f a : ℕ) (e : Ends) (said : List ℕ) → e.sink.before.bytes ≡ told_then h sent → IsLeft told e said → IsLeft (behind sent text told) (before h f shut l a done e) (text ++ said)
   left_behind sent text told h l f a e said p x = record { lacks = x.lacks; put = put_then h e.sink.before.bytes e.sink.now.bytes sent told.sent p x.put; said = ap (λ (u : List ℕ). text ++ u) x.said }
 
-  faulty_behind : (c : CallFault) (sent text : List ℕ) (told : Told B) (h l : Option (List ℕ)) (f a : ℕ) (e : Ends) (said : List ℕ) → e.sink.before.bytes ≡ told_then h sent → IsFaulty c told e said → IsFaulty c (behind sent text told) (before h f l a e) (text ++ said)
+  faulty_behind : {shut done : Bool} (c : CallFault) (sent text : List ℕ) (told : Told B) (h l : Option (List ℕ)) (f a : ℕ) (e : Ends) (said : List ℕ) → e.sink.before.bytes ≡ told_then h sent → IsFaulty c told e said → IsFaulty c (behind sent text told) (before h f shut l a done e) (text ++ said)
   faulty_behind c sent text told h l f a e said p x = record { faulty = x.faulty; put = put_then h e.sink.before.bytes e.sink.now.bytes sent told.sent p x.put; said = ap (λ (u : List ℕ). text ++ u) x.said }
 
-  stops_behind : (end : Stop) (sent text : List ℕ) (used all : Told B) (unread : List ℕ) (h l : Option (List ℕ)) (f a : ℕ) (e : Ends) (said : List ℕ) → e.sink.before.bytes ≡ told_then h sent → f ≤ e.sink.before.faults → a ≤ e.source.before.faults
-      → StopsFor end used all unread e said → StopsFor end (behind sent text used) (behind sent text all) unread (before h f l a e) (text ++ said)
+  stops_behind : {shut done : Bool} (end : Stop) (sent text : List ℕ) (used all : Told B) (unread : List ℕ) (h l : Option (List ℕ)) (f a : ℕ) (e : Ends) (said : List ℕ) → e.sink.before.bytes ≡ told_then h sent → f ≤ e.sink.before.faults → a ≤ e.source.before.faults
+      → StopsFor end used all unread e said → StopsFor end (behind sent text used) (behind sent text all) unread (before h f shut l a done e) (text ++ said)
   stops_behind stop.Refused sent text used all unread h l f a e said p s r x = record { refused = x.refused; put = put_then h e.sink.before.bytes e.sink.now.bytes sent used.sent p x.put; said = ap (λ (u : List ℕ). text ++ u) x.said }
   stops_behind (stop.Fault fault.Ended) sent text used all unread h l f a e said p s r x = (left_behind sent text used h l f a e said p x.0, x.1, x.2)
   stops_behind (stop.Fault fault.Torn) sent text used all unread h l f a e said p s r x =
@@ -132,25 +132,25 @@ module _ {B : Type 0} where
   stops_behind (stop.Fault (fault.Remote t)) sent text used all unread h l f a e said p s r x = absurd x
 
 module _ {A B : Type 0} where
-  pub halted_then : {end : Stop} {one : List ℕ → Told A} (two : A → List ℕ → Told B) {t m : Talk} {h i l n : Option (List ℕ)} {v said : List ℕ} {x : A} (f a : ℕ) {e : Ends} → Went one t m h i l n v x → e.sink.before.bytes ≡ i → e.source.before.bytes ≡ n → f ≤ e.sink.before.faults → a ≤ e.source.before.faults
-      → Halted end (two x) m e said → Halted end (λ bytes. and_then (one bytes) two) t (before h f l a e) (v ++ said)
-  halted_then {end} {one} two {t} {m} {h} {i} {l} {n} {v} {said} {x} f a {e} w held left s r d =
+  pub halted_then : {end : Stop} {one : List ℕ → Told A} (two : A → List ℕ → Told B) {t m : Talk} {h i l n : Option (List ℕ)} {v said : List ℕ} {x : A} {shut done : Bool} (f a : ℕ) {e : Ends} → Went one t m h i l n v x → e.sink.before.bytes ≡ i → e.source.before.bytes ≡ n → f ≤ e.sink.before.faults → a ≤ e.source.before.faults
+      → Halted end (two x) m e said → Halted end (λ bytes. and_then (one bytes) two) t (before h f shut l a done e) (v ++ said)
+  halted_then {end} {one} two {t} {m} {h} {i} {l} {n} {v} {said} {x} {shut} {done} f a {e} w held left s r d =
       let used : and_then (one (w.used ++ d.used)) two ≡ behind w.sent v (two x d.used) = part_then one two w.used w.sent v d.used x w.goes in
       let all : and_then (one ((w.used ++ d.used) ++ d.unread)) two ≡ behind w.sent v (two x (d.used ++ d.unread))
       = ap (λ (bytes : List ℕ). and_then (one bytes) two) (append_assoc w.used d.used d.unread) ∙ part_then one two w.used w.sent v (d.used ++ d.unread) x w.goes in
-      let cause : StopsFor end (behind w.sent v (two x d.used)) (behind w.sent v (two x (d.used ++ d.unread))) d.unread (before h f l a e) (v ++ said)
+      let cause : StopsFor end (behind w.sent v (two x d.used)) (behind w.sent v (two x (d.used ++ d.unread))) d.unread (before h f shut l a done e) (v ++ said)
       = stops_behind end w.sent v (two x d.used) (two x (d.used ++ d.unread)) d.unread h l f a e said (held ∙ w.put) s r d.cause in
       record {
         used = w.used ++ d.used;
         unread = d.unread;
         came = subst (λ (b : List ℕ). Came l e.source.now.bytes t.unread b) (sym (append_assoc w.used d.used d.unread)) (came_then l n e.source.now.bytes t.unread m.unread (d.used ++ d.unread) w.used w.came (subst (λ (o : Option (List ℕ)). Came o e.source.now.bytes m.unread (d.used ++ d.unread)) left d.came));
-        cause = subst (λ (u : Told B). StopsFor end u (and_then (one ((w.used ++ d.used) ++ d.unread)) two) d.unread (before h f l a e) (v ++ said)) (sym used)
-            (subst (λ (u : Told B). StopsFor end (behind w.sent v (two x d.used)) u d.unread (before h f l a e) (v ++ said)) (sym all) cause);
+        cause = subst (λ (u : Told B). StopsFor end u (and_then (one ((w.used ++ d.used) ++ d.unread)) two) d.unread (before h f shut l a done e) (v ++ said)) (sym used)
+            (subst (λ (u : Told B). StopsFor end (behind w.sent v (two x d.used)) u d.unread (before h f shut l a done e) (v ++ said)) (sym all) cause);
       }
 
 -- ---- a talk that stops where it stands
 
-pub halted_memory : {A : Type 0} (talk : List ℕ → Told A) (t : Talk) (held left : Option (List ℕ)) (f a : ℕ) → Halted (stop.Fault fault.NoMemory) talk t (ends (bytes_told held f) (bytes_told held f) (bytes_told left a) (bytes_told left a)) []
+pub halted_memory : {A : Type 0} {shut done : Bool} (talk : List ℕ → Told A) (t : Talk) (held left : Option (List ℕ)) (f a : ℕ) → Halted (stop.Fault fault.NoMemory) talk t (ends (bytes_told held f shut) (bytes_told held f shut) (bytes_told left a done) (bytes_told left a done)) []
 halted_memory talk t held left f a = record {
   used = [];
   unread = t.unread;
@@ -158,7 +158,7 @@ halted_memory talk t held left f a = record {
   cause = record { front = front_none held (talk []).sent; rest = (talk []).text; said = refl };
 }
 
-pub halted_refused : {A : Type 0} (t : Talk) (held left : Option (List ℕ)) (f a : ℕ) → Halted stop.Refused (λ (bytes : List ℕ). let told : Told A = refuses in told) t (ends (bytes_told held f) (bytes_told held f) (bytes_told left a) (bytes_told left a)) []
+pub halted_refused : {A : Type 0} {shut done : Bool} (t : Talk) (held left : Option (List ℕ)) (f a : ℕ) → Halted stop.Refused (λ (bytes : List ℕ). let told : Told A = refuses in told) t (ends (bytes_told held f shut) (bytes_told held f shut) (bytes_told left a done) (bytes_told left a done)) []
 halted_refused t held left f a = record {
   used = [];
   unread = t.unread;

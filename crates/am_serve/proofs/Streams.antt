@@ -360,6 +360,19 @@ stops_reading enabled answer conn v u w left stayed had given b s first i h t mo
     let P : List ℕ → Type 0 = λ x. StopsIn enabled answer conn w.seen i x s in
     stops_at_piece enabled answer conn v u w left b s first i h t.stream (sym more) joins l (subst P t.stays k)
 
+-- nothing was read, for want of memory
+pub stops_unread : (enabled : Rule) (answer : Answers) (conn : ℕ) (v : Known) (first : Option (List ℕ)) → ReadUntil enabled answer conn v v (stop.Ends ending.NoMemory) first first
+stops_unread enabled answer conn v first = record {
+  entries = [];
+  gains = gains_nothing v;
+  messages = tt;
+  fits = refl;
+  bytes = [];
+  told = sym (then_told-nil first);
+  stops = ((cut_stream []).messages, refl);
+  with_room = record { pieces = []; are = refl; each = tt; last = λ h. absurd h };
+}
+
 -- ---- the end
 
 -- more of the journal was seen

@@ -3,6 +3,7 @@
 ghost use Rattle.std.specs.Prelude.{◌≡◌, ◌≢◌, ◌<◌, IfOk, length};
 ghost use Rattle.am_journal.specs.Limits.{connection_count};
 
+use crate::start::Start;
 use am_counter::Told;
 use am_journal::CONNECTIONS;
 use am_text::NoMemory;
@@ -20,6 +21,8 @@ struct Pair {
     room: Bell,
     // Whether a side has told that it has ended.
     over: AtomicBool,
+    // Whether the side that writes has begun.
+    writing: Start,
 }
 
 /// A bell for each side of each connection, and one for a script. A side waits for its own alone, so an entry wakes those sides alone for
@@ -29,6 +32,8 @@ pub struct Bells {
     connections: Vec<Pair>,
     // Rings where a file was opened, or a connection has ended.
     script: Bell,
+    // Whether the script has begun.
+    scripting: Start,
     ghost all: { length connections.items ≡ connection_count },
 }
 
@@ -41,12 +46,38 @@ impl Bells {
                 replies: Bell::new(),
                 room: Bell::new(),
                 over: AtomicBool::new(false),
+                writing: Start::new(),
             });
         }
         Ok(Bells {
             connections,
             script: Bell::new(),
+            scripting: Start::new(),
         })
+    }
+
+    /// The side of a connection that writes begins.
+    pub fn begin_writing(&self, conn: u32)
+        requires { conn < connection_count }
+    {
+        let _begun = self.connections[conn as usize].writing.begin();
+    }
+
+    /// Waits for that side for a while, and answers whether it has begun. If not, no thread could be made for it.
+    pub fn has_writer(&self, conn: u32) -> bool
+        requires { conn < connection_count }
+    {
+        self.connections[conn as usize].writing.has_begun()
+    }
+
+    /// The script begins, and whether it isn't too late for it.
+    pub fn begin_script(&self) -> bool {
+        self.scripting.begin()
+    }
+
+    /// Waits for the script for a while. If it hasn't begun then, no thread could be made for it, and it is too late for it.
+    pub fn await_script(&self) {
+        let _begun = self.scripting.has_begun();
     }
 
     /// Replies were made to these connections.

@@ -11,6 +11,7 @@ mod laws;
 mod reading;
 mod scripting;
 mod sending;
+mod start;
 mod station;
 mod writing;
 

@@ -44,6 +44,10 @@ fn read_messages<C: Counter, S: Source, R: Wait>(
     ensures fault { result ≡ stop.Ends ending.ReadFault → HasRisen (S.told source.old).faults (S.told source.new).faults }
     ensures later { (S.told source.old).faults ≤ (S.told source.new).faults }
 {
+    // No reply would ever be written.
+    if !at.bells.has_writer(at.conn) {
+        return Stop::Ends(Ending::NoMemory);
+    }
     // The messages don't depend on the pieces that are fed.
     pieces_are_joined();
     let mut budget = Budget::new();
@@ -80,7 +84,7 @@ fn read_messages<C: Counter, S: Source, R: Wait>(
 /// reply. It rings for the sides that its entries did something for, once for the messages of a piece. The causes: `End` and `Torn` at the
 /// end of the source, between two messages or inside one, `ReadFault` where the source fails, `Spent` where the next message would be the 1,000,001st, or would bring the bytes of all above
 /// 67,108,864, `Broken` where the next message can't be read, is above the connection's msize or has a tag that waits, in this order, and
-/// `NoMemory`.
+/// `NoMemory`, also where no thread could be made for the side that writes. It ends its source.
 pub fn read_side<C: Counter, S: Source, R: Wait>(
     rt: &R,
     alloc: Global,
@@ -103,10 +107,13 @@ pub fn read_side<C: Counter, S: Source, R: Wait>(
     ensures torn { result ≡ Some ending.Torn → AreTold (S.told source.new).bytes [] }
     ensures fault { result ≡ Some ending.ReadFault → HasRisen (S.told source.old).faults (S.told source.new).faults }
     ensures later { (S.told source.old).faults ≤ (S.told source.new).faults }
+    // Whatever the ending, nothing more is to come.
+    ensures closed { (S.told source.new).is_ended ≡ true }
 {
     let mut due = Due::new();
     let stop = read_messages(rt, alloc, at, seat, &mut due, source);
     due.ring(at.bells);
+    source.end();
     match stop {
         Stop::Ended => None,
         Stop::Ends(why) => {

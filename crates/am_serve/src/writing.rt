@@ -69,7 +69,7 @@ fn write_replies<C: Counter, K: Sink, R: Wait>(
 
 /// Takes the replies of a connection and writes them, until it has ended and none is left. Where the sink fails, or memory runs
 /// out, it ends the connection, unless that has ended. It rings where it has taken replies, and where it has ended the connection, and waits
-/// for its bell where there is no reply yet.
+/// for its bell where there is no reply yet. It ends its sink last.
 pub fn write_side<C: Counter, K: Sink, R: Wait>(
     rt: &R,
     alloc: Global,
@@ -91,15 +91,21 @@ pub fn write_side<C: Counter, K: Sink, R: Wait>(
     ensures nothing_unsent { result ≡ end.Ended → C.unsent (C.known seat.new).seen at.now.conn ≡ [] }
     ensures later { (K.told sink.old).faults ≤ (K.told sink.new).faults }
     ensures gone { result ≡ end.Gone → HasRisen (K.told sink.old).faults (K.told sink.new).faults }
+    // Whatever the ending, nothing more is to go.
+    ensures closed { (K.told sink.new).is_ended ≡ true }
 {
+    at.bells.begin_writing(at.conn);
     let end = write_replies(rt, alloc, at, seat, sink);
+    // The sink is ended last: who wakes by it finds the connection ended.
     match end {
-        WriteEnd::Ended => {}
+        WriteEnd::Ended => sink.end(),
         WriteEnd::Gone => {
             hang_up(rt, at, seat, Ending::Gone);
+            sink.end();
         }
         WriteEnd::NoMemory => {
             hang_up(rt, at, seat, Ending::NoMemory);
+            sink.end();
         }
     }
     end

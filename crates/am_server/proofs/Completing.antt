@@ -104,8 +104,8 @@ module _ {G L S K : Type 0} (m : Outside G L S K) (journal : List Event) where
   none_failed path n [] tells calm bound = refl
   none_failed path n (slot.Unbound ∷ slots) tells calm bound = absurd (omega (arith, bound))
   none_failed path n (slot.Bound gate ∷ slots) tells calm bound = absurd tells.1
-  none_failed path n (slot.Unlinked gate ∷ slots) tells calm bound = absurd (risen_above (m.gate gate).faults tells.1 calm.0.0)
-  none_failed path n (slot.Unhalved gate link ∷ slots) tells calm bound = absurd (risen_above (m.link link).faults tells.1 calm.0.1)
+  none_failed path n (slot.Unlinked gate ∷ slots) tells calm bound = absurd (risen_above (m.gate gate).faults tells.1.0 calm.0.0)
+  none_failed path n (slot.Unhalved gate link ∷ slots) tells calm bound = absurd (risen_above (m.link link).faults tells.1.0 calm.0.1)
   none_failed path n (slot.Undialled x refused ∷ slots) tells calm bound = none_failed path (n + 1) slots tells.2 calm.1 bound
   none_failed path n (slot.Served x read wrote ∷ slots) tells calm bound = none_failed path (n + 1) slots tells.2 calm.1 bound
 

@@ -1,8 +1,10 @@
 -- Slots whose gates are tried one after another.
-use Rattle.std.proofs.Common.{◌≡◌, inl, inr, ℕ, ◌+◌, ◌≤◌, List, [], ◌∷◌, ◌++◌, length, length-append, Option, sym, ap, subst, ◌∙◌, arith}
-use Rattle.am_base.specs.Outside.{GateTold}
-use Rattle.am_slots.specs.Binding.{AreWaiting, HaveNames}
-use Rattle.am_slots.specs.Slots.{HasRisenBy, HasName, IsWaiting, unbound}
+use Rattle.std.proofs.Common.{◌≡◌, inl, inr, ℕ, ◌+◌, ◌-◌, ◌^◌, ◌≤◌, Bool, true, false, if◌then◌else◌, List, [], ◌∷◌, ◌++◌, length, length-append, Option, refl, sym, ap, subst, ◌∙◌, arith}
+use Rattle.std.specs.Prelude.{nat_lt}
+use Rattle.std.proofs.lemmas.Bool.{ltb-false}
+use Rattle.am_base.specs.Outside.{GateTold, one_more}
+use Rattle.am_slots.specs.Binding.{AreWaiting, HaveNames, IsGiven}
+use Rattle.am_slots.specs.Slots.{HasGiven, HasRisenBy, HasName, IsWaiting, unbound}
 use Rattle.am_slots.specs.declared.slot.Slot.{Slot}
 use Rattle.am_slots.specs.declared.slot.Slot.TheVariants as slot
 
@@ -13,6 +15,23 @@ pub risen_more : (n m a b c : ℕ) → HasRisenBy n a b → HasRisenBy m b c →
 risen_more n m a b c (inl p) (inl q) le = inl (omega (arith, p, q))
 risen_more n m a b c (inl p) (inr q) le = inr q
 risen_more n m a b c (inr p) q le = inr (omega (arith, p, le))
+
+-- a count that has risen by one, where it could
+one_given : (a : ℕ) → HasGiven 1 0 a (one_more a)
+one_given a = by_test (nat_lt a (2 ^ 64 - 1)) refl
+  where
+    by_test : (t : Bool) → nat_lt a (2 ^ 64 - 1) ≡ t → HasGiven 1 0 a (one_more a)
+    by_test true e = subst (λ (x : Bool). HasGiven 1 0 a (if x then a + 1 else a)) (sym e) (inl (omega arith))
+    by_test false e = subst (λ (x : Bool). HasGiven 1 0 a (if x then a + 1 else a)) (sym e) (inr (omega (arith, ltb-false a (2 ^ 64 - 1) e)))
+
+given_same : (a b : ℕ) → b ≡ one_more a → HasGiven 1 0 a b
+given_same a b e = subst (λ (n : ℕ). HasGiven 1 0 a n) (sym e) (one_given a)
+
+-- one call more was made
+given_more : (n k m a b c : ℕ) → m ≤ 1 → HasGiven n k a b → HasGiven 1 m b c → HasGiven (n + 1) (k + m) a c
+given_more n k m a b c one (inl p) (inl q) = inl (omega (arith, p, q))
+given_more n k m a b c one p (inr q) = inr q
+given_more n k m a b c one (inr p) (inl q) = inr (omega (arith, p, q, one))
 
 module _ {G L S K : Type 0} where
   pub waiting-append : (told : G → GateTold) (xs ys : List (Slot G L S K)) → AreWaiting told xs → AreWaiting told ys → AreWaiting told (xs ++ ys)
@@ -35,6 +54,23 @@ module _ {G L S K : Type 0} where
   unbound-cons (slot.Unhalved gate link) slots = omega arith
   unbound-cons (slot.Undialled x refused) slots = omega arith
   unbound-cons (slot.Served x read wrote) slots = omega arith
+
+  -- one slot more, by what its host gave
+  slot_given : (s : Slot G L S K) (a b : ℕ) → IsGiven s a b → HasGiven 1 (unbound (s ∷ [])) a b
+  slot_given slot.Unbound a b e = inl (omega (arith, e))
+  slot_given (slot.Bound gate) a b e = given_same a b e
+  slot_given (slot.Unlinked gate) a b e = given_same a b e
+  slot_given (slot.Unhalved gate link) a b e = given_same a b e
+  slot_given (slot.Undialled x refused) a b e = given_same a b e
+  slot_given (slot.Served x read wrote) a b e = given_same a b e
+
+  one_unbound : (s : Slot G L S K) → unbound (s ∷ []) ≤ 1
+  one_unbound slot.Unbound = omega arith
+  one_unbound (slot.Bound gate) = omega arith
+  one_unbound (slot.Unlinked gate) = omega arith
+  one_unbound (slot.Unhalved gate link) = omega arith
+  one_unbound (slot.Undialled x refused) = omega arith
+  one_unbound (slot.Served x read wrote) = omega arith
 
   pub unbound-append : (xs ys : List (Slot G L S K)) → unbound (xs ++ ys) ≡ unbound xs + unbound ys
   unbound-append [] ys = omega arith
@@ -59,3 +95,8 @@ module _ {G L S K : Type 0} where
     risen_next a b c p q le =
         let P : ℕ → Type 0 = λ n. HasRisenBy n a c in
         subst P (sym (ap (λ (l : List (Slot G L S K)). unbound l) e ∙ unbound-append slots (s ∷ []))) (risen_more (unbound slots) (unbound (s ∷ [])) a b c p q le)
+
+    pub given_next : (n a b c : ℕ) → HasGiven n (unbound slots) a b → IsGiven s b c → HasGiven (n + 1) (unbound now) a c
+    given_next n a b c p q =
+        let P : ℕ → Type 0 = λ k. HasGiven (n + 1) k a c in
+        subst P (sym (ap (λ (l : List (Slot G L S K)). unbound l) e ∙ unbound-append slots (s ∷ []))) (given_more n (unbound slots) (unbound (s ∷ [])) a b c (one_unbound s) p (slot_given s b c q))

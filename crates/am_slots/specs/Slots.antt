@@ -1,5 +1,5 @@
 -- Slots, what their objects tell, and what a journal has of them.
-use Rattle.std.specs.Prelude.{◌≡◌, ◌⊎◌, ℕ, ◌+◌, ◌^◌, ◌≤◌, List, [], ◌∷◌, ◌++◌, Option, Some, None}
+use Rattle.std.specs.Prelude.{◌≡◌, ◌⊎◌, ℕ, ◌+◌, ◌^◌, ◌≤◌, true, false, List, [], ◌∷◌, ◌++◌, Option, Some, None}
 use Rattle.std.specs.Prelude.{filter}
 use Rattle.am_base.specs.Outside.{BytesTold, GateTold, LinkTold, AreTold, HasRisen, IsNamed}
 use Rattle.am_journal.specs.declared.ending.Ending.{Ending}
@@ -16,6 +16,7 @@ use Rattle.am_serve.specs.declared.writing.WriteEnd.TheVariants as end
 use Rattle.am_counter.specs.Sent.{sent}
 use Rattle.am_slots.specs.Connection.{IsSilent, IsDrained, endings_of}
 use Rattle.am_slots.specs.Sides.{WasRefused, Serves}
+use Rattle.am_slots.specs.declared.slot.Objects.{Objects}
 use Rattle.am_slots.specs.declared.slot.Slot.{Slot}
 use Rattle.am_slots.specs.declared.slot.Slot.TheVariants as slot
 
@@ -53,10 +54,10 @@ pub record IsServed (enabled : Rule) (unsent : List Event → ℕ → List ℕ) 
 -- ---- slots by themselves
 
 module _ {G L S K : Type 0} where
-  -- the slot's gate was tried, and no connection was taken
+  -- the slot's gate was tried, and no connection was asked of it
   abbrev pub IsWaiting : (G → GateTold) → Slot G L S K → Type 0
   IsWaiting told slot.Unbound = Unit {0}
-  IsWaiting told (slot.Bound gate) = (told gate).faults ≡ 0
+  IsWaiting told (slot.Bound gate) = ((told gate).faults ≡ 0) × ((told gate).given ≡ 0)
   IsWaiting told (slot.Unlinked gate) = ⊥
   IsWaiting told (slot.Unhalved gate link) = ⊥
   IsWaiting told (slot.Undialled x refused) = ⊥
@@ -71,18 +72,27 @@ module _ {G L S K : Type 0} where
   HasName told path conn (slot.Undialled x refused) = IsNamed (told x.gate).name path conn
   HasName told path conn (slot.Served x read wrote) = IsNamed (told x.gate).name path conn
 
-  -- what its objects tell once it was served: one that failed has counted it, and a source that has ended has nothing left; none waits
+  -- A connection was taken whole, its gate and its link having been asked once, and is closed: both its halves were ended.
+  pub record IsClosed (o : Outside G L S K) (x : Objects G L S K) : Type 0 where
+    pub given : (o.gate x.gate).given ≡ 1
+    pub halved : (o.link x.link).is_halved ≡ true
+    pub reader : (o.reader x.reader).is_ended ≡ true
+    pub writer : (o.writer x.writer).is_ended ≡ true
+
+  -- What its objects tell once it was served: one that failed has counted it, and gave nothing; a source that has ended has nothing left;
+  -- none waits.
   abbrev pub Tells : Outside G L S K → Slot G L S K → Type 0
   Tells o slot.Unbound = Unit {0}
   Tells o (slot.Bound gate) = ⊥
-  Tells o (slot.Unlinked gate) = HasRisen 0 (o.gate gate).faults
-  Tells o (slot.Unhalved gate link) = HasRisen 0 (o.link link).faults
-  Tells o (slot.Undialled x refused) = Unit {0}
+  Tells o (slot.Unlinked gate) = HasRisen 0 (o.gate gate).faults × ((o.gate gate).given ≡ 0)
+  Tells o (slot.Unhalved gate link) = HasRisen 0 (o.link link).faults × ((o.gate gate).given ≡ 1) × ((o.link link).is_halved ≡ false)
+  Tells o (slot.Undialled x refused) = IsClosed o x
   Tells o (slot.Served x read wrote) =
       (read ≡ Some ending.ReadFault → HasRisen 0 (o.reader x.reader).faults)
       × (read ≡ Some ending.End → AreTold (o.reader x.reader).bytes [])
       × (read ≡ Some ending.Torn → AreTold (o.reader x.reader).bytes [])
       × (wrote ≡ end.Gone → HasRisen 0 (o.writer x.writer).faults)
+      × IsClosed o x
 
   -- the slots whose gates could not be bound
   abbrev pub unbound : List (Slot G L S K) → ℕ
@@ -97,6 +107,10 @@ module _ {G L S K : Type 0} where
 -- a count of faults has risen by so many at least, or stands at its type's end
 abbrev pub HasRisenBy : ℕ → ℕ → ℕ → Type 0
 HasRisenBy n before now = (before + n ≤ now) ⊎ (2 ^ 64 ≤ now + 1)
+
+-- a count of what was given has risen by as many as there are but those that are missing, or stands at its type's end
+abbrev pub HasGiven : ℕ → ℕ → ℕ → ℕ → Type 0
+HasGiven all missing before now = (now + missing ≡ before + all) ⊎ (2 ^ 64 ≤ now + 1)
 
 -- ---- slots and a journal
 

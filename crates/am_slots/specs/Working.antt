@@ -31,6 +31,7 @@ pub record DidRead (enabled : Rule) (answer : Answers) (conn : ℕ) (v w : Known
   pub end : read ≡ Some ending.End → AreTold s.now.bytes []
   pub torn : read ≡ Some ending.Torn → AreTold s.now.bytes []
   pub fault : read ≡ Some ending.ReadFault → HasRisen s.before.faults s.now.faults
+  pub closed : s.now.is_ended ≡ true
 
 -- what a side that writes does
 pub record DidWrite (unsent : List Event → ℕ → List ℕ) (conn : ℕ) (v w : Known) (s : Seen) (wrote : WriteEnd) : Type 0 where
@@ -40,6 +41,7 @@ pub record DidWrite (unsent : List Event → ℕ → List ℕ) (conn : ℕ) (v w
   pub ended : has_hang w.seen conn ≡ true
   pub nothing_unsent : wrote ≡ end.Ended → unsent w.seen conn ≡ []
   pub gone : wrote ≡ end.Gone → HasRisen s.before.faults s.now.faults
+  pub closed : s.now.is_ended ≡ true
 
 -- a seat has dialled a connection, and has no other entry
 pub record HasDialled (conn : ℕ) (v : Known) : Type 0 where

@@ -1,8 +1,8 @@
 //! Binding the gates of all slots.
 
 ghost use Rattle.std.specs.Prelude.{◌≡◌, ◌≤◌, ◌∷◌, [], IfOk, length};
-ghost use Rattle.am_slots.specs.Binding.{AreWaiting, HaveNames};
-ghost use Rattle.am_slots.specs.Slots.{IsWaiting, HasName, unbound, HasRisenBy};
+ghost use Rattle.am_slots.specs.Binding.{AreWaiting, HaveNames, IsGiven};
+ghost use Rattle.am_slots.specs.Slots.{IsWaiting, HasName, unbound, HasGiven, HasRisenBy};
 
 use crate::slot::{HostSlot, HostSlots, Slot};
 use am_base::{Gate, Host, Link};
@@ -14,6 +14,7 @@ fn bind_slot<H: Host>(host: &mut H, path: &str, slot: u32) -> HostSlot<H>
     ensures named { HasName H.G.told path.now slot result }
     ensures risen { HasRisenBy (unbound (result ∷ [])) (H.faults host.old) (H.faults host.new) }
     ensures later { H.faults host.old ≤ H.faults host.new }
+    ensures given { IsGiven result (H.given host.old) (H.given host.new) }
 {
     match host.bind(path, slot) {
         Ok(gate) => Slot::Bound(gate),
@@ -33,6 +34,7 @@ pub(crate) fn bind_all<H: Host>(
     ensures named { IfOk result (λ slots. HaveNames H.G.told path.now 0 slots) }
     ensures risen { IfOk result (λ slots. HasRisenBy (unbound slots) (H.faults host.old) (H.faults host.new)) }
     ensures later { H.faults host.old ≤ H.faults host.new }
+    ensures given { IfOk result (λ slots. HasGiven clients (unbound slots) (H.given host.old) (H.given host.new)) }
 {
     let mut slots = Items::new(alloc);
     for slot in 0..clients {

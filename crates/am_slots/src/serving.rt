@@ -82,6 +82,7 @@ fn serve_connection<
     requires parts { (C.known seat.old).parts ≡ 2 }
     requires begins { ((S.told objects.reader).bytes ≡ (L.told objects.link).begins) × AreTold (K.told objects.writer).bytes [] }
     requires fresh { ((S.told objects.reader).faults ≡ 0) × ((K.told objects.writer).faults ≡ 0) }
+    requires asked { ((G.told objects.gate).given ≡ 1) × ((L.told objects.link).is_halved ≡ true) }
     ensures fits { C.fits at.now.desk.now seat.new }
     ensures parts { (C.known seat.new).parts ≡ 2 }
     ensures has { Has (outside G.told L.told S.told K.told)
@@ -97,6 +98,17 @@ fn serve_connection<
     Slot::Served(objects, read, wrote)
 }
 
+// A connection that isn't served: its client finds the end of it.
+fn closed<G, L, S: Source, K: Sink>(objects: Objects<G, L, S, K>) -> Objects<G, L, S, K>
+    ensures ended { ((S.told result.reader).is_ended ≡ true) × ((K.told result.writer).is_ended ≡ true) }
+    ensures others { (result.gate ≡ objects.gate) × (result.link ≡ objects.link) }
+{
+    let mut objects = objects;
+    objects.reader.end();
+    objects.writer.end();
+    objects
+}
+
 // Takes a connection at a gate, and serves it.
 fn serve_gate<
     C: Seats<Seat = T> + Sync,
@@ -110,7 +122,7 @@ fn serve_gate<
     requires fits { C.fits at.now.desk.now seat.old }
     requires conn { at.now.conn < connection_count }
     requires fresh { IsFresh 2 (C.known seat.old) }
-    requires waits { (G.told gate).faults ≡ 0 }
+    requires waits { ((G.told gate).faults ≡ 0) × ((G.told gate).given ≡ 0) }
     ensures fits { C.fits at.now.desk.now seat.new }
     ensures parts { (C.known seat.new).parts ≡ 2 }
     ensures has { Has (outside G.told L.told S.told K.told)
@@ -136,7 +148,7 @@ fn serve_gate<
     // Nobody waits for a dialling, and it replies to none.
     match at.desk.submit(rt, seat, event, &mut Told::none()) {
         Ok(_) => serve_connection(rt, alloc, at, seat, objects),
-        Err(refused) => Slot::Undialled(objects, refused),
+        Err(refused) => Slot::Undialled(closed(objects), refused),
     }
 }
 

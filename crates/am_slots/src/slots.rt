@@ -6,7 +6,7 @@ ghost use Rattle.am_serve.specs.Gained.{Gains, gained};
 ghost use Rattle.am_serve.specs.Script.{EndsScript, asked_by_script};
 ghost use Rattle.am_journal.specs.Limits.{connection_count};
 ghost use Rattle.am_slots.specs.Binding.{AreWaiting, HaveNames};
-ghost use Rattle.am_slots.specs.Slots.{outside, unbound, HasRisenBy};
+ghost use Rattle.am_slots.specs.Slots.{outside, unbound, HasGiven, HasRisenBy};
 ghost use Rattle.am_slots.specs.Working.{IsReady, Works, ServesEach, EachWorks, IsFresh};
 ghost use Rattle.am_slots.specs.Serving.{ServesAll, EachTells};
 
@@ -69,7 +69,10 @@ fn serve_beside<
         &mut ||
             requires { AcceptsEach F.Fn serve.now workers.now }
             ensures { ServesEach F.Fn serve.entry.now workers.entry.now workers.exit.now }
-        { serve_each(rt, workers, serve) },
+        {
+            script.bells.await_script();
+            serve_each(rt, workers, serve)
+        },
     );
     end
 }
@@ -184,6 +187,8 @@ pub fn serve_slots<H: Host, C: Seats<Seat = T> + Sync, T: Send + Drop, R: Thread
         (outside H.G.told H.G.L.told H.G.L.R.told H.G.L.W.told) service.now.path.now 0 r.0) }
     ensures risen { IfOk result (λ r. HasRisenBy (unbound r.0) (H.faults host.old) (H.faults host.new)) }
     ensures later { H.faults host.old ≤ H.faults host.new }
+    // Each slot was asked for once.
+    ensures given { IfOk result (λ r. HasGiven service.now.clients (unbound r.0) (H.given host.old) (H.given host.new)) }
     ensures err { OnErr result (C.known seat.new ≡ C.known seat.old) }
 {
     let bound = bind_all(alloc, host, service.path, service.clients)?;

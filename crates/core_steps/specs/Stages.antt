@@ -1,7 +1,7 @@
 -- A step, part by part. First comes what it makes: deeds are done; the message is answered, or waits; items come; waiting reads are
 -- answered. Then comes what it ends: the item that is written back, openings of freed fids and of deleted windows, and reads that wait no
 -- more.
-use Rattle.std.specs.Prelude.{ℕ, ◌==◌, ◌&&◌, Bool, List, [], ◌∷◌, ◌++◌, length, Option, Some, None}
+use Rattle.std.specs.Prelude.{ℕ, List, [], ◌∷◌, ◌++◌, Option, Some, None}
 use Rattle.ninep_types.specs.declared.message.RBody.{RBody}
 use Rattle.fid_table.specs.Tables.{Tables}
 use Rattle.wait_queue.specs.declared.types.Asker.{Asker}
@@ -136,11 +136,6 @@ open_ports s k d = joined_with (asked_ports (read_tables s k d) (acted s d).port
 -- and then waiting reads are answered
 abbrev pub grown_ports : Present → Kind → Doing → PortsState
 grown_ports s k d = ports_after_serving (open_ports s k d)
-
--- whether nothing is said but the answer to the message, if it is
-abbrev pub is_answer_alone : List Response → List Response → List Response → List Response → List Response → Bool
-is_answer_alone clunked deleted served asked ports_served =
-    ((((length clunked == 0) && (length deleted == 0)) && (length served == 0)) && (length asked == 0)) && (length ports_served == 0)
 
 -- What is said: to the reads of a fid that is freed, to the message, to the reads of windows that are deleted, and to the reads that
 -- can be answered then. No step makes items and delivers to ports as well, so these are the oldest first over all files.

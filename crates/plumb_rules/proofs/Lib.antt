@@ -5,3 +5,4 @@ pub mod Placing
 pub mod Refused
 pub mod Same
 pub mod Taken
+pub mod FirstMatches

@@ -7,3 +7,4 @@ pub mod Routes
 pub mod Texts
 pub mod Unchanged
 pub mod Verbs
+pub mod Whole

@@ -14,6 +14,7 @@ mod sets;
 mod state;
 mod texts;
 mod verbs;
+mod whole;
 
 pub use answer::{Route, Way};
 pub use laws::{expressions_have_trees, first_set_is_taken, messages_are_delivered_whole};

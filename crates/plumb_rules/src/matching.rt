@@ -1,4 +1,4 @@
-//! Matches of expressions: all calls of the search stand here.
+//! Matches of expressions: all calls of the search stand here and in `whole`.
 
 ghost use Rattle.std.specs.Prelude.{◌≡◌, length, IfOk, IfSome, IsTrue};
 ghost use Rattle.re_spans.specs.Groups.{span};
@@ -6,8 +6,9 @@ ghost use Rattle.re_syntax.specs.Tree.{tree};
 ghost use Rattle.plumb_rules.specs.Patterns.{is_whole, click_span, matched, IsMatchIn};
 
 use crate::state::Matched;
+use crate::whole::matches_all;
 use am_text::{NoMemory, Range, Runes};
-use re_spans::{groups, match_over, matches_span};
+use re_spans::{groups, match_over};
 use re_syntax::Re;
 use std::alloc::Global;
 
@@ -16,7 +17,7 @@ pub fn is_whole(alloc: Global, re: &Re, text: &Runes) -> Result<bool, NoMemory>
     ensures value { IfOk result (λ yes. yes ≡ is_whole (tree re.now) text.now) }
     ensures inside { IfOk result (λ yes. IsTrue yes → IsMatchIn (tree re.now) text.now (span 0 (length text.now))) }
 {
-    let yes = matches_span(alloc, re, text, 0, text.len())?;
+    let yes = matches_all(alloc, re, text)?;
     Ok(yes)
 }
 

@@ -1,5 +1,5 @@
 -- Lists that are gone through from the front, and lists that grow at the end.
-use Rattle.std.proofs.Common.{◌≡◌, ℕ, zero, suc, ◌+◌, ◌<◌, ◌≤◌, List, [], ◌∷◌, ◌++◌, length, get_or, drop, refl, sym, subst, ◌∙◌, inl, inr, arith}
+use Rattle.std.proofs.Common.{◌≡◌, ℕ, zero, suc, ◌+◌, ◌<◌, ◌≤◌, List, [], ◌∷◌, ◌++◌, length, map, get_or, drop, refl, sym, ap, subst, ◌∙◌, inl, inr, arith}
 use Rattle.std.specs.Prelude.{slice_index}
 use Rattle.std.proofs.lemmas.Bool.{cases_lt}
 
@@ -7,6 +7,21 @@ pub drop_at : {X : Type 0} (xs : List X) (n : ℕ) (d : X) → n < length xs →
 drop_at [] n d l = absurd (omega (arith, l))
 drop_at (x ∷ xs) zero d l = refl
 drop_at (x ∷ xs) (suc n) d l = drop_at xs n d (omega (arith, l))
+
+-- the same of what a list is seen as
+drop_map : {X Y : Type 0} (f : X → Y) (xs : List X) (n : ℕ) (y : X) → n < length xs → y ≡ get_or xs n y → drop n (map f xs) ≡ f y ∷ drop (suc n) (map f xs)
+drop_map f [] n y l e = absurd (omega (arith, l))
+drop_map f (x ∷ xs) zero y l e = ap (λ z. f z ∷ map f xs) (sym e)
+drop_map f (x ∷ xs) (suc n) y l e = drop_map f xs n y (omega (arith, l)) e
+
+pub drop_map_at : {X Y : Type 0} (f : X → Y) (xs : List X) (n m : ℕ) (y : X) → n < length xs → y ≡ get_or xs n y → m ≡ suc n → drop n (map f xs) ≡ f y ∷ drop m (map f xs)
+drop_map_at f xs n m y l e s = subst (λ (z : ℕ). drop n (map f xs) ≡ f y ∷ drop z (map f xs)) (sym s) (drop_map f xs n y l e)
+
+pub drop_map_all : {X Y : Type 0} (f : X → Y) (xs : List X) (n : ℕ) → length xs ≤ n → drop n (map f xs) ≡ []
+drop_map_all f [] zero l = refl
+drop_map_all f [] (suc n) l = refl
+drop_map_all f (x ∷ xs) zero l = absurd (omega (arith, l))
+drop_map_all f (x ∷ xs) (suc n) l = drop_map_all f xs n (omega (arith, l))
 
 pub drop_all : {X : Type 0} (xs : List X) (n : ℕ) → length xs ≤ n → drop n xs ≡ []
 drop_all [] zero l = refl

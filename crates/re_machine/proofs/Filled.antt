@@ -14,7 +14,7 @@ use Rattle.re_sets.proofs.Numbering.{bits_in}
 use Rattle.re_sets.proofs.Wording.{on_is, on_zero}
 use Rattle.re_sets.proofs.Filling.{then_rows, either_rows, again_rows, then_first, then_last, either_word}
 use Rattle.re_machine.specs.Sets.{AreAdded}
-use Rattle.re_machine.specs.Filling.{IsPart, AreFilled}
+use Rattle.re_machine.specs.Filling.{IsPart, AreFilled, IsLeaf}
 
 -- the set of one number
 pub on_pow : (k n : ℕ) → IsTrue (on (2 ^ k) n) ↔ IsTrue (n == k)
@@ -36,13 +36,6 @@ one_word k n word e = (
 
 no_word : (n word : ℕ) → word ≡ 0 → IsTrue (on word n) ↔ IsTrue false
 no_word n word e = (λ h. absurd (on_zero n (subst (λ (w : ℕ). IsTrue (on w n)) e h)), λ h. absurd (cc h))
-
--- a leaf that takes a rune
-abbrev pub IsLeaf : Tree → Type 0
-IsLeaf (Letter c) = Unit {0}
-IsLeaf AnyLetter = Unit {0}
-IsLeaf (OneOf negated spans) = Unit {0}
-IsLeaf _ = ⊥
 
 pub leaf_part : (r : Tree) (base : ℕ) (x : Here) (n : Bool) (f l : ℕ) → IsLeaf r → n ≡ false → f ≡ 2 ^ base → l ≡ 2 ^ base → IsPart r base x n f l
 leaf_part (Letter c) base x n f l is e u v = record { null_is = e; first_is = λ m. one_word base m f u; last_is = λ m. one_word base m l v }
@@ -114,6 +107,9 @@ several_part a base x p f l u = record { null_is = u.null_is; first_is = u.first
 
 pub maybe_part : (a : Tree) (base : ℕ) (x : Here) (p : Bool) (f l : ℕ) → IsPart a base x p f l → IsPart (Maybe a) base x true f l
 maybe_part a base x p f l u = record { null_is = refl; first_is = u.first_is; last_is = u.last_is }
+
+pub group_part : (n : ℕ) (a : Tree) (base : ℕ) (x : Here) (p : Bool) (f l : ℕ) → IsPart a base x p f l → IsPart (Group n a) base x p f l
+group_part n a base x p f l u = record { null_is = u.null_is; first_is = u.first_is; last_is = u.last_is }
 
 pub cat_rows : (a b : Tree) (base mid : ℕ) (x : Here) (p q : Bool) (f f' l l' : ℕ) (old some both new : List ℕ) → IsPart a base x p f l → mid ≡ base + letters a → IsPart b mid x q f' l' → AreFilled a base x old some → AreFilled b mid x some both → AreAdded both new l f' → AreFilled (Then a b) base x old new
 cat_rows a b base mid x p q f f' l l' old some both new u e v fa fb h m n =

@@ -2,6 +2,8 @@ pub mod Dropping
 pub mod Joining
 pub mod Adding
 pub mod Filled
+pub mod Listing
+pub mod Parts
 pub mod Taking
 pub mod Anchors
 pub mod Words64

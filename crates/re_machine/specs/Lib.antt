@@ -1,5 +1,7 @@
 pub mod Sets
 pub mod Filling
+pub mod Listed
+pub mod Copies
 pub mod Leaves
 pub mod Contexts
 pub mod Whole

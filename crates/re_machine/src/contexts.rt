@@ -1,19 +1,18 @@
 //! What may begin, follow and end a match, in each kind of place.
 
 ghost use Rattle.std.specs.Prelude.{◌≡◌, ◌<◌, ◌≤◌, ◌||◌, ℕ, false, length, map, slice_index, IfOk, IsTrue};
-ghost use Rattle.re_syntax.specs.Tree.{tree};
 ghost use Rattle.re_spans.specs.declared.leaf.Here.{Here};
 ghost use Rattle.re_sets.specs.Numbers.{letters};
-ghost use Rattle.re_sets.specs.Readings.{read_as};
 ghost use Rattle.re_machine.specs.Ways.{reading};
-ghost use Rattle.re_machine.specs.Contexts.{kind_of, has_anchor, context_at, IsContext, AreContexts, HasFirsts, HaveNothing};
+ghost use Rattle.re_machine.specs.Listed.{tree_of, IsListed};
+ghost use Rattle.re_machine.specs.Contexts.{kind_of, context_at, IsContext, AreContexts, HasFirsts, HaveNothing};
 
 use crate::fill::fill;
+use crate::nodes::Nodes;
 use crate::set::LetterSet;
 use crate::way::{Way, place_at};
 use am_text::{Letters, NoMemory};
 use re_spans::Here;
-use re_syntax::Re;
 use std::alloc::Global;
 
 /// What may begin, follow and end a match in one kind of place.
@@ -34,25 +33,6 @@ pub enum Contexts<S> {
     ByPlace(Context<S>, Context<S>, Context<S>, Context<S>),
 }
 
-/// Whether a tree asks for the start or the end of a line.
-pub fn has_anchor(re: &Re) -> bool
-    ensures { result ≡ has_anchor (tree re.now) }
-{
-    match re {
-        Re::Lit(_) => false,
-        Re::Any => false,
-        Re::Class { .. } => false,
-        Re::Start => true,
-        Re::End => true,
-        Re::Cat(a, b) => has_anchor(a) || has_anchor(b),
-        Re::Alt(a, b) => has_anchor(a) || has_anchor(b),
-        Re::Star(a) => has_anchor(a),
-        Re::Plus(a) => has_anchor(a),
-        Re::Opt(a) => has_anchor(a),
-        Re::Group(_, a) => has_anchor(a),
-    }
-}
-
 // So many rows without letters.
 fn no_rows<S: LetterSet>(alloc: Global, count: usize) -> Result<Vec<S>, NoMemory>
     ensures len { IfOk result (λ rows. length rows.items ≡ count) }
@@ -67,19 +47,14 @@ fn no_rows<S: LetterSet>(alloc: Global, count: usize) -> Result<Vec<S>, NoMemory
 
 impl<S: LetterSet> Context<S> {
     // The context of one kind of place, for a tree of so many letters.
-    fn build(
-        alloc: Global,
-        re: &Re,
-        back: bool,
-        count: usize,
-        here: Here,
-    ) -> Result<Context<S>, NoMemory>
-        requires count { letters (tree re.now) ≤ count }
+    fn build(alloc: Global, nodes: &Nodes, count: usize, here: Here) -> Result<Context<S>, NoMemory>
+        requires listed { IsListed nodes.now }
+        requires count { letters (tree_of nodes.now) ≤ count }
         requires size { count ≤ S.SIZE }
-        ensures { IfOk result (IsContext S.bits (read_as back (tree re.now)) here) }
+        ensures { IfOk result (IsContext S.bits (tree_of nodes.now) here) }
     {
         let mut follow = no_rows(alloc, count)?;
-        let part = fill(re, back, here, 0, follow.as_mut_slice());
+        let part = fill(alloc, nodes, here, follow.as_mut_slice())?;
         Ok(Context {
             null: part.null,
             first: part.first,
@@ -97,19 +72,20 @@ fn here(starts: bool, ends: bool) -> Here
 }
 
 impl<S: LetterSet> Contexts<S> {
-    /// The contexts of a tree of so many letters, or of the mirrored tree.
-    pub fn build(alloc: Global, re: &Re, back: bool, count: usize) -> Result<Contexts<S>, NoMemory>
-        requires count { letters (tree re.now) ≤ count }
+    /// The contexts of a tree of so many letters.
+    pub fn build(alloc: Global, nodes: &Nodes, count: usize) -> Result<Contexts<S>, NoMemory>
+        requires listed { IsListed nodes.now }
+        requires count { letters (tree_of nodes.now) ≤ count }
         requires size { count ≤ S.SIZE }
-        ensures { IfOk result (AreContexts S.bits (read_as back (tree re.now))) }
+        ensures { IfOk result (AreContexts S.bits (tree_of nodes.now)) }
     {
-        let inside = Context::build(alloc, re, back, count, here(false, false))?;
-        if !has_anchor(re) {
+        let inside = Context::build(alloc, nodes, count, here(false, false))?;
+        if !nodes.has_anchor() {
             return Ok(Contexts::Same(inside));
         }
-        let starts = Context::build(alloc, re, back, count, here(true, false))?;
-        let ends = Context::build(alloc, re, back, count, here(false, true))?;
-        let empty = Context::build(alloc, re, back, count, here(true, true))?;
+        let starts = Context::build(alloc, nodes, count, here(true, false))?;
+        let ends = Context::build(alloc, nodes, count, here(false, true))?;
+        let empty = Context::build(alloc, nodes, count, here(true, true))?;
         Ok(Contexts::ByPlace(inside, starts, ends, empty))
     }
 

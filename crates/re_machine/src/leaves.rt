@@ -2,53 +2,51 @@
 
 ghost use Rattle.std.specs.Prelude.{◌≡◌, ◌<◌, ◌≤◌, ◌^◌, ◌++◌, bit_or, if◌then◌else◌, length, map, IfOk, OnOk};
 ghost use Rattle.re_syntax.specs.Tree.{tree};
-ghost use Rattle.re_sets.specs.Readings.{read_as};
+ghost use Rattle.re_nodes.specs.Nodes.{node_of};
+ghost use Rattle.re_sets.specs.Numbers.{letters};
+ghost use Rattle.re_machine.specs.Listed.{tree_of, letter_of, IsListed};
 ghost use Rattle.re_machine.specs.Leaves.{leaves_of, taken_word};
 
-use crate::copy::copy;
+use crate::copy::copied_class;
+use crate::nodes::Nodes;
 use crate::set::LetterSet;
 use am_text::{NoMemory, Rune};
 use re_spans::takes;
 use re_syntax::Re;
 use std::alloc::Global;
 
-/// Puts the letters of a tree at the end of a list. Backward the tree is mirrored.
-pub fn add_leaves(alloc: Global, re: &Re, back: bool, leaves: &mut Vec<Re>) -> Result<(), NoMemory>
-    ensures { OnOk result (map tree leaves.new.items ≡ map tree leaves.old.items ++ leaves_of (read_as back (tree re.now))) }
+// Puts a node at the end of a list where it is a letter.
+fn put_letter(alloc: Global, re: &Re, leaves: &mut Vec<Re>) -> Result<(), NoMemory>
+    ensures { OnOk result (map tree leaves.new.items ≡ map tree leaves.old.items ++ letter_of (node_of (tree re.now))) }
 {
     match re {
-        Re::Lit(_) => {
-            leaves.push(copy(alloc, re)?)?;
-            Ok(())
-        }
-        Re::Any => {
-            leaves.push(Re::Any)?;
-            Ok(())
-        }
-        Re::Class { .. } => {
-            leaves.push(copy(alloc, re)?)?;
-            Ok(())
-        }
-        Re::Start => Ok(()),
-        Re::End => Ok(()),
-        Re::Cat(a, b) => {
-            if back {
-                add_leaves(alloc, b, back, leaves)?;
-                add_leaves(alloc, a, back, leaves)
-            } else {
-                add_leaves(alloc, a, back, leaves)?;
-                add_leaves(alloc, b, back, leaves)
-            }
-        }
-        Re::Alt(a, b) => {
-            add_leaves(alloc, a, back, leaves)?;
-            add_leaves(alloc, b, back, leaves)
-        }
-        Re::Star(a) => add_leaves(alloc, a, back, leaves),
-        Re::Plus(a) => add_leaves(alloc, a, back, leaves),
-        Re::Opt(a) => add_leaves(alloc, a, back, leaves),
-        Re::Group(_, a) => add_leaves(alloc, a, back, leaves),
+        Re::Lit(c) => leaves.push(Re::Lit(*c))?,
+        Re::Any => leaves.push(Re::Any)?,
+        Re::Class { not, spans } => leaves.push(copied_class(alloc, *not, spans)?)?,
+        _ => {}
     }
+    Ok(())
+}
+
+/// The letters of a tree.
+pub fn leaves_of(alloc: Global, nodes: &Nodes) -> Result<Vec<Re>, NoMemory>
+    requires { IsListed nodes.now }
+    ensures { IfOk result (λ leaves. map tree leaves.items ≡ leaves_of (tree_of nodes.now)) }
+{
+    let mut leaves = Vec::new(alloc);
+    for k in 0..nodes.list.len() {
+        put_letter(alloc, nodes.list[k], &mut leaves)?;
+    }
+    Ok(leaves)
+}
+
+/// How many letters a tree has.
+pub fn letter_count(alloc: Global, re: &Re) -> Result<usize, NoMemory>
+    ensures { IfOk result (λ count. count ≡ letters (tree re.now)) }
+{
+    let nodes = Nodes::build(alloc, re, false)?;
+    let leaves = leaves_of(alloc, &nodes)?;
+    Ok(leaves.len())
 }
 
 // The set with a letter more, where that takes the rune.

@@ -8,8 +8,8 @@ ghost use Rattle.re_sets.specs.Numbers.{letters};
 ghost use Rattle.re_machine.specs.Machines.{IsFormOf};
 
 use crate::copy::copy;
-use crate::count::room_after;
 use crate::found::{search_back, search_on};
+use crate::leaves::letter_count;
 use crate::set::LetterSet;
 use crate::tables::Tables;
 use crate::wide::Wide;
@@ -35,7 +35,8 @@ pub enum Form {
 /// A search reads the text from where it begins, and no further than its match needs.
 pub struct Machine {
     re: Re,
-    form: Form,
+    // in a box, so that one who holds a machine needs no stack for its tables
+    form: Box<Form>,
 }
 
 // By hand, so that a crate that drops a machine goes by this drop, and has not to prove those of all that is in it.
@@ -58,7 +59,7 @@ impl Model for Machine {
 
     ghost view = { λ m. m.re };
 
-    ghost invariant = { λ m. IsFormOf (tree m.re) m.form };
+    ghost invariant = { λ m. IsFormOf (tree m.re) m.form.value };
 }
 
 impl Form {
@@ -83,10 +84,11 @@ impl Form {
     fn build(alloc: Global, re: &Re) -> Result<Form, NoMemory>
         ensures { IfOk result (IsFormOf (tree re.now)) }
     {
-        if room_after(re, u64::SIZE).is_some() {
+        let count = letter_count(alloc, re)?;
+        if count <= u64::SIZE {
             return Form::word(alloc, re);
         }
-        if room_after(re, Wide::SIZE).is_some() {
+        if count <= Wide::SIZE {
             return Form::wide(alloc, re);
         }
         Ok(Form::Spans)
@@ -100,7 +102,10 @@ impl Machine {
     {
         let form = Form::build(alloc, re)?;
         let same = copy(alloc, re)?;
-        Ok(Machine { re: same, form })
+        Ok(Machine {
+            re: same,
+            form: Box::new(alloc, form)?,
+        })
     }
 
     /// The match that begins first, and of those the longest, inside from and end, leaving out the null one at no_null.
@@ -121,7 +126,7 @@ impl Machine {
         ensures value { IfOk result (λ answer. answer ≡ first_span (tree self.now) (T.letters text.now) from end no_null) }
         ensures inside { IfOk result (λ answer. IfSome answer (IsBetween from end)) }
     {
-        match &self.form {
+        match &*self.form {
             Form::Word(on, _) => search_on(alloc, on, text, from, end, no_null),
             Form::Wide(on, _) => search_on(alloc, on, text, from, end, no_null),
             Form::Spans => first_match(alloc, &self.re, text, from, end, no_null),
@@ -146,7 +151,7 @@ impl Machine {
         ensures value { IfOk result (λ answer. answer ≡ last_span (tree self.now) (T.letters text.now) start to no_null) }
         ensures inside { IfOk result (λ answer. IfSome answer (IsBetween start to)) }
     {
-        match &self.form {
+        match &*self.form {
             Form::Word(_, back) => search_back(alloc, back, text, start, to, no_null),
             Form::Wide(_, back) => search_back(alloc, back, text, start, to, no_null),
             Form::Spans => last_match(alloc, &self.re, text, start, to, no_null),

@@ -11,7 +11,8 @@ ghost use Rattle.re_machine.specs.Contexts.{IsContextOf, IsNeverNull, NoneBegins
 ghost use Rattle.re_machine.specs.Whole.{table_of, ascii_count, IsWhole};
 
 use crate::contexts::{Context, Contexts};
-use crate::leaves::{add_leaves, taking};
+use crate::leaves::{leaves_of, taking};
+use crate::nodes::Nodes;
 use crate::set::{LetterSet, meets};
 use crate::way::Way;
 use am_text::{Letters, NoMemory, Rune};
@@ -64,9 +65,9 @@ impl<S: LetterSet> Tables<S> {
         ensures whole { IfOk result (IsWhole S.bits S.SIZE) }
         ensures table { IfOk result (λ t. IsTable (read_as back (tree re.now)) (table_of S.bits S.SIZE t)) }
     {
-        let mut leaves = Vec::new(alloc);
-        add_leaves(alloc, re, back, &mut leaves)?;
-        let contexts = Contexts::build(alloc, re, back, leaves.len())?;
+        let nodes = Nodes::build(alloc, re, back)?;
+        let leaves = leaves_of(alloc, &nodes)?;
+        let contexts = Contexts::build(alloc, &nodes, leaves.len())?;
         let firsts = contexts.firsts();
         let is_ever_null = contexts.is_ever_null();
         let ascii = ascii_of(alloc, &leaves)?;

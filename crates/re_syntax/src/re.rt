@@ -16,7 +16,6 @@ pub type Groups = Items<Option<Range>>;
 ///
 /// Concatenations and alternations of more than two parts nest to the right. A group has its number, which
 /// counts from 1 by the opening parentheses.
-#[derive(Drop)]
 pub enum Re {
     /// One rune, this one.
     Lit(Rune),
@@ -40,6 +39,34 @@ pub enum Re {
     Opt(Box<Re>),
     /// A group with its number.
     Group(u32, Box<Re>),
+}
+
+// By a loop, so that a tree is let go by a stack that is as deep as its left sides are nested, and no deeper for a chain
+// of repetitions or of parts that nest to the right.
+impl Drop for Re {
+    fn drop(mut self) {
+        'nodes: loop {
+            match self {
+                Re::Lit(_) => return,
+                Re::Any => return,
+                Re::Class { not: _, spans: _ } => return,
+                Re::Start => return,
+                Re::End => return,
+                Re::Cat(left, right) => {
+                    drop(left);
+                    self = Box::into_inner(right);
+                }
+                Re::Alt(left, right) => {
+                    drop(left);
+                    self = Box::into_inner(right);
+                }
+                Re::Star(part) => self = Box::into_inner(part),
+                Re::Plus(part) => self = Box::into_inner(part),
+                Re::Opt(part) => self = Box::into_inner(part),
+                Re::Group(_, part) => self = Box::into_inner(part),
+            }
+        }
+    }
 }
 
 /// Why a text is no expression.

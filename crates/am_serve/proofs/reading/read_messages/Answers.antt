@@ -5,8 +5,12 @@ use Rattle.am_serve.specs.declared.budget.Budget.{Budget}
 use Rattle.am_serve.specs.Budget.{whole}
 use Rattle.am_serve.specs.Sending.{ReadSoFar}
 use Rattle.am_serve.specs.declared.sending.Stop.TheVariants as stop
-use Rattle.am_serve.proofs.Streams.{read_nothing, sends_on, stops_sending, stops_spent, reads_on, stops_reading}
+use Rattle.am_serve.proofs.Streams.{read_nothing, sends_on, stops_sending, stops_spent, stops_unread, reads_on, stops_reading}
 use Rattle.am_serve.proofs.reading.read_messages.Goals as goal
+
+pub returns-then-not-has_writer-clause-reads : goal.returns-then-not-has_writer-clause-reads
+returns-then-not-has_writer-clause-reads g c =
+    stops_unread g.C.Counter.enabled g.C.Counter.answer c.args.at.now.conn (g.C.Counter.known c.args.seat.now) (g.S.Source.told c.args.source.now).bytes
 
 pub loop-init : goal.loop-init
 loop-init g c =

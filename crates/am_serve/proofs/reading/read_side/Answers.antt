@@ -8,7 +8,7 @@ pub returns-then-hang_up-clause-entries : goal.returns-then-hang_up-clause-entri
 returns-then-hang_up-clause-entries g c = hung_entries g.C.Counter.enabled g.C.Counter.answer c.args.at.now.conn _ _ _ _ _ _ _ c.in-Ends.ensures.reads c.hang_up.ensures.hangs_up c.if-hang_up.true
 
 pub returns-then-hang_up-clause-gives : goal.returns-then-hang_up-clause-gives
-returns-then-hang_up-clause-gives g c = hung_gives g.C.Counter.enabled g.C.Counter.answer c.args.at.now.conn _ _ _ _ _ _ _ c.in-Ends.ensures.reads c.hang_up.ensures.hangs_up c.if-hang_up.true
+returns-then-hang_up-clause-gives g c = rw c.end.ensures.ends.bytes (hung_gives g.C.Counter.enabled g.C.Counter.answer c.args.at.now.conn _ _ _ _ _ _ _ c.in-Ends.ensures.reads c.hang_up.ensures.hangs_up c.if-hang_up.true)
 
 pub returns-else-hang_up-clause-gains : goal.returns-else-hang_up-clause-gains
 returns-else-hang_up-clause-gains g c = hung_gains g.C.Counter.enabled g.C.Counter.answer c.args.at.now.conn _ _ _ _ _ _ _ c.in-Ends.ensures.reads c.hang_up.ensures.hangs_up
@@ -17,7 +17,7 @@ pub returns-else-hang_up-clause-entries : goal.returns-else-hang_up-clause-entri
 returns-else-hang_up-clause-entries g c = unhung_entries g.C.Counter.enabled g.C.Counter.answer c.args.at.now.conn _ _ _ _ _ _ _ c.in-Ends.ensures.reads c.hang_up.ensures.hangs_up c.if-hang_up.false
 
 pub returns-else-hang_up-clause-gives : goal.returns-else-hang_up-clause-gives
-returns-else-hang_up-clause-gives g c = unhung_gives g.C.Counter.enabled g.C.Counter.answer c.args.at.now.conn _ _ _ _ _ _ _ c.in-Ends.ensures.reads c.hang_up.ensures.hangs_up
+returns-else-hang_up-clause-gives g c = rw c.end.ensures.ends.bytes (unhung_gives g.C.Counter.enabled g.C.Counter.answer c.args.at.now.conn _ _ _ _ _ _ _ c.in-Ends.ensures.reads c.hang_up.ensures.hangs_up)
 
 pub returns-in-Ended-clause-gains : goal.returns-in-Ended-clause-gains
 returns-in-Ended-clause-gains g c = had_ended_gains g.C.Counter.enabled g.C.Counter.answer c.args.at.now.conn _ _ _ _ c.in-Ended.ensures.reads
@@ -26,4 +26,4 @@ pub returns-in-Ended-clause-entries : goal.returns-in-Ended-clause-entries
 returns-in-Ended-clause-entries g c = had_ended_entries g.C.Counter.enabled g.C.Counter.answer c.args.at.now.conn _ _ _ _ c.in-Ended.ensures.reads
 
 pub returns-in-Ended-clause-gives : goal.returns-in-Ended-clause-gives
-returns-in-Ended-clause-gives g c = had_ended_gives g.C.Counter.enabled g.C.Counter.answer c.args.at.now.conn _ _ _ _ c.in-Ended.ensures.reads
+returns-in-Ended-clause-gives g c = rw c.end.ensures.ends.bytes (had_ended_gives g.C.Counter.enabled g.C.Counter.answer c.args.at.now.conn _ _ _ _ c.in-Ended.ensures.reads)

@@ -5,6 +5,16 @@ use Rattle.am_serve.specs.Script.{asked_by_script, Passed}
 use Rattle.am_serve.proofs.Passing.{none_so_far, passes_next, so_far_gains, looks_same, looks_equal, reported, refused, out, ended}
 use Rattle.am_serve.proofs.scripting.script_side.Goals as goal
 
+pub returns-then-not-begin_script-clause-gains : goal.returns-then-not-begin_script-clause-gains
+returns-then-not-begin_script-clause-gains g c =
+    let v = g.C.Counter.known c.args.seat.now in
+    so_far_gains g.C.Counter.enabled g.C.Counter.answer _ v _ _ _ _ (none_so_far g.C.Counter.enabled g.C.Counter.answer v (asked_by_script c.args.script.now.lines.now)) (looks_same v)
+
+pub returns-then-not-begin_script-clause-ends : goal.returns-then-not-begin_script-clause-ends
+returns-then-not-begin_script-clause-ends g c =
+    let v = g.C.Counter.known c.args.seat.now in
+    out g.C.Counter.enabled g.C.Counter.answer _ v _ _ _ _ (none_so_far g.C.Counter.enabled g.C.Counter.answer v (asked_by_script c.args.script.now.lines.now)) (looks_same v)
+
 pub loop-rest-init : goal.loop-rest-init
 loop-rest-init g c = record {
   fits = c.requires.fits;

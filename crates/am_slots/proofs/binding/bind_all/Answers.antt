@@ -1,5 +1,5 @@
 use Rattle.std.proofs.Common.{arith}
-use Rattle.am_slots.proofs.Bound.{count_next, waiting_next, named_next, risen_next}
+use Rattle.am_slots.proofs.Bound.{count_next, waiting_next, named_next, risen_next, given_next}
 use Rattle.am_slots.proofs.binding.bind_all.Goals as goal
 
 pub loop-slot-preserved : goal.loop-slot-preserved
@@ -13,4 +13,5 @@ loop-slot-preserved g c =
       named = named_next slots c.push.new.self s c.in_ok-push.ensures.ok g.H.G.Gate.told c.args.path.now c.loop-slot.slot before.count before.named c.bind_slot.ensures.named;
       risen = risen_next slots c.push.new.self s c.in_ok-push.ensures.ok _ _ _ before.risen c.bind_slot.ensures.risen c.bind_slot.ensures.later;
       later = omega (arith, before.later, c.bind_slot.ensures.later);
+      given = given_next slots c.push.new.self s c.in_ok-push.ensures.ok c.loop-slot.slot _ _ _ before.given c.bind_slot.ensures.given;
     }

@@ -1,0 +1,92 @@
+-- What is said in a step, stage by stage.
+use Rattle.std.specs.Prelude.{ℕ, ◌==◌, ◌&&◌, Bool, List, ◌++◌, length}
+use Rattle.fid_table.specs.Tables.{Tables}
+use Rattle.event_book.specs.BookState.{BookState}
+use Rattle.plumb_ports.specs.PortsState.{PortsState}
+use Rattle.core_scene.specs.declared.deed.WindowItem.{WindowItem}
+use Rattle.core_fids.specs.declared.effect.Effect.{Effect}
+use Rattle.core_events.specs.declared.response.Response.{Response}
+use Rattle.core_events.specs.Asking.{opened}
+use Rattle.core_events.specs.Putting.{put_all, put_living, ending}
+use Rattle.core_events.specs.Responses.{AreSaid}
+use Rattle.core_events.specs.Serving.{served_all, book_served_all}
+use Rattle.core_events.specs.Waits.{clunked, deletions}
+use Rattle.core_events.specs.PortAsking.{joined_with}
+use Rattle.core_events.specs.PortServing.{ports_served, ports_after_serving}
+use Rattle.core_parts.specs.Connections.{grown}
+use Rattle.core_parts.specs.Kinds.{conn_of}
+use Rattle.core_parts.specs.declared.parts.Parts.{Parts}
+use Rattle.core_steps.specs.declared.files.Asks.{Asks}
+use Rattle.core_steps.specs.declared.saying.Heard.{Heard}
+use Rattle.core_steps.specs.PortReads.{port_read_of, asked_said, asked_ports, asked_tables}
+use Rattle.core_steps.specs.Stages.{message_said, message_book, message_tables}
+
+-- all of it, in order
+abbrev pub all_of : Heard → List Response
+all_of h = h.clunked ++ h.answered ++ h.asked ++ h.deleted ++ h.served ++ h.delivered
+
+-- each part of it can be said
+pub record AreAllSaid (h : Heard) : Type 0 where
+  pub clunked : AreSaid h.clunked
+  pub answered : AreSaid h.answered
+  pub asked : AreSaid h.asked
+  pub deleted : AreSaid h.deleted
+  pub served : AreSaid h.served
+  pub delivered : AreSaid h.delivered
+
+-- whether nothing is said but the answer to the message, if it is
+abbrev pub is_answer_alone : Heard → Bool
+is_answer_alone h =
+    ((((length h.clunked == 0) && (length h.asked == 0)) && (length h.deleted == 0)) && (length h.served == 0)) && (length h.delivered == 0)
+
+-- ---- what an event finds once its task was done, and what it does to that
+
+-- the sessions as they were, what the message does to its fids, the event files, and the ports
+pub record Finds : Type 0 where
+  pub tables : Tables
+  pub effect : Effect
+  pub book : BookState
+  pub ports : PortsState
+
+-- what it finds in the tables of the editor
+abbrev pub found_in : Parts → Effect → Finds
+found_in p effect = record { tables = p.sessions.present; effect = effect; book = p.scene.book.present; ports = p.scene.ports.present }
+
+-- the sessions with the fid that the message puts
+abbrev pub with_fid_in : Finds → Asks → Tables
+with_fid_in f asks = grown f.tables asks.kind f.effect
+
+-- and with its read of an event file, where that waits
+abbrev pub tables_answered : Finds → Asks → Tables
+tables_answered f asks = message_tables (with_fid_in f asks) f.book asks.kind asks.answer
+
+-- and with its read of a port
+abbrev pub tables_heard : Finds → Asks → Tables
+tables_heard f asks = asked_tables (tables_answered f asks) f.ports (port_read_of asks.kind asks.answer)
+
+-- the event files with what the message takes and opens, and with the items of windows that live on
+abbrev pub book_put : Finds → Asks → List WindowItem → List ℕ → BookState
+book_put f asks items deleted = put_living deleted (opened (message_book (with_fid_in f asks) f.book asks.kind asks.answer asks.at) asks.events) items
+
+-- and then, once waiting reads are answered, with those of windows that the step deletes
+abbrev pub book_heard : Finds → Asks → List WindowItem → List ℕ → BookState
+book_heard f asks items deleted = put_all (book_served_all asks.at (book_put f asks items deleted)) (ending deleted items)
+
+-- the ports with what the message takes and opens
+abbrev pub ports_opened : Finds → Asks → PortsState
+ports_opened f asks = joined_with (asked_ports (tables_answered f asks) f.ports (port_read_of asks.kind asks.answer)) asks.events
+
+-- and once waiting reads are answered
+abbrev pub ports_heard : Finds → Asks → PortsState
+ports_heard f asks = ports_after_serving (ports_opened f asks)
+
+-- all that is said then
+abbrev pub heard_of : Finds → Asks → List WindowItem → List ℕ → Heard
+heard_of f asks items deleted = record {
+  clunked = clunked f.tables (conn_of asks.kind) f.effect;
+  answered = message_said (with_fid_in f asks) f.book asks.kind asks.answer;
+  asked = asked_said (tables_answered f asks) f.ports (port_read_of asks.kind asks.answer);
+  deleted = deletions f.tables deleted;
+  served = served_all asks.at (book_put f asks items deleted);
+  delivered = ports_served (ports_opened f asks);
+}
