@@ -83,8 +83,8 @@ def faults(lines: List[str]) -> List[str]:
 
 def does_replay(program: str, said: Union[IO[str], int]) -> bool:
     """Whether a program is there and does a transcript without lines."""
-    quiet = subprocess.DEVNULL
-    return os.access(program, os.X_OK) and not subprocess.call([program, "replay"], stdin=quiet, stdout=quiet, stderr=said)
+    streams = {"stdin": subprocess.DEVNULL, "stdout": subprocess.DEVNULL, "stderr": said}
+    return os.access(program, os.X_OK) and not subprocess.call([program, "replay"], **streams)
 
 
 def build(why: str) -> None:

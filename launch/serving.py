@@ -124,8 +124,10 @@ def why_not(path: str) -> str:
     folder = os.path.dirname(path) or "."
     if len(os.fsencode(path)) > 107:
         return "its name has more than 107 bytes"
+    if is_socket(path):
+        return "a server listens there, it seems"
     if os.path.lexists(path):
-        return "a server listens there, it seems" if is_socket(path) else "there is a file of that name, which is no socket"
+        return "there is a file of that name, which is no socket"
     if not os.path.isdir(folder):
         return f"there is no folder {folder}"
     return "the system did not make it" if os.access(folder, os.W_OK) else f"the folder {folder} can't be written to"
@@ -244,7 +246,8 @@ class Server:
             self.process.terminate()
 
     def use_up(self) -> None:
-        """Connects to each slot and hangs up. One that is in use doesn't see it. Nobody finds the sockets from then on."""
+        """Connects to each slot and hangs up. One that is in use doesn't see it. Nobody finds the sockets from then
+        on."""
         for path in list(self.made):
             with contextlib.suppress(OSError), socket.socket(socket.AF_UNIX) as end:
                 end.setblocking(False)

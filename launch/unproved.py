@@ -63,14 +63,14 @@ def copy(made: str, to: str) -> None:
     part = f"{to}.{os.getpid()}"
     shutil.copy(made, part)
     os.replace(part, to)
-    others = sorted((f"{KEPT}/{it}" for it in os.listdir(KEPT) if "." not in it), key=lambda it: os.stat(it).st_mtime_ns)
-    for it in others[:-MOST_KEPT]:
+    kept = [f"{KEPT}/{it}" for it in os.listdir(KEPT) if "." not in it]
+    for it in sorted(kept, key=lambda it: os.stat(it).st_mtime_ns)[:-MOST_KEPT]:
         os.remove(it)
 
 
 def compile_to(to: str) -> bool:
-    """Compiles the sources by the public command. It keeps no program, but has it in the folder for what is temporary as
-    long as that runs: so it is asked to serve, and once its socket is there the program is taken."""
+    """Compiles the sources by the public command. It keeps no program, but has it in the folder for what is temporary
+    as long as that runs: so it is asked to serve, and once its socket is there the program is taken."""
     with tempfile.TemporaryDirectory(prefix="acmefs-unproved-") as room, open(f"{room}/said", "w+b") as said:
         ways = {"stdin": subprocess.DEVNULL, "stdout": subprocess.DEVNULL, "stderr": said, "cwd": CRATE}
         words = in_words(["serve", f"{room}/s", "--clients", "1"])
