@@ -24,12 +24,15 @@ import selectors
 import signal
 import socket
 import stat
-import sys
 import threading
-from typing import Dict, Iterator, List, NoReturn, Optional
+from typing import Dict, Iterator, List, Optional
 
 from acme9 import BadMessage, Error, wire
 from acme9.connection import MSIZE, dial_socket
+
+from . import commands
+from .commands import BadWords
+from .lines import Fault
 
 MOST_CLIENTS = 64
 # how long a slot may be missing, since the server is only starting, in seconds
@@ -42,7 +45,7 @@ SIGNALS = (signal.SIGINT, signal.SIGTERM, signal.SIGHUP)
 
 def say(text: str) -> None:
     with contextlib.suppress(OSError):
-        os.write(2, f"acmefs-front: {text}\n".encode("utf-8", "surrogateescape"))
+        commands.say("acmefs-front", text)
 
 
 def hang_up(stream: socket.socket) -> None:
@@ -236,21 +239,14 @@ class Words:
             elif word.startswith("--clients="):
                 count = word.partition("=")[2]
             elif word.startswith("-"):
-                bad_words(f"`{word}` isn't known here")
+                raise BadWords(f"`{word}` isn't known here")
             else:
                 paths.append(word)
         if len(paths) != 2:
-            bad_words("two paths are wanted, SOCKET and PATH")
+            raise BadWords("two paths are wanted, SOCKET and PATH")
         if not re.fullmatch("[1-9][0-9]?", count) or int(count) > MOST_CLIENTS:
-            bad_words(f"--clients needs a number from 1 to {MOST_CLIENTS}")
+            raise BadWords(f"--clients needs a number from 1 to {MOST_CLIENTS}")
         self.socket, self.path, self.clients = paths[0], paths[1], int(count)
-
-
-def bad_words(why: str) -> NoReturn:
-    """Ends with what is wrong with the words."""
-    say(why)
-    sys.stderr.write((__doc__ or "").split("\n")[0] + "\n")
-    sys.exit(1)
 
 
 def paths_of(given: str) -> Dict[str, Optional[str]]:
@@ -283,15 +279,16 @@ def served(words: Words) -> bool:
     return front.end()
 
 
-def main(given: List[str]) -> int:
-    """The command: the exit status is 1 where the words aren't known, and 2 where it can't listen, or not all slots
-    could be used up."""
-    if given[:1] in (["--help"], ["-h"]):
-        sys.stdout.write(__doc__ or "")
-        return 0
+def done(given: List[str]) -> int:
+    """The status of a front with these words."""
     words = Words(given)
     try:
         return 0 if served(words) else 2
-    except (Error, OSError) as why:
-        say(str(why))
-        return 2
+    except Error as why:
+        raise Fault(str(why)) from None
+
+
+def main(given: List[str]) -> int:
+    """The command: the exit status is 1 where the words aren't known, and 2 where it can't listen, or not all slots
+    could be used up."""
+    return commands.run("acmefs-front", __doc__ or "", given, done)
