@@ -221,7 +221,8 @@ class Server:
         paths = self.asked.sockets()
         lost = [it for it in paths if it not in self.made]
         where = f"each of {paths[0]} to {paths[-1]}" if not lost and len(paths) > 1 else ", ".join(self.made)
-        say(f"serving one connection at {where}, of all one socket by bin/acmefs-front; the journal comes when all have ended")
+        end = "the journal comes when all have ended"
+        say(f"serving one connection at {where} (one socket of all: bin/acmefs-front); {end}")
         self.say_lost(lost)
 
     def say_lost(self, paths: List[str]) -> None:

@@ -180,10 +180,10 @@ halted_begun {end} tree lines {most} f a w held left s r has = record {
 }
 
 -- by whether it has stopped
-pub comes_begun : (end : Option Stop) (tree : List ℕ) (lines : List DoLine) {most : ℕ} {t m : Talk} {h i l n : Option (List ℕ)} (failed : Bool) (o : Seen) {shut done : Bool} (f a : ℕ) (e : Ends) → Went (begins tree) t m h i l n [] most → e.sink.before.bytes ≡ i → e.source.before.bytes ≡ n → f ≤ e.sink.before.faults → a ≤ e.source.before.faults
+pub comes_begun : (shut done : Bool) (end : Option Stop) (tree : List ℕ) (lines : List DoLine) {most : ℕ} {t m : Talk} {h i l n : Option (List ℕ)} (failed : Bool) (o : Seen) (f a : ℕ) (e : Ends) → Went (begins tree) t m h i l n [] most → e.sink.before.bytes ≡ i → e.source.before.bytes ≡ n → f ≤ e.sink.before.faults → a ≤ e.source.before.faults
     → Comes end (lines_told most lines) m e failed o → Comes end (told_of tree lines) t (before h f shut l a done e) failed o
-comes_begun None tree lines failed o f a e w held left s r comes = well_begun tree lines w held left comes
-comes_begun (Some end) tree lines failed o f a e w held left s r comes = halted_begun tree lines f a w held left s r comes
+comes_begun shut done None tree lines failed o f a e w held left s r comes = well_begun tree lines w held left comes
+comes_begun shut done (Some end) tree lines failed o f a e w held left s r comes = halted_begun tree lines f a w held left s r comes
 
 pub halted_beginning : {end : Stop} (tree : List ℕ) (lines : List DoLine) {t : Talk} {e : Ends} → Halted end (begins tree) t e [] → Halted end (told_of tree lines) t e []
 halted_beginning {end} tree lines h = halted_same (told_is tree lines) (halted_first (λ most rest. lines_told most lines rest) h)

@@ -105,31 +105,31 @@ module _ {B : Type 0} where
   faulty_behind : {shut done : Bool} (c : CallFault) (sent text : List ℕ) (told : Told B) (h l : Option (List ℕ)) (f a : ℕ) (e : Ends) (said : List ℕ) → e.sink.before.bytes ≡ told_then h sent → IsFaulty c told e said → IsFaulty c (behind sent text told) (before h f shut l a done e) (text ++ said)
   faulty_behind c sent text told h l f a e said p x = record { faulty = x.faulty; put = put_then h e.sink.before.bytes e.sink.now.bytes sent told.sent p x.put; said = ap (λ (u : List ℕ). text ++ u) x.said }
 
-  stops_behind : {shut done : Bool} (end : Stop) (sent text : List ℕ) (used all : Told B) (unread : List ℕ) (h l : Option (List ℕ)) (f a : ℕ) (e : Ends) (said : List ℕ) → e.sink.before.bytes ≡ told_then h sent → f ≤ e.sink.before.faults → a ≤ e.source.before.faults
+  stops_behind : (shut done : Bool) (end : Stop) (sent text : List ℕ) (used all : Told B) (unread : List ℕ) (h l : Option (List ℕ)) (f a : ℕ) (e : Ends) (said : List ℕ) → e.sink.before.bytes ≡ told_then h sent → f ≤ e.sink.before.faults → a ≤ e.source.before.faults
       → StopsFor end used all unread e said → StopsFor end (behind sent text used) (behind sent text all) unread (before h f shut l a done e) (text ++ said)
-  stops_behind stop.Refused sent text used all unread h l f a e said p s r x = record { refused = x.refused; put = put_then h e.sink.before.bytes e.sink.now.bytes sent used.sent p x.put; said = ap (λ (u : List ℕ). text ++ u) x.said }
-  stops_behind (stop.Fault fault.Ended) sent text used all unread h l f a e said p s r x = (left_behind sent text used h l f a e said p x.0, x.1, x.2)
-  stops_behind (stop.Fault fault.Torn) sent text used all unread h l f a e said p s r x =
+  stops_behind shut done stop.Refused sent text used all unread h l f a e said p s r x = record { refused = x.refused; put = put_then h e.sink.before.bytes e.sink.now.bytes sent used.sent p x.put; said = ap (λ (u : List ℕ). text ++ u) x.said }
+  stops_behind shut done (stop.Fault fault.Ended) sent text used all unread h l f a e said p s r x = (left_behind sent text used h l f a e said p x.0, x.1, x.2)
+  stops_behind shut done (stop.Fault fault.Torn) sent text used all unread h l f a e said p s r x =
       (left_behind sent text used h l f a e said p x.0, left_behind sent text all h l f a e said p x.1, x.2, x.3, x.4)
-  stops_behind (stop.Fault fault.ReadFault) sent text used all unread h l f a e said p s r x = (left_behind sent text used h l f a e said p x.0, x.1, risen_later a e.source.before.faults e.source.now.faults r x.2)
-  stops_behind (stop.Fault fault.WriteFault) sent text used all unread h l f a e said p s r x = record {
+  stops_behind shut done (stop.Fault fault.ReadFault) sent text used all unread h l f a e said p s r x = (left_behind sent text used h l f a e said p x.0, x.1, risen_later a e.source.before.faults e.source.now.faults r x.2)
+  stops_behind shut done (stop.Fault fault.WriteFault) sent text used all unread h l f a e said p s r x = record {
     lacks = x.lacks;
     front = front_then h e.sink.before.bytes e.sink.now.bytes sent used.sent p x.front;
     risen = risen_later f e.sink.before.faults e.sink.now.faults s x.risen;
     said = ap (λ (u : List ℕ). text ++ u) x.said;
   }
-  stops_behind (stop.Fault (fault.Wire w)) sent text used all unread h l f a e said p s r x = faulty_behind (fault.Wire w) sent text all h l f a e said p x
-  stops_behind (stop.Fault (fault.Unasked n)) sent text used all unread h l f a e said p s r x = faulty_behind (fault.Unasked n) sent text all h l f a e said p x
-  stops_behind (stop.Fault (fault.Kind kind)) sent text used all unread h l f a e said p s r x = faulty_behind (fault.Kind kind) sent text all h l f a e said p x
-  stops_behind (stop.Fault fault.NoMemory) sent text used all unread h l f a e said p s r x = record {
+  stops_behind shut done (stop.Fault (fault.Wire w)) sent text used all unread h l f a e said p s r x = faulty_behind (fault.Wire w) sent text all h l f a e said p x
+  stops_behind shut done (stop.Fault (fault.Unasked n)) sent text used all unread h l f a e said p s r x = faulty_behind (fault.Unasked n) sent text all h l f a e said p x
+  stops_behind shut done (stop.Fault (fault.Kind kind)) sent text used all unread h l f a e said p s r x = faulty_behind (fault.Kind kind) sent text all h l f a e said p x
+  stops_behind shut done (stop.Fault fault.NoMemory) sent text used all unread h l f a e said p s r x = record {
     front = front_then h e.sink.before.bytes e.sink.now.bytes sent used.sent p x.front;
     rest = x.rest;
     said = append_assoc text said x.rest ∙ ap (λ (u : List ℕ). text ++ u) x.said;
   }
-  stops_behind (stop.Fault fault.Closed) sent text used all unread h l f a e said p s r x = absurd x
-  stops_behind (stop.Fault fault.Tags) sent text used all unread h l f a e said p s r x = absurd x
-  stops_behind (stop.Fault fault.Large) sent text used all unread h l f a e said p s r x = absurd x
-  stops_behind (stop.Fault (fault.Remote t)) sent text used all unread h l f a e said p s r x = absurd x
+  stops_behind shut done (stop.Fault fault.Closed) sent text used all unread h l f a e said p s r x = absurd x
+  stops_behind shut done (stop.Fault fault.Tags) sent text used all unread h l f a e said p s r x = absurd x
+  stops_behind shut done (stop.Fault fault.Large) sent text used all unread h l f a e said p s r x = absurd x
+  stops_behind shut done (stop.Fault (fault.Remote t)) sent text used all unread h l f a e said p s r x = absurd x
 
 module _ {A B : Type 0} where
   pub halted_then : {end : Stop} {one : List ℕ → Told A} (two : A → List ℕ → Told B) {t m : Talk} {h i l n : Option (List ℕ)} {v said : List ℕ} {x : A} {shut done : Bool} (f a : ℕ) {e : Ends} → Went one t m h i l n v x → e.sink.before.bytes ≡ i → e.source.before.bytes ≡ n → f ≤ e.sink.before.faults → a ≤ e.source.before.faults
@@ -139,7 +139,7 @@ module _ {A B : Type 0} where
       let all : and_then (one ((w.used ++ d.used) ++ d.unread)) two ≡ behind w.sent v (two x (d.used ++ d.unread))
       = ap (λ (bytes : List ℕ). and_then (one bytes) two) (append_assoc w.used d.used d.unread) ∙ part_then one two w.used w.sent v (d.used ++ d.unread) x w.goes in
       let cause : StopsFor end (behind w.sent v (two x d.used)) (behind w.sent v (two x (d.used ++ d.unread))) d.unread (before h f shut l a done e) (v ++ said)
-      = stops_behind end w.sent v (two x d.used) (two x (d.used ++ d.unread)) d.unread h l f a e said (held ∙ w.put) s r d.cause in
+      = stops_behind shut done end w.sent v (two x d.used) (two x (d.used ++ d.unread)) d.unread h l f a e said (held ∙ w.put) s r d.cause in
       record {
         used = w.used ++ d.used;
         unread = d.unread;

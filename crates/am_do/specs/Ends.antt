@@ -66,11 +66,12 @@ module _ {L S K : Type 0} where
   abbrev pub Refuses : ℕ → List ℕ → Seen → Doing L S K → Type 0
   Refuses line word o d = IsRefused line word o d ⊎ IsIdle end.NoMemory o d
 
-  -- the link gave no halves, and has counted it
+  -- the link gave no halves, which it still has, and has counted it
   pub record IsUnhalved (m : Peer L S K) (o : Seen) (d : Doing L S K) : Type 0 where
     pub link : L
     pub none : d ≡ record { end = end.HostFault; link = Some link; reader = None; writer = None; stop = None }
     pub risen : HasRisen 0 (m.link link).faults
+    pub whole : (m.link link).is_halved ≡ false
     pub silent : o.now.bytes ≡ o.before.bytes
 
   -- The lines were done over a link, whose source and sink were as the link gives them: with what it begins with, and empty, and without

@@ -1,10 +1,11 @@
 //! What `do` does, from its input to its end.
 
-ghost use Rattle.std.specs.Prelude.{◌≡◌, None, Some};
+ghost use Rattle.std.specs.Prelude.{◌≡◌, ◌≢◌, None, Some, false};
 ghost use Rattle.am_base.specs.Outside.{untold};
 ghost use Rattle.am_base.specs.Seen.{given, seen};
 ghost use Rattle.ninep_types.specs.Spelling.{IsString};
 ghost use Rattle.am_do.specs.Ends.{Says, Reads, Dials, TalksOver, Refuses, end_at, peer};
+ghost use Rattle.am_do.specs.declared.running.DoEnd.TheVariants as end;
 ghost use Rattle.am_do.specs.Lines.{lines_from};
 ghost use Rattle.am_do.specs.Lawful.{AreLawful};
 ghost use Rattle.am_text.specs.Lines.{lines_of};
@@ -91,7 +92,7 @@ fn talk<O: Sink, L: Link>(
     lines: DoLines,
     output: &mut O,
 ) -> Doing<L, L::R, L::W>
-    requires fresh { (L.told link).faults ≡ 0 }
+    requires fresh { ((L.told link).faults ≡ 0) × ((L.told link).is_halved ≡ false) }
     requires tree { IsString tree.now }
     requires lawful { AreLawful lines }
     ensures { TalksOver (peer L.told L.R.told L.W.told) tree.now lines
@@ -126,8 +127,9 @@ fn dial_and_talk<O: Sink, H: Host>(
 ) -> HostDoing<H>
     requires tree { IsString tree.now }
     requires lawful { AreLawful lines }
-    ensures { Dials (peer H.G.L.told H.G.L.R.told H.G.L.W.told) tree.now lines
+    ensures dials { Dials (peer H.G.L.told H.G.L.R.told H.G.L.W.told) tree.now lines
         (given untold untold (H.faults host.old) (H.faults host.new)) (seen (O.told output.old) (O.told output.new)) result }
+    ensures untouched { result.link ≡ None → result.end ≢ end.HostFault → host.new ≡ host.old }
 {
     match host.dial(path) {
         Ok(link) => talk(alloc, link, tree, lines, output),
@@ -158,8 +160,9 @@ fn do_input<O: Sink, H: Host>(
     host: &mut H,
 ) -> HostDoing<H>
     requires tree { IsString tree.now }
-    ensures { Reads (peer H.G.L.told H.G.L.R.told H.G.L.W.told) tree.now (lines_from 1 (lines_of input.now))
+    ensures reads { Reads (peer H.G.L.told H.G.L.R.told H.G.L.W.told) tree.now (lines_from 1 (lines_of input.now))
         (given untold untold (H.faults host.old) (H.faults host.new)) (seen (O.told output.old) (O.told output.new)) result }
+    ensures untouched { result.link ≡ None → result.end ≢ end.HostFault → host.new ≡ host.old }
 {
     match read_do_lines(alloc, input) {
         Ok(lines) => dial_and_talk(alloc, path, tree, lines, output, host),
@@ -179,8 +182,10 @@ pub fn do_path<I: Source, O: Sink, H: Host>(
     host: &mut H,
 ) -> HostDoing<H>
     requires tree { IsString tree.now }
-    ensures { Says (peer H.G.L.told H.G.L.R.told H.G.L.W.told) tree.now
+    ensures says { Says (peer H.G.L.told H.G.L.R.told H.G.L.W.told) tree.now
         (given (I.told input.old) (I.told input.new) (H.faults host.old) (H.faults host.new)) (seen (O.told output.old) (O.told output.new)) result }
+    // The host is asked for nothing before all lines are checked.
+    ensures untouched { result.link ≡ None → result.end ≢ end.HostFault → host.new ≡ host.old }
 {
     match read_to_end(alloc, input, INPUT_LIMIT) {
         Ok(bytes) => do_input(alloc, path, tree, bytes.as_slice(), output, host),

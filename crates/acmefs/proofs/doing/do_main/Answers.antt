@@ -18,7 +18,7 @@ pub returns : goal.returns
 returns g c = record {
   does = done {G = g.row.H-G.Denot} {L = g.row.H-G-L.Denot} {S = g.row.H-G-L-R.Denot} {K = g.row.H-G-L-W.Denot}
       _ (outside g.H.G.Gate.told g.H.G.L.Link.told g.H.G.L.R.Source.told g.H.G.L.W.Sink.told)
-      c.name_of.result.now (tree_name c.args.tree) _ _ _ c.do_path-doing.result c.entry_of.result c.do_status.ensures c.listed.ensures c.entry_of.ensures c.name_of.ensures.name c.do_path-doing.ensures;
+      c.name_of.result.now (tree_name c.args.tree) _ _ _ c.do_path-doing.result c.entry_of.result c.do_status.ensures c.listed.ensures c.entry_of.ensures c.name_of.ensures.name c.do_path-doing.ensures.says;
   empty = c.new.ensures;
   journal = of_none c.journals_are_lawful.ensures _ c.new.ensures;
 }
