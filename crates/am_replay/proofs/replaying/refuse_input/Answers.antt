@@ -8,4 +8,4 @@ returns-in-Ok-clause-ran g c =
     (ran_refused c.put-failed.result _ c.as_slice.result.now (c.as_slice.ensures ∙ c.in-Ok.ensures) c.put-failed.ensures)
 
 pub returns-in-Err-clause-ran : goal.returns-in-Err-clause-ran
-returns-in-Err-clause-ran g c = rw (c.no_events-in-Err.ensures.end, c.no_events-in-Err.ensures.journal) (ran_none _ _)
+returns-in-Err-clause-ran g c = rw (c.no_events-in-Err.ensures.end, c.no_events-in-Err.ensures.journal) (ran_none _ (g.O.Sink.told c.args.output.now))

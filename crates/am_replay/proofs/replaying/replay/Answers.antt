@@ -23,4 +23,4 @@ returns-in-Err-TooLong-clause-says g c =
 pub returns-in-Err-NoMemory-clause-says : goal.returns-in-Err-NoMemory-clause-says
 returns-in-Err-NoMemory-clause-says g c =
     rw (c.no_events-in-Err-NoMemory.ensures.end, c.no_events-in-Err-NoMemory.ensures.journal)
-    (says_none (g.I.Source.told c.args.input.now) (g.I.Source.told c.read_to_end.new.source) _)
+    (says_none (g.I.Source.told c.args.input.now) (g.I.Source.told c.read_to_end.new.source) (g.O.Sink.told c.args.output.now))

@@ -4,7 +4,7 @@ use Rattle.am_replay.specs.Playing.{EndText}
 use Rattle.am_replay.proofs.replaying.replay_lines.Goals as goal
 
 pub returns-in_default-clause-ran : goal.returns-in_default-clause-ran
-returns-in_default-clause-ran g c = rw (c.no_events.ensures.end, c.no_events.ensures.journal) (ran_none _ _)
+returns-in_default-clause-ran g c = rw (c.no_events.ensures.end, c.no_events.ensures.journal) (ran_none _ (g.O.Sink.told c.args.output.now))
 
 pub returns-in-Ok-end_text-clause-ran : goal.returns-in-Ok-end_text-clause-ran
 returns-in-Ok-end_text-clause-ran g c =
