@@ -8,4 +8,4 @@ pub mod RoundTrip
 pub mod PackBack
 pub mod Idle
 pub mod Packings
-pub mod Ended
+pub mod PackEnded

@@ -2,7 +2,7 @@ use Rattle.std.proofs.Common.{subst}
 use Rattle.am_base.specs.Stops.{StopsFor}
 use Rattle.am_base.specs.declared.reading.ReadStop.{ReadStop}
 use Rattle.am_replay.specs.Packing.{pack_limit}
-use Rattle.am_replay.proofs.Ended.{says_long}
+use Rattle.am_replay.proofs.PackEnded.{says_long}
 use Rattle.am_replay.proofs.program.pack.Goals as goal
 
 pub returns-in-Err-TooLong-clause-says : goal.returns-in-Err-TooLong-clause-says
