@@ -19,6 +19,9 @@ MSIZE, LEAST_MSIZE = 65560, 256
 VERSION = "9P2000"
 # how long a server may take to answer a Tversion, in seconds
 HANDSHAKE = 10.0
+# a peer that has hung up: what a read or a write finds then, and what is said of it
+HUNG_UP = (BrokenPipeError, ConnectionResetError)
+ENDED = "the server has ended the connection"
 Self = TypeVar("Self", bound="Connection")
 
 
@@ -158,6 +161,9 @@ class Connection:
         try:
             with self._sending:
                 self._socket.sendall(data)
+        except HUNG_UP:
+            # the reader may not have come to the end yet
+            self._finish(f"{self.address}: {ENDED}")
         except OSError as why:
             self._finish(f"{self.address}: the connection failed: {why.strerror or why}")
         except BaseException:
@@ -195,7 +201,9 @@ class Connection:
             with self._socket.makefile("rb", 1 << 16) as stream:
                 while data := wire.read_message(stream.read, MSIZE):
                     self._take(wire.decode(data))
-            why = "the server has ended the connection"
+            why = ENDED
+        except HUNG_UP:
+            why = ENDED
         except BadMessage as fault:
             why = f"the connection is broken: {fault}"
         except (OSError, ValueError) as fault:
