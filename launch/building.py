@@ -4,13 +4,14 @@ import os
 import re
 import shutil
 import subprocess
-from typing import IO, Iterator, List, Set, Union
+from typing import IO, Iterator, List, Union
 
-from launch import child
+from launch import child, crates
 from launch.telling import TOP, fail, say, write
 
-CRATE = f"{TOP}/crates/acmefs"
-PROGRAM = f"{CRATE}/out/acmefs"
+NAME = "acmefs"
+CRATE = f"{TOP}/crates/{NAME}"
+PROGRAM = f"{CRATE}/out/{NAME}"
 # tells when the launcher's last build began; a program without it is of the gate
 STAMP = f"{PROGRAM}.built"
 # what proves the crates, and all that the last build said
@@ -22,27 +23,10 @@ FAULT = re.compile(r": error|error:|not proved|no proof|NOT PROVED|^rt: (?!chose
 SHOWN = 20
 
 
-def crates() -> Set[str]:
-    """The crates that the program is made of, itself among them."""
-    below = {}
-    with open(f"{TOP}/crates.txt", encoding="utf-8") as file:
-        for line in file:
-            front, _, words = line.partition("#")[0].partition(":")
-            if front.split():
-                below[front.split()[0]] = words.split()
-    found, left = set(), ["acmefs"]
-    while left:
-        name = left.pop()
-        if name in below and name not in found:
-            found.add(name)
-            left += below[name]
-    return found
-
-
 def sources() -> Iterator[str]:
     """The files and folders that the program is made from."""
-    yield from (f"{TOP}/crates.txt", f"{TOP}/HANDLES")
-    for name in crates():
+    yield from (crates.LIST, f"{TOP}/HANDLES")
+    for name in crates.made_of(NAME):
         for part in ("src", "specs", "proofs"):
             for folder, _, files in os.walk(f"{TOP}/crates/{name}/{part}"):
                 yield folder
@@ -60,10 +44,10 @@ def is_current() -> bool:
 def prove(said: IO[str]) -> bool:
     """Proves the crates, and shows on one line how many are done. What the toolchain says goes to a file, but how it is
     done, which is shown."""
-    count, done = len(crates()), 0
+    count, done = len(crates.made_of(NAME)), 0
     write(2, f"acmefs: crates proved: 0 of {count}")
     streams = {"stdin": subprocess.DEVNULL, "stdout": subprocess.PIPE, "stderr": subprocess.STDOUT}
-    with child.build_step([PROVE, "acmefs"], text=True, errors="replace", **streams) as ran:
+    with child.build_step([PROVE, NAME], text=True, errors="replace", **streams) as ran:
         for line in ran.stdout:
             said.write(line)
             if line.startswith("prove: "):

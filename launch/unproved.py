@@ -10,8 +10,8 @@ import tempfile
 import time
 from typing import List, Optional
 
-from launch import child
-from launch.building import CRATE, crates, does_replay
+from launch import child, crates
+from launch.building import CRATE, NAME, does_replay
 from launch.telling import TOP, say
 
 # where the checked programs are kept, each by its key, and how many
@@ -28,8 +28,8 @@ def key() -> str:
     """A sum of the sources and of the toolchain that compiles them."""
     made = hashlib.sha256()
     kit = os.path.dirname(os.path.dirname(os.path.realpath(shutil.which("rt"))))
-    files = [f"{TOP}/crates.txt", *(f"{kit}/{it}" for it in ("KIT-ID", "WHAT", "bin/rt", "bin/rtlib.py"))]
-    for name in sorted(crates()):
+    files = [crates.LIST, *(f"{kit}/{it}" for it in ("KIT-ID", "WHAT", "bin/rt", "bin/rtlib.py"))]
+    for name in sorted(crates.made_of(NAME)):
         for part in PARTS:
             for folder, folders, names in os.walk(f"{TOP}/crates/{name}/{part}"):
                 folders.sort()
