@@ -7,6 +7,7 @@ import shutil
 import subprocess
 import sys
 import tempfile
+from typing import Any, Callable, Iterable, Iterator, List, Optional, Sequence, Tuple
 
 TOP = os.path.dirname(os.path.dirname(os.path.realpath(__file__)))
 PROGRAM = f"{TOP}/crates/acmefs/out/acmefs"
@@ -17,36 +18,36 @@ sys.path.insert(0, f"{TOP}/python")
 from acme9 import wire  # noqa: E402
 
 
-def message(name, tag, **fields):
+def message(name: str, tag: int, **fields: Any) -> bytes:
     """A line for a message of connection 0."""
     return b"msg 0 %s\n" % wire.encode(name, tag, **fields).hex().encode()
 
 
-def dialled(tree="", msize=65560, user="u"):
+def dialled(tree: str = "", msize: int = 65560, user: str = "u") -> bytes:
     """Connection 0 with a session, and fid 0 the root of a tree."""
     version = message("Tversion", wire.NOTAG, msize=msize, version="9P2000")
     return b"dial 0\n" + version + message("Tattach", 1, fid=0, afid=wire.NOFID, uname=user, aname=tree)
 
 
-def opened(fid, name, mode):
+def opened(fid: int, name: str, mode: int) -> bytes:
     """A fid of a file below the root."""
     walk = message("Twalk", 1, fid=0, newfid=fid, names=name.split("/"))
     return walk + message("Topen", 1, fid=fid, mode=mode)
 
 
-def write(fid, data):
+def write(fid: int, data: bytes) -> bytes:
     return message("Twrite", 1, fid=fid, offset=0, data=data)
 
 
-def read(fid, offset, count):
+def read(fid: int, offset: int, count: int) -> bytes:
     return message("Tread", 1, fid=fid, offset=offset, count=count)
 
 
-def clunk(fid):
+def clunk(fid: int) -> bytes:
     return message("Tclunk", 1, fid=fid)
 
 
-def taken(messages):
+def taken(messages: Iterable[bytes]) -> Iterator[bytes]:
     """The messages, with the replies taken again and again."""
     for k, one in enumerate(messages):
         yield one
@@ -54,7 +55,7 @@ def taken(messages):
             yield b"took 0\n"
 
 
-def processor_time(program, lines, room):
+def processor_time(program: str, lines: Iterable[bytes], room: str) -> Tuple[float, int]:
     """The processor seconds of a replay of these lines, and the bytes that it wrote."""
     given, made = os.path.join(room, "in"), os.path.join(room, "out")
     with open(given, "wb") as file:
@@ -67,7 +68,7 @@ def processor_time(program, lines, room):
     return usage.ru_utime + usage.ru_stime, os.path.getsize(made)
 
 
-def instructions(program, lines):
+def instructions(program: str, lines: Iterable[bytes]) -> Optional[int]:
     """The instructions of a replay of these lines as valgrind's callgrind counts them, or None where it isn't there."""
     valgrind = shutil.which("valgrind")
     if not valgrind:
@@ -80,7 +81,7 @@ def instructions(program, lines):
     return int(counted[1])
 
 
-def least(program, transcripts, runs):
+def least(program: str, transcripts: Sequence[Callable[[], Iterable[bytes]]], runs: int) -> List[float]:
     """The least processor seconds of each of the transcripts (functions that give lines), which run in turn."""
     times = []
     with tempfile.TemporaryDirectory() as room:

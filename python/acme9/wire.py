@@ -149,13 +149,17 @@ _FORMS = _forms()
 _NAMES = {kind: name for name, (kind, _) in _FORMS.items()}
 
 
+def framed(kind: int, tag: int, body: bytes) -> bytes:
+    """A message of a type, with a tag and the bytes of its fields, whatever these are."""
+    return _number(4, HEADER + len(body)) + bytes([kind]) + _number(2, tag) + body
+
+
 def encode(name: str, tag: int, /, **fields: Any) -> bytes:
     """The bytes of a message with a tag and all of its fields."""
     kind, forms = _FORMS[name]
     if fields.keys() != {field for field, _ in forms}:
         raise BadMessage(f"{name} has the fields {[field for field, _ in forms]}, not {[*fields]}")
-    body = b"".join(_written(form, fields[field]) for field, form in forms)
-    return _number(4, HEADER + len(body)) + bytes([kind]) + _number(2, tag) + body
+    return framed(kind, tag, b"".join(_written(form, fields[field]) for field, form in forms))
 
 
 def decode(data: bytes) -> Message:
