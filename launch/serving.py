@@ -2,6 +2,7 @@
 
 import contextlib
 import ctypes
+import errno
 import os
 import re
 import signal
@@ -18,7 +19,7 @@ from launch.words import Serving
 
 # what the system knows of its Unix sockets: flags, state, number and path
 SOCKETS = "/proc/net/unix"
-LINE = rb"^[0-9a-f]+: [0-9A-F]+ [0-9A-F]+ ([0-9A-F]+) [0-9A-F]+ ([0-9A-F]+) +(\d+) (%s)$"
+LINE = rb"^[0-9a-f]+: [0-9A-F]+ [0-9A-F]+ ([0-9A-F]+) [0-9A-F]+ ([0-9A-F]+) +(\d+) %s$"
 LISTENS, CONNECTED = 0x10000, 3
 # signals that end a server with its journal
 CLEAN = [signal.SIGHUP, signal.SIGINT, signal.SIGTERM]
@@ -35,23 +36,17 @@ SCRIPT_LIMIT, CHECKED = 16_777_216, 10
 class Known(NamedTuple):
     """A socket that the system has under a name."""
 
-    name: bytes
     number: int
     listens: bool
     is_connected: bool
 
 
-def known(name: bytes) -> List[Known]:
-    """The sockets whose names are of a pattern."""
-    with contextlib.suppress(OSError), open(SOCKETS, "rb") as file:
-        found = re.findall(LINE.replace(b"%s", name), file.read(), re.M)
-        return [Known(it[3], int(it[2]), bool(int(it[0], 16) & LISTENS), int(it[1], 16) == CONNECTED) for it in found]
-    return []
-
-
 def named(path: str) -> List[Known]:
     """The sockets whose name is a path, as it stands."""
-    return known(re.escape(os.fsencode(path)))
+    with contextlib.suppress(OSError), open(SOCKETS, "rb") as file:
+        found = re.findall(LINE.replace(b"%s", re.escape(os.fsencode(path))), file.read(), re.M)
+        return [Known(int(it[2]), bool(int(it[0], 16) & LISTENS), int(it[1], 16) == CONNECTED) for it in found]
+    return []
 
 
 def descriptors(pid: int) -> Dict[int, int]:
@@ -66,41 +61,11 @@ def descriptors(pid: int) -> Dict[int, int]:
     return found
 
 
-def folders_of(number: int) -> List[bytes]:
-    """The folders of the processes that have a socket, as far as they can be seen."""
-    found = []
-    for pid in filter(str.isdigit, os.listdir("/proc")):
-        if number in descriptors(int(pid)):
-            with contextlib.suppress(OSError):
-                found.append(os.fsencode(os.readlink(f"/proc/{pid}/cwd")))
-    return found
-
-
-def is_listened_at(path: str) -> bool:
-    """Whether a server may listen at a path. It has a name that is the same, or one that is the same in that server's
-    own folder, which only those who may look at it can see."""
-    folder, last = (os.fsencode(it) for it in os.path.split(os.path.abspath(path)))
-    real = os.path.join(os.path.realpath(folder), last)
-    for it in known(b"(?:[^\n]*/)?" + re.escape(last)):
-        if it.listens and it.name.startswith(b"/") and it.name in (os.path.join(folder, last), real):
-            return True
-        if it.listens and not it.name.startswith(b"/"):
-            folders = folders_of(it.number)
-            if not folders or real in [os.path.realpath(os.path.join(at, it.name)) for at in folders]:
-                return True
-    return False
-
-
-def refuses(path: str) -> bool:
-    """Whether nobody listens at a socket: it refuses a connection."""
-    with socket.socket(socket.AF_UNIX) as end:
-        end.settimeout(1)
-        try:
-            end.connect(path)
-        except ConnectionRefusedError:
-            return True
-        except OSError:
-            return False
+def is_stale(path: str) -> bool:
+    """Whether nobody listens at a socket any more. It is asked by a socket of another type than a server's: the system
+    refuses that in other words where one listens, of whatever container, and nothing connects."""
+    with contextlib.suppress(OSError), socket.socket(socket.AF_UNIX, socket.SOCK_DGRAM) as asks:
+        return asks.connect_ex(path) == errno.ECONNREFUSED
     return False
 
 
@@ -111,10 +76,9 @@ def is_socket(path: str) -> bool:
 
 
 def remove_stale(asked: Serving) -> None:
-    """Removes the sockets that nobody listens at any more. Where somebody may, nothing is connected to: that would take
-    the one connection."""
+    """Removes the sockets that nobody listens at any more."""
     for path in asked.sockets():
-        if is_socket(path) and not is_listened_at(path) and refuses(path):
+        if is_socket(path) and is_stale(path):
             with contextlib.suppress(OSError):
                 os.remove(path)
 
