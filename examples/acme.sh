@@ -1,20 +1,31 @@
-# Functions for shell scripts that use the files of a server, by the word `do` alone.
+# Functions for shell scripts that use the files of a server, by the word `do` alone. They need bash.
 #
 #     . examples/acme.sh
 #
-# ACMEFS is the program (./acmefs beside this folder), ACME the socket that all calls use. Each call is a connection of
-# its own, so ACME is the socket of bin/acmefs-front, or a slot's own where there is one call alone. What the server
-# refuses is told on the standard error, and the status is 1 then.
+# ACMEFS is the program (./acmefs beside this folder, or the installed one), ACME the socket that all calls use. Each call
+# is a connection of its own, so ACME is the socket of bin/acmefs-front, or a slot's own where there is one call alone.
+# What the server refuses is told on the standard error, and the status is 1 then.
 #
 #     acme_lines PREFIX < TEXT        the text as lines `PREFIX:TEXT` of `do`, of at most 8,000 bytes each
 #     acme_text < LINE                the text that stands in one line, behind its `:`
 #     acme_write FILE < TEXT          writes a text to a file, as `1/body`, in pieces
 #     acme_cat FILE [BYTES]           writes out what stands in a file, at most so many bytes (1,048,576)
+#     acme_replace N [ADDRESS] < TEXT  puts a text in the place of an address in a window's body, of all of it without one
 #     acme_ctl N MESSAGE..            writes messages to a window's ctl, each a line
+#     acme_new [NAME]                 makes a window, and tells its number
 #     acme_window NAME                the number of the window of that name
 #     acme_plumb [-s SRC] [-d DST] [-w WDIR] DATA    sends a text to the plumber
+#     ssam [-n] [-e SCRIPT] [-f FILE] [SCRIPT] [FILE..]    edits a text by commands of sam: bin/acmefs-ssam, whose page
+#                                     (docs/manual/acmefs-ssam.1.md) has what differs from plan9port's. No server is used
+#
+# An edit of a window's body, by a script of sam:
+#
+#     acme_cat 1/body | ssam ',s/old/new/g' | acme_replace 1
 
-ACMEFS=${ACMEFS:-$(dirname -- "$(dirname -- "$(readlink -f -- "${BASH_SOURCE[0]}")")")/acmefs}
+# where the programs are, as in the repository; as installed they are in the path
+acme_home=$(dirname -- "$(dirname -- "$(readlink -f -- "${BASH_SOURCE[0]}")")")
+[ -x "$acme_home/bin/acmefs-ssam" ] || acme_home=
+ACMEFS=${ACMEFS:-${acme_home:+$acme_home/}acmefs}
 
 # A line of the text is one line, cut behind a rune where it is too long. Bytes that are no UTF-8 become U+FFFD, and a
 # text without a last newline stays so.
@@ -66,10 +77,34 @@ acme_cat() {
     } | acme_do
 }
 
+# An address that is refused would leave the one before: so it is tried first, in a connection of its own. The write of
+# nothing takes the old text away, also where no new one comes.
+acme_replace() {
+    [ $# -lt 2 ] || printf %s "$2" | acme_write "$1/addr" || return
+    {
+        printf 'open 1 %s/addr w\nopen 2 %s/data w\n' "$1" "$1"
+        printf %s "${2:-,}" | acme_lines 'write 1 0 '
+        printf 'write 2 0 :\n'
+        acme_lines 'write 2 0 '
+    } | acme_do
+}
+
 acme_ctl() {
     local number=$1
     shift
     printf '%s\n' "$@" | acme_write "$number/ctl"
+}
+
+# The number is read before the name is written: both are of one connection.
+acme_new() {
+    local number status
+    number=$({
+        printf 'open 1 new/ctl rw\nread 1 0 12\n'
+        [ $# -eq 0 ] || printf 'name %s\n' "$1" | acme_lines 'write 1 0 '
+    } | acme_do)
+    status=$?
+    [ -z "$number" ] || echo "$((number))"
+    return "$status"
 }
 
 # A line of `index` is five numbers of eleven columns and a blank, and the tag, which begins with the name.
@@ -94,4 +129,8 @@ acme_plumb() {
         echo 'open 1 send w'
         printf '%s\n%s\n%s\ntext\n\n%d\n%s' "$src" "$dst" "$wdir" "$size" "$1" | acme_lines 'write 1 0 '
     } | acme_do plumb
+}
+
+ssam() {
+    ACMEFS=$ACMEFS "${acme_home:+$acme_home/bin/}acmefs-ssam" "$@"
 }
