@@ -23,14 +23,19 @@ FAULT = re.compile(r": error|error:|not proved|no proof|NOT PROVED|^rt: (?!chose
 SHOWN = 20
 
 
+def sources_of(crate: str) -> Iterator[str]:
+    """The files and folders that a crate is made from."""
+    for part in ("src", "specs", "proofs"):
+        for folder, _, files in os.walk(f"{TOP}/crates/{crate}/{part}"):
+            yield folder
+            yield from (f"{folder}/{it}" for it in files)
+
+
 def sources() -> Iterator[str]:
     """The files and folders that the program is made from."""
     yield from (crates.LIST, f"{TOP}/HANDLES")
     for name in crates.made_of(NAME):
-        for part in ("src", "specs", "proofs"):
-            for folder, _, files in os.walk(f"{TOP}/crates/{name}/{part}"):
-                yield folder
-                yield from (f"{folder}/{it}" for it in files)
+        yield from sources_of(name)
 
 
 def is_current() -> bool:
