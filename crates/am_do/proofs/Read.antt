@@ -7,11 +7,11 @@ use Rattle.std.proofs.lemmas.Bool.{leb-true}
 use Rattle.am_text.specs.Number.{number_of}
 use Rattle.am_text.specs.Escapes.{unescaped}
 use Rattle.am_text.specs.Utf8.{utf8}
-use Rattle.am_text.specs.Lines.{lines_of}
+use Rattle.am_text.specs.Lines.{lines_of, first_field, after_field}
 use Rattle.am_do.specs.declared.line.DoLine.{DoLine}
 use Rattle.am_do.specs.declared.line.DoLine.TheVariants as line
 use Rattle.am_text.specs.Front.{after_front}
-use Rattle.am_do.specs.Fields.{first_field, after_field, fid_at, count_at, mode_at, few_bytes, bytes_from, bytes_at, names_at}
+use Rattle.am_do.specs.Fields.{fid_at, count_at, mode_at, few_bytes, bytes_from, bytes_at, names_at}
 use Rattle.am_do.specs.Lines.{open_from, open_at, read_from, read_at, write_from, write_at, close_from, close_at, with_front, read_by, line_of, onto_line, line_then, lines_from}
 use Rattle.am_do.specs.Lawful.{IsLawful, AreLawful}
 use Rattle.am_do.proofs.Named.{names_are_lawful}

@@ -9,16 +9,6 @@ use Rattle.am_text.specs.Utf8.{utf8}
 use Rattle.ninep_types.specs.Limits.{max_names}
 use Rattle.am_do.specs.LineLimits.{most_fids, most_bytes, most_name_bytes}
 
--- the bytes up to the first blank
-abbrev pub first_field : List ℕ → List ℕ
-first_field [] = []
-first_field (b ∷ bs) = if b == space then [] else b ∷ first_field bs
-
--- the bytes after the first blank
-abbrev pub after_field : List ℕ → List ℕ
-after_field [] = []
-after_field (b ∷ bs) = if b == space then bs else after_field bs
-
 -- the number of a fid: 1 to 1,000
 abbrev pub fid_from : Option ℕ → Option ℕ
 fid_from None = None

@@ -4,7 +4,8 @@ use Rattle.am_text.specs.Number.{number_of}
 use Rattle.am_do.specs.declared.line.DoLine.{DoLine}
 use Rattle.am_do.specs.declared.line.DoLine.TheVariants as line
 use Rattle.am_text.specs.Front.{after_front}
-use Rattle.am_do.specs.Fields.{first_field, after_field, fid_at, count_at, mode_at, bytes_at, names_at}
+use Rattle.am_text.specs.Lines.{first_field, after_field}
+use Rattle.am_do.specs.Fields.{fid_at, count_at, mode_at, bytes_at, names_at}
 
 -- `open K NAME MODE`
 abbrev pub open_from : Option ℕ → Option (List (List ℕ)) → Option ℕ → Option DoLine

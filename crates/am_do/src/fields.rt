@@ -1,7 +1,7 @@
 //! The fields of a line.
 
 ghost use Rattle.std.specs.Prelude.{◌≡◌, ◌≤◌, ◌<◌, IfOk, IfSome};
-ghost use Rattle.am_do.specs.Fields.{first_field, after_field, fid_at, count_at, mode_at, few_bytes, bytes_at};
+ghost use Rattle.am_do.specs.Fields.{fid_at, count_at, mode_at, few_bytes, bytes_at};
 
 use am_text::{Bytes, NoMemory, encode, read_decimal, unescape};
 use std::alloc::Global;
@@ -18,22 +18,6 @@ const READ: u8 = 0;
 const WRITE: u8 = 1;
 
 const READ_WRITE: u8 = 2;
-
-/// The bytes up to the first blank, and those after it.
-pub(crate) fn cut_field(bytes: &[u8]) -> (&[u8], &[u8])
-    ensures field { result.0.now ≡ first_field bytes.now }
-    ensures rest { result.1.now ≡ after_field bytes.now }
-{
-    let mut at = 0;
-    for b in bytes {
-        if *b == b' ' {
-            let (field, rest) = bytes.split_at(at);
-            return (field, rest.split_at(1).1);
-        }
-        at += 1;
-    }
-    bytes.split_at(at)
-}
 
 /// The number of a fid.
 pub(crate) fn fid_of(bytes: &[u8]) -> Option<u32>

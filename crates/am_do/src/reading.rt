@@ -6,10 +6,10 @@ ghost use Rattle.am_do.specs.declared.reading.LinesFault.TheVariants.{NoMemory};
 ghost use Rattle.am_do.specs.Lines.{open_at, read_at, write_at, close_at, line_of, lines_from};
 ghost use Rattle.am_do.specs.Lawful.{IsLawful, AreLawful, IsRefused};
 
-use crate::fields::{bytes_of, count_of, cut_field, fid_of, mode_of};
+use crate::fields::{bytes_of, count_of, fid_of, mode_of};
 use crate::line::{DoLine, DoLines};
 use crate::names::names_of;
-use am_text::{Items, after_front, read_decimal, split_line};
+use am_text::{Items, after_front, cut_field, read_decimal, split_line};
 use std::alloc::Global;
 
 fn open_of(alloc: Global, rest: &[u8]) -> Result<Option<DoLine>, am_text::NoMemory>

@@ -3,7 +3,7 @@ use Rattle.std.proofs.Common.{◌≡◌, ℕ, ◌<◌, ◌≤◌, true, false, c
 use Rattle.std.specs.Prelude.{codes}
 use Rattle.std.specs.Char.{IsScalar}
 use Rattle.std.specs.List.{AllByRecursion, flat_map}
-use Rattle.am_text.specs.Lines.{escaped}
+use Rattle.am_text.specs.Lines.{escaped, first_field, after_field}
 use Rattle.am_text.proofs.Unescaped.{reads_again}
 use Rattle.am_journal.specs.declared.event.Event.{Event}
 use Rattle.am_journal.specs.declared.event.Event.TheVariants as event
@@ -11,7 +11,7 @@ use Rattle.am_journal.specs.declared.event.Spot.{Spot}
 use Rattle.am_journal.specs.Lawful.{IsSpotInRange}
 use Rattle.am_journal.specs.Paths.{is_path_text}
 use Rattle.am_text.specs.Front.{after_front}
-use Rattle.am_journal.specs.Line.{first_field, after_field, text_of, spot_at, first_spot, after_spot, spot_words, exec_from, exec_at, exec_line, arg_from, arg_at, arg_line, look_from, look_at, look_line, path_at, file_from, file_at, file_line, dir_from, dir_at, dir_line, with_front, action_of}
+use Rattle.am_journal.specs.Line.{text_of, spot_at, first_spot, after_spot, spot_words, exec_from, exec_at, exec_line, arg_from, arg_at, arg_line, look_from, look_at, look_line, path_at, file_from, file_at, file_line, dir_from, dir_at, dir_line, with_front, action_of}
 use Rattle.am_journal.proofs.FieldWords.{first-is, after-is, split-is, front-is}
 use Rattle.am_journal.proofs.WindowLaws.{text-is}
 use Rattle.am_journal.proofs.PathLaws.{path_text-visible}

@@ -6,7 +6,8 @@ use Rattle.std.proofs.lemmas.Bool.{lt-ltb, ltb-true, eqb-true}
 use Rattle.am_text.specs.Number.{number_of}
 use Rattle.am_text.proofs.Decimals.{number_is, number_of-decimal}
 use Rattle.am_text.specs.Front.{after_front}
-use Rattle.am_journal.specs.Line.{first_field, after_field, conn_from, conn_at}
+use Rattle.am_text.specs.Lines.{first_field, after_field}
+use Rattle.am_journal.specs.Line.{conn_from, conn_at}
 
 -- ---- fields
 

@@ -12,7 +12,7 @@ use Rattle.am_journal.specs.declared.event.Event.{Event}
 use Rattle.am_journal.specs.declared.event.Event.TheVariants as event
 use Rattle.am_journal.specs.declared.event.Side.{Side}
 use Rattle.am_text.specs.declared.range.Range.{Range}
-use Rattle.am_text.specs.Lines.{escaped}
+use Rattle.am_text.specs.Lines.{escaped, first_field, after_field}
 use Rattle.std.specs.List.{flat_map}
 use Rattle.am_journal.specs.Hexadecimal.{hex_of, bytes_of_hex}
 use Rattle.am_journal.specs.Lawful.{IsLawful, IsInRange, AreBytes}
@@ -20,7 +20,7 @@ use Rattle.am_journal.specs.declared.ending.Ending.{Ending}
 use Rattle.am_journal.specs.declared.ending.Ending.TheVariants as ending
 use Rattle.am_journal.specs.Causes.{cause, ending_of}
 use Rattle.am_text.specs.Front.{after_front}
-use Rattle.am_journal.specs.Line.{side_word, dial_line, msg_line, hang_line, took_line, new_line, line_text, first_field, after_field, conn_at, dial_from, dial_at, msg_read, msg_from, msg_at, hang_from, hang_at, took_from, took_at, new_at, key_line, key_at, sel_line, sel_at, exec_from, exec_line, arg_line, look_from, look_line, file_line, dir_line, with_front, action_of, event_of}
+use Rattle.am_journal.specs.Line.{side_word, dial_line, msg_line, hang_line, took_line, new_line, line_text, conn_at, dial_from, dial_at, msg_read, msg_from, msg_at, hang_from, hang_at, took_from, took_at, new_at, key_line, key_at, sel_line, sel_at, exec_from, exec_line, arg_line, look_from, look_line, file_line, dir_line, with_front, action_of, event_of}
 use Rattle.am_journal.specs.Parts.{around}
 use Rattle.am_journal.proofs.HexLaws.{hex-again, hex-is}
 use Rattle.am_journal.proofs.CauseLaws.{ending-again, ending-is}

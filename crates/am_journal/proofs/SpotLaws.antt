@@ -7,7 +7,8 @@ use Rattle.am_text.proofs.Decimals.{number_is, number_of-decimal}
 use Rattle.am_journal.specs.declared.event.Side.{Side}
 use Rattle.am_journal.specs.declared.event.Spot.{Spot}
 use Rattle.am_journal.specs.Lawful.{IsSpotInRange}
-use Rattle.am_journal.specs.Line.{first_field, after_field, side_word, window_at, side_of, range_from, range_at, spot_from, spot_at, first_spot, after_spot, spot_words}
+use Rattle.am_text.specs.Lines.{first_field, after_field}
+use Rattle.am_journal.specs.Line.{side_word, window_at, side_of, range_from, range_at, spot_from, spot_at, first_spot, after_spot, spot_words}
 use Rattle.am_journal.proofs.FieldWords.{decimal-visible, first-is, after-is, split-is}
 use Rattle.am_journal.proofs.WindowLaws.{window-again, side-again, side-visible, range_same, range-again, window-is, side-is, number_some, some_after, ends_some}
 

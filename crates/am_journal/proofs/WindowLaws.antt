@@ -9,7 +9,7 @@ use Rattle.std.proofs.lemmas.Bool.{lt-ltb, le-ltb, ltb-true, ltb-false, eqb-true
 use Rattle.std.proofs.lemmas.Slice.Eq.{bytes_eq-Decides}
 use Rattle.am_text.specs.declared.range.Range.{Range}
 use Rattle.am_text.specs.Escapes.{unescaped}
-use Rattle.am_text.specs.Lines.{escaped}
+use Rattle.am_text.specs.Lines.{escaped, first_field, after_field}
 use Rattle.am_text.specs.Number.{number_of}
 use Rattle.am_text.proofs.Decimals.{number_is, number_of-decimal}
 use Rattle.am_text.proofs.Unescaped.{reads_again, reads_only}
@@ -17,7 +17,7 @@ use Rattle.am_journal.specs.declared.event.Event.{Event}
 use Rattle.am_journal.specs.declared.event.Event.TheVariants as event
 use Rattle.am_journal.specs.declared.event.Side.{Side}
 use Rattle.am_journal.specs.declared.event.Side.TheVariants as side
-use Rattle.am_journal.specs.Line.{first_field, after_field, side_word, window_from, window_at, side_of, text_of, key_from, key_at, range_from, range_at, sel_from, sel_at}
+use Rattle.am_journal.specs.Line.{side_word, window_from, window_at, side_of, text_of, key_from, key_at, range_from, range_at, sel_from, sel_at}
 use Rattle.am_journal.proofs.FieldWords.{AreVisible, decimal-visible, first-is, after-is, split-is}
 use Rattle.am_journal.proofs.Found.{event_is}
 

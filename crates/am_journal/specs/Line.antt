@@ -6,7 +6,7 @@ use Rattle.std.specs.Fmt.{decimal}
 use Rattle.am_text.specs.Ascii.{space, colon}
 use Rattle.am_text.specs.Front.{after_front}
 use Rattle.am_text.specs.Number.{number_of}
-use Rattle.am_text.specs.Lines.{escaped}
+use Rattle.am_text.specs.Lines.{escaped, first_field, after_field}
 use Rattle.am_text.specs.Escapes.{unescaped}
 use Rattle.am_text.specs.declared.range.Range.{Range}
 use Rattle.ninep_types.specs.declared.fault.WireFault.{WireFault}
@@ -101,16 +101,6 @@ line_text (event.File path text) = file_line path text
 line_text (event.Dir path) = dir_line path
 
 -- ---- reading
-
--- the bytes up to the first blank, and those after it
-abbrev pub first_field : List ℕ → List ℕ
-first_field [] = []
-first_field (b ∷ bs) = if b == space then [] else b ∷ first_field bs
-
--- the bytes after the first blank
-abbrev pub after_field : List ℕ → List ℕ
-after_field [] = []
-after_field (b ∷ bs) = if b == space then bs else after_field bs
 
 -- the number of a connection
 abbrev pub conn_from : Option ℕ → Option ℕ

@@ -4,10 +4,10 @@ ghost use Rattle.std.specs.Prelude.{◌≡◌, IfOk};
 ghost use Rattle.am_journal.specs.Line.{exec_at, exec_line, arg_at, arg_line, look_at, look_line, file_at, file_line, dir_at, dir_line, action_of};
 
 use crate::event::{Event, Spot};
-use crate::fields::{cut_field, text_of};
+use crate::fields::text_of;
 use crate::paths::path_of;
 use crate::spots::{cut_spot, put_spot, spot_of};
-use am_text::{Bytes, Items, NoMemory, after_front, escape};
+use am_text::{Bytes, Items, NoMemory, after_front, cut_field, escape};
 use std::alloc::Global;
 
 fn exec_of(rest: &[u8]) -> Option<Event>

@@ -1,31 +1,15 @@
 //! Fields of a line.
 
 ghost use Rattle.std.specs.Prelude.{◌≡◌, ◌<◌, ◌++◌, OnOk, IfOk, IfSome};
-ghost use Rattle.am_journal.specs.Line.{conn_at, first_field, after_field, window_at, side_word, side_of, text_of, range_from, range_at};
+ghost use Rattle.am_journal.specs.Line.{conn_at, window_at, side_word, side_of, text_of, range_from, range_at};
 ghost use Rattle.am_text.specs.Number.{number_of};
 ghost use Rattle.am_journal.specs.Limits.{connection_count};
 ghost use Rattle.am_journal.specs.Parts.{around};
 
 use crate::event::Side;
 use crate::limits::CONNECTIONS;
-use am_text::{Bytes, NoMemory, Range, Runes, decimal, read_decimal, unescape};
+use am_text::{Bytes, NoMemory, Range, Runes, cut_field, decimal, read_decimal, unescape};
 use std::alloc::Global;
-
-/// The bytes up to the first blank, and those after it.
-pub(crate) fn cut_field(bytes: &[u8]) -> (&[u8], &[u8])
-    ensures field { result.0.now ≡ first_field bytes.now }
-    ensures rest { result.1.now ≡ after_field bytes.now }
-{
-    let mut at = 0;
-    for b in bytes {
-        if *b == b' ' {
-            let (field, rest) = bytes.split_at(at);
-            return (field, rest.split_at(1).1);
-        }
-        at += 1;
-    }
-    bytes.split_at(at)
-}
 
 /// The number of a connection.
 pub(crate) fn conn_of(bytes: &[u8]) -> Option<u32>

@@ -1,6 +1,6 @@
 //! Small hexadecimal.
 
-ghost use Rattle.std.specs.Prelude.{◌≡◌, ◌<◌, ◌++◌, IfOk, IfSome};
+ghost use Rattle.std.specs.Prelude.{◌≡◌, ◌<◌, ◌++◌, OnOk, IfOk, IfSome};
 ghost use Rattle.am_journal.specs.Hexadecimal.{hex_digit, hex_of, digit_value, byte_at, bytes_of_hex};
 
 use am_text::{Bytes, NoMemory, Roomy};
@@ -31,7 +31,7 @@ fn byte_of(a: u8, b: u8) -> Option<u8>
 
 /// The bytes that the digits spell, if they stand in pairs. Capitals are no digits.
 #[tactic(auto, using(crate::proofs::Hex::hexes))]
-pub(crate) fn bytes_of_hex(alloc: Global, text: &[u8]) -> Result<Option<Bytes>, NoMemory>
+pub fn bytes_of_hex(alloc: Global, text: &[u8]) -> Result<Option<Bytes>, NoMemory>
     ensures { IfOk result (λ bytes. bytes ≡ bytes_of_hex text.now) }
 {
     let mut bytes = Roomy::new(alloc);
@@ -70,4 +70,15 @@ pub(crate) fn hex_text(alloc: Global, bytes: &[u8]) -> Result<Bytes, NoMemory>
         text.put(hex_digit(*b % 16));
     }
     Ok(text.into_items())
+}
+
+/// Puts two digits for each byte at the end.
+#[tactic(auto, using(crate::proofs::Hex::hex_more), unfolding(crate::specs::Hexadecimal::hex_of))]
+pub fn put_hex(out: &mut Bytes, bytes: &[u8]) -> Result<(), NoMemory>
+    ensures { OnOk result (out.new ≡ out.old ++ hex_of bytes.now) }
+{
+    for b in bytes {
+        out.append(&[hex_digit(*b / 16), hex_digit(*b % 16)])?;
+    }
+    Ok(())
 }

@@ -4,10 +4,8 @@ ghost use Rattle.std.specs.Prelude.{◌≡◌, ◌++◌, OnOk};
 ghost use Rattle.am_journal.specs.Line.{window_at, side_of, spot_from, spot_at, first_spot, after_spot, spot_words};
 
 use crate::event::Spot;
-use crate::fields::{
-    cut_field, put_around, range_between, range_of, side_of, side_word, window_of,
-};
-use am_text::{Bytes, NoMemory, Range, decimal};
+use crate::fields::{put_around, range_between, range_of, side_of, side_word, window_of};
+use am_text::{Bytes, NoMemory, Range, cut_field, decimal};
 use std::alloc::Global;
 
 fn spot_from(window: &[u8], word: &[u8], range: Option<Range>) -> Option<Spot>

@@ -1,7 +1,7 @@
 -- Lines, and texts in one line.
 use Rattle.std.specs.Prelude.{ℕ, ◌+◌, List, [], ◌∷◌, ◌==◌, if◌then◌else◌, slice_range}
 use Rattle.std.specs.List.{onto_first}
-use Rattle.am_text.specs.Ascii.{newline, backslash, letter_n}
+use Rattle.am_text.specs.Ascii.{newline, space, backslash, letter_n}
 use Rattle.am_text.specs.Utf8.{rune_bytes}
 use Rattle.am_text.specs.declared.range.Range.{Range}
 
@@ -25,6 +25,16 @@ first_line (b ∷ bs) = if b == newline then [] else b ∷ first_line bs
 abbrev pub after_line : List ℕ → List ℕ
 after_line [] = []
 after_line (b ∷ bs) = if b == newline then bs else after_line bs
+
+-- the bytes up to the first blank
+abbrev pub first_field : List ℕ → List ℕ
+first_field [] = []
+first_field (b ∷ bs) = if b == space then [] else b ∷ first_field bs
+
+-- the bytes after the first blank
+abbrev pub after_field : List ℕ → List ℕ
+after_field [] = []
+after_field (b ∷ bs) = if b == space then bs else after_field bs
 
 -- the lines; a last line without a newline counts
 abbrev pub lines_of : List ℕ → List (List ℕ)

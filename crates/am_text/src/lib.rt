@@ -30,10 +30,10 @@ pub use items::{Bytes, Ids, Items, NameList, Names, Numbers, Rune, Runes, Words}
 pub use job::{Job, JobKind, Jobs};
 pub use laws::{begun_is_front, escapes_are_read_again, pieces_are_joined};
 pub use letters::Letters;
-pub use line::{escape, lines, split_line};
+pub use line::{cut_field, cut_line, escape, lines, split_line};
 pub use memory::NoMemory;
 pub use number::{decimal, read_decimal};
-pub use part::{Part, decode_part};
+pub use part::{Part, decode_part, is_begun};
 pub use range::{Range, Spans};
 pub use roomy::Roomy;
 pub use utf8::{decode_whole, encode, is_utf8, utf8_slice};

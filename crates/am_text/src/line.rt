@@ -2,7 +2,7 @@
 
 ghost use Rattle.std.specs.Prelude.{◌≡◌, ◌≤◌, ◌<◌, ◌++◌, ◌+◌, ◌∷◌, length, map, IfOk};
 ghost use Rattle.std.specs.List.{flat_map};
-ghost use Rattle.am_text.specs.Lines.{spans_of, line_at, escaped, first_line, after_line, lines_of};
+ghost use Rattle.am_text.specs.Lines.{spans_of, line_at, escaped, first_line, after_line, lines_of, first_field, after_field};
 
 use crate::ascii::{BACKSLASH, NEWLINE};
 use crate::items::{Bytes, Items};
@@ -40,7 +40,8 @@ pub fn lines(alloc: Global, bytes: &[u8]) -> Result<Spans, NoMemory>
     spans_in(alloc, bytes)
 }
 
-fn cut_line(bytes: &[u8]) -> (&[u8], &[u8])
+/// The bytes up to the first newline, and those after it.
+pub fn cut_line(bytes: &[u8]) -> (&[u8], &[u8])
     ensures line { result.0.now ≡ first_line bytes.now }
     ensures rest { result.1.now ≡ after_line bytes.now }
 {
@@ -49,6 +50,22 @@ fn cut_line(bytes: &[u8]) -> (&[u8], &[u8])
         if *b == b'\n' {
             let (line, rest) = bytes.split_at(at);
             return (line, rest.split_at(1).1);
+        }
+        at += 1;
+    }
+    bytes.split_at(at)
+}
+
+/// The bytes up to the first blank, and those after it.
+pub fn cut_field(bytes: &[u8]) -> (&[u8], &[u8])
+    ensures field { result.0.now ≡ first_field bytes.now }
+    ensures rest { result.1.now ≡ after_field bytes.now }
+{
+    let mut at = 0;
+    for b in bytes {
+        if *b == b' ' {
+            let (field, rest) = bytes.split_at(at);
+            return (field, rest.split_at(1).1);
         }
         at += 1;
     }

@@ -54,8 +54,9 @@ impl Part {
     }
 }
 
+/// Whether the bytes are a proper front of a character (Unicode, table 3-7).
 #[tactic(auto, unfolding(crate::specs::Pieces::is_begun))]
-fn is_begun(bytes: &[u8]) -> bool
+pub fn is_begun(bytes: &[u8]) -> bool
     ensures { result ≡ is_begun bytes.now }
 {
     match bytes {

@@ -1,7 +1,6 @@
 //! Port `edit`: the editor itself opens what a message names.
 
-ghost use Rattle.std.specs.Prelude.{◌≡◌, option_copied, IfSome, IfOk, OnOk};
-ghost use Rattle.plumb_rules.specs.Attributes.{attr_value};
+ghost use Rattle.std.specs.Prelude.{◌≡◌, IfSome, IfOk, OnOk};
 ghost use Rattle.plumb_rules.specs.Texts.{data_name};
 ghost use Rattle.core_scene.specs.Scenes.{scene_of, kept_of, Did};
 ghost use Rattle.core_actions.specs.Opening.{target_of, IsThere};
@@ -11,22 +10,9 @@ use acme_cmd::whole;
 use am_text::{NoMemory, Rune, Runes, decode_whole};
 use core_actions::{Target, open, target_of};
 use core_scene::{Entry, Scene};
-use plumb_msg::{Attr, PlumbMsg};
+use plumb_msg::PlumbMsg;
+use plumb_rules::attr_value;
 use std::alloc::Global;
-
-// The value of the attribute with this name.
-fn attr_value<'a>(attrs: &'a [Attr], name: &[u8]) -> Option<&'a [u8]>
-    ensures { option_copied result ≡ attr_value attrs.now name.now }
-{
-    let mut rest = attrs;
-    while let [attr, others @ ..] = rest {
-        if attr.name.as_slice() == name {
-            return Some(attr.value.as_slice());
-        }
-        rest = others;
-    }
-    None
-}
 
 // The address that the attribute `addr` gives, if there is one.
 #[tactic(auto, unfolding(crate::specs::Delivering::address_in))]

@@ -8,7 +8,7 @@ use Rattle.ninep_types.specs.Fields.{string, qid_bytes}
 use Rattle.ninep_types.specs.Spelling as wire
 use Rattle.ninep_types.specs.Spelling.{size_r, BodyFits_r, BodyInRange_r}
 use Rattle.am_journal.specs.Lawful.{AreBytes}
-use Rattle.am_journal.specs.Line.{first_field, after_field}
+use Rattle.am_text.specs.Lines.{first_field, after_field}
 use Rattle.ninep_trace.specs.Fields.{◌>>=◌, number, number_at, text, text_at, bytes_in_hex_at, qid_at, qid_field, qid_field_at, listed_at}
 use Rattle.ninep_trace.specs.Reading.{r_readers, r_body_at, r_version_at, r_auth_at, r_error_at, r_flush_at, r_attach_at, r_walk_at, r_open_at, r_create_at, r_read_at, r_write_at, r_clunk_at, r_remove_at, r_stat_at, r_wstat_at}
 use Rattle.ninep_trace.specs.Words.{name_r, fields_r}

@@ -10,7 +10,7 @@ use Rattle.ninep_types.specs.Spelling as wire
 use Rattle.ninep_types.specs.Spelling.{head, size_r, spelling_r, Fits_r, InRange_r}
 use Rattle.ninep_wire.proofs.Sizes.{r_has_size}
 use Rattle.am_journal.specs.Lawful.{AreBytes}
-use Rattle.am_journal.specs.Line.{first_field, after_field}
+use Rattle.am_text.specs.Lines.{first_field, after_field}
 use Rattle.am_journal.proofs.FieldWords.{split-is}
 use Rattle.ninep_trace.specs.Fields.{◌>>=◌, number, number_at, text, bytes_in_hex, qid_text, qid_field, listed}
 use Rattle.ninep_trace.specs.Reading.{r_body_at, r_message_at, whole_r}

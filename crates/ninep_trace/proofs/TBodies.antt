@@ -8,7 +8,7 @@ use Rattle.ninep_types.specs.Fields as spelled
 use Rattle.ninep_types.specs.Spelling as wire
 use Rattle.ninep_types.specs.Spelling.{size_t, BodyFits_t, BodyInRange_t}
 use Rattle.am_journal.specs.Lawful.{AreBytes}
-use Rattle.am_journal.specs.Line.{first_field, after_field}
+use Rattle.am_text.specs.Lines.{first_field, after_field}
 use Rattle.ninep_trace.specs.Fields.{◌>>=◌, number, number_at, text, text_at, bytes_in_hex, bytes_in_hex_at, quoted, quoted_at, listed, listed_at}
 use Rattle.ninep_trace.specs.Reading.{t_readers, t_body_at, t_version_at, t_auth_at, t_flush_at, t_attach_at, t_walk_at, t_open_at, t_create_at, t_read_at, t_write_at, t_clunk_at, t_remove_at, t_stat_at, t_wstat_at}
 use Rattle.ninep_trace.specs.Words.{name_t, fields_t}

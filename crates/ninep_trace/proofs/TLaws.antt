@@ -10,7 +10,7 @@ use Rattle.ninep_types.specs.Spelling as wire
 use Rattle.ninep_types.specs.Spelling.{head, size_t, spelling_t, Fits_t, InRange_t}
 use Rattle.ninep_wire.proofs.Sizes.{t_has_size}
 use Rattle.am_journal.specs.Lawful.{AreBytes}
-use Rattle.am_journal.specs.Line.{first_field, after_field}
+use Rattle.am_text.specs.Lines.{first_field, after_field}
 use Rattle.am_journal.proofs.FieldWords.{split-is}
 use Rattle.ninep_trace.specs.Fields.{◌>>=◌, number, number_at, text, bytes_in_hex, quoted, listed}
 use Rattle.ninep_trace.specs.Reading.{t_body_at, t_message_at, whole_t}

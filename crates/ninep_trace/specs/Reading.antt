@@ -14,7 +14,8 @@ use Rattle.am_journal.specs.declared.event.Event.TheVariants as event
 use Rattle.am_text.specs.Ascii.{space}
 use Rattle.am_text.specs.Front.{after_front}
 use Rattle.am_journal.specs.Limits.{connection_count}
-use Rattle.am_journal.specs.Line.{first_field, after_field, event_of}
+use Rattle.am_text.specs.Lines.{first_field, after_field}
+use Rattle.am_journal.specs.Line.{event_of}
 use Rattle.ninep_trace.specs.declared.line.Line.{Line}
 use Rattle.ninep_trace.specs.declared.line.Line.TheVariants as line
 use Rattle.ninep_trace.specs.Fields.{◌>>=◌, small_at, number_at, text_at, bytes_in_hex_at, qid_at, qid_field_at, quoted_at, listed_at}

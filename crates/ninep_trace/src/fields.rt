@@ -4,13 +4,13 @@ ghost use Rattle.std.specs.Prelude.{◌≡◌, ◌==◌, ◌<◌, ◌≤◌, ◌
 ghost use Rattle.std.specs.List.{list_any};
 ghost use Rattle.am_text.specs.Ascii.{quote};
 ghost use Rattle.am_text.specs.Front.{after_front};
-ghost use Rattle.am_journal.specs.Line.{first_field, after_field};
 ghost use Rattle.ninep_types.specs.Fields.{is_text};
 ghost use Rattle.ninep_types.specs.Limits.{max_names};
+ghost use Rattle.am_journal.specs.Hexadecimal.{bytes_of_hex};
 ghost use Rattle.ninep_trace.specs.Fields.{Gives, digits, after_digits, value_at, small_at, number_at, unquoted_after, is_string, quoted_at, text_at, bytes_in_hex_at, qid_at, qid_field_at, several_at, listed_at};
 
-use crate::hexadecimal::bytes_of_hex;
 use crate::unread::Unread;
+use am_journal::bytes_of_hex;
 use am_text::{Bytes, Items, Names, after_front, is_utf8, read_decimal};
 use ninep_types::{MAX_NAMES, Qid, Qids};
 use std::alloc::Global;
@@ -26,22 +26,6 @@ pub(crate) fn take_front<'a>(front: &[u8], bytes: &'a [u8]) -> Result<&'a [u8], 
         Some(rest) => Ok(rest),
         None => Err(Unread::NotWords),
     }
-}
-
-/// The bytes up to the first blank, and those after it.
-pub(crate) fn cut_name(bytes: &[u8]) -> (&[u8], &[u8])
-    ensures name { result.0.now ≡ first_field bytes.now }
-    ensures rest { result.1.now ≡ after_field bytes.now }
-{
-    let mut at = 0;
-    for b in bytes {
-        if *b == b' ' {
-            let (name, rest) = bytes.split_at(at);
-            return (name, rest.split_at(1).1);
-        }
-        at += 1;
-    }
-    bytes.split_at(at)
 }
 
 /// The digits at the front, and the bytes after them.
@@ -198,6 +182,16 @@ pub(crate) fn take_text<'a>(
     take_quoted(alloc, take_front(front, bytes)?)
 }
 
+// The bytes that the digits spell, all of them.
+fn take_hex(alloc: Global, digits: &[u8]) -> Result<Bytes, Unread>
+    ensures { Gives (λ bytes. bytes) result (bytes_of_hex digits.now) }
+{
+    match bytes_of_hex(alloc, digits)? {
+        Some(bytes) => Ok(bytes),
+        None => Err(Unread::NotWords),
+    }
+}
+
 /// Fewer bytes than a limit, in hexadecimal, to the end of the line.
 #[tactic(auto, unfolding(crate::specs::Fields::bytes_in_hex_at))]
 pub(crate) fn take_bytes<'a>(
@@ -209,7 +203,7 @@ pub(crate) fn take_bytes<'a>(
     ensures { Gives (λ x. (x.0, x.1.now)) result (bytes_in_hex_at front.now limit bytes.now) }
 {
     let digits = take_front(front, bytes)?;
-    let read = bytes_of_hex(alloc, digits)?;
+    let read = take_hex(alloc, digits)?;
     if read.len() >= limit {
         return Err(Unread::NotWords);
     }

@@ -6,7 +6,6 @@
 
 mod events;
 mod fields;
-mod hexadecimal;
 mod laws;
 mod line;
 mod puts;

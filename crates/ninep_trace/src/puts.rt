@@ -6,7 +6,7 @@ ghost use Rattle.std.specs.List.{flat_map};
 ghost use Rattle.am_journal.specs.Parts.{around};
 ghost use Rattle.ninep_trace.specs.Fields.{number, marked, quoted, text, bytes_in_hex, qid_text, qid_field, blank_and, listed};
 
-use crate::hexadecimal::put_hex;
+use am_journal::put_hex;
 use am_text::{Bytes, NoMemory, decimal};
 use ninep_types::Qid;
 use std::alloc::Global;

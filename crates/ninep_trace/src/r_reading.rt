@@ -5,10 +5,9 @@ ghost use Rattle.ninep_types.specs.Spelling.{size_r};
 ghost use Rattle.ninep_trace.specs.Fields.{Gives};
 ghost use Rattle.ninep_trace.specs.Reading.{r_version_at, r_auth_at, r_error_at, r_attach_at, r_walk_at, r_open_at, r_create_at, r_read_at, r_write_at, r_stat_at, r_body_at, r_message_at};
 
-use crate::fields::{
-    SHORT, cut_name, take_bytes, take_qid, take_qids, take_text, take_u16, take_u32,
-};
+use crate::fields::{SHORT, take_bytes, take_qid, take_qids, take_text, take_u16, take_u32};
 use crate::unread::Unread;
+use am_text::cut_field;
 use ninep_types::{MAX_MSIZE, RBody, RMsg};
 use std::alloc::Global;
 
@@ -160,7 +159,7 @@ fn r_body_size(body: &RBody) -> usize
 pub(crate) fn take_r_message(alloc: Global, words: &[u8]) -> Result<RMsg, Unread>
     ensures { Gives (λ m. m) result (r_message_at words.now) }
 {
-    let (name, rest) = cut_name(words);
+    let (name, rest) = cut_field(words);
     let (tag, rest) = take_u16(b"tag=", rest)?;
     let (body, rest) = take_r_body(alloc, name, rest)?;
     if !rest.is_empty() || r_body_size(&body) > MAX_MSIZE as usize {

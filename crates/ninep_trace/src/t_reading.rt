@@ -5,9 +5,10 @@ ghost use Rattle.ninep_trace.specs.Fields.{Gives};
 ghost use Rattle.ninep_trace.specs.Reading.{t_version_at, t_auth_at, t_flush_at, t_attach_at, t_walk_at, t_open_at, t_create_at, t_read_at, t_write_at, t_clunk_at, t_remove_at, t_stat_at, t_wstat_at, t_body_at, t_message_at};
 
 use crate::fields::{
-    SHORT, cut_name, take_bytes, take_names, take_text, take_u8, take_u16, take_u32, take_u64,
+    SHORT, take_bytes, take_names, take_text, take_u8, take_u16, take_u32, take_u64,
 };
 use crate::unread::Unread;
+use am_text::cut_field;
 use ninep_types::{MAX_MSIZE, TBody, TMsg};
 use ninep_wire::t_size;
 use std::alloc::Global;
@@ -189,7 +190,7 @@ fn take_t_body<'a>(alloc: Global, name: &[u8], rest: &'a [u8]) -> Result<(TBody,
 pub(crate) fn take_t_message(alloc: Global, words: &[u8]) -> Result<TMsg, Unread>
     ensures { Gives (λ m. m) result (t_message_at words.now) }
 {
-    let (name, rest) = cut_name(words);
+    let (name, rest) = cut_field(words);
     let (tag, rest) = take_u16(b"tag=", rest)?;
     let (body, rest) = take_t_body(alloc, name, rest)?;
     let msg = TMsg { tag, body };

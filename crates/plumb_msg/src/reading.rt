@@ -8,9 +8,9 @@ ghost use Rattle.plumb_msg.specs.declared.message.PlumbRead.TheVariants.{Whole};
 use crate::limits::MAX_DATA;
 use crate::message::{Attrs, PlumbMsg, PlumbRead};
 use crate::scanning::{is_attrs_front, read_attrs};
-use crate::texts::{cut_line, has_newline, is_text_front};
+use crate::texts::{has_newline, is_text_front};
 use crate::unread::{Stop, Unread};
-use am_text::{Bytes, NoMemory, is_utf8, read_decimal};
+use am_text::{Bytes, NoMemory, cut_line, is_utf8, read_decimal};
 use std::alloc::Global;
 
 // Why a line without its newline can't be read.

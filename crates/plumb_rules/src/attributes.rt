@@ -10,8 +10,8 @@ use am_text::{Items, NoMemory, read_decimal};
 use plumb_msg::{Attr, Attrs};
 use std::alloc::Global;
 
-// The value of the attribute with this name.
-fn attr_value<'a>(attrs: &'a [Attr], name: &[u8]) -> Option<&'a [u8]>
+/// The value of the attribute with this name, if there is one.
+pub fn attr_value<'a>(attrs: &'a [Attr], name: &[u8]) -> Option<&'a [u8]>
     ensures { option_copied result ≡ attr_value attrs.now name.now }
 {
     let mut rest = attrs;

@@ -17,6 +17,7 @@ mod verbs;
 mod whole;
 
 pub use answer::{Route, Way};
+pub use attributes::attr_value;
 pub use laws::{expressions_have_trees, first_set_is_taken, messages_are_delivered_whole};
 pub use routing::route;
 pub use rule_syntax::{

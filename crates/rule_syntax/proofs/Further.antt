@@ -3,9 +3,6 @@ use Rattle.std.proofs.Common.{◌≡◌, ℕ, ◌+◌, ◌<◌, List, [], ◌∷
 use Rattle.std.specs.List.{flat_map}
 use Rattle.std.proofs.lemmas.Grind.{flat_map-append}
 use Rattle.std.proofs.lemmas.List.{append-nil, take_more}
-use Rattle.rule_syntax.specs.Arguments.{onto, runes_of}
-use Rattle.rule_syntax.specs.declared.rule.Piece.{Piece}
-use Rattle.rule_syntax.specs.declared.rule.Piece.TheVariants as piece
 use Rattle.rule_syntax.specs.declared.rule.Rule.{Rule}
 use Rattle.rule_syntax.specs.Naming.{port_of, set_ports, ports_of}
 
@@ -18,16 +15,6 @@ pub sets_more : (sets : List (List Rule)) (i : ℕ) (s : List Rule) → i < leng
 sets_more sets i s h =
     ap ports_of (take_more sets i s h) ∙ flat_map-append set_ports (take i sets) (get_or sets i s ∷ [])
     ∙ ap (λ (l : List (List ℕ)). ports_of (take i sets) ++ l) (append-nil (set_ports (get_or sets i s)))
-
-runes-append : (xs ys : List Piece) → runes_of (xs ++ ys) ≡ runes_of xs ++ runes_of ys
-runes-append [] ys = refl
-runes-append (piece.Rune c ∷ xs) ys = ap (λ (l : List ℕ). c ∷ l) (runes-append xs ys)
-runes-append (piece.Late v ∷ xs) ys = runes-append xs ys
-
-pub runes_more : (xs : List Piece) (i : ℕ) (p : Piece) → i < length xs → runes_of (take (i + 1) xs) ≡ runes_of (take i xs) ++ onto (get_or xs i p) []
-runes_more xs i p h = ap runes_of (take_more xs i p h) ∙ runes-append (take i xs) (get_or xs i p ∷ [])
-
-pub ruleset runes = (runes_more, append-nil)
 
 pub ruleset rules = (set_more, append-nil, append_assoc)
 

@@ -3,7 +3,8 @@
 ghost use Rattle.std.specs.Prelude.{◌≡◌, ◌≤◌, ◌<◌, ◌+◌, ◌^◌, length};
 ghost use Rattle.rule_syntax.specs.Cutting.{behind, after_blank, after_line, sets_end};
 
-use crate::text_words::{cut_line, has_newline, is_blank_line, is_rule};
+use crate::text_words::{has_newline, is_blank_line, is_rule};
+use am_text::cut_line;
 
 /// Where the last whole set ends in the lines so far, how many bytes those have, and whether a set is begun behind it.
 #[derive(Clone, Copy)]

@@ -1,12 +1,12 @@
 //! The ports that rules name.
 
 ghost use Rattle.std.specs.Prelude.{◌≡◌, ◌++◌, [], IfOk, OnOk};
-ghost use Rattle.rule_syntax.specs.Arguments.{onto, runes_of};
 ghost use Rattle.rule_syntax.specs.Verbs.{is_to};
 ghost use Rattle.rule_syntax.specs.Naming.{port_of, set_ports, ports_of};
 
-use crate::{Piece, ReadRule, Rules, Verb};
-use am_text::{Bytes, Names, NoMemory, Runes, encode};
+use crate::argument::runes_of;
+use crate::{ReadRule, Rules, Verb};
+use am_text::{Bytes, Names, NoMemory, encode};
 use std::alloc::Global;
 
 fn is_to(verb: Verb) -> bool
@@ -16,30 +16,6 @@ fn is_to(verb: Verb) -> bool
         Verb::To => true,
         _ => false,
     }
-}
-
-// Puts the rune of a piece at the end, if it is one.
-#[tactic(auto, using(crate::proofs::Further::runes))]
-fn put_piece(text: &mut Runes, piece: Piece) -> Result<(), NoMemory>
-    ensures { OnOk result (text.new ≡ text.old ++ onto piece []) }
-{
-    match piece {
-        Piece::Rune(c) => text.push(c)?,
-        Piece::Late(_) => {}
-    }
-    Ok(())
-}
-
-// The runes of an argument.
-#[tactic(auto, using(crate::proofs::Further::runes))]
-fn runes_of(alloc: Global, pieces: &[Piece]) -> Result<Runes, NoMemory>
-    ensures { IfOk result (λ text. text ≡ runes_of pieces.now) }
-{
-    let mut text = Runes::new(alloc);
-    for piece in pieces {
-        put_piece(&mut text, *piece)?;
-    }
-    Ok(text)
 }
 
 // Puts the port that a rule names at the end.

@@ -2,7 +2,6 @@
 
 ghost use Rattle.std.specs.Prelude.{◌≡◌, option_copied, false};
 ghost use Rattle.std.specs.Int.{is_in_range};
-ghost use Rattle.am_text.specs.Lines.{first_line, after_line};
 ghost use Rattle.rule_syntax.specs.Words.{is_digit, is_name_rune, is_gap, name_part, after_name, after_blanks, is_blank_line, is_comment, begins_with_digit};
 ghost use Rattle.rule_syntax.specs.Parsing.{after_equals, value_text};
 ghost use Rattle.rule_syntax.specs.Cutting.{has_newline, is_open_behind, is_open, is_whole, is_definition, is_rule};
@@ -37,22 +36,6 @@ pub(crate) fn has_newline(bytes: &[u8]) -> bool
     ensures { result ≡ has_newline bytes.now }
 {
     bytes.iter().any(|b| *b == b'\n')
-}
-
-/// The bytes up to the first newline, and those behind it.
-pub(crate) fn cut_line(bytes: &[u8]) -> (&[u8], &[u8])
-    ensures line { result.0.now ≡ first_line bytes.now }
-    ensures rest { result.1.now ≡ after_line bytes.now }
-{
-    let mut at = 0;
-    for b in bytes {
-        if *b == b'\n' {
-            let (line, rest) = bytes.split_at(at);
-            return (line, rest.split_at(1).1);
-        }
-        at += 1;
-    }
-    bytes.split_at(at)
 }
 
 // The letters, digits and `_` in front, and what follows them.

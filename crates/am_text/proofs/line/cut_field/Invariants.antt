@@ -1,6 +1,6 @@
 use Rattle.std.proofs.Common.{◌≡◌, ◌++◌, take, drop}
-use Rattle.am_do.specs.Fields.{first_field, after_field}
-use Rattle.am_do.proofs.fields.cut_field.Given as goal
+use Rattle.am_text.specs.Lines.{first_field, after_field}
+use Rattle.am_text.proofs.line.cut_field.Given as goal
 
 abbrev pub invariant-loop-b : goal.invariant-loop-b
 invariant-loop-b l = record {
