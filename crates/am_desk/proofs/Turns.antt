@@ -10,7 +10,7 @@ use Rattle.turn_lock.specs.Views.{view, with_turn, after_note, after_leave, afte
 use Rattle.turn_lock.specs.Words.{value_aside}
 use Rattle.am_desk.specs.declared.settled.Settled.{Settled}
 use Rattle.am_desk.specs.Desks.{known_in}
-use Rattle.am_desk.specs.Journals.{journal_of}
+use Rattle.am_desk.specs.Journals.{journal_of, number_of}
 use Rattle.am_desk.specs.Staying.{Stays}
 
 -- ---- a turn that is kept
@@ -20,11 +20,11 @@ no_turn None v h e = h
 no_turn (Some s) v h e = absurd cc
 
 pub idle_view : (v : View Event) → v.turn ≡ false → v ≡ after_leave v
-idle_view v h = ap (λ (b : Bool). view v.parts b v.seen v.mine v.ended v.past) h
+idle_view v h = ap (λ (b : Bool). view v.parts v.number b v.seen v.mine v.ended v.past) h
 
 same_turn : (s t : Stay Settled) (v : View Event) → Stays (Some s) v → s ≡ t → v ≡ with_turn v (journal_of (value_aside t))
 same_turn s t v h e =
-    ap (λ (b : Bool). view v.parts b v.seen v.mine v.ended v.past) h.0
+    ap (λ (b : Bool). view v.parts v.number b v.seen v.mine v.ended v.past) h.0
     ∙ ap (λ (l : List Event). with_turn v l) (sym h.1 ∙ ap (λ (x : Stay Settled). journal_of (value_aside x)) e)
 
 pub kept_turn : (stay : Option (Stay Settled)) (s : Stay Settled) (v : View Event) → Stays stay v → stay ≡ Some s → v ≡ with_turn v (journal_of (value_aside s))
@@ -48,6 +48,13 @@ same_noted s t v h e = ap (λ (x : Stay Settled). journal_of (value_aside x)) (s
 pub has_noted : (stay : Option (Stay Settled)) (s : Stay Settled) (v : View Event) → Stays stay v → stay ≡ Some s → journal_of (value_aside s) ≡ v.seen
 has_noted None s v h e = absurd cc
 has_noted (Some x) s v h e = let same : x ≡ s = cc in same_noted x s v h same
+
+same_number : (s t : Stay Settled) (v : View Event) → Stays (Some s) v → s ≡ t → number_of (value_aside t) ≡ v.number
+same_number s t v h e = ap (λ (x : Stay Settled). number_of (value_aside x)) (sym e) ∙ h.2
+
+pub has_number : (stay : Option (Stay Settled)) (s : Stay Settled) (v : View Event) → Stays stay v → stay ≡ Some s → number_of (value_aside s) ≡ v.number
+has_number None s v h e = absurd cc
+has_number (Some x) s v h e = let same : x ≡ s = cc in same_number x s v h same
 
 -- ---- what is known
 

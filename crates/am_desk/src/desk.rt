@@ -14,7 +14,7 @@ ghost use Rattle.am_counter.specs.Played.{IsPlayed, IsPrefix, IsHang, IsWhy, Ref
 ghost use Rattle.am_counter.specs.Telling.{with_told};
 ghost use Rattle.acme_core.specs.Asks.{answer_at};
 ghost use Rattle.acme_core.specs.Run.{enabled, output_at, settled};
-ghost use Rattle.am_desk.specs.Journals.{journal_of};
+ghost use Rattle.am_desk.specs.Journals.{journal_of, number_of};
 ghost use Rattle.am_desk.specs.Knowing.{first_known, joined, EachOnce};
 ghost use Rattle.am_desk.specs.Replies.{told_by};
 ghost use Rattle.am_desk.specs.Staying.{Stays, stays-prop};
@@ -75,6 +75,7 @@ impl Desk {
         ensures none { stay.new ≡ None }
         ensures view { view_of place.new ≡ with_turn (view_of place.old) (journal_of (value_of result)) }
         ensures seen { IsPrefix (view_of place.old).seen (journal_of (value_of result)) }
+        ensures number { number_of (value_of result) ≡ (view_of place.old).number }
     {
         match stay.take() {
             Some(stay) => stay.resume(),
@@ -94,6 +95,7 @@ impl Desk {
         requires turn { (view_of place.old).turn ≡ true }
         requires none { stay.old ≡ None }
         requires noted { journal_of (value_of held) ≡ (view_of place.old).seen }
+        requires number { number_of (value_of held) ≡ (view_of place.old).number }
         ensures lock { lock_of place.new ≡ lock_of place.old }
         ensures known { known_in (view_of place.new) ≡ known_in (view_of place.old) }
         ensures stays { Stays stay.new (view_of place.new) }

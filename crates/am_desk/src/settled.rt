@@ -55,11 +55,13 @@ fn tell(core: &Core, told: &mut Told)
 }
 
 impl Kept for Settled {
-    ghost use Rattle.am_desk.specs.Journals.{journal_of};
+    ghost use Rattle.am_desk.specs.Journals.{journal_of, number_of};
 
     type Entry = Event;
 
     ghost entries = { journal_of };
+
+    ghost number = { number_of };
 
     ghost few = { λ x. x.few };
 }

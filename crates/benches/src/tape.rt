@@ -19,6 +19,8 @@ impl Kept for Tape {
 
     ghost entries = { λ tape. tape.numbers.items };
 
+    ghost number = { λ tape. 1 };
+
     ghost few = { λ tape. tape.few };
 }
 

@@ -3,8 +3,8 @@ use Rattle.turn_lock.specs.Views.{with_turn}
 use Rattle.turn_lock.specs.Words.{view_of}
 use Rattle.am_counter.specs.Played.{IsPrefix}
 use Rattle.am_desk.specs.declared.settled.Settled.{Settled}
-use Rattle.am_desk.specs.Journals.{journal_of}
-use Rattle.am_desk.proofs.Turns.{no_turn, kept_turn, kept_seen}
+use Rattle.am_desk.specs.Journals.{journal_of, number_of}
+use Rattle.am_desk.proofs.Turns.{no_turn, kept_turn, kept_seen, has_number}
 use Rattle.am_desk.proofs.desk.Desk.enter.Goals as goal
 
 pub enter-requires-clause-idle : goal.enter-requires-clause-idle
@@ -20,3 +20,8 @@ pub returns-in-Some-clause-seen : goal.returns-in-Some-clause-seen
 returns-in-Some-clause-seen g c =
     subst (λ (s : Settled). IsPrefix (view_of c.args.place.now).seen (journal_of s)) (sym c.resume.ensures)
     (kept_seen c.args.stay.now c.in-Some.stay (view_of c.args.place.now) c.requires.stays (sym c.take.ensures.value ∙ c.in-Some.is))
+
+pub returns-in-Some-clause-number : goal.returns-in-Some-clause-number
+returns-in-Some-clause-number g c =
+    ap number_of c.resume.ensures
+    ∙ has_number c.args.stay.now c.in-Some.stay (view_of c.args.place.now) c.requires.stays (sym c.take.ensures.value ∙ c.in-Some.is)
