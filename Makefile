@@ -19,6 +19,8 @@ doc = $(DESTDIR)$(PREFIX)/share/doc/acmefs
 tools = $(notdir $(filter-out %~,$(wildcard bin/*)))
 packages = acme9 acmefs_tools
 modules = $(foreach it,$(packages),$(wildcard python/$(it)/*.py python/$(it)/*.html python/$(it)/py.typed))
+# the parts of the launcher that look after a server
+launch = $(foreach it,__init__ child serving telling words,launch/$(it).py)
 pages = $(shell packaging/man-pages --names)
 texts = $(wildcard docs/manual/*.md docs/manual/*.txt docs/formats/*.md docs/images/*.png examples/*)
 stage = out/dist/acmefs-$(VERSION)
@@ -37,7 +39,8 @@ install: install-program install-tools install-man install-doc
 install-program: $(PROGRAM)
 	$(INSTALL) -d $(home)/program $(commands)
 	$(INSTALL) -m 755 $(PROGRAM) $(home)/program/acmefs
-	$(INSTALL) -m 755 packaging/acmefs $(home)/acmefs
+	$(INSTALL) -m 755 packaging/acmefs packaging/serve $(home)
+	$(copy); for it in $(launch); do copy $$it $(home)/$$it; done
 	$(usage) > $(home)/usage.txt
 	$(figures) > $(home)/FIGURES
 	ln -sf ../lib/acmefs/acmefs $(commands)/acmefs
@@ -67,9 +70,9 @@ dist: $(PROGRAM)
 	cp $(PROGRAM) $(stage)/program/acmefs
 	$(usage) > $(stage)/usage.txt
 	$(figures) > $(stage)/FIGURES
-	cp packaging/acmefs $(stage)/acmefs
+	cp packaging/acmefs packaging/serve $(stage)
 	cp Makefile $(wildcard README.md LICENSE CHANGELOG.md VERSION) $(stage)
-	$(copy); for it in $(modules) $(texts) $(tools:%=bin/%) $(wildcard packaging/*); do copy $$it $(stage)/$$it; done
+	$(copy); for it in $(modules) $(launch) $(texts) $(tools:%=bin/%) $(wildcard packaging/*); do copy $$it $(stage)/$$it; done
 	packaging/man-pages $(stage)/man || echo "the tarball has no man pages"
 	tar -C out/dist -czf acmefs-$(VERSION).tar.gz acmefs-$(VERSION)
 	@echo made acmefs-$(VERSION).tar.gz

@@ -26,6 +26,13 @@ class Ended(BaseException):
         self.number = number
 
 
+def hear_interrupts() -> None:
+    """Has an interrupt end the launcher as any program, and not by an exception of Python's. One that is ignored from
+    the start stays so."""
+    if signal.getsignal(signal.SIGINT) is signal.default_int_handler:
+        signal.signal(signal.SIGINT, signal.SIG_DFL)
+
+
 def handle(numbers: List[signal.Signals], handler) -> None:
     """Has signals go to a handler. One that was ignored from the start stays so."""
     for number in numbers:

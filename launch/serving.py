@@ -5,6 +5,7 @@ import ctypes
 import errno
 import os
 import re
+import shlex
 import signal
 import socket
 import stat
@@ -27,6 +28,8 @@ CLEAN = [signal.SIGHUP, signal.SIGINT, signal.SIGTERM]
 PIDFD_GETFD = 438
 # how often the sockets are looked for, and when those that aren't there by then are told, in seconds
 LOOKS, SETTLED = 0.05, 0.5
+# the program that makes one socket of all, as it is called from where the launcher is
+FRONT = "bin/acmefs-front"
 # the status of a server that has a slot without a socket
 NO_SOCKET = 5
 # the bytes of a script at most, and how long it is looked through, in seconds
@@ -185,8 +188,9 @@ class Server:
         paths = self.asked.sockets()
         lost = [it for it in paths if it not in self.made]
         where = f"each of {paths[0]} to {paths[-1]}" if not lost and len(paths) > 1 else ", ".join(self.made)
-        end = "the journal comes when all have ended"
-        say(f"serving one connection at {where} (one socket of all: bin/acmefs-front); {end}")
+        say(f"serving one connection at {where}; the journal comes when all have ended")
+        if len(paths) > 1 and not lost:
+            say(f"one socket for all of them: {FRONT} SOCKET {shlex.quote(self.asked.path)} --clients {len(paths)}")
         self.say_lost(lost)
 
     def say_lost(self, paths: List[str]) -> None:

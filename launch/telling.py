@@ -5,7 +5,8 @@ import re
 import sys
 
 TOP = os.path.dirname(os.path.dirname(os.path.realpath(__file__)))
-USAGE = f"{TOP}/docs/manual/usage.txt"
+# where the usage is in the repository, and as it is installed
+USAGES = (f"{TOP}/docs/manual/usage.txt", f"{TOP}/usage.txt")
 NO_PROGRAM = 70
 
 
@@ -27,7 +28,7 @@ def fail(why: str) -> None:
 
 
 def usage() -> str:
-    with open(USAGE, encoding="utf-8") as file:
+    with open(next(filter(os.path.exists, USAGES)), encoding="utf-8") as file:
         return file.read()
 
 
