@@ -26,6 +26,8 @@ LISTENS, CONNECTED = 0x10000, 3
 CLEAN = [signal.SIGHUP, signal.SIGINT, signal.SIGTERM]
 # the call of Linux that gives a descriptor of another process
 PIDFD_GETFD = 438
+# what a server's sockets don't allow: anything to others, and to execute
+UMASK = 0o177
 # how often the sockets are looked for, and when those that aren't there by then are told, in seconds
 LOOKS, SETTLED = 0.05, 0.5
 # the program that makes one socket of all, as it is called from where the launcher is
@@ -131,14 +133,15 @@ class Server:
 
     def start(self, words: List[str], **ways) -> None:
         """Starts it. The signals that ask for a clean end come to the launcher alone, also those of a terminal, which
-        come to both."""
+        come to both. Its sockets are for the user alone, whatever the umask is."""
 
-        def ignores():
+        def begins():
+            os.umask(UMASK)
             for it in (signal.SIGHUP, signal.SIGINT):
                 signal.signal(it, signal.SIG_IGN)
 
         try:
-            self.process = subprocess.Popen(words, preexec_fn=ignores, **ways)
+            self.process = subprocess.Popen(words, preexec_fn=begins, **ways)
         except OSError as error:
             fail(f"{words[0]} cannot be started: {error.strerror}")
         for number in self.early:

@@ -37,8 +37,8 @@ def version(msize: int) -> bytes:
     return wire.encode("Tversion", wire.NOTAG, msize=msize, version="9P2000")
 
 
-def attach(fid: int) -> bytes:
-    return wire.encode("Tattach", 1, fid=fid, afid=wire.NOFID, uname="glenda", aname="")
+def attach(fid: int, tree: str = "") -> bytes:
+    return wire.encode("Tattach", 1, fid=fid, afid=wire.NOFID, uname="glenda", aname=tree)
 
 
 def walk(fid: int, new_fid: int, names: Sequence[bytes]) -> bytes:

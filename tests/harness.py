@@ -6,6 +6,7 @@
 A case fails by an exception, and is skipped by a Skipped. The last line is `N passed, M failed`.
 """
 
+import datetime
 import os
 import subprocess
 import sys
@@ -73,6 +74,21 @@ def store(path: str, text: Union[str, bytes]) -> str:
     with open(path, "wb") as file:
         file.write(text.encode("utf-8") if isinstance(text, str) else text)
     return path
+
+
+def tree() -> str:
+    """What the program is of: the tree of its crates, as git names it, and whether it was proved."""
+    words = ["git", "-C", TOP, "rev-parse", "--short=12", "HEAD:crates"]
+    name = subprocess.run(words, stdout=subprocess.PIPE, stderr=subprocess.DEVNULL).stdout.decode().strip()
+    return f"{'the checked' if 'unproved' in PROGRAM else 'the built'} program of crates {name or 'of no commit'}"
+
+
+def keep_result(page: str, name: str, text: str) -> None:
+    """Puts a result into the list of a page, with the day and the tree, in the place of an earlier one of its name."""
+    head, *items = content(page).split("\n- ")
+    kept = [it.rstrip("\n") for it in items if not it.startswith(f"{name}: ")]
+    kept.append(f"{name}: {datetime.date.today()}, {tree()}: {text}.")
+    store(page, head.rstrip("\n") + "\n\n" + "".join(f"- {it}\n" for it in kept))
 
 
 def told(name: str, case: Case) -> bool:
