@@ -1,6 +1,7 @@
 pub mod Attributes
 pub mod Drafts
 pub mod Laws
+pub mod Matches
 pub mod Patterns
 pub mod Refused
 pub mod Routes

@@ -1,5 +1,5 @@
 -- Patterns: the expression that a text is, the match at a click, and its groups.
-use Rattle.std.specs.Prelude.{◌≤◌, ℕ, Bool, List, length, Option, Some, None, nat_le, if◌then◌else◌}
+use Rattle.std.specs.Prelude.{◌≡◌, ◌≤◌, ℕ, Bool, List, length, Option, Some, None, IfSome, nat_le, if◌then◌else◌}
 use Rattle.am_text.specs.declared.range.Range.{Range}
 use Rattle.re_syntax.specs.Build.{level_tree}
 use Rattle.re_syntax.specs.Match.{Matches}
@@ -9,7 +9,7 @@ use Rattle.re_syntax.specs.declared.re.Re.{Re}
 use Rattle.re_spans.specs.Groups.{groups_of}
 use Rattle.re_spans.specs.Over.{match_over}
 use Rattle.re_spans.specs.Search.{matches}
-use Rattle.plumb_rules.specs.declared.state.Matched.{Matched}
+use Rattle.plumb_rules.specs.Matches.{Match}
 
 abbrev pub tree_read : Option Reading → Option Tree
 tree_read None = None
@@ -41,11 +41,16 @@ abbrev pub click_span : Tree → List ℕ → ℕ → Option Range
 click_span r t n = if nat_le n (length t) then match_over r t n else None
 
 -- a match of a text, with its groups
-abbrev pub matched : Tree → List ℕ → Range → Matched
-matched r t found = record { text = t; groups = groups_of r t found }
+abbrev pub matched : Tree → List ℕ → Range → Match
+matched r t found = record { text = t; range = found; groups = groups_of r t found }
 
 -- a match inside a text
 pub record IsMatchIn (r : Tree) (t : List ℕ) (s : Range) : Type 0 where
   pub order : s.q0 ≤ s.q1
   pub within : s.q1 ≤ length t
   pub matches : Matches r t s.q0 s.q1
+
+-- the groups of a match inside a text are known, or nothing is
+pub record AreKnown (r : Tree) (t : List ℕ) (s : Range) (known : Option (List (Option Range))) : Type 0 where
+  pub inside : IsMatchIn r t s
+  pub groups : IfSome known (λ all. all ≡ groups_of r t s)

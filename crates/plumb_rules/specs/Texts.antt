@@ -1,7 +1,7 @@
 -- Texts of a message while rules are done: of its fields, of variables, and of arguments.
-use Rattle.std.specs.Prelude.{ℕ, List, [], ◌∷◌, length, slice_get, slice_range, Option, Some, None}
+use Rattle.std.specs.Prelude.{ℕ, Bool, false, nat_lt, List, [], ◌∷◌, length, slice_range, Option, Some, None}
 use Rattle.std.specs.Fmt.{decimal}
-use Rattle.std.specs.List.{flat_map}
+use Rattle.std.specs.List.{flat_map, list_any}
 use Rattle.acme_cmd.specs.Names as names
 use Rattle.am_text.specs.Utf8.{decode, utf8}
 use Rattle.am_text.specs.declared.range.Range.{Range}
@@ -13,7 +13,7 @@ use Rattle.rule_syntax.specs.declared.rule.Late.{Late}
 use Rattle.rule_syntax.specs.declared.rule.Late.TheVariants as late
 use Rattle.rule_syntax.specs.declared.rule.Piece.{Piece}
 use Rattle.rule_syntax.specs.declared.rule.Piece.TheVariants as piece
-use Rattle.plumb_rules.specs.declared.state.Matched.{Matched}
+use Rattle.plumb_rules.specs.Matches.{Match, range_of}
 use Rattle.plumb_rules.specs.declared.state.State.{State}
 
 abbrev pub field_text : PlumbMsg → Field → List ℕ
@@ -45,15 +45,23 @@ found_or (Some name) m = name
 
 -- ---- the match and its groups
 
-abbrev pub slice_of : List ℕ → Option (Option Range) → List ℕ
-slice_of text (Some (Some r)) = slice_range text r.q0 r.q1
-slice_of text (Some None) = []
+abbrev pub slice_of : List ℕ → Option Range → List ℕ
+slice_of text (Some r) = slice_range text r.q0 r.q1
 slice_of text None = []
 
 -- the text of the match, or of a group, empty where there is none
-abbrev pub group_text : Option Matched → ℕ → List ℕ
+abbrev pub group_text : Option Match → ℕ → List ℕ
 group_text None n = []
-group_text (Some m) n = slice_of m.text (slice_get m.groups n)
+group_text (Some m) n = slice_of m.text (range_of m n)
+
+-- a piece of an argument that is a group
+abbrev pub is_group : Piece → Bool
+is_group (piece.Late (late.Group n)) = nat_lt 0 n
+is_group _ = false
+
+-- an argument has one
+abbrev pub has_group : List Piece → Bool
+has_group pieces = list_any is_group pieces
 
 -- ---- variables and arguments
 

@@ -5,6 +5,7 @@ mod answer;
 mod attributes;
 mod draft;
 mod laws;
+mod matched;
 mod matching;
 mod message;
 mod pattern;

@@ -1,14 +1,13 @@
-//! Matches of expressions: all calls of the search stand here and in `whole`.
+//! Matches of expressions: of a whole text, and at a click.
 
 ghost use Rattle.std.specs.Prelude.{◌≡◌, length, IfOk, IfSome, IsTrue};
 ghost use Rattle.re_spans.specs.Groups.{span};
 ghost use Rattle.re_syntax.specs.Tree.{tree};
-ghost use Rattle.plumb_rules.specs.Patterns.{is_whole, click_span, matched, IsMatchIn};
+ghost use Rattle.plumb_rules.specs.Patterns.{is_whole, click_span, IsMatchIn};
 
-use crate::state::Matched;
 use crate::whole::matches_all;
 use am_text::{NoMemory, Range, Runes};
-use re_spans::{groups, match_over};
+use re_spans::match_over;
 use re_syntax::Re;
 use std::alloc::Global;
 
@@ -33,13 +32,4 @@ pub fn click_span(alloc: Global, re: &Re, text: &Runes, at: u64) -> Result<Optio
     }
     let found = match_over(alloc, re, text, place)?;
     Ok(found)
-}
-
-/// A match of a text, with its groups.
-pub fn matched(alloc: Global, re: &Re, text: Runes, found: Range) -> Result<Matched, NoMemory>
-    requires { IsMatchIn (tree re.now) text found }
-    ensures { IfOk result (λ new. new ≡ matched (tree re.now) text found) }
-{
-    let groups = groups(alloc, re, &text, found)?;
-    Ok(Matched { text, groups })
 }

@@ -4,15 +4,8 @@ ghost use Rattle.std.specs.Prelude.{◌≡◌};
 
 use crate::answer::Way;
 use crate::draft::Draft;
+use crate::matched::Matched;
 use am_text::{Bytes, Runes};
-use re_syntax::Groups;
-
-/// The match of a `data matches` rule: the text, and the ranges of the match and of its groups in it.
-#[derive(Drop)]
-pub struct Matched {
-    pub text: Runes,
-    pub groups: Groups,
-}
 
 /// A message while the rules of a set are done, and what they found and told.
 #[derive(Drop)]

@@ -4,9 +4,10 @@ ghost use Rattle.std.specs.Prelude.{◌≡◌, ◌++◌, length, slice_range, If
 ghost use Rattle.std.specs.Fmt.{decimal};
 ghost use Rattle.am_text.specs.Utf8.{decode};
 ghost use Rattle.plumb_msg.specs.Spelling.{attrs_text};
-ghost use Rattle.plumb_rules.specs.Texts.{field_text, with_field, whole_name, data_name, found_or, group_text, late_text, piece_text, argument_text};
+ghost use Rattle.plumb_rules.specs.Texts.{field_text, with_field, whole_name, data_name, found_or, group_text, is_group, has_group, late_text, piece_text, argument_text};
 
-use crate::state::{Matched, State};
+use crate::matched::Matched;
+use crate::state::State;
 use acme_cmd::whole;
 use am_text::{NoMemory, Range, Rune, Runes, decimal, decode_whole, encode};
 use plumb_msg::{PlumbMsg, attrs_text};
@@ -79,16 +80,32 @@ pub fn part_of(text: &[Rune], range: Range) -> &[Rune]
     rest.split_at(count.min(rest.len())).0
 }
 
+fn is_group(piece: Piece) -> bool
+    ensures { result ≡ is_group piece }
+{
+    match piece {
+        Piece::Late(Late::Group(number)) => number > 0,
+        _ => false,
+    }
+}
+
 fn group_text(alloc: Global, matched: &Option<Matched>, number: u8) -> Result<Runes, NoMemory>
     ensures { IfOk result (λ text. text ≡ group_text matched.now number) }
 {
     let Some(found) = matched else {
         return Ok(Runes::new(alloc));
     };
-    match found.groups.as_slice().get(usize::from(number)) {
-        Some(Some(range)) => Runes::copied(alloc, part_of(found.text.as_slice(), *range)),
-        _ => Ok(Runes::new(alloc)),
+    match found.range(alloc, usize::from(number))? {
+        Some(range) => Runes::copied(alloc, part_of(found.text(), range)),
+        None => Ok(Runes::new(alloc)),
     }
+}
+
+/// Whether an argument has a group of the match. The whole match is none.
+pub fn has_group(pieces: &[Piece]) -> bool
+    ensures { result ≡ has_group pieces.now }
+{
+    pieces.iter().any(|piece| is_group(*piece))
 }
 
 fn attributes(alloc: Global, msg: &PlumbMsg) -> Result<Runes, NoMemory>

@@ -12,15 +12,18 @@ ghost use Rattle.plumb_rules.specs.Verbs.{where_holds, is_text, set, with_match,
 
 use crate::answer::Way;
 use crate::attributes::{Click, click_of, is_absent, unclicked, with_attrs, without_attr};
-use crate::matching::{click_span, is_whole, matched};
+use crate::matched::Matched;
+use crate::matching::{click_span, is_whole};
 use crate::pattern::pattern_of;
 use crate::state::State;
-use crate::texts::{argument_text, data_name, field_text, part_of, whole_name, with_field};
+use crate::texts::{
+    argument_text, data_name, field_text, has_group, part_of, whole_name, with_field,
+};
 use am_text::{Items, NoMemory, Range, Runes, encode};
 use name_tree::Tree;
 use plumb_msg::{PlumbMsg, read_attrs};
 use re_syntax::Re;
-use rule_syntax::{Field, ReadRule, Verb};
+use rule_syntax::{Field, Piece, ReadRule, Verb};
 use std::alloc::Global;
 
 /// Whether a rule with this verb leaves the message as it is, where it holds.
@@ -67,33 +70,26 @@ fn set(alloc: Global, state: &mut State, field: Field, text: &Runes) -> Result<b
 }
 
 // With the match of a text.
-fn with_match(
-    alloc: Global,
-    state: &mut State,
-    re: &Re,
-    text: Runes,
-    found: Range,
-) -> Result<(), NoMemory>
-    requires { IsMatchIn (tree re.now) text found }
-    ensures { OnOk result (state.new ≡ with_match state.old (tree re.now) text found) }
+fn with_match(state: &mut State, re: Re, text: Runes, found: Range)
+    requires { IsMatchIn (tree re) text found }
+    ensures { state.new ≡ with_match state.old (tree re) text found }
 {
-    state.matched = Some(matched(alloc, re, text, found)?);
-    Ok(())
+    state.matched = Some(Matched::new(re, text, found));
 }
 
 // The whole data match.
 #[tactic(auto, unfolding(crate::specs::Verbs::whole_data))]
-fn whole_data(alloc: Global, state: &mut State, re: &Re, text: Runes) -> Result<bool, NoMemory>
-    ensures { IfOk result (λ holds. where_holds state.new holds ≡ whole_data state.old (tree re.now) text) }
+fn whole_data(alloc: Global, state: &mut State, re: Re, text: Runes) -> Result<bool, NoMemory>
+    ensures { IfOk result (λ holds. where_holds state.new holds ≡ whole_data state.old (tree re) text) }
 {
-    if !is_whole(alloc, re, &text)? {
+    if !is_whole(alloc, &re, &text)? {
         return Ok(false);
     }
     let found = Range {
         q0: 0,
         q1: text.len(),
     };
-    with_match(alloc, state, re, text, found)?;
+    with_match(state, re, text, found);
     Ok(true)
 }
 
@@ -113,27 +109,21 @@ fn clicked_msg(
 }
 
 #[tactic(auto, unfolding(crate::specs::Verbs::clicked))]
-fn clicked(
-    alloc: Global,
-    state: &mut State,
-    re: &Re,
-    text: Runes,
-    at: u64,
-) -> Result<bool, NoMemory>
-    ensures { IfOk result (λ holds. where_holds state.new holds ≡ clicked state.old (tree re.now) text (click_span (tree re.now) text at)) }
+fn clicked(alloc: Global, state: &mut State, re: Re, text: Runes, at: u64) -> Result<bool, NoMemory>
+    ensures { IfOk result (λ holds. where_holds state.new holds ≡ clicked state.old (tree re) text (click_span (tree re) text at)) }
 {
-    let Some(found) = click_span(alloc, re, &text, at)? else {
+    let Some(found) = click_span(alloc, &re, &text, at)? else {
         return Ok(false);
     };
     let msg = clicked_msg(alloc, state.msg.take(alloc)?, &text, found)?;
     state.msg.put(msg);
-    with_match(alloc, state, re, text, found)?;
+    with_match(state, re, text, found);
     Ok(true)
 }
 
 #[tactic(auto, unfolding(crate::specs::Verbs::data_matches))]
-fn data_matches(alloc: Global, state: &mut State, re: &Re) -> Result<bool, NoMemory>
-    ensures { IfOk result (λ holds. where_holds state.new holds ≡ data_matches state.old (tree re.now)) }
+fn data_matches(alloc: Global, state: &mut State, re: Re) -> Result<bool, NoMemory>
+    ensures { IfOk result (λ holds. where_holds state.new holds ≡ data_matches state.old (tree re)) }
 {
     let text = field_text(alloc, state.msg.get(), Field::Data)?;
     match click_of(state.msg.get().attrs.as_slice()) {
@@ -152,14 +142,14 @@ fn field_matches(alloc: Global, state: &State, field: Field, re: &Re) -> Result<
 }
 
 #[tactic(auto, unfolding(crate::specs::Verbs::tree_matches))]
-fn tree_matches(alloc: Global, state: &mut State, field: Field, re: &Re) -> Result<bool, NoMemory>
-    ensures { IfOk result (λ holds. where_holds state.new holds ≡ tree_matches state.old field (tree re.now)) }
+fn tree_matches(alloc: Global, state: &mut State, field: Field, re: Re) -> Result<bool, NoMemory>
+    ensures { IfOk result (λ holds. where_holds state.new holds ≡ tree_matches state.old field (tree re)) }
 {
     match field {
-        Field::Src => field_matches(alloc, state, Field::Src, re),
-        Field::Dst => field_matches(alloc, state, Field::Dst, re),
-        Field::Wdir => field_matches(alloc, state, Field::Wdir, re),
-        Field::Sort => field_matches(alloc, state, Field::Sort, re),
+        Field::Src => field_matches(alloc, state, Field::Src, &re),
+        Field::Dst => field_matches(alloc, state, Field::Dst, &re),
+        Field::Wdir => field_matches(alloc, state, Field::Wdir, &re),
+        Field::Sort => field_matches(alloc, state, Field::Sort, &re),
         Field::Data => data_matches(alloc, state, re),
     }
 }
@@ -171,7 +161,7 @@ fn matches(alloc: Global, state: &mut State, field: Field, text: &Runes) -> Resu
 {
     match pattern_of(alloc, text.as_slice())? {
         None => Ok(false),
-        Some(re) => tree_matches(alloc, state, field, &re),
+        Some(re) => tree_matches(alloc, state, field, re),
     }
 }
 
@@ -318,6 +308,19 @@ fn is_refused(alloc: Global, state: &State, rule: &ReadRule) -> Result<bool, NoM
     field_refused(alloc, state, rule, field)
 }
 
+// Finds the groups of the last match where an argument has one of them.
+fn find_groups(alloc: Global, state: &mut State, pieces: &[Piece]) -> Result<(), NoMemory>
+    ensures { OnOk result (state.new ≡ state.old) }
+{
+    if !has_group(pieces) {
+        return Ok(());
+    }
+    if let Some(found) = &mut state.matched {
+        found.find_groups(alloc)?;
+    }
+    Ok(())
+}
+
 /// Does a rule to the state, and answers whether it holds. Where it doesn't, the state is of no use any more.
 pub fn rule_done(
     alloc: Global,
@@ -331,6 +334,8 @@ pub fn rule_done(
         return Ok(false);
     }
     let rule = rule.get();
-    let text = argument_text(alloc, state, rule.argument.as_slice())?;
+    let pieces = rule.argument.as_slice();
+    find_groups(alloc, state, pieces)?;
+    let text = argument_text(alloc, state, pieces)?;
     verb_done(alloc, tree, state, rule.verb, text)
 }

@@ -1,16 +1,16 @@
 -- Matches keep to the edges of their expression.
-use Rattle.std.proofs.Common.{◌≡◌, ℕ, zero, suc, ◌<◌, ◌≤◌, ◌⊎◌, ◌+◌, ◌-◌, ◌==◌, ◌&&◌, ◌||◌, Bool, true, false, cond, not, List, [], ◌∷◌, ◌++◌, length, refl, ap, sym, subst, ◌∙◌, inl, inr, arith}
+use Rattle.std.proofs.Common.{◌≡◌, ℕ, zero, suc, ◌<◌, ◌≤◌, ◌+◌, ◌-◌, ◌==◌, ◌&&◌, Bool, true, false, cond, not, List, [], ◌∷◌, ◌++◌, length, refl, sym, subst, ◌∙◌, inl, inr, arith}
 use Rattle.std.specs.Prelude.{IsTrue, nat_lt, slice_index}
-use Rattle.std.proofs.lemmas.Bool.{cases_lt, cases_Bool, and_parts, and_from, or_cases, or_left, or_right, eqb-true, eq-eqb, ltb-true}
+use Rattle.std.proofs.lemmas.Bool.{cases_lt, and_parts, and_from, or_cases, or_left, or_right}
 use Rattle.std.proofs.lemmas.Bool.Decides.{nat_tests}
 use Rattle.std.proofs.lemmas.List.Folds.{list_any-append}
 use Rattle.re_syntax.specs.Tree.{Tree, Letter, AnyLetter, OneOf, LineStart, LineEnd, Then, Either, Many, Several, Maybe, Group}
-use Rattle.re_syntax.specs.Match.{Matches, Pieces, Repeats, Joins, one_rune, line_start, line_end, is_in, is_in_class}
-use Rattle.re_edges.specs.Runes.{no_runes, has_rune, with_spans, with_every, with_class}
-use Rattle.re_edges.specs.Edges.{may_be_null, with_runes, edges_of, may_be_whole}
+use Rattle.re_syntax.specs.Match.{Matches, Pieces, one_rune, line_start, line_end, is_in, is_in_class}
+use Rattle.re_edges.specs.Runes.{no_runes, has_rune, with_spans, with_class}
+use Rattle.re_edges.specs.Edges.{may_be_null, with_runes}
 use Rattle.re_edges.specs.Laws.{MatchesKeepToEdges}
-use Rattle.re_edges.specs.declared.edges.Side.{Side}
-use Rattle.re_edges.specs.declared.edges.Side.TheVariants.{First, Last}
+use Rattle.re_edges.specs.declared.steps.Side.{Side}
+use Rattle.re_edges.specs.declared.steps.Side.TheVariants.{First, Last}
 use Rattle.re_edges.specs.declared.runes.RuneSet.{RuneSet}
 
 -- ---- no match ends before it begins

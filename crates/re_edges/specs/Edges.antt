@@ -3,8 +3,8 @@ use Rattle.std.specs.Prelude.{ℕ, ◌&&◌, ◌||◌, Bool, true, false, List, 
 use Rattle.re_syntax.specs.Tree.{Tree, Letter, AnyLetter, OneOf, LineStart, LineEnd, Then, Either, Many, Several, Maybe, Group}
 use Rattle.re_edges.specs.Runes.{no_runes, has_rune, with_spans, with_every, with_class}
 use Rattle.re_edges.specs.declared.edges.Edges.{Edges}
-use Rattle.re_edges.specs.declared.edges.Side.{Side}
-use Rattle.re_edges.specs.declared.edges.Side.TheVariants.{First, Last}
+use Rattle.re_edges.specs.declared.steps.Side.{Side}
+use Rattle.re_edges.specs.declared.steps.Side.TheVariants.{First, Last}
 use Rattle.re_edges.specs.declared.runes.RuneSet.{RuneSet}
 
 -- the null text may be a match, here or there

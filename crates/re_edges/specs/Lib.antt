@@ -1,3 +1,4 @@
 pub mod Runes
 pub mod Edges
+pub mod Steps
 pub mod Laws

@@ -2,19 +2,13 @@
 
 ghost use Rattle.std.specs.Prelude.{◌≡◌, IfOk};
 ghost use Rattle.re_syntax.specs.Tree.{tree};
-ghost use Rattle.re_edges.specs.Edges.{may_be_null, with_runes, edges_of, may_be_whole};
+ghost use Rattle.re_edges.specs.Edges.{edges_of, may_be_whole};
 
 use crate::runes::RuneSet;
+use crate::steps::{Side, put_runes};
 use am_text::{NoMemory, Rune};
 use re_syntax::Re;
 use std::alloc::Global;
-
-/// A side of a text.
-#[derive(Clone, Copy)]
-pub enum Side {
-    First,
-    Last,
-}
 
 /// What the matches of an expression look like at their edges.
 pub struct Edges {
@@ -37,58 +31,6 @@ impl Drop for Edges {
     }
 }
 
-// Puts the runes that may stand at a side of a match, and answers whether the null text may be one.
-fn put_runes(set: &mut RuneSet, re: &Re, side: Side) -> Result<bool, NoMemory>
-    ensures runes { IfOk result (λ _. set.new ≡ with_runes side (tree re.now) set.old) }
-    ensures null { IfOk result (λ null. null ≡ may_be_null (tree re.now)) }
-{
-    match re {
-        Re::Lit(c) => {
-            set.put_spans(&[(*c, *c)])?;
-            Ok(false)
-        }
-        Re::Any => {
-            set.put_every();
-            Ok(false)
-        }
-        Re::Class { not, spans } => {
-            set.put_class(*not, spans)?;
-            Ok(false)
-        }
-        Re::Start => Ok(true),
-        Re::End => Ok(true),
-        Re::Cat(a, b) => match side {
-            Side::First => {
-                if !put_runes(set, a, side)? {
-                    return Ok(false);
-                }
-                put_runes(set, b, side)
-            }
-            Side::Last => {
-                if !put_runes(set, b, side)? {
-                    return Ok(false);
-                }
-                put_runes(set, a, side)
-            }
-        },
-        Re::Alt(a, b) => {
-            let one = put_runes(set, a, side)?;
-            let other = put_runes(set, b, side)?;
-            Ok(one || other)
-        }
-        Re::Star(a) => {
-            put_runes(set, a, side)?;
-            Ok(true)
-        }
-        Re::Plus(a) => put_runes(set, a, side),
-        Re::Opt(a) => {
-            put_runes(set, a, side)?;
-            Ok(true)
-        }
-        Re::Group(_, a) => put_runes(set, a, side),
-    }
-}
-
 impl Edges {
     /// The edges of an expression.
     pub fn build(alloc: Global, re: &Re) -> Result<Edges, NoMemory>
@@ -96,8 +38,8 @@ impl Edges {
     {
         let mut first = RuneSet::new(alloc);
         let mut last = RuneSet::new(alloc);
-        put_runes(&mut first, re, Side::First)?;
-        let null = put_runes(&mut last, re, Side::Last)?;
+        put_runes(alloc, &mut first, re, Side::First)?;
+        let null = put_runes(alloc, &mut last, re, Side::Last)?;
         Ok(Edges { null, first, last })
     }
 

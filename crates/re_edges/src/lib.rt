@@ -5,7 +5,9 @@
 mod edges;
 mod laws;
 mod runes;
+mod steps;
 
-pub use edges::{Edges, Side};
+pub use edges::Edges;
 pub use laws::matches_keep_to_edges;
 pub use runes::RuneSet;
+pub use steps::Side;

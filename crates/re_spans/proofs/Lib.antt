@@ -1,5 +1,6 @@
 pub mod Ways
 pub mod Orders
+pub mod Making
 pub mod Marking
 pub mod LeafMarks
 pub mod Stepping
@@ -15,3 +16,4 @@ pub mod Following
 pub mod Around
 pub mod LawLemmas
 pub mod Grouped
+pub mod Shaped

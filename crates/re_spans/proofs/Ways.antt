@@ -45,7 +45,7 @@ Matches-on (Group n a) t i j m = Matches-on a t i j m
 
 -- ---- pieces
 
-repeats_put : (R : ℕ → ℕ → Type 0) (n i k j : ℕ) → Pieces R n i k → Repeats R k j → Repeats R i j
+pub repeats_put : (R : ℕ → ℕ → Type 0) (n i k j : ℕ) → Pieces R n i k → Repeats R k j → Repeats R i j
 repeats_put R zero i k j p r = subst (λ (x : ℕ). Repeats R x j) p r
 repeats_put R (suc n) i k j p r = let rest = repeats_put R n p.0 k j p.3 r in (suc rest.0, (p.0, p.1, p.2, rest.1))
 

@@ -2,6 +2,7 @@ pub mod Places
 pub mod Turns
 pub mod Leaves
 pub mod Marks
+pub mod Fresh
 pub mod Reached
 pub mod Choice
 pub mod Pieces
@@ -10,3 +11,5 @@ pub mod Successive
 pub mod Over
 pub mod Laws
 pub mod Groups
+pub mod Tasks
+pub mod Shapes

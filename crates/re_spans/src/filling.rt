@@ -1,22 +1,26 @@
 //! The groups of a match.
 
-ghost use Rattle.std.specs.Prelude.{◌≡◌, ◌<◌, ◌≤◌, ◌+◌, ◌⊎◌, ℕ, [], length, IfOk, OnOk, IfSome, IfNone, None, Some, List, Option, slice_set, IsTrue};
-ghost use Rattle.re_syntax.specs.Tree.{tree};
+ghost use Rattle.std.specs.Prelude.{◌≡◌, ◌<◌, ◌≤◌, ◌+◌, ◌*◌, ◌⊎◌, ◌∷◌, ℕ, [], length, IfOk, OnOk, IfSome, IfNone, None, Some, List, Option, slice_set, IsTrue};
+ghost use Rattle.re_syntax.specs.Tree.{tree, nodes};
 ghost use Rattle.re_syntax.specs.Match.{Matches, Repeats, Joins};
 ghost use Rattle.re_syntax.specs.Groups.{Sets, AreGroups, IsLongest, AheadBy, Walk, PlusWalk};
 ghost use Rattle.am_text.specs.declared.range.Range.{Range};
 ghost use Rattle.re_spans.specs.Places.{past};
 ghost use Rattle.re_spans.specs.Pieces.{IsPiece, Past, AreStartsOf};
-ghost use Rattle.re_spans.specs.Groups.{groups_of};
+ghost use Rattle.re_spans.specs.Groups.{groups_of, span};
+ghost use Rattle.re_spans.specs.Tasks.{IsMatchIn, AreSet, AreMatches, weight};
+ghost use Rattle.re_spans.specs.declared.filling.Task.TheVariants.{Part};
 
 use crate::choice::matches_span;
 use crate::places::Places;
 use crate::reach::{many, reach};
+use crate::shapes::{is_repeated, leaf_length};
 use crate::walk::farthest_among;
 use crate::way::Way;
 use am_text::{Items, Letters, NoMemory, Range};
 use re_syntax::{Groups, Re};
 use std::alloc::Global;
+use std::collections::VecDeque;
 
 // How many ranges a match has: its own, and those of nine groups.
 const RANGES: usize = 10;
@@ -42,6 +46,29 @@ fn first_part<T: Letters>(
         Some(turns) => Ok(i + turns),
         None => unreachable!(),
     }
+}
+
+// The same, where one of the parts that is a leaf tells it.
+fn seam<T: Letters>(
+    alloc: Global,
+    a: &Re,
+    b: &Re,
+    text: &T,
+    i: usize,
+    j: usize,
+) -> Result<usize, NoMemory>
+    requires order { i ≤ j }
+    requires within { j ≤ length (T.letters text.now) }
+    requires joins { Joins (Matches (tree a.now) (T.letters text.now)) (Matches (tree b.now) (T.letters text.now)) i j }
+    ensures { IfOk result (λ k. (i ≤ k) × (k ≤ j) × IsLongest (AheadBy 0 (Matches (tree a.now) (T.letters text.now))) (Matches (tree b.now) (T.letters text.now)) i j k) }
+{
+    if let Some(count) = leaf_length(a) {
+        return Ok(i + count);
+    }
+    if let Some(count) = leaf_length(b) {
+        return Ok(j - count);
+    }
+    first_part(alloc, a, b, text, i, j)
 }
 
 // From which of the places from i to j any number of pieces lead to j.
@@ -131,6 +158,9 @@ fn star_piece<T: Letters>(
     ensures walk { IfOk result (λ last. (n : ℕ) × Walk (Matches (tree a.now) (T.letters text.now)) n i j None last) }
     ensures piece { IfOk result (λ last. IfSome last (IsPiece (Matches (tree a.now) (T.letters text.now)) j)) }
 {
+    if i < j && is_repeated(a) {
+        return Ok(Some(Range { q0: i, q1: j }));
+    }
     let rests = rests(alloc, a, text, i, j)?;
     last_piece(alloc, a, text, i, j, &rests, None)
 }
@@ -149,6 +179,9 @@ fn plus_piece<T: Letters>(
     ensures walk { IfOk result (λ last. PlusWalk (Matches (tree a.now) (T.letters text.now)) i j last) }
     ensures piece { IfOk result (IsPiece (Matches (tree a.now) (T.letters text.now)) j) }
 {
+    if i < j && is_repeated(a) {
+        return Ok(Range { q0: i, q1: j });
+    }
     let rests = rests(alloc, a, text, i, j)?;
     let k = first_piece(alloc, a, text, i, j, &rests, i)?;
     let first = Range { q0: i, q1: k };
@@ -158,20 +191,42 @@ fn plus_piece<T: Letters>(
     }
 }
 
-// Sets the groups of a match.
-fn fill<T: Letters>(
-    alloc: Global,
-    re: &Re,
-    text: &T,
+/// What is left to be done for the groups of a match.
+#[derive(Clone, Copy)]
+pub enum Task<'a> {
+    /// A part sets its groups in its match.
+    Part(&'a Re, Range),
+    /// A group has its range.
+    Own(u32, Range),
+}
+
+// A part in its match.
+fn put_part<'a>(
+    re: &'a Re,
     i: usize,
     j: usize,
-    groups: &mut [Option<Range>],
+    rest: &mut VecDeque<Task<'a>>,
 ) -> Result<(), NoMemory>
-    requires order { i ≤ j }
-    requires within { j ≤ length (T.letters text.now) }
-    requires matches { Matches (tree re.now) (T.letters text.now) i j }
-    ensures { OnOk result (Sets (tree re.now) (T.letters text.now) i j groups.old groups.new) }
+    ensures { OnOk result (rest.new.items ≡ Part re.entry (span i j) ∷ rest.old.items) }
 {
+    rest.push_front(Task::Part(re, Range { q0: i, q1: j }))?;
+    Ok(())
+}
+
+// The parts of a part, each in its match.
+fn put_parts<'a, T: Letters>(
+    alloc: Global,
+    re: &'a Re,
+    text: &T,
+    found: Range,
+    rest: &mut VecDeque<Task<'a>>,
+) -> Result<(), NoMemory>
+    requires { IsMatchIn (tree re.now) (T.letters text.now) found }
+    ensures sets { OnOk result ((old new : List (Option Range)) → AreSet (T.letters text.now) rest.new.items old new → AreSet (T.letters text.now) (Part re.entry found ∷ rest.old.items) old new) }
+    ensures matches { OnOk result (AreMatches (T.letters text.now) rest.old.items → AreMatches (T.letters text.now) rest.new.items) }
+    ensures fewer { OnOk result (weight rest.new.items < weight rest.old.items + 2 * nodes (tree re.now)) }
+{
+    let (i, j) = (found.q0, found.q1);
     match re {
         Re::Lit(_) => Ok(()),
         Re::Any => Ok(()),
@@ -179,41 +234,89 @@ fn fill<T: Letters>(
         Re::Start => Ok(()),
         Re::End => Ok(()),
         Re::Cat(a, b) => {
-            let k = first_part(alloc, a, b, text, i, j)?;
-            fill(alloc, a, text, i, k, groups)?;
-            fill(alloc, b, text, k, j, groups)
+            let k = seam(alloc, a, b, text, i, j)?;
+            put_part(b, k, j, rest)?;
+            put_part(a, i, k, rest)
         }
         Re::Alt(a, b) => {
             if matches_span(alloc, a, text, i, j)? {
-                fill(alloc, a, text, i, j, groups)
+                put_part(a, i, j, rest)
             } else {
-                fill(alloc, b, text, i, j, groups)
+                put_part(b, i, j, rest)
             }
         }
         Re::Star(a) => match star_piece(alloc, a, text, i, j)? {
-            Some(last) => fill(alloc, a, text, last.q0, last.q1, groups),
+            Some(last) => put_part(a, last.q0, last.q1, rest),
             None => Ok(()),
         },
         Re::Plus(a) => {
             let last = plus_piece(alloc, a, text, i, j)?;
-            fill(alloc, a, text, last.q0, last.q1, groups)
+            put_part(a, last.q0, last.q1, rest)?;
+            Ok(())
         }
         Re::Opt(a) => {
-            if matches_span(alloc, a, text, i, j)? {
-                fill(alloc, a, text, i, j, groups)
+            if i < j || matches_span(alloc, a, text, i, j)? {
+                put_part(a, i, j, rest)
             } else {
                 Ok(())
             }
         }
         Re::Group(n, a) => {
-            fill(alloc, a, text, i, j, groups)?;
-            let n = *n as usize;
-            if n < groups.len() {
-                groups[n] = Some(Range { q0: i, q1: j });
-            }
+            rest.push_front(Task::Own(*n, found))?;
+            put_part(a, i, j, rest)
+        }
+    }
+}
+
+// A group has its range.
+fn put_own(groups: &mut [Option<Range>], n: u32, found: Range)
+    ensures { groups.new ≡ slice_set groups.old n (Some found) }
+{
+    let n = n as usize;
+    if n < groups.len() {
+        groups[n] = Some(found);
+    }
+}
+
+// Does what is next.
+fn do_task<'a, T: Letters>(
+    alloc: Global,
+    text: &T,
+    task: Task<'a>,
+    rest: &mut VecDeque<Task<'a>>,
+    groups: &mut [Option<Range>],
+) -> Result<(), NoMemory>
+    requires { AreMatches (T.letters text.now) (task ∷ rest.old.items) }
+    ensures sets { OnOk result ((new : List (Option Range)) → AreSet (T.letters text.now) rest.new.items groups.new new → AreSet (T.letters text.now) (task.entry ∷ rest.old.items) groups.old new) }
+    ensures matches { OnOk result (AreMatches (T.letters text.now) rest.new.items) }
+    ensures fewer { OnOk result (weight rest.new.items < weight (task.entry ∷ rest.old.items)) }
+{
+    match task {
+        Task::Part(re, found) => put_parts(alloc, re, text, found, rest),
+        Task::Own(n, found) => {
+            put_own(groups, n, found);
             Ok(())
         }
     }
+}
+
+// Sets the groups of a match.
+fn fill<T: Letters>(
+    alloc: Global,
+    re: &Re,
+    text: &T,
+    found: Range,
+    groups: &mut [Option<Range>],
+) -> Result<(), NoMemory>
+    requires { IsMatchIn (tree re.now) (T.letters text.now) found }
+    ensures { OnOk result (Sets (tree re.now) (T.letters text.now) found.q0 found.q1 groups.old groups.new) }
+{
+    let mut rest = VecDeque::new(alloc);
+    rest.push_front(Task::Part(re, found))?;
+    'tasks: while let Some(task) = rest.pop_front() {
+        do_task(alloc, text, task, &mut rest, groups)?;
+    }
+    Ok(())
 }
 
 // The ranges of a match, all at once.
@@ -224,7 +327,7 @@ fn ten_ranges<T: Letters>(alloc: Global, re: &Re, text: &T, span: Range) -> Resu
     ensures { IfOk result (AreGroups (tree re.now) (T.letters text.now) span) }
 {
     let mut all = vec![in alloc; None; RANGES]?;
-    fill(alloc, re, text, span.q0, span.q1, all.as_mut_slice())?;
+    fill(alloc, re, text, span, all.as_mut_slice())?;
     all[0] = Some(span);
     Ok(Items::from_vec(all))
 }

@@ -9,6 +9,7 @@ mod marks;
 mod over;
 mod places;
 mod reach;
+mod shapes;
 mod successive;
 mod walk;
 mod way;

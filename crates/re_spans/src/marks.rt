@@ -1,15 +1,19 @@
 //! What is known of each part of a tree at one place of a search.
 
-ghost use Rattle.std.specs.Prelude.{◌≡◌, ◌&&◌, IfOk};
+ghost use Rattle.std.specs.Prelude.{◌≡◌, ◌&&◌, ◌∷◌, false, map, IfOk, OnOk};
 ghost use Rattle.re_syntax.specs.Tree.{tree};
 ghost use Rattle.re_spans.specs.Leaves.{takes};
-ghost use Rattle.re_spans.specs.Marks.{marks_of, mark_of, is_alive, with_mark, passes, left_enters, right_enters, join, pair, either, wrap, with_part, leaf_mark, fresh, step, step_one, step_cat, step_alt, OfTwo};
+ghost use Rattle.re_nodes.specs.Nodes.{node_of};
+ghost use Rattle.re_spans.specs.Marks.{marks_of, mark_of, is_alive, with_mark, passes, left_enters, right_enters, join, pair, either, wrap, leaf_mark, fresh, step, step_one, step_cat, step_alt, OfLeaf};
+ghost use Rattle.re_spans.specs.Fresh.{both, with_last, with_last_two, with_node};
 
 use crate::leaf::{Here, Read, is_null, takes};
 use crate::way::Way;
 use am_text::NoMemory;
+use re_nodes::nodes_of;
 use re_syntax::Re;
 use std::alloc::Global;
+use std::collections::VecDeque;
 
 /// What is known of a part at a place: whether a match of one rune or more leads there from a place at which
 /// the part was entered, and whether the null text there is a match.
@@ -17,6 +21,13 @@ use std::alloc::Global;
 pub struct Mark {
     pub led: bool,
     pub null: bool,
+}
+
+/// How two parts are joined: one after the other, or either of them.
+#[derive(Clone, Copy)]
+pub enum Joint {
+    Cat(Way),
+    Alt,
 }
 
 /// The marks of a tree and its parts.
@@ -136,43 +147,88 @@ fn leaf_mark(re: &Re, here: Here, led: bool) -> Mark
     }
 }
 
-fn one(alloc: Global, part: Marks, optional: bool) -> Result<Marks, NoMemory>
-    ensures { IfOk result (λ marks. marks_of marks ≡ with_part (marks_of part) optional) }
+// Puts the marks of a leaf.
+fn put_leaf(re: &Re, here: Here, made: &mut VecDeque<Marks>) -> Result<(), NoMemory>
+    ensures { OnOk result (map marks_of made.new.items ≡ OfLeaf (leaf_mark (tree re.now) here false) ∷ map marks_of made.old.items) }
 {
-    let mark = wrap(part.mark(), optional);
-    Ok(Marks::One(mark, Box::new(alloc, part)?))
+    made.push_front(Marks::Leaf(leaf_mark(re, here, false)))?;
+    Ok(())
 }
 
-fn two(alloc: Global, mark: Mark, left: Marks, right: Marks) -> Result<Marks, NoMemory>
-    ensures { IfOk result (λ marks. marks_of marks ≡ OfTwo mark (marks_of left) (marks_of right)) }
+// Puts the marks of a tree over those of its part.
+fn put_one(alloc: Global, optional: bool, made: &mut VecDeque<Marks>) -> Result<(), NoMemory>
+    ensures { OnOk result (map marks_of made.new.items ≡ with_last optional (map marks_of made.old.items)) }
 {
-    Ok(Marks::Two(mark, Box::new(alloc, left)?, Box::new(alloc, right)?))
+    let Some(part) = made.pop_front() else {
+        return Ok(());
+    };
+    let mark = wrap(part.mark(), optional);
+    made.push_front(Marks::One(mark, Box::new(alloc, part)?))?;
+    Ok(())
+}
+
+// The mark of two parts, one after the other or either of them.
+fn both(joint: Joint, left: Mark, right: Mark) -> Mark
+    ensures { result ≡ both joint left right }
+{
+    match joint {
+        Joint::Cat(way) => pair(way, left, right),
+        Joint::Alt => either(left, right),
+    }
+}
+
+// Puts the marks of a tree over those of its two parts.
+fn put_two(alloc: Global, joint: Joint, made: &mut VecDeque<Marks>) -> Result<(), NoMemory>
+    ensures { OnOk result (map marks_of made.new.items ≡ with_last_two joint (map marks_of made.old.items)) }
+{
+    let Some(right) = made.pop_front() else {
+        return Ok(());
+    };
+    let Some(left) = made.pop_front() else {
+        return Ok(());
+    };
+    let mark = both(joint, left.mark(), right.mark());
+    made.push_front(Marks::Two(mark, Box::new(alloc, left)?, Box::new(alloc, right)?))?;
+    Ok(())
+}
+
+// Puts the marks of a node over those of its parts.
+fn put_node(
+    alloc: Global,
+    re: &Re,
+    way: Way,
+    here: Here,
+    made: &mut VecDeque<Marks>,
+) -> Result<(), NoMemory>
+    ensures { OnOk result (map marks_of made.new.items ≡ with_node way here (node_of (tree re.now)) (map marks_of made.old.items)) }
+{
+    match re {
+        Re::Lit(_) => put_leaf(re, here, made),
+        Re::Any => put_leaf(re, here, made),
+        Re::Class { .. } => put_leaf(re, here, made),
+        Re::Start => put_leaf(re, here, made),
+        Re::End => put_leaf(re, here, made),
+        Re::Cat(..) => put_two(alloc, Joint::Cat(way), made),
+        Re::Alt(..) => put_two(alloc, Joint::Alt, made),
+        Re::Star(_) => put_one(alloc, true, made),
+        Re::Plus(_) => put_one(alloc, false, made),
+        Re::Opt(_) => put_one(alloc, true, made),
+        Re::Group(..) => put_one(alloc, false, made),
+    }
 }
 
 /// The marks at a place before which no part was entered.
 pub fn fresh(alloc: Global, re: &Re, way: Way, here: Here) -> Result<Marks, NoMemory>
     ensures { IfOk result (λ marks. marks_of marks ≡ fresh way (tree re.now) here) }
 {
-    match re {
-        Re::Lit(_) => Ok(Marks::Leaf(leaf_mark(re, here, false))),
-        Re::Any => Ok(Marks::Leaf(leaf_mark(re, here, false))),
-        Re::Class { .. } => Ok(Marks::Leaf(leaf_mark(re, here, false))),
-        Re::Start => Ok(Marks::Leaf(leaf_mark(re, here, false))),
-        Re::End => Ok(Marks::Leaf(leaf_mark(re, here, false))),
-        Re::Cat(a, b) => {
-            let left = fresh(alloc, a, way, here)?;
-            let right = fresh(alloc, b, way, here)?;
-            two(alloc, pair(way, left.mark(), right.mark()), left, right)
-        }
-        Re::Alt(a, b) => {
-            let left = fresh(alloc, a, way, here)?;
-            let right = fresh(alloc, b, way, here)?;
-            two(alloc, either(left.mark(), right.mark()), left, right)
-        }
-        Re::Star(a) => one(alloc, fresh(alloc, a, way, here)?, true),
-        Re::Plus(a) => one(alloc, fresh(alloc, a, way, here)?, false),
-        Re::Opt(a) => one(alloc, fresh(alloc, a, way, here)?, true),
-        Re::Group(_, a) => one(alloc, fresh(alloc, a, way, here)?, false),
+    let mut left = nodes_of(alloc, re, false)?;
+    let mut made = VecDeque::new(alloc);
+    'nodes: while let Some(node) = left.pop_front() {
+        put_node(alloc, node, way, here, &mut made)?;
+    }
+    match made.pop_front() {
+        Some(marks) => Ok(marks),
+        None => unreachable!(),
     }
 }
 
