@@ -1,5 +1,6 @@
 -- What a text that is executed asks for.
-use Rattle.std.specs.Prelude.{ℕ, Bool, true, false, ◌&&◌, ◌==◌, List, [], ◌∷◌, length, drop, Option, Some, None, if◌then◌else◌, codes, ⊤}
+use Rattle.std.specs.Prelude.{ℕ, Bool, true, false, ◌&&◌, ◌==◌, List, [], ◌∷◌, length, drop, Option, Some, None}
+use Rattle.std.specs.Prelude.{if◌then◌else◌, codes, ⊤}
 use Rattle.am_text.specs.Ascii.{less, greater, bar}
 use Rattle.am_text.specs.declared.job.JobKind.{JobKind}
 use Rattle.am_text.specs.declared.job.JobKind.TheVariants as kind
@@ -23,9 +24,12 @@ named (n ∷ ns) text = if is_name text n.0 then Some n.1 else named ns text
 -- the built-in commands that do something
 unfoldable pub done_of : List ℕ → Option Builtin
 done_of text = named (
-    (codes "Cut", builtin.Cut) ∷ (codes "Del", builtin.Del) ∷ (codes "Delete", builtin.Delete) ∷ (codes "Edit", builtin.Edit)
-    ∷ (codes "Get", builtin.Get) ∷ (codes "Look", builtin.Look) ∷ (codes "New", builtin.New) ∷ (codes "Paste", builtin.Paste)
-    ∷ (codes "Put", builtin.Put) ∷ (codes "Redo", builtin.Redo) ∷ (codes "Snarf", builtin.Snarf) ∷ (codes "Undo", builtin.Undo)
+    (codes "Cut", builtin.Cut) ∷ (codes "Del", builtin.Del) ∷ (codes "Delete", builtin.Delete)
+    ∷ (codes "Edit", builtin.Edit)
+    ∷ (codes "Get", builtin.Get) ∷ (codes "Look", builtin.Look) ∷ (codes "New", builtin.New)
+    ∷ (codes "Paste", builtin.Paste)
+    ∷ (codes "Put", builtin.Put) ∷ (codes "Redo", builtin.Redo) ∷ (codes "Snarf", builtin.Snarf)
+    ∷ (codes "Undo", builtin.Undo)
     ∷ []) text
 
 -- the text is one of these names
@@ -36,8 +40,10 @@ is_one_of (n ∷ ns) text = if is_name text n then true else is_one_of ns text
 -- the built-in commands that do nothing
 unfoldable pub is_idle : List ℕ → Bool
 is_idle text = is_one_of (
-    codes "Delcol" ∷ codes "Dump" ∷ codes "Exit" ∷ codes "Font" ∷ codes "ID" ∷ codes "Incl" ∷ codes "Indent" ∷ codes "Kill"
-    ∷ codes "Load" ∷ codes "Local" ∷ codes "Newcol" ∷ codes "Putall" ∷ codes "Send" ∷ codes "Sort" ∷ codes "Tab" ∷ codes "Zerox"
+    codes "Delcol" ∷ codes "Dump" ∷ codes "Exit" ∷ codes "Font" ∷ codes "ID" ∷ codes "Incl"
+    ∷ codes "Indent" ∷ codes "Kill"
+    ∷ codes "Load" ∷ codes "Local" ∷ codes "Newcol" ∷ codes "Putall" ∷ codes "Send" ∷ codes "Sort" ∷ codes "Tab"
+    ∷ codes "Zerox"
     ∷ []) text
 
 -- the command that does something, or the one that does nothing
@@ -52,7 +58,9 @@ builtin_of text = or_idle (done_of text) text
 -- the kind of request of a text that begins with this sign: `|`, `<` or `>`
 abbrev pub sign_of : List ℕ → Option JobKind
 sign_of [] = None
-sign_of (c ∷ cs) = if c == bar then Some kind.Pipe else (if c == less then Some kind.From else (if c == greater then Some kind.To else None))
+sign_of (c ∷ cs) =
+    if c == bar then Some kind.Pipe else (if c == less then Some kind.From
+    else (if c == greater then Some kind.To else None))
 
 -- the command, by the sign in front and by the built-in command
 abbrev pub command_of : List ℕ → Option JobKind → Option Builtin → Command

@@ -1,5 +1,6 @@
 -- The text that a click stands for.
-use Rattle.std.specs.Prelude.{ℕ, ◌+◌, ◌-◌, ◌<◌, ◌≤◌, Bool, ◌&&◌, ◌||◌, ◌==◌, List, take, drop, nat_lt, nat_le, not, Option, Some, None, if◌then◌else◌}
+use Rattle.std.specs.Prelude.{ℕ, ◌+◌, ◌-◌, ◌<◌, ◌≤◌, Bool, ◌&&◌, ◌||◌, ◌==◌, List, take, drop, nat_lt, nat_le, not}
+use Rattle.std.specs.Prelude.{Option, Some, None, if◌then◌else◌}
 use Rattle.std.specs.Char.{is_ascii_alphanumeric}
 use Rattle.std.specs.List.{prefix_len, suffix_len}
 use Rattle.am_text.specs.Ascii.{hash, dollar, plus, minus, dot, slash, colon, underscore}
@@ -10,7 +11,8 @@ use Rattle.acme_cmd.specs.Blanks.{is_blank}
 
 -- one of `_` `.` `-` `+` `/` `:` `#` `$`
 abbrev pub is_sign : ℕ → Bool
-is_sign c = c == underscore || c == dot || c == minus || c == plus || c == slash || c == colon || c == hash || c == dollar
+is_sign c =
+    c == underscore || c == dot || c == minus || c == plus || c == slash || c == colon || c == hash || c == dollar
 
 -- the last rune of ASCII
 abbrev pub last_ascii : ℕ

@@ -3,7 +3,8 @@
 ghost use Rattle.std.specs.Prelude.{◌≡◌, ◌<◌, ◌≤◌, ◌++◌, ◌∷◌, [], length, IfOk, OnOk, IfSome, IfNone};
 ghost use Rattle.std.specs.List.{slice_split, join_with_byte, position_or_len};
 ghost use Rattle.am_text.specs.Ascii.{slash};
-ghost use Rattle.acme_cmd.specs.Names.{is_slash, begins_in_slash, ends_in_slash, with_slash, joined, is_here, is_up, but_last, after_part, left_of, path, resolved, whole_name};
+ghost use Rattle.acme_cmd.specs.Names.{is_slash, begins_in_slash, ends_in_slash, with_slash, joined, is_here, is_up};
+ghost use Rattle.acme_cmd.specs.Names.{but_last, after_part, left_of, path, resolved, whole_name};
 
 use am_text::{DOT, NoMemory, Rune, Runes, SLASH};
 use std::alloc::Global;

@@ -1,5 +1,5 @@
 -- Each message is answered, also where its task is refused.
-use Rattle.std.proofs.Common.{length, true, false, cond, Option, Some, None, refl, inr}
+use Rattle.std.proofs.Common.{true, false, cond, Option, Some, None, refl, inr}
 use Rattle.ninep_types.specs.declared.message.TBody.{TBody}
 use Rattle.ninep_types.specs.declared.message.RBody.TheVariants as r
 use Rattle.core_fids.specs.declared.effect.Answer.{Answer}
@@ -7,7 +7,7 @@ use Rattle.core_fids.specs.declared.effect.Answer.TheVariants.{Says}
 use Rattle.core_fids.specs.Refusals.{refusal_text}
 use Rattle.core_fids.specs.declared.effect.Reaction.{Reaction}
 use Rattle.core_fids.specs.declared.refusal.Refusal.{Refusal}
-use Rattle.core_fids.specs.Plumbers.{plumber_of}
+use Rattle.core_intents.specs.Intents.{server_at}
 use Rattle.core_answers.specs.Laws.{IsAnswered, EachIsAnswered as EachReactionAnswers}
 use Rattle.core_tasks.specs.Tasks.{task_refusal}
 use Rattle.core_intents.specs.Doings.{entry_by}
@@ -28,4 +28,4 @@ answered law s conn msg =
     let d : Reaction = reaction_at s conn msg in
     let x : Option Refusal = demand_refusal s.scene.book d.demand in
     or_refused_answers msg.body (task_refusal (entry_by s (message_origin s.tables conn msg.body)) (demanded_task s.scene.book d.changes d.demand) s.scene) (or_refused x d.answer)
-    (or_refused_answers msg.body x d.answer (law s.tables s.scene.windows (plumber_of s.scene.rules s.scene.ports) (length s.scene.book.owners) conn msg.body))
+    (or_refused_answers msg.body x d.answer (law (server_at s conn) msg.body))

@@ -28,13 +28,15 @@ pub record HasEntries (entries spare lives : ℕ) : Type 0 where
   pub room : lives ≤ spare
   pub numbers : entries + lives < 2 ^ 64
 
--- All is ready for a step of the editor in this state, also an entry for it and for the hang-ups of the connections that then live.
+-- All is ready for a step of the editor in this state, also an entry for it and for the hang-ups of the
+-- connections that then live.
 pub record IsPrepared (s : Present) (spare : ℕ) (parts : Parts) (prepared : Prepared) : Type 0 where
   pub lawful : IsLawful prepared.event
   pub allowed : enabled_at s prepared.event ≡ None
   pub possible : CanBeDone s (doing_of s prepared.event)
   pub ready : HasReady parts prepared (doing_of s prepared.event)
-  pub entries : HasEntries s.entries spare (live_count (connections_after parts.connections.items (kind_of prepared.event)) + 1)
+  pub entries : HasEntries s.entries spare (live_count
+      (connections_after parts.connections.items (kind_of prepared.event)) + 1)
 
 -- Where no plan waits, nothing is ready in the tables either.
 abbrev pub IsReady : Present → ℕ → Parts → Option Prepared → Type 0
@@ -50,8 +52,8 @@ pub record AreSound (parts : Parts) : Type 0 where
   pub ports : ArePortsSound parts.scene.ports.kept
   pub ports_idle : ArePortsIdle parts.scene.ports.kept
 
--- The journal's events were enabled and could be done, the tables are as it leads to, its windows are lawful, and there is an entry for the hang-up of
--- each connection that lives.
+-- The journal's events were enabled and could be done, the tables are as it leads to, its windows are lawful, and there
+-- is an entry for the hang-up of each connection that lives.
 pub record IsKept (entries : Room Event) (parts : Parts) (prepared : Option Prepared) : Type 0 where
   pub played : IsPlayed enabled entries.items
   pub possible : IsPossible entries.items

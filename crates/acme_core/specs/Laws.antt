@@ -13,7 +13,7 @@ abbrev pub HasAnswer : TBody → Option Answer → Type 0
 HasAnswer asked None = ⊥
 HasAnswer asked (Some answer) = IsAnswered asked answer
 
--- In each state each message of each connection is answered: by its own R message, unless a named refusal applies, also one of what it
--- asks of the scene. A Tread alone may be answered later.
+-- In each state each message of each connection is answered: by its own R message, unless a named refusal applies, also
+-- one of what it asks of the scene. A Tread alone may be answered later.
 abbrev pub EachIsAnswered : Type 0
 EachIsAnswered = (s : Present) (conn : ℕ) (msg : TMsg) → HasAnswer msg.body (doing_of s (event.Msg conn msg)).answer

@@ -31,10 +31,12 @@ enabled journal e = enabled_at (present_after journal) e
 abbrev pub output_at : List Event → ℕ → List ℕ
 output_at journal conn = (unsent_at (run journal).unsent conn).bytes
 
--- what each of these events does could be done, after those before it: what its deeds name was there, and lay in the text
+-- what each of these events does could be done, after those before it: what its deeds name was
+-- there, and lay in the text
 unfoldable pub ArePossible : List Event → List Event → Type 0
 ArePossible before [] = Unit {0}
-ArePossible before (e ∷ events) = CanBeDone (present_after before) (doing_of (present_after before) e) × ArePossible (before ++ e ∷ []) events
+ArePossible before (e ∷ events) =
+    CanBeDone (present_after before) (doing_of (present_after before) e) × ArePossible (before ++ e ∷ []) events
 
 -- what each event of a journal does could be done at its place
 abbrev pub IsPossible : List Event → Type 0

@@ -1,6 +1,7 @@
 //! The editor, which contracts see as its journal.
 
-ghost use Rattle.std.specs.Prelude.{◌≡◌, ◌<◌, ◌+◌, ◌^◌, ◌++◌, ◌∷◌, [], Some, None, length, slice_get, IsSome, OnSome, IfOk, IfSome, OnOk, OnErr, IfErr, MatchOption};
+ghost use Rattle.std.specs.Prelude.{◌≡◌, ◌<◌, ◌+◌, ◌^◌, ◌++◌, ◌∷◌, [], Some, None, length, slice_get, IsSome, OnSome};
+ghost use Rattle.std.specs.Prelude.{IfOk, IfSome, OnOk, OnErr, IfErr, MatchOption};
 ghost use Rattle.am_journal.specs.Lawful.{IsLawful};
 ghost use Rattle.am_counter.specs.Played.{IsPlayed};
 ghost use Rattle.acme_core.specs.Run.{enabled, run, output_at, Refuses, IsHang, IsPossible, IsWhy, settled, ready};
@@ -21,9 +22,9 @@ use am_text::{NoMemory, Range, Roomy};
 use core_closing::{Prepared, answer, view_of};
 use core_outputs::reply_at;
 use core_parts::Parts;
-use core_scene::deeds_show;
+use core_scene::laws::deeds_show;
 use core_steps::apply;
-use core_windows::{changes_are_lawful, group_numbers_never_fall};
+use core_windows::laws::{changes_are_lawful, group_numbers_never_fall};
 use std::alloc::Global;
 use std::marker::Model;
 
@@ -81,6 +82,7 @@ impl Core {
     pub fn new(alloc: Global) -> Result<Core, NoMemory>
         ensures { IfOk result (λ core. core ≡ settled []) }
     {
+        // law: windows are lawful at the start
         changes_are_lawful();
         Ok(Core {
             alloc,
@@ -105,7 +107,8 @@ impl Core {
     #[tactic(auto, using(crate::proofs::Goes::asking))]
     pub fn plan(&mut self, event: Event) -> Result<Plan, Refused>
         requires { IsLawful event }
-        ensures ok { IfOk result (λ plan. (enabled self.old.journal event ≡ None) × (plan ≡ length self.old.journal + 1)) }
+        ensures ok { IfOk result (λ plan. (enabled self.old.journal event ≡ None)
+            × (plan ≡ length self.old.journal + 1)) }
         ensures ready { OnOk result (self.new ≡ ready self.old.journal event) }
         ensures refused { IfErr result (λ e. Refuses e (enabled self.old.journal event)) }
         ensures err { OnErr result (self.new ≡ settled self.old.journal) }
@@ -135,6 +138,7 @@ impl Core {
         let Some(prepared) = self.prepared.take() else {
             unreachable!()
         };
+        // law: what the deeds do to the windows shows in their stories
         deeds_show();
         let event = apply(self.alloc, &mut self.parts, prepared);
         self.journal.put(event);
@@ -166,14 +170,15 @@ impl Core {
     pub fn last_reply(&self, k: usize) -> Option<(u32, &[u8])>
         ensures exact { MatchOption result
             (slice_get (run self.now.journal).replies k ≡ None)
-            (λ reply. slice_get (run self.now.journal).replies k ≡ Some (record { conn = reply.0; bytes = reply.1.now })) }
+            (λ reply. slice_get (run self.now.journal).replies k
+            ≡ Some (record { conn = reply.0; bytes = reply.1.now })) }
         ensures counted { OnSome result (k + 1 < 2 ^ 64) }
     {
         reply_at(self.parts.replies.as_slice(), k)
     }
 
-    /// The range that the file `addr` of a window holds: as it was last set, moved by the edits that were made since. It lies
-    /// in the text. `None` where the window doesn't live. It takes no memory.
+    /// The range that the file `addr` of a window holds: as it was last set, moved by the edits that were made since.
+    /// It lies in the text. `None` where the window doesn't live. It takes no memory.
     #[tactic(auto, using(crate::proofs::Viewed::addresses))]
     pub fn addr(&self, window: u32) -> Option<Range>
         ensures exact { result ≡ addr_at self.now.journal window }
@@ -212,58 +217,65 @@ impl Core {
     pub fn events_were_enabled(&self)
         ensures { IsPlayed enabled self.now.journal }
     {
+        // law: it is the invariant of the core, known once a field is read
         let _entries = self.journal.len();
     }
 
-    /// In each journal of a core what each event does could be done at its place: the windows of its changes lived, and its edits and
-    /// the ranges that it set lay in the text.
+    /// In each journal of a core what each event does could be done at its place: the windows of its changes lived, and
+    /// its edits and the ranges that it set lay in the text.
     pub fn events_were_possible(&self)
         ensures { IsPossible self.now.journal }
     {
+        // law: it is the invariant of the core, known once a field is read
         let _entries = self.journal.len();
     }
 
-    /// In each journal of a core each window is lawful: each of its ranges was set inside the text of its time, and its text
-    /// is what its groups of edits make of the empty text. So each range lies in the text, where the edits made since it
-    /// was set have moved it (`win_text::ranges_are_inside`).
+    /// In each journal of a core each window is lawful: each of its ranges was set inside the text of its time, and its
+    /// text is what its groups of edits make of the empty text. So each range lies in the text, where the edits made
+    /// since it was set have moved it (`win_text::ranges_are_inside`).
     pub fn windows_are_lawful(&self)
         ensures { AreLawful (run self.now.journal).windows }
     {
+        // law: it is the invariant of the core, known once a field is read
         let _entries = self.journal.len();
     }
 
-    /// In each journal of a core, along the groups of edits of each live window that are past and then those that were undone,
-    /// the numbers never fall, and none is above the number of entries.
+    /// In each journal of a core, along the groups of edits of each live window that are past and then those that were
+    /// undone, the numbers never fall, and none is above the number of entries.
     pub fn groups_are_numbered(&self)
         ensures { AreNumbered (length self.now.journal) (run self.now.journal).windows }
     {
         group_numbers_never_fall();
     }
 
-    /// In each journal of a core the items of a window that nobody took are a suffix of its items; along the others the entry at which
-    /// each was taken or dropped never falls, and an item pends only while its event file is open.
+    /// In each journal of a core the items of a window that nobody took are a suffix of its items; along the others the
+    /// entry at which each was taken or dropped never falls, and an item pends only while its event file is open.
     #[tactic(auto, using(crate::proofs::Ordered::book_laws))]
     pub fn window_order(&self)
         ensures { WindowOrder (run self.now.journal).scene.book }
     {
+        // law: the book is lawful
         self.parts.scene.book.is_lawful();
     }
 
-    /// In each journal of a core what an open opening was given, with what it has left, is the joined spelling of the items that it
-    /// took.
+    /// In each journal of a core what an open opening was given, with what it has left, is the joined spelling
+    /// of the items that it took.
     #[tactic(auto, using(crate::proofs::Ordered::book_laws))]
     pub fn what_a_fid_gets(&self)
         ensures { WhatAFidGets (run self.now.journal).scene.book }
     {
+        // law: the book is lawful
         self.parts.scene.book.is_lawful();
     }
 
-    /// In each journal of a core no read of an event file or of a port waits that could be answered: what each waits for hasn't come yet.
+    /// In each journal of a core no read of an event file or of a port waits that could be answered: what each
+    /// waits for hasn't come yet.
     #[tactic(auto, using(crate::proofs::Idling::idling))]
     pub fn no_waiting_read_can_be_answered(&self)
         ensures events { IsIdle (run self.now.journal).scene.book }
         ensures ports { ArePortsIdle (run self.now.journal).scene.ports }
     {
+        // law: it is the invariant of the core, known once a field is read
         let _entries = self.journal.len();
     }
 
@@ -272,6 +284,7 @@ impl Core {
     pub fn entries_are_counted(&self)
         ensures { (run self.now.journal).entries ≡ length self.now.journal }
     {
+        // law: it is the invariant of the core, known once a field is read
         let _entries = self.journal.len();
     }
 

@@ -5,7 +5,7 @@ ghost use Rattle.acme_core.specs.Asks.{answer_at};
 ghost use Rattle.acme_core.specs.Laws.{EachIsAnswered};
 ghost use Rattle.acme_core.specs.Run.{enabled};
 
-use core_answers::reactions_are_answered;
+use core_answers::laws::reactions_are_answered;
 
 /// Over a journal of enabled events a connection was dialled, or has ended, exactly where the journal has that entry.
 #[tactic(auto, using(crate::proofs::Connected::connected))]
@@ -17,5 +17,6 @@ pub fn journals_tell_connections()
 pub fn messages_are_answered()
     ensures { EachIsAnswered }
 {
+    // law: each reaction answers its message
     reactions_are_answered();
 }

@@ -2,7 +2,7 @@
 #![tactic(auto)]
 
 mod editor;
-mod laws;
+pub mod laws;
 mod planning;
 
 pub use am_counter::Ask;
@@ -13,5 +13,4 @@ pub use am_journal::{
 pub use am_text::{Bytes, Items, NoMemory, Range, Rune, Runes};
 pub use core_outputs::Reply;
 pub use editor::{Core, Plan};
-pub use laws::{journals_tell_connections, messages_are_answered};
 pub use ninep_types::{RBody, RMsg, TBody, TMsg};

@@ -72,8 +72,8 @@ fn hanging(alloc: Global, parts: &Parts, event: Event) -> Prepared
     }
 }
 
-/// Decides whether an event is enabled, and makes it ready in tables in which nothing is ready. It stands in `prepared` then. What the
-/// tables mean stays, and a refusal leaves nothing ready in them.
+/// Decides whether an event is enabled, and makes it ready in tables in which nothing is ready. It stands in `prepared`
+/// then. What the tables mean stays, and a refusal leaves nothing ready in them.
 #[tactic(auto, using(crate::proofs::Joins::joined, crate::proofs::Hangs::hung))]
 pub(crate) fn prepare(
     alloc: Global,

@@ -1,5 +1,6 @@
 -- The nodes of the trees: what each is, its path, mode and name, and what a directory lists.
-use Rattle.std.specs.Prelude.{ℕ, ◌<◌, ◌+◌, ◌*◌, ◌^◌, Bool, true, false, ◌||◌, ◌==◌, nat_le, nat_lt, List, [], ◌∷◌, length, map, take, codes, slice_index_or}
+use Rattle.std.specs.Prelude.{ℕ, ◌<◌, ◌+◌, ◌*◌, ◌^◌, Bool, true, false, ◌||◌, ◌==◌, nat_le, nat_lt, List, [], ◌∷◌}
+use Rattle.std.specs.Prelude.{length, map, take, codes, slice_index_or}
 use Rattle.std.specs.Fmt.{decimal}
 use Rattle.std.specs.List.{list_any}
 use Rattle.ninep_types.specs.declared.message.Qid.{Qid}
@@ -7,7 +8,8 @@ use Rattle.ninep_frame.specs.declared.stat.Stat.{Stat}
 use Rattle.acme_tree.specs.Limits.{max_windows, never_given, window_paths, first_port_path}
 use Rattle.acme_tree.specs.Modes.{reads, writes, reads_and_writes, append_mode, dir_mode, append_kind, dir_kind}
 use Rattle.acme_tree.specs.declared.node.Node.{Node}
-use Rattle.acme_tree.specs.declared.node.Node.TheVariants.{Root, Cons, ConsCtl, Index, Label, NewDir, Window, File, PlumbRoot, Send, Rules, Port}
+use Rattle.acme_tree.specs.declared.node.Node.TheVariants.{Root, Cons, ConsCtl, Index, Label, NewDir, Window, File}
+use Rattle.acme_tree.specs.declared.node.Node.TheVariants.{PlumbRoot, Send, Rules, Port}
 use Rattle.acme_tree.specs.declared.node.WinFile.{WinFile}
 use Rattle.acme_tree.specs.declared.node.WinFile.TheVariants.{Addr, Body, Ctl, Data, Errors, Event, Tag, Xdata}
 use Rattle.acme_tree.specs.declared.node.World.{World}

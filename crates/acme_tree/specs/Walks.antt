@@ -41,8 +41,8 @@ abbrev pub below : World → List (List ℕ) → Node → List ℕ → Bool → 
 below world ports NewDir name last = to_new world last (file_named name)
 below world ports dir name last = to_entry (entry_named world ports dir name)
 
--- Where a name leads: from the directory of a deleted window no name leads, from a file none does, and `..` leads to the
--- directory above.
+-- Where a name leads: from the directory of a deleted window no name leads, from a file none does, and `..`
+-- leads to the directory above.
 unfoldable pub walk_one : World → List (List ℕ) → Node → List ℕ → Bool → Step
 walk_one world ports from name last =
     if not (is_dir from) then NotDir

@@ -1,7 +1,8 @@
 //! How nodes may be opened.
 
 ghost use Rattle.std.specs.Prelude.{◌≡◌};
-ghost use Rattle.acme_tree.specs.Access.{is_open_mode, how, truncates, removes, is_readable, is_writable, allows, file_allows, is_allowed, may_open};
+ghost use Rattle.acme_tree.specs.Access.{is_open_mode, how, truncates, removes, is_readable, is_writable, allows};
+ghost use Rattle.acme_tree.specs.Access.{file_allows, is_allowed, may_open};
 
 use crate::listing::mode_of;
 use crate::modes::{HOW_BITS, READS, REMOVE_BIT, TRUNCATE_BIT, WRITES};

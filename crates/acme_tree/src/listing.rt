@@ -2,7 +2,8 @@
 
 ghost use Rattle.std.specs.Prelude.{◌≡◌, All, IfOk, map, true};
 ghost use Rattle.ninep_frame.specs.Records.{HasName, IsName};
-ghost use Rattle.acme_tree.specs.Trees.{IsNamed, entries, file_kind, file_mode, file_number, is_dir, is_live, kind_of, mode_of, path_of, qid_of, stat_of};
+ghost use Rattle.acme_tree.specs.Trees.{IsNamed, entries, file_kind, file_mode, file_number, is_dir, is_live, kind_of};
+ghost use Rattle.acme_tree.specs.Trees.{mode_of, path_of, qid_of, stat_of};
 
 use crate::entries::entries;
 use crate::modes::{APPEND_KIND, APPEND_MODE, DIR_KIND, DIR_MODE, READS, READS_AND_WRITES, WRITES};

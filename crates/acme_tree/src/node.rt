@@ -70,8 +70,8 @@ fn is_window(world: &World, window: u32) -> bool
     world.windows.as_slice().contains(&window)
 }
 
-/// Whether the node is there: its window is live, or it is one of the ports, whose names these are, in the order in which they were
-/// first seen. All else is always there.
+/// Whether the node is there: its window is live, or it is one of the ports, whose names these are, in the order in
+/// which they were first seen. All else is always there.
 pub fn is_live(world: &World, ports: &[Bytes], node: Node) -> bool
     ensures { result ≡ is_live world.now ports.now node }
 {

@@ -180,8 +180,8 @@ fn below(world: &World, ports: &[Bytes], dir: Node, name: &[u8], last: bool) -> 
     }
 }
 
-/// Where a name leads from a node. The ports are their names, in the order in which they were first seen. `last` says whether it is the last name of its walk: only as such a window's
-/// file is found in `new`.
+/// Where a name leads from a node. The ports are their names, in the order in which they were first seen. `last` says
+/// whether it is the last name of its walk: only as such a window's file is found in `new`.
 ///
 /// It takes no memory.
 #[tactic(auto, unfolding(crate::specs::Walks::walk_one))]

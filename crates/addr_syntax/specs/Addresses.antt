@@ -1,5 +1,6 @@
 -- The tree of the address that a text is, if it is one.
-use Rattle.std.specs.Prelude.{ℕ, zero, suc, false, ◌+◌, ◌==◌, ◌&&◌, not, nat_le, List, [], ◌∷◌, length, take, drop, Option, Some, None, if◌then◌else◌}
+use Rattle.std.specs.Prelude.{ℕ, zero, suc, false, ◌+◌, ◌==◌, ◌&&◌, not, nat_le, List, [], ◌∷◌, length, take, drop}
+use Rattle.std.specs.Prelude.{Option, Some, None, if◌then◌else◌}
 use Rattle.std.specs.Char.{is_ascii_digit}
 use Rattle.std.specs.Option.{option_map}
 use Rattle.am_text.specs.Number.{number_after}
@@ -7,7 +8,8 @@ use Rattle.am_text.specs.Ascii.{slash, question}
 use Rattle.re_syntax.specs.Tree as expression
 use Rattle.re_syntax.specs.Build.{level_tree}
 use Rattle.re_syntax.specs.Read as re
-use Rattle.addr_syntax.specs.Tree.{Tree, Dot, End, RuneAt, LineAt, Forward, Backward, operators, most_operators, is_large}
+use Rattle.addr_syntax.specs.Tree.{Tree, Dot, End, RuneAt, LineAt, Forward, Backward, operators, most_operators}
+use Rattle.addr_syntax.specs.Tree.{is_large}
 use Rattle.addr_syntax.specs.Marks.{mark_of}
 use Rattle.addr_syntax.specs.Pieces.{Piece, Part, Adds, Splits}
 use Rattle.addr_syntax.specs.Joined.{begin, whole, after_pieces}
@@ -45,7 +47,8 @@ cut_number part behind (Some n) = Some (Part (part n), behind)
 -- the number that the digits at the front spell
 abbrev pub number_piece : (ℕ → Tree) → List ℕ → Cut
 number_piece part text =
-    if digits text == 0 then None else cut_number part (drop (digits text) text) (number_after 0 (take (digits text) text))
+    if digits text == 0 then None else cut_number part (drop (digits text) text)
+    (number_after 0 (take (digits text) text))
 
 -- what stands behind a delimiter, which may be missing at the end
 abbrev pub behind_delimiter : List ℕ → List ℕ
@@ -60,7 +63,8 @@ cut_search part behind (Some r) = Some (Part (part r), behind)
 -- the expression up to the first delimiter that stands behind no backslash
 abbrev pub search_piece : (expression.Tree → Tree) → ℕ → List ℕ → Cut
 search_piece part d text =
-    cut_search part (behind_delimiter (drop (body_length d false text) text)) (expression_of d (take (body_length d false text) text))
+    cut_search part (behind_delimiter (drop (body_length d false text) text))
+    (expression_of d (take (body_length d false text) text))
 
 -- a piece by its first rune, and what follows that
 abbrev pub piece_by : Mark → ℕ → List ℕ → Cut

@@ -1,5 +1,6 @@
 -- What reading an address answers.
-use Rattle.std.specs.Prelude.{◌≡◌, ◌≤◌, ◌<◌, ◌+◌, ◌⊎◌, ℕ, true, false, List, ◌++◌, length, drop, slice_range, Option, Some, None}
+use Rattle.std.specs.Prelude.{◌≡◌, ◌≤◌, ◌<◌, ◌+◌, ◌⊎◌, ℕ, true, false, List, ◌++◌, length, drop, slice_range, Option}
+use Rattle.std.specs.Prelude.{Some, None}
 use Rattle.addr_syntax.specs.Tree.{Tree, tree, operators, most_operators, is_large}
 use Rattle.addr_syntax.specs.Marks.{next_of, begins_piece}
 use Rattle.addr_syntax.specs.Pieces.{Piece, BeginsWith}
@@ -50,11 +51,14 @@ pub record ReachesFrom (text : List ℕ) (from at : ℕ) (r : Reading) : Type 0 
 
 -- one piece more, up to a place
 abbrev pub IsStep : List ℕ → ℕ → Reading → Progress → ℕ → Type 0
-IsStep text at r new end = (p : Piece) × (s : Reading) × IsPieceAt text at p end × (after_piece r p ≡ Some s) × Follows new s
+IsStep text at r new end =
+    (p : Piece) × (s : Reading) × IsPieceAt text at p end × (after_piece r p ≡ Some s) × Follows new s
 
 -- no piece is written here, or one with which no address goes on
 abbrev pub StepFails : List ℕ → ℕ → Reading → SynFault → Type 0
-StepFails text at r (Bad place) = IsBadPiece text at place ⊎ ((place ≡ at) × (p : Piece) × (end : ℕ) × IsPieceAt text at p end × (after_piece r p ≡ None))
+StepFails text at r (Bad place) =
+    IsBadPiece text at place ⊎ ((place ≡ at) × (p : Piece) × (end : ℕ) × IsPieceAt text at p end
+    × (after_piece r p ≡ None))
 StepFails text at r Nodes = ⊥
 StepFails text at r Deep = ⊥
 StepFails text at r NoMemory = Unit {0}
@@ -82,8 +86,10 @@ pub record IsAddressAt (text : List ℕ) (from : ℕ) (a : Tree) (end : ℕ) : T
 pub record IsBadFrom (text : List ℕ) (from place : ℕ) : Type 0 where
   pub order : from ≤ place
   pub within : place ≤ length text
-  pub before : (more : List ℕ) × (a : Tree) × ((next : Option ℕ) → begins_piece next ≡ false → IsWritten a (slice_range text from place ++ more) next)
-  pub dead : (more : List ℕ) → next_of more ≡ next_of (drop place text) → (a : Tree) (rest : List ℕ) → Begins a (slice_range text from place ++ more) rest → ⊥
+  pub before : (more : List ℕ) × (a : Tree) × ((next : Option ℕ) → begins_piece next ≡ false
+      → IsWritten a (slice_range text from place ++ more) next)
+  pub dead : (more : List ℕ) → next_of more ≡ next_of (drop place text) → (a : Tree) (rest : List ℕ)
+      → Begins a (slice_range text from place ++ more) rest → ⊥
 
 -- what is built is the address from one place up to another
 abbrev pub IsReadAt : List ℕ → ℕ → Limited Addr → ℕ → Type 0

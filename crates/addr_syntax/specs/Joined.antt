@@ -1,6 +1,7 @@
 -- The tree of pieces, which are joined from left to right.
 use Rattle.std.specs.Prelude.{zero, ◌||◌, Bool, true, false, List, [], ◌∷◌, Option, Some, None, if◌then◌else◌}
-use Rattle.addr_syntax.specs.Tree.{Tree, Missing, Front, RuneAt, LineAt, Forward, Backward, Sum, Difference, Span, MovingSpan}
+use Rattle.addr_syntax.specs.Tree.{Tree, Missing, Front, RuneAt, LineAt, Forward, Backward, Sum, Difference, Span}
+use Rattle.addr_syntax.specs.Tree.{MovingSpan}
 use Rattle.addr_syntax.specs.Pieces.{Piece, Part, Adds, Splits}
 use Rattle.addr_syntax.specs.declared.mark.Sign.{Sign}
 use Rattle.addr_syntax.specs.declared.mark.Sign.TheVariants.{Plus, Minus}

@@ -5,7 +5,8 @@ use Rattle.am_text.specs.Ascii.{hash, dollar, plus, comma, minus, dot, slash, se
 use Rattle.addr_syntax.specs.declared.mark.Sign.TheVariants.{Plus, Minus}
 use Rattle.addr_syntax.specs.declared.mark.Separator.TheVariants.{Comma, Semi}
 use Rattle.addr_syntax.specs.declared.mark.Mark.{Mark}
-use Rattle.addr_syntax.specs.declared.mark.Mark.TheVariants.{Signs, Separates, Dot, Dollar, Digit, Hash, Slash, Query, Other}
+use Rattle.addr_syntax.specs.declared.mark.Mark.TheVariants.{Signs, Separates, Dot, Dollar, Digit, Hash, Slash, Query}
+use Rattle.addr_syntax.specs.declared.mark.Mark.TheVariants.{Other}
 
 -- what the first rune of a piece says
 unfoldable pub mark_of : ℕ → Mark

@@ -25,7 +25,8 @@ IsNumber n (d ∷ ds) next = (number_after 0 (d ∷ ds) ≡ Some n) × (is_digit
 -- an expression and its last delimiter, which may be missing at the end of the text
 abbrev pub IsSearch : ℕ → expression.Tree → List ℕ → Option ℕ → Type 0
 IsSearch delimiter re text next =
-    (body : List ℕ) × IsExpression (Some delimiter) body re × ((text ≡ body ++ delimiter ∷ []) ⊎ ((text ≡ body) × (next ≡ None)))
+    (body : List ℕ) × IsExpression (Some delimiter) body re
+    × ((text ≡ body ++ delimiter ∷ []) ⊎ ((text ≡ body) × (next ≡ None)))
 
 -- how a piece goes on after its first rune
 abbrev pub GoesOnAs : Mark → Piece → ℕ → List ℕ → Option ℕ → Type 0
@@ -47,4 +48,5 @@ IsPiece p (c ∷ cs) next = GoesOnAs (mark_of c) p c cs next
 -- a text begins with these pieces, and this is the rest after them
 abbrev pub BeginsWith : List Piece → List ℕ → List ℕ → Type 0
 BeginsWith [] text rest = text ≡ rest
-BeginsWith (p ∷ ps) text rest = (piece behind : List ℕ) × (text ≡ piece ++ behind) × IsPiece p piece (next_of behind) × BeginsWith ps behind rest
+BeginsWith (p ∷ ps) text rest =
+    (piece behind : List ℕ) × (text ≡ piece ++ behind) × IsPiece p piece (next_of behind) × BeginsWith ps behind rest

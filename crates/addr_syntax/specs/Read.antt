@@ -38,7 +38,8 @@ ending_of (Ended a) = ending.Part
 
 -- the program builds while there is room for more operators; past a limit nothing is built any more
 abbrev pub Builds : Built → Reading → Type 0
-Builds (Whole s room) r = (reading_of s ≡ r) × (operators (whole r) + room ≡ most_operators) × (is_large (whole r) ≡ false)
+Builds (Whole s room) r =
+    (reading_of s ≡ r) × (operators (whole r) + room ≡ most_operators) × (is_large (whole r) ≡ false)
 Builds Deep r = (most_operators < operators (whole r)) × (is_large (whole r) ≡ false)
 Builds Large r = is_large (whole r) ≡ true
 

@@ -1,5 +1,6 @@
 -- How far numbers and expressions reach, and where they are broken off.
-use Rattle.std.specs.Prelude.{◌≡◌, ◌≤◌, ◌<◌, ◌+◌, ◌==◌, ◌⊎◌, ℕ, Bool, true, false, List, [], ◌∷◌, ◌++◌, length, drop, slice_range, nat_lt, slice_index, Option, Some, None, if◌then◌else◌}
+use Rattle.std.specs.Prelude.{◌≡◌, ◌≤◌, ◌<◌, ◌+◌, ◌==◌, ◌⊎◌, ℕ, Bool, true, false, List, [], ◌∷◌, ◌++◌, length, drop}
+use Rattle.std.specs.Prelude.{slice_range, nat_lt, slice_index, Option, Some, None, if◌then◌else◌}
 use Rattle.std.specs.Char.{is_ascii_digit}
 use Rattle.am_text.specs.Number.{number_after}
 use Rattle.am_text.specs.Ascii.{backslash}
@@ -54,8 +55,11 @@ is_whole d false (c ∷ cs) = if d == c then false else is_whole d (c == backsla
 
 -- an expression was read; None stands for a large one
 abbrev pub IsExpressionAt : ℕ → List ℕ → ℕ → Option re.Re → ℕ → Type 0
-IsExpressionAt d text from (Some e) end = answer.IsRead (Some d) text from end (expression.tree e) × (expression.nodes (expression.tree e) ≤ expression.most_nodes)
-IsExpressionAt d text from None end = (r : expression.Tree) × answer.IsRead (Some d) text from end r × (expression.most_nodes < expression.nodes r)
+IsExpressionAt d text from (Some e) end =
+    answer.IsRead (Some d) text from end (expression.tree e)
+    × (expression.nodes (expression.tree e) ≤ expression.most_nodes)
+IsExpressionAt d text from None end =
+    (r : expression.Tree) × answer.IsRead (Some d) text from end r × (expression.most_nodes < expression.nodes r)
 
 -- why no expression is read
 abbrev pub ExpressionFails : ℕ → List ℕ → ℕ → SynFault → Type 0
@@ -80,14 +84,17 @@ pub record IsPieceAt (text : List ℕ) (from : ℕ) (p : Piece) (end : ℕ) : Ty
 -- what may stand at the place: what does, and then anything, or nothing at the end
 abbrev pub Continues : List ℕ → ℕ → List ℕ → Type 0
 Continues text place more =
-    ((place ≡ length text) × (more ≡ [])) ⊎ ((place < length text) × (behind : List ℕ) × (more ≡ slice_index text place ∷ behind))
+    ((place ≡ length text) × (more ≡ [])) ⊎ ((place < length text) × (behind : List ℕ)
+    × (more ≡ slice_index text place ∷ behind))
 
 -- a piece that may stand anywhere goes on up to the place, and none goes on there
 pub record IsBadPiece (text : List ℕ) (from place : ℕ) : Type 0 where
   pub order : from ≤ place
   pub within : place ≤ length text
-  pub before : from < place → (more : List ℕ) × (q : Tree) × IsPiece (Part q) (slice_range text from place ++ more) None × (may_follow q ≡ true)
-  pub dead : (more : List ℕ) (p : Piece) (piece behind : List ℕ) → Continues text place more → slice_range text from place ++ more ≡ piece ++ behind → IsPiece p piece (next_of behind) → ⊥
+  pub before : from < place → (more : List ℕ) × (q : Tree) × IsPiece (Part q) (slice_range text from place ++ more) None
+      × (may_follow q ≡ true)
+  pub dead : (more : List ℕ) (p : Piece) (piece behind : List ℕ) → Continues text place more
+      → slice_range text from place ++ more ≡ piece ++ behind → IsPiece p piece (next_of behind) → ⊥
 
 -- why no piece is read
 abbrev pub PieceFails : List ℕ → ℕ → SynFault → Type 0

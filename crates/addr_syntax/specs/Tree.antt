@@ -1,7 +1,8 @@
 -- The trees of addresses.
 use Rattle.std.specs.Prelude.{ℕ, ◌+◌, ◌||◌, Bool, false, nat_lt, Option, Some, None}
 use Rattle.re_syntax.specs.Tree as expression
-use Rattle.addr_syntax.specs.declared.address.Addr.{Addr, Here, Zero, Last, Char, Line, Fore, Back, Plus', Minus', Comma', Semi', Held-Addr-Plus-0, None', Some'}
+use Rattle.addr_syntax.specs.declared.address.Addr.{Addr, Here, Zero, Last, Char, Line, Fore, Back, Plus', Minus'}
+use Rattle.addr_syntax.specs.declared.address.Addr.{Comma', Semi', Held-Addr-Plus-0, None', Some'}
 
 -- The tree of an address.
 pub data Tree : Type 0 where

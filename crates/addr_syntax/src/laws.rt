@@ -27,5 +27,6 @@ pub fn signs_join_from_the_left()
 
 /// A text begins with one address at most, where that is as long as it can be.
 pub fn a_text_begins_with_one_address()
-    ensures { (text rest more : List ℕ) (a b : Tree) → Begins a text rest → Begins b text more → (a ≡ b) × (rest ≡ more) }
+    ensures { (text rest more : List ℕ) (a b : Tree) → Begins a text rest → Begins b text more → (a ≡ b)
+        × (rest ≡ more) }
 {}

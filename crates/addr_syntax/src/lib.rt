@@ -2,7 +2,7 @@
 #![tactic(auto)]
 
 mod address;
-mod laws;
+pub mod laws;
 mod mark;
 mod parser;
 mod reader;
@@ -11,10 +11,6 @@ mod scan;
 mod token;
 
 pub use address::{Addr, Limited, SynFault};
-pub use laws::{
-    a_text_begins_with_one_address, addresses_have_trees, an_address_has_one_tree,
-    separators_join_last, signs_join_from_the_left,
-};
 pub use mark::begins_piece;
 pub use parser::{addr_at, parse_addr};
 pub use reader::read_address;

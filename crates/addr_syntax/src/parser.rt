@@ -4,7 +4,8 @@ ghost use Rattle.std.specs.Prelude.{◌≡◌, ◌≤◌, ◌<◌, length, IfOk,
 ghost use Rattle.addr_syntax.specs.Tree.{tree};
 ghost use Rattle.addr_syntax.specs.Joined.{Reading, whole};
 ghost use Rattle.addr_syntax.specs.Grammar.{IsAddress};
-ghost use Rattle.addr_syntax.specs.Answer.{IsInLimits, Refuses, IsStep, StepFails, LimitedFails, IsLimited, IsReadAt, FailsFrom};
+ghost use Rattle.addr_syntax.specs.Answer.{IsInLimits, Refuses, IsStep, StepFails, LimitedFails, IsLimited, IsReadAt};
+ghost use Rattle.addr_syntax.specs.Answer.{FailsFrom};
 ghost use Rattle.addr_syntax.specs.Read.{Follows, FinishFails};
 
 use crate::address::{Addr, Limited, SynFault};

@@ -1,8 +1,11 @@
 //! Joins the pieces of an address to its tree.
 
-ghost use Rattle.std.specs.Prelude.{◌≡◌, ◌-◌, true, false, nat_lt, Option, Some, None, IfOk, IfSome, IfNone, if◌then◌else◌};
+ghost use Rattle.std.specs.Prelude.{◌≡◌, ◌-◌, true, false, nat_lt, Option, Some, None, IfOk, IfSome, IfNone};
+ghost use Rattle.std.specs.Prelude.{if◌then◌else◌};
 ghost use Rattle.addr_syntax.specs.Tree.{Tree, tree, side, tree_of, operators, is_large};
-ghost use Rattle.addr_syntax.specs.Joined.{Reading, Nothing, begin, after_piece, is_nothing, by_sign, by_separator, first_part, with_part, row_tree, whole, join_part, join_sign, join_separator};
+ghost use Rattle.addr_syntax.specs.Joined.{Reading, Nothing, begin, after_piece, is_nothing, by_sign, by_separator};
+ghost use Rattle.addr_syntax.specs.Joined.{first_part, with_part, row_tree, whole, join_part, join_sign};
+ghost use Rattle.addr_syntax.specs.Joined.{join_separator};
 ghost use Rattle.addr_syntax.specs.Read.{row_of, reading_of, ending_of, Builds, Follows, IsPart, supplied};
 ghost use Rattle.addr_syntax.specs.Pieces.{Piece};
 ghost use Rattle.addr_syntax.specs.Scan.{IsToken};
@@ -213,7 +216,8 @@ fn without(built: Built, _part: Addr) -> Built
 
 #[tactic(auto, using(crate::proofs::Counts::counts))]
 fn build_small_part(alloc: Global, built: Built, part: Addr, more: usize) -> Result<Built, NoMemory>
-    ensures { IfOk result (λ new. (r : Reading) → Builds built r → is_large (tree part) ≡ false → operators (tree part) ≡ 0 → more ≡ supplied (ending_of r.row) → Builds new (join_part r (tree part))) }
+    ensures { IfOk result (λ new. (r : Reading) → Builds built r → is_large (tree part) ≡ false → operators (tree part)
+        ≡ 0 → more ≡ supplied (ending_of r.row) → Builds new (join_part r (tree part))) }
 {
     match built {
         Built::Whole(sides, room) => Ok(within_room(join_part(alloc, sides, part)?, room, more)),
@@ -230,7 +234,8 @@ fn build_part(
     part: Option<Addr>,
     more: usize,
 ) -> Result<Built, NoMemory>
-    ensures { IfOk result (λ new. (r : Reading) (p : Tree) → Builds built r → IsPart part p → more ≡ supplied (ending_of r.row) → Builds new (join_part r p)) }
+    ensures { IfOk result (λ new. (r : Reading) (p : Tree) → Builds built r → IsPart part p → more
+        ≡ supplied (ending_of r.row) → Builds new (join_part r p)) }
 {
     match part {
         Some(part) => build_small_part(alloc, built, part, more),
@@ -272,7 +277,8 @@ pub enum Token {
 }
 
 fn with_stands(alloc: Global, progress: Progress, part: Option<Addr>) -> Result<Progress, NoMemory>
-    ensures { IfOk result (λ new. (r : Reading) (p : Tree) → Follows progress r → IsPart part p → Follows new (join_part r p)) }
+    ensures { IfOk result (λ new. (r : Reading) (p : Tree) → Follows progress r → IsPart part p
+        → Follows new (join_part r p)) }
 {
     let Progress { ending, built } = progress;
     Ok(Progress {
@@ -313,7 +319,8 @@ fn is_nothing(ending: Ending) -> bool
 
 // With `.` or `$`; `None` where no row begins.
 fn with_begins(alloc: Global, progress: Progress, part: Addr) -> Result<Option<Progress>, NoMemory>
-    ensures some { IfOk result (λ o. IfSome o (λ new. (r : Reading) (q : Tree) → Follows progress r → IsPart (Some part) q → (is_nothing r.row ≡ true) × Follows new (join_part r q))) }
+    ensures some { IfOk result (λ o. IfSome o (λ new. (r : Reading) (q : Tree) → Follows progress r
+        → IsPart (Some part) q → (is_nothing r.row ≡ true) × Follows new (join_part r q))) }
     ensures none { IfOk result (λ o. IfNone o ((r : Reading) → Follows progress r → is_nothing r.row ≡ false)) }
 {
     if !is_nothing(progress.ending) {
@@ -324,8 +331,10 @@ fn with_begins(alloc: Global, progress: Progress, part: Addr) -> Result<Option<P
 
 /// What is read with one token more; `None` where no address goes on so.
 pub fn join(alloc: Global, progress: Progress, token: Token) -> Result<Option<Progress>, NoMemory>
-    ensures some { IfOk result (λ o. IfSome o (λ new. (r : Reading) (p : Piece) → Follows progress r → IsToken token p → (s : Reading) × (after_piece r p ≡ Some s) × Follows new s)) }
-    ensures none { IfOk result (λ o. IfNone o ((r : Reading) (p : Piece) → Follows progress r → IsToken token p → after_piece r p ≡ None)) }
+    ensures some { IfOk result (λ o. IfSome o (λ new. (r : Reading) (p : Piece) → Follows progress r → IsToken token p
+        → (s : Reading) × (after_piece r p ≡ Some s) × Follows new s)) }
+    ensures none { IfOk result (λ o. IfNone o ((r : Reading) (p : Piece) → Follows progress r → IsToken token p
+        → after_piece r p ≡ None)) }
 {
     match token {
         Token::Begins(part) => with_begins(alloc, progress, part),

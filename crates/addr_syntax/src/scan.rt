@@ -1,6 +1,7 @@
 //! Reads numbers and expressions.
 
-ghost use Rattle.std.specs.Prelude.{◌≡◌, ◌≤◌, ◌<◌, ◌+◌, ◌||◌, ◌==◌, false, [], ◌∷◌, length, drop, IfOk, IfErr, if◌then◌else◌};
+ghost use Rattle.std.specs.Prelude.{◌≡◌, ◌≤◌, ◌<◌, ◌+◌, ◌||◌, ◌==◌, false, [], ◌∷◌, length, drop, IfOk, IfErr};
+ghost use Rattle.std.specs.Prelude.{if◌then◌else◌};
 ghost use Rattle.std.specs.Char.{is_ascii_digit};
 ghost use Rattle.am_text.specs.Number.{number_after};
 ghost use Rattle.addr_syntax.specs.Scan.{IsNumberAt, NumberFails, body_length, IsExpressionAt, ExpressionFails};

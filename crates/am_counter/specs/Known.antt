@@ -5,8 +5,8 @@ use Rattle.am_journal.specs.declared.event.Event.TheVariants.{Took}
 use Rattle.am_journal.specs.declared.event.Why.{Why}
 use Rattle.am_counter.specs.Played.{IsPrefix}
 
--- the seat's parts, the entries that it has seen, its own entries with their numbers in the journal, and those of each seat that ended
--- in it
+-- the seat's parts, the entries that it has seen, its own entries with their numbers in the journal, and those of
+-- each seat that ended in it
 pub record Known : Type 0 where
   pub parts : ℕ
   pub seen : List Event
@@ -27,10 +27,12 @@ Looks v w = (now : List Event) × IsPrefix v.seen now × (w ≡ with_seen v now)
 
 -- the event is enabled after the journal at one turn, and is added to it with this number
 abbrev pub Submits : (List Event → Event → Option Why) → Known → Event → ℕ → Known → Type 0
-Submits enabled v e n w = (now : List Event) × IsPrefix v.seen now × (enabled now e ≡ None) × (n ≡ length now + 1) × (w ≡ with_entry v now e)
+Submits enabled v e n w =
+    (now : List Event) × IsPrefix v.seen now × (enabled now e ≡ None) × (n ≡ length now + 1) × (w ≡ with_entry v now e)
 
 -- the replies of a connection that are unsent after the journal at one turn are taken, some bytes at least
-abbrev pub TakesBytes : (List Event → Event → Option Why) → (List Event → ℕ → List ℕ) → Known → ℕ → List ℕ → Known → Type 0
+abbrev pub TakesBytes : (List Event → Event → Option Why) → (List Event → ℕ → List ℕ) → Known → ℕ → List ℕ
+    → Known → Type 0
 TakesBytes enabled unsent v conn bytes w =
     (now : List Event) × IsPrefix v.seen now × (enabled now (Took conn) ≡ None)
     × (bytes ≡ unsent now conn) × (bytes ≢ []) × (w ≡ with_entry v now (Took conn))

@@ -16,7 +16,8 @@ IsPrefix xs ys = (rest : List Event) × (xs ++ rest ≡ ys)
 -- each of these events is lawful, and was enabled after those before it
 unfoldable pub ArePlayed : (List Event → Event → Option Why) → List Event → List Event → Type 0
 ArePlayed enabled before [] = Unit {0}
-ArePlayed enabled before (e ∷ events) = IsLawful e × (enabled before e ≡ None) × ArePlayed enabled (before ++ e ∷ []) events
+ArePlayed enabled before (e ∷ events) =
+    IsLawful e × (enabled before e ≡ None) × ArePlayed enabled (before ++ e ∷ []) events
 
 -- a journal: each event is lawful, and was enabled at its place
 abbrev pub IsPlayed : (List Event → Event → Option Why) → List Event → Type 0
@@ -99,7 +100,8 @@ dial_why journal conn = if has_dial journal conn then Some why.Dialed else None
 
 -- the reason why a hang-up isn't enabled: its connection wasn't dialled, or has ended
 abbrev pub hang_why : List Event → ℕ → Option Why
-hang_why journal conn = if has_dial journal conn then (if has_hang journal conn then Some why.Ended else None) else Some why.Conn
+hang_why journal conn =
+    if has_dial journal conn then (if has_hang journal conn then Some why.Ended else None) else Some why.Conn
 
 -- the reasons why a message isn't enabled
 abbrev pub IsMessageWhy : List Event → ℕ → Option Why → Type 0

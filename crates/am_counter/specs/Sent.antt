@@ -21,7 +21,8 @@ sent_by unsent conn before (event.Dir path) = []
 -- the bytes that events take of a connection's replies, each after those before it
 unfoldable pub sent_from : (List Event → ℕ → List ℕ) → List Event → List Event → ℕ → List ℕ
 sent_from unsent before [] conn = []
-sent_from unsent before (e ∷ events) conn = sent_by unsent conn before e ++ sent_from unsent (before ++ e ∷ []) events conn
+sent_from unsent before (e ∷ events) conn =
+    sent_by unsent conn before e ++ sent_from unsent (before ++ e ∷ []) events conn
 
 -- all bytes that were sent to the connection: the replies that each taking found unsent
 abbrev pub sent : (List Event → ℕ → List ℕ) → List Event → ℕ → List ℕ

@@ -18,8 +18,8 @@ use am_journal::{Event, Refused};
 use am_text::{Bytes, NoMemory};
 use std::sync::Wait;
 
-/// One journal, to which many seats add events, each in a turn of its own. What a call does is said of the journal as it is
-/// at its turn: the seat has seen it then.
+/// One journal, to which many seats add events, each in a turn of its own. What a call does is said of the journal as
+/// it is at its turn: the seat has seen it then.
 pub trait Counter {
     /// The right to take turns. Each side of a connection has one.
     type Seat;
@@ -42,8 +42,8 @@ pub trait Counter {
     /// The connections that the last entry of a journal replied to, in the order of the replies.
     ghost told_by: { List Event → List ℕ };
 
-    /// Does an event in one turn, if it is enabled then, and answers the number of its entry. The connections that it replied to are
-    /// added to `told`. A refusal changes nothing but what the seat has seen.
+    /// Does an event in one turn, if it is enabled then, and answers the number of its entry. The connections that it
+    /// replied to are added to `told`. A refusal changes nothing but what the seat has seen.
     fn submit<R: Wait>(
         &self,
         rt: &R,
@@ -64,8 +64,9 @@ pub trait Counter {
         // A hang-up is never refused for memory.
         ensures hang { IsHang event → IfErr result IsWhy };
 
-    /// Takes the unsent replies of a connection in one turn, all of them, into `into`. Where there is none, or memory runs
-    /// out, nothing changes but what the seat has seen. A connection that was never dialled has none yet, whatever its number.
+    /// Takes the unsent replies of a connection in one turn, all of them, into `into`. Where there is none, or
+    /// memory runs out, nothing changes but what the seat has seen. A connection that was never dialled has none
+    /// yet, whatever its number.
     fn take<R: Wait>(
         &self,
         rt: &R,
@@ -76,8 +77,10 @@ pub trait Counter {
         requires fits { fits self.now seat.old }
         ensures fits { fits self.now seat.new }
         ensures played { IsPlayed enabled (known seat.new).seen }
-        ensures bytes { result ≡ Ok taken.Bytes → TakesBytes enabled unsent (known seat.old) conn into.new (known seat.new) }
-        ensures nothing_yet { result ≡ Ok taken.NothingYet → Looks (known seat.old) (known seat.new) × (into.new ≡ into.old)
+        ensures bytes { result ≡ Ok taken.Bytes → TakesBytes enabled unsent (known seat.old) conn into.new
+            (known seat.new) }
+        ensures nothing_yet { result ≡ Ok taken.NothingYet → Looks (known seat.old) (known seat.new)
+            × (into.new ≡ into.old)
             × (answer (known seat.new).seen (ask.Ended conn) ≡ false) × (unsent (known seat.new).seen conn ≡ []) }
         ensures ended { result ≡ Ok taken.Ended → Looks (known seat.old) (known seat.new) × (into.new ≡ into.old)
             × (answer (known seat.new).seen (ask.Ended conn) ≡ true) × (unsent (known seat.new).seen conn ≡ []) }

@@ -18,8 +18,8 @@ pub trait Seats: Counter {
         ensures known { Self.known seat.new ≡ without_parts parts (Self.known seat.old) }
         ensures new { Self.known result ≡ new_known parts (Self.known seat.old) };
 
-    /// Takes in a seat that has ended: its parts, and its own entries. The journal is seen as it is then, in a turn, and begins with what
-    /// both seats had seen.
+    /// Takes in a seat that has ended: its parts, and its own entries. The journal is seen as it is then, in a turn,
+    /// and begins with what both seats had seen.
     fn take_in<R: Wait>(&self, rt: &R, seat: &mut Self::Seat, other: Self::Seat)
         requires fits { Self.fits self.now seat.old × Self.fits self.now other }
         ensures fits { Self.fits self.now seat.new }

@@ -23,7 +23,7 @@ use Rattle.core_fids.specs.declared.refusal.Refusal.TheVariants as refusal
 use Rattle.core_answers.specs.Erring.{appends, fits_in}
 use Rattle.core_fids.specs.Fids.{fid_with_part}
 use Rattle.core_fids.specs.Refusals.{reaction_or_refusal}
-use Rattle.core_answers.specs.Writing.{append_reaction, change_reaction}
+use Rattle.core_answers.specs.Writing.{Twrite, append_reaction, change_reaction}
 use Rattle.core_events.specs.declared.response.Response.{Response}
 use Rattle.core_scene.specs.declared.deed.WindowItem.{WindowItem}
 use Rattle.core_scene.specs.Scenes.{no_scene}
@@ -94,15 +94,19 @@ end_edit f l = record { q0 = length (text_of f); q1 = length (text_of f); text =
 abbrev pub story_written : Facts → ℕ → WindowStory
 story_written f l = edited_story (end_edit f l ∷ []) (f.entries + 1) f.story
 
+-- what a write of a letter asks of the fid 1
+abbrev asked_for : ℕ → Twrite
+asked_for l = record { number = 1; bytes = l ∷ [] }
+
 abbrev pub written_doing : Facts → ℕ → Doing
-written_doing f l = message_doing (present (standing [] [] f)) (change_reaction (change.Edits 1 (end_edit f l ∷ []) ∷ []) 1 body_fid 1) E
+written_doing f l = message_doing (present (standing [] [] f)) (change_reaction (asked_for l) (change.Edits 1 (end_edit f l ∷ []) ∷ []) body_fid) E
 
 write_doing : (f : Facts) (l : ℕ) → l < 128 → length (text_of f) < 16777216 → doing_of (present (standing [] [] f)) (write l) ≡ written_doing f l
 write_doing f l ascii room =
     let windows : List (Option Window) = shown_windows (Some f.story ∷ []) in
     let fits : fits_in (text_of f) (l ∷ []) ≡ true = grind (arith, nat_tests) in
-    ap (λ (d : Decoded). message_doing (present (standing [] [] f)) (reaction_or_refusal (append_reaction windows 1 body_fid 1 1 d)) E) (letter_decoded l ascii)
-    ∙ ap (λ (b : Bool). message_doing (present (standing [] [] f)) (reaction_or_refusal (if b then Ok (change_reaction (appends windows 1 (l ∷ [])) 1 (fid_with_part body_fid (part_of [])) 1) else Err refusal.TextTooLong)) E) fits
+    ap (λ (d : Decoded). message_doing (present (standing [] [] f)) (reaction_or_refusal (append_reaction windows (asked_for l) body_fid 1 d)) E) (letter_decoded l ascii)
+    ∙ ap (λ (b : Bool). message_doing (present (standing [] [] f)) (reaction_or_refusal (if b then Ok (change_reaction (asked_for l) (appends windows 1 (l ∷ [])) (fid_with_part body_fid (part_of []))) else Err refusal.TextTooLong)) E) fits
 
 written_so : (f : Facts) (l : ℕ) → after_story (standing [] [] f) (present (standing [] [] f)) (write l) (written_doing f l)
     ≡ finished f (story_written f l) (response 0 4 (r.Write 1) ∷ []) (told E (end_edit f l))

@@ -38,7 +38,9 @@ letter r = letter_a + (r / 4) % 26
 
 -- the turn that a number draws
 abbrev pub turn_of : ℕ → Turn
-turn_of r = if r % 4 == 0 then turn.Write else (if r % 4 == 1 then turn.Events else (if r % 4 == 2 then turn.Key else turn.Read))
+turn_of r =
+    if r % 4 == 0 then turn.Write else (if r % 4 == 1 then turn.Events
+    else (if r % 4 == 2 then turn.Key else turn.Read))
 
 -- ---- its events
 

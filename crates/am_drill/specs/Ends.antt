@@ -19,10 +19,11 @@ Wrote Done o text = IsWhole o text × (o.before.faults ≤ o.now.faults)
 Wrote WriteFault o text = IsCut o text
 Wrote NoMemory o text = ⊥
 
--- What each end says of so many rounds, the output and the journal. Done: the journal is the drill's events, and the output got the whole
--- summary of their run. WriteFault: the same journal, and the output got a front of the summary, and its count of faults has risen.
--- NoMemory: the journal is a front of the drill's events, and nothing was put.
+-- What each end says of so many rounds, the output and the journal. Done: the journal is the drill's events, and the
+-- output got the whole summary of their run. WriteFault: the same journal, and the output got a front of the summary,
+-- and its count of faults has risen. NoMemory: the journal is a front of the drill's events, and nothing was put.
 abbrev pub DrillSays : DrillEnd → ℕ → Seen → List Event → Type 0
-DrillSays Done rounds o journal = (journal ≡ events rounds) × IsWhole o (summary (events rounds)) × (o.before.faults ≤ o.now.faults)
+DrillSays Done rounds o journal =
+    (journal ≡ events rounds) × IsWhole o (summary (events rounds)) × (o.before.faults ≤ o.now.faults)
 DrillSays WriteFault rounds o journal = (journal ≡ events rounds) × IsCut o (summary (events rounds))
 DrillSays NoMemory rounds o journal = IsFront journal (events rounds) × IsIdle o

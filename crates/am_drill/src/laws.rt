@@ -7,8 +7,8 @@ ghost use Rattle.am_counter.specs.Played.{IsPlayed};
 ghost use Rattle.acme_core.specs.Run.{enabled};
 ghost use Rattle.am_drill.specs.Drill.{most_rounds, events};
 
-/// Each event of a drill is lawful, and enabled at its place; and each of its numbers fits its field, so that it has a line in a
-/// transcript.
+/// Each event of a drill is lawful, and enabled at its place; and each of its numbers fits its field, so that it
+/// has a line in a transcript.
 pub fn drill_is_played()
     ensures played { (rounds : ℕ) → rounds ≤ most_rounds → IsPlayed enabled (events rounds) }
     ensures in_range { (rounds : ℕ) → AllByRecursion IsInRange (events rounds) }

@@ -118,7 +118,8 @@ impl Runner {
         }
     }
 
-    /// Does the events of the round of this number, from 1, with this seed. Where memory runs out, a front of them was done.
+    /// Does the events of the round of this number, from 1, with this seed. Where memory runs out,
+    /// a front of them was done.
     pub(crate) fn play_round(
         &mut self,
         alloc: Global,

@@ -17,7 +17,7 @@ use Rattle.am_base.specs.Seen.{Seen, seen}
 use Rattle.am_base.specs.Written.{IsWhole, IsCut}
 use Rattle.am_replay.specs.Written.{Wrote, IsFront, IsCaughtUp}
 use Rattle.am_serve.specs.Faults.{fault_word}
-use Rattle.am_replay.specs.Playing.{Put, Stops, Shows, EndText, end_at, line_script, DidLine}
+use Rattle.am_replay.specs.Playing.{Put, Stops, Shows, EndText, Finishes, end_at, line_script, DidLine}
 use Rattle.am_replay.specs.Ends.{Ran, RanOut, Says}
 use Rattle.am_replay.proofs.Wrote.{wrote_on, wrote_none}
 use Rattle.acme_core.specs.Run.{run}
@@ -64,6 +64,17 @@ ran_err stop.Report failed script journal o stops shows =
 ran_err (stop.Refused line fault) failed script journal o stops shows =
     out_at failed script journal o (replied journal) (subst (λ (x : Script). IsFront journal x.events) (sym stops) (front_whole journal)) (inl refl) shows
 ran_err stop.NoMemory failed script journal o stops (text, caught, w) = out_at failed script journal o text stops caught w
+
+-- by what stands at the end
+pub ran_end : (s : Stop) (failed : Bool) (script : Script) (journal : List Event) (first mid last : BytesTold) (end : End)
+    → Stops s script journal → Shows s failed (seen first mid) journal (replied journal) → Finishes s failed (seen mid last) journal end
+    → Ran end script (seen first last) journal
+ran_end s failed script journal first mid last end stops shows (inl x) =
+    subst (λ (e : End). Ran e script (seen first last) journal) (sym x.is)
+    (ran_ok s failed x.failed_now script journal first mid last x.text stops shows x.told x.put)
+ran_end s failed script journal first mid last end stops shows (inr (none, same)) =
+    subst (λ (e : End). Ran e script (seen first last) journal) (sym none)
+    (subst (λ (b : BytesTold). Ran ends.NoMemory script (seen first b) journal) (sym same) (ran_err s failed script journal (seen first mid) stops shows))
 
 -- memory ran out before the first line
 pub ran_none : (script : Script) (first : BytesTold) → Ran ends.NoMemory script (seen first first) []

@@ -22,7 +22,7 @@ use Rattle.am_replay.specs.declared.replaying.End.TheVariants as ends
 use Rattle.am_replay.specs.declared.script.Stop.{Stop}
 use Rattle.am_replay.specs.declared.script.Stop.TheVariants as stop
 use Rattle.am_serve.specs.Faults.{fault_word}
-use Rattle.am_replay.specs.Playing.{Put, Stops, EndText, end_at}
+use Rattle.am_replay.specs.Playing.{Put, Stops, EndText, Finishes, end_at}
 use Rattle.am_replay.specs.Scripts.{Script, ended, refused_at, play, script_of, end_of}
 use Rattle.am_replay.specs.Traces.{event_line, reply_words, replies_words, entry_words, traced_from, traced, trace_of, HasWords, AllHaveWords, Shown, Traces, TraceSays}
 use Rattle.am_replay.specs.Written.{Wrote, IsFront}
@@ -203,6 +203,17 @@ traces_err stop.Report failed script journal o stops shown =
 traces_err (stop.Refused line fault) failed script journal o stops shown =
     traces_out failed script journal o (traced journal) (subst (λ (x : Script). IsFront journal x.events) (sym stops) (front_whole journal)) ([], append-nil (traced journal)) shown
 traces_err stop.NoMemory failed script journal o stops (text, part, w) = traces_out failed script journal o text stops part w
+
+-- by what stands at the end
+pub traces_end : (s : Stop) (failed : Bool) (script : Script) (journal : List Event) (first mid last : BytesTold) (end : End)
+    → Stops s script journal → Shown s failed (seen first mid) journal → Finishes s failed (seen mid last) journal end
+    → Traces end script (seen first last) journal
+traces_end s failed script journal first mid last end stops shown (inl x) =
+    subst (λ (e : End). Traces e script (seen first last) journal) (sym x.is)
+    (traces_ok s failed x.failed_now script journal first mid last x.text stops shown x.told x.put)
+traces_end s failed script journal first mid last end stops shown (inr (none, same)) =
+    subst (λ (e : End). Traces e script (seen first last) journal) (sym none)
+    (subst (λ (b : BytesTold). Traces ends.NoMemory script (seen first b) journal) (sym same) (traces_err s failed script journal (seen first mid) stops shown))
 
 -- memory ran out before the first line
 pub traces_none : (script : Script) (first : BytesTold) → Traces ends.NoMemory script (seen first first) []

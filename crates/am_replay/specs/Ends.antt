@@ -10,7 +10,8 @@ use Rattle.am_replay.specs.Scripts as scripts
 use Rattle.am_replay.specs.Scripts.{script_of, text_of}
 use Rattle.am_replay.specs.Written.{IsFront, IsCaughtUp}
 
--- Memory ran out: a front of the events was done, and what was put is the lines of their replies, but perhaps those of the last.
+-- Memory ran out: a front of the events was done, and what was put is the lines of their replies, but
+-- perhaps those of the last.
 pub record RanOut (script : scripts.Script) (o : Seen) (journal : List Event) : Type 0 where
   pub events : IsFront journal script.events
   pub put : (text : List ℕ) × IsCaughtUp journal text × IsFront text (text_of script) × (IsWhole o text ⊎ IsCut o text)
@@ -28,7 +29,8 @@ IsRefused script = (refusal : scripts.Refusal) × (script.refused ≡ Some refus
 abbrev pub Ran : End → scripts.Script → Seen → List Event → Type 0
 Ran Done script o journal = (journal ≡ script.events) × (script.refused ≡ None) × IsWhole o (text_of script)
 Ran Usage script o journal = ⊥
-Ran Script script o journal = (journal ≡ script.events) × IsRefused script × (IsWhole o (text_of script) ⊎ IsCut o (text_of script))
+Ran Script script o journal =
+    (journal ≡ script.events) × IsRefused script × (IsWhole o (text_of script) ⊎ IsCut o (text_of script))
 Ran ReadFault script o journal = ⊥
 Ran WriteFault script o journal = (journal ≡ script.events) × (script.refused ≡ None) × IsCut o (text_of script)
 Ran NoMemory script o journal = RanOut script o journal

@@ -22,11 +22,13 @@ told_text journal = text_of (ended journal)
 abbrev pub refused_after : List Event → Refusal → List ℕ
 refused_after journal refusal = text_of (refused_at journal refusal.line refusal.word)
 
--- What the output got is the journal's own text: whole, or a front of it where the count of faults has risen or memory ran out.
+-- What the output got is the journal's own text: whole, or a front of it where the count of faults has
+-- risen or memory ran out.
 abbrev pub PutsOwn : End → Seen → List Event → Type 0
 PutsOwn Done o journal = IsWhole o (told_text journal)
 PutsOwn Usage o journal = IsIdle o journal
-PutsOwn Script o journal = (refusal : Refusal) × (IsWhole o (refused_after journal refusal) ⊎ IsCut o (refused_after journal refusal))
+PutsOwn Script o journal =
+    (refusal : Refusal) × (IsWhole o (refused_after journal refusal) ⊎ IsCut o (refused_after journal refusal))
 PutsOwn ReadFault o journal = IsIdle o journal
 PutsOwn WriteFault o journal = IsCut o (told_text journal)
 PutsOwn NoMemory o journal = PutsFront o.before.bytes (told_text journal) o.now.bytes
@@ -40,8 +42,8 @@ pub record GivesAgain (bytes : List ℕ) (journal : List Event) : Type 0 where
   pub events : script_of bytes ≡ ended journal
   pub text : text_of (script_of bytes) ≡ replied journal ++ report_text (view_of journal)
 
--- The lines of the journal, and then the report of its run, ask for the journal's events and no others, each enabled at its place, however
--- many they are. Where they are no more bytes than a transcript has, they are one.
+-- The lines of the journal, and then the report of its run, ask for the journal's events and no others, each enabled at
+-- its place, however many they are. Where they are no more bytes than a transcript has, they are one.
 pub record RoundTrips (journal : List Event) : Type 0 where
   pub lines : play [] 1 (lines_of (transcript_of journal)) ≡ ended journal
   pub again : length (transcript_of journal) ≤ input_limit → GivesAgain (transcript_of journal) journal

@@ -29,7 +29,8 @@ abbrev pub Packs : PackEnd → Packing → Seen → List Event → Type 0
 Packs Done packing o journal = (journal ≡ packing.journal) × (packing.refused ≡ None) × IsWhole o (packed_text packing)
 Packs Script packing o journal = (journal ≡ packing.journal) × IsRefused packing × IsPut o (packed_text packing)
 Packs ReadFault packing o journal = ⊥
-Packs WriteFault packing o journal = (journal ≡ packing.journal) × (packing.refused ≡ None) × IsCut o (packed_text packing)
+Packs WriteFault packing o journal =
+    (journal ≡ packing.journal) × (packing.refused ≡ None) × IsCut o (packed_text packing)
 Packs NoMemory packing o journal = IsIdle o journal
 
 -- Some bytes, those that the input told where it tells them, were packed so.

@@ -1,5 +1,6 @@
 -- What a text in words spells, and what is written.
-use Rattle.std.specs.Prelude.{◌≡◌, ℕ, ◌+◌, nat_lt, List, [], ◌∷◌, ◌++◌, length, Option, Some, None, if◌then◌else◌, codes}
+use Rattle.std.specs.Prelude.{◌≡◌, ℕ, ◌+◌, nat_lt, List, [], ◌∷◌, ◌++◌, length, Option, Some, None, if◌then◌else◌}
+use Rattle.std.specs.Prelude.{codes}
 use Rattle.am_text.specs.Lines.{lines_of}
 use Rattle.am_journal.specs.declared.event.Event.{Event}
 use Rattle.am_journal.specs.Journal.{is_report, journal_text}
@@ -31,7 +32,8 @@ pack_line events k (Some (line.Reply c m)) go = go events
 -- the lines from number k on, where these events came before; a line `report` ends the text
 unfoldable pub pack : List Event → ℕ → List (List ℕ) → Packing
 pack events k [] = all_of events
-pack events k (l ∷ ls) = if is_report l then all_of events else pack_line events k (line_of l) (λ next. pack next (k + 1) ls)
+pack events k (l ∷ ls) =
+    if is_report l then all_of events else pack_line events k (line_of l) (λ next. pack next (k + 1) ls)
 
 -- the most bytes that a text in words has
 abbrev pub pack_limit : ℕ
@@ -71,4 +73,5 @@ line_packing events k l go = if is_report l then all_of events else pack_line ev
 abbrev pub DidLine : Did → List Event → List ℕ → List Event → Type 0
 DidLine did.Read before l now = (k : ℕ) (go : List Event → Packing) → line_packing before k l go ≡ go now
 DidLine did.Report before l now = (k : ℕ) (go : List Event → Packing) → line_packing before k l go ≡ all_of now
-DidLine did.Nothing before l now = (k : ℕ) (go : List Event → Packing) → line_packing before k l go ≡ refused_at now k fault.Line
+DidLine did.Nothing before l now =
+    (k : ℕ) (go : List Event → Packing) → line_packing before k l go ≡ refused_at now k fault.Line

@@ -1,5 +1,5 @@
 -- The steps of a replay.
-use Rattle.std.specs.Prelude.{◌≡◌, ℕ, Bool, true, false, List, [], ◌∷◌, ◌++◌, None, if◌then◌else◌}
+use Rattle.std.specs.Prelude.{◌≡◌, ◌⊎◌, ℕ, Bool, true, false, List, [], ◌∷◌, ◌++◌, None, if◌then◌else◌}
 use Rattle.am_journal.specs.declared.event.Event.{Event}
 use Rattle.am_journal.specs.Journal.{is_report}
 use Rattle.am_journal.specs.Line.{event_of}
@@ -21,9 +21,12 @@ line_script events k line go = if is_report line then ended events else play_lin
 
 -- what one line did
 abbrev pub DidLine : Did → List Event → ℕ → List ℕ → List Event → Type 0
-DidLine did.Event before k line now = ((go : List Event → Script) → line_script before k line go ≡ go now) × ((e : Event) × (now ≡ before ++ e ∷ []))
-DidLine did.Report before k line now = ((go : List Event → Script) → line_script before k line go ≡ ended now) × (now ≡ before)
-DidLine (did.Refused f) before k line now = ((go : List Event → Script) → line_script before k line go ≡ refused_at now k (fault_word f)) × (now ≡ before)
+DidLine did.Event before k line now =
+    ((go : List Event → Script) → line_script before k line go ≡ go now) × ((e : Event) × (now ≡ before ++ e ∷ []))
+DidLine did.Report before k line now =
+    ((go : List Event → Script) → line_script before k line go ≡ ended now) × (now ≡ before)
+DidLine (did.Refused f) before k line now =
+    ((go : List Event → Script) → line_script before k line go ≡ refused_at now k (fault_word f)) × (now ≡ before)
 DidLine did.NoMemory before k line now = now ≡ before
 
 -- what putting a text does, by whether the output failed before and fails now
@@ -55,3 +58,15 @@ abbrev pub end_at : Stop → Bool → End
 end_at stop.Report failed = if failed then ends.WriteFault else ends.Done
 end_at (stop.Refused line f) failed = ends.Script
 end_at stop.NoMemory failed = ends.NoMemory
+
+-- what stands at the end was put
+pub record EndIsPut (s : Stop) (failed : Bool) (o : Seen) (journal : List Event) (end : End) : Type 0 where
+  pub text : List ℕ
+  pub failed_now : Bool
+  pub told : EndText s journal text
+  pub put : Put failed failed_now o text
+  pub is : end ≡ end_at s failed_now
+
+-- what stands at the end was put, or there was no memory for it
+abbrev pub Finishes : Stop → Bool → Seen → List Event → End → Type 0
+Finishes s failed o journal end = EndIsPut s failed o journal end ⊎ ((end ≡ ends.NoMemory) × (o.now ≡ o.before))

@@ -42,11 +42,13 @@ play_line events k (Some e) go = play_event events k e (enabled events e) go
 -- the lines from number k on, where these events were done before; a line `report` ends the script
 unfoldable pub play : List Event → ℕ → List (List ℕ) → Script
 play events k [] = ended events
-play events k (l ∷ ls) = if is_report l then ended events else play_line events k (event_of l) (λ next. play next (k + 1) ls)
+play events k (l ∷ ls) =
+    if is_report l then ended events else play_line events k (event_of l) (λ next. play next (k + 1) ls)
 
 -- the script of a transcript; one that is too long is refused whole
 unfoldable pub script_of : List ℕ → Script
-script_of bytes = if nat_lt input_limit (length bytes) then refused_at [] 0 (codes "input") else play [] 1 (lines_of bytes)
+script_of bytes =
+    if nat_lt input_limit (length bytes) then refused_at [] 0 (codes "input") else play [] 1 (lines_of bytes)
 
 -- a line for each reply
 abbrev pub reply_line : Reply → List ℕ

@@ -78,12 +78,14 @@ Shown stop.NoMemory failed o journal = (text : List ℕ) × IsFront text (traced
 
 -- what each end says of a script, the output and the journal
 abbrev pub Traces : End → scripts.Script → Seen → List Event → Type 0
-Traces Done script o journal = (journal ≡ script.events) × (script.refused ≡ None) × IsWhole o (trace_of script) × AllHaveWords start journal
+Traces Done script o journal =
+    (journal ≡ script.events) × (script.refused ≡ None) × IsWhole o (trace_of script) × AllHaveWords start journal
 Traces Usage script o journal = ⊥
 Traces Script script o journal = (journal ≡ script.events) × IsRefused script × IsPut o (trace_of script)
 Traces ReadFault script o journal = ⊥
 Traces WriteFault script o journal = (journal ≡ script.events) × (script.refused ≡ None) × IsCut o (trace_of script)
-Traces NoMemory script o journal = IsFront journal script.events × PutsFront o.before.bytes (trace_of script) o.now.bytes
+Traces NoMemory script o journal =
+    IsFront journal script.events × PutsFront o.before.bytes (trace_of script) o.now.bytes
 
 -- Some bytes, those that the input told where it tells them, were traced so.
 abbrev pub TracesSome : End → Option (List ℕ) → Seen → List Event → Type 0

@@ -108,9 +108,10 @@ fn refuse_input<O: Sink>(alloc: Global, output: &mut O) -> Packed
     write_packing(alloc, packing, output)
 }
 
-/// Packs the text in words that the input gives: at most 67,108,864 bytes, up to a line `report` or the end. The journal is the
-/// events that its lines spell, and the output gets that journal's lines. Messages to connections are read and dropped. At a line that
-/// isn't in words the text is refused, after the lines before it. No event is done, so that one that isn't enabled passes.
+/// Packs the text in words that the input gives: at most 67,108,864 bytes, up to a line `report` or the end. The
+/// journal is the events that its lines spell, and the output gets that journal's lines. Messages to connections are
+/// read and dropped. At a line that isn't in words the text is refused, after the lines before it. No event is done, so
+/// that one that isn't enabled passes.
 pub fn pack<I: Source, O: Sink>(alloc: Global, input: &mut I, output: &mut O) -> Packed
     ensures says { PackSays result.end (I.told input.old) (I.told input.new)
         (seen (O.told output.old) (O.told output.new))

@@ -7,7 +7,8 @@ ghost use Rattle.acme_core.specs.Run.{settled};
 ghost use Rattle.core_laws.specs.Journals.{JournalLaws};
 ghost use Rattle.am_replay.specs.Scripts.{play, end_of, refused_at};
 ghost use Rattle.am_replay.specs.Ends.{Ran, Says};
-ghost use Rattle.am_replay.specs.Playing.{EndText, end_at};
+ghost use Rattle.am_replay.specs.Playing.{EndText, Finishes, end_at};
+ghost use Rattle.am_replay.specs.Traces.{Traces};
 
 use crate::script::{Played, Stop, play, put};
 use acme_core::{Core, Journal};
@@ -42,13 +43,15 @@ pub struct Ended {
     pub journal: Journal,
 }
 
-/// The events that were done, at the end.
-pub(crate) fn journal_of(core: Core) -> Journal
+// The events that were done, at the end.
+fn journal_of(core: Core) -> Journal
     ensures journal { result ≡ core.journal }
     ensures laws { JournalLaws result }
 {
+    // law: each event was enabled, and could be done, at its place
     core.events_were_enabled();
     core.events_were_possible();
+    // law: journals are lawful
     journals_are_lawful();
     core.into_journal()
 }
@@ -58,6 +61,7 @@ pub(crate) fn no_events(alloc: Global, end: End) -> Ended
     ensures journal { result.journal ≡ [] }
     ensures laws { JournalLaws result.journal }
 {
+    // law: journals are lawful
     journals_are_lawful();
     Ended {
         end,
@@ -74,8 +78,8 @@ fn report_text(alloc: Global, core: &Core) -> Result<Bytes, NoMemory>
     report(alloc, &view)
 }
 
-/// What is written at a stop; a stop for want of memory has none.
-pub(crate) fn end_text(alloc: Global, core: &Core, stop: Stop) -> Result<Bytes, NoMemory>
+// What is written at a stop; a stop for want of memory has none.
+fn end_text(alloc: Global, core: &Core, stop: Stop) -> Result<Bytes, NoMemory>
     requires { core.now ≡ settled core.now.journal }
     ensures { IfOk result (λ text. EndText stop core.now.journal text) }
 {
@@ -86,8 +90,8 @@ pub(crate) fn end_text(alloc: Global, core: &Core, stop: Stop) -> Result<Bytes, 
     }
 }
 
-/// How a replay ends that stopped so.
-pub(crate) fn end_at(stop: Stop, failed: bool) -> End
+// How a run ends that stopped so.
+fn end_at(stop: Stop, failed: bool) -> End
     ensures { result ≡ end_at stop failed }
 {
     match stop {
@@ -97,17 +101,15 @@ pub(crate) fn end_at(stop: Stop, failed: bool) -> End
     }
 }
 
-/// Replays a transcript of lawful length.
-fn replay_lines<O: Sink>(alloc: Global, bytes: &[u8], output: &mut O) -> Ended
-    ensures ran { Ran result.end (play [] 1 (lines_of bytes.now))
+/// Writes what stands at the end of a run that stopped so.
+pub(crate) fn finish<O: Sink>(alloc: Global, core: Core, played: Played, output: &mut O) -> Ended
+    requires { core ≡ settled core.journal }
+    ensures ends { Finishes played.stop played.failed
         (seen (O.told output.old) (O.told output.new))
-        result.journal }
+        core.journal result.end }
+    ensures journal { result.journal ≡ core.journal }
     ensures laws { JournalLaws result.journal }
 {
-    let Ok(mut core) = Core::new(alloc) else {
-        return no_events(alloc, End::NoMemory);
-    };
-    let played = play(alloc, &mut core, output, bytes);
     match end_text(alloc, &core, played.stop) {
         Ok(text) => {
             let failed = put(output, played.failed, text.as_slice());
@@ -124,8 +126,11 @@ fn replay_lines<O: Sink>(alloc: Global, bytes: &[u8], output: &mut O) -> Ended
 }
 
 /// Refuses a transcript that is too long.
-fn refuse_input<O: Sink>(alloc: Global, output: &mut O) -> Ended
+pub(crate) fn refuse_input<O: Sink>(alloc: Global, output: &mut O) -> Ended
     ensures ran { Ran result.end (refused_at [] 0 (codes "input"))
+        (seen (O.told output.old) (O.told output.new))
+        result.journal }
+    ensures traces { Traces result.end (refused_at [] 0 (codes "input"))
         (seen (O.told output.old) (O.told output.new))
         result.journal }
     ensures laws { JournalLaws result.journal }
@@ -137,6 +142,20 @@ fn refuse_input<O: Sink>(alloc: Global, output: &mut O) -> Ended
         }
         Err(NoMemory) => no_events(alloc, End::NoMemory),
     }
+}
+
+/// Replays a transcript of lawful length.
+fn replay_lines<O: Sink>(alloc: Global, bytes: &[u8], output: &mut O) -> Ended
+    ensures ran { Ran result.end (play [] 1 (lines_of bytes.now))
+        (seen (O.told output.old) (O.told output.new))
+        result.journal }
+    ensures laws { JournalLaws result.journal }
+{
+    let Ok(mut core) = Core::new(alloc) else {
+        return no_events(alloc, End::NoMemory);
+    };
+    let played = play(alloc, &mut core, output, bytes);
+    finish(alloc, core, played, output)
 }
 
 /// Replays the transcript that the input gives.

@@ -1,6 +1,6 @@
 //! A trace: a replay in words.
 
-ghost use Rattle.std.specs.Prelude.{◌≡◌, ◌++◌, ◌<◌, ◌∷◌, [], List, length, codes, IfOk, OnOk};
+ghost use Rattle.std.specs.Prelude.{◌≡◌, ◌++◌, ◌<◌, ◌∷◌, [], List, length, IfOk, OnOk};
 ghost use Rattle.std.specs.List.{AllByRecursion};
 ghost use Rattle.am_text.specs.Lines.{lines_of};
 ghost use Rattle.am_base.specs.Seen.{seen};
@@ -8,15 +8,15 @@ ghost use Rattle.am_journal.specs.declared.event.Event.{Event};
 ghost use Rattle.ninep_types.specs.Reading.{r_of};
 ghost use Rattle.acme_core.specs.Run.{run, settled};
 ghost use Rattle.core_laws.specs.Journals.{JournalLaws};
-ghost use Rattle.am_replay.specs.Playing.{Stops, end_at};
-ghost use Rattle.am_replay.specs.Scripts.{play, refused_at};
+ghost use Rattle.am_replay.specs.Playing.{Stops};
+ghost use Rattle.am_replay.specs.Scripts.{play};
 ghost use Rattle.am_replay.specs.Traces.{event_line, message_line, replies_words, HasWords, Shown, Traces, TraceSays};
 
-use crate::replaying::{End, Ended, end_at, end_text, journal_of, no_events};
+use crate::replaying::{End, Ended, finish, no_events, refuse_input};
 use crate::script::{Did, Played, Stop, do_line, put};
 use acme_core::Core;
 use am_base::{INPUT_LIMIT, ReadStop, Sink, Source, read_to_end};
-use am_journal::{CONNECTIONS, refused_line};
+use am_journal::CONNECTIONS;
 use am_text::{Bytes, Items, NoMemory, split_line};
 use ninep_trace::{words_of, words_r};
 use ninep_types::MAX_MSIZE;
@@ -26,7 +26,8 @@ use std::alloc::Global;
 // The line in words of the last event, with its newline.
 fn last_event(alloc: Global, core: &Core) -> Result<Bytes, NoMemory>
     requires { 0 < length core.now.journal }
-    ensures { IfOk result (λ line. (before : List Event) (e : Event) → core.now.journal ≡ before ++ e ∷ [] → line ≡ event_line e) }
+    ensures { IfOk result (λ line. (before : List Event) (e : Event) → core.now.journal ≡ before ++ e ∷ [] → line
+        ≡ event_line e) }
 {
     core.events_were_enabled();
     let entries = core.journal();
@@ -36,8 +37,8 @@ fn last_event(alloc: Global, core: &Core) -> Result<Bytes, NoMemory>
     Ok(line)
 }
 
-// The line in words of a message to a connection, with its newline. All replies are messages that have words; one that is none
-// would end the trace as want of memory does.
+// The line in words of a message to a connection, with its newline. All replies are messages that have words; one that
+// is none would end the trace as want of memory does.
 fn reply_words(alloc: Global, conn: u32, bytes: &[u8]) -> Result<Bytes, NoMemory>
     ensures line { IfOk result (λ line. line ≡ message_line conn (r_of bytes.now)) }
     ensures worded { IfOk result (λ line. HasWords (record { conn = conn; bytes = bytes.now })) }
@@ -136,35 +137,7 @@ fn trace_lines<O: Sink>(alloc: Global, bytes: &[u8], output: &mut O) -> Ended
         return no_events(alloc, End::NoMemory);
     };
     let played = play_words(alloc, &mut core, output, bytes);
-    match end_text(alloc, &core, played.stop) {
-        Ok(text) => {
-            let failed = put(output, played.failed, text.as_slice());
-            Ended {
-                end: end_at(played.stop, failed),
-                journal: journal_of(core),
-            }
-        }
-        Err(NoMemory) => Ended {
-            end: End::NoMemory,
-            journal: journal_of(core),
-        },
-    }
-}
-
-/// Refuses a transcript that is too long.
-fn refuse_trace<O: Sink>(alloc: Global, output: &mut O) -> Ended
-    ensures traces { Traces result.end (refused_at [] 0 (codes "input"))
-        (seen (O.told output.old) (O.told output.new))
-        result.journal }
-    ensures laws { JournalLaws result.journal }
-{
-    match refused_line(alloc, 0, b"input") {
-        Ok(text) => {
-            let _failed = put(output, false, text.as_slice());
-            no_events(alloc, End::Script)
-        }
-        Err(NoMemory) => no_events(alloc, End::NoMemory),
-    }
+    finish(alloc, core, played, output)
 }
 
 /// Traces the transcript that the input gives.
@@ -176,7 +149,7 @@ pub fn trace<I: Source, O: Sink>(alloc: Global, input: &mut I, output: &mut O) -
 {
     match read_to_end(alloc, input, INPUT_LIMIT) {
         Ok(bytes) => trace_lines(alloc, bytes.as_slice(), output),
-        Err(ReadStop::TooLong) => refuse_trace(alloc, output),
+        Err(ReadStop::TooLong) => refuse_input(alloc, output),
         Err(ReadStop::ReadFault) => no_events(alloc, End::ReadFault),
         Err(ReadStop::NoMemory) => no_events(alloc, End::NoMemory),
     }

@@ -1,5 +1,6 @@
 -- What the words after the program's name ask for.
-use Rattle.std.specs.Prelude.{◌≡◌, ◌⊎◌, ℕ, ◌≤◌, ◌==◌, nat_lt, nat_le, Bool, true, false, not, ◌&&◌, List, [], ◌∷◌, Option, Some}
+use Rattle.std.specs.Prelude.{◌≡◌, ◌⊎◌, ℕ, ◌≤◌, ◌==◌, nat_lt, nat_le, Bool, true, false, not, ◌&&◌, List, [], ◌∷◌}
+use Rattle.std.specs.Prelude.{Option, Some}
 use Rattle.std.specs.Prelude.{None, if◌then◌else◌, codes, string_bytes}
 use Rattle.std.specs.Str.{bytes_eq, IsUtf8}
 use Rattle.am_text.specs.Ascii.{minus}
@@ -73,7 +74,9 @@ or_else path (Some number) other = path_and_clients path number
 
 -- the option and its number are one word, before or behind the path
 abbrev pub in_two : List ℕ → List ℕ → Option (List ℕ × ℕ)
-in_two first second = or_else second (after_front (codes "--clients=") first) (or_else first (after_front (codes "--clients=") second) None)
+in_two first second =
+    or_else second (after_front (codes "--clients=") first)
+    (or_else first (after_front (codes "--clients=") second) None)
 
 -- the option and its number are two words, before or behind the path
 abbrev pub in_three : List ℕ → List ℕ → List ℕ → Option (List ℕ × ℕ)
@@ -97,7 +100,8 @@ tree_name Plumb = codes "plumb"
 
 -- the tree of this name
 abbrev pub tree_of : List ℕ → Option Tree
-tree_of name = if bytes_eq name (codes "acme") then Some Acme else (if bytes_eq name (codes "plumb") then Some Plumb else None)
+tree_of name =
+    if bytes_eq name (codes "acme") then Some Acme else (if bytes_eq name (codes "plumb") then Some Plumb else None)
 
 -- the path with the tree, where each is one
 abbrev pub with_tree : List ℕ → Option Tree → Option (List ℕ × Tree)
@@ -150,4 +154,5 @@ AskInOne words = (are_replay words ≡ true) ⊎ ((are_trace words ≡ true) ⊎
 -- the words ask for something
 abbrev pub AreKnown : List (List ℕ) → Type 0
 AreKnown words = AskInOne words ⊎ (((rounds : ℕ) × (asks_drill words ≡ Some rounds))
-    ⊎ (((path : List ℕ) × (clients : ℕ) × AskServe words path clients) ⊎ ((path : List ℕ) × (tree : Tree) × AskDo words path tree)))
+    ⊎ (((path : List ℕ) × (clients : ℕ) × AskServe words path clients)
+    ⊎ ((path : List ℕ) × (tree : Tree) × AskDo words path tree)))

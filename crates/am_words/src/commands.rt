@@ -40,7 +40,8 @@ fn serve_command<'a>(alloc: Global) -> Result<Command<'a>, NoMemory>
 // What the command makes of words that it takes: it refuses them only for want of memory.
 fn matches_of<'a>(command: Command<'a>, words: &'a [&'a str]) -> Result<ArgMatches<'a>, NoMemory>
     requires { takes (app_of command) (map (λ word. word.now) words.now) ≡ true }
-    ensures { IfOk result (λ m. rows_of (found_of m) ≡ matches_of (app_of command.entry) (map (λ word. word.now) words.entry.now)) }
+    ensures { IfOk result (λ m. rows_of (found_of m)
+        ≡ matches_of (app_of command.entry) (map (λ word. word.now) words.entry.now)) }
 {
     match command.try_get_matches_from(words) {
         Ok(matches) => Ok(matches),
@@ -78,7 +79,8 @@ pub(crate) fn parse_drill(alloc: Global, words: &[&str]) -> Result<u64, NoMemory
 /// The path and the number of clients that the words after `serve` ask for.
 pub(crate) fn parse_serve(alloc: Global, words: &[&str]) -> Result<Serving, NoMemory>
     requires { is_some (serve_reads (map (λ word. word.now) words.now)) ≡ true }
-    ensures { IfOk result (λ s. serve_reads (map (λ word. word.now) words.now) ≡ Some (string_bytes s.path, s.clients)) }
+    ensures { IfOk result (λ s. serve_reads (map (λ word. word.now) words.now)
+        ≡ Some (string_bytes s.path, s.clients)) }
 {
     let matches = matches_of(serve_command(alloc)?, words)?;
     let path = value_of(&matches, "path");

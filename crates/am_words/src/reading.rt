@@ -3,7 +3,8 @@
 ghost use Rattle.std.specs.Prelude.{◌≡◌, [], ◌∷◌, Some, true, is_some, IfErr, IfNone, IfOk, IfSome, string_bytes};
 ghost use Rattle.std.specs.List.{AllByRecursion};
 ghost use Rattle.std.specs.Str.{IsUtf8};
-ghost use Rattle.am_words.specs.Words.{AreKnown, AsksFor, IsText, IsWithin, asks_do, asks_drill, asks_serve, in_three, in_two, rounds_of, tree_of, with_tree};
+ghost use Rattle.am_words.specs.Words.{AreKnown, AsksFor, IsText, IsWithin, asks_do, asks_drill, asks_serve, in_three};
+ghost use Rattle.am_words.specs.Words.{in_two, rounds_of, tree_of, with_tree};
 
 use crate::asked::{Asked, Doing, Serving};
 use crate::commands::{parse_drill, parse_serve};
@@ -53,7 +54,8 @@ fn read_number(alloc: Global, number: &[u8]) -> Result<Option<u64>, NoMemory>
 
 // The path and the number of clients that two words ask for.
 fn read_two(alloc: Global, first: &[u8], second: &[u8]) -> Result<Option<Serving>, NoMemory>
-    ensures some { IfOk result (λ r. IfSome r (λ s. in_two first.now second.now ≡ Some (string_bytes s.path, s.clients))) }
+    ensures some { IfOk result (λ r. IfSome r (λ s. in_two first.now second.now
+        ≡ Some (string_bytes s.path, s.clients))) }
     ensures none { IfOk result (λ r. IfNone r (¬ IsText (in_two first.now second.now))) }
     ensures known { IfErr result (λ e. IsText (in_two first.now second.now)) }
 {
@@ -73,7 +75,8 @@ fn read_three(
     second: &[u8],
     third: &[u8],
 ) -> Result<Option<Serving>, NoMemory>
-    ensures some { IfOk result (λ r. IfSome r (λ s. in_three first.now second.now third.now ≡ Some (string_bytes s.path, s.clients))) }
+    ensures some { IfOk result (λ r. IfSome r (λ s. in_three first.now second.now third.now
+        ≡ Some (string_bytes s.path, s.clients))) }
     ensures none { IfOk result (λ r. IfNone r (¬ IsText (in_three first.now second.now third.now))) }
     ensures known { IfErr result (λ e. IsText (in_three first.now second.now third.now)) }
 {
@@ -118,7 +121,8 @@ fn read_serve(alloc: Global, words: &[Bytes]) -> Result<Option<Serving>, NoMemor
 
 // The path and the tree that two words ask for.
 fn read_path_and_tree(alloc: Global, path: &[u8], tree: &[u8]) -> Result<Option<Doing>, NoMemory>
-    ensures some { IfOk result (λ r. IfSome r (λ d. with_tree path.now (tree_of tree.now) ≡ Some (string_bytes d.path, d.tree))) }
+    ensures some { IfOk result (λ r. IfSome r (λ d. with_tree path.now (tree_of tree.now)
+        ≡ Some (string_bytes d.path, d.tree))) }
     ensures none { IfOk result (λ r. IfNone r (¬ IsText (with_tree path.now (tree_of tree.now)))) }
     ensures known { IfErr result (λ e. IsText (with_tree path.now (tree_of tree.now))) }
 {
@@ -151,10 +155,11 @@ fn read_do(alloc: Global, words: &[Bytes]) -> Result<Option<Doing>, NoMemory>
     }
 }
 
-/// What the words after the program's name ask for: a replay by `replay`, a trace by `trace`, packing by `pack`, a drill by `drill N`, serving by
-/// `serve PATH --clients N`, where the option may stand before the path, and may be one word, `--clients=N`, and doing lines by
-/// `do PATH TREE`, the tree being `acme` or `plumb`. A number of rounds is 1 to 100,000, one of clients 1 to 64, in digits without a leading
-/// zero. A path is a text that isn't empty and doesn't begin with `-`. Other words ask for nothing.
+/// What the words after the program's name ask for: a replay by `replay`, a trace by `trace`, packing by `pack`, a
+/// drill by `drill N`, serving by `serve PATH --clients N`, where the option may stand before the path, and may be one
+/// word, `--clients=N`, and doing lines by `do PATH TREE`, the tree being `acme` or `plumb`. A number of rounds is 1 to
+/// 100,000, one of clients 1 to 64, in digits without a leading zero. A path is a text that isn't empty and doesn't
+/// begin with `-`. Other words ask for nothing.
 pub fn read_words(alloc: Global, words: &[Bytes]) -> Result<Option<Asked>, NoMemory>
     // What is asked for is what the words say.
     ensures asked { IfOk result (λ asked. IfSome asked (AsksFor words.now)) }

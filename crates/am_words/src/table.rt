@@ -1,7 +1,8 @@
 //! The table of the words, as a test that takes no memory.
 
 ghost use Rattle.std.specs.Prelude.{◌≡◌, is_some};
-ghost use Rattle.am_words.specs.Words.{are_alone, are_pack, are_replay, are_trace, clients_of, in_three, in_two, is_path, path_and_clients, rounds_of, tree_of};
+ghost use Rattle.am_words.specs.Words.{are_alone, are_pack, are_replay, are_trace, clients_of, in_three, in_two};
+ghost use Rattle.am_words.specs.Words.{is_path, path_and_clients, rounds_of, tree_of};
 
 use crate::asked::Tree;
 use am_journal::CONNECTIONS;

@@ -3,10 +3,13 @@ use Rattle.std.specs.Prelude.{◌≡◌, ◌==◌, ℕ, ◌<◌, List, [], ◌�
 use Rattle.wait_queue.specs.declared.types.Asker.{Asker}
 use Rattle.wait_queue.specs.declared.types.Piece.{Piece}
 use Rattle.win_events.specs.declared.item.Item.{Item}
-use Rattle.event_book.specs.BookState.{BookState, IsOpen, IsLiving, IsTaken, read_waits, piece_for, served_of, after_add, after_put, after_ask, after_serve, after_written, after_cancel, after_leave, after_delete}
+use Rattle.event_book.specs.BookState.{BookState, IsOpen, IsLiving, IsTaken, read_waits, piece_for, served_of}
+use Rattle.event_book.specs.BookState.{after_add, after_put, after_ask, after_serve, after_written, after_cancel}
+use Rattle.event_book.specs.BookState.{after_leave, after_delete}
 use Rattle.wait_queue.specs.Limits.{max_openings}
 
--- An opening is added to a window, an item is put into it, a read is asked, or the oldest waiting read that can be answered is served.
+-- An opening is added to a window, an item is put into it, a read is asked, or the oldest waiting read that
+-- can be answered is served.
 pub data Making : Type 0 where
   Add : ℕ → Making
   Put : ℕ → Item → Making
@@ -70,7 +73,8 @@ all_given at s (c ∷ cs) = given s c ++ all_given at (made at s c) cs
 -- the joined bytes of those answers that are on an opening
 abbrev pub bytes_to : ℕ → Answers → List ℕ
 bytes_to opening [] = []
-bytes_to opening (answer ∷ answers) = (if answer.0.opening == opening then answer.1.bytes else []) ++ bytes_to opening answers
+bytes_to opening (answer ∷ answers) =
+    (if answer.0.opening == opening then answer.1.bytes else []) ++ bytes_to opening answers
 
 -- ---- what ends something, at this entry
 

@@ -1,5 +1,6 @@
 -- What holds of the calls of one entry.
-use Rattle.std.specs.Prelude.{◌≡◌, ◌≢◌, ℕ, ◌-◌, ◌≤◌, ◌<◌, List, [], ◌++◌, length, take, slice_get, Option, Some, None, ◌⊎◌, true}
+use Rattle.std.specs.Prelude.{◌≡◌, ◌≢◌, ℕ, ◌-◌, ◌≤◌, ◌<◌, List, [], ◌++◌, length, take, slice_get, Option, Some, None}
+use Rattle.std.specs.Prelude.{◌⊎◌, true}
 use Rattle.wait_queue.specs.declared.types.Asker.{Asker}
 use Rattle.wait_queue.specs.declared.types.Piece.{Piece}
 use Rattle.win_events.specs.Spelling.{spelling}
@@ -15,8 +16,8 @@ use Rattle.book_calls.specs.Calls.{Answers, bytes_to, IsByCalls}
 
 -- ---- what an opening gets
 
--- What an opening of the file was given is what it took, but for what is missing, which is shorter than the spelling of its last item; where
--- it took none, nothing. While it is open that is what it has left.
+-- What an opening of the file was given is what it took, but for what is missing, which is shorter than the spelling of
+-- its last item; where it took none, nothing. While it is open that is what it has left.
 pub record Gets (given : List ℕ) (f : EventFile) (opening : ℕ) : Type 0 where
   pub missing : List ℕ
   pub joined : given ++ missing ≡ spelled_in opening f.items
@@ -72,11 +73,15 @@ pub record IsLawfulEntry (at : ℕ) (old new : BookState) (answers : Answers) : 
   pub latest : new.latest ≤ at
   pub drops : DropsAt old new at
   pub stays : KeepsEnded old new
-  pub gets : (opening : ℕ) (given : List ℕ) → Gets given (file_on old opening) opening → Gets (given ++ bytes_to opening answers) (file_on new opening) opening
+  pub gets : (opening : ℕ) (given : List ℕ) → Gets given (file_on old opening) opening
+      → Gets (given ++ bytes_to opening answers) (file_on new opening) opening
   pub takes : (window number opening entry : ℕ) (item : Item) → WasTaken new window number item opening entry
       → WasTaken old window number item opening entry ⊎ ((entry ≡ at) × HasItsAnswer answers number item opening)
-  pub windows : (window number opening entry : ℕ) (item : Item) → WasTaken new window number item opening entry → window_of new.owners opening ≡ window
+  pub windows : (window number opening entry : ℕ) (item : Item) → WasTaken new window number item opening entry
+      → window_of new.owners opening ≡ window
 
 -- so it is with any calls of an entry
 abbrev pub CallsAreLawful : Type 0
-CallsAreLawful = (at : ℕ) (old new : BookState) (answers : Answers) → IsBefore at old → IsByCalls at old new answers → IsLawfulEntry at old new answers
+CallsAreLawful =
+    (at : ℕ) (old new : BookState) (answers : Answers) → IsBefore at old → IsByCalls at old new answers
+    → IsLawfulEntry at old new answers

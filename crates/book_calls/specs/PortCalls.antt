@@ -31,11 +31,13 @@ abbrev pub coming_on : Option ℕ → PortsState → List ℕ → ℕ → List (
 coming_on None s message opening = []
 coming_on (Some port) s message opening = if is_on port (inbox_of s.openings opening) then message ∷ [] else []
 
--- The messages that the call brings to an opening: what its port keeps, where it joins; and while it is there, each message to its port.
+-- The messages that the call brings to an opening: what its port keeps, where it joins; and while it is there,
+-- each message to its port.
 abbrev pub comes_to : ℕ → PortsState → Call → List (List ℕ)
 comes_to opening s (Add name) = []
 comes_to opening s (Join port o) = if o == opening then kept_of s.ports port else []
-comes_to opening s (Deliver name message keep) = if has_joined s opening then coming_on (number_of s.ports name) s message opening else []
+comes_to opening s (Deliver name message keep) =
+    if has_joined s opening then coming_on (number_of s.ports name) s message opening else []
 comes_to opening s (Ask r) = []
 comes_to opening s Serve = []
 comes_to opening s (Cancel conn tag) = []

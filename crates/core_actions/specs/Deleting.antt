@@ -25,7 +25,8 @@ clean_deeds w s = deed.Windows (change.Sets w setting.Clean) ∷ []
 -- it counts as unmodified, and this is said in its directory's errors window
 abbrev pub warn_deeds : Entry → ℕ → SceneState → List Deed
 warn_deeds e w s =
-    then_ e (clean_deeds w) (errors_deeds e (dir_of (window_at s.windows w)) (warning (name_of (window_at s.windows w)))) s
+    then_ e (clean_deeds w) (errors_deeds e (dir_of (window_at s.windows w))
+    (warning (name_of (window_at s.windows w)))) s
 
 -- Del: a window that is modified and guarded is warned of, any other is deleted
 abbrev pub del_deeds : Entry → ℕ → SceneState → List Deed

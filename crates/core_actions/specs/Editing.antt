@@ -29,7 +29,9 @@ range_put r text = record { q0 = r.q0; q1 = r.q0 + length text }
 
 -- a text takes the place of a range, and is dot
 abbrev pub put_over : ℕ → Range → List ℕ → List Deed
-put_over w r text = deed.Windows (change.Edits w (replacement r text)) ∷ deed.Windows (change.Sets w (setting.Dot (range_put r text))) ∷ []
+put_over w r text =
+    deed.Windows (change.Edits w (replacement r text)) ∷ deed.Windows (change.Sets w (setting.Dot (range_put r text)))
+    ∷ []
 
 -- how many runes are left without the text that is selected
 abbrev pub size_around : Option Window → ℕ
@@ -38,5 +40,6 @@ size_around window = length (text_in window) - ((dot_of window).q1 - (dot_of win
 -- the snarfed text takes the place of the text that is selected, and is selected
 abbrev pub paste_outcome : ℕ → SceneState → Outcome
 paste_outcome w s =
-    if fits (size_around (window_at s.windows w)) (length s.snarf) then does (put_over w (dot_of (window_at s.windows w)) s.snarf)
+    if fits (size_around (window_at s.windows w)) (length s.snarf)
+    then does (put_over w (dot_of (window_at s.windows w)) s.snarf)
     else fails fault.TextTooLong

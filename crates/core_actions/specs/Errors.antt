@@ -1,5 +1,6 @@
 -- Texts for the window that takes what is said about a directory's windows, `+Errors` (acme(1)).
-use Rattle.std.specs.Prelude.{ℕ, ◌==◌, ◌||◌, not, Bool, false, List, [], ◌∷◌, ◌++◌, length, codes, Option, Some, None, if◌then◌else◌}
+use Rattle.std.specs.Prelude.{ℕ, ◌==◌, ◌||◌, not, Bool, false, List, [], ◌∷◌, ◌++◌, length, codes, Option, Some, None}
+use Rattle.std.specs.Prelude.{if◌then◌else◌}
 use Rattle.acme_tree.specs.Trees.{world_is_full}
 use Rattle.win_ctl.specs.Directory.{errors_name}
 use Rattle.core_addresses.specs.Data.{replacement}
@@ -16,7 +17,8 @@ use Rattle.core_actions.specs.Made.{make_deeds}
 
 -- the text is put at the end of a window's body
 abbrev pub append_deeds : ℕ → List ℕ → SceneState → List Deed
-append_deeds w text s = deed.Windows (change.Edits w (replacement (null_at (length (text_in (window_at s.windows w)))) text)) ∷ []
+append_deeds w text s =
+    deed.Windows (change.Edits w (replacement (null_at (length (text_in (window_at s.windows w)))) text)) ∷ []
 
 -- at the end of that window, or of one that is made
 abbrev pub put_in : List ℕ → List ℕ → Option ℕ → SceneState → List Deed
@@ -41,7 +43,7 @@ is_dropped text w s = (length text == 0) || is_missing w s || not (fits (size_of
 abbrev pub errors_in : List ℕ → List ℕ → Option ℕ → SceneState → List Deed
 errors_in name text w s = if is_dropped text w s then [] else put_in name text w s
 
--- The text is put at the end of the directory's errors window, which is made where there is none. It is dropped where it is empty, where the
--- window would have more than 16,777,216 runes, and where the window can't be made.
+-- The text is put at the end of the directory's errors window, which is made where there is none. It is dropped where
+-- it is empty, where the window would have more than 16,777,216 runes, and where the window can't be made.
 abbrev pub errors_deeds : Entry → List ℕ → List ℕ → SceneState → List Deed
 errors_deeds e dir text s = errors_in (errors_name dir) text (named s.windows (errors_name dir)) s

@@ -1,5 +1,6 @@
 -- Get and Put.
-use Rattle.std.specs.Prelude.{ℕ, ◌==◌, ◌&&◌, not, Bool, List, [], ◌∷◌, ◌++◌, length, Option, Result, Ok, Err, if◌then◌else◌}
+use Rattle.std.specs.Prelude.{ℕ, ◌==◌, ◌&&◌, not, Bool, List, [], ◌∷◌, ◌++◌, length, Option, Result, Ok, Err}
+use Rattle.std.specs.Prelude.{if◌then◌else◌}
 use Rattle.std.specs.Str.{bytes_eq}
 use Rattle.am_text.specs.Utf8.{utf8, decode}
 use Rattle.am_text.specs.declared.job.Job.{Job}
@@ -51,7 +52,8 @@ whole_of text = record { q0 = 0; q1 = length text }
 -- the text takes the place of the body, which counts as unmodified
 abbrev pub fill_deeds : ℕ → List ℕ → SceneState → List Deed
 fill_deeds w text s =
-    deed.Windows (change.Edits w (replacement (whole_of (text_in (window_at s.windows w))) text)) ∷ deed.Windows (change.Sets w setting.Clean) ∷ []
+    deed.Windows (change.Edits w (replacement (whole_of (text_in (window_at s.windows w))) text))
+    ∷ deed.Windows (change.Sets w setting.Clean) ∷ []
 
 -- the body becomes this text, where there is one that fits
 abbrev pub fill_outcome : ℕ → Result (List ℕ) ActionFault → SceneState → Outcome
@@ -71,7 +73,8 @@ save_job w dir saved = record { kind = kind.Save; window = w; dir = dir; command
 -- a text is stored under a path, and a program is requested to save it
 abbrev pub store_deeds : ℕ → Saved → SceneState → List Deed
 store_deeds w saved s =
-    deed.Stores (utf8 saved.path) (utf8 saved.text) ∷ deed.Requests (save_job w (dir_of (window_at s.windows w)) saved) ∷ []
+    deed.Stores (utf8 saved.path) (utf8 saved.text) ∷ deed.Requests (save_job w (dir_of (window_at s.windows w)) saved)
+    ∷ []
 
 -- whether the path is that of the window's name
 abbrev pub is_own : Option Window → List ℕ → Bool

@@ -14,4 +14,5 @@ next_window s = (world_of s.windows).next
 
 -- a window of this name is made, and the text is put into it
 abbrev pub make_deeds : List ℕ → List ℕ → SceneState → List Deed
-make_deeds name text s = deed.Windows (change.Makes name) ∷ deed.Windows (change.Edits (next_window s) (replacement null_range text)) ∷ []
+make_deeds name text s =
+    deed.Windows (change.Makes name) ∷ deed.Windows (change.Edits (next_window s) (replacement null_range text)) ∷ []

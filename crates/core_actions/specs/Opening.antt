@@ -70,7 +70,8 @@ show_at e name text address s = then_ e (show_deeds name text) (address_deeds (n
 -- the window is taken, or made where one more can be, and the address sets its dot
 abbrev pub open_deeds : Entry → Target → Option (List ℕ) → SceneState → List Deed
 open_deeds e (target.Live w) address s = address_deeds w address s
-open_deeds e (target.New name text) address s = if world_is_full (world_of s.windows) then [] else show_at e name text address s
+open_deeds e (target.New name text) address s =
+    if world_is_full (world_of s.windows) then [] else show_at e name text address s
 
 -- ---- New
 

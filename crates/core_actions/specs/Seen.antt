@@ -1,5 +1,6 @@
 -- What actions see of a window; of one that doesn't live, nothing.
-use Rattle.std.specs.Prelude.{ℕ, ◌+◌, ◌==◌, ◌&&◌, not, nat_eq, nat_le, Bool, false, List, [], length, codes, slice_range, Option, Some, None}
+use Rattle.std.specs.Prelude.{ℕ, ◌+◌, ◌==◌, ◌&&◌, not, nat_eq, nat_le, Bool, false, List, [], length, codes}
+use Rattle.std.specs.Prelude.{slice_range, Option, Some, None}
 use Rattle.std.specs.List.{ends_with}
 use Rattle.am_text.specs.declared.range.Range.{Range}
 use Rattle.win_ctl.specs.Directory.{directory}
@@ -34,7 +35,8 @@ fits len more = nat_le (len + more) body_runes
 abbrev pub is_dir_name : List ℕ → Bool
 is_dir_name name = ends_with nat_eq name (codes "/")
 
--- A window with such a name isn't deleted by `del` and Del while it is modified: not an empty one, a directory's, or one of an errors window.
+-- A window with such a name isn't deleted by `del` and Del while it is modified: not an empty one, a directory's, or
+-- one of an errors window.
 abbrev pub is_guarded : List ℕ → Bool
 is_guarded name = not (length name == 0) && not (is_dir_name name) && not (ends_with nat_eq name (codes "+Errors"))
 

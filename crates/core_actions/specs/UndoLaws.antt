@@ -18,7 +18,9 @@ abbrev pub moved_if : Move → Option ℕ → Option Window → Option Window
 moved_if m None o = o
 moved_if m (Some n) o = if is_number n (next_group m o) then option_map (moved_window m) o else o
 
--- Undo and Redo in a window move the next group of each window where it has the number of that window's, and leave each other window
--- whole; where that window has no group, all.
+-- Undo and Redo in a window move the next group of each window where it has the number of that window's, and leave each
+-- other window whole; where that window has no group, all.
 abbrev pub MovesAreLinked : Type 0
-MovesAreLinked = (e : Entry) (m : Move) (w : ℕ) (s : SceneState) → (done_all e s (move_deeds m w s)).windows ≡ map (moved_if m (next_group m (window_at s.windows w))) s.windows
+MovesAreLinked =
+    (e : Entry) (m : Move) (w : ℕ) (s : SceneState) → (done_all e s (move_deeds m w s)).windows
+    ≡ map (moved_if m (next_group m (window_at s.windows w))) s.windows

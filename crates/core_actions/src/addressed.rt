@@ -6,7 +6,8 @@ ghost use Rattle.win_text.specs.Bodies.{IsInside};
 ghost use Rattle.core_windows.specs.Possible.{text_in};
 ghost use Rattle.core_windows.specs.Windows.{window_at};
 ghost use Rattle.core_scene.specs.Scenes.{scene_of, kept_of, Did};
-ghost use Rattle.core_actions.specs.Addressed.{is_colon, name_part, address_part, range_of, range_in, dot_to, address_deeds};
+ghost use Rattle.core_actions.specs.Addressed.{is_colon, name_part, address_part, range_of, range_in, dot_to};
+ghost use Rattle.core_actions.specs.Addressed.{address_deeds};
 
 use crate::deeds::set_in_window;
 use addr_syntax::read_address;
@@ -49,6 +50,7 @@ fn range_of(alloc: Global, body: &Body, address: &[Rune]) -> Result<Option<Range
     ensures exact { IfOk result (λ range. range ≡ range_of body.now.state (small_address address.now)) }
     ensures inside { IfOk result (λ range. IfSome range (IsInside body.now.state.text)) }
 {
+    // law: the ranges of a body are inside its text
     body.is_sound();
     let whole = Range {
         q0: 0,
@@ -113,7 +115,8 @@ pub(crate) fn set_dot(
     address: Option<&[Rune]>,
 ) -> Result<(), NoMemory>
     requires { IsSome (window_at scene.old.windows.present window) }
-    ensures ok { OnOk result (Did entry (scene_of scene.old) (scene_of scene.new) (address_deeds window (option_copied address.entry) (scene_of scene.old))) }
+    ensures ok { OnOk result (Did entry (scene_of scene.old) (scene_of scene.new)
+        (address_deeds window (option_copied address.entry) (scene_of scene.old))) }
     ensures kept { kept_of scene.new ≡ kept_of scene.old }
 {
     let Some(address) = address else {

@@ -26,7 +26,8 @@ pub fn set_in_window(
     setting: Setting,
 ) -> Result<(), NoMemory>
     requires { CanSetIn (window_at scene.old.windows.present window) setting }
-    ensures ok { OnOk result (Did entry (scene_of scene.old) (scene_of scene.new) (deed.Windows (change.Sets window setting) ∷ [])) }
+    ensures ok { OnOk result (Did entry (scene_of scene.old) (scene_of scene.new)
+        (deed.Windows (change.Sets window setting) ∷ [])) }
     ensures lives { OnOk result (IsSome (window_at scene.new.windows.present window)) }
     ensures kept { kept_of scene.new ≡ kept_of scene.old }
 {
@@ -46,9 +47,11 @@ pub fn edit_window(
     edits: Edits,
 ) -> Result<(), NoMemory>
     requires { CanEdit (window_at scene.old.windows.present window) edits }
-    ensures ok { OnOk result (Did entry (scene_of scene.old) (scene_of scene.new) (deed.Windows (change.Edits window edits) ∷ [])) }
+    ensures ok { OnOk result (Did entry (scene_of scene.old) (scene_of scene.new)
+        (deed.Windows (change.Edits window edits) ∷ [])) }
     ensures lives { OnOk result (IsSome (window_at scene.new.windows.present window)) }
-    ensures text { OnOk result (text_in (window_at scene.new.windows.present window) ≡ text_after (text_in (window_at scene.old.windows.present window)) edits) }
+    ensures text { OnOk result (text_in (window_at scene.new.windows.present window)
+        ≡ text_after (text_in (window_at scene.old.windows.present window)) edits) }
     ensures kept { kept_of scene.new ≡ kept_of scene.old }
 {
     scene.act(alloc, entry, Deed::Windows(Change::Edits { window, edits }))
@@ -65,7 +68,8 @@ pub(crate) fn edit_and_set(
 ) -> Result<(), NoMemory>
     requires edits { CanEdit (window_at scene.old.windows.present window) both.0 }
     requires setting { CanSet (text_after (text_in (window_at scene.old.windows.present window)) both.0) both.1 }
-    ensures ok { OnOk result (Did entry (scene_of scene.old) (scene_of scene.new) (deed.Windows (change.Edits window both.0) ∷ deed.Windows (change.Sets window both.1) ∷ [])) }
+    ensures ok { OnOk result (Did entry (scene_of scene.old) (scene_of scene.new)
+        (deed.Windows (change.Edits window both.0) ∷ deed.Windows (change.Sets window both.1) ∷ [])) }
     ensures kept { kept_of scene.new ≡ kept_of scene.old }
 {
     let (edits, setting) = both;
@@ -76,8 +80,10 @@ pub(crate) fn edit_and_set(
 /// Makes a window of this name. It lives, and is empty and clean.
 fn make(alloc: Global, scene: &mut Scene, entry: Entry, name: Runes) -> Result<(), NoMemory>
     requires { world_is_full (world_of scene.old.windows.present) ≡ false }
-    ensures ok { OnOk result (Did entry (scene_of scene.old) (scene_of scene.new) (deed.Windows (change.Makes name) ∷ [])) }
-    ensures made { OnOk result (window_at scene.new.windows.present (next_window (scene_of scene.old)) ≡ Some (named_window name)) }
+    ensures ok { OnOk result (Did entry (scene_of scene.old) (scene_of scene.new)
+        (deed.Windows (change.Makes name) ∷ [])) }
+    ensures made { OnOk result (window_at scene.new.windows.present (next_window (scene_of scene.old))
+        ≡ Some (named_window name)) }
     ensures kept { kept_of scene.new ≡ kept_of scene.old }
 {
     scene.act(alloc, entry, Deed::Windows(Change::Makes { name }))
@@ -93,7 +99,8 @@ pub(crate) fn make_with(
     text: Runes,
 ) -> Result<u32, NoMemory>
     requires { world_is_full (world_of scene.old.windows.present) ≡ false }
-    ensures ok { OnOk result (Did entry (scene_of scene.old) (scene_of scene.new) (make_deeds name text (scene_of scene.old))) }
+    ensures ok { OnOk result (Did entry (scene_of scene.old) (scene_of scene.new)
+        (make_deeds name text (scene_of scene.old))) }
     ensures number { IfOk result (λ w. w ≡ next_window (scene_of scene.old)) }
     ensures lives { IfOk result (λ w. IsSome (window_at scene.new.windows.present w)) }
     ensures text { IfOk result (λ w. text_in (window_at scene.new.windows.present w) ≡ text) }

@@ -25,7 +25,8 @@ fn warning(name: Runes) -> Result<Runes, NoMemory>
 /// Delete: a window is deleted, modified or not.
 pub fn delete(alloc: Global, scene: &mut Scene, entry: Entry, window: u32) -> Result<(), NoMemory>
     requires { IsSome (window_at scene.old.windows.present window) }
-    ensures ok { OnOk result (Did entry (scene_of scene.old) (scene_of scene.new) (delete_deeds window (scene_of scene.old))) }
+    ensures ok { OnOk result (Did entry (scene_of scene.old) (scene_of scene.new)
+        (delete_deeds window (scene_of scene.old))) }
     ensures kept { kept_of scene.new ≡ kept_of scene.old }
 {
     scene.act(alloc, entry, Deed::Windows(Change::Deletes { window }))
@@ -35,7 +36,8 @@ pub fn delete(alloc: Global, scene: &mut Scene, entry: Entry, window: u32) -> Re
 #[tactic(auto, using(crate::proofs::Windows::joins))]
 fn warn(alloc: Global, scene: &mut Scene, entry: Entry, window: u32) -> Result<(), NoMemory>
     requires { IsSome (window_at scene.old.windows.present window) }
-    ensures ok { OnOk result (Did entry (scene_of scene.old) (scene_of scene.new) (warn_deeds entry window (scene_of scene.old))) }
+    ensures ok { OnOk result (Did entry (scene_of scene.old) (scene_of scene.new)
+        (warn_deeds entry window (scene_of scene.old))) }
     ensures kept { kept_of scene.new ≡ kept_of scene.old }
 {
     let dir = dir_at(alloc, &scene.windows, window)?;
@@ -44,12 +46,13 @@ fn warn(alloc: Global, scene: &mut Scene, entry: Entry, window: u32) -> Result<(
     append_errors(alloc, scene, entry, dir.as_slice(), text)
 }
 
-/// Del: a window is deleted. One that is modified only counts as unmodified from then on, and is named in its directory's errors
-/// window, unless its name is empty, a directory's, or one of an errors window.
+/// Del: a window is deleted. One that is modified only counts as unmodified from then on, and is named in its
+/// directory's errors window, unless its name is empty, a directory's, or one of an errors window.
 #[tactic(auto, using(crate::proofs::Windows::joins))]
 pub fn del(alloc: Global, scene: &mut Scene, entry: Entry, window: u32) -> Result<(), NoMemory>
     requires { IsSome (window_at scene.old.windows.present window) }
-    ensures ok { OnOk result (Did entry (scene_of scene.old) (scene_of scene.new) (del_deeds entry window (scene_of scene.old))) }
+    ensures ok { OnOk result (Did entry (scene_of scene.old) (scene_of scene.new)
+        (del_deeds entry window (scene_of scene.old))) }
     ensures kept { kept_of scene.new ≡ kept_of scene.old }
 {
     if asks(&scene.windows, window) {

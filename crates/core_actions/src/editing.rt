@@ -19,7 +19,8 @@ use std::alloc::Global;
 /// Snarf: the text that is selected becomes the snarfed text, where there is one. The windows stay as they are.
 #[tactic(auto, using(crate::proofs::Windows::joins))]
 pub fn snarf(alloc: Global, scene: &mut Scene, entry: Entry, window: u32) -> Result<(), NoMemory>
-    ensures ok { OnOk result (Did entry (scene_of scene.old) (scene_of scene.new) (snarf_deeds window (scene_of scene.old))) }
+    ensures ok { OnOk result (Did entry (scene_of scene.old) (scene_of scene.new)
+        (snarf_deeds window (scene_of scene.old))) }
     ensures windows { OnOk result (scene.new.windows.present ≡ scene.old.windows.present) }
     ensures kept { kept_of scene.new ≡ kept_of scene.old }
 {
@@ -35,7 +36,8 @@ pub fn snarf(alloc: Global, scene: &mut Scene, entry: Entry, window: u32) -> Res
 #[tactic(auto, using(crate::proofs::Windows::editing))]
 pub fn cut(alloc: Global, scene: &mut Scene, entry: Entry, window: u32) -> Result<(), NoMemory>
     requires { IsSome (window_at scene.old.windows.present window) }
-    ensures ok { OnOk result (Did entry (scene_of scene.old) (scene_of scene.new) (cut_deeds window (scene_of scene.old))) }
+    ensures ok { OnOk result (Did entry (scene_of scene.old) (scene_of scene.new)
+        (cut_deeds window (scene_of scene.old))) }
     ensures kept { kept_of scene.new ≡ kept_of scene.old }
 {
     let dot = dot_at(&scene.windows, window);
@@ -78,8 +80,10 @@ fn put_over(
 
 // Whether a window has room for the snarfed text in the place of what is selected.
 fn has_room(scene: &Scene, window: u32) -> bool
-    ensures exact { result ≡ fits (size_around (window_at scene.now.windows.present window)) (length scene.now.snarf.present) }
-    ensures small { result ≡ true → (dot_of (window_at scene.now.windows.present window)).q0 + length scene.now.snarf.present < 2 ^ 64 }
+    ensures exact { result ≡ fits (size_around (window_at scene.now.windows.present window))
+        (length scene.now.snarf.present) }
+    ensures small { result ≡ true → (dot_of (window_at scene.now.windows.present window)).q0 + length
+        scene.now.snarf.present < 2 ^ 64 }
 {
     let dot = dot_at(&scene.windows, window);
     let around = size_at(&scene.windows, window) - (dot.q1 - dot.q0);
@@ -90,8 +94,10 @@ fn has_room(scene: &Scene, window: u32) -> bool
 #[tactic(auto, using(crate::proofs::Windows::joins))]
 fn paste_over(alloc: Global, scene: &mut Scene, entry: Entry, window: u32) -> Result<(), NoMemory>
     requires lives { IsSome (window_at scene.old.windows.present window) }
-    requires small { (dot_of (window_at scene.old.windows.present window)).q0 + length scene.old.snarf.present < 2 ^ 64 }
-    ensures ok { OnOk result (Did entry (scene_of scene.old) (scene_of scene.new) (put_over window (dot_of (window_at scene.old.windows.present window)) scene.old.snarf.present)) }
+    requires small { (dot_of (window_at scene.old.windows.present window)).q0 + length scene.old.snarf.present
+        < 2 ^ 64 }
+    ensures ok { OnOk result (Did entry (scene_of scene.old) (scene_of scene.new)
+        (put_over window (dot_of (window_at scene.old.windows.present window)) scene.old.snarf.present)) }
     ensures kept { kept_of scene.new ≡ kept_of scene.old }
 {
     let dot = dot_at(&scene.windows, window);
@@ -111,7 +117,8 @@ pub fn paste(
 ) -> Result<Option<ActionFault>, NoMemory>
     requires { IsSome (window_at scene.old.windows.present window) }
     ensures fault { IfOk result (λ fault. fault ≡ (paste_outcome window (scene_of scene.old)).fault) }
-    ensures ok { OnOk result (Did entry (scene_of scene.old) (scene_of scene.new) (paste_outcome window (scene_of scene.old)).deeds) }
+    ensures ok { OnOk result (Did entry (scene_of scene.old) (scene_of scene.new)
+        (paste_outcome window (scene_of scene.old)).deeds) }
     ensures kept { kept_of scene.new ≡ kept_of scene.old }
 {
     if !has_room(scene, window) {

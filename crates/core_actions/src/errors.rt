@@ -3,7 +3,8 @@
 ghost use Rattle.std.specs.Prelude.{◌≡◌, ◌∷◌, [], false, IsSome, IfSome, IfOk, OnOk};
 ghost use Rattle.core_windows.specs.Windows.{window_at};
 ghost use Rattle.core_scene.specs.Scenes.{scene_of, kept_of, Did};
-ghost use Rattle.core_actions.specs.Errors.{append_deeds, put_in, size_of, is_missing, is_dropped, errors_in, errors_deeds};
+ghost use Rattle.core_actions.specs.Errors.{append_deeds, put_in, size_of, is_missing, is_dropped, errors_in};
+ghost use Rattle.core_actions.specs.Errors.{errors_deeds};
 
 use crate::deeds::{edit_window, make_with};
 use crate::seen::{fits, size_at};
@@ -24,7 +25,8 @@ fn append(
     text: Runes,
 ) -> Result<(), NoMemory>
     requires { IsSome (window_at scene.old.windows.present window) }
-    ensures ok { OnOk result (Did entry (scene_of scene.old) (scene_of scene.new) (append_deeds window text (scene_of scene.old))) }
+    ensures ok { OnOk result (Did entry (scene_of scene.old) (scene_of scene.new)
+        (append_deeds window text (scene_of scene.old))) }
     ensures kept { kept_of scene.new ≡ kept_of scene.old }
 {
     let end = size_at(&scene.windows, window);
@@ -67,7 +69,8 @@ fn put_in(
 ) -> Result<(), NoMemory>
     requires lives { IfSome place.1 (λ w. IsSome (window_at scene.old.windows.present w)) }
     requires room { is_missing place.1 (scene_of scene.old) ≡ false }
-    ensures ok { OnOk result (Did entry (scene_of scene.old) (scene_of scene.new) (put_in place.0 text place.1 (scene_of scene.old))) }
+    ensures ok { OnOk result (Did entry (scene_of scene.old) (scene_of scene.new)
+        (put_in place.0 text place.1 (scene_of scene.old))) }
     ensures kept { kept_of scene.new ≡ kept_of scene.old }
 {
     let (name, window) = place;
@@ -91,7 +94,8 @@ pub fn append_errors(
     directory: &[Rune],
     text: Runes,
 ) -> Result<(), NoMemory>
-    ensures ok { OnOk result (Did entry (scene_of scene.old) (scene_of scene.new) (errors_deeds entry directory.now text (scene_of scene.old))) }
+    ensures ok { OnOk result (Did entry (scene_of scene.old) (scene_of scene.new)
+        (errors_deeds entry directory.now text (scene_of scene.old))) }
     ensures kept { kept_of scene.new ≡ kept_of scene.old }
 {
     let name = errors_name(alloc, directory)?;

@@ -7,7 +7,8 @@ ghost use Rattle.name_tree.specs.Listing.{found_at};
 ghost use Rattle.core_windows.specs.Windows.{window_at};
 ghost use Rattle.core_scene.specs.Scenes.{scene_of, kept_of, Did};
 ghost use Rattle.core_actions.specs.Seen.{dir_of};
-ghost use Rattle.core_actions.specs.Files.{text_found, file_text, fill_deeds, fill_outcome, get_outcome, save_job, store_deeds, is_own, clean_if, put_deeds, put_at, put_outcome};
+ghost use Rattle.core_actions.specs.Files.{text_found, file_text, fill_deeds, fill_outcome, get_outcome, save_job};
+ghost use Rattle.core_actions.specs.Files.{store_deeds, is_own, clean_if, put_deeds, put_at, put_outcome};
 
 use crate::deeds::{edit_and_set, set_in_window};
 use crate::fault::ActionFault;
@@ -68,7 +69,8 @@ fn fill(
     text: Runes,
 ) -> Result<(), NoMemory>
     requires { IsSome (window_at scene.old.windows.present window) }
-    ensures ok { OnOk result (Did entry (scene_of scene.old) (scene_of scene.new) (fill_deeds window text (scene_of scene.old))) }
+    ensures ok { OnOk result (Did entry (scene_of scene.old) (scene_of scene.new)
+        (fill_deeds window text (scene_of scene.old))) }
     ensures kept { kept_of scene.new ≡ kept_of scene.old }
 {
     let whole = Range {
@@ -79,8 +81,8 @@ fn fill(
     edit_and_set(alloc, scene, entry, window, (edits, Setting::Clean))
 }
 
-/// Get: the text of the file or directory of a name, or else of the window's name, takes the place of the body, which then
-/// counts as unmodified.
+/// Get: the text of the file or directory of a name, or else of the window's name, takes the place of the body, which
+/// then counts as unmodified.
 ///
 /// It isn't done where there is no such text, or where it has more than 16,777,216 runes.
 #[tactic(auto, using(crate::proofs::Windows::joins))]
@@ -93,7 +95,8 @@ pub fn get(
 ) -> Result<Option<ActionFault>, NoMemory>
     requires { IsSome (window_at scene.old.windows.present window) }
     ensures fault { IfOk result (λ fault. fault ≡ (get_outcome window name.now (scene_of scene.old)).fault) }
-    ensures ok { OnOk result (Did entry (scene_of scene.old) (scene_of scene.new) (get_outcome window name.now (scene_of scene.old)).deeds) }
+    ensures ok { OnOk result (Did entry (scene_of scene.old) (scene_of scene.new)
+        (get_outcome window name.now (scene_of scene.old)).deeds) }
     ensures kept { kept_of scene.new ≡ kept_of scene.old }
 {
     match file_text(alloc, scene, window, name)? {
@@ -112,7 +115,8 @@ fn fill_if_fits(
 ) -> Result<Option<ActionFault>, NoMemory>
     requires { IsSome (window_at scene.old.windows.present window) }
     ensures fault { IfOk result (λ fault. fault ≡ (fill_outcome window (Ok text) (scene_of scene.old)).fault) }
-    ensures ok { OnOk result (Did entry (scene_of scene.old) (scene_of scene.new) (fill_outcome window (Ok text) (scene_of scene.old)).deeds) }
+    ensures ok { OnOk result (Did entry (scene_of scene.old) (scene_of scene.new)
+        (fill_outcome window (Ok text) (scene_of scene.old)).deeds) }
     ensures kept { kept_of scene.new ≡ kept_of scene.old }
 {
     if !fits(0, text.len()) {
@@ -146,7 +150,8 @@ fn store(
     saved: Saved,
 ) -> Result<(), NoMemory>
     requires { file_clashes scene.old.files.present (utf8 saved.path) ≡ false }
-    ensures ok { OnOk result (Did entry (scene_of scene.old) (scene_of scene.new) (store_deeds window saved (scene_of scene.old))) }
+    ensures ok { OnOk result (Did entry (scene_of scene.old) (scene_of scene.new)
+        (store_deeds window saved (scene_of scene.old))) }
     ensures windows { OnOk result (scene.new.windows.present ≡ scene.old.windows.present) }
     ensures kept { kept_of scene.new ≡ kept_of scene.old }
 {
@@ -197,7 +202,8 @@ fn save(
 ) -> Result<(), NoMemory>
     requires lives { IsSome (window_at scene.old.windows.present window) }
     requires free { file_clashes scene.old.files.present (utf8 saved.path) ≡ false }
-    ensures ok { OnOk result (Did entry (scene_of scene.old) (scene_of scene.new) (put_deeds window saved (scene_of scene.old))) }
+    ensures ok { OnOk result (Did entry (scene_of scene.old) (scene_of scene.new)
+        (put_deeds window saved (scene_of scene.old))) }
     ensures kept { kept_of scene.new ≡ kept_of scene.old }
 {
     let own = is_own(alloc, &scene.windows, window, saved.path.as_slice())?;
@@ -215,7 +221,8 @@ fn put_at(
 ) -> Result<Option<ActionFault>, NoMemory>
     requires { IsSome (window_at scene.old.windows.present window) }
     ensures fault { IfOk result (λ fault. fault ≡ (put_at window (Ok path) (scene_of scene.old)).fault) }
-    ensures ok { OnOk result (Did entry (scene_of scene.old) (scene_of scene.new) (put_at window (Ok path) (scene_of scene.old)).deeds) }
+    ensures ok { OnOk result (Did entry (scene_of scene.old) (scene_of scene.new)
+        (put_at window (Ok path) (scene_of scene.old)).deeds) }
     ensures kept { kept_of scene.new ≡ kept_of scene.old }
 {
     let bytes = encode(alloc, &path)?;
@@ -227,8 +234,8 @@ fn put_at(
     Ok(None)
 }
 
-/// Put: the body is stored under a name, or else under the window's name, made whole with the window's directory, and a program
-/// is requested to save it. The window then counts as unmodified where the path is that of its own name.
+/// Put: the body is stored under a name, or else under the window's name, made whole with the window's directory, and a
+/// program is requested to save it. The window then counts as unmodified where the path is that of its own name.
 ///
 /// It isn't done where both names are empty, or where no file can be stored there.
 #[tactic(auto, using(crate::proofs::Windows::joins))]
@@ -241,7 +248,8 @@ pub fn put(
 ) -> Result<Option<ActionFault>, NoMemory>
     requires { IsSome (window_at scene.old.windows.present window) }
     ensures fault { IfOk result (λ fault. fault ≡ (put_outcome window name.now (scene_of scene.old)).fault) }
-    ensures ok { OnOk result (Did entry (scene_of scene.old) (scene_of scene.new) (put_outcome window name.now (scene_of scene.old)).deeds) }
+    ensures ok { OnOk result (Did entry (scene_of scene.old) (scene_of scene.new)
+        (put_outcome window name.now (scene_of scene.old)).deeds) }
     ensures kept { kept_of scene.new ≡ kept_of scene.old }
 {
     match path_of(alloc, &scene.windows, window, name)? {

@@ -7,7 +7,8 @@ ghost use Rattle.core_windows.specs.Windows.{window_at};
 ghost use Rattle.core_scene.specs.Scenes.{scene_of, kept_of, Did};
 ghost use Rattle.core_actions.specs.Seen.{dot_text};
 ghost use Rattle.core_actions.specs.Opening.{IsThere};
-ghost use Rattle.core_actions.specs.Looking.{place_from, place_of, range_at, range_found, search_deeds, find_deeds, look_target, look_deeds};
+ghost use Rattle.core_actions.specs.Looking.{place_from, place_of, range_at, range_found, search_deeds, find_deeds};
+ghost use Rattle.core_actions.specs.Looking.{look_target, look_deeds};
 
 use crate::addressed::{address_part, dot_to};
 use crate::opening::{Target, name_in, open, target_of};
@@ -62,9 +63,11 @@ fn range_at(len: usize, place: Option<usize>) -> Option<Range>
 
 // The next place of a text in a body, from the end of dot on, and around.
 fn found_in(alloc: Global, body: &Body, wanted: &[Rune]) -> Result<Option<Range>, NoMemory>
-    ensures exact { IfOk result (λ range. range ≡ range_at (length wanted.now) (place_of wanted.now body.now.state.text body.now.state.dot.q1)) }
+    ensures exact { IfOk result (λ range. range ≡ range_at (length wanted.now)
+        (place_of wanted.now body.now.state.text body.now.state.dot.q1)) }
     ensures inside { IfOk result (λ range. IfSome range (IsInside body.now.state.text)) }
 {
+    // law: the ranges of a body are inside its text
     body.is_sound();
     let text = body.text()?;
     let place = place_of(wanted, text.as_slice(), body.dot().q1);
@@ -86,8 +89,8 @@ fn range_found(
     }
 }
 
-/// The next place of a text in a window becomes dot: the first from the end of dot on, or else the first of all. Where the text
-/// stands nowhere, nothing is done.
+/// The next place of a text in a window becomes dot: the first from the end of dot on, or else the first of all. Where
+/// the text stands nowhere, nothing is done.
 #[tactic(auto, using(crate::proofs::Windows::joins))]
 pub fn search(
     alloc: Global,
@@ -97,7 +100,8 @@ pub fn search(
     wanted: &[Rune],
 ) -> Result<(), NoMemory>
     requires { IsSome (window_at scene.old.windows.present window) }
-    ensures ok { OnOk result (Did entry (scene_of scene.old) (scene_of scene.new) (search_deeds window wanted.now (scene_of scene.old))) }
+    ensures ok { OnOk result (Did entry (scene_of scene.old) (scene_of scene.new)
+        (search_deeds window wanted.now (scene_of scene.old))) }
     ensures kept { kept_of scene.new ≡ kept_of scene.old }
 {
     let range = range_found(alloc, &scene.windows, window, wanted)?;
@@ -114,7 +118,8 @@ pub fn find(
     argument: &[Rune],
 ) -> Result<(), NoMemory>
     requires { IsSome (window_at scene.old.windows.present window) }
-    ensures ok { OnOk result (Did entry (scene_of scene.old) (scene_of scene.new) (find_deeds window argument.now (scene_of scene.old))) }
+    ensures ok { OnOk result (Did entry (scene_of scene.old) (scene_of scene.new)
+        (find_deeds window argument.now (scene_of scene.old))) }
     ensures kept { kept_of scene.new ≡ kept_of scene.old }
 {
     if argument.is_empty() {
@@ -139,8 +144,8 @@ pub fn look_target(
     target_of(alloc, scene, name.as_slice())
 }
 
-/// Look at a text of a window: it is opened as a name in the window's directory, with the address behind its colon, or else
-/// searched for in the window's body.
+/// Look at a text of a window: it is opened as a name in the window's directory, with the address behind its colon, or
+/// else searched for in the window's body.
 #[tactic(auto, using(crate::proofs::Windows::joins))]
 pub fn look(
     alloc: Global,
@@ -150,7 +155,8 @@ pub fn look(
     text: &[Rune],
 ) -> Result<(), NoMemory>
     requires { IsSome (window_at scene.old.windows.present window) }
-    ensures ok { OnOk result (Did entry (scene_of scene.old) (scene_of scene.new) (look_deeds entry window text.now (scene_of scene.old))) }
+    ensures ok { OnOk result (Did entry (scene_of scene.old) (scene_of scene.new)
+        (look_deeds entry window text.now (scene_of scene.old))) }
     ensures kept { kept_of scene.new ≡ kept_of scene.old }
 {
     match look_target(alloc, scene, window, text)? {

@@ -10,7 +10,9 @@ ghost use Rattle.core_scene.specs.Scenes.{scene_of, kept_of, Did};
 ghost use Rattle.core_actions.specs.Addressed.{name_part, address_part};
 ghost use Rattle.core_actions.specs.Made.{next_window};
 ghost use Rattle.core_actions.specs.Seen.{dir_of};
-ghost use Rattle.core_actions.specs.Opening.{dir_name, shown_if_fits, shown_as, file_target, target_of, IsThere, show_deeds, show_at, open_deeds, empty_deeds, open_or_make, named_deeds, new_deeds};
+ghost use Rattle.core_actions.specs.Opening.{dir_name, shown_if_fits, shown_as, file_target, target_of, IsThere};
+ghost use Rattle.core_actions.specs.Opening.{show_deeds, show_at, open_deeds, empty_deeds, open_or_make, named_deeds};
+ghost use Rattle.core_actions.specs.Opening.{new_deeds};
 
 use crate::addressed::{address_part, name_part, set_dot};
 use crate::deeds::{make_with, set_in_window};
@@ -84,8 +86,9 @@ fn file_target(alloc: Global, files: &Tree, path: &[Rune]) -> Result<Option<Targ
     shown_as(alloc, path, found)
 }
 
-/// What a whole name opens: the live window of least number that has it, or else a new window of the file or directory of that
-/// name without a last `/`, where a body has room for its text. A directory's window has a name that ends in `/`.
+/// What a whole name opens: the live window of least number that has it, or else a new window of the file
+/// or directory of that name without a last `/`, where a body has room for its text. A directory's window
+/// has a name that ends in `/`.
 pub fn target_of(alloc: Global, scene: &Scene, name: &[Rune]) -> Result<Option<Target>, NoMemory>
     ensures exact { IfOk result (λ target. target ≡ target_of name.now (scene_of scene.now)) }
     ensures there { IfOk result (λ target. IfSome target (IsThere scene.now.windows.present)) }
@@ -106,7 +109,8 @@ fn show(
     text: Runes,
 ) -> Result<u32, NoMemory>
     requires { world_is_full (world_of scene.old.windows.present) ≡ false }
-    ensures ok { OnOk result (Did entry (scene_of scene.old) (scene_of scene.new) (show_deeds name text (scene_of scene.old))) }
+    ensures ok { OnOk result (Did entry (scene_of scene.old) (scene_of scene.new)
+        (show_deeds name text (scene_of scene.old))) }
     ensures number { IfOk result (λ w. w ≡ next_window (scene_of scene.old)) }
     ensures lives { IfOk result (λ w. IsSome (window_at scene.new.windows.present w)) }
     ensures kept { kept_of scene.new ≡ kept_of scene.old }
@@ -116,8 +120,8 @@ fn show(
     Ok(window)
 }
 
-/// Opens what a name opens, and an address sets its dot, if there is one and it has a value there. Where the window is to be
-/// made and no more can be, nothing is done.
+/// Opens what a name opens, and an address sets its dot, if there is one and it has a value there. Where the window is
+/// to be made and no more can be, nothing is done.
 #[tactic(auto, using(crate::proofs::Windows::joins))]
 pub fn open(
     alloc: Global,
@@ -127,7 +131,8 @@ pub fn open(
     address: Option<&[Rune]>,
 ) -> Result<(), NoMemory>
     requires { IsThere scene.old.windows.present target }
-    ensures ok { OnOk result (Did entry (scene_of scene.old) (scene_of scene.new) (open_deeds entry target (option_copied address.entry) (scene_of scene.old))) }
+    ensures ok { OnOk result (Did entry (scene_of scene.old) (scene_of scene.new)
+        (open_deeds entry target (option_copied address.entry) (scene_of scene.old))) }
     ensures kept { kept_of scene.new ≡ kept_of scene.old }
 {
     match target {
@@ -145,7 +150,8 @@ pub fn open(
 // Makes a window of this name, without a text, where one more can be made.
 #[tactic(auto, using(crate::proofs::Windows::joins))]
 fn make_empty(alloc: Global, scene: &mut Scene, entry: Entry, name: Runes) -> Result<(), NoMemory>
-    ensures ok { OnOk result (Did entry (scene_of scene.old) (scene_of scene.new) (empty_deeds name (scene_of scene.old))) }
+    ensures ok { OnOk result (Did entry (scene_of scene.old) (scene_of scene.new)
+        (empty_deeds name (scene_of scene.old))) }
     ensures kept { kept_of scene.new ≡ kept_of scene.old }
 {
     if world_is_full(scene.windows.world()) {
@@ -171,7 +177,8 @@ pub fn open_or_make(
     name: Runes,
     address: Option<&[Rune]>,
 ) -> Result<(), NoMemory>
-    ensures ok { OnOk result (Did entry (scene_of scene.old) (scene_of scene.new) (named_deeds entry name (option_copied address.entry) (scene_of scene.old))) }
+    ensures ok { OnOk result (Did entry (scene_of scene.old) (scene_of scene.new)
+        (named_deeds entry name (option_copied address.entry) (scene_of scene.old))) }
     ensures kept { kept_of scene.new ≡ kept_of scene.old }
 {
     match opened_by(alloc, scene, &name)? {
@@ -187,7 +194,8 @@ pub(crate) fn name_in(
     window: u32,
     text: &[Rune],
 ) -> Result<Runes, NoMemory>
-    ensures { IfOk result (λ name. name ≡ whole_name (dir_of (window_at windows.now.present window)) (name_part text.now)) }
+    ensures { IfOk result (λ name. name ≡ whole_name (dir_of (window_at windows.now.present window))
+        (name_part text.now)) }
 {
     let dir = dir_at(alloc, windows, window)?;
     whole(alloc, dir.as_slice(), name_part(text))
@@ -201,15 +209,17 @@ fn new_named(
     window: u32,
     argument: &[Rune],
 ) -> Result<(), NoMemory>
-    ensures ok { OnOk result (Did entry (scene_of scene.old) (scene_of scene.new) (named_deeds entry (whole_name (dir_of (window_at scene.old.windows.present window)) (name_part argument.now)) (address_part argument.now) (scene_of scene.old))) }
+    ensures ok { OnOk result (Did entry (scene_of scene.old) (scene_of scene.new)
+        (named_deeds entry (whole_name (dir_of (window_at scene.old.windows.present window)) (name_part argument.now))
+        (address_part argument.now) (scene_of scene.old))) }
     ensures kept { kept_of scene.new ≡ kept_of scene.old }
 {
     let name = name_in(alloc, &scene.windows, window, argument)?;
     open_or_make(alloc, scene, entry, name, address_part(argument))
 }
 
-/// New: an empty window; with an argument what its name opens in the window's directory, with the address behind its colon, or
-/// else an empty window of that name.
+/// New: an empty window; with an argument what its name opens in the window's directory, with the address behind its
+/// colon, or else an empty window of that name.
 #[tactic(auto, using(crate::proofs::Windows::joins))]
 pub fn new_window(
     alloc: Global,
@@ -218,7 +228,8 @@ pub fn new_window(
     window: u32,
     argument: &[Rune],
 ) -> Result<(), NoMemory>
-    ensures ok { OnOk result (Did entry (scene_of scene.old) (scene_of scene.new) (new_deeds entry window argument.now (scene_of scene.old))) }
+    ensures ok { OnOk result (Did entry (scene_of scene.old) (scene_of scene.new)
+        (new_deeds entry window argument.now (scene_of scene.old))) }
     ensures kept { kept_of scene.new ≡ kept_of scene.old }
 {
     if argument.is_empty() {

@@ -3,7 +3,8 @@
 ghost use Rattle.std.specs.Prelude.{◌≡◌, IfOk};
 ghost use Rattle.name_tree.specs.Paths.{is_root};
 ghost use Rattle.core_windows.specs.Windows.{window_at};
-ghost use Rattle.core_actions.specs.Paths.{without_last_slash, without_slash, path_named, is_place, place_or_fault, named_or_fault, name_or_own, path_of};
+ghost use Rattle.core_actions.specs.Paths.{without_last_slash, without_slash, path_named, is_place, place_or_fault};
+ghost use Rattle.core_actions.specs.Paths.{named_or_fault, name_or_own, path_of};
 
 use crate::fault::ActionFault;
 use crate::seen::{dir_at, name_at};
@@ -88,8 +89,8 @@ fn name_or_own<'a>(own: &'a [Rune], name: &'a [Rune]) -> &'a [Rune]
     if name.is_empty() { own } else { name }
 }
 
-/// The path of the argument of Get or Put, or else of the window's name, made whole with the window's directory; or why there
-/// is none.
+/// The path of the argument of Get or Put, or else of the window's name, made whole with the window's
+/// directory; or why there is none.
 pub(crate) fn path_of(
     alloc: Global,
     windows: &Windows,

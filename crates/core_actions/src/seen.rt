@@ -35,8 +35,8 @@ fn is_guarded(name: &[Rune]) -> bool
     !name.is_empty() && !is_dir_name(name) && !name.ends_with(&ERRORS)
 }
 
-/// Whether a window is modified, and its name is one that `del` and Del ask of: not an empty one, a directory's, or one of an errors
-/// window.
+/// Whether a window is modified, and its name is one that `del` and Del ask of: not an empty one, a directory's, or
+/// one of an errors window.
 pub fn asks(windows: &Windows, window: u32) -> bool
     ensures { result ≡ asks (window_at windows.now.present window) }
 {
@@ -91,6 +91,7 @@ pub(crate) fn dot_at(windows: &Windows, window: u32) -> Range
 {
     match windows.get(window) {
         Some(pane) => {
+            // law: the ranges of a body are inside its text
             pane.body.is_sound();
             pane.body.dot()
         }
@@ -104,6 +105,7 @@ pub fn dot_text_at(alloc: Global, windows: &Windows, window: u32) -> Result<Rune
 {
     match windows.get(window) {
         Some(pane) => {
+            // law: the ranges of a body are inside its text
             pane.body.is_sound();
             let dot = pane.body.dot();
             pane.body.slice(dot.q0, dot.q1)

@@ -93,6 +93,7 @@ fn add_move(
 fn moves_of(alloc: Global, windows: &Windows, group: Group) -> Result<Deeds, NoMemory>
     ensures { IfOk result (λ deeds. deeds ≡ moves_from group.way group.number 1 windows.now.present) }
 {
+    // law: the windows are fewer than 2^32, known once their next number is read
     let _next = windows.world().next;
     let mut deeds = Items::new(alloc);
     let mut window = 1;
@@ -105,8 +106,9 @@ fn moves_of(alloc: Global, windows: &Windows, group: Group) -> Result<Deeds, NoM
     Ok(deeds)
 }
 
-/// Undo and Redo in a window: its next group of edits is moved, and so is that of each live window whose next group was begun by
-/// the same step, by number. Where the window has no such group, nothing is done, and a window that isn't moved keeps everything.
+/// Undo and Redo in a window: its next group of edits is moved, and so is that of each live window whose next group
+/// was begun by the same step, by number. Where the window has no such group, nothing is done, and a window that
+/// isn't moved keeps everything.
 #[tactic(auto, using(crate::proofs::Moving::possible))]
 pub fn move_groups(
     alloc: Global,
@@ -115,7 +117,8 @@ pub fn move_groups(
     window: u32,
     way: Move,
 ) -> Result<(), NoMemory>
-    ensures ok { OnOk result (Did entry (scene_of scene.old) (scene_of scene.new) (move_deeds way window (scene_of scene.old))) }
+    ensures ok { OnOk result (Did entry (scene_of scene.old) (scene_of scene.new)
+        (move_deeds way window (scene_of scene.old))) }
     ensures kept { kept_of scene.new ≡ kept_of scene.old }
 {
     let Some(number) = next_group_at(&scene.windows, window, way) else {

@@ -1,5 +1,6 @@
 -- What a window's `data` and `xdata` give and take (acme(4)).
-use Rattle.std.specs.Prelude.{◌≡◌, ℕ, ◌+◌, ◌-◌, ◌==◌, ◌&&◌, nat_le, List, [], ◌∷◌, length, take, slice_range, Result, Ok, Err, if◌then◌else◌}
+use Rattle.std.specs.Prelude.{◌≡◌, ℕ, ◌+◌, ◌-◌, ◌==◌, ◌&&◌, nat_le, List, [], ◌∷◌, length, take, slice_range, Result}
+use Rattle.std.specs.Prelude.{Ok, Err, if◌then◌else◌}
 use Rattle.am_text.specs.declared.range.Range.{Range}
 use Rattle.am_text.specs.Pieces.{Decoded, decode_part}
 use Rattle.am_text.specs.Utf8.{rune_bytes, utf8}
@@ -17,7 +18,8 @@ use Rattle.core_addresses.specs.declared.fault.RangeFault.TheVariants.{PartialRu
 -- how many of the first runes have all their bytes in so many
 unfoldable pub runes_within : ℕ → List ℕ → ℕ
 runes_within count [] = 0
-runes_within count (c ∷ text) = if nat_le (length (rune_bytes c)) count then runes_within (count - length (rune_bytes c)) text + 1 else 0
+runes_within count (c ∷ text) =
+    if nat_le (length (rune_bytes c)) count then runes_within (count - length (rune_bytes c)) text + 1 else 0
 
 -- whole runes of a text, as many as fit
 abbrev pub whole_runes : ℕ → List ℕ → List ℕ
@@ -45,7 +47,8 @@ xdata_given b count = record {
 
 -- the edit that puts a text in the place of a range; of a null range by an empty text it is none
 abbrev pub replacement : Range → List ℕ → List Edit
-replacement r text = if (r.q0 == r.q1) && (length text == 0) then [] else record { q0 = r.q0; q1 = r.q1; text = text } ∷ []
+replacement r text =
+    if (r.q0 == r.q1) && (length text == 0) then [] else record { q0 = r.q0; q1 = r.q1; text = text } ∷ []
 
 -- a body has at most 16,777,216 runes
 abbrev pub fits : List ℕ → Range → List ℕ → Result Taken RangeFault → Result Taken RangeFault

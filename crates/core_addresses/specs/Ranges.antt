@@ -1,5 +1,6 @@
 -- The range that a window's `addr` names (acme(4)).
-use Rattle.std.specs.Prelude.{ℕ, ◌-◌, ◌==◌, nat_eq, List, [], ◌∷◌, ◌++◌, length, take, codes, Option, Some, None, Result, Ok, Err, if◌then◌else◌}
+use Rattle.std.specs.Prelude.{ℕ, ◌-◌, ◌==◌, nat_eq, List, [], ◌∷◌, ◌++◌, length, take, codes, Option, Some, None}
+use Rattle.std.specs.Prelude.{Result, Ok, Err, if◌then◌else◌}
 use Rattle.std.specs.Fmt.{decimal}
 use Rattle.std.specs.List.{ends_with}
 use Rattle.am_text.specs.declared.range.Range.{Range}
@@ -12,7 +13,8 @@ use Rattle.sam_address.specs.declared.fault.AddrFault.TheVariants as fault
 use Rattle.win_text.specs.Bodies.{BodyState}
 use Rattle.am_text.specs.Ascii.{newline}
 use Rattle.core_addresses.specs.declared.fault.RangeFault.{RangeFault}
-use Rattle.core_addresses.specs.declared.fault.RangeFault.TheVariants.{BadAddress, OutOfRange, NoMatch, OutOfOrder, NoMemory}
+use Rattle.core_addresses.specs.declared.fault.RangeFault.TheVariants.{BadAddress, OutOfRange, NoMatch, OutOfOrder}
+use Rattle.core_addresses.specs.declared.fault.RangeFault.TheVariants.{NoMemory}
 
 -- ---- what `addr` shows: `#m,#n`, or `#m` where the range is null
 

@@ -3,7 +3,8 @@
 ghost use Rattle.std.specs.Prelude.{◌≡◌, ◌++◌, IfOk, OnOk, IfErr, Ok, Some};
 ghost use Rattle.win_text.specs.Bodies.{IsInside};
 ghost use Rattle.addr_syntax.specs.Tree.{tree};
-ghost use Rattle.core_addresses.specs.Ranges.{rune_number, range_text, without_newline, bounds, fault_of, address_value, address_range};
+ghost use Rattle.core_addresses.specs.Ranges.{rune_number, range_text, without_newline, bounds, fault_of};
+ghost use Rattle.core_addresses.specs.Ranges.{address_value, address_range};
 ghost use Rattle.core_addresses.specs.Data.{Tells};
 
 use crate::fault::RangeFault;
@@ -48,6 +49,7 @@ fn bounds(body: &Body) -> Range
     ensures exact { result ≡ bounds body.now.state }
     ensures inside { IsInside body.now.state.text result }
 {
+    // law: the ranges of a body are inside its text
     body.is_sound();
     match body.limit() {
         Some(limit) => limit,
@@ -74,6 +76,7 @@ fn address_value(alloc: Global, body: &Body, address: &Addr) -> Result<Range, Ra
     ensures fault { IfErr result (λ e. Tells e (address_value body.now.state (Some (tree address.now)))) }
     ensures inside { IfOk result (IsInside body.now.state.text) }
 {
+    // law: the ranges of a body are inside its text
     body.is_sound();
     match value(alloc, address, body, body.addr(), bounds(body)) {
         Ok(range) => Ok(range),

@@ -6,7 +6,8 @@ ghost use Rattle.edit_log.specs.Edited.{text_after};
 ghost use Rattle.win_text.specs.Bodies.{IsInside};
 ghost use Rattle.win_text.specs.BodyStories.{IsChangeOf};
 ghost use Rattle.win_text.specs.Limits.{body_runes};
-ghost use Rattle.core_addresses.specs.Data.{runes_within, whole_runes, data_given, xdata_given, replacement, takes, data_taken, Tells};
+ghost use Rattle.core_addresses.specs.Data.{runes_within, whole_runes, data_given, xdata_given, replacement, takes};
+ghost use Rattle.core_addresses.specs.Data.{data_taken, Tells};
 
 use crate::fault::RangeFault;
 use am_text::{Bytes, Items, Letters, NoMemory, Part, Range, Rune, Runes, decode_part, encode};
@@ -82,13 +83,14 @@ fn whole_runes(
     Ok((encode(alloc, &text)?, runes))
 }
 
-/// What a read of `data` gives: whole runes from the start of `addr` on, as many as fit in `count` bytes. `addr` then is
-/// the null range behind them.
+/// What a read of `data` gives: whole runes from the start of `addr` on, as many as fit in `count` bytes. `addr` then
+/// is the null range behind them.
 pub fn data_given(alloc: Global, body: &Body, count: usize) -> Result<Given, NoMemory>
     ensures exact { IfOk result (λ given. given ≡ data_given body.now.state count) }
     ensures small { IfOk result (λ given. length given.bytes ≤ count) }
     ensures inside { IfOk result (λ given. IsInside body.now.state.text given.addr) }
 {
+    // law: the ranges of a body are inside its text
     body.is_sound();
     let from = body.addr().q0;
     let (bytes, runes) = whole_runes(alloc, body, from, body.len(), count)?;
@@ -109,6 +111,7 @@ pub fn xdata_given(alloc: Global, body: &Body, count: usize) -> Result<Given, No
     ensures small { IfOk result (λ given. length given.bytes ≤ count) }
     ensures inside { IfOk result (λ given. IsInside body.now.state.text given.addr) }
 {
+    // law: the ranges of a body are inside its text
     body.is_sound();
     let Range { q0, q1 } = body.addr();
     let (bytes, runes) = whole_runes(alloc, body, q0, q1, count)?;
@@ -144,11 +147,14 @@ fn fits(body: &Body, range: Range, more: usize) -> bool
 
 // The text takes the place of `addr`.
 fn takes(alloc: Global, body: &Body, text: Runes) -> Result<Taken, NoMemory>
-    requires { length body.now.state.text - (body.now.state.addr.q1 - body.now.state.addr.q0) + length text ≤ body_runes }
+    requires { length body.now.state.text - (body.now.state.addr.q1 - body.now.state.addr.q0) + length text
+        ≤ body_runes }
     ensures exact { IfOk result (λ taken. taken ≡ takes body.now.state text) }
-    ensures possible { IfOk result (λ taken. IsChangeOf body.now.state.text (record { edits = taken.edits; dot = None })) }
+    ensures possible { IfOk result (λ taken. IsChangeOf body.now.state.text
+        (record { edits = taken.edits; dot = None })) }
     ensures inside { IfOk result (λ taken. IsInside (text_after body.now.state.text taken.edits) taken.addr) }
 {
+    // law: the ranges of a body are inside its text
     body.is_sound();
     let addr = body.addr();
     let behind = addr.q0 + text.len();
@@ -167,13 +173,15 @@ fn takes(alloc: Global, body: &Body, text: Runes) -> Result<Taken, NoMemory>
 pub fn data_taken(alloc: Global, body: &Body, bytes: &[u8]) -> Result<Taken, RangeFault>
     ensures exact { IfOk result (λ taken. data_taken body.now.state bytes.now ≡ Ok taken) }
     ensures fault { IfErr result (λ e. Tells e (data_taken body.now.state bytes.now)) }
-    ensures possible { IfOk result (λ taken. IsChangeOf body.now.state.text (record { edits = taken.edits; dot = None })) }
+    ensures possible { IfOk result (λ taken. IsChangeOf body.now.state.text
+        (record { edits = taken.edits; dot = None })) }
     ensures inside { IfOk result (λ taken. IsInside (text_after body.now.state.text taken.edits) taken.addr) }
 {
     let (text, rest) = decode_part(alloc, &Part::empty(), bytes)?;
     if !rest.is_empty() {
         return Err(RangeFault::PartialRune);
     }
+    // law: the ranges of a body are inside its text
     body.is_sound();
     if !fits(body, body.addr(), text.len()) {
         return Err(RangeFault::TooLong);

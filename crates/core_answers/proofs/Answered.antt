@@ -11,7 +11,6 @@ use Rattle.ninep_types.specs.declared.message.RBody.TheVariants as r
 use Rattle.acme_tree.specs.declared.node.Node.{Node}
 use Rattle.acme_tree.specs.declared.node.World.{World}
 use Rattle.fid_table.specs.declared.types.Fid.{Fid}
-use Rattle.fid_table.specs.Tables.{Tables, fid_of, msize_of}
 use Rattle.am_text.specs.declared.range.Range.{Range}
 use Rattle.core_addresses.specs.Data.{data_taken}
 use Rattle.core_addresses.specs.Ranges.{address_range}
@@ -32,14 +31,14 @@ use Rattle.core_fids.specs.declared.walking.WalkEnd.TheVariants as end
 use Rattle.core_fids.specs.Plainly.{does}
 use Rattle.core_fids.specs.Refusals.{refusal_with_effect, reaction_or_refusal}
 use Rattle.core_windows.specs.declared.change.Change.TheVariants as change
-use Rattle.core_windows.specs.Windows.{Window, window_at, named, world_of}
+use Rattle.core_windows.specs.Windows.{Window, window_at, named}
 use Rattle.core_fids.specs.Attaching.{is_version, agreement, version_reaction, root_of, attach_refusal, attach_to, or_attaches}
-use Rattle.core_fids.specs.Plumbers.{Plumber}
+use Rattle.core_fids.specs.Servers.{ServerState, world_by, fid_by}
 use Rattle.core_fids.specs.Walking.{course, walk_refusal, arrives_at, or_walks, walk_from}
 use Rattle.core_fids.specs.Opening.{open_refusal, or_opens, open_fid, denial, clunk_fid, remove_fid}
-use Rattle.core_fids.specs.Directories.{place_at, read_dir, stat_fid}
-use Rattle.core_answers.specs.Reading.{read_opening, read_port, read_content, use_refusal, or_reads, most, read_fid}
-use Rattle.core_answers.specs.Writing.{change_reaction, if_lives, append_reaction, add_reaction, or_errors, errors_reaction, asking_reaction, write_content, write_fid}
+use Rattle.core_fids.specs.Directories.{Tread, place_at, read_dir, stat_fid}
+use Rattle.core_answers.specs.Reading.{read_opening, read_port, read_content, use_refusal, or_reads, lowered, read_fid}
+use Rattle.core_answers.specs.Writing.{Twrite, change_reaction, if_lives, append_reaction, add_reaction, or_errors, errors_reaction, asking_reaction, write_content, write_fid}
 use Rattle.core_answers.specs.Erring.{fits_in, fits_tag, appends, errors_of, root_errors, errors_refusal}
 use Rattle.core_answers.specs.Texts.{text_at, right_of}
 use Rattle.core_fids.specs.Contents.{content_of}
@@ -99,19 +98,22 @@ or_walks_answers : (body : TBody) (o : Option Refusal) (x : Result Reaction Refu
 or_walks_answers body None x h = h
 or_walks_answers body (Some y) x h = tt
 
-walk_answers : (tables : Tables) (world : World) (ports : List (List ℕ)) (conn fid newfid : ℕ) (names : List (List ℕ)) (o : Option Fid) → Answers (t.Walk fid newfid names) (walk_from tables world ports conn fid newfid names o)
-walk_answers tables world ports conn fid newfid names None = tt
-walk_answers tables world ports conn fid newfid names (Some f) =
-    or_walks_answers (t.Walk fid newfid names) (walk_refusal tables conn fid newfid f) _
-    (arrives_answers fid newfid names world (course world ports f.node names).qids (course world ports f.node names).end)
+walk_answers : (server : ServerState) (fid newfid : ℕ) (names : List (List ℕ)) (o : Option Fid)
+    → Answers (t.Walk fid newfid names) (walk_from server fid newfid names o)
+walk_answers server fid newfid names None = tt
+walk_answers server fid newfid names (Some f) =
+    let led = course (world_by server) server.plumber.names f.node names in
+    or_walks_answers (t.Walk fid newfid names) (walk_refusal server fid newfid f) _
+    (arrives_answers fid newfid names (world_by server) led.qids led.end)
 
-opens_answers : (tables : Tables) (plumber : Plumber) (openings fid mode : ℕ) (f : Fid) (o : Option Refusal) → Answers (t.Open fid mode) (or_opens tables plumber o openings fid f mode)
-opens_answers tables plumber openings fid mode f None = inl refl
-opens_answers tables plumber openings fid mode f (Some x) = tt
+opens_answers : (o : Option Refusal) (server : ServerState) (fid mode : ℕ) (f : Fid)
+    → Answers (t.Open fid mode) (or_opens o server fid f mode)
+opens_answers None server fid mode f = inl refl
+opens_answers (Some x) server fid mode f = tt
 
-open_answers : (tables : Tables) (world : World) (plumber : Plumber) (openings fid mode : ℕ) (o : Option Fid) → Answers (t.Open fid mode) (open_fid tables world plumber openings fid mode o)
-open_answers tables world plumber openings fid mode None = tt
-open_answers tables world plumber openings fid mode (Some f) = opens_answers tables plumber openings fid mode f (open_refusal world plumber openings f mode)
+open_answers : (server : ServerState) (fid mode : ℕ) (o : Option Fid) → Answers (t.Open fid mode) (open_fid server fid o mode)
+open_answers server fid mode None = tt
+open_answers server fid mode (Some f) = opens_answers (open_refusal server f mode) server fid mode f
 
 denied_answers : (body : TBody) (o : Option Fid) → Answers body (denial o)
 denied_answers body None = tt
@@ -121,74 +123,82 @@ or_reads_answers : (body : TBody) (o : Option Refusal) (x : Result Reaction Refu
 or_reads_answers body None x h = h
 or_reads_answers body (Some y) x h = tt
 
-read_dir_answers : (world : World) (ports : List (List ℕ)) (fid offset asked count : ℕ) (f : Fid) (o : Option ℕ) → Answers (t.Read fid offset asked) (read_dir world ports fid f offset count o)
-read_dir_answers world ports fid offset asked count f None = tt
-read_dir_answers world ports fid offset asked count f (Some skip) = inl refl
+-- a Tread, with the count that is read
+module _ (fid offset count : ℕ) (server : ServerState) (asked : Tread) where
+  read_dir_answers : (f : Fid) (o : Option ℕ) → Answers (t.Read fid offset count) (read_dir server asked f o)
+  read_dir_answers f None = tt
+  read_dir_answers f (Some skip) = inl refl
 
-read_opening_answers : (fid offset asked count : ℕ) (o : Option ℕ) → Answers (t.Read fid offset asked) (read_opening fid count o)
-read_opening_answers fid offset asked count None = tt
-read_opening_answers fid offset asked count (Some opening) = refl
+  read_opening_answers : (o : Option ℕ) → Answers (t.Read fid offset count) (read_opening asked o)
+  read_opening_answers None = tt
+  read_opening_answers (Some opening) = refl
 
-read_port_answers : (fid offset asked count : ℕ) (o : Option ℕ) → Answers (t.Read fid offset asked) (read_port fid count o)
-read_port_answers fid offset asked count None = tt
-read_port_answers fid offset asked count (Some opening) = refl
+  read_port_answers : (o : Option ℕ) → Answers (t.Read fid offset count) (read_port asked o)
+  read_port_answers None = tt
+  read_port_answers (Some opening) = refl
 
-data_answers : (fid offset asked count w : ℕ) (o : Option Window) → IsAnswered (t.Read fid offset asked) (data_reaction w count o).answer
-data_answers fid offset asked count w None = inl refl
-data_answers fid offset asked count w (Some window) = inl refl
+  data_answers : (w : ℕ) (o : Option Window) → IsAnswered (t.Read fid offset count) (data_reaction w asked.count o).answer
+  data_answers w None = inl refl
+  data_answers w (Some window) = inl refl
 
-xdata_answers : (fid offset asked count w : ℕ) (o : Option Window) → IsAnswered (t.Read fid offset asked) (xdata_reaction w count o).answer
-xdata_answers fid offset asked count w None = inl refl
-xdata_answers fid offset asked count w (Some window) = inl refl
+  xdata_answers : (w : ℕ) (o : Option Window) → IsAnswered (t.Read fid offset count) (xdata_reaction w asked.count o).answer
+  xdata_answers w None = inl refl
+  xdata_answers w (Some window) = inl refl
 
-read_content_answers : (world : World) (windows : List (Option Window)) (plumber : Plumber) (fid offset asked count : ℕ) (f : Fid) (c : Content) → Answers (t.Read fid offset asked) (read_content world windows plumber fid f offset count c)
-read_content_answers world windows plumber fid offset asked count f content.Directory = read_dir_answers world plumber.names fid offset asked count f (place_at f offset)
-read_content_answers world windows plumber fid offset asked count f (content.BodyText w) = inl refl
-read_content_answers world windows plumber fid offset asked count f (content.TagText w) = inl refl
-read_content_answers world windows plumber fid offset asked count f (content.CtlText w) = inl refl
-read_content_answers world windows plumber fid offset asked count f (content.AddrText w) = inl refl
-read_content_answers world windows plumber fid offset asked count f (content.DataOf w) = data_answers fid offset asked count w (window_at windows w)
-read_content_answers world windows plumber fid offset asked count f (content.XdataOf w) = xdata_answers fid offset asked count w (window_at windows w)
-read_content_answers world windows plumber fid offset asked count f content.IndexText = inl refl
-read_content_answers world windows plumber fid offset asked count f (content.ErrorsOf w) = tt
-read_content_answers world windows plumber fid offset asked count f content.ConsErrors = inl refl
-read_content_answers world windows plumber fid offset asked count f content.Empty = inl refl
-read_content_answers world windows plumber fid offset asked count f (content.EventsOf w) = read_opening_answers fid offset asked count (event_opening f)
-read_content_answers world windows plumber fid offset asked count f content.SendText = tt
-read_content_answers world windows plumber fid offset asked count f content.RulesText = inl refl
-read_content_answers world windows plumber fid offset asked count f (content.PortOf k) = read_port_answers fid offset asked count (port_opening f)
+  read_content_answers : (f : Fid) (c : Content) → Answers (t.Read fid offset count) (read_content server asked f c)
+  read_content_answers f content.Directory = read_dir_answers f (place_at f asked.offset)
+  read_content_answers f (content.BodyText w) = inl refl
+  read_content_answers f (content.TagText w) = inl refl
+  read_content_answers f (content.CtlText w) = inl refl
+  read_content_answers f (content.AddrText w) = inl refl
+  read_content_answers f (content.DataOf w) = data_answers w (window_at server.windows w)
+  read_content_answers f (content.XdataOf w) = xdata_answers w (window_at server.windows w)
+  read_content_answers f content.IndexText = inl refl
+  read_content_answers f (content.ErrorsOf w) = tt
+  read_content_answers f content.ConsErrors = inl refl
+  read_content_answers f content.Empty = inl refl
+  read_content_answers f (content.EventsOf w) = read_opening_answers (event_opening f)
+  read_content_answers f content.SendText = tt
+  read_content_answers f content.RulesText = inl refl
+  read_content_answers f (content.PortOf k) = read_port_answers (port_opening f)
 
-read_answers : (world : World) (windows : List (Option Window)) (plumber : Plumber) (fid offset asked count : ℕ) (o : Option Fid) → Answers (t.Read fid offset asked) (read_fid world windows plumber fid offset count o)
-read_answers world windows plumber fid offset asked count None = tt
-read_answers world windows plumber fid offset asked count (Some f) =
-    or_reads_answers (t.Read fid offset asked) (use_refusal world plumber.names f is_for_reading) _ (read_content_answers world windows plumber fid offset asked count f (content_of f.node))
+  read_answers : (o : Option Fid) → Answers (t.Read fid offset count) (read_fid server asked o)
+  read_answers None = tt
+  read_answers (Some f) =
+      or_reads_answers (t.Read fid offset count) (use_refusal (world_by server) server.plumber.names f is_for_reading) _
+      (read_content_answers f (content_of f.node))
 
 if_lives_answers : (body : TBody) (o : Option Window) (x : Result Reaction Refusal) → Answers body x → Answers body (if_lives o x)
 if_lives_answers body None x h = tt
 if_lives_answers body (Some w) x h = h
 
-append_answers : (windows : List (Option Window)) (fid offset : ℕ) (bytes : List ℕ) (f : Fid) (w : ℕ) (decoded : Decoded) → Answers (t.Write fid offset bytes) (append_reaction windows fid f w (length bytes) decoded)
-append_answers windows fid offset bytes f w decoded =
-    if_lives_answers (t.Write fid offset bytes) (window_at windows w) _
-    (done_or (t.Write fid offset bytes) (fits_in (text_at windows w) decoded.text)
-    (change_reaction (appends windows w decoded.text) fid (fid_with_part f (part_of decoded.rest)) (length bytes)) refusal.TextTooLong (inl refl))
+append_answers : (windows : List (Option Window)) (offset : ℕ) (asked : Twrite) (f : Fid) (w : ℕ) (decoded : Decoded)
+    → Answers (t.Write asked.number offset asked.bytes) (append_reaction windows asked f w decoded)
+append_answers windows offset asked f w decoded =
+    if_lives_answers (t.Write asked.number offset asked.bytes) (window_at windows w) _
+    (done_or (t.Write asked.number offset asked.bytes) (fits_in (text_at windows w) decoded.text)
+    (change_reaction asked (appends windows w decoded.text) (fid_with_part f (part_of decoded.rest))) refusal.TextTooLong (inl refl))
 
-add_answers : (windows : List (Option Window)) (fid offset : ℕ) (bytes : List ℕ) (f : Fid) (w : ℕ) (decoded : Decoded) → Answers (t.Write fid offset bytes) (add_reaction windows fid f w (length bytes) decoded)
-add_answers windows fid offset bytes f w decoded =
-    if_lives_answers (t.Write fid offset bytes) (window_at windows w) _
-    (done_or (t.Write fid offset bytes) (fits_tag (right_of (window_at windows w)) decoded.text)
-    (change_reaction (change.Adds w decoded.text ∷ []) fid (fid_with_part f (part_of decoded.rest)) (length bytes)) refusal.TextTooLong (inl refl))
+add_answers : (windows : List (Option Window)) (offset : ℕ) (asked : Twrite) (f : Fid) (w : ℕ) (decoded : Decoded)
+    → Answers (t.Write asked.number offset asked.bytes) (add_reaction windows asked f w decoded)
+add_answers windows offset asked f w decoded =
+    if_lives_answers (t.Write asked.number offset asked.bytes) (window_at windows w) _
+    (done_or (t.Write asked.number offset asked.bytes) (fits_tag (right_of (window_at windows w)) decoded.text)
+    (change_reaction asked (change.Adds w decoded.text ∷ []) (fid_with_part f (part_of decoded.rest))) refusal.TextTooLong (inl refl))
 
 or_errors_answers : (body : TBody) (o : Option Refusal) (d : Reaction) → IsAnswered body d.answer → Answers body (or_errors o d)
 or_errors_answers body None d h = h
 or_errors_answers body (Some x) d h = tt
 
-errors_answers : (windows : List (Option Window)) (fid offset : ℕ) (bytes : List ℕ) (f : Fid) (name : List ℕ) (decoded : Decoded) → Answers (t.Write fid offset bytes) (errors_reaction windows fid f name (length bytes) decoded)
-errors_answers windows fid offset bytes f name decoded =
-    or_errors_answers (t.Write fid offset bytes) (errors_refusal windows (named windows name) decoded.text) _ (inl refl)
+errors_answers : (windows : List (Option Window)) (offset : ℕ) (asked : Twrite) (f : Fid) (name : List ℕ) (decoded : Decoded)
+    → Answers (t.Write asked.number offset asked.bytes) (errors_reaction windows asked f name decoded)
+errors_answers windows offset asked f name decoded =
+    or_errors_answers (t.Write asked.number offset asked.bytes) (errors_refusal windows (named windows name) decoded.text) _ (inl refl)
 
-asking_answers : (windows : List (Option Window)) (fid offset w : ℕ) (bytes : List ℕ) (d : Demand) → Answers (t.Write fid offset bytes) (asking_reaction windows w (length bytes) d)
-asking_answers windows fid offset w bytes d = if_lives_answers (t.Write fid offset bytes) (window_at windows w) _ (inl refl)
+asking_answers : (windows : List (Option Window)) (offset : ℕ) (asked : Twrite) (w : ℕ) (d : Demand)
+    → Answers (t.Write asked.number offset asked.bytes) (asking_reaction windows asked w d)
+asking_answers windows offset asked w d =
+    if_lives_answers (t.Write asked.number offset asked.bytes) (window_at windows w) _ (inl refl)
 
 addr_set_answers : (fid offset w : ℕ) (bytes : List ℕ) (x : Result Range RangeFault) → Answers (t.Write fid offset bytes) (addr_or_refusal w (length bytes) x)
 addr_set_answers fid offset w bytes (Ok range) = inl refl
@@ -206,28 +216,40 @@ taking_answers : (fid offset w : ℕ) (bytes : List ℕ) (o : Option Window) →
 taking_answers fid offset w bytes None = tt
 taking_answers fid offset w bytes (Some window) = data_set_answers fid offset w bytes (data_taken window.body bytes)
 
-write_content_answers : (windows : List (Option Window)) (fid offset : ℕ) (bytes : List ℕ) (f : Fid) (c : Content) → Answers (t.Write fid offset bytes) (write_content windows fid f bytes c)
-write_content_answers windows fid offset bytes f content.Directory = tt
-write_content_answers windows fid offset bytes f (content.BodyText w) = append_answers windows fid offset bytes f w (decode_part (part_bytes f.part ++ bytes))
-write_content_answers windows fid offset bytes f (content.TagText w) = add_answers windows fid offset bytes f w (decode_part (part_bytes f.part ++ bytes))
-write_content_answers windows fid offset bytes f (content.CtlText w) = asking_answers windows fid offset w bytes (demand.Controls w bytes)
-write_content_answers windows fid offset bytes f (content.AddrText w) = addr_answers fid offset w bytes (window_at windows w)
-write_content_answers windows fid offset bytes f (content.DataOf w) = taking_answers fid offset w bytes (window_at windows w)
-write_content_answers windows fid offset bytes f (content.XdataOf w) = taking_answers fid offset w bytes (window_at windows w)
-write_content_answers windows fid offset bytes f content.IndexText = tt
-write_content_answers windows fid offset bytes f (content.ErrorsOf w) =
-    errors_answers windows fid offset bytes f (errors_of (window_at windows w)) (decode_part (part_bytes f.part ++ bytes))
-write_content_answers windows fid offset bytes f content.ConsErrors = errors_answers windows fid offset bytes f root_errors (decode_part (part_bytes f.part ++ bytes))
-write_content_answers windows fid offset bytes f content.Empty = inl refl
-write_content_answers windows fid offset bytes f (content.EventsOf w) = asking_answers windows fid offset w bytes (demand.WriteBack w bytes)
-write_content_answers windows fid offset bytes f content.SendText = inl refl
-write_content_answers windows fid offset bytes f content.RulesText = inl refl
-write_content_answers windows fid offset bytes f (content.PortOf k) = tt
+write_content_answers : (windows : List (Option Window)) (offset : ℕ) (asked : Twrite) (f : Fid) (c : Content)
+    → Answers (t.Write asked.number offset asked.bytes) (write_content windows asked f c)
+write_content_answers windows offset asked f content.Directory = tt
+write_content_answers windows offset asked f (content.BodyText w) =
+    append_answers windows offset asked f w (decode_part (part_bytes f.part ++ asked.bytes))
+write_content_answers windows offset asked f (content.TagText w) =
+    add_answers windows offset asked f w (decode_part (part_bytes f.part ++ asked.bytes))
+write_content_answers windows offset asked f (content.CtlText w) =
+    asking_answers windows offset asked w (demand.Controls w asked.bytes)
+write_content_answers windows offset asked f (content.AddrText w) =
+    addr_answers asked.number offset w asked.bytes (window_at windows w)
+write_content_answers windows offset asked f (content.DataOf w) =
+    taking_answers asked.number offset w asked.bytes (window_at windows w)
+write_content_answers windows offset asked f (content.XdataOf w) =
+    taking_answers asked.number offset w asked.bytes (window_at windows w)
+write_content_answers windows offset asked f content.IndexText = tt
+write_content_answers windows offset asked f (content.ErrorsOf w) =
+    errors_answers windows offset asked f (errors_of (window_at windows w)) (decode_part (part_bytes f.part ++ asked.bytes))
+write_content_answers windows offset asked f content.ConsErrors =
+    errors_answers windows offset asked f root_errors (decode_part (part_bytes f.part ++ asked.bytes))
+write_content_answers windows offset asked f content.Empty = inl refl
+write_content_answers windows offset asked f (content.EventsOf w) =
+    asking_answers windows offset asked w (demand.WriteBack w asked.bytes)
+write_content_answers windows offset asked f content.SendText = inl refl
+write_content_answers windows offset asked f content.RulesText = inl refl
+write_content_answers windows offset asked f (content.PortOf k) = tt
 
-write_answers : (world : World) (windows : List (Option Window)) (ports : List (List ℕ)) (fid offset : ℕ) (bytes : List ℕ) (o : Option Fid) → Answers (t.Write fid offset bytes) (write_fid world windows ports fid bytes o)
-write_answers world windows ports fid offset bytes None = tt
-write_answers world windows ports fid offset bytes (Some f) =
-    or_reads_answers (t.Write fid offset bytes) (use_refusal world ports f is_for_writing) _ (write_content_answers windows fid offset bytes f (content_of f.node))
+write_answers : (server : ServerState) (offset : ℕ) (asked : Twrite) (o : Option Fid)
+    → Answers (t.Write asked.number offset asked.bytes) (write_fid server asked o)
+write_answers server offset asked None = tt
+write_answers server offset asked (Some f) =
+    or_reads_answers (t.Write asked.number offset asked.bytes)
+    (use_refusal (world_by server) server.plumber.names f is_for_writing) _
+    (write_content_answers server.windows offset asked f (content_of f.node))
 
 clunk_answers : (fid : ℕ) (o : Option Fid) → Answers (t.Clunk fid) (clunk_fid fid o)
 clunk_answers fid None = tt
@@ -237,29 +259,33 @@ remove_answers : (fid : ℕ) (o : Option Fid) → Answers (t.Remove fid) (remove
 remove_answers fid None = tt
 remove_answers fid (Some f) = inr (refusal.PermissionDenied, refl)
 
-stat_answers : (world : World) (ports : List (List ℕ)) (fid : ℕ) (o : Option Fid) → Answers (t.Stat fid) (stat_fid world ports o)
-stat_answers world ports fid None = tt
-stat_answers world ports fid (Some f) =
-    done_or (t.Stat fid) (is_live world ports f.node) _ refusal.WindowDeleted (inl refl)
+stat_answers : (server : ServerState) (fid : ℕ) (o : Option Fid) → Answers (t.Stat fid) (stat_fid server o)
+stat_answers server fid None = tt
+stat_answers server fid (Some f) =
+    done_or (t.Stat fid) (is_live (world_by server) server.plumber.names f.node) _ refusal.WindowDeleted (inl refl)
 
-served_answers : (tables : Tables) (world : World) (windows : List (Option Window)) (plumber : Plumber) (openings conn : ℕ) (body : TBody) → Answers body (session_reaction tables world windows plumber openings conn body)
-served_answers tables world windows plumber openings conn (t.Version msize version) = version_answers msize version
-served_answers tables world windows plumber openings conn (t.Auth afid uname aname) = tt
-served_answers tables world windows plumber openings conn (t.Flush oldtag) = inl refl
-served_answers tables world windows plumber openings conn (t.Attach fid afid uname aname) = attach_answers fid afid uname aname (attach_refusal tables conn fid afid)
-served_answers tables world windows plumber openings conn (t.Walk fid newfid names) = walk_answers tables world plumber.names conn fid newfid names (fid_of tables conn fid)
-served_answers tables world windows plumber openings conn (t.Open fid mode) = open_answers tables world plumber openings fid mode (fid_of tables conn fid)
-served_answers tables world windows plumber openings conn (t.Create fid name perm mode) = denied_answers (t.Create fid name perm mode) (fid_of tables conn fid)
-served_answers tables world windows plumber openings conn (t.Read fid offset count) = read_answers world windows plumber fid offset count (most count (msize_of tables conn)) (fid_of tables conn fid)
-served_answers tables world windows plumber openings conn (t.Write fid offset bytes) = write_answers world windows plumber.names fid offset bytes (fid_of tables conn fid)
-served_answers tables world windows plumber openings conn (t.Clunk fid) = clunk_answers fid (fid_of tables conn fid)
-served_answers tables world windows plumber openings conn (t.Remove fid) = remove_answers fid (fid_of tables conn fid)
-served_answers tables world windows plumber openings conn (t.Stat fid) = stat_answers world plumber.names fid (fid_of tables conn fid)
-served_answers tables world windows plumber openings conn (t.Wstat fid stat) = denied_answers (t.Wstat fid stat) (fid_of tables conn fid)
+served_answers : (server : ServerState) (body : TBody) → Answers body (session_reaction server body)
+served_answers server (t.Version msize version) = version_answers msize version
+served_answers server (t.Auth afid uname aname) = tt
+served_answers server (t.Flush oldtag) = inl refl
+served_answers server (t.Attach fid afid uname aname) =
+    attach_answers fid afid uname aname (attach_refusal server fid afid)
+served_answers server (t.Walk fid newfid names) = walk_answers server fid newfid names (fid_by server fid)
+served_answers server (t.Open fid mode) = open_answers server fid mode (fid_by server fid)
+served_answers server (t.Create fid name perm mode) =
+    denied_answers (t.Create fid name perm mode) (fid_by server fid)
+served_answers server (t.Read fid offset count) =
+    read_answers fid offset count server (lowered server (record { number = fid; offset = offset; count = count })) (fid_by server fid)
+served_answers server (t.Write fid offset bytes) =
+    write_answers server offset (record { number = fid; bytes = bytes }) (fid_by server fid)
+served_answers server (t.Clunk fid) = clunk_answers fid (fid_by server fid)
+served_answers server (t.Remove fid) = remove_answers fid (fid_by server fid)
+served_answers server (t.Stat fid) = stat_answers server fid (fid_by server fid)
+served_answers server (t.Wstat fid stat) = denied_answers (t.Wstat fid stat) (fid_by server fid)
 
 -- ---- all messages
 
 pub each_is_answered : EachIsAnswered
-each_is_answered tables windows plumber openings conn body =
-    refused_or body (comes_first tables conn body) effect.Nothing refusal.VersionFirst _
-    (settled body (session_reaction tables (world_of windows) windows plumber openings conn body) (served_answers tables (world_of windows) windows plumber openings conn body))
+each_is_answered server body =
+    refused_or body (comes_first server body) effect.Nothing refusal.VersionFirst _
+    (settled body (session_reaction server body) (served_answers server body))

@@ -1,5 +1,6 @@
 -- Texts for windows: what is put at the end of a body, and what is written to `errors` and `cons`.
-use Rattle.std.specs.Prelude.{ℕ, ◌+◌, ◌==◌, Bool, nat_le, List, [], ◌∷◌, ◌++◌, length, codes, Option, Some, None, if◌then◌else◌}
+use Rattle.std.specs.Prelude.{ℕ, ◌+◌, ◌==◌, Bool, nat_le, List, [], ◌∷◌, ◌++◌, length, codes, Option, Some, None}
+use Rattle.std.specs.Prelude.{if◌then◌else◌}
 use Rattle.edit_log.specs.declared.types.Edit.{Edit}
 use Rattle.acme_tree.specs.Trees.{world_is_full}
 use Rattle.win_ctl.specs.Directory.{directory, errors_name}
@@ -22,7 +23,8 @@ fits_tag right more = nat_le (length right + length more) tag_runes
 
 -- the edit that puts a text at the end of another; an empty text is none
 abbrev pub edits_at_end : List ℕ → List ℕ → List Edit
-edits_at_end text more = if length more == 0 then [] else record { q0 = length text; q1 = length text; text = more } ∷ []
+edits_at_end text more =
+    if length more == 0 then [] else record { q0 = length text; q1 = length text; text = more } ∷ []
 
 -- a text goes to the end of a window's body
 abbrev pub appends : List (Option Window) → ℕ → List ℕ → List Change
@@ -40,7 +42,8 @@ root_errors = errors_name (codes "/")
 
 -- the text is put at the end of the window; where there is none of that name, one is made first
 abbrev pub errors_changes : List (Option Window) → List ℕ → Option ℕ → List ℕ → List Change
-errors_changes windows name None text = change.Makes name ∷ change.Edits (world_of windows).next (edits_at_end [] text) ∷ []
+errors_changes windows name None text =
+    change.Makes name ∷ change.Edits (world_of windows).next (edits_at_end [] text) ∷ []
 errors_changes windows name (Some w) text = appends windows w text
 
 -- why a text doesn't go to the end of another
@@ -49,5 +52,6 @@ long_refusal text more = if fits_in text more then None else Some refusal.TextTo
 
 -- why a text doesn't go to an errors window
 abbrev pub errors_refusal : List (Option Window) → Option ℕ → List ℕ → Option Refusal
-errors_refusal windows None text = if world_is_full (world_of windows) then Some refusal.TooManyWindows else long_refusal [] text
+errors_refusal windows None text =
+    if world_is_full (world_of windows) then Some refusal.TooManyWindows else long_refusal [] text
 errors_refusal windows (Some w) text = long_refusal (text_at windows w) text

@@ -1,15 +1,13 @@
 -- Laws of messages.
-use Rattle.std.specs.Prelude.{◌≡◌, ◌⊎◌, ℕ, ◌+◌, List, Option}
+use Rattle.std.specs.Prelude.{◌≡◌, ◌⊎◌, ◌+◌}
 use Rattle.ninep_types.specs.declared.message.TBody.{TBody}
 use Rattle.ninep_types.specs.declared.message.RBody.{RBody}
 use Rattle.ninep_types.specs.declared.message.RBody.TheVariants as r
 use Rattle.ninep_types.specs.Spelling.{kind_t, kind_r}
-use Rattle.fid_table.specs.Tables.{Tables}
-use Rattle.core_windows.specs.Windows.{Window}
 use Rattle.core_fids.specs.declared.effect.Answer.{Answer}
 use Rattle.core_fids.specs.declared.effect.Answer.TheVariants.{Says, Reads, ReadsPort}
 use Rattle.core_fids.specs.declared.refusal.Refusal.{Refusal}
-use Rattle.core_fids.specs.Plumbers.{Plumber}
+use Rattle.core_fids.specs.Servers.{ServerState}
 use Rattle.ninep_types.specs.Kinds.{tread}
 use Rattle.core_answers.specs.Reactions.{reaction}
 use Rattle.core_fids.specs.Refusals.{refusal_text}
@@ -18,7 +16,8 @@ use Rattle.core_fids.specs.Refusals.{refusal_text}
 abbrev pub IsRefused : RBody → Type 0
 IsRefused answer = (refusal : Refusal) × (answer ≡ r.Error (refusal_text refusal))
 
--- A message is answered by its own R message, whose type byte is one more, unless it is refused. A Tread alone may be answered later.
+-- A message is answered by its own R message, whose type byte is one more, unless it is refused. A Tread alone may be
+-- answered later.
 abbrev pub IsAnswered : TBody → Answer → Type 0
 IsAnswered asked (Says answer) = (kind_r answer ≡ kind_t asked + 1) ⊎ IsRefused answer
 IsAnswered asked (Reads fid opening count) = kind_t asked ≡ tread
@@ -26,6 +25,4 @@ IsAnswered asked (ReadsPort fid opening count) = kind_t asked ≡ tread
 
 -- In each state each message of each connection is answered.
 abbrev pub EachIsAnswered : Type 0
-EachIsAnswered =
-    (tables : Tables) (windows : List (Option Window)) (plumber : Plumber) (openings conn : ℕ) (body : TBody)
-    → IsAnswered body (reaction tables windows plumber openings conn body).answer
+EachIsAnswered = (server : ServerState) (body : TBody) → IsAnswered body (reaction server body).answer

@@ -1,5 +1,6 @@
 -- The texts that the files of windows show.
-use Rattle.std.specs.Prelude.{ℕ, ◌+◌, ◌==◌, not, Bool, List, [], ◌∷◌, ◌++◌, length, take, drop, codes, Option, Some, None}
+use Rattle.std.specs.Prelude.{ℕ, ◌+◌, ◌==◌, not, Bool, List, [], ◌∷◌, ◌++◌, length, take, drop, codes, Option, Some}
+use Rattle.std.specs.Prelude.{None}
 use Rattle.std.specs.List.{ends_with}
 use Rattle.std.specs.Prelude.{nat_eq}
 use Rattle.am_text.specs.Utf8.{utf8}
@@ -26,7 +27,8 @@ is_dir_name name = ends_with nat_eq name (codes "/")
 abbrev pub tag_of : Window → Tag
 tag_of window = record { name = window.name; right = window.right }
 
--- what the tag offers: Undo and Redo where there is a group, Put where the window is modified, Get where it is a directory
+-- what the tag offers: Undo and Redo where there is a group, Put where the window is modified,
+-- Get where it is a directory
 abbrev pub shown_of : Window → Shown
 shown_of window = record {
   undo = not (length window.body.history.past == 0);
@@ -41,7 +43,8 @@ whole_tag window = tag_text (tag_of window) (shown_of window)
 
 -- what `ctl` shows
 abbrev pub ctl_of : ℕ → Window → List ℕ
-ctl_of w window = ctl_text w (length (whole_tag window)) (length window.body.text) (is_dir_name window.name) window.modified
+ctl_of w window =
+    ctl_text w (length (whole_tag window)) (length window.body.text) (is_dir_name window.name) window.modified
 
 -- the line of a window in `index`
 abbrev pub line_of : ℕ → Window → List ℕ

@@ -3,7 +3,8 @@
 ghost use Rattle.std.specs.Prelude.{◌≡◌, ◌+◌, ◌<◌, ◌^◌, IfOk, IfErr, Ok, length};
 ghost use Rattle.core_windows.specs.Windows.{window_at};
 ghost use Rattle.ninep_types.specs.Limits.{rread_head};
-ghost use Rattle.core_answers.specs.Addressing.{sets_addr, edits_with_addr, addr_text, data_reaction, xdata_reaction, fault_of, addr_reaction, taking_reaction};
+ghost use Rattle.core_answers.specs.Addressing.{sets_addr, edits_with_addr, addr_text, data_reaction, xdata_reaction};
+ghost use Rattle.core_answers.specs.Addressing.{fault_of, addr_reaction, taking_reaction};
 ghost use Rattle.core_fids.specs.Done.{IsDone};
 ghost use Rattle.core_fids.specs.Refusals.{Gives};
 
@@ -123,7 +124,8 @@ pub(crate) fn write_addr(
 ) -> Result<Reaction, Fault>
     requires { length bytes.now < 2 ^ 32 }
     ensures exact { IfOk result (λ d. addr_reaction window bytes.now (window_at windows.now.present window) ≡ Ok d) }
-    ensures refused { IfErr result (λ e. Gives e (addr_reaction window bytes.now (window_at windows.now.present window))) }
+    ensures refused { IfErr result (λ e. Gives e (addr_reaction window bytes.now
+        (window_at windows.now.present window))) }
     ensures done { IfOk result (IsDone windows.now.present) }
 {
     let Some(pane) = windows.get(window) else {
@@ -152,7 +154,8 @@ pub(crate) fn write_data(
 ) -> Result<Reaction, Fault>
     requires { length bytes.now < 2 ^ 32 }
     ensures exact { IfOk result (λ d. taking_reaction window bytes.now (window_at windows.now.present window) ≡ Ok d) }
-    ensures refused { IfErr result (λ e. Gives e (taking_reaction window bytes.now (window_at windows.now.present window))) }
+    ensures refused { IfErr result (λ e. Gives e (taking_reaction window bytes.now
+        (window_at windows.now.present window))) }
     ensures done { IfOk result (IsDone windows.now.present) }
 {
     let Some(pane) = windows.get(window) else {

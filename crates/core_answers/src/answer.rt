@@ -4,7 +4,7 @@ ghost use Rattle.std.specs.Prelude.{◌≡◌, IfOk, IfErr, Ok};
 ghost use Rattle.ninep_types.specs.Spelling.{BodyFits_t};
 ghost use Rattle.core_fids.specs.Done.{IsDone, IsStill};
 ghost use Rattle.core_fids.specs.Refusals.{Gives};
-ghost use Rattle.core_fids.specs.Servers.{plumber_in, tables_in, windows_in, world_in};
+ghost use Rattle.core_fids.specs.Servers.{server_in, windows_in};
 ghost use Rattle.core_answers.specs.Reactions.{flush_reaction, session_reaction, needs_session, comes_first, reaction};
 
 use crate::read::read;
@@ -33,8 +33,8 @@ fn flush(alloc: Global, oldtag: u16) -> Reaction
 #[tactic(auto, using(crate::proofs::Possibly::still))]
 fn session_reaction(alloc: Global, server: &Server, body: &TBody) -> Result<Reaction, Fault>
     requires { BodyFits_t body.now }
-    ensures exact { IfOk result (λ r. session_reaction (tables_in server.now) (world_in server.now) (windows_in server.now) (plumber_in server.now) server.now.openings server.now.conn body.now ≡ Ok r) }
-    ensures refused { IfErr result (λ e. Gives e (session_reaction (tables_in server.now) (world_in server.now) (windows_in server.now) (plumber_in server.now) server.now.openings server.now.conn body.now)) }
+    ensures exact { IfOk result (λ r. session_reaction (server_in server.now) body.now ≡ Ok r) }
+    ensures refused { IfErr result (λ e. Gives e (session_reaction (server_in server.now) body.now)) }
     ensures done { IfOk result (IsDone (windows_in server.now)) }
 {
     match body {
@@ -83,7 +83,7 @@ fn needs_session(body: &TBody) -> bool
 }
 
 fn comes_first(server: &Server, body: &TBody) -> bool
-    ensures { result ≡ comes_first (tables_in server.now) server.now.conn body.now }
+    ensures { result ≡ comes_first (server_in server.now) body.now }
 {
     needs_session(body) && server.sessions.msize(server.conn).is_none()
 }
@@ -92,7 +92,7 @@ fn comes_first(server: &Server, body: &TBody) -> bool
 #[tactic(auto, using(crate::proofs::Possibly::still))]
 pub fn reaction_of(alloc: Global, server: &Server, body: &TBody) -> Result<Reaction, NoMemory>
     requires { BodyFits_t body.now }
-    ensures exact { IfOk result (λ r. r ≡ reaction (tables_in server.now) (windows_in server.now) (plumber_in server.now) server.now.openings server.now.conn body.now) }
+    ensures exact { IfOk result (λ r. r ≡ reaction (server_in server.now) body.now) }
     // Its answer has a spelling, and its change of the windows can be made.
     ensures done { IfOk result (IsDone (windows_in server.now)) }
 {

@@ -1,10 +1,12 @@
 //! Texts for windows: what is put at the end of a body, and what is written to `errors` and `cons`, after acme(4).
 
-ghost use Rattle.std.specs.Prelude.{◌≡◌, ◌+◌, ◌++◌, ◌<◌, ◌≤◌, ◌^◌, ◌==◌, nat_le, [], ◌∷◌, if◌then◌else◌, false, is_some, IsSome, IfSome, IfOk, length, None};
+ghost use Rattle.std.specs.Prelude.{◌≡◌, ◌+◌, ◌++◌, ◌<◌, ◌≤◌, ◌^◌, ◌==◌, nat_le, [], ◌∷◌, if◌then◌else◌, false};
+ghost use Rattle.std.specs.Prelude.{is_some, IsSome, IfSome, IfOk, length, None};
 ghost use Rattle.acme_tree.specs.Trees.{world_is_full};
 ghost use Rattle.core_fids.specs.Done.{CanBeMade};
 ghost use Rattle.core_windows.specs.Windows.{window_at, world_of};
-ghost use Rattle.core_answers.specs.Erring.{fits_in, fits_tag, edits_at_end, appends, errors_of, root_errors, errors_changes, long_refusal, errors_refusal};
+ghost use Rattle.core_answers.specs.Erring.{fits_in, fits_tag, edits_at_end, appends, errors_of, root_errors};
+ghost use Rattle.core_answers.specs.Erring.{errors_changes, long_refusal, errors_refusal};
 ghost use Rattle.core_answers.specs.Texts.{text_at, right_of, name_of, text_of};
 
 use acme_tree::world_is_full;
@@ -63,7 +65,8 @@ pub(crate) fn fits_tag(windows: &Windows, window: u32, text: &[Rune]) -> bool
 }
 
 fn edits_at(alloc: Global, place: usize, text: Runes) -> Result<Edits, NoMemory>
-    ensures { IfOk result (λ edits. edits ≡ if length text == 0 then [] else record { q0 = place; q1 = place; text = text } ∷ []) }
+    ensures { IfOk result (λ edits. edits ≡ if length text == 0 then []
+        else record { q0 = place; q1 = place; text = text } ∷ []) }
 {
     let mut edits = Items::new(alloc);
     if !text.is_empty() {

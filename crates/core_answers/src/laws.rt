@@ -2,7 +2,8 @@
 
 ghost use Rattle.core_answers.specs.Laws.{EachIsAnswered};
 
-/// A reaction answers its message by its own R message, unless one of the named refusals applies, whose text is answered.
+/// A reaction answers its message by its own R message, unless one of the named refusals
+/// applies, whose text is answered.
 pub fn reactions_are_answered()
     ensures { EachIsAnswered }
 {}

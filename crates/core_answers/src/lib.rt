@@ -4,7 +4,7 @@
 mod addressing;
 mod answer;
 mod erring;
-mod laws;
+pub mod laws;
 mod read;
 mod texts;
 mod write;
@@ -12,5 +12,4 @@ mod write;
 pub use am_text::{Bytes, Items, NoMemory, Rune, Runes};
 pub use answer::reaction_of;
 pub use core_fids::{Reaction, Server};
-pub use laws::reactions_are_answered;
 pub use ninep_types::TBody;

@@ -2,12 +2,14 @@
 
 ghost use Rattle.std.specs.Prelude.{◌≡◌, ◌+◌, ◌<◌, ◌^◌, IfOk, IfErr, Ok, length};
 ghost use Rattle.core_fids.specs.Contents.{content_of};
+ghost use Rattle.core_fids.specs.Directories.{asked_in};
 ghost use Rattle.core_fids.specs.Done.{IsDone, IsStill};
 ghost use Rattle.core_fids.specs.Fids.{event_opening, is_for_reading, is_for_writing, port_opening};
 ghost use Rattle.core_fids.specs.Refusals.{Gives};
-ghost use Rattle.core_fids.specs.Servers.{plumber_in, tables_in, windows_in, world_in};
+ghost use Rattle.core_fids.specs.Servers.{server_in, windows_in};
 ghost use Rattle.ninep_types.specs.Limits.{rread_head};
-ghost use Rattle.core_answers.specs.Reading.{bytes_reaction, read_content, read_opening, read_port, use_refusal, most, read_reaction};
+ghost use Rattle.core_answers.specs.Reading.{bytes_reaction, read_content, read_opening, read_port, use_refusal, most};
+ghost use Rattle.core_answers.specs.Reading.{read_reaction};
 ghost use Rattle.core_answers.specs.Texts.{part_at};
 
 use crate::addressing::{addr_text, read_data, read_xdata};
@@ -44,8 +46,9 @@ fn show_part(alloc: Global, bytes: &[u8], reading: &Reading) -> Result<Reaction,
 // A read of an event file, which gets what is there for its opening, or waits.
 fn read_opening(alloc: Global, reading: &Reading) -> Result<Reaction, Fault>
     requires { reading.now.count + rread_head < 2 ^ 32 }
-    ensures exact { IfOk result (λ r. read_opening reading.now.number reading.now.count (event_opening reading.now.fid.now) ≡ Ok r) }
-    ensures refused { IfErr result (λ e. Gives e (read_opening reading.now.number reading.now.count (event_opening reading.now.fid.now))) }
+    ensures exact { IfOk result (λ r. read_opening (asked_in reading.now) (event_opening reading.now.fid.now) ≡ Ok r) }
+    ensures refused { IfErr result (λ e. Gives e (read_opening (asked_in reading.now)
+        (event_opening reading.now.fid.now))) }
     ensures still { IfOk result IsStill }
 {
     let Some(opening) = event_opening(reading.fid) else {
@@ -67,8 +70,9 @@ fn read_opening(alloc: Global, reading: &Reading) -> Result<Reaction, Fault>
 // A read of a port, which gets what is there for its opening, or waits.
 fn read_port(alloc: Global, reading: &Reading) -> Result<Reaction, Fault>
     requires { reading.now.count + rread_head < 2 ^ 32 }
-    ensures exact { IfOk result (λ r. read_port reading.now.number reading.now.count (port_opening reading.now.fid.now) ≡ Ok r) }
-    ensures refused { IfErr result (λ e. Gives e (read_port reading.now.number reading.now.count (port_opening reading.now.fid.now))) }
+    ensures exact { IfOk result (λ r. read_port (asked_in reading.now) (port_opening reading.now.fid.now) ≡ Ok r) }
+    ensures refused { IfErr result (λ e. Gives e (read_port (asked_in reading.now)
+        (port_opening reading.now.fid.now))) }
     ensures still { IfOk result IsStill }
 {
     let Some(opening) = port_opening(reading.fid) else {
@@ -90,8 +94,10 @@ fn read_port(alloc: Global, reading: &Reading) -> Result<Reaction, Fault>
 #[tactic(auto, using(crate::proofs::Possibly::still))]
 fn read_content(alloc: Global, server: &Server, reading: &Reading) -> Result<Reaction, Fault>
     requires { reading.now.count + rread_head < 2 ^ 32 }
-    ensures exact { IfOk result (λ r. read_content (world_in server.now) (windows_in server.now) (plumber_in server.now) reading.now.number reading.now.fid.now reading.now.offset reading.now.count (content_of reading.now.fid.now.node) ≡ Ok r) }
-    ensures refused { IfErr result (λ e. Gives e (read_content (world_in server.now) (windows_in server.now) (plumber_in server.now) reading.now.number reading.now.fid.now reading.now.offset reading.now.count (content_of reading.now.fid.now.node))) }
+    ensures exact { IfOk result (λ r. read_content (server_in server.now) (asked_in reading.now) reading.now.fid.now
+        (content_of reading.now.fid.now.node) ≡ Ok r) }
+    ensures refused { IfErr result (λ e. Gives e (read_content (server_in server.now) (asked_in reading.now)
+        reading.now.fid.now (content_of reading.now.fid.now.node))) }
     ensures done { IfOk result (IsDone (windows_in server.now)) }
 {
     let windows = server.windows;
@@ -177,8 +183,10 @@ pub(crate) fn read(
     offset: u64,
     count: u32,
 ) -> Result<Reaction, Fault>
-    ensures exact { IfOk result (λ r. read_reaction (tables_in server.now) (world_in server.now) (windows_in server.now) (plumber_in server.now) server.now.conn number offset count ≡ Ok r) }
-    ensures refused { IfErr result (λ e. Gives e (read_reaction (tables_in server.now) (world_in server.now) (windows_in server.now) (plumber_in server.now) server.now.conn number offset count)) }
+    ensures exact { IfOk result (λ r. read_reaction (server_in server.now)
+        (record { number = number; offset = offset; count = count }) ≡ Ok r) }
+    ensures refused { IfErr result (λ e. Gives e (read_reaction (server_in server.now)
+        (record { number = number; offset = offset; count = count }))) }
     ensures done { IfOk result (IsDone (windows_in server.now)) }
 {
     let Some(fid) = server.sessions.fid(server.conn, number) else {

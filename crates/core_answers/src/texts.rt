@@ -3,7 +3,8 @@
 ghost use Rattle.std.specs.Prelude.{◌≡◌, ◌+◌, ◌++◌, ◌<◌, ◌≤◌, ◌^◌, ◌==◌, not, IfOk, length, take, drop};
 ghost use Rattle.core_windows.specs.Panes.{window_of, windows_of};
 ghost use Rattle.core_windows.specs.Windows.{window_at};
-ghost use Rattle.core_answers.specs.Texts.{part_at, read_of, tag_of, shown_of, whole_tag, ctl_of, line_of, index_from, text_at, tag_if_live, ctl_if_live, is_dir_name};
+ghost use Rattle.core_answers.specs.Texts.{part_at, read_of, tag_of, shown_of, whole_tag, ctl_of, line_of, index_from};
+ghost use Rattle.core_answers.specs.Texts.{text_at, tag_if_live, ctl_if_live, is_dir_name};
 
 use am_text::{Bytes, Items, Letters, NoMemory, Rune, Runes, SLASH, utf8_slice};
 use core_windows::{Pane, Windows};

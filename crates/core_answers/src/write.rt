@@ -8,8 +8,10 @@ ghost use Rattle.core_fids.specs.Contents.{content_of};
 ghost use Rattle.core_fids.specs.Done.{HasSpelling, IsOfLiving, IsDone};
 ghost use Rattle.core_fids.specs.Fids.{fid_with_part};
 ghost use Rattle.core_fids.specs.Refusals.{Gives};
-ghost use Rattle.core_fids.specs.Servers.{plumber_in, tables_in, windows_in, world_in};
-ghost use Rattle.core_answers.specs.Writing.{demand_reaction, whole_runes, change_reaction, append_reaction, add_reaction, errors_reaction, asking_reaction, write_content, write_reaction};
+ghost use Rattle.core_fids.specs.Servers.{server_in, windows_in};
+ghost use Rattle.core_answers.specs.Writing.{asked_in, demand_reaction, whole_runes, change_reaction, append_reaction};
+ghost use Rattle.core_answers.specs.Writing.{add_reaction, errors_reaction, asking_reaction, write_content};
+ghost use Rattle.core_answers.specs.Writing.{write_reaction};
 
 use crate::addressing::{write_addr, write_data};
 use crate::erring::{
@@ -52,7 +54,8 @@ fn change_reaction(
     part: Part,
 ) -> Result<Reaction, NoMemory>
     requires { length writing.now.bytes.now < 2 ^ 32 }
-    ensures exact { IfOk result (λ r. r ≡ change_reaction changes writing.now.number (fid_with_part writing.now.fid.now part) (length writing.now.bytes.now)) }
+    ensures exact { IfOk result (λ r. r ≡ change_reaction (asked_in writing.now) changes
+        (fid_with_part writing.now.fid.now part)) }
     ensures sent { IfOk result (λ r. HasSpelling r.answer) }
 {
     Ok(Reaction::plain(
@@ -75,8 +78,10 @@ fn append(
     window: u32,
 ) -> Result<Reaction, Fault>
     requires { length writing.now.bytes.now < 2 ^ 32 }
-    ensures exact { IfOk result (λ r. append_reaction windows.now.present writing.now.number writing.now.fid.now window (length writing.now.bytes.now) (whole_runes writing.now.fid.now writing.now.bytes.now) ≡ Ok r) }
-    ensures refused { IfErr result (λ e. Gives e (append_reaction windows.now.present writing.now.number writing.now.fid.now window (length writing.now.bytes.now) (whole_runes writing.now.fid.now writing.now.bytes.now))) }
+    ensures exact { IfOk result (λ r. append_reaction windows.now.present (asked_in writing.now) writing.now.fid.now
+        window (whole_runes writing.now.fid.now writing.now.bytes.now) ≡ Ok r) }
+    ensures refused { IfErr result (λ e. Gives e (append_reaction windows.now.present (asked_in writing.now)
+        writing.now.fid.now window (whole_runes writing.now.fid.now writing.now.bytes.now))) }
     ensures done { IfOk result (IsDone windows.now.present) }
 {
     if !lives(windows, window) {
@@ -93,8 +98,10 @@ fn append(
 #[tactic(auto, using(crate::proofs::Possibly::made))]
 fn add(alloc: Global, windows: &Windows, writing: &Writing, window: u32) -> Result<Reaction, Fault>
     requires { length writing.now.bytes.now < 2 ^ 32 }
-    ensures exact { IfOk result (λ r. add_reaction windows.now.present writing.now.number writing.now.fid.now window (length writing.now.bytes.now) (whole_runes writing.now.fid.now writing.now.bytes.now) ≡ Ok r) }
-    ensures refused { IfErr result (λ e. Gives e (add_reaction windows.now.present writing.now.number writing.now.fid.now window (length writing.now.bytes.now) (whole_runes writing.now.fid.now writing.now.bytes.now))) }
+    ensures exact { IfOk result (λ r. add_reaction windows.now.present (asked_in writing.now) writing.now.fid.now window
+        (whole_runes writing.now.fid.now writing.now.bytes.now) ≡ Ok r) }
+    ensures refused { IfErr result (λ e. Gives e (add_reaction windows.now.present (asked_in writing.now)
+        writing.now.fid.now window (whole_runes writing.now.fid.now writing.now.bytes.now))) }
     ensures done { IfOk result (IsDone windows.now.present) }
 {
     if !lives(windows, window) {
@@ -117,8 +124,10 @@ fn complain(
     name: Runes,
 ) -> Result<Reaction, Fault>
     requires { length writing.now.bytes.now < 2 ^ 32 }
-    ensures exact { IfOk result (λ r. errors_reaction windows.now.present writing.now.number writing.now.fid.now name (length writing.now.bytes.now) (whole_runes writing.now.fid.now writing.now.bytes.now) ≡ Ok r) }
-    ensures refused { IfErr result (λ e. Gives e (errors_reaction windows.now.present writing.now.number writing.now.fid.now name (length writing.now.bytes.now) (whole_runes writing.now.fid.now writing.now.bytes.now))) }
+    ensures exact { IfOk result (λ r. errors_reaction windows.now.present (asked_in writing.now) writing.now.fid.now
+        name (whole_runes writing.now.fid.now writing.now.bytes.now) ≡ Ok r) }
+    ensures refused { IfErr result (λ e. Gives e (errors_reaction windows.now.present (asked_in writing.now)
+        writing.now.fid.now name (whole_runes writing.now.fid.now writing.now.bytes.now))) }
     ensures done { IfOk result (IsDone windows.now.present) }
 {
     let (text, part) = runes_of(alloc, writing)?;
@@ -141,8 +150,9 @@ fn ask(
 ) -> Result<Reaction, Fault>
     requires small { length writing.now.bytes.now < 2 ^ 32 }
     requires own { IsSome (window_at windows.now.present window) → IsOfLiving windows.now.present demand }
-    ensures exact { IfOk result (λ r. asking_reaction windows.now.present window (length writing.now.bytes.now) demand ≡ Ok r) }
-    ensures refused { IfErr result (λ e. Gives e (asking_reaction windows.now.present window (length writing.now.bytes.now) demand)) }
+    ensures exact { IfOk result (λ r. asking_reaction windows.now.present (asked_in writing.now) window demand ≡ Ok r) }
+    ensures refused { IfErr result (λ e. Gives e (asking_reaction windows.now.present (asked_in writing.now)
+        window demand)) }
     ensures done { IfOk result (IsDone windows.now.present) }
 {
     if !lives(windows, window) {
@@ -155,7 +165,7 @@ fn ask(
 fn hand(alloc: Global, writing: &Writing, demand: Demand) -> Reaction
     requires small { length writing.now.bytes.now < 2 ^ 32 }
     requires own { (windows : List (Option Window)) → IsOfLiving windows demand }
-    ensures exact { result ≡ demand_reaction writing.now.number writing.now.fid.now (length writing.now.bytes.now) demand }
+    ensures exact { result ≡ demand_reaction (asked_in writing.now) writing.now.fid.now demand }
     ensures done { (windows : List (Option Window)) → IsDone windows result }
 {
     Reaction {
@@ -175,8 +185,10 @@ fn hand(alloc: Global, writing: &Writing, demand: Demand) -> Reaction
 #[tactic(auto, using(crate::proofs::Possibly::made))]
 fn write_content(alloc: Global, windows: &Windows, writing: &Writing) -> Result<Reaction, Fault>
     requires { length writing.now.bytes.now < 2 ^ 32 }
-    ensures exact { IfOk result (λ r. write_content windows.now.present writing.now.number writing.now.fid.now writing.now.bytes.now (content_of writing.now.fid.now.node) ≡ Ok r) }
-    ensures refused { IfErr result (λ e. Gives e (write_content windows.now.present writing.now.number writing.now.fid.now writing.now.bytes.now (content_of writing.now.fid.now.node))) }
+    ensures exact { IfOk result (λ r. write_content windows.now.present (asked_in writing.now) writing.now.fid.now
+        (content_of writing.now.fid.now.node) ≡ Ok r) }
+    ensures refused { IfErr result (λ e. Gives e (write_content windows.now.present (asked_in writing.now)
+        writing.now.fid.now (content_of writing.now.fid.now.node))) }
     ensures done { IfOk result (IsDone windows.now.present) }
 {
     match content_of(writing.fid.node) {
@@ -242,8 +254,10 @@ pub(crate) fn write(
     bytes: &[u8],
 ) -> Result<Reaction, Fault>
     requires { length bytes.now < 2 ^ 32 }
-    ensures exact { IfOk result (λ r. write_reaction (tables_in server.now) (world_in server.now) (windows_in server.now) (plumber_in server.now).names server.now.conn number bytes.now ≡ Ok r) }
-    ensures refused { IfErr result (λ e. Gives e (write_reaction (tables_in server.now) (world_in server.now) (windows_in server.now) (plumber_in server.now).names server.now.conn number bytes.now)) }
+    ensures exact { IfOk result (λ r. write_reaction (server_in server.now)
+        (record { number = number; bytes = bytes.now }) ≡ Ok r) }
+    ensures refused { IfErr result (λ e. Gives e (write_reaction (server_in server.now)
+        (record { number = number; bytes = bytes.now }))) }
     ensures done { IfOk result (IsDone (windows_in server.now)) }
 {
     let Some(fid) = server.sessions.fid(server.conn, number) else {

@@ -24,7 +24,8 @@ left_book at tables kind.Acts d book = book
 
 -- first the item that is written back, and at last the event files of the windows that are deleted
 abbrev pub closed_book : ℕ → Tables → Kind → Doing → BookState → BookState
-closed_book at tables k d book = closed_with at (left_book at tables k d (written_back at book d.back)) (deleted_by d.deeds)
+closed_book at tables k d book =
+    closed_with at (left_book at tables k d (written_back at book d.back)) (deleted_by d.deeds)
 
 -- the same of ports
 abbrev pub left_ports : Tables → Kind → Doing → PortsState → PortsState
@@ -37,7 +38,8 @@ left_ports tables kind.Acts d ports = ports
 -- the sessions without the fids that are freed, and the reads that were answered wait no more
 abbrev pub ended_tables : Tables → Kind → Doing → List Response → Tables
 ended_tables tables (kind.Dials conn) d responses = ended tables responses
-ended_tables tables (kind.Asks conn tag) d responses = without_cancelled (ended (ended_with tables conn d.effect) responses) conn d.events
+ended_tables tables (kind.Asks conn tag) d responses =
+    without_cancelled (ended (ended_with tables conn d.effect) responses) conn d.events
 ended_tables tables (kind.Ends conn why) d responses = ended (after_hangup tables conn) responses
 ended_tables tables (kind.Takes conn) d responses = ended tables responses
 ended_tables tables kind.Acts d responses = ended tables responses

@@ -23,7 +23,13 @@ conn_views c (Ended why ∷ cs) = conn_view c (Some why) ∷ conn_views (c + 1) 
 
 -- what the report tells of a window
 abbrev pub window_view : ℕ → Window → WindowView
-window_view w window = record { id = w; modified = window.modified; dot = window.body.dot; name = window.name; body = window.body.text }
+window_view w window = record {
+  id = w;
+  modified = window.modified;
+  dot = window.body.dot;
+  name = window.name;
+  body = window.body.text;
+}
 
 -- the live windows, of which the first in the list has this number
 unfoldable pub window_views : ℕ → List (Option Window) → List WindowView
@@ -33,4 +39,10 @@ window_views w (Some window ∷ ws) = window_view w window ∷ window_views (w +
 
 -- what the report tells
 abbrev pub view_at : ℕ → Present → View
-view_at entries s = record { entries = entries; conns = conn_views 0 s.connections; windows = window_views 1 s.scene.windows; items = ledger_of s.scene.book.files; jobs = s.scene.jobs }
+view_at entries s = record {
+  entries = entries;
+  conns = conn_views 0 s.connections;
+  windows = window_views 1 s.scene.windows;
+  items = ledger_of s.scene.book.files;
+  jobs = s.scene.jobs;
+}

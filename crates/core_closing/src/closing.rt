@@ -20,7 +20,8 @@ use fid_table::Sessions;
 fn leave_book(book: &mut Book, sessions: &Sessions, kind: Kind, prepared: &Prepared)
     requires steady { IsSteady book.old }
     requires sound { IsSound prepared.now.at book.old.present }
-    ensures new { (d : Doing) → d.effect ≡ prepared.now.effect → d.events ≡ prepared.now.events → book.new ≡ both (left_book prepared.now.at sessions.now.present kind d book.old.present) }
+    ensures new { (d : Doing) → d.effect ≡ prepared.now.effect → d.events ≡ prepared.now.events → book.new
+        ≡ both (left_book prepared.now.at sessions.now.present kind d book.old.present) }
     ensures sound { IsSound prepared.now.at book.new.present }
     ensures steady { IsSteady book.new }
 {
@@ -36,12 +37,14 @@ fn leave_book(book: &mut Book, sessions: &Sessions, kind: Kind, prepared: &Prepa
     }
 }
 
-/// Writes back the item that an event of this kind does, closes the openings of the fids that it frees and those of the windows that it
-/// deletes, and drops a read that it cancels. The fids are still there. It takes no memory.
+/// Writes back the item that an event of this kind does, closes the openings of the fids that it frees and those of the
+/// windows that it deletes, and drops a read that it cancels. The fids are still there. It takes no memory.
 pub fn change_book(book: &mut Book, sessions: &Sessions, kind: Kind, prepared: &Prepared)
     requires steady { IsSteady book.old }
     requires sound { IsSound prepared.now.at book.old.present }
-    ensures new { (d : Doing) → d.effect ≡ prepared.now.effect → d.events ≡ prepared.now.events → deleted_by d.deeds ≡ prepared.now.deleted → d.back ≡ prepared.now.back → book.new ≡ both (closed_book prepared.now.at sessions.now.present kind d book.old.present) }
+    ensures new { (d : Doing) → d.effect ≡ prepared.now.effect → d.events ≡ prepared.now.events → deleted_by d.deeds
+        ≡ prepared.now.deleted → d.back ≡ prepared.now.back → book.new
+        ≡ both (closed_book prepared.now.at sessions.now.present kind d book.old.present) }
     ensures sound { IsSound prepared.now.at book.new.present }
     ensures steady { IsSteady book.new }
 {
@@ -50,12 +53,13 @@ pub fn change_book(book: &mut Book, sessions: &Sessions, kind: Kind, prepared: &
     close_events(book, prepared.deleted.as_slice(), prepared.at);
 }
 
-/// Closes the openings of ports of the fids that an event of this kind frees, and drops a read that it cancels. The fids are still there. It
-/// takes no memory.
+/// Closes the openings of ports of the fids that an event of this kind frees, and drops a read that it cancels. The
+/// fids are still there. It takes no memory.
 pub fn change_ports(ports: &mut Ports, sessions: &Sessions, kind: Kind, prepared: &Prepared)
     requires steady { IsSteady ports.old }
     requires sound { ArePortsSound ports.old.present }
-    ensures new { (d : Doing) → d.effect ≡ prepared.now.effect → d.events ≡ prepared.now.events → ports.new ≡ both (left_ports sessions.now.present kind d ports.old.present) }
+    ensures new { (d : Doing) → d.effect ≡ prepared.now.effect → d.events ≡ prepared.now.events → ports.new
+        ≡ both (left_ports sessions.now.present kind d ports.old.present) }
     ensures sound { ArePortsSound ports.new.present }
     ensures steady { IsSteady ports.new }
 {

@@ -50,8 +50,8 @@ fn end_fids(sessions: &mut Sessions, conn: u32, effect: &Effect)
     }
 }
 
-/// Ends the fids that an event of this kind frees, and the reads that were answered, in sessions that have grown as it wants it. It takes
-/// no memory.
+/// Ends the fids that an event of this kind frees, and the reads that were answered, in sessions that have grown as it
+/// wants it. It takes no memory.
 pub fn change_sessions(
     sessions: &mut Sessions,
     kind: Kind,
@@ -60,7 +60,8 @@ pub fn change_sessions(
     said: &[Response],
 )
     requires { IsOfJoined sessions.old.present kind }
-    ensures new { (d : Doing) → d.effect ≡ effect.now → d.events ≡ events → sessions.new ≡ both (ended_tables sessions.old.present kind d said.now) }
+    ensures new { (d : Doing) → d.effect ≡ effect.now → d.events ≡ events → sessions.new
+        ≡ both (ended_tables sessions.old.present kind d said.now) }
     ensures steady { IsSteady sessions.new }
 {
     sessions.keep();

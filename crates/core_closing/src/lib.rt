@@ -1,5 +1,5 @@
-//! What a step ends: connections, their sessions and fids, openings of event files and ports, waiting reads that were answered, and
-//! replies that are taken; and what the report tells of the editor, with answers to what is asked of it.
+//! What a step ends: connections, their sessions and fids, openings of event files and ports, waiting reads that were
+//! answered, and replies that are taken; and what the report tells of the editor, with answers to what is asked of it.
 #![tactic(auto)]
 
 mod asking;

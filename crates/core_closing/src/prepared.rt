@@ -6,8 +6,9 @@ use core_events::{BackItem, Responses};
 use core_fids::{Effect, EventChange};
 use core_outputs::Reply;
 
-/// An event with all that its step will do: the number of its entry, what it does to the fids and the session of its connection, to event
-/// files and to ports, the windows that it deletes, the item that it writes back, and what is said to connections.
+/// An event with all that its step will do: the number of its entry, what it does to the fids and the session of
+/// its connection, to event files and to ports, the windows that it deletes, the item that it writes back, and
+/// what is said to connections.
 #[derive(Drop)]
 pub struct Prepared {
     pub event: Event,

@@ -29,7 +29,8 @@ request_deeds jobs = map deed.Requests jobs
 abbrev pub change_deeds : ℕ → EditPlan → SceneState → List Deed
 change_deeds w plan s = body_deeds w plan.edits plan.dot ++ request_deeds plan.jobs
 
--- the body is changed and programs are requested, and then all that was printed is put at the end of the directory's errors window
+-- the body is changed and programs are requested, and then all that was printed is put at the end of the
+-- directory's errors window
 abbrev pub plan_deeds : Entry → ℕ → List ℕ → EditPlan → SceneState → List Deed
 plan_deeds e w dir plan s = then_ e (change_deeds w plan) (errors_deeds e dir plan.prints) s
 

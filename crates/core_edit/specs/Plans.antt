@@ -1,5 +1,6 @@
 -- What a text of Edit is to make of a window's body (sam(1)).
-use Rattle.std.specs.Prelude.{◌≡◌, ℕ, ◌+◌, ◌-◌, List, [], ◌∷◌, length, Option, Some, None, Result, Ok, Err, if◌then◌else◌}
+use Rattle.std.specs.Prelude.{◌≡◌, ℕ, ◌+◌, ◌-◌, List, [], ◌∷◌, length, Option, Some, None, Result, Ok, Err}
+use Rattle.std.specs.Prelude.{if◌then◌else◌}
 use Rattle.edit_log.specs.declared.types.Edit.{Edit}
 use Rattle.edit_log.specs.Edited.{text_after}
 use Rattle.edit_parts.specs.Tree.{Command}

@@ -39,8 +39,8 @@ fn change_deeds(
     Ok(deeds)
 }
 
-// Does a plan: the body is changed and programs are requested, and then all that was printed is put at the end of the errors
-// window.
+// Does a plan: the body is changed and programs are requested, and then all that was printed is put at the
+// end of the errors window.
 #[tactic(auto, using(crate::proofs::Joined::joins))]
 fn make(
     alloc: Global,
@@ -51,7 +51,8 @@ fn make(
 ) -> Result<(), NoMemory>
     requires lives { IsSome (window_at scene.old.windows.present window) }
     requires sound { IsPlanOf (text_in (window_at scene.old.windows.present window)) plan }
-    ensures ok { OnOk result (Did entry (scene_of scene.old) (scene_of scene.new) (plan_deeds entry window (dir_of (window_at scene.old.windows.present window)) plan (scene_of scene.old))) }
+    ensures ok { OnOk result (Did entry (scene_of scene.old) (scene_of scene.new)
+        (plan_deeds entry window (dir_of (window_at scene.old.windows.present window)) plan (scene_of scene.old))) }
     ensures kept { kept_of scene.new ≡ kept_of scene.old }
 {
     let dir = dir_at(alloc, &scene.windows, window)?;
@@ -74,7 +75,9 @@ fn say(
     window: u32,
     fault: CommandFault,
 ) -> Result<(), NoMemory>
-    ensures ok { OnOk result (Did entry (scene_of scene.old) (scene_of scene.new) (errors_deeds entry (dir_of (window_at scene.old.windows.present window)) (fault_line fault) (scene_of scene.old))) }
+    ensures ok { OnOk result (Did entry (scene_of scene.old) (scene_of scene.new)
+        (errors_deeds entry (dir_of (window_at scene.old.windows.present window)) (fault_line fault)
+        (scene_of scene.old))) }
     ensures kept { kept_of scene.new ≡ kept_of scene.old }
 {
     let dir = dir_at(alloc, &scene.windows, window)?;
@@ -84,10 +87,10 @@ fn say(
 
 /// Edit: a text is done as a command of sam(1) over the body of a window, which is one change of the body.
 ///
-/// Dot is then the text of the last change, or the range of the last command where there is none. The requests of `|`, `<`
-/// and `>` follow, and then all that was printed is put at the end of the directory's errors window, as one text. Where the
-/// text is no command, where it has a fault over the body, and where the body would have more than 16,777,216 runes, the line
-/// `Edit: FAULT` is put there, and nothing else is done.
+/// Dot is then the text of the last change, or the range of the last command where there is none. The requests of `|`,
+/// `<` and `>` follow, and then all that was printed is put at the end of the directory's errors window, as one text.
+/// Where the text is no command, where it has a fault over the body, and where the body would have more than 16,777,216
+/// runes, the line `Edit: FAULT` is put there, and nothing else is done.
 pub fn edit(
     alloc: Global,
     scene: &mut Scene,
@@ -96,7 +99,8 @@ pub fn edit(
     text: &[Rune],
 ) -> Result<(), NoMemory>
     requires { IsSome (window_at scene.old.windows.present window) }
-    ensures ok { OnOk result (Did entry (scene_of scene.old) (scene_of scene.new) (edit_deeds entry window text.now (scene_of scene.old))) }
+    ensures ok { OnOk result (Did entry (scene_of scene.old) (scene_of scene.new)
+        (edit_deeds entry window text.now (scene_of scene.old))) }
     ensures kept { kept_of scene.new ≡ kept_of scene.old }
 {
     match edit_plan(alloc, &scene.windows, window, text)? {

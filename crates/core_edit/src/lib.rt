@@ -3,9 +3,8 @@
 
 mod doing;
 mod fault;
-mod laws;
+pub mod laws;
 mod planning;
 
 pub use doing::edit;
 pub use fault::CommandFault;
-pub use laws::faults_are_only_said;

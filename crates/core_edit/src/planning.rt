@@ -5,7 +5,8 @@ ghost use Rattle.edit_parts.specs.Tree.{command};
 ghost use Rattle.core_windows.specs.Panes.{window_of};
 ghost use Rattle.core_windows.specs.Possible.{text_in};
 ghost use Rattle.core_windows.specs.Windows.{window_at};
-ghost use Rattle.core_edit.specs.Plans.{as_planned, site_of, plan_if_fits, plan_of, edit_plan, IsPlanOf, length_with, length_after};
+ghost use Rattle.core_edit.specs.Plans.{as_planned, site_of, plan_if_fits, plan_of, edit_plan, IsPlanOf, length_with};
+ghost use Rattle.core_edit.specs.Plans.{length_after};
 
 use crate::fault::{CommandFault, command_fault};
 use am_text::{Letters, NoMemory, Rune, Runes};
@@ -73,9 +74,11 @@ fn site_of(alloc: Global, window: u32, pane: &Pane) -> Result<Site, NoMemory>
 // What a command makes of a window's body.
 #[tactic(auto, using(crate::proofs::Lengths::ranges))]
 fn plan_of(alloc: Global, window: u32, pane: &Pane, cmd: &Cmd) -> Result<Planned, NoMemory>
-    ensures exact { IfOk result (λ planned. as_planned planned ≡ plan_of (Some (command cmd.now)) pane.now.body.state.text (site_of window (Some (window_of pane.now)))) }
+    ensures exact { IfOk result (λ planned. as_planned planned
+        ≡ plan_of (Some (command cmd.now)) pane.now.body.state.text (site_of window (Some (window_of pane.now)))) }
     ensures sound { IfOk result (λ planned. IfOk planned (IsPlanOf pane.now.body.state.text)) }
 {
+    // law: the ranges of a body are inside its text
     pane.body.is_sound();
     let site = site_of(alloc, window, pane)?;
     match changes(alloc, cmd, &pane.body, &site) {
@@ -92,7 +95,8 @@ pub(crate) fn edit_plan(
     text: &[Rune],
 ) -> Result<Planned, NoMemory>
     requires { IsSome (window_at windows.now.present window) }
-    ensures exact { IfOk result (λ planned. as_planned planned ≡ edit_plan window (window_at windows.now.present window) text.now) }
+    ensures exact { IfOk result (λ planned. as_planned planned
+        ≡ edit_plan window (window_at windows.now.present window) text.now) }
     ensures sound { IfOk result (λ planned. IfOk planned (IsPlanOf (text_in (window_at windows.now.present window)))) }
 {
     let Some(cmd) = read_edit(alloc, text)? else {

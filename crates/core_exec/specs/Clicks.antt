@@ -1,5 +1,6 @@
 -- Clicks on texts of windows, and the items that they make (acme(1), acme(4)).
-use Rattle.std.specs.Prelude.{ℕ, ◌+◌, nat_lt, Bool, true, false, List, [], ◌++◌, slice_range, codes, IsSome, is_some, Option, Some, None, if◌then◌else◌}
+use Rattle.std.specs.Prelude.{ℕ, ◌+◌, nat_lt, Bool, true, false, List, [], ◌++◌, slice_range, codes, IsSome, is_some}
+use Rattle.std.specs.Prelude.{Option, Some, None, if◌then◌else◌}
 use Rattle.std.specs.Fmt.{decimal}
 use Rattle.acme_cmd.specs.Commands.{classified}
 use Rattle.acme_cmd.specs.Expansion.{expansion}
@@ -55,11 +56,14 @@ expanded_to text (Some r) = Some (record { text = []; expanded = Some (r, part_o
 -- A range that isn't null stands for its text, a null one for what it is expanded to, if it is to anything.
 abbrev pub clicked : List ℕ → Option Range → Range → Click → Option Clicked
 clicked text dot r how =
-    if nat_lt r.q0 r.q1 then Some (record { text = part_of text r; expanded = None }) else expanded_to text (expansion text dot r.q0 how)
+    if nat_lt r.q0 r.q1 then Some (record { text = part_of text r; expanded = None })
+    else expanded_to text (expansion text dot r.q0 how)
 
 -- what a click at a place stands for
 abbrev pub clicked_at : List (Option Window) → Spot → Click → Option Clicked
-clicked_at windows at how = clicked (side_text (window_at windows at.window) at.side) (dot_in (window_at windows at.window) at.side) at.range how
+clicked_at windows at how =
+    clicked (side_text (window_at windows at.window) at.side)
+    (dot_in (window_at windows at.window) at.side) at.range how
 
 -- the text of an item: where its range was null, that of the expansion
 abbrev pub own_text : List ℕ → Option (Range × List ℕ) → List ℕ
@@ -74,7 +78,11 @@ place_text name r = name ++ codes ":#" ++ decimal r.q0 ++ codes ",#" ++ decimal 
 
 -- the argument at a place, and where that is
 abbrev pub argument_at : List (Option Window) → Spot → List ℕ × List ℕ
-argument_at windows at = (part_of (side_text (window_at windows at.window) at.side) at.range, place_text (name_of (window_at windows at.window)) at.range)
+argument_at windows at = (
+  part_of (side_text (window_at windows at.window) at.side) at.range,
+  place_text
+      (name_of (window_at windows at.window)) at.range,
+)
 
 -- the argument, if there is a chord
 abbrev pub argument_if_any : List (Option Window) → Option Spot → Option (List ℕ × List ℕ)
@@ -128,7 +136,9 @@ is_builtin command.External = false
 
 -- the flags of an Exec
 abbrev pub exec_flag : Clicked → Bool → ℕ
-exec_flag c chord = flag_if (is_builtin (classified (own_text c.text c.expanded))) within_flag + flag_if (is_some c.expanded) null_flag + flag_if chord chord_flag
+exec_flag c chord =
+    flag_if (is_builtin (classified (own_text c.text c.expanded))) within_flag + flag_if (is_some c.expanded) null_flag
+    + flag_if chord chord_flag
 
 -- the item of an Exec
 abbrev pub exec_item : Spot → Clicked → Option (List ℕ × List ℕ) → Item

@@ -26,6 +26,7 @@ use Rattle.core_actions.specs.declared.fault.ActionFault.{ActionFault}
 use Rattle.core_actions.specs.declared.fault.ActionFault.TheVariants as fault
 use Rattle.core_actions.specs.declared.undoing.Move.TheVariants as move
 use Rattle.core_edit.specs.Editing.{edit_deeds}
+use Rattle.core_exec.specs.declared.running.Executed.{Executed}
 
 -- ---- faults are said in the errors window
 
@@ -93,12 +94,13 @@ request k w window text input = deed.Requests (job_of k w window text input) ∷
 -- ---- a text is executed
 
 -- what a command does
-unfoldable pub command_deeds : Entry → ℕ → List ℕ → Option (List ℕ) → Command → SceneState → List Deed
-command_deeds e w text chord (command.Builtin b r) s = builtin_deeds e w b (argument_or chord (slice_range text r.q0 r.q1)) s
-command_deeds e w text chord (command.Pipe k r) s =
-    request k w (window_at s.windows w) (slice_range text r.q0 r.q1) (input_of k (dot_text (window_at s.windows w)))
-command_deeds e w text chord command.External s = request kind.Run w (window_at s.windows w) text (argument_or chord [])
+unfoldable pub command_deeds : Entry → ℕ → Executed → Command → SceneState → List Deed
+command_deeds e w x (command.Builtin b r) s = builtin_deeds e w b (argument_or x.chord (slice_range x.text r.q0 r.q1)) s
+command_deeds e w x (command.Pipe k r) s =
+    request k w (window_at s.windows w) (slice_range x.text r.q0 r.q1) (input_of k (dot_text (window_at s.windows w)))
+command_deeds e w x command.External s = request kind.Run w (window_at s.windows w) x.text (argument_or x.chord [])
 
--- a built-in command is done; any other text makes a request, over what is selected behind `|` or `>`, or else over the chord's text
-unfoldable pub exec_deeds : Entry → ℕ → List ℕ → Option (List ℕ) → SceneState → List Deed
-exec_deeds e w text chord s = command_deeds e w text chord (classified text) s
+-- a built-in command is done; any other text makes a request, over what is selected behind `|` or `>`, or else over the
+-- chord's text
+unfoldable pub exec_deeds : Entry → ℕ → Executed → SceneState → List Deed
+exec_deeds e w x s = command_deeds e w x (classified x.text) s

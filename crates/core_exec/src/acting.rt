@@ -1,4 +1,5 @@
-//! Exec and Look, as items where the window's event file is open, and done where it isn't or where an item is written back.
+//! Exec and Look, as items where the window's event file is open, and done where it isn't or where
+//! an item is written back.
 
 ghost use Rattle.std.specs.Prelude.{◌≡◌, IsSome, IfSome, IfOk, OnOk};
 ghost use Rattle.event_book.specs.BookState.{item_of};
@@ -7,6 +8,7 @@ ghost use Rattle.core_scene.specs.Scenes.{scene_of, kept_of, Did};
 ghost use Rattle.core_exec.specs.Clicks.{IsSpot, own_text, text_if_any, look_item};
 ghost use Rattle.core_exec.specs.Looking.{look_step};
 ghost use Rattle.core_exec.specs.Acting.{exec_click, exec_at_deeds, look_click, look_at_deeds, action_of, act_on_deeds};
+ghost use Rattle.core_exec.specs.Acting.{executed_of};
 
 use crate::click::{Clicked, argument_if_any, clicked_at, own_text};
 use crate::items::{exec_item, look_item};
@@ -38,7 +40,10 @@ fn to_execute(
     clicked: &Clicked,
     argument: &Option<Argument>,
 ) -> Result<Executed, NoMemory>
-    ensures { IfOk result (λ x. x ≡ record { text = own_text clicked.now.text clicked.now.expanded; chord = text_if_any argument.now }) }
+    ensures { IfOk result (λ x. x ≡ record {
+      text = own_text clicked.now.text clicked.now.expanded;
+      chord = text_if_any argument.now;
+    }) }
 {
     Ok(Executed {
         text: Runes::copied(alloc, own_text(&clicked.text, &clicked.expanded))?,
@@ -56,7 +61,8 @@ fn exec_clicked(
     work: (Clicked, Option<Argument>),
 ) -> Result<(), NoMemory>
     requires { IsSome (window_at scene.old.windows.present at.window) }
-    ensures ok { OnOk result (Did entry (scene_of scene.old) (scene_of scene.new) (exec_click entry at work.1 work.0 (scene_of scene.old))) }
+    ensures ok { OnOk result (Did entry (scene_of scene.old) (scene_of scene.new)
+        (exec_click entry at work.1 work.0 (scene_of scene.old))) }
     ensures kept { kept_of scene.new ≡ kept_of scene.old }
 {
     let (clicked, argument) = work;
@@ -71,8 +77,8 @@ fn exec_clicked(
 
 /// Exec of a range of a window's text, with the argument of a chord, if there is one.
 ///
-/// While the window's event file is open it makes an item and does nothing else. Where it isn't, what the range stands for is
-/// executed, and a null range that stands for nothing does nothing.
+/// While the window's event file is open it makes an item and does nothing else. Where it isn't, what the range stands
+/// for is executed, and a null range that stands for nothing does nothing.
 #[tactic(auto, using(crate::proofs::Joined::joins))]
 pub fn exec_at(
     alloc: Global,
@@ -83,7 +89,8 @@ pub fn exec_at(
 ) -> Result<(), NoMemory>
     requires at { IsSpot scene.old.windows.present at }
     requires chord { IfSome chord (IsSpot scene.old.windows.present) }
-    ensures ok { OnOk result (Did entry (scene_of scene.old) (scene_of scene.new) (exec_at_deeds entry at chord (scene_of scene.old))) }
+    ensures ok { OnOk result (Did entry (scene_of scene.old) (scene_of scene.new)
+        (exec_at_deeds entry at chord (scene_of scene.old))) }
     ensures kept { kept_of scene.new ≡ kept_of scene.old }
 {
     let argument = argument_if_any(alloc, &scene.windows, chord)?;
@@ -102,7 +109,8 @@ fn text_of(alloc: Global, clicked: &Clicked) -> Result<Runes, NoMemory>
 
 // The item of a click with Look.
 fn item_at(alloc: Global, scene: &Scene, at: Spot, clicked: Clicked) -> Result<Item, NoMemory>
-    ensures { IfOk result (λ item. item ≡ look_item at clicked (look_step at.window (own_text clicked.text clicked.expanded) (scene_of scene.now))) }
+    ensures { IfOk result (λ item. item ≡ look_item at clicked
+        (look_step at.window (own_text clicked.text clicked.expanded) (scene_of scene.now))) }
 {
     let text = text_of(alloc, &clicked)?;
     let step = look_step(alloc, scene, at.window, &text)?;
@@ -119,7 +127,8 @@ fn look_clicked(
     clicked: Clicked,
 ) -> Result<(), NoMemory>
     requires { IsSome (window_at scene.old.windows.present at.window) }
-    ensures ok { OnOk result (Did entry (scene_of scene.old) (scene_of scene.new) (look_click entry at clicked (scene_of scene.old))) }
+    ensures ok { OnOk result (Did entry (scene_of scene.old) (scene_of scene.new)
+        (look_click entry at clicked (scene_of scene.old))) }
     ensures kept { kept_of scene.new ≡ kept_of scene.old }
 {
     let window = at.window;
@@ -133,13 +142,14 @@ fn look_clicked(
 
 /// Look at a range of a window's text.
 ///
-/// While the window's event file is open it makes an item and does nothing else. Where it isn't, what the range stands for is
-/// looked at: the plumber takes it, or else it is opened as a name or searched for. A null range that stands for nothing does
-/// nothing.
+/// While the window's event file is open it makes an item and does nothing else. Where it isn't, what the range stands
+/// for is looked at: the plumber takes it, or else it is opened as a name or searched for. A null range that stands
+/// for nothing does nothing.
 #[tactic(auto, using(crate::proofs::Joined::joins))]
 pub fn look_at(alloc: Global, scene: &mut Scene, entry: Entry, at: Spot) -> Result<(), NoMemory>
     requires { IsSpot scene.old.windows.present at }
-    ensures ok { OnOk result (Did entry (scene_of scene.old) (scene_of scene.new) (look_at_deeds entry at (scene_of scene.old))) }
+    ensures ok { OnOk result (Did entry (scene_of scene.old) (scene_of scene.new)
+        (look_at_deeds entry at (scene_of scene.old))) }
     ensures kept { kept_of scene.new ≡ kept_of scene.old }
 {
     match clicked_at(alloc, &scene.windows, at, Click::Look)? {
@@ -158,7 +168,8 @@ fn act(
     work: (Sort, Executed),
 ) -> Result<(), NoMemory>
     requires { IsSome (window_at scene.old.windows.present window) }
-    ensures ok { OnOk result (Did entry (scene_of scene.old) (scene_of scene.new) (action_of entry window work.0 work.1.text work.1.chord (scene_of scene.old))) }
+    ensures ok { OnOk result (Did entry (scene_of scene.old) (scene_of scene.new)
+        (action_of entry window work.0 work.1 (scene_of scene.old))) }
     ensures kept { kept_of scene.new ≡ kept_of scene.old }
 {
     let (sort, executed) = work;
@@ -176,14 +187,15 @@ fn act(
 
 // What is executed or looked at of an item.
 fn of_item(alloc: Global, item: &Item) -> Result<(Sort, Executed), NoMemory>
-    ensures { IfOk result (λ x. x ≡ (item.now.sort, record { text = own_text item.now.text item.now.expanded; chord = text_if_any item.now.argument })) }
+    ensures { IfOk result (λ x. x ≡ (item.now.sort, executed_of item.now)) }
 {
     let text = Runes::copied(alloc, own_text(&item.text, &item.expanded))?;
     let chord = text_if_any(alloc, &item.argument)?;
     Ok((item.sort, Executed { text, chord }))
 }
 
-/// Does the action of an item of a window, as if its event file were closed: with the item's own text, and its chord's text.
+/// Does the action of an item of a window, as if its event file were closed: with the item's own
+/// text, and its chord's text.
 #[tactic(auto, using(crate::proofs::Joined::joins))]
 pub fn act_on(
     alloc: Global,
@@ -193,7 +205,8 @@ pub fn act_on(
     number: u64,
 ) -> Result<(), NoMemory>
     requires { IsSome (window_at scene.old.windows.present window) }
-    ensures ok { OnOk result (Did entry (scene_of scene.old) (scene_of scene.new) (act_on_deeds entry window number (scene_of scene.old))) }
+    ensures ok { OnOk result (Did entry (scene_of scene.old) (scene_of scene.new)
+        (act_on_deeds entry window number (scene_of scene.old))) }
     ensures kept { kept_of scene.new ≡ kept_of scene.old }
 {
     let Some(item) = scene.book.item(window, number) else {

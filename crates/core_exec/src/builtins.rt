@@ -37,7 +37,9 @@ fn get_or_say(
     name: &Runes,
 ) -> Result<(), NoMemory>
     requires { IsSome (window_at scene.old.windows.present window) }
-    ensures ok { OnOk result (Did entry (scene_of scene.old) (scene_of scene.new) (or_said entry (window_at scene.old.windows.present window) (codes "Get") (get_outcome window name.now (scene_of scene.old)) (scene_of scene.old))) }
+    ensures ok { OnOk result (Did entry (scene_of scene.old) (scene_of scene.new)
+        (or_said entry (window_at scene.old.windows.present window) (codes "Get")
+        (get_outcome window name.now (scene_of scene.old)) (scene_of scene.old))) }
     ensures kept { kept_of scene.new ≡ kept_of scene.old }
 {
     let dir = dir_at(alloc, &scene.windows, window)?;
@@ -55,7 +57,9 @@ fn put_or_say(
     name: &Runes,
 ) -> Result<(), NoMemory>
     requires { IsSome (window_at scene.old.windows.present window) }
-    ensures ok { OnOk result (Did entry (scene_of scene.old) (scene_of scene.new) (or_said entry (window_at scene.old.windows.present window) (codes "Put") (put_outcome window name.now (scene_of scene.old)) (scene_of scene.old))) }
+    ensures ok { OnOk result (Did entry (scene_of scene.old) (scene_of scene.new)
+        (or_said entry (window_at scene.old.windows.present window) (codes "Put")
+        (put_outcome window name.now (scene_of scene.old)) (scene_of scene.old))) }
     ensures kept { kept_of scene.new ≡ kept_of scene.old }
 {
     let dir = dir_at(alloc, &scene.windows, window)?;
@@ -67,7 +71,9 @@ fn put_or_say(
 #[tactic(auto, using(crate::proofs::Joined::joins))]
 fn paste_or_say(alloc: Global, scene: &mut Scene, entry: Entry, window: u32) -> Result<(), NoMemory>
     requires { IsSome (window_at scene.old.windows.present window) }
-    ensures ok { OnOk result (Did entry (scene_of scene.old) (scene_of scene.new) (or_said entry (window_at scene.old.windows.present window) (codes "Paste") (paste_outcome window (scene_of scene.old)) (scene_of scene.old))) }
+    ensures ok { OnOk result (Did entry (scene_of scene.old) (scene_of scene.new)
+        (or_said entry (window_at scene.old.windows.present window) (codes "Paste")
+        (paste_outcome window (scene_of scene.old)) (scene_of scene.old))) }
     ensures kept { kept_of scene.new ≡ kept_of scene.old }
 {
     let dir = dir_at(alloc, &scene.windows, window)?;
@@ -93,7 +99,8 @@ fn edit_text(
     text: &Runes,
 ) -> Result<(), NoMemory>
     requires { IsSome (window_at scene.old.windows.present window) }
-    ensures ok { OnOk result (Did entry (scene_of scene.old) (scene_of scene.new) (edit_deeds entry window text.now (scene_of scene.old))) }
+    ensures ok { OnOk result (Did entry (scene_of scene.old) (scene_of scene.new)
+        (edit_deeds entry window text.now (scene_of scene.old))) }
     ensures kept { kept_of scene.new ≡ kept_of scene.old }
 {
     edit(alloc, scene, entry, window, text.as_slice())
@@ -108,7 +115,8 @@ fn find_text(
     text: &Runes,
 ) -> Result<(), NoMemory>
     requires { IsSome (window_at scene.old.windows.present window) }
-    ensures ok { OnOk result (Did entry (scene_of scene.old) (scene_of scene.new) (find_deeds window text.now (scene_of scene.old))) }
+    ensures ok { OnOk result (Did entry (scene_of scene.old) (scene_of scene.new)
+        (find_deeds window text.now (scene_of scene.old))) }
     ensures kept { kept_of scene.new ≡ kept_of scene.old }
 {
     find(alloc, scene, entry, window, text.as_slice())
@@ -122,7 +130,8 @@ fn new_text(
     window: u32,
     text: &Runes,
 ) -> Result<(), NoMemory>
-    ensures ok { OnOk result (Did entry (scene_of scene.old) (scene_of scene.new) (new_deeds entry window text.now (scene_of scene.old))) }
+    ensures ok { OnOk result (Did entry (scene_of scene.old) (scene_of scene.new)
+        (new_deeds entry window text.now (scene_of scene.old))) }
     ensures kept { kept_of scene.new ≡ kept_of scene.old }
 {
     new_window(alloc, scene, entry, window, text.as_slice())
@@ -138,7 +147,8 @@ pub(crate) fn do_builtin(
     call: Call,
 ) -> Result<(), NoMemory>
     requires { IsSome (window_at scene.old.windows.present window) }
-    ensures ok { OnOk result (Did entry (scene_of scene.old) (scene_of scene.new) (builtin_deeds entry window call.builtin call.argument (scene_of scene.old))) }
+    ensures ok { OnOk result (Did entry (scene_of scene.old) (scene_of scene.new)
+        (builtin_deeds entry window call.builtin call.argument (scene_of scene.old))) }
     ensures kept { kept_of scene.new ≡ kept_of scene.old }
 {
     let Call { builtin, argument } = call;

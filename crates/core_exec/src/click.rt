@@ -5,7 +5,8 @@ ghost use Rattle.core_scene.specs.NewItems.{tag_with};
 ghost use Rattle.win_text.specs.Bodies.{IsInside};
 ghost use Rattle.core_windows.specs.Panes.{window_of};
 ghost use Rattle.core_windows.specs.Windows.{window_at};
-ghost use Rattle.core_exec.specs.Clicks.{side_text, part_of, IsSpot, clicked, clicked_at, own_text, place_text, argument_at, argument_if_any};
+ghost use Rattle.core_exec.specs.Clicks.{side_text, part_of, IsSpot, clicked, clicked_at, own_text, place_text};
+ghost use Rattle.core_exec.specs.Clicks.{argument_at, argument_if_any};
 
 use acme_cmd::{Click, expand};
 use am_journal::{Side, Spot};
@@ -17,7 +18,8 @@ use std::alloc::Global;
 use win_ctl::{Shown, Tag, tag_text};
 use win_text::Body;
 
-/// What a click stands for: the text of its range, and where that is null, the range and the text that it is expanded to.
+/// What a click stands for: the text of its range, and where that is null, the range and the
+/// text that it is expanded to.
 #[derive(Drop)]
 pub struct Clicked {
     pub text: Runes,
@@ -78,6 +80,7 @@ fn clicked_in_body(
     requires { IsInside body.now.state.text range }
     ensures { IfOk result (λ c. c ≡ clicked body.now.state.text (Some body.now.state.dot) range how) }
 {
+    // law: the ranges of a body are inside its text
     body.is_sound();
     if range.q0 < range.q1 {
         return Ok(Some(plain(body.slice(range.q0, range.q1)?)));
@@ -155,7 +158,8 @@ fn place_text(alloc: Global, name: &[Rune], range: Range) -> Result<Runes, NoMem
 // The text of a range.
 fn spot_text(alloc: Global, windows: &Windows, at: Spot) -> Result<Runes, NoMemory>
     requires { IsSpot windows.now.present at }
-    ensures { IfOk result (λ text. text ≡ part_of (side_text (window_at windows.now.present at.window) at.side) at.range) }
+    ensures { IfOk result (λ text. text ≡ part_of (side_text (window_at windows.now.present at.window) at.side)
+        at.range) }
 {
     let Some(pane) = windows.get(at.window) else {
         unreachable!();

@@ -48,7 +48,8 @@ pub(crate) fn say(
     speaker: Speaker,
     fault: Option<ActionFault>,
 ) -> Result<(), NoMemory>
-    ensures ok { OnOk result (Did entry (scene_of scene.old) (scene_of scene.new) (said_if_any entry speaker.dir speaker.word.now fault (scene_of scene.old))) }
+    ensures ok { OnOk result (Did entry (scene_of scene.old) (scene_of scene.new)
+        (said_if_any entry speaker.dir speaker.word.now fault (scene_of scene.old))) }
     ensures kept { kept_of scene.new ≡ kept_of scene.old }
 {
     match fault {

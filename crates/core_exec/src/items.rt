@@ -2,7 +2,8 @@
 
 ghost use Rattle.std.specs.Prelude.{◌≡◌, IfOk};
 ghost use Rattle.acme_cmd.specs.Commands.{classified};
-ghost use Rattle.core_exec.specs.Clicks.{exec_sort, look_sort, flag_if, is_builtin, exec_flag, exec_item, step_flag, look_item};
+ghost use Rattle.core_exec.specs.Clicks.{exec_sort, look_sort, flag_if, is_builtin, exec_flag, exec_item, step_flag};
+ghost use Rattle.core_exec.specs.Clicks.{look_item};
 
 use crate::click::{Clicked, own_text};
 use crate::looking::LookStep;

@@ -1,5 +1,5 @@
-//! Exec and Look: what a click on a window's text stands for, the items that it makes while the window's event file is open, and
-//! what it does where it isn't (acme(1), acme(4)).
+//! Exec and Look: what a click on a window's text stands for, the items that it makes while the window's event file is
+//! open, and what it does where it isn't (acme(1), acme(4)).
 #![tactic(auto)]
 
 mod acting;

@@ -60,7 +60,8 @@ pub(crate) fn look_at_text(
     text: &Runes,
 ) -> Result<(), NoMemory>
     requires { IsSome (window_at scene.old.windows.present window) }
-    ensures ok { OnOk result (Did entry (scene_of scene.old) (scene_of scene.new) (look_at_text_deeds entry window text.now (scene_of scene.old))) }
+    ensures ok { OnOk result (Did entry (scene_of scene.old) (scene_of scene.new)
+        (look_at_text_deeds entry window text.now (scene_of scene.old))) }
     ensures kept { kept_of scene.new ≡ kept_of scene.old }
 {
     if plumb_look(alloc, scene, entry, window, text)? {

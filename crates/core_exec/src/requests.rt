@@ -40,7 +40,8 @@ pub(crate) fn input_of(
 
 // The request of a program, to be run in the directory of a window.
 fn job_of(alloc: Global, windows: &Windows, window: u32, wanted: Wanted) -> Result<Job, NoMemory>
-    ensures { IfOk result (λ job. job ≡ job_of wanted.kind window (window_at windows.now.present window) wanted.command wanted.input) }
+    ensures { IfOk result (λ job. job ≡ job_of wanted.kind window (window_at windows.now.present window) wanted.command
+        wanted.input) }
 {
     let Wanted {
         kind,
@@ -64,7 +65,8 @@ pub(crate) fn request(
     window: u32,
     wanted: Wanted,
 ) -> Result<(), NoMemory>
-    ensures ok { OnOk result (Did entry (scene_of scene.old) (scene_of scene.new) (request wanted.kind window (window_at scene.old.windows.present window) wanted.command wanted.input)) }
+    ensures ok { OnOk result (Did entry (scene_of scene.old) (scene_of scene.new)
+        (request wanted.kind window (window_at scene.old.windows.present window) wanted.command wanted.input)) }
     ensures kept { kept_of scene.new ≡ kept_of scene.old }
 {
     let job = job_of(alloc, &scene.windows, window, wanted)?;

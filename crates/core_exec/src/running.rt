@@ -48,7 +48,10 @@ fn call_of(
     range: Range,
 ) -> Result<Call, NoMemory>
     requires { IsIn (length executed.text) range }
-    ensures { IfOk result (λ call. call ≡ record { builtin = builtin; argument = argument_or executed.chord (slice_range executed.text range.q0 range.q1) }) }
+    ensures { IfOk result (λ call. call ≡ record {
+      builtin = builtin;
+      argument = argument_or executed.chord (slice_range executed.text range.q0 range.q1);
+    }) }
 {
     let Executed { text, chord } = executed;
     let own = slice(alloc, text.as_slice(), range)?;
@@ -67,7 +70,12 @@ fn piped(
     pipe: (JobKind, Range),
 ) -> Result<Wanted, NoMemory>
     requires { IsIn (length text.now) pipe.1 }
-    ensures { IfOk result (λ wanted. wanted ≡ record { kind = pipe.0; command = slice_range text.now pipe.1.q0 pipe.1.q1; input = input_of pipe.0 (dot_text (window_at windows.now.present window)) }) }
+    ensures { IfOk result (λ wanted. wanted ≡ record {
+      kind = pipe.0;
+      command = slice_range text.now pipe.1.q0 pipe.1.q1;
+      input = input_of pipe.0
+          (dot_text (window_at windows.now.present window));
+    }) }
 {
     let (kind, range) = pipe;
     Ok(Wanted {
@@ -100,7 +108,8 @@ fn run(
 ) -> Result<(), NoMemory>
     requires lives { IsSome (window_at scene.old.windows.present window) }
     requires inside { HasItsArgumentIn (length work.0.text) work.1 }
-    ensures ok { OnOk result (Did entry (scene_of scene.old) (scene_of scene.new) (command_deeds entry window work.0.text work.0.chord work.1 (scene_of scene.old))) }
+    ensures ok { OnOk result (Did entry (scene_of scene.old) (scene_of scene.new)
+        (command_deeds entry window work.0 work.1 (scene_of scene.old))) }
     ensures kept { kept_of scene.new ≡ kept_of scene.old }
 {
     let (executed, command) = work;
@@ -135,7 +144,8 @@ pub(crate) fn exec(
     executed: Executed,
 ) -> Result<(), NoMemory>
     requires { IsSome (window_at scene.old.windows.present window) }
-    ensures ok { OnOk result (Did entry (scene_of scene.old) (scene_of scene.new) (exec_deeds entry window executed.text executed.chord (scene_of scene.old))) }
+    ensures ok { OnOk result (Did entry (scene_of scene.old) (scene_of scene.new)
+        (exec_deeds entry window executed (scene_of scene.old))) }
     ensures kept { kept_of scene.new ≡ kept_of scene.old }
 {
     let command = command_in(&executed);

@@ -23,7 +23,7 @@ use Rattle.core_fids.specs.declared.refusal.Refusal.TheVariants as refusal
 use Rattle.core_fids.specs.Contents.{content_of}
 use Rattle.core_fids.specs.Done.{CanBeMade, IsOfLiving, LivesIn}
 use Rattle.core_fids.specs.declared.effect.Demand.{Demand}
-use Rattle.core_fids.specs.Plumbers.{Plumber}
+use Rattle.core_fids.specs.Servers.{ServerState, world_by}
 use Rattle.core_fids.specs.Opening.{sets_first, open_below, opening_changes, opening_demand, open_refusal}
 
 first_can : (windows : List (Option Window)) (w : ℕ) (s : Setting) (b : Bool) → IsSome (window_at windows w) → CanSet (text_in (window_at windows w)) s → CanBeMade windows (cond b [] (change.Sets w s ∷ []))
@@ -79,11 +79,13 @@ not_dead true later e = refl
 not_dead false later e = absurd cc
 
 -- what a Topen that isn't refused does
-pub opens_possible : (windows : List (Option Window)) (plumber : Plumber) (tables : Tables) (openings mode : ℕ) (fid : Fid) (cs : List Change)
-    → open_refusal (world_of windows) plumber openings fid mode ≡ None → cs ≡ opening_changes tables (content_of fid.node) → CanBeMade windows cs
-opens_possible windows plumber tables openings mode fid cs h e =
-    subst (CanBeMade windows) (sym e)
-    (opens windows tables (content_of fid.node) (node_lives windows plumber.names fid.node (not_dead (is_live (world_of windows) plumber.names fid.node) _ h)))
+pub opens_possible : (server : ServerState) (mode : ℕ) (fid : Fid) (cs : List Change)
+    → open_refusal server fid mode ≡ None → cs ≡ opening_changes server.tables (content_of fid.node)
+    → CanBeMade server.windows cs
+opens_possible server mode fid cs h e =
+    let live : is_live (world_by server) server.plumber.names fid.node ≡ true = not_dead _ _ h in
+    subst (CanBeMade server.windows) (sym e)
+    (opens server.windows server.tables (content_of fid.node) (node_lives server.windows server.plumber.names fid.node live))
 
 -- what it asks of the scene it asks of no window
 asks_none : (windows : List (Option Window)) (empties : Bool) (c : Content) → IsOfLiving windows (opening_demand empties c)

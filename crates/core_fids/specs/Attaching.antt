@@ -1,5 +1,6 @@
 -- Tversion and Tattach.
-use Rattle.std.specs.Prelude.{[], ℕ, Bool, ◌==◌, ◌||◌, not, nat_eq, nat_lt, min, List, length, codes, Option, Some, None, Result, Ok, Err, if◌then◌else◌}
+use Rattle.std.specs.Prelude.{[], ℕ, Bool, ◌==◌, ◌||◌, not, nat_eq, nat_lt, min, List, length, codes, Option, Some}
+use Rattle.std.specs.Prelude.{None, Result, Ok, Err, if◌then◌else◌}
 use Rattle.std.specs.Str.{bytes_eq}
 use Rattle.std.specs.List.{starts_with}
 use Rattle.ninep_types.specs.Limits.{max_msize, min_msize, no_fid, version_name}
@@ -7,13 +8,13 @@ use Rattle.ninep_types.specs.declared.message.RBody.TheVariants as r
 use Rattle.acme_tree.specs.declared.node.Node.{Node}
 use Rattle.acme_tree.specs.declared.node.Node.TheVariants.{Root, PlumbRoot}
 use Rattle.acme_tree.specs.Trees.{qid_of}
-use Rattle.fid_table.specs.Tables.{Tables}
 use Rattle.core_fids.specs.declared.effect.Effect.TheVariants as effect
 use Rattle.core_fids.specs.declared.effect.Reaction.{Reaction}
 use Rattle.core_fids.specs.Plainly.{does}
 use Rattle.core_fids.specs.declared.refusal.Refusal.{Refusal}
 use Rattle.core_fids.specs.declared.refusal.Refusal.TheVariants as refusal
 use Rattle.core_fids.specs.Fids.{is_used, fids_full, fresh}
+use Rattle.core_fids.specs.Servers.{ServerState}
 use Rattle.core_fids.specs.Refusals.{refusal_with_effect}
 
 -- ---- Tversion
@@ -22,8 +23,8 @@ use Rattle.core_fids.specs.Refusals.{refusal_with_effect}
 abbrev pub is_version : List ℕ → Bool
 is_version version = bytes_eq version version_name || starts_with nat_eq version (codes "9P2000.")
 
--- Fids are freed in each case. The msize is at least 256, and at most 65,560 is answered; a version that isn't known opens no
--- session.
+-- Fids are freed in each case. The msize is at least 256, and at most 65,560 is answered; a version that
+-- isn't known opens no session.
 abbrev pub agreement : ℕ → List ℕ → Reaction
 agreement msize version = if is_version version
     then does (effect.Begins (Some msize)) [] (r.Version msize version_name)
@@ -46,12 +47,12 @@ abbrev pub root_of : List ℕ → Option Node
 root_of aname = if is_editor aname then Some Root else (if bytes_eq aname (codes "plumb") then Some PlumbRoot else None)
 
 -- why a Tattach is refused, whatever its tree
-abbrev pub attach_refusal : Tables → ℕ → ℕ → ℕ → Option Refusal
-attach_refusal tables conn fid afid =
+abbrev pub attach_refusal : ServerState → ℕ → ℕ → Option Refusal
+attach_refusal server fid afid =
     if fid == no_fid then Some refusal.BadFid else
-    (if is_used tables conn fid then Some refusal.FidInUse else
+    (if is_used server.tables server.conn fid then Some refusal.FidInUse else
     (if not (afid == no_fid) then Some refusal.AuthenticationNotRequired else
-    (if fids_full tables conn then Some refusal.TooManyFids else None)))
+    (if fids_full server.tables server.conn then Some refusal.TooManyFids else None)))
 
 -- the fid of a root, if there is such a tree
 abbrev pub attach_to : ℕ → Option Node → Result Reaction Refusal
@@ -64,5 +65,5 @@ or_attaches None fid aname = attach_to fid (root_of aname)
 or_attaches (Some refusal) fid aname = Err refusal
 
 -- what a Tattach does
-abbrev pub attach_reaction : Tables → ℕ → ℕ → ℕ → List ℕ → Result Reaction Refusal
-attach_reaction tables conn fid afid aname = or_attaches (attach_refusal tables conn fid afid) fid aname
+abbrev pub attach_reaction : ServerState → ℕ → ℕ → List ℕ → Result Reaction Refusal
+attach_reaction server fid afid aname = or_attaches (attach_refusal server fid afid) fid aname

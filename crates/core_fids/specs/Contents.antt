@@ -1,7 +1,8 @@
 -- What a node holds.
 use Rattle.std.specs.Prelude.{ℕ}
 use Rattle.acme_tree.specs.declared.node.Node.{Node}
-use Rattle.acme_tree.specs.declared.node.Node.TheVariants.{Root, Cons, ConsCtl, Index, Label, NewDir, Window, File, PlumbRoot, Send, Rules, Port}
+use Rattle.acme_tree.specs.declared.node.Node.TheVariants.{Root, Cons, ConsCtl, Index, Label, NewDir, Window, File}
+use Rattle.acme_tree.specs.declared.node.Node.TheVariants.{PlumbRoot, Send, Rules, Port}
 use Rattle.acme_tree.specs.declared.node.WinFile.{WinFile}
 use Rattle.acme_tree.specs.declared.node.WinFile.TheVariants.{Addr, Body, Ctl, Data, Errors, Event, Tag, Xdata}
 use Rattle.core_fids.specs.declared.content.Content.{Content}

@@ -1,5 +1,6 @@
 -- Directory reads, and Tstat.
-use Rattle.std.specs.Prelude.{ℕ, ◌+◌, ◌==◌, List, [], ◌∷◌, length, map, drop, Option, Some, None, Result, Ok, Err, if◌then◌else◌}
+use Rattle.std.specs.Prelude.{ℕ, ◌+◌, ◌==◌, List, [], ◌∷◌, length, map, drop, Option, Some, None, Result, Ok, Err}
+use Rattle.std.specs.Prelude.{if◌then◌else◌}
 use Rattle.ninep_types.specs.declared.message.RBody.TheVariants as r
 use Rattle.ninep_frame.specs.declared.stat.Stat.{Stat}
 use Rattle.ninep_frame.specs.Records.{record_of}
@@ -15,8 +16,21 @@ use Rattle.core_fids.specs.Plainly.{does}
 use Rattle.core_fids.specs.declared.refusal.Refusal.{Refusal}
 use Rattle.core_fids.specs.declared.refusal.Refusal.TheVariants as refusal
 use Rattle.core_fids.specs.Fids.{placed_fid}
+use Rattle.core_fids.specs.Servers.{ServerState, world_by}
+use Rattle.core_fids.specs.declared.listing.Reading.{Reading}
 
--- how many records a read goes on after: none at the front, those that were given at the offset where the last read ended
+-- what a Tread asks: the number of its fid, the place from which it reads, and the most bytes that it gets
+pub record Tread : Type 0 where
+  pub number : ℕ
+  pub offset : ℕ
+  pub count : ℕ
+
+-- what is asked by a read of a fid
+abbrev pub asked_in : Reading → Tread
+asked_in reading = record { number = reading.number; offset = reading.offset; count = reading.count }
+
+-- how many records a read goes on after: none at the front, those that were given at the offset
+-- where the last read ended
 abbrev pub place_at : Fid → ℕ → Option ℕ
 place_at fid offset = if offset == 0 then Some 0 else (if offset == fid.given then Some fid.skip else None)
 
@@ -38,19 +52,22 @@ first_record [] = None
 first_record (s ∷ stats) = Some (record_of s)
 
 -- a read that gives these, and goes on behind them
-abbrev pub goes_on : ℕ → Fid → ℕ → ℕ → List Stat → Reaction
-goes_on number fid offset skip part =
-    does (effect.Puts number (placed_fid fid (offset + length (records part)) (skip + length part))) [] (r.Read (records part))
+abbrev pub goes_on : Tread → Fid → ℕ → List Stat → Reaction
+goes_on asked fid skip part =
+    does (effect.Puts asked.number (placed_fid fid (asked.offset + length (records part)) (skip + length part))) []
+    (r.Read (records part))
 
 -- a read of a directory, from the entry at which its offset stands
-abbrev pub read_dir : World → List (List ℕ) → ℕ → Fid → ℕ → ℕ → Option ℕ → Result Reaction Refusal
-read_dir world ports number fid offset count None = Err refusal.BadDirectoryOffset
-read_dir world ports number fid offset count (Some skip) = Ok (goes_on number fid offset skip (dir_part world ports fid.node skip count))
+abbrev pub read_dir : ServerState → Tread → Fid → Option ℕ → Result Reaction Refusal
+read_dir server asked fid None = Err refusal.BadDirectoryOffset
+read_dir server asked fid (Some skip) =
+    Ok (goes_on asked fid skip (dir_part (world_by server) server.plumber.names fid.node skip asked.count))
 
 -- ---- Tstat
 
 -- what a Tstat of this fid does
-abbrev pub stat_fid : World → List (List ℕ) → Option Fid → Result Reaction Refusal
-stat_fid world ports None = Err refusal.UnknownFid
-stat_fid world ports (Some fid) =
-    if is_live world ports fid.node then Ok (does effect.Nothing [] (r.Stat (record_of (stat_of ports fid.node)))) else Err refusal.WindowDeleted
+abbrev pub stat_fid : ServerState → Option Fid → Result Reaction Refusal
+stat_fid server None = Err refusal.UnknownFid
+stat_fid server (Some fid) = if is_live (world_by server) server.plumber.names fid.node
+    then Ok (does effect.Nothing [] (r.Stat (record_of (stat_of server.plumber.names fid.node))))
+    else Err refusal.WindowDeleted

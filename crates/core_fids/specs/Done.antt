@@ -1,5 +1,5 @@
--- What holds of each reaction: what it is answered has a spelling, its change of the windows can be made, and what it asks of a
--- window is asked of one that lives.
+-- What holds of each reaction: what it is answered has a spelling, its change of the windows can be made, and what it
+-- asks of a window is asked of one that lives.
 use Rattle.std.specs.Prelude.{[], ◌≡◌, ◌<◌, ◌+◌, ◌^◌, ℕ, false, List, Option, IsSome}
 use Rattle.ninep_types.specs.declared.message.RBody.{RBody}
 use Rattle.ninep_types.specs.Spelling.{BodyFits_r, size_r}

@@ -1,18 +1,18 @@
 -- Topen, and the messages that ask for what isn't given.
-use Rattle.std.specs.Prelude.{ℕ, zero, suc, ◌+◌, Bool, true, false, ◌==◌, ◌&&◌, ◌||◌, not, nat_lt, List, [], ◌∷◌, Option, Some, None, Result, Ok, Err, if◌then◌else◌}
+use Rattle.std.specs.Prelude.{ℕ, zero, suc, ◌+◌, Bool, true, false, ◌==◌, ◌&&◌, ◌||◌, not, nat_lt, List, [], ◌∷◌}
+use Rattle.std.specs.Prelude.{Option, Some, None, Result, Ok, Err, if◌then◌else◌}
 use Rattle.std.specs.List.{list_any}
 use Rattle.ninep_types.specs.declared.message.RBody.TheVariants as r
 use Rattle.acme_tree.specs.declared.access.May.{May}
 use Rattle.acme_tree.specs.declared.access.May.TheVariants as may
 use Rattle.acme_tree.specs.Access.{may_open, truncates}
 use Rattle.acme_tree.specs.Trees.{qid_of, is_live}
-use Rattle.acme_tree.specs.declared.node.World.{World}
 use Rattle.acme_tree.specs.declared.node.Node.{Node}
 use Rattle.acme_tree.specs.declared.node.Node.TheVariants.{File}
 use Rattle.acme_tree.specs.declared.node.WinFile.{WinFile}
 use Rattle.acme_tree.specs.declared.node.WinFile.TheVariants.{Addr, Ctl}
 use Rattle.fid_table.specs.declared.types.Fid.{Fid}
-use Rattle.fid_table.specs.Tables.{Tables, fid_of, fids_of}
+use Rattle.fid_table.specs.Tables.{Tables, fids_of}
 use Rattle.win_text.specs.Bodies.{null_range}
 use Rattle.core_windows.specs.declared.change.Change.{Change}
 use Rattle.core_windows.specs.declared.change.Change.TheVariants as change
@@ -36,6 +36,7 @@ use Rattle.core_fids.specs.Contents.{content_of}
 use Rattle.core_fids.specs.Fids.{is_open, opened_fid, holds_rules}
 use Rattle.core_fids.specs.Plumbers.{Plumber}
 use Rattle.core_fids.specs.Refusals.{refusal_text}
+use Rattle.core_fids.specs.Servers.{ServerState, world_by}
 
 -- ---- Topen
 
@@ -73,11 +74,12 @@ first_refusal None later = later
 first_refusal (Some refusal) later = Some refusal
 
 -- why a fid isn't opened
-abbrev pub open_refusal : World → Plumber → ℕ → Fid → ℕ → Option Refusal
-open_refusal world plumber openings fid mode =
-    if not (is_live world plumber.names fid.node) then Some refusal.WindowDeleted else
+abbrev pub open_refusal : ServerState → Fid → ℕ → Option Refusal
+open_refusal server fid mode =
+    if not (is_live (world_by server) server.plumber.names fid.node) then Some refusal.WindowDeleted else
     (if is_open fid then Some refusal.FidIsOpen else
-    first_refusal (mode_refusal (may_open fid.node mode)) (content_refusal plumber openings (content_of fid.node)))
+    first_refusal (mode_refusal (may_open fid.node mode))
+    (content_refusal server.plumber server.openings (content_of fid.node)))
 
 -- whether the node is the `ctl`, or the `addr`, of that window; of no other file this is asked
 abbrev pub is_file_of : ℕ → WinFile → Node → Bool
@@ -172,26 +174,20 @@ opening_demand true content.RulesText = demand.ClearsRules
 opening_demand true c = demand.Nothing
 
 -- an iounit isn't given
-abbrev pub or_opens : Tables → Plumber → Option Refusal → ℕ → ℕ → Fid → ℕ → Result Reaction Refusal
-or_opens tables plumber None openings number fid mode = Ok (record {
-  effect = effect.Puts number (opened_fid fid mode (opening_of plumber openings (content_of fid.node)));
+abbrev pub or_opens : Option Refusal → ServerState → ℕ → Fid → ℕ → Result Reaction Refusal
+or_opens None server number fid mode = Ok (record {
+  effect = effect.Puts number (opened_fid fid mode (opening_of server.plumber server.openings (content_of fid.node)));
   events = opening_events (content_of fid.node);
-  changes = opening_changes tables (content_of fid.node);
+  changes = opening_changes server.tables (content_of fid.node);
   demand = opening_demand (truncates mode) (content_of fid.node);
   answer = Says (r.Open (qid_of fid.node) 0);
 })
-or_opens tables plumber (Some refusal) openings number fid mode = Err refusal
+or_opens (Some refusal) server number fid mode = Err refusal
 
 -- what a Topen of this fid does
-abbrev pub open_fid : Tables → World → Plumber → ℕ → ℕ → ℕ → Option Fid → Result Reaction Refusal
-open_fid tables world plumber openings number mode None = Err refusal.UnknownFid
-open_fid tables world plumber openings number mode (Some fid) =
-    or_opens tables plumber (open_refusal world plumber openings fid mode) openings number fid mode
-
--- what a Topen does
-abbrev pub open_reaction : Tables → World → Plumber → ℕ → ℕ → ℕ → ℕ → Result Reaction Refusal
-open_reaction tables world plumber openings conn number mode =
-    open_fid tables world plumber openings number mode (fid_of tables conn number)
+abbrev pub open_fid : ServerState → ℕ → Option Fid → ℕ → Result Reaction Refusal
+open_fid server number None mode = Err refusal.UnknownFid
+open_fid server number (Some fid) mode = or_opens (open_refusal server fid mode) server number fid mode
 
 -- ---- Tcreate and Twstat, which are never done
 

@@ -13,12 +13,30 @@ use Rattle.core_fids.specs.declared.effect.Reaction.{Reaction}
 
 -- what has nothing to do with event files and ports
 abbrev pub does : Effect → List Change → RBody → Reaction
-does f changes body = record { effect = f; events = events.Nothing; changes = changes; demand = demand.Nothing; answer = Says body }
+does f changes body = record {
+  effect = f;
+  events = events.Nothing;
+  changes = changes;
+  demand = demand.Nothing;
+  answer = Says body;
+}
 
 -- what frees a fid, asks this of the scene and is answered so
 abbrev pub frees : ℕ → Demand → RBody → Reaction
-frees number d body = record { effect = effect.Frees number; events = events.Nothing; changes = []; demand = d; answer = Says body }
+frees number d body = record {
+  effect = effect.Frees number;
+  events = events.Nothing;
+  changes = [];
+  demand = d;
+  answer = Says body;
+}
 
 -- a write that asks this of the scene: the whole count is answered, unless that is refused
 abbrev pub demands : Demand → ℕ → Reaction
-demands d count = record { effect = effect.Nothing; events = events.Nothing; changes = []; demand = d; answer = Says (r.Write count) }
+demands d count = record {
+  effect = effect.Nothing;
+  events = events.Nothing;
+  changes = [];
+  demand = d;
+  answer = Says (r.Write count);
+}

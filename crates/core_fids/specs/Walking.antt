@@ -20,7 +20,7 @@ use Rattle.core_fids.specs.declared.refusal.Refusal.TheVariants as refusal
 use Rattle.core_fids.specs.declared.walking.Course.{Course}
 use Rattle.core_fids.specs.declared.walking.WalkEnd.{WalkEnd}
 use Rattle.core_fids.specs.declared.walking.WalkEnd.TheVariants as end
-use Rattle.fid_table.specs.Tables.{Tables, fid_of}
+use Rattle.core_fids.specs.Servers.{ServerState, world_by, fid_by}
 use Rattle.core_fids.specs.Fids.{is_used, fids_full, is_open, fresh}
 
 -- ---- names
@@ -45,28 +45,30 @@ onwards world Windows rest = stops refusal.TooManyWindows
 -- where the names lead from a node, with the qid of each that is found; the ports have these names
 unfoldable pub course : World → List (List ℕ) → Node → List (List ℕ) → Course
 course world ports node [] = record { qids = []; end = end.At node }
-course world ports node (n ∷ ns) = onwards world (walk_one world ports node n (length ns == 0)) (λ m. course world ports m ns)
+course world ports node (n ∷ ns) =
+    onwards world (walk_one world ports node n (length ns == 0)) (λ m. course world ports m ns)
 
 -- ---- Twalk
 
 -- the number that the walk's end gets: that of the fid itself, or a new one
-abbrev pub new_refusal : Tables → ℕ → ℕ → Fid → Option Refusal
-new_refusal tables conn newfid fid =
+abbrev pub new_refusal : ServerState → ℕ → Fid → Option Refusal
+new_refusal server newfid fid =
     if newfid == no_fid then Some refusal.BadFid else
-    (if is_used tables conn newfid then Some refusal.FidInUse else
+    (if is_used server.tables server.conn newfid then Some refusal.FidInUse else
     (if is_open fid then Some refusal.FidIsOpen else
-    (if fids_full tables conn then Some refusal.TooManyFids else None)))
+    (if fids_full server.tables server.conn then Some refusal.TooManyFids else None)))
 
 -- why a walk from this fid is refused, whatever its names
-abbrev pub walk_refusal : Tables → ℕ → ℕ → ℕ → Fid → Option Refusal
-walk_refusal tables conn number newfid fid =
-    if newfid == number then (if is_open fid then Some refusal.FidIsOpen else None) else new_refusal tables conn newfid fid
+abbrev pub walk_refusal : ServerState → ℕ → ℕ → Fid → Option Refusal
+walk_refusal server number newfid fid =
+    if newfid == number then (if is_open fid then Some refusal.FidIsOpen else None) else new_refusal server newfid fid
 
--- Where all names are found, the number names the last node. Where the first isn't, the walk is refused; where a later one
--- isn't, the qids before it are answered, and the number is as it was.
+-- Where all names are found, the number names the last node. Where the first isn't, the walk is refused; where a later
+-- one isn't, the qids before it are answered, and the number is as it was.
 abbrev pub arrives_at : ℕ → World → List Qid → WalkEnd → Result Reaction Refusal
 arrives_at newfid world qids (end.At node) = Ok (does (effect.Puts newfid (fresh node)) [] (r.Walk qids))
-arrives_at newfid world qids (end.Makes file) = Ok (does (effect.Puts newfid (fresh (File world.next file))) (change.Makes [] ∷ []) (r.Walk qids))
+arrives_at newfid world qids (end.Makes file) =
+    Ok (does (effect.Puts newfid (fresh (File world.next file))) (change.Makes [] ∷ []) (r.Walk qids))
 arrives_at newfid world qids (end.Stops refusal) =
     if length qids == 0 then Err refusal else Ok (does effect.Nothing [] (r.Walk qids))
 
@@ -80,11 +82,11 @@ or_walks None walked = walked
 or_walks (Some refusal) walked = Err refusal
 
 -- what a Twalk from this fid does
-abbrev pub walk_from : Tables → World → List (List ℕ) → ℕ → ℕ → ℕ → List (List ℕ) → Option Fid → Result Reaction Refusal
-walk_from tables world ports conn number newfid names None = Err refusal.UnknownFid
-walk_from tables world ports conn number newfid names (Some fid) =
-    or_walks (walk_refusal tables conn number newfid fid) (arrives newfid world (course world ports fid.node names))
+abbrev pub walk_from : ServerState → ℕ → ℕ → List (List ℕ) → Option Fid → Result Reaction Refusal
+walk_from server number newfid names None = Err refusal.UnknownFid
+walk_from server number newfid names (Some fid) = or_walks (walk_refusal server number newfid fid)
+    (arrives newfid (world_by server) (course (world_by server) server.plumber.names fid.node names))
 
 -- what a Twalk does
-abbrev pub walk_reaction : Tables → World → List (List ℕ) → ℕ → ℕ → ℕ → List (List ℕ) → Result Reaction Refusal
-walk_reaction tables world ports conn number newfid names = walk_from tables world ports conn number newfid names (fid_of tables conn number)
+abbrev pub walk_reaction : ServerState → ℕ → ℕ → List (List ℕ) → Result Reaction Refusal
+walk_reaction server number newfid names = walk_from server number newfid names (fid_by server number)

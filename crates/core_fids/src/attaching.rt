@@ -3,8 +3,9 @@
 ghost use Rattle.std.specs.Prelude.{◌≡◌, IfOk, IfErr, Ok};
 ghost use Rattle.core_fids.specs.Refusals.{Gives};
 ghost use Rattle.core_fids.specs.Done.{IsDone, IsStill};
-ghost use Rattle.core_fids.specs.Servers.{tables_in, windows_in};
-ghost use Rattle.core_fids.specs.Attaching.{is_version, agreement, version_reaction, root_of, is_editor, attach_refusal, attach_reaction};
+ghost use Rattle.core_fids.specs.Servers.{server_in, windows_in};
+ghost use Rattle.core_fids.specs.Attaching.{is_version, agreement, version_reaction, root_of, is_editor};
+ghost use Rattle.core_fids.specs.Attaching.{attach_refusal, attach_reaction};
 
 use crate::effect::{Effect, Reaction};
 use crate::fids::{fids_full, fresh, is_used};
@@ -78,7 +79,7 @@ fn root_of(aname: &[u8]) -> Option<Node>
 }
 
 fn attach_refusal(server: &Server, fid: u32, afid: u32) -> Option<Refusal>
-    ensures { result ≡ attach_refusal (tables_in server.now) server.now.conn fid afid }
+    ensures { result ≡ attach_refusal (server_in server.now) fid afid }
 {
     if fid == NO_FID {
         Some(Refusal::BadFid)
@@ -101,8 +102,8 @@ pub fn attach(
     afid: u32,
     aname: &[u8],
 ) -> Result<Reaction, Fault>
-    ensures exact { IfOk result (λ d. attach_reaction (tables_in server.now) server.now.conn fid afid aname.now ≡ Ok d) }
-    ensures refused { IfErr result (λ e. Gives e (attach_reaction (tables_in server.now) server.now.conn fid afid aname.now)) }
+    ensures exact { IfOk result (λ d. attach_reaction (server_in server.now) fid afid aname.now ≡ Ok d) }
+    ensures refused { IfErr result (λ e. Gives e (attach_reaction (server_in server.now) fid afid aname.now)) }
     ensures done { IfOk result (IsDone (windows_in server.now)) }
 {
     if let Some(refusal) = attach_refusal(server, fid, afid) {

@@ -58,6 +58,7 @@ fn window_at(windows: &[u32], k: usize) -> Option<Node>
     ensures exact { result ≡ slice_get (map Node.Window windows.now) k }
     ensures within { IfSome result (λ n. k + 6 < 2 ^ 64) }
 {
+    // law: the windows are fewer than 2^64, known once their number is asked
     let _len = windows.len();
     match windows.get(k) {
         Some(window) => Some(Node::Window(*window)),
@@ -151,8 +152,8 @@ fn next_record(
     Ok(Some(record))
 }
 
-/// The records of a directory after the first `skip`, as many whole ones as fit into `count` bytes. It looks at those alone, and at one
-/// more.
+/// The records of a directory after the first `skip`, as many whole ones as fit into `count` bytes. It looks at
+/// those alone, and at one more.
 #[tactic(auto, using(crate::proofs::Parted::parts))]
 pub(crate) fn dir_part(
     alloc: Global,

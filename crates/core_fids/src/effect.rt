@@ -40,8 +40,8 @@ pub enum EventChange {
 pub enum Answer {
     /// By this, at once.
     Says(RBody),
-    /// By what is there for this opening of an event file, at most `count` bytes of it: at once, or once something is there. The read is
-    /// one of this fid.
+    /// By what is there for this opening of an event file, at most `count` bytes of it: at once, or once something is
+    /// there. The read is one of this fid.
     Reads { fid: u32, opening: u32, count: u32 },
     /// The same, for this opening of a port.
     ReadsPort { fid: u32, opening: u32, count: u32 },
@@ -66,8 +66,8 @@ pub enum Demand {
     Sends { text: Bytes },
 }
 
-/// What a message does: to its connection, to event files and ports, and to the windows; what it asks of the scene besides; and its answer, which
-/// is given where what it asks isn't refused.
+/// What a message does: to its connection, to event files and ports, and to the windows; what it asks of the scene
+/// besides; and its answer, which is given where what it asks isn't refused.
 #[derive(Drop)]
 pub struct Reaction {
     pub effect: Effect,

@@ -42,7 +42,8 @@ fn rest_demand(alloc: Global, fid: &Fid) -> Result<Demand, NoMemory>
 #[tactic(auto, using(crate::proofs::Answers::freed))]
 pub fn clunk(alloc: Global, server: &Server, number: u32) -> Result<Reaction, Fault>
     ensures exact { IfOk result (λ d. clunk_fid number (fid_of (tables_in server.now) server.now.conn number) ≡ Ok d) }
-    ensures refused { IfErr result (λ e. Gives e (clunk_fid number (fid_of (tables_in server.now) server.now.conn number))) }
+    ensures refused { IfErr result (λ e. Gives e (clunk_fid number
+        (fid_of (tables_in server.now) server.now.conn number))) }
     ensures done { IfOk result (IsDone (windows_in server.now)) }
 {
     let Some(fid) = server.sessions.fid(server.conn, number) else {
@@ -56,7 +57,8 @@ pub fn clunk(alloc: Global, server: &Server, number: u32) -> Result<Reaction, Fa
 #[tactic(auto, using(crate::proofs::Answers::freed))]
 pub fn remove(alloc: Global, server: &Server, number: u32) -> Result<Reaction, Fault>
     ensures exact { IfOk result (λ d. remove_fid number (fid_of (tables_in server.now) server.now.conn number) ≡ Ok d) }
-    ensures refused { IfErr result (λ e. Gives e (remove_fid number (fid_of (tables_in server.now) server.now.conn number))) }
+    ensures refused { IfErr result (λ e. Gives e (remove_fid number
+        (fid_of (tables_in server.now) server.now.conn number))) }
     ensures done { IfOk result (IsDone (windows_in server.now)) }
 {
     let Some(fid) = server.sessions.fid(server.conn, number) else {

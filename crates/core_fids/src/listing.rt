@@ -1,12 +1,11 @@
 //! Directory reads, after read(5), and stat(5).
 
 ghost use Rattle.std.specs.Prelude.{◌≡◌, ◌+◌, ◌<◌, ◌≤◌, ◌^◌, IfOk, IfErr, Ok, length};
-ghost use Rattle.fid_table.specs.Tables.{fid_of};
 ghost use Rattle.ninep_types.specs.Limits.{rread_head};
-ghost use Rattle.core_fids.specs.Servers.{plumber_in, tables_in, windows_in, world_in};
+ghost use Rattle.core_fids.specs.Servers.{fid_by, server_in, windows_in};
 ghost use Rattle.core_fids.specs.Refusals.{Gives};
 ghost use Rattle.core_fids.specs.Done.{IsDone};
-ghost use Rattle.core_fids.specs.Directories.{place_at, read_dir, stat_fid};
+ghost use Rattle.core_fids.specs.Directories.{asked_in, place_at, read_dir, stat_fid};
 
 use crate::directory::dir_part;
 use crate::effect::{Effect, Reaction};
@@ -44,8 +43,10 @@ fn place_at(fid: &Fid, offset: u64) -> Option<usize>
 /// What a read of a directory does.
 pub fn read_dir(alloc: Global, server: &Server, reading: &Reading) -> Result<Reaction, Fault>
     requires { reading.now.count + rread_head < 2 ^ 32 }
-    ensures exact { IfOk result (λ d. read_dir (world_in server.now) (plumber_in server.now).names reading.now.number reading.now.fid.now reading.now.offset reading.now.count (place_at reading.now.fid.now reading.now.offset) ≡ Ok d) }
-    ensures refused { IfErr result (λ e. Gives e (read_dir (world_in server.now) (plumber_in server.now).names reading.now.number reading.now.fid.now reading.now.offset reading.now.count (place_at reading.now.fid.now reading.now.offset))) }
+    ensures exact { IfOk result (λ d. read_dir (server_in server.now) (asked_in reading.now) reading.now.fid.now
+        (place_at reading.now.fid.now reading.now.offset) ≡ Ok d) }
+    ensures refused { IfErr result (λ e. Gives e (read_dir (server_in server.now) (asked_in reading.now)
+        reading.now.fid.now (place_at reading.now.fid.now reading.now.offset))) }
     ensures done { IfOk result (IsDone (windows_in server.now)) }
 {
     let fid = reading.fid;
@@ -73,8 +74,9 @@ pub fn read_dir(alloc: Global, server: &Server, reading: &Reading) -> Result<Rea
 /// What a Tstat does.
 #[tactic(auto, using(crate::proofs::Answers::sent))]
 pub fn stat(alloc: Global, server: &Server, number: u32) -> Result<Reaction, Fault>
-    ensures exact { IfOk result (λ d. stat_fid (world_in server.now) (plumber_in server.now).names (fid_of (tables_in server.now) server.now.conn number) ≡ Ok d) }
-    ensures refused { IfErr result (λ e. Gives e (stat_fid (world_in server.now) (plumber_in server.now).names (fid_of (tables_in server.now) server.now.conn number))) }
+    ensures exact { IfOk result (λ d. stat_fid (server_in server.now) (fid_by (server_in server.now) number) ≡ Ok d) }
+    ensures refused { IfErr result (λ e. Gives e (stat_fid (server_in server.now)
+        (fid_by (server_in server.now) number))) }
     ensures done { IfOk result (IsDone (windows_in server.now)) }
 {
     let Some(fid) = server.sessions.fid(server.conn, number) else {

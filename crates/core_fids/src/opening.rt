@@ -6,10 +6,13 @@ ghost use Rattle.std.specs.Option.{option_map};
 ghost use Rattle.std.specs.Prelude.{slice_get};
 ghost use Rattle.fid_table.specs.Tables.{fids_of};
 ghost use Rattle.am_journal.specs.Limits.{connection_count};
-ghost use Rattle.core_fids.specs.Servers.{plumber_in, tables_in, windows_in, world_in};
+ghost use Rattle.core_fids.specs.Servers.{fid_by, plumber_in, server_in, windows_in};
 ghost use Rattle.core_fids.specs.Refusals.{Gives};
 ghost use Rattle.core_fids.specs.Done.{IsDone};
-ghost use Rattle.core_fids.specs.Opening.{mode_refusal, opening_refusal, content_refusal, opening_events, opening_of, first_refusal, open_refusal, is_file_of, has_open, or_false, open_below, sets_first, clears_limit, resets_addr, opening_changes, opening_demand, open_reaction};
+ghost use Rattle.core_fids.specs.Opening.{mode_refusal, opening_refusal, content_refusal, opening_events, opening_of};
+ghost use Rattle.core_fids.specs.Opening.{first_refusal, open_refusal, is_file_of, has_open, or_false, open_below};
+ghost use Rattle.core_fids.specs.Opening.{sets_first, clears_limit, resets_addr, opening_changes, opening_demand};
+ghost use Rattle.core_fids.specs.Opening.{open_fid};
 
 use crate::content::{Content, content_of};
 use crate::effect::{Answer, Demand, Effect, EventChange, Reaction};
@@ -81,7 +84,7 @@ fn first_refusal(first: Option<Refusal>, later: Option<Refusal>) -> Option<Refus
 }
 
 fn open_refusal(server: &Server, fid: &Fid, mode: u8) -> Option<Refusal>
-    ensures { result ≡ open_refusal (world_in server.now) (plumber_in server.now) server.now.openings fid.now mode }
+    ensures { result ≡ open_refusal (server_in server.now) fid.now mode }
 {
     let node = fid.node;
     if !is_live(server.windows.world(), port_names(server), node) {
@@ -267,8 +270,10 @@ fn opening_demand(empties: bool, content: Content) -> Demand
 
 /// What a Topen does.
 pub fn open(alloc: Global, server: &Server, number: u32, mode: u8) -> Result<Reaction, Fault>
-    ensures exact { IfOk result (λ d. open_reaction (tables_in server.now) (world_in server.now) (plumber_in server.now) server.now.openings server.now.conn number mode ≡ Ok d) }
-    ensures refused { IfErr result (λ e. Gives e (open_reaction (tables_in server.now) (world_in server.now) (plumber_in server.now) server.now.openings server.now.conn number mode)) }
+    ensures exact { IfOk result (λ d. open_fid (server_in server.now) number (fid_by (server_in server.now) number) mode
+        ≡ Ok d) }
+    ensures refused { IfErr result (λ e. Gives e (open_fid (server_in server.now) number
+        (fid_by (server_in server.now) number) mode)) }
     ensures done { IfOk result (IsDone (windows_in server.now)) }
 {
     let Some(fid) = server.sessions.fid(server.conn, number) else {

@@ -3,7 +3,7 @@
 ghost use Rattle.std.specs.Prelude.{◌≡◌, ◌≤◌, [], length, IfOk, IfErr, Ok, Err, ◌∷◌};
 ghost use Rattle.ninep_types.specs.Limits.{max_names};
 ghost use Rattle.core_fids.specs.Refusals.{Gives};
-ghost use Rattle.core_fids.specs.Servers.{plumber_in, tables_in, windows_in, world_in};
+ghost use Rattle.core_fids.specs.Servers.{server_in, windows_in, world_in};
 ghost use Rattle.core_windows.specs.declared.change.Change.TheVariants as Change;
 ghost use Rattle.core_fids.specs.Done.{IsDone, MayEnd};
 ghost use Rattle.core_fids.specs.Walking.{course, new_refusal, walk_refusal, arrives, walk_from, walk_reaction};
@@ -79,7 +79,7 @@ fn course_of(
 }
 
 fn new_refusal(server: &Server, newfid: u32, fid: &Fid) -> Option<Refusal>
-    ensures { result ≡ new_refusal (tables_in server.now) server.now.conn newfid fid.now }
+    ensures { result ≡ new_refusal (server_in server.now) newfid fid.now }
 {
     if newfid == NO_FID {
         Some(Refusal::BadFid)
@@ -95,7 +95,7 @@ fn new_refusal(server: &Server, newfid: u32, fid: &Fid) -> Option<Refusal>
 }
 
 fn walk_refusal(server: &Server, number: u32, newfid: u32, fid: &Fid) -> Option<Refusal>
-    ensures { result ≡ walk_refusal (tables_in server.now) server.now.conn number newfid fid.now }
+    ensures { result ≡ walk_refusal (server_in server.now) number newfid fid.now }
 {
     if newfid != number {
         new_refusal(server, newfid, fid)
@@ -159,8 +159,8 @@ pub fn walk(
     names: &[Bytes],
 ) -> Result<Reaction, Fault>
     requires { length names.now ≤ max_names }
-    ensures exact { IfOk result (λ d. walk_reaction (tables_in server.now) (world_in server.now) (plumber_in server.now).names server.now.conn number newfid names.now ≡ Ok d) }
-    ensures refused { IfErr result (λ e. Gives e (walk_reaction (tables_in server.now) (world_in server.now) (plumber_in server.now).names server.now.conn number newfid names.now)) }
+    ensures exact { IfOk result (λ d. walk_reaction (server_in server.now) number newfid names.now ≡ Ok d) }
+    ensures refused { IfErr result (λ e. Gives e (walk_reaction (server_in server.now) number newfid names.now)) }
     ensures done { IfOk result (IsDone (windows_in server.now)) }
 {
     let Some(fid) = server.sessions.fid(server.conn, number) else {

@@ -43,7 +43,8 @@ is_tag_used tables conn msg = not (is_version msg.body) && list_any (is_waiting 
 abbrev pub enabled_at : Present → Event → Option Why
 enabled_at s (event.Dial conn) = dial_refusal (connection_at s.connections conn)
 enabled_at s (event.Msg conn msg) =
-    msg_refusal (connection_at s.connections conn) (msize_of s.tables conn) (is_tag_used s.tables conn msg) (unsent_count s conn) (length (spelling_t msg))
+    msg_refusal (connection_at s.connections conn) (msize_of s.tables conn) (is_tag_used s.tables conn msg)
+    (unsent_count s conn) (length (spelling_t msg))
 enabled_at s (event.Hang conn why) = live_refusal (connection_at s.connections conn)
 enabled_at s (event.Took conn) = took_refusal (connection_at s.connections conn) (unsent_count s conn)
 enabled_at s event.New = new_refusal (world_is_full (world_of s.scene.windows))
@@ -61,7 +62,8 @@ enabled_at s (event.Dir path) = tree_refusal (directory_clashes s.scene.files pa
 abbrev pub entry_by : Present → Origin → Entry
 entry_by s origin = record { at = next_entry s; origin = origin }
 
--- what is to be done, over the scene as it stands: where its task is refused, that is answered, and what it leaves to be held is
+-- what is to be done, over the scene as it stands: where its task is refused, that is answered, and
+-- what it leaves to be held is
 abbrev pub resolved : Present → Intent → Doing
 resolved s i = record {
   effect = with_held i.effect (task_held (entry_by s i.origin) i.task s.scene);

@@ -44,7 +44,8 @@ tag_refusal used = if used then Some why.Tag else None
 -- why a message can't come
 abbrev pub msg_refusal : Connection → Option ℕ → Bool → ℕ → ℕ → Option Why
 msg_refusal connection msize used count size =
-    first_why (live_refusal connection) (first_why (size_refusal msize size) (first_why (tag_refusal used) (replies_refusal count)))
+    first_why (live_refusal connection) (first_why (size_refusal msize size)
+    (first_why (tag_refusal used) (replies_refusal count)))
 
 -- replies are taken of a connection that ended, too
 abbrev pub took_refusal : Connection → ℕ → Option Why

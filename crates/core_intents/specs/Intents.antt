@@ -1,5 +1,6 @@
 -- What an event is to do, as the editor stands: its task isn't yet told by the deeds that it comes to.
-use Rattle.std.specs.Prelude.{ℕ, Bool, true, false, List, [], ◌∷◌, length, Option, Some, None, Result, Ok, Err, if◌then◌else◌}
+use Rattle.std.specs.Prelude.{ℕ, Bool, true, false, List, [], ◌∷◌, length, Option, Some, None, Result, Ok, Err}
+use Rattle.std.specs.Prelude.{if◌then◌else◌}
 use Rattle.am_text.specs.Utf8.{utf8}
 use Rattle.ninep_types.specs.declared.message.TMsg.{TMsg}
 use Rattle.ninep_types.specs.declared.message.RBody.TheVariants as r
@@ -27,6 +28,7 @@ use Rattle.core_fids.specs.declared.refusal.Refusal.{Refusal}
 use Rattle.core_fids.specs.declared.refusal.Refusal.TheVariants as refusal
 use Rattle.core_fids.specs.Plumbers.{plumber_of}
 use Rattle.core_fids.specs.Refusals.{refusal_text}
+use Rattle.core_fids.specs.Servers.{ServerState}
 use Rattle.core_answers.specs.Reactions.{reaction}
 use Rattle.core_events.specs.declared.closing.BackItem.{BackItem}
 use Rattle.core_tasks.specs.declared.task.Task.{Task}
@@ -135,9 +137,19 @@ demand_refusal book (demand.AddsRules text) = None
 demand_refusal book (demand.AddsRest text) = None
 demand_refusal book (demand.Sends text) = None
 
+-- what the messages of a connection are served from here
+abbrev pub server_at : Present → ℕ → ServerState
+server_at s conn = record {
+  tables = s.tables;
+  windows = s.scene.windows;
+  plumber = plumber_of s.scene.rules s.scene.ports;
+  openings = length s.scene.book.owners;
+  conn = conn;
+}
+
 -- what a message does here
 abbrev pub reaction_at : Present → ℕ → TMsg → Reaction
-reaction_at s conn msg = reaction s.tables s.scene.windows (plumber_of s.scene.rules s.scene.ports) (length s.scene.book.owners) conn msg.body
+reaction_at s conn msg = reaction (server_at s conn) msg.body
 
 -- what a message is to do
 abbrev pub message_intent : BookState → Reaction → Origin → Intent
@@ -154,7 +166,14 @@ message_intent book d origin = record {
 
 -- what does a task alone
 abbrev pub acting : Task → Origin → Intent
-acting task origin = record { effect = effect.Nothing; events = events.Nothing; task = task; origin = origin; answer = None; back = None }
+acting task origin = record {
+  effect = effect.Nothing;
+  events = events.Nothing;
+  task = task;
+  origin = origin;
+  answer = None;
+  back = None;
+}
 
 -- nothing is to be done
 abbrev pub nothing : Intent
@@ -163,7 +182,8 @@ nothing = acting (task.Changes []) F
 -- what an event is to do
 abbrev pub intent_of : Present → Event → Intent
 intent_of s (event.Dial conn) = nothing
-intent_of s (event.Msg conn msg) = message_intent s.scene.book (reaction_at s conn msg) (message_origin s.tables conn msg.body)
+intent_of s (event.Msg conn msg) =
+    message_intent s.scene.book (reaction_at s conn msg) (message_origin s.tables conn msg.body)
 intent_of s (event.Hang conn why) = nothing
 intent_of s (event.Took conn) = nothing
 intent_of s event.New = acting (task.Changes (change.Makes [] ∷ [])) F

@@ -19,12 +19,14 @@ text_refusal window at = if nat_le at.range.q1 (length (side_text window at.side
 
 -- why a place isn't one of a text
 abbrev pub spot_refusal : List (Option Window) → Spot → Option Why
-spot_refusal windows at = first_why (window_refusal (window_at windows at.window)) (text_refusal (window_at windows at.window) at)
+spot_refusal windows at =
+    first_why (window_refusal (window_at windows at.window)) (text_refusal (window_at windows at.window) at)
 
 -- first both windows are looked at, and then both ranges
 abbrev pub arg_refusal : List (Option Window) → Spot → Spot → Option Why
 arg_refusal windows at chord =
-    first_why (window_refusal (window_at windows at.window)) (first_why (window_refusal (window_at windows chord.window))
+    first_why (window_refusal (window_at windows at.window))
+    (first_why (window_refusal (window_at windows chord.window))
     (first_why (text_refusal (window_at windows at.window) at) (text_refusal (window_at windows chord.window) chord)))
 
 -- ---- the length of a tag
@@ -35,4 +37,6 @@ len_if b n = if b then n else 0
 
 -- how many runes stand between the name and the right part
 abbrev pub words_len : List ℕ → Shown → ℕ
-words_len name s = 12 + len_if s.undo 5 + len_if s.redo 5 + len_if (not (length name == 0) && s.modified && not s.dir) 4 + len_if s.dir 4
+words_len name s =
+    12 + len_if s.undo 5 + len_if s.redo 5 + len_if (not (length name == 0) && s.modified && not s.dir) 4
+    + len_if s.dir 4

@@ -19,7 +19,8 @@ use Rattle.win_text.specs.Limits.{body_runes}
 -- a body has at most 16,777,216 runes once dot's text is replaced
 abbrev pub fits_body : Window → List ℕ → Option Why
 fits_body window text =
-    if nat_le (length window.body.text - (window.body.dot.q1 - window.body.dot.q0) + length text) body_runes then None else Some why.Length
+    if nat_le (length window.body.text - (window.body.dot.q1 - window.body.dot.q0) + length text) body_runes then None
+    else Some why.Length
 
 -- why a text doesn't fit into a side
 abbrev pub fits_side : Window → Side → List ℕ → Option Why
@@ -38,7 +39,8 @@ edits_with_dot w edits range = change.Edits w edits ∷ change.Sets w (setting.D
 -- a text takes the place of dot, or goes to the end of the tag
 abbrev pub typed : ℕ → Window → Side → List ℕ → List Change
 typed w window Body text =
-    edits_with_dot w (replacement window.body.dot text) (record { q0 = window.body.dot.q0 + length text; q1 = window.body.dot.q0 + length text })
+    edits_with_dot w (replacement window.body.dot text)
+    (record { q0 = window.body.dot.q0 + length text; q1 = window.body.dot.q0 + length text })
 typed w window Tag text = change.Adds w text ∷ []
 
 -- what a key changes

@@ -1,7 +1,8 @@
 //! The reasons for which an event isn't enabled.
 
 ghost use Rattle.std.specs.Prelude.{◌≡◌};
-ghost use Rattle.core_intents.specs.Enabled.{first_why, dial_refusal, live_refusal, size_refusal, tag_refusal, replies_refusal, msg_refusal, took_refusal, new_refusal, tree_refusal};
+ghost use Rattle.core_intents.specs.Enabled.{first_why, dial_refusal, live_refusal, size_refusal, tag_refusal};
+ghost use Rattle.core_intents.specs.Enabled.{replies_refusal, msg_refusal, took_refusal, new_refusal, tree_refusal};
 
 use am_journal::Why;
 use core_parts::{Connection, REPLIES};

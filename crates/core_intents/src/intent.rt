@@ -7,7 +7,10 @@ ghost use Rattle.am_journal.specs.Lawful.{IsLawful};
 ghost use Rattle.core_windows.specs.declared.change.Change.TheVariants as change;
 ghost use Rattle.core_fids.specs.Done.{HasSpelling};
 ghost use Rattle.core_intents.specs.Doings.{enabled_at, IsAnswerable, CanBeMeant};
-ghost use Rattle.core_intents.specs.Intents.{is_refusal, or_refused, answer_or, held_or, with_held, not_found, item_of_text, back_task, item_if_any, refusal_if_any, demanded_task, demanded_item, demand_refusal, reaction_at, message_intent, acting, nothing, intent_of};
+ghost use Rattle.core_intents.specs.Intents.{is_refusal, or_refused, answer_or, held_or, with_held, not_found};
+ghost use Rattle.core_intents.specs.Intents.{item_of_text, back_task, item_if_any, refusal_if_any, demanded_task};
+ghost use Rattle.core_intents.specs.Intents.{demanded_item, demand_refusal, reaction_at, message_intent, acting};
+ghost use Rattle.core_intents.specs.Intents.{nothing, intent_of};
 ghost use Rattle.core_intents.specs.Origins.{message_origin};
 ghost use Rattle.core_parts.specs.Parts.{present_of, AreSteady};
 
@@ -27,9 +30,9 @@ use ninep_types::{RBody, TMsg};
 use std::alloc::Global;
 use win_events::{Origin, read_back};
 
-/// What an event is to do: to the fids and the session of its connection, to event files and ports, and by a task to the scene; what the
-/// items come from that it makes; how its message is answered, where it is one and its task isn't refused; and the item that it writes
-/// back.
+/// What an event is to do: to the fids and the session of its connection, to event files and ports, and by a task to
+/// the scene; what the items come from that it makes; how its message is answered, where it is one and its task isn't
+/// refused; and the item that it writes back.
 #[derive(Drop)]
 pub struct Intent {
     pub effect: Effect,
@@ -71,7 +74,8 @@ fn or_refused(alloc: Global, refusal: Option<Refusal>, answer: Answer) -> Result
     }
 }
 
-/// The answer to a message, where there is one: the text of a refusal in its place. `NoMemory` where there is none for that text.
+/// The answer to a message, where there is one: the text of a refusal in its place. `NoMemory` where
+/// there is none for that text.
 pub fn answer_or(
     alloc: Global,
     refusal: Option<Refusal>,
@@ -193,7 +197,9 @@ fn by_demand(alloc: Global, book: &Book, changes: Changes, demand: Demand) -> De
 fn message_intent(alloc: Global, parts: &Parts, conn: u32, msg: &TMsg) -> Result<Intent, NoMemory>
     requires fits { Fits_t msg.now }
     requires steady { AreSteady parts.now }
-    ensures exact { IfOk result (λ i. i ≡ message_intent (present_of parts.now).scene.book (reaction_at (present_of parts.now) conn msg.now) (message_origin (present_of parts.now).tables conn msg.now.body)) }
+    ensures exact { IfOk result (λ i. i ≡ message_intent (present_of parts.now).scene.book
+        (reaction_at (present_of parts.now) conn msg.now)
+        (message_origin (present_of parts.now).tables conn msg.now.body)) }
     ensures possible { IfOk result (CanBeMeant (present_of parts.now)) }
     ensures answerable { IfOk result (λ i. IsAnswerable i.answer) }
 {

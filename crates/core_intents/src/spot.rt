@@ -18,7 +18,8 @@ fn len_if(shown: bool, len: usize) -> usize
     if shown { len } else { 0 }
 }
 
-// How many runes of a tag stand between the name and the right part: those of ` Del Snarf`, ` Undo`, ` Redo`, ` Put`, ` Get` and ` |`.
+// How many runes of a tag stand between the name and the right part: those of ` Del Snarf`, ` Undo`, ` Redo`,
+// ` Put`, ` Get` and ` |`.
 fn words_len(name: &[Rune], shown: Shown) -> usize
     ensures { result ≡ words_len name.now shown }
 {

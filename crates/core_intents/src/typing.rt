@@ -5,7 +5,8 @@ ghost use Rattle.core_windows.specs.Panes.{window_of};
 ghost use Rattle.core_fids.specs.Done.{CanBeMade};
 ghost use Rattle.core_windows.specs.declared.change.Change.TheVariants as change;
 ghost use Rattle.core_windows.specs.Windows.{window_at};
-ghost use Rattle.core_intents.specs.Typing.{fits_side, key_refusal, edits_with_dot, typed, key_changes, sel_refusal, sel_changes};
+ghost use Rattle.core_intents.specs.Typing.{fits_side, key_refusal, edits_with_dot, typed, key_changes, sel_refusal};
+ghost use Rattle.core_intents.specs.Typing.{sel_changes};
 
 use am_journal::{Side, Why};
 use am_text::{Items, Letters, NoMemory, Range, Rune, Runes};
@@ -30,6 +31,7 @@ fn fits_side(pane: &Pane, side: Side, text: &[Rune]) -> Option<Why>
 {
     match side {
         Side::Body => {
+            // law: the ranges of a body are inside its text
             pane.body.is_sound();
             let dot = pane.body.dot();
             long(pane.body.len() - (dot.q1 - dot.q0), text.len(), BODY_RUNES)
@@ -91,6 +93,7 @@ fn typed(
     match side {
         Side::Tag => added(alloc, window, text),
         Side::Body => {
+            // law: the ranges of a body are inside its text
             pane.body.is_sound();
             let dot = pane.body.dot();
             let end = dot.q0 + text.len();
@@ -110,7 +113,8 @@ pub(crate) fn key_changes(
     text: &[Rune],
 ) -> Result<Changes, NoMemory>
     requires { key_refusal (window_at windows.now.present window) side text.now ≡ None }
-    ensures exact { IfOk result (λ changes. changes ≡ key_changes window (window_at windows.now.present window) side text.now) }
+    ensures exact { IfOk result (λ changes. changes
+        ≡ key_changes window (window_at windows.now.present window) side text.now) }
     ensures possible { IfOk result (CanBeMade windows.now.present) }
 {
     match windows.get(window) {

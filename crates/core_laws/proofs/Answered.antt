@@ -40,7 +40,6 @@ use Rattle.core_events.specs.declared.response.Response.{Response}
 use Rattle.core_events.specs.Asking.{opened, reads_are_full, said_to, read_said, book_read, waits_unless}
 use Rattle.core_events.specs.Putting.{put_living}
 use Rattle.core_events.specs.Serving.{served_all}
-use Rattle.core_events.specs.Responses.{event_feed, port_feed}
 use Rattle.plumb_ports.specs.PortsState.{PortsState, read_waits as port_waits, piece_for as port_piece}
 use Rattle.core_events.specs.PortAsking.{read_refusal, said_unless, port_said, ports_read}
 use Rattle.core_events.specs.PortServing.{ports_served}
@@ -62,7 +61,7 @@ use Rattle.core_parts.specs.States.{Present, State, present, next_entry}
 use Rattle.acme_core.proofs.Goes.{run-push}
 use Rattle.acme_core.proofs.Idling.{run_idle, ports_idle_after}
 use Rattle.core_steps.proofs.Idling.{silent}
-use Rattle.core_laws.specs.Answered.{IsAnswerTo, TellsAWait, SaysOnce, ReadsOnce, IsAnsweredBy, MessagesAreAnswered}
+use Rattle.core_laws.specs.Answered.{IsAnswerTo, TellsAWait, SaysOnce, ReadsOnce, event_read, port_read, IsAnsweredBy, MessagesAreAnswered}
 use Rattle.core_laws.specs.Saying.{said_after, is_told}
 use Rattle.core_laws.specs.Waits.{WaitsAreTied}
 use Rattle.core_laws.proofs.Answering.{message_reads, message_reads_port}
@@ -313,7 +312,7 @@ stepped_tables s conn msg = refl
 read_by : (before : List Event) (conn : ℕ) (msg : TMsg) (o : Origin) (fid opening count : ℕ) (said_now : Option RBody) → kind_t msg.body ≡ 116
     → doing_of (present_after before) (event.Msg conn msg) ≡ plain_read (present_after before) o fid opening count
     → read_said (run before).tables (run before).scene.book (asker_of conn msg.tag opening count) ≡ said_now
-    → ReadsOnce before conn msg (event_feed opening) (read_waits (run before).scene.book (asker_of conn msg.tag opening count)) said_now
+    → ReadsOnce before conn msg (event_read (run before) (asker_of conn msg.tag opening count)) said_now
 read_by before conn msg o fid opening count (Some body) asks does is =
     let s : State = run before in
     let all : said_after before (event.Msg conn msg) ≡ if_said conn msg.tag opening (Some body) =
@@ -335,7 +334,7 @@ read_by before conn msg o fid opening count None asks does is =
 
 reads_by : (before : List Event) (conn : ℕ) (msg : TMsg) (fid opening count : ℕ) → IsWell (run before) → kind_t msg.body ≡ 116
     → (doing_of (present_after before) (event.Msg conn msg)).answer ≡ Some (Reads fid opening count)
-    → ReadsOnce before conn msg (event_feed opening) (read_waits (run before).scene.book (asker_of conn msg.tag opening count))
+    → ReadsOnce before conn msg (event_read (run before) (asker_of conn msg.tag opening count))
     (read_said (run before).tables (run before).scene.book (asker_of conn msg.tag opening count))
 reads_by before conn msg fid opening count well asks is =
     let s : State = run before in
@@ -395,7 +394,7 @@ port_answers asked s x None false body tread is =
 port_by : (before : List Event) (conn : ℕ) (msg : TMsg) (o : Origin) (fid opening count : ℕ) (said_now : Option RBody) → kind_t msg.body ≡ 116
     → doing_of (present_after before) (event.Msg conn msg) ≡ plain_port (present_after before) o fid opening count
     → port_said (run before).tables (run before).scene.ports (asker_of conn msg.tag opening count) ≡ said_now
-    → ReadsOnce before conn msg (port_feed opening) (port_waits (run before).scene.ports (asker_of conn msg.tag opening count)) said_now
+    → ReadsOnce before conn msg (port_read (run before) (asker_of conn msg.tag opening count)) said_now
 port_by before conn msg o fid opening count (Some body) asks does is =
     let s : State = run before in
     let x : Asker = asker_of conn msg.tag opening count in
@@ -420,7 +419,7 @@ port_by before conn msg o fid opening count None asks does is =
 
 reads_port_by : (before : List Event) (conn : ℕ) (msg : TMsg) (fid opening count : ℕ) → IsWell (run before) → kind_t msg.body ≡ 116
     → (doing_of (present_after before) (event.Msg conn msg)).answer ≡ Some (ReadsPort fid opening count)
-    → ReadsOnce before conn msg (port_feed opening) (port_waits (run before).scene.ports (asker_of conn msg.tag opening count))
+    → ReadsOnce before conn msg (port_read (run before) (asker_of conn msg.tag opening count))
     (port_said (run before).tables (run before).scene.ports (asker_of conn msg.tag opening count))
 reads_port_by before conn msg fid opening count well asks is =
     let s : State = run before in

@@ -16,12 +16,12 @@ use Rattle.acme_tree.specs.declared.node.Node.TheVariants as nodes
 use Rattle.acme_tree.specs.declared.node.WinFile.TheVariants as file
 use Rattle.acme_tree.specs.declared.node.World.{World}
 use Rattle.fid_table.specs.declared.types.Fid.{Fid}
-use Rattle.fid_table.specs.Tables.{Tables, fid_of, msize_of}
+use Rattle.fid_table.specs.Tables.{Tables, fid_of}
 use Rattle.core_addresses.specs.Data.{data_taken}
 use Rattle.core_addresses.specs.Ranges.{address_range}
 use Rattle.core_addresses.specs.declared.data.Taken.{Taken}
 use Rattle.core_addresses.specs.declared.fault.RangeFault.{RangeFault}
-use Rattle.core_windows.specs.Windows.{Window, window_at, named, world_of}
+use Rattle.core_windows.specs.Windows.{Window, window_at, named}
 use Rattle.core_fids.specs.declared.content.Content.{Content}
 use Rattle.core_fids.specs.declared.content.Content.TheVariants as content
 use Rattle.core_fids.specs.declared.effect.Answer.{Answer}
@@ -42,15 +42,15 @@ use Rattle.core_answers.specs.Erring.{fits_in, fits_tag, errors_of, root_errors,
 use Rattle.core_fids.specs.Fids.{event_opening, port_opening, holds_rules, is_for_reading, is_for_writing}
 use Rattle.core_fids.specs.Opening.{opening_demand, open_refusal, or_opens, open_fid, denial, clunk_fid, remove_fid}
 use Rattle.core_fids.specs.Plainly.{does, demands}
-use Rattle.core_fids.specs.Plumbers.{Plumber}
-use Rattle.core_fids.specs.Directories.{place_at, read_dir, stat_fid}
-use Rattle.core_answers.specs.Reading.{read_opening, read_port, read_content, use_refusal, or_reads, most, read_fid}
+use Rattle.core_fids.specs.Servers.{ServerState, world_by, fid_by}
+use Rattle.core_fids.specs.Directories.{Tread, place_at, read_dir, stat_fid}
+use Rattle.core_answers.specs.Reading.{read_opening, read_port, read_content, use_refusal, or_reads, lowered, read_fid}
 use Rattle.core_fids.specs.Refusals.{refusal_text, refusal_with_effect, reaction_or_refusal}
 use Rattle.core_intents.specs.Intents.{is_refusal}
 use Rattle.core_laws.specs.Refusals.{refused, remove_refusal, session_refusal}
 use Rattle.core_answers.specs.Texts.{text_at, right_of}
 use Rattle.core_fids.specs.Walking.{course, walk_refusal, arrives_at, or_walks, walk_from}
-use Rattle.core_answers.specs.Writing.{whole_runes, if_lives, append_reaction, add_reaction, or_errors, errors_reaction, write_content, write_fid}
+use Rattle.core_answers.specs.Writing.{Twrite, whole_runes, if_lives, append_reaction, add_reaction, or_errors, errors_reaction, write_content, write_fid}
 
 -- whether an item is written back
 abbrev pub is_back : Demand → Bool
@@ -103,23 +103,26 @@ or_walks_plain : (kind : ℕ) (o : Option Refusal) (x : Result Reaction Refusal)
 or_walks_plain kind None x h = h
 or_walks_plain kind (Some y) x h = tt
 
-walks : (tables : Tables) (world : World) (ports : List (List ℕ)) (conn number newfid : ℕ) (names : List (List ℕ)) (o : Option Fid) → Plainly rwalk (walk_from tables world ports conn number newfid names o)
-walks tables world ports conn number newfid names None = tt
-walks tables world ports conn number newfid names (Some f) =
-    or_walks_plain rwalk (walk_refusal tables conn number newfid f) _ (arrives newfid world (course world ports f.node names).qids (course world ports f.node names).end)
+walks : (server : ServerState) (number newfid : ℕ) (names : List (List ℕ)) (o : Option Fid)
+    → Plainly rwalk (walk_from server number newfid names o)
+walks server number newfid names None = tt
+walks server number newfid names (Some f) =
+    let led = course (world_by server) server.plumber.names f.node names in
+    or_walks_plain rwalk (walk_refusal server number newfid f) _ (arrives newfid (world_by server) led.qids led.end)
 
 opening_plain : (truncated : Bool) (c : Content) → is_back (opening_demand truncated c) ≡ false
 opening_plain false c = refl
 opening_plain true content.RulesText = refl
 opening_plain true c = refl
 
-opens_plain : (tables : Tables) (plumber : Plumber) (openings number mode : ℕ) (f : Fid) (o : Option Refusal) → Plainly ropen (or_opens tables plumber o openings number f mode)
-opens_plain tables plumber openings number mode f None = (opening_plain (truncates mode) (content_of f.node), (refl, refl))
-opens_plain tables plumber openings number mode f (Some x) = tt
+opens_plain : (o : Option Refusal) (server : ServerState) (number : ℕ) (f : Fid) (mode : ℕ)
+    → Plainly ropen (or_opens o server number f mode)
+opens_plain None server number f mode = (opening_plain (truncates mode) (content_of f.node), (refl, refl))
+opens_plain (Some x) server number f mode = tt
 
-opens : (tables : Tables) (world : World) (plumber : Plumber) (openings number mode : ℕ) (o : Option Fid) → Plainly ropen (open_fid tables world plumber openings number mode o)
-opens tables world plumber openings number mode None = tt
-opens tables world plumber openings number mode (Some f) = opens_plain tables plumber openings number mode f (open_refusal world plumber openings f mode)
+opens : (server : ServerState) (number mode : ℕ) (o : Option Fid) → Plainly ropen (open_fid server number o mode)
+opens server number mode None = tt
+opens server number mode (Some f) = opens_plain (open_refusal server f mode) server number f mode
 
 denied : (kind : ℕ) (o : Option Fid) → Plainly kind (denial o)
 denied kind None = tt
@@ -129,17 +132,17 @@ or_reads_plain : (kind : ℕ) (o : Option Refusal) (x : Result Reaction Refusal)
 or_reads_plain kind None x h = h
 or_reads_plain kind (Some y) x h = tt
 
-read_dir_plain : (world : World) (ports : List (List ℕ)) (number offset count : ℕ) (f : Fid) (o : Option ℕ) → Plainly rread (read_dir world ports number f offset count o)
-read_dir_plain world ports number offset count f None = tt
-read_dir_plain world ports number offset count f (Some skip) = (refl, (refl, refl))
+read_dir_plain : (server : ServerState) (asked : Tread) (f : Fid) (o : Option ℕ) → Plainly rread (read_dir server asked f o)
+read_dir_plain server asked f None = tt
+read_dir_plain server asked f (Some skip) = (refl, (refl, refl))
 
-read_opening_plain : (number count : ℕ) (o : Option ℕ) → Plainly rread (read_opening number count o)
-read_opening_plain number count None = tt
-read_opening_plain number count (Some opening) = (refl, refl)
+read_opening_plain : (asked : Tread) (o : Option ℕ) → Plainly rread (read_opening asked o)
+read_opening_plain asked None = tt
+read_opening_plain asked (Some opening) = (refl, refl)
 
-read_port_plain : (number count : ℕ) (o : Option ℕ) → Plainly rread (read_port number count o)
-read_port_plain number count None = tt
-read_port_plain number count (Some opening) = (refl, refl)
+read_port_plain : (asked : Tread) (o : Option ℕ) → Plainly rread (read_port asked o)
+read_port_plain asked None = tt
+read_port_plain asked (Some opening) = (refl, refl)
 
 data_plain : (w count : ℕ) (o : Option Window) → Plain rread (data_reaction w count o)
 data_plain w count None = (refl, (refl, refl))
@@ -149,27 +152,28 @@ xdata_plain : (w count : ℕ) (o : Option Window) → Plain rread (xdata_reactio
 xdata_plain w count None = (refl, (refl, refl))
 xdata_plain w count (Some window) = (refl, (refl, refl))
 
-read_content_plain : (world : World) (windows : List (Option Window)) (plumber : Plumber) (number offset count : ℕ) (f : Fid) (c : Content) → Plainly rread (read_content world windows plumber number f offset count c)
-read_content_plain world windows plumber number offset count f content.Directory = read_dir_plain world plumber.names number offset count f (place_at f offset)
-read_content_plain world windows plumber number offset count f (content.BodyText w) = (refl, (refl, refl))
-read_content_plain world windows plumber number offset count f (content.TagText w) = (refl, (refl, refl))
-read_content_plain world windows plumber number offset count f (content.CtlText w) = (refl, (refl, refl))
-read_content_plain world windows plumber number offset count f (content.AddrText w) = (refl, (refl, refl))
-read_content_plain world windows plumber number offset count f (content.DataOf w) = data_plain w count (window_at windows w)
-read_content_plain world windows plumber number offset count f (content.XdataOf w) = xdata_plain w count (window_at windows w)
-read_content_plain world windows plumber number offset count f content.IndexText = (refl, (refl, refl))
-read_content_plain world windows plumber number offset count f (content.ErrorsOf w) = tt
-read_content_plain world windows plumber number offset count f content.ConsErrors = (refl, (refl, refl))
-read_content_plain world windows plumber number offset count f content.Empty = (refl, (refl, refl))
-read_content_plain world windows plumber number offset count f (content.EventsOf w) = read_opening_plain number count (event_opening f)
-read_content_plain world windows plumber number offset count f content.SendText = tt
-read_content_plain world windows plumber number offset count f content.RulesText = (refl, (refl, refl))
-read_content_plain world windows plumber number offset count f (content.PortOf k) = read_port_plain number count (port_opening f)
+read_content_plain : (server : ServerState) (asked : Tread) (f : Fid) (c : Content) → Plainly rread (read_content server asked f c)
+read_content_plain server asked f content.Directory = read_dir_plain server asked f (place_at f asked.offset)
+read_content_plain server asked f (content.BodyText w) = (refl, (refl, refl))
+read_content_plain server asked f (content.TagText w) = (refl, (refl, refl))
+read_content_plain server asked f (content.CtlText w) = (refl, (refl, refl))
+read_content_plain server asked f (content.AddrText w) = (refl, (refl, refl))
+read_content_plain server asked f (content.DataOf w) = data_plain w asked.count (window_at server.windows w)
+read_content_plain server asked f (content.XdataOf w) = xdata_plain w asked.count (window_at server.windows w)
+read_content_plain server asked f content.IndexText = (refl, (refl, refl))
+read_content_plain server asked f (content.ErrorsOf w) = tt
+read_content_plain server asked f content.ConsErrors = (refl, (refl, refl))
+read_content_plain server asked f content.Empty = (refl, (refl, refl))
+read_content_plain server asked f (content.EventsOf w) = read_opening_plain asked (event_opening f)
+read_content_plain server asked f content.SendText = tt
+read_content_plain server asked f content.RulesText = (refl, (refl, refl))
+read_content_plain server asked f (content.PortOf k) = read_port_plain asked (port_opening f)
 
-reads : (world : World) (windows : List (Option Window)) (plumber : Plumber) (number offset count : ℕ) (o : Option Fid) → Plainly rread (read_fid world windows plumber number offset count o)
-reads world windows plumber number offset count None = tt
-reads world windows plumber number offset count (Some f) =
-    or_reads_plain rread (use_refusal world plumber.names f is_for_reading) _ (read_content_plain world windows plumber number offset count f (content_of f.node))
+reads : (server : ServerState) (asked : Tread) (o : Option Fid) → Plainly rread (read_fid server asked o)
+reads server asked None = tt
+reads server asked (Some f) =
+    or_reads_plain rread (use_refusal (world_by server) server.plumber.names f is_for_reading) _
+    (read_content_plain server asked f (content_of f.node))
 
 rest_plain : (b : Bool) (text : List ℕ) → is_back (cond b (demand.AddsRest text) demand.Nothing) ≡ false
 rest_plain true text = refl
@@ -179,9 +183,10 @@ clunks : (number : ℕ) (o : Option Fid) → Plainly rclunk (clunk_fid number o)
 clunks number None = tt
 clunks number (Some f) = (rest_plain (holds_rules f) f.held, (refl, refl))
 
-stats : (world : World) (ports : List (List ℕ)) (o : Option Fid) → Plainly rstat (stat_fid world ports o)
-stats world ports None = tt
-stats world ports (Some f) = done_or rstat (is_live world ports f.node) _ refusal.WindowDeleted (refl, (refl, refl))
+stats : (server : ServerState) (o : Option Fid) → Plainly rstat (stat_fid server o)
+stats server None = tt
+stats server (Some f) =
+    done_or rstat (is_live (world_by server) server.plumber.names f.node) _ refusal.WindowDeleted (refl, (refl, refl))
 
 -- ---- a Twrite
 
@@ -197,9 +202,9 @@ pub record IsWriteBack (tables : Tables) (conn : ℕ) (body : TBody) (d : Reacti
   pub node : value.node ≡ nodes.File window file.Event
   pub asks : d ≡ demands (demand.WriteBack window bytes) (length bytes)
 
-module _ (tables : Tables) (conn fid offset : ℕ) (bytes : List ℕ) where
+module _ (server : ServerState) (fid offset : ℕ) (bytes : List ℕ) where
   abbrev Right : Reaction → Type 0
-  Right d = ((is_back d.demand ≡ false) ⊎ IsWriteBack tables conn (t.Write fid offset bytes) d) × Owns rwrite d.answer
+  Right d = ((is_back d.demand ≡ false) ⊎ IsWriteBack server.tables server.conn (t.Write fid offset bytes) d) × Owns rwrite d.answer
 
   abbrev Rightly : Result Reaction Refusal → Type 0
   Rightly (Ok d) = Right d
@@ -221,20 +226,24 @@ module _ (tables : Tables) (conn fid offset : ℕ) (bytes : List ℕ) where
   if_lives_plain None x h = tt
   if_lives_plain (Some w) x h = h
 
-  append_plain : (windows : List (Option Window)) (number w count : ℕ) (f : Fid) (decoded : Decoded) → Plainly rwrite (append_reaction windows number f w count decoded)
-  append_plain windows number w count f decoded =
+  append_plain : (windows : List (Option Window)) (asked : Twrite) (f : Fid) (w : ℕ) (decoded : Decoded)
+      → Plainly rwrite (append_reaction windows asked f w decoded)
+  append_plain windows asked f w decoded =
       if_lives_plain (window_at windows w) _ (done_or rwrite (fits_in (text_at windows w) decoded.text) _ refusal.TextTooLong (refl, (refl, refl)))
 
-  add_plain : (windows : List (Option Window)) (number w count : ℕ) (f : Fid) (decoded : Decoded) → Plainly rwrite (add_reaction windows number f w count decoded)
-  add_plain windows number w count f decoded =
+  add_plain : (windows : List (Option Window)) (asked : Twrite) (f : Fid) (w : ℕ) (decoded : Decoded)
+      → Plainly rwrite (add_reaction windows asked f w decoded)
+  add_plain windows asked f w decoded =
       if_lives_plain (window_at windows w) _ (done_or rwrite (fits_tag (right_of (window_at windows w)) decoded.text) _ refusal.TextTooLong (refl, (refl, refl)))
 
   or_errors_plain : (o : Option Refusal) (d : Reaction) → Plain rwrite d → Plainly rwrite (or_errors o d)
   or_errors_plain None d h = h
   or_errors_plain (Some x) d h = tt
 
-  errors_plain : (windows : List (Option Window)) (number count : ℕ) (name : List ℕ) (f : Fid) (decoded : Decoded) → Plainly rwrite (errors_reaction windows number f name count decoded)
-  errors_plain windows number count name f decoded = or_errors_plain (errors_refusal windows (named windows name) decoded.text) _ (refl, (refl, refl))
+  errors_plain : (windows : List (Option Window)) (asked : Twrite) (f : Fid) (name : List ℕ) (decoded : Decoded)
+      → Plainly rwrite (errors_reaction windows asked f name decoded)
+  errors_plain windows asked f name decoded =
+      or_errors_plain (errors_refusal windows (named windows name) decoded.text) _ (refl, (refl, refl))
 
   addr_set_plain : (w count : ℕ) (x : Result Range RangeFault) → Plainly rwrite (addr_or_refusal w count x)
   addr_set_plain w count (Ok range) = (refl, (refl, refl))
@@ -274,17 +283,21 @@ module _ (tables : Tables) (conn fid offset : ℕ) (bytes : List ℕ) where
   event_node (nodes.File v file.Tag) w e = absurd cc
   event_node (nodes.File v file.Xdata) w e = absurd cc
 
-  content_right : (windows : List (Option Window)) (f : Fid) (c : Content) → fid_of tables conn fid ≡ Some f → content_of f.node ≡ c → Rightly (write_content windows fid f bytes c)
+  abbrev this_write : Twrite
+  this_write = record { number = fid; bytes = bytes }
+
+  content_right : (windows : List (Option Window)) (f : Fid) (c : Content) → fid_by server fid ≡ Some f → content_of f.node ≡ c
+      → Rightly (write_content windows this_write f c)
   content_right windows f content.Directory there e = tt
-  content_right windows f (content.BodyText w) there e = plainly _ (append_plain windows fid w (length bytes) f (whole_runes f bytes))
-  content_right windows f (content.TagText w) there e = plainly _ (add_plain windows fid w (length bytes) f (whole_runes f bytes))
+  content_right windows f (content.BodyText w) there e = plainly _ (append_plain windows this_write f w (whole_runes f bytes))
+  content_right windows f (content.TagText w) there e = plainly _ (add_plain windows this_write f w (whole_runes f bytes))
   content_right windows f (content.CtlText w) there e = plainly _ (if_lives_plain (window_at windows w) _ (refl, (refl, refl)))
   content_right windows f (content.AddrText w) there e = plainly _ (addr_plain w (window_at windows w))
   content_right windows f (content.DataOf w) there e = plainly _ (taking_plain w (window_at windows w))
   content_right windows f (content.XdataOf w) there e = plainly _ (taking_plain w (window_at windows w))
   content_right windows f content.IndexText there e = tt
-  content_right windows f (content.ErrorsOf w) there e = plainly _ (errors_plain windows fid (length bytes) (errors_of (window_at windows w)) f (whole_runes f bytes))
-  content_right windows f content.ConsErrors there e = plainly _ (errors_plain windows fid (length bytes) root_errors f (whole_runes f bytes))
+  content_right windows f (content.ErrorsOf w) there e = plainly _ (errors_plain windows this_write f (errors_of (window_at windows w)) (whole_runes f bytes))
+  content_right windows f content.ConsErrors there e = plainly _ (errors_plain windows this_write f root_errors (whole_runes f bytes))
   content_right windows f content.Empty there e = (inl refl, (refl, refl))
   content_right windows f (content.EventsOf w) there e = if_lives_right (window_at windows w) _ (
     inr (record {
@@ -304,9 +317,11 @@ module _ (tables : Tables) (conn fid offset : ℕ) (bytes : List ℕ) where
   content_right windows f content.RulesText there e = (inl refl, (refl, refl))
   content_right windows f (content.PortOf k) there e = tt
 
-  write_right : (world : World) (windows : List (Option Window)) (ports : List (List ℕ)) (o : Option Fid) → fid_of tables conn fid ≡ o → Rightly (write_fid world windows ports fid bytes o)
-  write_right world windows ports None there = tt
-  write_right world windows ports (Some f) there = or_reads_right (use_refusal world ports f is_for_writing) _ (content_right windows f (content_of f.node) there refl)
+  write_right : (o : Option Fid) → fid_by server fid ≡ o → Rightly (write_fid server this_write o)
+  write_right None there = tt
+  write_right (Some f) there =
+      or_reads_right (use_refusal (world_by server) server.plumber.names f is_for_writing) _
+      (content_right server.windows f (content_of f.node) there refl)
 
 -- ---- all messages
 
@@ -315,9 +330,9 @@ abbrev pub IsExact : TBody → Option Refusal → Answer → Type 0
 IsExact body (Some x) a = a ≡ Says (r.Error (refusal_text x))
 IsExact body None a = Owns (kind_t body + 1) a
 
-module _ (tables : Tables) (conn : ℕ) where
+module _ (server : ServerState) where
   abbrev pub Sound : TBody → Option Refusal → Reaction → Type 0
-  Sound body o d = ((is_back d.demand ≡ false) ⊎ IsWriteBack tables conn body d) × IsExact body o d.answer
+  Sound body o d = ((is_back d.demand ≡ false) ⊎ IsWriteBack server.tables server.conn body d) × IsExact body o d.answer
 
   abbrev Soundly : TBody → Option Refusal → Result Reaction Refusal → Type 0
   Soundly body o (Ok d) = Sound body o d
@@ -327,7 +342,7 @@ module _ (tables : Tables) (conn : ℕ) where
   soundly body (Ok d) h = (inl h.0, h.1)
   soundly body (Err x) h = refl
 
-  written : (fid offset : ℕ) (bytes : List ℕ) (x : Result Reaction Refusal) → Rightly tables conn fid offset bytes x → Soundly (t.Write fid offset bytes) (refused x) x
+  written : (fid offset : ℕ) (bytes : List ℕ) (x : Result Reaction Refusal) → Rightly server fid offset bytes x → Soundly (t.Write fid offset bytes) (refused x) x
   written fid offset bytes (Ok d) h = h
   written fid offset bytes (Err x) h = refl
 
@@ -345,23 +360,24 @@ module _ (tables : Tables) (conn : ℕ) where
   versioned msize version true = (inl refl, refl)
   versioned msize version false = agrees msize (min msize 65560) version (is_version version)
 
-  served : (world : World) (windows : List (Option Window)) (plumber : Plumber) (openings : ℕ) (body : TBody)
-      → Soundly body (session_refusal tables world windows plumber openings conn body) (session_reaction tables world windows plumber openings conn body)
-  served world windows plumber openings (t.Version msize version) = versioned msize version (nat_lt msize 256)
-  served world windows plumber openings (t.Auth afid uname aname) = refl
-  served world windows plumber openings (t.Flush oldtag) = (inl refl, (refl, refl))
-  served world windows plumber openings (t.Attach fid afid uname aname) = soundly (t.Attach fid afid uname aname) _ (attaches fid aname (attach_refusal tables conn fid afid))
-  served world windows plumber openings (t.Walk fid newfid names) = soundly (t.Walk fid newfid names) _ (walks tables world plumber.names conn fid newfid names (fid_of tables conn fid))
-  served world windows plumber openings (t.Open fid mode) = soundly (t.Open fid mode) _ (opens tables world plumber openings fid mode (fid_of tables conn fid))
-  served world windows plumber openings (t.Create fid name perm mode) = soundly (t.Create fid name perm mode) _ (denied rcreate (fid_of tables conn fid))
-  served world windows plumber openings (t.Read fid offset count) =
-      soundly (t.Read fid offset count) _ (reads world windows plumber fid offset (most count (msize_of tables conn)) (fid_of tables conn fid))
-  served world windows plumber openings (t.Write fid offset bytes) =
-      written fid offset bytes (write_fid world windows plumber.names fid bytes (fid_of tables conn fid)) (write_right tables conn fid offset bytes world windows plumber.names (fid_of tables conn fid) refl)
-  served world windows plumber openings (t.Clunk fid) = soundly (t.Clunk fid) _ (clunks fid (fid_of tables conn fid))
-  served world windows plumber openings (t.Remove fid) = removed fid (fid_of tables conn fid)
-  served world windows plumber openings (t.Stat fid) = soundly (t.Stat fid) _ (stats world plumber.names (fid_of tables conn fid))
-  served world windows plumber openings (t.Wstat fid stat) = soundly (t.Wstat fid stat) _ (denied rwstat (fid_of tables conn fid))
+  answered : (body : TBody) → Soundly body (session_refusal server body) (session_reaction server body)
+  answered (t.Version msize version) = versioned msize version (nat_lt msize 256)
+  answered (t.Auth afid uname aname) = refl
+  answered (t.Flush oldtag) = (inl refl, (refl, refl))
+  answered (t.Attach fid afid uname aname) = soundly (t.Attach fid afid uname aname) _ (attaches fid aname (attach_refusal server fid afid))
+  answered (t.Walk fid newfid names) = soundly (t.Walk fid newfid names) _ (walks server fid newfid names (fid_by server fid))
+  answered (t.Open fid mode) = soundly (t.Open fid mode) _ (opens server fid mode (fid_by server fid))
+  answered (t.Create fid name perm mode) = soundly (t.Create fid name perm mode) _ (denied rcreate (fid_by server fid))
+  answered (t.Read fid offset count) =
+      soundly (t.Read fid offset count) _
+      (reads server (lowered server (record { number = fid; offset = offset; count = count })) (fid_by server fid))
+  answered (t.Write fid offset bytes) =
+      written fid offset bytes (write_fid server (record { number = fid; bytes = bytes }) (fid_by server fid))
+      (write_right server fid offset bytes (fid_by server fid) refl)
+  answered (t.Clunk fid) = soundly (t.Clunk fid) _ (clunks fid (fid_by server fid))
+  answered (t.Remove fid) = removed fid (fid_by server fid)
+  answered (t.Stat fid) = soundly (t.Stat fid) _ (stats server (fid_by server fid))
+  answered (t.Wstat fid stat) = soundly (t.Wstat fid stat) _ (denied rwstat (fid_by server fid))
 
   settled : (body : TBody) (o : Option Refusal) (x : Result Reaction Refusal) → Soundly body o x → Sound body o (reaction_or_refusal x)
   settled body o (Ok d) h = h
@@ -373,8 +389,7 @@ module _ (tables : Tables) (conn : ℕ) where
   first_or body o false d h = h
 
   -- A reaction asks for an item only where its message is such a Twrite; and it answers the refusal, where there is one.
-  pub reaction_sound : (windows : List (Option Window)) (plumber : Plumber) (openings : ℕ) (body : TBody)
-      → Sound body (cond (comes_first tables conn body) (Some refusal.VersionFirst) (session_refusal tables (world_of windows) windows plumber openings conn body)) (reaction tables windows plumber openings conn body)
-  reaction_sound windows plumber openings body =
-      first_or body _ (comes_first tables conn body) _
-      (settled body _ (session_reaction tables (world_of windows) windows plumber openings conn body) (served (world_of windows) windows plumber openings body))
+  pub reaction_sound : (body : TBody)
+      → Sound body (cond (comes_first server body) (Some refusal.VersionFirst) (session_refusal server body)) (reaction server body)
+  reaction_sound body =
+      first_or body _ (comes_first server body) _ (settled body _ (session_reaction server body) (answered body))

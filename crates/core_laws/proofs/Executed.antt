@@ -14,9 +14,10 @@ use Rattle.core_scene.specs.declared.deed.Entry.{Entry}
 use Rattle.core_scene.specs.Scenes.{SceneState}
 use Rattle.core_actions.specs.declared.undoing.Move.{Move}
 use Rattle.core_actions.specs.Undoing.{move_deeds}
-use Rattle.core_exec.specs.Acting.{action_of, act_on_deeds, back_deeds}
-use Rattle.core_exec.specs.Clicks.{argument_if_any, clicked_at, own_text, text_if_any}
+use Rattle.core_exec.specs.Acting.{action_of, act_on_deeds, back_deeds, executed_of}
+use Rattle.core_exec.specs.Clicks.{argument_if_any, clicked_at, own_text}
 use Rattle.core_exec.specs.Executing.{exec_deeds}
+use Rattle.core_exec.specs.declared.running.Executed.{Executed}
 use Rattle.core_tasks.specs.Tasks.{task_deeds}
 use Rattle.core_intents.specs.Doings.{entry_by}
 use Rattle.acme_core.specs.Run.{present_after}
@@ -26,28 +27,29 @@ use Rattle.core_laws.specs.WriteBacks.{numbered}
 use Rattle.core_laws.proofs.Moves.{clicked_moves, command_moves}
 use Rattle.core_laws.proofs.WriteBacks.{IsBackBy, back_by}
 
-exec_action : (e : Entry) (w : ℕ) (x : Sort) (text : List ℕ) (chord : Option (List ℕ)) (s : SceneState) → is_exec x ≡ true → action_of e w x text chord s ≡ exec_deeds e w text chord s
-exec_action e w sort.BodyExec text chord s is = refl
-exec_action e w sort.TagExec text chord s is = refl
-exec_action e w sort.BodyDel text chord s is = absurd cc
-exec_action e w sort.TagDel text chord s is = absurd cc
-exec_action e w sort.BodyIns text chord s is = absurd cc
-exec_action e w sort.TagIns text chord s is = absurd cc
-exec_action e w sort.BodyLook text chord s is = absurd cc
-exec_action e w sort.TagLook text chord s is = absurd cc
+exec_action : (e : Entry) (w : ℕ) (kind : Sort) (x : Executed) (s : SceneState) → is_exec kind ≡ true
+    → action_of e w kind x s ≡ exec_deeds e w x s
+exec_action e w sort.BodyExec x s is = refl
+exec_action e w sort.TagExec x s is = refl
+exec_action e w sort.BodyDel x s is = absurd cc
+exec_action e w sort.TagDel x s is = absurd cc
+exec_action e w sort.BodyIns x s is = absurd cc
+exec_action e w sort.TagIns x s is = absurd cc
+exec_action e w sort.BodyLook x s is = absurd cc
+exec_action e w sort.TagLook x s is = absurd cc
 
-text_moves : (e : Entry) (w : ℕ) (text : List ℕ) (chord : Option (List ℕ)) (m : Move) (r : Range) (s : SceneState) → classified text ≡ command.Builtin (builtin_of m) r
-    → exec_deeds e w text chord s ≡ move_deeds m w s
+text_moves : (e : Entry) (w : ℕ) (x : Executed) (m : Move) (r : Range) (s : SceneState)
+    → classified x.text ≡ command.Builtin (builtin_of m) r → exec_deeds e w x s ≡ move_deeds m w s
 unfolding exec_deeds
-text_moves e w text chord m r s is = command_moves e w text chord (classified text) m r s is
+text_moves e w x m r s is = command_moves e w x (classified x.text) m r s is
 
 -- an item that is acted on
 item_moves : (e : Entry) (w n : ℕ) (item : Item) (m : Move) (r : Range) (s : SceneState) → item_of s.book w n ≡ Some item → is_exec item.sort ≡ true
     → classified (own_text item.text item.expanded) ≡ command.Builtin (builtin_of m) r → act_on_deeds e w n s ≡ move_deeds m w s
 item_moves e w n item m r s found exec is =
     ap (λ (o : Option Item). back_deeds e w o s) found
-    ∙ exec_action e w item.sort (own_text item.text item.expanded) (text_if_any item.argument) s exec
-    ∙ text_moves e w (own_text item.text item.expanded) (text_if_any item.argument) m r s is
+    ∙ exec_action e w item.sort (executed_of item) s exec
+    ∙ text_moves e w (executed_of item) m r s is
 
 back_moves : (before : List Event) (e : Event) (w n : ℕ) (item : Item) (m : Move) (r : Range) → written_by before e ≡ Some (numbered w n) → item_of (present_after before).scene.book w n ≡ Some item
     → is_exec item.sort ≡ true → classified (own_text item.text item.expanded) ≡ command.Builtin (builtin_of m) r → IsMove before e m w

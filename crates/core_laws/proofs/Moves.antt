@@ -30,6 +30,7 @@ use Rattle.core_actions.specs.Undoing.{next_group, moves, is_number, moves_from,
 use Rattle.core_exec.specs.declared.click.Clicked.{Clicked}
 use Rattle.core_exec.specs.Clicks.{own_text, text_if_any}
 use Rattle.core_exec.specs.Executing.{builtin_deeds, command_deeds, exec_deeds}
+use Rattle.core_exec.specs.declared.running.Executed.{Executed}
 use Rattle.core_exec.specs.Acting.{exec_click, exec_clicked}
 use Rattle.core_intents.specs.Doings.{doing_of}
 use Rattle.acme_core.specs.Run.{step, run, IsPossible}
@@ -120,17 +121,17 @@ moves_whole show journal all before behind e m w is moved =
 
 -- ---- an executed move is one
 
-pub command_moves : (e : Entry) (w : ℕ) (text : List ℕ) (chord : Option (List ℕ)) (c : Command) (m : Move) (r : Range) (s : SceneState) → c ≡ command.Builtin (builtin_of m) r
-    → command_deeds e w text chord c s ≡ move_deeds m w s
+pub command_moves : (e : Entry) (w : ℕ) (x : Executed) (c : Command) (m : Move) (r : Range) (s : SceneState)
+    → c ≡ command.Builtin (builtin_of m) r → command_deeds e w x c s ≡ move_deeds m w s
 unfolding command_deeds builtin_deeds
-command_moves e w text chord c move.Undo r s is = ap (λ (x : Command). command_deeds e w text chord x s) is
-command_moves e w text chord c move.Redo r s is = ap (λ (x : Command). command_deeds e w text chord x s) is
+command_moves e w x c move.Undo r s is = ap (λ (y : Command). command_deeds e w x y s) is
+command_moves e w x c move.Redo r s is = ap (λ (y : Command). command_deeds e w x y s) is
 
 click_moves : (e : Entry) (at : Spot) (argument : Option (List ℕ × List ℕ)) (c : Clicked) (m : Move) (r : Range) (s : SceneState) → is_open_window s.book at.window ≡ false
     → classified (own_text c.text c.expanded) ≡ command.Builtin (builtin_of m) r → exec_click e at argument c s ≡ move_deeds m at.window s
 unfolding exec_click exec_deeds
 click_moves e at argument c m r s closed is =
-    rw closed (command_moves e at.window (own_text c.text c.expanded) (text_if_any argument) (classified (own_text c.text c.expanded)) m r s is)
+    rw closed (command_moves e at.window (record { text = own_text c.text c.expanded; chord = text_if_any argument }) (classified (own_text c.text c.expanded)) m r s is)
 
 -- of an Exec with this argument
 pub clicked_moves : (e : Entry) (at : Spot) (argument : Option (List ℕ × List ℕ)) (o : Option Clicked) (c : Clicked) (m : Move) (r : Range) (s : SceneState) → is_open_window s.book at.window ≡ false

@@ -14,12 +14,12 @@ use Rattle.acme_tree.specs.declared.node.Node.TheVariants as node
 use Rattle.acme_tree.specs.declared.node.WinFile.TheVariants as file
 use Rattle.acme_tree.specs.declared.node.World.{World}
 use Rattle.fid_table.specs.declared.types.Fid.{Fid}
-use Rattle.fid_table.specs.Tables.{Tables, fid_of, msize_of}
+use Rattle.fid_table.specs.Tables.{Tables, fid_of}
 use Rattle.core_addresses.specs.Data.{data_taken}
 use Rattle.core_addresses.specs.Ranges.{address_range}
 use Rattle.core_addresses.specs.declared.data.Taken.{Taken}
 use Rattle.core_addresses.specs.declared.fault.RangeFault.{RangeFault}
-use Rattle.core_windows.specs.Windows.{Window, window_at, named, world_of}
+use Rattle.core_windows.specs.Windows.{Window, window_at, named}
 use Rattle.core_fids.specs.declared.content.Content.{Content}
 use Rattle.core_fids.specs.declared.content.Content.TheVariants as content
 use Rattle.core_fids.specs.declared.effect.Answer.{Answer}
@@ -43,12 +43,13 @@ use Rattle.core_fids.specs.Fids.{at_event, at_port, event_opening, port_opening,
 use Rattle.core_fids.specs.Opening.{first_refusal, content_refusal, opening_events, opening_of, open_refusal, or_opens, open_fid, denial, clunk_fid, remove_fid}
 use Rattle.core_fids.specs.Plainly.{does}
 use Rattle.core_fids.specs.Plumbers.{Plumber}
-use Rattle.core_fids.specs.Directories.{place_at, read_dir, stat_fid}
-use Rattle.core_answers.specs.Reading.{read_opening, read_port, read_content, use_refusal, or_reads, most, read_fid}
+use Rattle.core_fids.specs.Servers.{ServerState, world_by, fid_by}
+use Rattle.core_fids.specs.Directories.{Tread, place_at, read_dir, stat_fid}
+use Rattle.core_answers.specs.Reading.{read_opening, read_port, read_content, use_refusal, or_reads, lowered, read_fid}
 use Rattle.core_fids.specs.Refusals.{refusal_with_effect, reaction_or_refusal}
 use Rattle.core_answers.specs.Texts.{text_at, right_of}
 use Rattle.core_fids.specs.Walking.{course, new_refusal, walk_refusal, arrives_at, or_walks, walk_from}
-use Rattle.core_answers.specs.Writing.{if_lives, append_reaction, add_reaction, or_errors, errors_reaction, write_content, write_fid}
+use Rattle.core_answers.specs.Writing.{Twrite, if_lives, append_reaction, add_reaction, or_errors, errors_reaction, write_content, write_fid}
 
 -- a fid that isn't open has no opening
 abbrev pub IsModed : Fid → Type 0
@@ -180,37 +181,37 @@ abbrev pub OpensNew : (EventChange → Fid → Type 0) → World → Plumber →
 OpensNew New world plumber openings = (f : Fid) (mode : ℕ) → is_live world plumber.names f.node ≡ true → content_refusal plumber openings (content_of f.node) ≡ None
     → New (opening_events (content_of f.node)) (opened_fid f mode (opening_of plumber openings (content_of f.node)))
 
-module _ (New : EventChange → Fid → Type 0) (tables : Tables) (conn : ℕ) (moded : (number : ℕ) (f : Fid) → fid_of tables conn number ≡ Some f → IsModed f) where
+module _ (New : EventChange → Fid → Type 0) (server : ServerState) (moded : (number : ℕ) (f : Fid) → fid_by server number ≡ Some f → IsModed f) where
   abbrev Sane : Result Reaction Refusal → Type 0
-  Sane (Ok d) = IsSane New tables conn d
+  Sane (Ok d) = IsSane New server.tables server.conn d
   Sane (Err x) = Unit {0}
 
-  one_of : (b : Bool) (d e : Reaction) → IsSane New tables conn d → IsSane New tables conn e → IsSane New tables conn (cond b d e)
+  one_of : (b : Bool) (d e : Reaction) → IsSane New server.tables server.conn d → IsSane New server.tables server.conn e → IsSane New server.tables server.conn (cond b d e)
   one_of true d e g h = g
   one_of false d e g h = h
 
-  done_or : (b : Bool) (d : Reaction) (x : Refusal) → IsSane New tables conn d → Sane (cond b (Ok d) (Err x))
+  done_or : (b : Bool) (d : Reaction) (x : Refusal) → IsSane New server.tables server.conn d → Sane (cond b (Ok d) (Err x))
   done_or true d x h = h
   done_or false d x h = tt
 
-  or_done : (b : Bool) (x : Refusal) (d : Reaction) → IsSane New tables conn d → Sane (cond b (Err x) (Ok d))
+  or_done : (b : Bool) (x : Refusal) (d : Reaction) → IsSane New server.tables server.conn d → Sane (cond b (Err x) (Ok d))
   or_done true x d h = tt
   or_done false x d h = h
 
   -- ---- fids that are put
 
   -- a fid with what the one in its place had
-  put_again : {e : EventChange} (number : ℕ) (f value : Fid) → fid_of tables conn number ≡ Some f → value.mode ≡ f.mode → value.opening ≡ f.opening → value.node ≡ f.node → IsPut (New e) tables conn number value
+  put_again : {e : EventChange} (number : ℕ) (f value : Fid) → fid_by server number ≡ Some f → value.mode ≡ f.mode → value.opening ≡ f.opening → value.node ≡ f.node → IsPut (New e) server.tables server.conn number value
   put_again number f value is mode opening node = record {
     from = λ o opens. inl (f, is, opening, node);
     moded = λ e. opening ∙ moded number f is (sym mode ∙ e);
-    keeps = λ g o there opens. let same : f ≡ g = same_some (fid_of tables conn number) f g is there in
+    keeps = λ g o there opens. let same : f ≡ g = same_some (fid_by server number) f g is there in
         (opening ∙ ap (λ (x : Fid). x.opening) same ∙ opens, node ∙ ap (λ (x : Fid). x.node) same);
   }
 
   -- a fid where none with an opening stands
-  put_new : {e : EventChange} (number : ℕ) (value : Fid) → IsModed value → ((f : Fid) → fid_of tables conn number ≡ Some f → f.opening ≡ None)
-      → ((o : ℕ) → value.opening ≡ Some o → New e value) → IsPut (New e) tables conn number value
+  put_new : {e : EventChange} (number : ℕ) (value : Fid) → IsModed value → ((f : Fid) → fid_by server number ≡ Some f → f.opening ≡ None)
+      → ((o : ℕ) → value.opening ≡ Some o → New e value) → IsPut (New e) server.tables server.conn number value
   put_new number value own none new = record {
     moded = own;
     from = λ o opens. inr (new o opens);
@@ -218,31 +219,31 @@ module _ (New : EventChange → Fid → Type 0) (tables : Tables) (conn : ℕ) (
   }
 
   -- a number that isn't in use
-  unused : (number : ℕ) → is_used tables conn number ≡ false → (f : Fid) → fid_of tables conn number ≡ Some f → f.opening ≡ None
-  unused number e f is = absurd (not_there (fid_of tables conn number) f e is)
+  unused : (number : ℕ) → is_used server.tables server.conn number ≡ false → (f : Fid) → fid_by server number ≡ Some f → f.opening ≡ None
+  unused number e f is = absurd (not_there (fid_by server number) f e is)
 
   -- a fid that isn't open
-  closed : (number : ℕ) (f : Fid) → fid_of tables conn number ≡ Some f → is_open f ≡ false → (g : Fid) → fid_of tables conn number ≡ Some g → g.opening ≡ None
+  closed : (number : ℕ) (f : Fid) → fid_by server number ≡ Some f → is_open f ≡ false → (g : Fid) → fid_by server number ≡ Some g → g.opening ≡ None
   closed number f is e g there =
-      ap (λ (x : Fid). x.opening) (same_some (fid_of tables conn number) g f there is) ∙ moded number f is (none_there f.mode e)
+      ap (λ (x : Fid). x.opening) (same_some (fid_by server number) g f there is) ∙ moded number f is (none_there f.mode e)
 
   -- ---- message by message
 
-  version_sane : (msize : ℕ) (version : List ℕ) → IsSane New tables conn (version_reaction msize version)
+  version_sane : (msize : ℕ) (version : List ℕ) → IsSane New server.tables server.conn (version_reaction msize version)
   version_sane msize version =
       one_of (nat_lt msize 256) (refusal_with_effect (effect.Begins None) refusal.MsizeTooSmall) (agreement (min msize 65560) version) (tt, tt)
       (one_of (is_version version) (does (effect.Begins (Some (min msize 65560))) [] (r.Version (min msize 65560) (codes "9P2000")))
       (does (effect.Begins None) [] (r.Version (min msize 65560) (codes "unknown"))) (tt, tt) (tt, tt))
 
-  attaches_at : (fid : ℕ) (o : Option Node) → is_used tables conn fid ≡ false → Sane (attach_to fid o)
+  attaches_at : (fid : ℕ) (o : Option Node) → is_used server.tables server.conn fid ≡ false → Sane (attach_to fid o)
   attaches_at fid None e = tt
   attaches_at fid (Some node) e = (put_new fid _ (λ h. refl) (unused fid e) (λ o h. absurd cc), tt)
 
-  attaches : (fid afid : ℕ) (aname : List ℕ) (o : Option Refusal) → attach_refusal tables conn fid afid ≡ o → Sane (or_attaches o fid aname)
-  attaches fid afid aname None e = attaches_at fid (root_of aname) (second_false _ (is_used tables conn fid) _ _ _ e)
+  attaches : (fid afid : ℕ) (aname : List ℕ) (o : Option Refusal) → attach_refusal server fid afid ≡ o → Sane (or_attaches o fid aname)
+  attaches fid afid aname None e = attaches_at fid (root_of aname) (second_false _ (is_used server.tables server.conn fid) _ _ _ e)
   attaches fid afid aname (Some x) e = tt
 
-  arrives_sane : (newfid : ℕ) (world : World) (qids : List Qid) (e : WalkEnd) → ((f : Fid) → fid_of tables conn newfid ≡ Some f → f.opening ≡ None) → Sane (arrives_at newfid world qids e)
+  arrives_sane : (newfid : ℕ) (world : World) (qids : List Qid) (e : WalkEnd) → ((f : Fid) → fid_by server newfid ≡ Some f → f.opening ≡ None) → Sane (arrives_at newfid world qids e)
   arrives_sane newfid world qids (end.At node) none = (put_new newfid _ (λ h. refl) none (λ o h. absurd cc), tt)
   arrives_sane newfid world qids (end.Makes file) none = (put_new newfid _ (λ h. refl) none (λ o h. absurd cc), tt)
   arrives_sane newfid world qids (end.Stops x) none = or_done (length qids == 0) x (does effect.Nothing [] (r.Walk qids)) (tt, tt)
@@ -251,35 +252,38 @@ module _ (New : EventChange → Fid → Type 0) (tables : Tables) (conn : ℕ) (
   or_walks_sane None x h = h refl
   or_walks_sane (Some y) x h = tt
 
-  walk_free : (number newfid : ℕ) (f : Fid) → fid_of tables conn number ≡ Some f → walk_refusal tables conn number newfid f ≡ None
-      → (g : Fid) → fid_of tables conn newfid ≡ Some g → g.opening ≡ None
+  walk_free : (number newfid : ℕ) (f : Fid) → fid_by server number ≡ Some f → walk_refusal server number newfid f ≡ None
+      → (g : Fid) → fid_by server newfid ≡ Some g → g.opening ≡ None
   walk_free number newfid f is =
       elim (eqb newfid number) as (λ b. eqb newfid number ≡ b
-      → cond b (cond (is_open f) (Some refusal.FidIsOpen) None) (new_refusal tables conn newfid f) ≡ None → (g : Fid) → fid_of tables conn newfid ≡ Some g → g.opening ≡ None) [
+      → cond b (cond (is_open f) (Some refusal.FidIsOpen) None) (new_refusal server newfid f) ≡ None → (g : Fid) → fid_by server newfid ≡ Some g → g.opening ≡ None) [
         | true ↦ λ same e. let at : newfid ≡ number = eqb-true newfid number same in
-            subst (λ (k : ℕ). (g : Fid) → fid_of tables conn k ≡ Some g → g.opening ≡ None) (sym at) (closed number f is (first_false (is_open f) _ _ e))
-        | false ↦ λ apart e. unused newfid (second_false _ (is_used tables conn newfid) _ _ _ e)
+            subst (λ (k : ℕ). (g : Fid) → fid_by server k ≡ Some g → g.opening ≡ None) (sym at) (closed number f is (first_false (is_open f) _ _ e))
+        | false ↦ λ apart e. unused newfid (second_false _ (is_used server.tables server.conn newfid) _ _ _ e)
       ] refl
 
-  walk_sane : (world : World) (ports : List (List ℕ)) (number newfid : ℕ) (names : List (List ℕ)) (o : Option Fid) → fid_of tables conn number ≡ o
-      → Sane (walk_from tables world ports conn number newfid names o)
-  walk_sane world ports number newfid names None is = tt
-  walk_sane world ports number newfid names (Some f) is =
-      or_walks_sane (walk_refusal tables conn number newfid f) _
-      (λ e. arrives_sane newfid world (course world ports f.node names).qids (course world ports f.node names).end (walk_free number newfid f is e))
+  walk_sane : (number newfid : ℕ) (names : List (List ℕ)) (o : Option Fid) → fid_by server number ≡ o
+      → Sane (walk_from server number newfid names o)
+  walk_sane number newfid names None is = tt
+  walk_sane number newfid names (Some f) is =
+      let led = course (world_by server) server.plumber.names f.node names in
+      or_walks_sane (walk_refusal server number newfid f) _
+      (λ e. arrives_sane newfid (world_by server) led.qids led.end (walk_free number newfid f is e))
 
-  opens_sane : (world : World) (plumber : Plumber) (openings number mode : ℕ) (f : Fid) (o : Option Refusal) → OpensNew New world plumber openings → fid_of tables conn number ≡ Some f
-      → open_refusal world plumber openings f mode ≡ o → Sane (or_opens tables plumber o openings number f mode)
-  opens_sane world plumber openings number mode f None news is e =
-      let live : is_live world plumber.names f.node ≡ true = not-false (is_live world plumber.names f.node) (first_false (not (is_live world plumber.names f.node)) _ _ e) in
-      let counted : content_refusal plumber openings (content_of f.node) ≡ None = third_none _ (is_open f) _ _ _ (content_refusal plumber openings (content_of f.node)) e in
+  abbrev News : Type 0
+  News = OpensNew New (world_by server) server.plumber server.openings
+
+  opens_sane : (o : Option Refusal) (number : ℕ) (f : Fid) (mode : ℕ) → News → fid_by server number ≡ Some f
+      → open_refusal server f mode ≡ o → Sane (or_opens o server number f mode)
+  opens_sane None number f mode news is e =
+      let live : is_live (world_by server) server.plumber.names f.node ≡ true = not-false _ (first_false (not (is_live (world_by server) server.plumber.names f.node)) _ _ e) in
+      let counted : content_refusal server.plumber server.openings (content_of f.node) ≡ None = third_none _ (is_open f) _ _ _ (content_refusal server.plumber server.openings (content_of f.node)) e in
       (put_new number _ (λ h. absurd cc) (closed number f is (second_false _ (is_open f) _ _ _ e)) (λ o h. news f mode live counted), tt)
-  opens_sane world plumber openings number mode f (Some x) news is e = tt
+  opens_sane (Some x) number f mode news is e = tt
 
-  open_sane : (world : World) (plumber : Plumber) (openings number mode : ℕ) (o : Option Fid) → OpensNew New world plumber openings → fid_of tables conn number ≡ o
-      → Sane (open_fid tables world plumber openings number mode o)
-  open_sane world plumber openings number mode None news is = tt
-  open_sane world plumber openings number mode (Some f) news is = opens_sane world plumber openings number mode f (open_refusal world plumber openings f mode) news is refl
+  open_sane : (number mode : ℕ) (o : Option Fid) → News → fid_by server number ≡ o → Sane (open_fid server number o mode)
+  open_sane number mode None news is = tt
+  open_sane number mode (Some f) news is = opens_sane (open_refusal server f mode) number f mode news is refl
 
   denied_sane : (o : Option Fid) → Sane (denial o)
   denied_sane None = tt
@@ -289,70 +293,75 @@ module _ (New : EventChange → Fid → Type 0) (tables : Tables) (conn : ℕ) (
   or_reads_sane None x h = h
   or_reads_sane (Some y) x h = tt
 
-  read_dir_sane : (world : World) (ports : List (List ℕ)) (number offset count : ℕ) (f : Fid) (o : Option ℕ) → fid_of tables conn number ≡ Some f → Sane (read_dir world ports number f offset count o)
-  read_dir_sane world ports number offset count f None is = tt
-  read_dir_sane world ports number offset count f (Some skip) is = (put_again number f _ is refl refl refl, tt)
+  read_dir_sane : (asked : Tread) (f : Fid) (o : Option ℕ) → fid_by server asked.number ≡ Some f → Sane (read_dir server asked f o)
+  read_dir_sane asked f None is = tt
+  read_dir_sane asked f (Some skip) is = (put_again asked.number f _ is refl refl refl, tt)
 
-  read_opening_sane : (number count : ℕ) (f : Fid) (o : Option ℕ) → fid_of tables conn number ≡ Some f → event_opening f ≡ o → Sane (read_opening number count o)
-  read_opening_sane number count f None is e = tt
-  read_opening_sane number count f (Some opening) is e = (tt, (refl, record { fid = f; is = is; opens = e }, refl, refl, refl))
+  read_opening_sane : (asked : Tread) (f : Fid) (o : Option ℕ) → fid_by server asked.number ≡ Some f → event_opening f ≡ o
+      → Sane (read_opening asked o)
+  read_opening_sane asked f None is e = tt
+  read_opening_sane asked f (Some opening) is e = (tt, (refl, record { fid = f; is = is; opens = e }, refl, refl, refl))
 
-  read_port_sane : (number count : ℕ) (f : Fid) (o : Option ℕ) → fid_of tables conn number ≡ Some f → port_opening f ≡ o → Sane (read_port number count o)
-  read_port_sane number count f None is e = tt
-  read_port_sane number count f (Some opening) is e = (tt, (refl, record { fid = f; is = is; opens = e }, refl, refl, refl))
+  read_port_sane : (asked : Tread) (f : Fid) (o : Option ℕ) → fid_by server asked.number ≡ Some f → port_opening f ≡ o
+      → Sane (read_port asked o)
+  read_port_sane asked f None is e = tt
+  read_port_sane asked f (Some opening) is e = (tt, (refl, record { fid = f; is = is; opens = e }, refl, refl, refl))
 
-  data_sane : (w count : ℕ) (o : Option Window) → IsSane New tables conn (data_reaction w count o)
+  data_sane : (w count : ℕ) (o : Option Window) → IsSane New server.tables server.conn (data_reaction w count o)
   data_sane w count None = (tt, tt)
   data_sane w count (Some window) = (tt, tt)
 
-  xdata_sane : (w count : ℕ) (o : Option Window) → IsSane New tables conn (xdata_reaction w count o)
+  xdata_sane : (w count : ℕ) (o : Option Window) → IsSane New server.tables server.conn (xdata_reaction w count o)
   xdata_sane w count None = (tt, tt)
   xdata_sane w count (Some window) = (tt, tt)
 
-  read_content_sane : (world : World) (windows : List (Option Window)) (plumber : Plumber) (number offset count : ℕ) (f : Fid) (c : Content) → fid_of tables conn number ≡ Some f
-      → Sane (read_content world windows plumber number f offset count c)
-  read_content_sane world windows plumber number offset count f content.Directory is = read_dir_sane world plumber.names number offset count f (place_at f offset) is
-  read_content_sane world windows plumber number offset count f (content.BodyText w) is = (tt, tt)
-  read_content_sane world windows plumber number offset count f (content.TagText w) is = (tt, tt)
-  read_content_sane world windows plumber number offset count f (content.CtlText w) is = (tt, tt)
-  read_content_sane world windows plumber number offset count f (content.AddrText w) is = (tt, tt)
-  read_content_sane world windows plumber number offset count f (content.DataOf w) is = data_sane w count (window_at windows w)
-  read_content_sane world windows plumber number offset count f (content.XdataOf w) is = xdata_sane w count (window_at windows w)
-  read_content_sane world windows plumber number offset count f content.IndexText is = (tt, tt)
-  read_content_sane world windows plumber number offset count f (content.ErrorsOf w) is = tt
-  read_content_sane world windows plumber number offset count f content.ConsErrors is = (tt, tt)
-  read_content_sane world windows plumber number offset count f content.Empty is = (tt, tt)
-  read_content_sane world windows plumber number offset count f (content.EventsOf w) is = read_opening_sane number count f (event_opening f) is refl
-  read_content_sane world windows plumber number offset count f content.SendText is = tt
-  read_content_sane world windows plumber number offset count f content.RulesText is = (tt, tt)
-  read_content_sane world windows plumber number offset count f (content.PortOf k) is = read_port_sane number count f (port_opening f) is refl
+  read_content_sane : (asked : Tread) (f : Fid) (c : Content) → fid_by server asked.number ≡ Some f → Sane (read_content server asked f c)
+  read_content_sane asked f content.Directory is = read_dir_sane asked f (place_at f asked.offset) is
+  read_content_sane asked f (content.BodyText w) is = (tt, tt)
+  read_content_sane asked f (content.TagText w) is = (tt, tt)
+  read_content_sane asked f (content.CtlText w) is = (tt, tt)
+  read_content_sane asked f (content.AddrText w) is = (tt, tt)
+  read_content_sane asked f (content.DataOf w) is = data_sane w asked.count (window_at server.windows w)
+  read_content_sane asked f (content.XdataOf w) is = xdata_sane w asked.count (window_at server.windows w)
+  read_content_sane asked f content.IndexText is = (tt, tt)
+  read_content_sane asked f (content.ErrorsOf w) is = tt
+  read_content_sane asked f content.ConsErrors is = (tt, tt)
+  read_content_sane asked f content.Empty is = (tt, tt)
+  read_content_sane asked f (content.EventsOf w) is = read_opening_sane asked f (event_opening f) is refl
+  read_content_sane asked f content.SendText is = tt
+  read_content_sane asked f content.RulesText is = (tt, tt)
+  read_content_sane asked f (content.PortOf k) is = read_port_sane asked f (port_opening f) is refl
 
-  read_sane : (world : World) (windows : List (Option Window)) (plumber : Plumber) (number offset count : ℕ) (o : Option Fid) → fid_of tables conn number ≡ o
-      → Sane (read_fid world windows plumber number offset count o)
-  read_sane world windows plumber number offset count None is = tt
-  read_sane world windows plumber number offset count (Some f) is =
-      or_reads_sane (use_refusal world plumber.names f is_for_reading) _ (read_content_sane world windows plumber number offset count f (content_of f.node) is)
+  read_sane : (asked : Tread) (o : Option Fid) → fid_by server asked.number ≡ o → Sane (read_fid server asked o)
+  read_sane asked None is = tt
+  read_sane asked (Some f) is =
+      or_reads_sane (use_refusal (world_by server) server.plumber.names f is_for_reading) _
+      (read_content_sane asked f (content_of f.node) is)
 
   if_lives_sane : (o : Option Window) (x : Result Reaction Refusal) → Sane x → Sane (if_lives o x)
   if_lives_sane None x h = tt
   if_lives_sane (Some w) x h = h
 
-  append_sane : (windows : List (Option Window)) (number w count : ℕ) (f : Fid) (decoded : Decoded) → fid_of tables conn number ≡ Some f → Sane (append_reaction windows number f w count decoded)
-  append_sane windows number w count f decoded is =
-      if_lives_sane (window_at windows w) _ (done_or (fits_in (text_at windows w) decoded.text) _ refusal.TextTooLong (put_again number f _ is refl refl refl, tt))
+  append_sane : (asked : Twrite) (f : Fid) (w : ℕ) (decoded : Decoded) → fid_by server asked.number ≡ Some f
+      → Sane (append_reaction server.windows asked f w decoded)
+  append_sane asked f w decoded is =
+      if_lives_sane (window_at server.windows w) _
+      (done_or (fits_in (text_at server.windows w) decoded.text) _ refusal.TextTooLong (put_again asked.number f _ is refl refl refl, tt))
 
-  add_sane : (windows : List (Option Window)) (number w count : ℕ) (f : Fid) (decoded : Decoded) → fid_of tables conn number ≡ Some f → Sane (add_reaction windows number f w count decoded)
-  add_sane windows number w count f decoded is =
-      if_lives_sane (window_at windows w) _ (done_or (fits_tag (right_of (window_at windows w)) decoded.text) _ refusal.TextTooLong (put_again number f _ is refl refl refl, tt))
+  add_sane : (asked : Twrite) (f : Fid) (w : ℕ) (decoded : Decoded) → fid_by server asked.number ≡ Some f
+      → Sane (add_reaction server.windows asked f w decoded)
+  add_sane asked f w decoded is =
+      if_lives_sane (window_at server.windows w) _
+      (done_or (fits_tag (right_of (window_at server.windows w)) decoded.text) _ refusal.TextTooLong (put_again asked.number f _ is refl refl refl, tt))
 
-  or_errors_sane : (o : Option Refusal) (d : Reaction) → IsSane New tables conn d → Sane (or_errors o d)
+  or_errors_sane : (o : Option Refusal) (d : Reaction) → IsSane New server.tables server.conn d → Sane (or_errors o d)
   or_errors_sane None d h = h
   or_errors_sane (Some x) d h = tt
 
-  errors_sane : (windows : List (Option Window)) (number count : ℕ) (name : List ℕ) (f : Fid) (decoded : Decoded) → fid_of tables conn number ≡ Some f
-      → Sane (errors_reaction windows number f name count decoded)
-  errors_sane windows number count name f decoded is =
-      or_errors_sane (errors_refusal windows (named windows name) decoded.text) _ (put_again number f _ is refl refl refl, tt)
+  errors_sane : (asked : Twrite) (f : Fid) (name : List ℕ) (decoded : Decoded) → fid_by server asked.number ≡ Some f
+      → Sane (errors_reaction server.windows asked f name decoded)
+  errors_sane asked f name decoded is =
+      or_errors_sane (errors_refusal server.windows (named server.windows name) decoded.text) _ (put_again asked.number f _ is refl refl refl, tt)
 
   addr_set_sane : (w count : ℕ) (x : Result Range RangeFault) → Sane (addr_or_refusal w count x)
   addr_set_sane w count (Ok range) = (tt, tt)
@@ -370,29 +379,30 @@ module _ (New : EventChange → Fid → Type 0) (tables : Tables) (conn : ℕ) (
   taking_sane w bytes None = tt
   taking_sane w bytes (Some window) = data_set_sane w (length bytes) (data_taken window.body bytes)
 
-  write_content_sane : (windows : List (Option Window)) (number : ℕ) (f : Fid) (bytes : List ℕ) (c : Content) → fid_of tables conn number ≡ Some f → Sane (write_content windows number f bytes c)
-  write_content_sane windows number f bytes content.Directory is = tt
-  write_content_sane windows number f bytes (content.BodyText w) is = append_sane windows number w (length bytes) f (decode_part (part_bytes f.part ++ bytes)) is
-  write_content_sane windows number f bytes (content.TagText w) is = add_sane windows number w (length bytes) f (decode_part (part_bytes f.part ++ bytes)) is
-  write_content_sane windows number f bytes (content.CtlText w) is = if_lives_sane (window_at windows w) _ (tt, tt)
-  write_content_sane windows number f bytes (content.AddrText w) is = addr_sane w bytes (window_at windows w)
-  write_content_sane windows number f bytes (content.DataOf w) is = taking_sane w bytes (window_at windows w)
-  write_content_sane windows number f bytes (content.XdataOf w) is = taking_sane w bytes (window_at windows w)
-  write_content_sane windows number f bytes content.IndexText is = tt
-  write_content_sane windows number f bytes (content.ErrorsOf w) is =
-      errors_sane windows number (length bytes) (errors_of (window_at windows w)) f (decode_part (part_bytes f.part ++ bytes)) is
-  write_content_sane windows number f bytes content.ConsErrors is = errors_sane windows number (length bytes) root_errors f (decode_part (part_bytes f.part ++ bytes)) is
-  write_content_sane windows number f bytes content.Empty is = (tt, tt)
-  write_content_sane windows number f bytes (content.EventsOf w) is = if_lives_sane (window_at windows w) _ (tt, tt)
-  write_content_sane windows number f bytes content.SendText is = (put_again number f _ is refl refl refl, tt)
-  write_content_sane windows number f bytes content.RulesText is = (put_again number f _ is refl refl refl, tt)
-  write_content_sane windows number f bytes (content.PortOf k) is = tt
+  write_content_sane : (asked : Twrite) (f : Fid) (c : Content) → fid_by server asked.number ≡ Some f
+      → Sane (write_content server.windows asked f c)
+  write_content_sane asked f content.Directory is = tt
+  write_content_sane asked f (content.BodyText w) is = append_sane asked f w (decode_part (part_bytes f.part ++ asked.bytes)) is
+  write_content_sane asked f (content.TagText w) is = add_sane asked f w (decode_part (part_bytes f.part ++ asked.bytes)) is
+  write_content_sane asked f (content.CtlText w) is = if_lives_sane (window_at server.windows w) _ (tt, tt)
+  write_content_sane asked f (content.AddrText w) is = addr_sane w asked.bytes (window_at server.windows w)
+  write_content_sane asked f (content.DataOf w) is = taking_sane w asked.bytes (window_at server.windows w)
+  write_content_sane asked f (content.XdataOf w) is = taking_sane w asked.bytes (window_at server.windows w)
+  write_content_sane asked f content.IndexText is = tt
+  write_content_sane asked f (content.ErrorsOf w) is =
+      errors_sane asked f (errors_of (window_at server.windows w)) (decode_part (part_bytes f.part ++ asked.bytes)) is
+  write_content_sane asked f content.ConsErrors is = errors_sane asked f root_errors (decode_part (part_bytes f.part ++ asked.bytes)) is
+  write_content_sane asked f content.Empty is = (tt, tt)
+  write_content_sane asked f (content.EventsOf w) is = if_lives_sane (window_at server.windows w) _ (tt, tt)
+  write_content_sane asked f content.SendText is = (put_again asked.number f _ is refl refl refl, tt)
+  write_content_sane asked f content.RulesText is = (put_again asked.number f _ is refl refl refl, tt)
+  write_content_sane asked f (content.PortOf k) is = tt
 
-  write_sane : (world : World) (windows : List (Option Window)) (ports : List (List ℕ)) (number : ℕ) (bytes : List ℕ) (o : Option Fid) → fid_of tables conn number ≡ o
-      → Sane (write_fid world windows ports number bytes o)
-  write_sane world windows ports number bytes None is = tt
-  write_sane world windows ports number bytes (Some f) is =
-      or_reads_sane (use_refusal world ports f is_for_writing) _ (write_content_sane windows number f bytes (content_of f.node) is)
+  write_sane : (asked : Twrite) (o : Option Fid) → fid_by server asked.number ≡ o → Sane (write_fid server asked o)
+  write_sane asked None is = tt
+  write_sane asked (Some f) is =
+      or_reads_sane (use_refusal (world_by server) server.plumber.names f is_for_writing) _
+      (write_content_sane asked f (content_of f.node) is)
 
   clunk_sane : (number : ℕ) (o : Option Fid) → Sane (clunk_fid number o)
   clunk_sane number None = tt
@@ -402,30 +412,31 @@ module _ (New : EventChange → Fid → Type 0) (tables : Tables) (conn : ℕ) (
   remove_sane number None = tt
   remove_sane number (Some f) = (tt, tt)
 
-  stat_sane : (world : World) (ports : List (List ℕ)) (o : Option Fid) → Sane (stat_fid world ports o)
-  stat_sane world ports None = tt
-  stat_sane world ports (Some f) = done_or (is_live world ports f.node) _ refusal.WindowDeleted (tt, tt)
+  stat_sane : (o : Option Fid) → Sane (stat_fid server o)
+  stat_sane None = tt
+  stat_sane (Some f) = done_or (is_live (world_by server) server.plumber.names f.node) _ refusal.WindowDeleted (tt, tt)
 
-  served_sane : (world : World) (windows : List (Option Window)) (plumber : Plumber) (openings : ℕ) (body : TBody) → OpensNew New world plumber openings → Sane (session_reaction tables world windows plumber openings conn body)
-  served_sane world windows plumber openings (t.Version msize version) news = version_sane msize version
-  served_sane world windows plumber openings (t.Auth afid uname aname) news = tt
-  served_sane world windows plumber openings (t.Flush oldtag) news = (tt, tt)
-  served_sane world windows plumber openings (t.Attach fid afid uname aname) news = attaches fid afid aname (attach_refusal tables conn fid afid) refl
-  served_sane world windows plumber openings (t.Walk fid newfid names) news = walk_sane world plumber.names fid newfid names (fid_of tables conn fid) refl
-  served_sane world windows plumber openings (t.Open fid mode) news = open_sane world plumber openings fid mode (fid_of tables conn fid) news refl
-  served_sane world windows plumber openings (t.Create fid name perm mode) news = denied_sane (fid_of tables conn fid)
-  served_sane world windows plumber openings (t.Read fid offset count) news = read_sane world windows plumber fid offset (most count (msize_of tables conn)) (fid_of tables conn fid) refl
-  served_sane world windows plumber openings (t.Write fid offset bytes) news = write_sane world windows plumber.names fid bytes (fid_of tables conn fid) refl
-  served_sane world windows plumber openings (t.Clunk fid) news = clunk_sane fid (fid_of tables conn fid)
-  served_sane world windows plumber openings (t.Remove fid) news = remove_sane fid (fid_of tables conn fid)
-  served_sane world windows plumber openings (t.Stat fid) news = stat_sane world plumber.names (fid_of tables conn fid)
-  served_sane world windows plumber openings (t.Wstat fid stat) news = denied_sane (fid_of tables conn fid)
+  served_sane : (body : TBody) → News → Sane (session_reaction server body)
+  served_sane (t.Version msize version) news = version_sane msize version
+  served_sane (t.Auth afid uname aname) news = tt
+  served_sane (t.Flush oldtag) news = (tt, tt)
+  served_sane (t.Attach fid afid uname aname) news = attaches fid afid aname (attach_refusal server fid afid) refl
+  served_sane (t.Walk fid newfid names) news = walk_sane fid newfid names (fid_by server fid) refl
+  served_sane (t.Open fid mode) news = open_sane fid mode (fid_by server fid) news refl
+  served_sane (t.Create fid name perm mode) news = denied_sane (fid_by server fid)
+  served_sane (t.Read fid offset count) news =
+      read_sane (lowered server (record { number = fid; offset = offset; count = count })) (fid_by server fid) refl
+  served_sane (t.Write fid offset bytes) news = write_sane (record { number = fid; bytes = bytes }) (fid_by server fid) refl
+  served_sane (t.Clunk fid) news = clunk_sane fid (fid_by server fid)
+  served_sane (t.Remove fid) news = remove_sane fid (fid_by server fid)
+  served_sane (t.Stat fid) news = stat_sane (fid_by server fid)
+  served_sane (t.Wstat fid stat) news = denied_sane (fid_by server fid)
 
-  settled : (x : Result Reaction Refusal) → Sane x → IsSane New tables conn (reaction_or_refusal x)
+  settled : (x : Result Reaction Refusal) → Sane x → IsSane New server.tables server.conn (reaction_or_refusal x)
   settled (Ok d) h = h
   settled (Err x) h = (tt, tt)
 
-  pub reaction_sane : (windows : List (Option Window)) (plumber : Plumber) (openings : ℕ) (body : TBody) → OpensNew New (world_of windows) plumber openings → IsSane New tables conn (reaction tables windows plumber openings conn body)
-  reaction_sane windows plumber openings body news =
-      one_of (comes_first tables conn body) (refusal_with_effect effect.Nothing refusal.VersionFirst) _ (tt, tt)
-      (settled (session_reaction tables (world_of windows) windows plumber openings conn body) (served_sane (world_of windows) windows plumber openings body news))
+  pub reaction_sane : (body : TBody) → News → IsSane New server.tables server.conn (reaction server body)
+  reaction_sane body news =
+      one_of (comes_first server body) (refusal_with_effect effect.Nothing refusal.VersionFirst) _ (tt, tt)
+      (settled (session_reaction server body) (served_sane body news))

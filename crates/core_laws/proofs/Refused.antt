@@ -1,5 +1,5 @@
 -- Each message gets the refusal whose condition holds, and no other.
-use Rattle.std.proofs.Common.{◌≡◌, ℕ, ◌+◌, ◌&&◌, Bool, true, false, cond, List, length, Option, Some, None, refl, sym, ap, ◌∙◌, arith}
+use Rattle.std.proofs.Common.{◌≡◌, ℕ, ◌+◌, ◌&&◌, Bool, true, false, cond, List, Option, Some, None, refl, sym, ap, ◌∙◌, arith}
 use Rattle.ninep_types.specs.Spelling.{kind_t}
 use Rattle.ninep_types.specs.declared.message.RBody.TheVariants as r
 use Rattle.ninep_types.specs.declared.message.TBody.{TBody}
@@ -9,7 +9,6 @@ use Rattle.wait_queue.specs.declared.types.Asker.{Asker}
 use Rattle.event_book.specs.BookState.{BookState, is_living, read_waits, piece_for}
 use Rattle.plumb_ports.specs.PortsState.{PortsState}
 use Rattle.plumb_ports.specs.PortsState.{read_waits as port_waits, piece_for as port_piece}
-use Rattle.core_fids.specs.Plumbers.{plumber_of}
 use Rattle.core_fids.specs.Refusals.{refusal_text}
 use Rattle.core_fids.specs.declared.effect.Answer.{Answer}
 use Rattle.core_fids.specs.declared.effect.Answer.TheVariants.{Says, Reads, ReadsPort}
@@ -17,7 +16,7 @@ use Rattle.core_fids.specs.declared.refusal.Refusal.{Refusal}
 use Rattle.core_fids.specs.declared.refusal.Refusal.TheVariants as refusal
 use Rattle.core_events.specs.Asking.{said_to, reads_are_full}
 use Rattle.core_events.specs.PortAsking.{said_unless, read_refusal}
-use Rattle.core_intents.specs.Intents.{is_refusal, or_refused, reaction_at}
+use Rattle.core_intents.specs.Intents.{is_refusal, or_refused, reaction_at, server_at}
 use Rattle.core_parts.specs.States.{Present}
 use Rattle.acme_core.specs.Run.{present_after}
 use Rattle.core_steps.specs.Stages.{asker_of}
@@ -93,4 +92,4 @@ pub refusals_exact : RefusalsFollow
 refusals_exact journal before behind conn msg is =
     let s : Present = present_after before in
     by_refusals s conn msg.tag msg.body (reaction_at s conn msg).answer (reaction_refusal s conn msg.body) (item_refusal s conn msg) (scene_refusal s conn msg)
-    (reaction_sound s.tables conn s.scene.windows (plumber_of s.scene.rules s.scene.ports) (length s.scene.book.owners) msg.body).1
+    (reaction_sound (server_at s conn) msg.body).1

@@ -1,5 +1,5 @@
 -- A read waits only in a session, so a Tflush for its tag is answered by Rflush.
-use Rattle.std.proofs.Common.{◌≡◌, ◌≢◌, ℕ, Bool, true, false, not, cond, eqb, ◌&&◌, ◌||◌, List, [], ◌∷◌, ◌++◌, length, find, fold, nat_lt, min, codes, slice_index_or, Option, Some, None, option_map, All, refl, sym, ap, subst, ◌∙◌}
+use Rattle.std.proofs.Common.{◌≡◌, ◌≢◌, ℕ, Bool, true, false, not, cond, eqb, ◌&&◌, ◌||◌, List, [], ◌∷◌, ◌++◌, find, fold, nat_lt, min, codes, slice_index_or, Option, Some, None, option_map, All, refl, sym, ap, subst, ◌∙◌}
 use Rattle.std.specs.List.{filter, list_any}
 use Rattle.std.specs.Option.{option_or}
 use Rattle.std.proofs.lemmas.Bool.{false≢true, eqb-true, eqb-false, not-true}
@@ -28,7 +28,6 @@ use Rattle.core_fids.specs.declared.refusal.Refusal.TheVariants as refusal
 use Rattle.core_fids.specs.Attaching.{is_version, agreement, version_reaction}
 use Rattle.core_answers.specs.Reactions.{needs_session, session_reaction, flush_reaction}
 use Rattle.core_fids.specs.Plainly.{does}
-use Rattle.core_windows.specs.Windows.{Window, world_of}
 use Rattle.core_fids.specs.Fids.{is_there}
 use Rattle.core_fids.specs.Refusals.{refusal_reaction, refusal_with_effect, reaction_or_refusal}
 use Rattle.core_events.specs.declared.response.Response.{Response}
@@ -41,14 +40,14 @@ use Rattle.core_events.specs.Serving.{served_all}
 use Rattle.core_tasks.specs.Tasks.{task_deeds, task_refusal}
 use Rattle.core_laws.proofs.Playing.{silent_after}
 use Rattle.plumb_ports.specs.PortsState.{PortsState}
-use Rattle.core_fids.specs.Plumbers.{Plumber, plumber_of}
+use Rattle.core_fids.specs.Servers.{ServerState}
 use Rattle.core_events.specs.PortAsking.{port_said}
 use Rattle.core_events.specs.PortServing.{ports_served}
 use Rattle.core_steps.specs.PortReads.{port_read_in, asked_tables}
 use Rattle.win_events.specs.declared.item.Origin.{Origin}
 use Rattle.core_intents.specs.Doings.{message_doing, doing_of}
 use Rattle.core_parts.specs.Doing.{Doing}
-use Rattle.core_intents.specs.Intents.{reaction_at}
+use Rattle.core_intents.specs.Intents.{reaction_at, server_at}
 use Rattle.core_intents.specs.Origins.{message_origin}
 use Rattle.acme_core.specs.Run.{step, run}
 use Rattle.core_steps.specs.Stages.{asker_of, answer_tables, acted, said}
@@ -182,30 +181,31 @@ version_says msize version =
     (does (effect.Begins None) [] (r.Version (min msize 65560) (codes "unknown"))) refl refl)
 
 -- what a message does, by whether a session is missing
-abbrev reaction_or : Tables → List (Option Window) → Plumber → ℕ → ℕ → TBody → Bool → Reaction
-reaction_or tables windows plumber openings conn body missing =
-    cond (needs_session body && missing) (refusal_reaction refusal.VersionFirst) (reaction_or_refusal (session_reaction tables (world_of windows) windows plumber openings conn body))
+abbrev reaction_or : ServerState → TBody → Bool → Reaction
+reaction_or server body missing =
+    cond (needs_session body && missing) (refusal_reaction refusal.VersionFirst)
+    (reaction_or_refusal (session_reaction server body))
 
-missing_says : (tables : Tables) (windows : List (Option Window)) (plumber : Plumber) (openings conn : ℕ) (body : TBody) → is_reads (reaction_or tables windows plumber openings conn body true).answer ≡ false
-missing_says tables windows plumber openings conn (t.Version msize version) = version_says msize version
-missing_says tables windows plumber openings conn (t.Auth afid uname aname) = refl
-missing_says tables windows plumber openings conn (t.Flush oldtag) = refl
-missing_says tables windows plumber openings conn (t.Attach fid afid uname aname) = refl
-missing_says tables windows plumber openings conn (t.Walk fid newfid names) = refl
-missing_says tables windows plumber openings conn (t.Open fid mode) = refl
-missing_says tables windows plumber openings conn (t.Create fid name perm mode) = refl
-missing_says tables windows plumber openings conn (t.Read fid offset count) = refl
-missing_says tables windows plumber openings conn (t.Write fid offset bytes) = refl
-missing_says tables windows plumber openings conn (t.Clunk fid) = refl
-missing_says tables windows plumber openings conn (t.Remove fid) = refl
-missing_says tables windows plumber openings conn (t.Stat fid) = refl
-missing_says tables windows plumber openings conn (t.Wstat fid stat) = refl
+missing_says : (server : ServerState) (body : TBody) → is_reads (reaction_or server body true).answer ≡ false
+missing_says server (t.Version msize version) = version_says msize version
+missing_says server (t.Auth afid uname aname) = refl
+missing_says server (t.Flush oldtag) = refl
+missing_says server (t.Attach fid afid uname aname) = refl
+missing_says server (t.Walk fid newfid names) = refl
+missing_says server (t.Open fid mode) = refl
+missing_says server (t.Create fid name perm mode) = refl
+missing_says server (t.Read fid offset count) = refl
+missing_says server (t.Write fid offset bytes) = refl
+missing_says server (t.Clunk fid) = refl
+missing_says server (t.Remove fid) = refl
+missing_says server (t.Stat fid) = refl
+missing_says server (t.Wstat fid stat) = refl
 
-asked_in : (tables : Tables) (windows : List (Option Window)) (plumber : Plumber) (openings conn : ℕ) (body : TBody) (a : Answer) (there : Bool)
-    → (reaction_or tables windows plumber openings conn body (not there)).answer ≡ a → is_reads a ≡ true → there ≡ true
-asked_in tables windows plumber openings conn body a true h reads = refl
-asked_in tables windows plumber openings conn body a false h reads =
-    absurd (false≢true (sym (missing_says tables windows plumber openings conn body) ∙ ap is_reads h ∙ reads))
+asked_in : (server : ServerState) (body : TBody) (a : Answer) (there : Bool)
+    → (reaction_or server body (not there)).answer ≡ a → is_reads a ≡ true → there ≡ true
+asked_in server body a true h reads = refl
+asked_in server body a false h reads =
+    absurd (false≢true (sym (missing_says server body) ∙ ap is_reads h ∙ reads))
 
 -- ---- one event
 
@@ -223,7 +223,7 @@ in_message s conn msg h =
     let xs : List Response = said p (kind.Asks conn msg.tag) d in
     let session : (a : Answer) → done.answer ≡ a → is_reads a ≡ true → HasSession put conn = λ a same reads.
     ap is_there (grown_msize s.tables conn d.effect conn)
-    ∙ asked_in s.tables p.scene.windows (plumber_of p.scene.rules p.scene.ports) (length s.scene.book.owners) conn msg.body a (is_there (msize_of s.tables conn)) same reads
+    ∙ asked_in (server_at p conn) msg.body a (is_there (msize_of s.tables conn)) same reads
     in
     in_cancelled (ended left xs) conn d.events
     (in_ended left xs

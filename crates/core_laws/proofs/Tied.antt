@@ -60,7 +60,7 @@ use Rattle.core_parts.specs.Connections.{connection_at, grown_with}
 use Rattle.core_intents.specs.Doings.{enabled_at, doing_of, message_doing, entry_by, entry_of, is_version, is_tag_used}
 use Rattle.core_parts.specs.Doing.{Doing}
 use Rattle.core_intents.specs.Enabled.{first_why, live_refusal, size_refusal, tag_refusal, replies_refusal}
-use Rattle.core_intents.specs.Intents.{with_held, demanded_task, reaction_at}
+use Rattle.core_intents.specs.Intents.{with_held, demanded_task, reaction_at, server_at}
 use Rattle.core_parts.specs.Kinds.{kind_of}
 use Rattle.core_intents.specs.Origins.{message_origin}
 use Rattle.core_parts.specs.States.{Present, State, present, unsent_count, next_entry}
@@ -462,7 +462,7 @@ unused false h = refl
 
 -- a Tversion frees all fids, and does nothing else
 pub on_version : (s : Present) (conn : ℕ) (P : Reaction → Type 0) → ((msize : Option ℕ) (body : RBody) → P (does (effect.Begins msize) [] body)) → (body : TBody) → is_version body ≡ true
-    → P (reaction s.tables s.scene.windows (plumber_of s.scene.rules s.scene.ports) (length s.scene.book.owners) conn body)
+    → P (reaction (server_at s conn) body)
 on_version s conn P h (t.Version msize version) is =
     elim (nat_lt msize 256) as (λ b. P (cond b (refusal_with_effect (effect.Begins None) refusal.MsizeTooSmall) (agreement (min msize 65560) version))) [
       | true ↦ h None (r.Error (refusal_text refusal.MsizeTooSmall))

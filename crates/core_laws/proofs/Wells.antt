@@ -44,7 +44,7 @@ use Rattle.core_parts.specs.Connections.{connection_at, connections_after, is_li
 use Rattle.core_parts.specs.Kinds.{kind_of}
 use Rattle.core_intents.specs.Doings.{enabled_at, doing_of, message_doing}
 use Rattle.core_parts.specs.Doing.{Doing}
-use Rattle.core_intents.specs.Intents.{reaction_at}
+use Rattle.core_intents.specs.Intents.{reaction_at, server_at}
 use Rattle.core_intents.specs.Origins.{message_origin}
 use Rattle.core_intents.specs.Enabled.{first_why, live_refusal}
 use Rattle.acme_core.specs.Run.{step, run, enabled}
@@ -416,7 +416,7 @@ own_port s t conn tag d o sane fid opening count is =
 pub sane_in : (s : State) (conn : ℕ) (msg : TMsg) → IsWell s → IsSane (opens_in (present s)) s.tables conn (reaction_at (present s) conn msg)
 sane_in s conn msg well =
     let p : Present = present s in
-    reaction_sane (opens_in p) s.tables conn (moded s conn well) p.scene.windows (plumber_of p.scene.rules p.scene.ports) (length s.scene.book.owners) msg.body
+    reaction_sane (opens_in p) (server_at p conn) (moded s conn well) msg.body
     (λ f mode live counted. record { live = live; opening = refl; events = refl; counted = counted })
 
 own_message : (s : State) (conn : ℕ) (msg : TMsg) → enabled_at (present s) (event.Msg conn msg) ≡ None → IsWell s

@@ -49,7 +49,7 @@ use Rattle.core_exec.specs.Acting.{act_on_deeds}
 use Rattle.core_tasks.specs.Tasks.{task_deeds, task_refusal}
 use Rattle.core_intents.specs.Doings.{doing_of, entry_by, message_doing, resolved}
 use Rattle.core_parts.specs.Doing.{Doing}
-use Rattle.core_intents.specs.Intents.{answer_or, demanded_item, or_refused, item_or_refusal, item_named, item_of_text, back_task, item_if_any, refusal_if_any, reaction_at}
+use Rattle.core_intents.specs.Intents.{answer_or, demanded_item, or_refused, item_or_refusal, item_named, item_of_text, back_task, item_if_any, refusal_if_any, reaction_at, server_at}
 use Rattle.core_intents.specs.Origins.{is_text, origin_at, message_origin}
 use Rattle.acme_core.specs.Run.{run, present_after}
 use Rattle.core_parts.specs.States.{Present}
@@ -116,8 +116,8 @@ write_shape : (s : Present) (conn tag fid offset w : ℕ) (bytes : List ℕ) (f 
     ≡ shape w bytes (not (is_there (msize_of s.tables conn))) (use_refusal (world_of s.scene.windows) (plumber_of s.scene.rules s.scene.ports).names f is_for_writing) (window_at s.scene.windows w)
 write_shape s conn tag fid offset w bytes f there node =
     let missing : Bool = not (is_there (msize_of s.tables conn)) in
-    ap (λ (o : Option Fid). cond missing (refusal_reaction refusal.VersionFirst) (reaction_or_refusal (write_fid (world_of s.scene.windows) s.scene.windows (plumber_of s.scene.rules s.scene.ports).names fid bytes o))) there
-    ∙ ap (λ (n : Node). cond missing (refusal_reaction refusal.VersionFirst) (reaction_or_refusal (or_reads (use_refusal (world_of s.scene.windows) (plumber_of s.scene.rules s.scene.ports).names f is_for_writing) (write_content s.scene.windows fid f bytes (content_of n))))) node
+    ap (λ (o : Option Fid). cond missing (refusal_reaction refusal.VersionFirst) (reaction_or_refusal (write_fid (server_at s conn) (record { number = fid; bytes = bytes }) o))) there
+    ∙ ap (λ (n : Node). cond missing (refusal_reaction refusal.VersionFirst) (reaction_or_refusal (or_reads (use_refusal (world_of s.scene.windows) (plumber_of s.scene.rules s.scene.ports).names f is_for_writing) (write_content s.scene.windows (record { number = fid; bytes = bytes }) f (content_of n))))) node
 
 -- where it is answered by Rwrite it asks for the item that it names
 shape_acts : (s : Present) (w count : ℕ) (bytes : List ℕ) (missing : Bool) (o : Option Refusal) (window : Option Window)
@@ -267,7 +267,7 @@ by_message before conn msg b is (inr x) = by_write before conn msg b is x
 pub back_by : (before : List Event) (e : Event) (b : BackItem) → written_by before e ≡ Some b → IsBackBy before e b
 back_by before (event.Msg conn msg) b is =
     let s : Present = present_after before in
-    by_message before conn msg b is (reaction_sound s.tables conn s.scene.windows (plumber_of s.scene.rules s.scene.ports) (length s.scene.book.owners) msg.body).0
+    by_message before conn msg b is (reaction_sound (server_at s conn) msg.body).0
 back_by before (event.Dial conn) b is = absurd cc
 back_by before (event.Hang conn why) b is = absurd cc
 back_by before (event.Took conn) b is = absurd cc

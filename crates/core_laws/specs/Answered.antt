@@ -6,6 +6,7 @@ use Rattle.ninep_types.specs.declared.message.TBody.{TBody}
 use Rattle.ninep_types.specs.declared.message.TMsg.{TMsg}
 use Rattle.ninep_types.specs.Spelling.{kind_t, kind_r}
 use Rattle.fid_table.specs.Tables.{is_waiting}
+use Rattle.wait_queue.specs.declared.types.Asker.{Asker}
 use Rattle.event_book.specs.BookState.{read_waits}
 use Rattle.plumb_ports.specs.PortsState.{read_waits as port_waits}
 use Rattle.am_journal.specs.declared.event.Event.{Event}
@@ -46,11 +47,24 @@ pub record ReadWaits (before : List Event) (conn : ℕ) (msg : TMsg) (has_to : B
   pub waits : list_any (is_waiting conn msg.tag) (run (before ++ event.Msg conn msg ∷ [])).tables.waiting ≡ true
   pub must : has_to ≡ true
 
+-- a read of an opening: what it is read on, and whether it has to wait
+pub record OpeningRead : Type 0 where
+  pub feed : Feed
+  pub waits : Bool
+
 -- A read of an opening is answered at once and nothing else is said, or it waits.
-abbrev pub ReadsOnce : List Event → ℕ → TMsg → Feed → Bool → Option RBody → Type 0
-ReadsOnce before conn msg feed must (Some body) =
-    IsAnswerTo msg.body body × (said_after before (event.Msg conn msg) ≡ record (response conn msg.tag body) { feed = Some feed } ∷ [])
-ReadsOnce before conn msg feed must None = ReadWaits before conn msg must
+abbrev pub ReadsOnce : List Event → ℕ → TMsg → OpeningRead → Option RBody → Type 0
+ReadsOnce before conn msg read (Some body) = IsAnswerTo msg.body body
+    × (said_after before (event.Msg conn msg) ≡ record (response conn msg.tag body) { feed = Some read.feed } ∷ [])
+ReadsOnce before conn msg read None = ReadWaits before conn msg read.waits
+
+-- a read of an event file
+abbrev pub event_read : State → Asker → OpeningRead
+event_read s asker = record { feed = event_feed asker.opening; waits = read_waits s.scene.book asker }
+
+-- a read of a port
+abbrev pub port_read : State → Asker → OpeningRead
+port_read s asker = record { feed = port_feed asker.opening; waits = port_waits s.scene.ports asker }
 
 -- a message got this answer, and just one reply
 abbrev pub IsAnsweredBy : List Event → ℕ → TMsg → Option Answer → Type 0
@@ -58,15 +72,15 @@ IsAnsweredBy before conn msg None = ⊥
 IsAnsweredBy before conn msg (Some (Says body)) =
     IsAnswerTo msg.body body × SaysOnce (run before) conn msg.tag body (said_after before (event.Msg conn msg))
 IsAnsweredBy before conn msg (Some (Reads fid opening count)) =
-    ReadsOnce before conn msg (event_feed opening) (read_waits (run before).scene.book (asker_of conn msg.tag opening count))
+    ReadsOnce before conn msg (event_read (run before) (asker_of conn msg.tag opening count))
     (read_said (run before).tables (run before).scene.book (asker_of conn msg.tag opening count))
 IsAnsweredBy before conn msg (Some (ReadsPort fid opening count)) =
-    ReadsOnce before conn msg (port_feed opening) (port_waits (run before).scene.ports (asker_of conn msg.tag opening count))
+    ReadsOnce before conn msg (port_read (run before) (asker_of conn msg.tag opening count))
     (port_said (run before).tables (run before).scene.ports (asker_of conn msg.tag opening count))
 
--- Each message of the journal has in its step just one reply to its tag on its connection, its own R message or Rerror; or it has none and
--- is a read that waits: its count isn't 0, and its opening has no carry, its window no item that nobody took, or its opening of a port no
--- message (`read_waits` of event_book and of plumb_ports).
+-- Each message of the journal has in its step just one reply to its tag on its connection, its own R message or Rerror;
+-- or it has none and is a read that waits: its count isn't 0, and its opening has no carry, its window no item that
+-- nobody took, or its opening of a port no message (`read_waits` of event_book and of plumb_ports).
 abbrev pub MessagesAreAnswered : List Event → Type 0
 MessagesAreAnswered journal =
     (before behind : List Event) (conn : ℕ) (msg : TMsg) → before ++ event.Msg conn msg ∷ behind ≡ journal

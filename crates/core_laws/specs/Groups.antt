@@ -45,4 +45,5 @@ pub record IsBegun (journal : List Event) (w : ℕ) (g : DoneGroup) : Type 0 whe
 -- So it is with each group of each window that lives, those that are past and those undone.
 abbrev pub GroupsAreBegun : List Event → Type 0
 GroupsAreBegun journal =
-    (w : ℕ) (s : WindowStory) → story_at (run journal).windows w ≡ Some s → AllByRecursion (IsBegun journal w) (s.body.history.past ++ s.body.history.future)
+    (w : ℕ) (s : WindowStory) → story_at (run journal).windows w ≡ Some s
+    → AllByRecursion (IsBegun journal w) (s.body.history.past ++ s.body.history.future)

@@ -33,18 +33,21 @@ use Rattle.core_laws.specs.Saying.{said_after, said_from, is_told, is_message, f
 -- What was replied to a connection is what was sent to it, and then what is unsent.
 abbrev pub RepliesAreSentOrUnsent : Type 0
 RepliesAreSentOrUnsent =
-    (journal : List Event) (conn : ℕ) → conn < connection_count → replies journal conn ≡ sent output_at journal conn ++ output_at journal conn
+    (journal : List Event) (conn : ℕ) → conn < connection_count → replies journal conn ≡ sent output_at journal conn
+    ++ output_at journal conn
 
 -- A connection whose hang-up the journal has is replied nothing by the entries behind.
 abbrev pub NothingAfterTheHangUp : Type 0
 NothingAfterTheHangUp =
-    (before journal : List Event) (conn : ℕ) → conn < connection_count → IsPlayed enabled journal → IsPrefix before journal → has_hang before conn ≡ true
+    (before journal : List Event) (conn : ℕ) → conn < connection_count → IsPlayed enabled journal
+    → IsPrefix before journal → has_hang before conn ≡ true
     → replies journal conn ≡ replies before conn
 
 -- So where its hang-up was there and nothing was unsent, all that it was ever replied was sent.
 abbrev pub EndedGetAllReplies : Type 0
 EndedGetAllReplies =
-    (before journal : List Event) (conn : ℕ) → conn < connection_count → IsPlayed enabled journal → IsPrefix before journal → has_hang before conn ≡ true
+    (before journal : List Event) (conn : ℕ) → conn < connection_count → IsPlayed enabled journal
+    → IsPrefix before journal → has_hang before conn ≡ true
     → output_at before conn ≡ [] → sent output_at journal conn ≡ replies journal conn
 
 -- The replies of an entry are the bytes of what it says.
@@ -57,11 +60,13 @@ FlushesAreAnswered =
     (before : List Event) (conn tag oldtag : ℕ) → list_any (is_waiting conn oldtag) (run before).tables.waiting ≡ true
     → said_after before (flush_of conn tag oldtag) ≡ flushed conn tag ∷ []
 
--- A Tflush is answered alone: by Rflush where its connection has a session, whatever stood before, and else by a refusal.
+-- A Tflush is answered alone: by Rflush where its connection has a session, whatever stood
+-- before, and else by a refusal.
 abbrev pub EachFlushIsAnswered : Type 0
 EachFlushIsAnswered =
     (before : List Event) (conn tag oldtag : ℕ)
-    → said_after before (flush_of conn tag oldtag) ≡ response conn tag (flush_body (is_there (msize_of (run before).tables conn))) ∷ []
+    → said_after before (flush_of conn tag oldtag)
+    ≡ response conn tag (flush_body (is_there (msize_of (run before).tables conn))) ∷ []
 
 -- no read with this tag on this connection waits after a journal
 pub record IsFree (journal : List Event) (conn tag : ℕ) : Type 0 where
@@ -69,12 +74,13 @@ pub record IsFree (journal : List Event) (conn tag : ℕ) : Type 0 where
   pub reads : list_any (is_read conn tag) (run journal).scene.book.reads ≡ false
   pub port_reads : list_any (is_read conn tag) (run journal).scene.ports.reads ≡ false
 
--- Behind a Tflush that was answered by Rflush, whatever stood before it, no read waits with the tag that it names, and nothing is said to
--- that tag, up to the next message of that tag.
+-- Behind a Tflush that was answered by Rflush, whatever stood before it, no read waits with the tag that it names, and
+-- nothing is said to that tag, up to the next message of that tag.
 abbrev pub NothingToAFlushedTag : Type 0
 NothingToAFlushedTag =
     (before behind : List Event) (conn tag oldtag : ℕ) → IsPlayed enabled (before ++ flush_of conn tag oldtag ∷ behind)
-    → Contains (said_after before (flush_of conn tag oldtag)) (flushed conn tag) → list_any (is_message conn oldtag) behind ≡ false
+    → Contains (said_after before (flush_of conn tag oldtag)) (flushed conn tag)
+    → list_any (is_message conn oldtag) behind ≡ false
     → IsFree (before ++ flush_of conn tag oldtag ∷ behind) conn oldtag
     × All (λ x. is_told conn oldtag x ≡ false) (said_from (before ++ flush_of conn tag oldtag ∷ []) behind)
 
@@ -95,11 +101,15 @@ with_item book w (Some item) = after_put book w item
 -- the item of a click, if it stands for a text
 abbrev pub item_of_click : SceneState → Event → Option Item
 item_of_click s (event.Exec at) = option_map (λ c. exec_item at c None) (clicked_at s.windows at click.Exec)
-item_of_click s (event.Arg at chord) = option_map (λ c. exec_item at c (argument_if_any s.windows (Some chord))) (clicked_at s.windows at click.Exec)
-item_of_click s (event.Look at) = option_map (λ c. look_item at c (look_step at.window (own_text c.text c.expanded) s)) (clicked_at s.windows at click.Look)
+item_of_click s (event.Arg at chord) =
+    option_map (λ c. exec_item at c (argument_if_any s.windows (Some chord))) (clicked_at s.windows at click.Exec)
+item_of_click s (event.Look at) =
+    option_map (λ c. look_item at c (look_step at.window (own_text c.text c.expanded) s))
+    (clicked_at s.windows at click.Look)
 item_of_click s e = None
 
--- This item comes in this window, if it is one, and reads are answered that waited. Nothing else changes, and nothing else is said.
+-- This item comes in this window, if it is one, and reads are answered that waited. Nothing else changes,
+-- and nothing else is said.
 pub record OnlyTells (old new : State) (heard : List Response) (w : ℕ) (item : Option Item) : Type 0 where
   pub book : new.scene.book ≡ book_served_all (old.entries + 1) (with_item old.scene.book w item)
   pub says : heard ≡ served_all (old.entries + 1) (with_item old.scene.book w item)
@@ -111,8 +121,10 @@ pub record OnlyTells (old new : State) (heard : List Response) (w : ℕ) (item :
 -- An Exec or a Look in a window whose event file is open is told by the item of that click, and does nothing else.
 abbrev pub ClicksAreTold : Type 0
 ClicksAreTold =
-    (before : List Event) (e : Event) (w : ℕ) → clicked_window e ≡ Some w → is_open_window (run before).scene.book w ≡ true
-    → OnlyTells (run before) (run (before ++ e ∷ [])) (said_after before e) w (item_of_click (present_after before).scene e)
+    (before : List Event) (e : Event) (w : ℕ) → clicked_window e ≡ Some w
+    → is_open_window (run before).scene.book w ≡ true
+    → OnlyTells (run before) (run (before ++ e ∷ [])) (said_after before e) w
+    (item_of_click (present_after before).scene e)
 
 -- ---- items that are written back
 
@@ -130,11 +142,14 @@ pub record IsBackAt (book : BookState) (b : BackItem) (at : ℕ) : Type 0 where
 -- Whatever comes behind it, the life of an item names the entry that wrote it back.
 abbrev pub LivesNameTheEntry : Type 0
 LivesNameTheEntry =
-    (before behind : List Event) (e : Event) (b : BackItem) → written_by before e ≡ Some b → IsBackAt (run (before ++ e ∷ behind)).scene.book b (length before + 1)
+    (before behind : List Event) (e : Event) (b : BackItem) → written_by before e ≡ Some b
+    → IsBackAt (run (before ++ e ∷ behind)).scene.book b (length before + 1)
 
 -- So no later entry writes it back.
 abbrev pub WrittenBackOnce : Type 0
-WrittenBackOnce = (before between : List Event) (e f : Event) (b : BackItem) → written_by before e ≡ Some b → written_by (before ++ e ∷ between) f ≡ Some b → ⊥
+WrittenBackOnce =
+    (before between : List Event) (e f : Event) (b : BackItem) → written_by before e ≡ Some b
+    → written_by (before ++ e ∷ between) f ≡ Some b → ⊥
 
 -- Between entries no read that waits can be answered: there is nothing for it yet.
 abbrev pub NoReadCanBeAnswered : Type 0

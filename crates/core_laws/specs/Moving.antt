@@ -18,7 +18,8 @@ use Rattle.win_events.specs.declared.item.Sort.TheVariants as sort
 use Rattle.win_text.specs.Bodies.{History, text_of_groups}
 use Rattle.win_text.specs.BodyStories.{story_text}
 use Rattle.core_windows.specs.Windows.{window_at}
-use Rattle.core_windows.specs.Stories.{WindowStory, story_at, shown_if_live, shown_windows, undone_window_story, redone_window_story}
+use Rattle.core_windows.specs.Stories.{WindowStory, story_at, shown_if_live, shown_windows, undone_window_story}
+use Rattle.core_windows.specs.Stories.{redone_window_story}
 use Rattle.core_actions.specs.declared.undoing.Move.{Move}
 use Rattle.core_actions.specs.declared.undoing.Move.TheVariants as move
 use Rattle.core_actions.specs.Undoing.{next_group, is_number, move_deeds}
@@ -49,12 +50,14 @@ past_after move.Redo h = with_first_of h.future h.past
 
 -- a window whose next group is moved has the text that stood before that group, or behind it
 abbrev pub TextIsMoved : Move → WindowStory → Type 0
-TextIsMoved m s = (n : ℕ) → next_group m (shown_if_live (Some s)) ≡ Some n → story_text (moved_story m s).body ≡ text_of_groups [] (past_after m s.body.history)
+TextIsMoved m s =
+    (n : ℕ) → next_group m (shown_if_live (Some s)) ≡ Some n → story_text (moved_story m s).body
+    ≡ text_of_groups [] (past_after m s.body.history)
 
 -- What Undo, or Redo, in a window makes of the windows.
 pub record AreMoved (m : Move) (w : ℕ) (old new : List (Option WindowStory)) : Type 0 where
-  -- The next group of each window is moved whose next group was begun by the same step as that window's. Any other window keeps
-  -- everything; where that window has no group, all do.
+  -- The next group of each window is moved whose next group was begun by the same step as that window's. Any other
+  -- window keeps everything; where that window has no group, all do.
   pub linked : new ≡ map (moved_story_if m (next_group m (window_at (shown_windows old) w))) old
   pub texts : (v : ℕ) (s : WindowStory) → story_at old v ≡ Some s → TextIsMoved m s
 
@@ -78,16 +81,24 @@ is_exec other = false
 -- Executing Undo, or Redo, is such an entry of a journal.
 pub record MovesAreExecuted (journal : List Event) : Type 0 where
   -- An Exec of it in a window whose event file isn't open,
-  pub exec : (before behind : List Event) (at : Spot) (c : Clicked) (m : Move) (r : Range) → before ++ event.Exec at ∷ behind ≡ journal
-      → is_open_window (present_after before).scene.book at.window ≡ false → clicked_at (present_after before).scene.windows at click.Exec ≡ Some c
-      → classified (own_text c.text c.expanded) ≡ command.Builtin (builtin_of m) r → IsMove before (event.Exec at) m at.window
+  pub exec : (before behind : List Event) (at : Spot) (c : Clicked) (m : Move) (r : Range) → before ++ event.Exec at
+      ∷ behind ≡ journal
+      → is_open_window (present_after before).scene.book at.window ≡ false
+      → clicked_at (present_after before).scene.windows at click.Exec ≡ Some c
+      → classified (own_text c.text c.expanded) ≡ command.Builtin (builtin_of m) r
+      → IsMove before (event.Exec at) m at.window
   -- also one with an argument,
-  pub arg : (before behind : List Event) (at chord : Spot) (c : Clicked) (m : Move) (r : Range) → before ++ event.Arg at chord ∷ behind ≡ journal
-      → is_open_window (present_after before).scene.book at.window ≡ false → clicked_at (present_after before).scene.windows at click.Exec ≡ Some c
-      → classified (own_text c.text c.expanded) ≡ command.Builtin (builtin_of m) r → IsMove before (event.Arg at chord) m at.window
+  pub arg : (before behind : List Event) (at chord : Spot) (c : Clicked) (m : Move) (r : Range) → before
+      ++ event.Arg at chord ∷ behind ≡ journal
+      → is_open_window (present_after before).scene.book at.window ≡ false
+      → clicked_at (present_after before).scene.windows at click.Exec ≡ Some c
+      → classified (own_text c.text c.expanded) ≡ command.Builtin (builtin_of m) r
+      → IsMove before (event.Arg at chord) m at.window
   -- and an entry that writes back the item of one.
-  pub back : (before behind : List Event) (e : Event) (w n : ℕ) (item : Item) (m : Move) (r : Range) → before ++ e ∷ behind ≡ journal
-      → written_by before e ≡ Some (record { window = w; number = n }) → item_of (present_after before).scene.book w n ≡ Some item → is_exec item.sort ≡ true
+  pub back : (before behind : List Event) (e : Event) (w n : ℕ) (item : Item) (m : Move) (r : Range) → before ++ e
+      ∷ behind ≡ journal
+      → written_by before e ≡ Some (record { window = w; number = n }) → item_of (present_after before).scene.book w n
+      ≡ Some item → is_exec item.sort ≡ true
       → classified (own_text item.text item.expanded) ≡ command.Builtin (builtin_of m) r → IsMove before e m w
 
 -- So it is in each journal.

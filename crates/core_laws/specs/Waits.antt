@@ -1,5 +1,5 @@
--- The reads that wait stand in two lists: in the sessions with the fid that they read, and in the event files or the ports with its
--- opening. They are the same reads, in order.
+-- The reads that wait stand in two lists: in the sessions with the fid that they read, and in the event files or the
+-- ports with its opening. They are the same reads, in order.
 use Rattle.std.specs.Prelude.{◌≡◌, ℕ, true, false, List, [], ◌∷◌, map, All, Option, Some, None}
 use Rattle.std.specs.List.{list_any}
 use Rattle.fid_table.specs.declared.types.Fid.{Fid}
@@ -43,8 +43,8 @@ event_reads tables = reads_in event_opening tables tables.waiting
 abbrev pub port_reads : Tables → List WaitingRead
 port_reads tables = reads_in port_opening tables tables.waiting
 
--- Each read that waits in the sessions is one of an event file or of a port. Those of event files are the reads that wait in these, in the
--- order of asking, and those of ports likewise.
+-- Each read that waits in the sessions is one of an event file or of a port. Those of event files are the reads that
+-- wait in these, in the order of asking, and those of ports likewise.
 pub record WaitsAreTied (s : State) : Type 0 where
   pub known : All (λ w. is_there (feed_at s.tables w) ≡ true) s.tables.waiting
   pub events : event_reads s.tables ≡ map told s.scene.book.reads

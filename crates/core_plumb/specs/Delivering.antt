@@ -1,5 +1,6 @@
 -- What the delivery of a plumb message does (plumb(6), plumber(4)).
-use Rattle.std.specs.Prelude.{ℕ, Bool, true, false, List, [], ◌∷◌, ◌++◌, codes, Option, Some, None, option_map, if◌then◌else◌}
+use Rattle.std.specs.Prelude.{ℕ, Bool, true, false, List, [], ◌∷◌, ◌++◌, codes, Option, Some, None, option_map}
+use Rattle.std.specs.Prelude.{if◌then◌else◌}
 use Rattle.std.specs.Str.{bytes_eq}
 use Rattle.am_text.specs.Utf8.{decode}
 use Rattle.am_text.specs.declared.job.Job.{Job}
@@ -58,7 +59,8 @@ abbrev pub open_if_any : Entry → Option Target → Option (List ℕ) → Scene
 open_if_any e None address s = []
 open_if_any e (Some target) address s = open_deeds e target address s
 
--- what the data name, made whole with the message's directory, is opened with that address, if it is a window, a file or a directory
+-- what the data name, made whole with the message's directory, is opened with that address, if it is a
+-- window, a file or a directory
 abbrev pub shown_deeds : Entry → PlumbMsg → SceneState → List Deed
 shown_deeds e m s = open_if_any e (target_of (data_name m) s) (address_in m) s
 

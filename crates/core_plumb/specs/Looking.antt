@@ -1,5 +1,6 @@
 -- A look at a text, as the plumber is asked first (acme(1)).
-use Rattle.std.specs.Prelude.{ℕ, ◌==◌, ◌&&◌, not, nat_le, Bool, false, List, [], length, codes, Option, Some, None, is_none, if◌then◌else◌}
+use Rattle.std.specs.Prelude.{ℕ, ◌==◌, ◌&&◌, not, nat_le, Bool, false, List, [], length, codes, Option, Some, None}
+use Rattle.std.specs.Prelude.{is_none, if◌then◌else◌}
 use Rattle.am_text.specs.Utf8.{utf8}
 use Rattle.plumb_msg.specs.declared.message.PlumbMsg.{PlumbMsg}
 use Rattle.core_windows.specs.Windows.{window_at}
@@ -13,7 +14,14 @@ use Rattle.core_plumb.specs.Plumbing.{plumb_deeds}
 
 -- the message of a look at a text in a directory
 unfoldable pub look_msg : List ℕ → List ℕ → PlumbMsg
-look_msg dir text = record { src = codes "acme"; dst = []; wdir = utf8 dir; sort = codes "text"; attrs = []; body = utf8 text }
+look_msg dir text = record {
+  src = codes "acme";
+  dst = [];
+  wdir = utf8 dir;
+  sort = codes "text";
+  attrs = [];
+  body = utf8 text;
+}
 
 -- the message of a look in a window
 abbrev pub look_msg_at : ℕ → List ℕ → SceneState → PlumbMsg

@@ -23,7 +23,8 @@ IsSpelled route = can_spell route.msg ≡ true
 
 -- ---- why it isn't delivered
 
--- to a port without openings: only where a command is started that is to take it, it waits for an opening, while there is room
+-- to a port without openings: only where a command is started that is to take it, it waits for an
+-- opening, while there is room
 abbrev pub closed_refusal : Way → ℕ → PortsState → Option PlumbRefusal
 closed_refusal way.Port port ports = Some refusal.PortNotOpen
 closed_refusal (way.Start command) port ports = None

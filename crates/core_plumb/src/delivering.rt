@@ -7,7 +7,8 @@ ghost use Rattle.plumb_ports.specs.PortsState.{refusal};
 ghost use Rattle.core_scene.specs.Scenes.{scene_of, kept_of, Did};
 ghost use Rattle.core_scene.specs.declared.deed.Deed.TheVariants as deed;
 ghost use Rattle.core_plumb.specs.Routing.{IsSpelled, numbered_refusal, named_refusal, port_refusal};
-ghost use Rattle.core_plumb.specs.Delivering.{is_open_named, copy_deeds, copies_if_open, edit_deeds, is_client, closed_deeds, port_deeds, named_deeds, deliver_deeds};
+ghost use Rattle.core_plumb.specs.Delivering.{is_open_named, copy_deeds, copies_if_open, edit_deeds, is_client};
+ghost use Rattle.core_plumb.specs.Delivering.{closed_deeds, port_deeds, named_deeds, deliver_deeds};
 
 use crate::editing::show;
 use crate::routing::is_edit;
@@ -64,7 +65,8 @@ fn keep(
 ) -> Result<(), NoMemory>
     requires takes { refusal scene.old.ports.present name.now true ≡ None }
     requires spelled { spelling.can_spell msg.now ≡ true }
-    ensures ok { OnOk result (Did entry (scene_of scene.old) (scene_of scene.new) (deed.Delivers name.now (spelling.msg_text msg.now) true ∷ [])) }
+    ensures ok { OnOk result (Did entry (scene_of scene.old) (scene_of scene.new)
+        (deed.Delivers name.now (spelling.msg_text msg.now) true ∷ [])) }
     ensures kept { kept_of scene.new ≡ kept_of scene.old }
 {
     let port = Bytes::copied(alloc, name.as_slice())?;
@@ -89,7 +91,8 @@ fn copy_if_open(
     msg: &PlumbMsg,
 ) -> Result<(), NoMemory>
     requires { spelling.can_spell msg.now ≡ true }
-    ensures ok { OnOk result (Did entry (scene_of scene.old) (scene_of scene.new) (copies_if_open name.now msg.now (scene_of scene.old))) }
+    ensures ok { OnOk result (Did entry (scene_of scene.old) (scene_of scene.new)
+        (copies_if_open name.now msg.now (scene_of scene.old))) }
     ensures kept { kept_of scene.new ≡ kept_of scene.old }
 {
     if is_open_named(&scene.ports, name) {
@@ -99,8 +102,8 @@ fn copy_if_open(
     }
 }
 
-// Delivers a message to port `edit`, which has this name: the editor opens what the data name, and then each opening gets a
-// copy.
+// Delivers a message to port `edit`, which has this name: the editor opens what the data name, and then
+// each opening gets a copy.
 #[tactic(auto, using(crate::proofs::Joined::joins))]
 fn deliver_to_edit(
     alloc: Global,
@@ -110,7 +113,8 @@ fn deliver_to_edit(
     msg: &PlumbMsg,
 ) -> Result<(), NoMemory>
     requires { spelling.can_spell msg.now ≡ true }
-    ensures ok { OnOk result (Did entry (scene_of scene.old) (scene_of scene.new) (edit_deeds entry name.now msg.now (scene_of scene.old))) }
+    ensures ok { OnOk result (Did entry (scene_of scene.old) (scene_of scene.new)
+        (edit_deeds entry name.now msg.now (scene_of scene.old))) }
     ensures kept { kept_of scene.new ≡ kept_of scene.old }
 {
     show(alloc, scene, entry, msg)?;
@@ -137,10 +141,12 @@ fn deliver_to_closed(
     name: &Bytes,
     route: &Route,
 ) -> Result<(), NoMemory>
-    requires takes { numbered_refusal route.now.way (number_of scene.old.ports.present.ports name.now) scene.old.ports.present ≡ None }
+    requires takes { numbered_refusal route.now.way (number_of scene.old.ports.present.ports name.now)
+        scene.old.ports.present ≡ None }
     requires closed { is_open_named scene.old.ports.present name.now ≡ false }
     requires spelled { IsSpelled route.now }
-    ensures ok { OnOk result (Did entry (scene_of scene.old) (scene_of scene.new) (closed_deeds name.now route.now.msg route.now.way)) }
+    ensures ok { OnOk result (Did entry (scene_of scene.old) (scene_of scene.new)
+        (closed_deeds name.now route.now.msg route.now.way)) }
     ensures kept { kept_of scene.new ≡ kept_of scene.old }
 {
     start(alloc, scene, entry, &route.msg, &route.way)?;
@@ -160,9 +166,11 @@ fn deliver_to_port(
     name: &Bytes,
     route: &Route,
 ) -> Result<(), NoMemory>
-    requires takes { numbered_refusal route.now.way (number_of scene.old.ports.present.ports name.now) scene.old.ports.present ≡ None }
+    requires takes { numbered_refusal route.now.way (number_of scene.old.ports.present.ports name.now)
+        scene.old.ports.present ≡ None }
     requires spelled { IsSpelled route.now }
-    ensures ok { OnOk result (Did entry (scene_of scene.old) (scene_of scene.new) (port_deeds name.now route.now.msg route.now.way (scene_of scene.old))) }
+    ensures ok { OnOk result (Did entry (scene_of scene.old) (scene_of scene.new)
+        (port_deeds name.now route.now.msg route.now.way (scene_of scene.old))) }
     ensures kept { kept_of scene.new ≡ kept_of scene.old }
 {
     if is_open_named(&scene.ports, name) {
@@ -182,7 +190,8 @@ fn deliver_to_named(
 ) -> Result<(), NoMemory>
     requires takes { named_refusal route.now.way name.now scene.old.ports.present ≡ None }
     requires spelled { IsSpelled route.now }
-    ensures ok { OnOk result (Did entry (scene_of scene.old) (scene_of scene.new) (named_deeds entry name.now route.now.msg route.now.way (scene_of scene.old))) }
+    ensures ok { OnOk result (Did entry (scene_of scene.old) (scene_of scene.new)
+        (named_deeds entry name.now route.now.msg route.now.way (scene_of scene.old))) }
     ensures kept { kept_of scene.new ≡ kept_of scene.old }
 {
     if is_edit(name.as_slice()) {
@@ -201,7 +210,8 @@ pub(crate) fn deliver(
 ) -> Result<(), NoMemory>
     requires takes { port_refusal route.now.way route.now.port scene.old.ports.present ≡ None }
     requires spelled { IsSpelled route.now }
-    ensures ok { OnOk result (Did entry (scene_of scene.old) (scene_of scene.new) (deliver_deeds entry route.now (scene_of scene.old))) }
+    ensures ok { OnOk result (Did entry (scene_of scene.old) (scene_of scene.new)
+        (deliver_deeds entry route.now (scene_of scene.old))) }
     ensures kept { kept_of scene.new ≡ kept_of scene.old }
 {
     match &route.port {

@@ -62,7 +62,8 @@ fn open_if_any(
     address: &Option<Runes>,
 ) -> Result<(), NoMemory>
     requires { IfSome target (IsThere scene.old.windows.present) }
-    ensures ok { OnOk result (Did entry (scene_of scene.old) (scene_of scene.new) (open_if_any entry target address.now (scene_of scene.old))) }
+    ensures ok { OnOk result (Did entry (scene_of scene.old) (scene_of scene.new)
+        (open_if_any entry target address.now (scene_of scene.old))) }
     ensures kept { kept_of scene.new ≡ kept_of scene.old }
 {
     match target {
@@ -71,15 +72,16 @@ fn open_if_any(
     }
 }
 
-/// Opens what the data of a message name, made whole with its directory, if that is a window, a file or a directory; the attribute
-/// `addr` is its address.
+/// Opens what the data of a message name, made whole with its directory, if that is a window, a file or a directory;
+/// the attribute `addr` is its address.
 pub(crate) fn show(
     alloc: Global,
     scene: &mut Scene,
     entry: Entry,
     msg: &PlumbMsg,
 ) -> Result<(), NoMemory>
-    ensures ok { OnOk result (Did entry (scene_of scene.old) (scene_of scene.new) (shown_deeds entry msg.now (scene_of scene.old))) }
+    ensures ok { OnOk result (Did entry (scene_of scene.old) (scene_of scene.new)
+        (shown_deeds entry msg.now (scene_of scene.old))) }
     ensures kept { kept_of scene.new ≡ kept_of scene.old }
 {
     let target = named_by(alloc, scene, msg)?;

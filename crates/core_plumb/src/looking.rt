@@ -4,7 +4,8 @@ ghost use Rattle.std.specs.Prelude.{◌≡◌, ◌==◌, false, not, is_none, le
 ghost use Rattle.am_text.specs.Utf8.{utf8};
 ghost use Rattle.core_scene.specs.Scenes.{scene_of, kept_of, Did};
 ghost use Rattle.core_plumb.specs.Routing.{plumb_refusal};
-ghost use Rattle.core_plumb.specs.Looking.{look_msg, look_msg_at, asked_msg, is_taken, is_plumbed, plumbed_if_any, plumb_look_deeds};
+ghost use Rattle.core_plumb.specs.Looking.{look_msg, look_msg_at, asked_msg, is_taken, is_plumbed, plumbed_if_any};
+ghost use Rattle.core_plumb.specs.Looking.{plumb_look_deeds};
 
 use crate::plumbing::plumb;
 use crate::routing::{route_in, route_refusal};
@@ -50,7 +51,8 @@ fn has_rules(rules: &RuleStore) -> bool
     !rules.sets().is_empty()
 }
 
-// The message of which the plumber is asked, if it is: it has rules, and the text isn't longer than the data of a message.
+// The message of which the plumber is asked, if it is: it has rules, and the text isn't longer
+// than the data of a message.
 fn asked_msg(
     alloc: Global,
     scene: &Scene,
@@ -95,7 +97,8 @@ fn plumb_if_any(
     entry: Entry,
     asked: &Option<PlumbMsg>,
 ) -> Result<bool, NoMemory>
-    ensures ok { OnOk result (Did entry (scene_of scene.old) (scene_of scene.new) (plumbed_if_any entry asked.now (scene_of scene.old))) }
+    ensures ok { OnOk result (Did entry (scene_of scene.old) (scene_of scene.new)
+        (plumbed_if_any entry asked.now (scene_of scene.old))) }
     ensures taken { IfOk result (λ taken. taken ≡ is_taken asked.now (scene_of scene.old)) }
     ensures stays { IfOk result (λ taken. taken ≡ false → scene_of scene.new ≡ scene_of scene.old) }
     ensures kept { kept_of scene.new ≡ kept_of scene.old }
@@ -109,8 +112,9 @@ fn plumb_if_any(
     }
 }
 
-/// Whether the plumber takes a look at a text of a window: it has rules, the text has at most 1,048,576 bytes, and the message
-/// of the look would be delivered: from `acme`, in the window's directory, of type `text`, to no port of its own.
+/// Whether the plumber takes a look at a text of a window: it has rules, the text has at most 1,048,576
+/// bytes, and the message of the look would be delivered: from `acme`, in the window's directory, of type
+/// `text`, to no port of its own.
 pub fn is_plumbed(alloc: Global, scene: &Scene, window: u32, text: &Runes) -> Result<bool, NoMemory>
     ensures { IfOk result (λ plumbed. plumbed ≡ is_plumbed window text.now (scene_of scene.now)) }
 {
@@ -118,8 +122,8 @@ pub fn is_plumbed(alloc: Global, scene: &Scene, window: u32, text: &Runes) -> Re
     is_taken(alloc, scene, &asked)
 }
 
-/// Plumbs a look at a text of a window, where the plumber takes it, and answers whether it does. Where it doesn't, the scene stays
-/// as it was.
+/// Plumbs a look at a text of a window, where the plumber takes it, and answers whether it does. Where it doesn't,
+/// the scene stays as it was.
 pub fn plumb_look(
     alloc: Global,
     scene: &mut Scene,
@@ -127,7 +131,8 @@ pub fn plumb_look(
     window: u32,
     text: &Runes,
 ) -> Result<bool, NoMemory>
-    ensures ok { OnOk result (Did entry (scene_of scene.old) (scene_of scene.new) (plumb_look_deeds entry window text.now (scene_of scene.old))) }
+    ensures ok { OnOk result (Did entry (scene_of scene.old) (scene_of scene.new)
+        (plumb_look_deeds entry window text.now (scene_of scene.old))) }
     ensures plumbed { IfOk result (λ plumbed. plumbed ≡ is_plumbed window text.now (scene_of scene.old)) }
     ensures stays { IfOk result (λ plumbed. plumbed ≡ false → scene_of scene.new ≡ scene_of scene.old) }
     ensures kept { kept_of scene.new ≡ kept_of scene.old }

@@ -23,7 +23,8 @@ fn deliver_if_any(
 ) -> Result<(), NoMemory>
     requires takes { route_refusal route.now scene.old.ports.present ≡ None }
     requires spelled { IfSome route.now IsSpelled }
-    ensures ok { OnOk result (Did entry (scene_of scene.old) (scene_of scene.new) (delivered_if_any entry route.now (scene_of scene.old))) }
+    ensures ok { OnOk result (Did entry (scene_of scene.old) (scene_of scene.new)
+        (delivered_if_any entry route.now (scene_of scene.old))) }
     ensures kept { kept_of scene.new ≡ kept_of scene.old }
 {
     match route {
@@ -40,7 +41,8 @@ fn plumb_by(
     route: &Option<Route>,
 ) -> Result<Option<PlumbRefusal>, NoMemory>
     requires { IfSome route.now IsSpelled }
-    ensures ok { OnOk result (Did entry (scene_of scene.old) (scene_of scene.new) (routed_deeds entry route.now (scene_of scene.old))) }
+    ensures ok { OnOk result (Did entry (scene_of scene.old) (scene_of scene.new)
+        (routed_deeds entry route.now (scene_of scene.old))) }
     ensures refusal { IfOk result (λ refusal. refusal ≡ route_refusal route.now scene.old.ports.present) }
     ensures stays { IfOk result (λ refusal. IsSome refusal → scene_of scene.new ≡ scene_of scene.old) }
     ensures kept { kept_of scene.new ≡ kept_of scene.old }
@@ -56,17 +58,18 @@ fn plumb_by(
 
 /// Delivers a plumb message, or says why it isn't delivered, and then the scene stays as it was.
 ///
-/// The message goes by the accepted rules, or else to the port that it names, as the rules leave it. An open port gives each of
-/// its openings a copy. Port `edit` counts as open: the editor opens what the data name, with the attribute `addr` as its address.
-/// For a port that isn't open, and where there is none, the command of the rules is started, and the message is kept for the port
-/// where the command is to take it.
+/// The message goes by the accepted rules, or else to the port that it names, as the rules leave it. An open port gives
+/// each of its openings a copy. Port `edit` counts as open: the editor opens what the data name, with the attribute
+/// `addr` as its address. For a port that isn't open, and where there is none, the command of the rules is started, and
+/// the message is kept for the port where the command is to take it.
 pub fn plumb(
     alloc: Global,
     scene: &mut Scene,
     entry: Entry,
     msg: &PlumbMsg,
 ) -> Result<Option<PlumbRefusal>, NoMemory>
-    ensures ok { OnOk result (Did entry (scene_of scene.old) (scene_of scene.new) (plumb_deeds entry msg.now (scene_of scene.old))) }
+    ensures ok { OnOk result (Did entry (scene_of scene.old) (scene_of scene.new)
+        (plumb_deeds entry msg.now (scene_of scene.old))) }
     ensures refusal { IfOk result (λ refusal. refusal ≡ plumb_refusal msg.now (scene_of scene.old)) }
     ensures stays { IfOk result (λ refusal. IsSome refusal → scene_of scene.new ≡ scene_of scene.old) }
     ensures kept { kept_of scene.new ≡ kept_of scene.old }

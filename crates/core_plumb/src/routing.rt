@@ -6,7 +6,8 @@ ghost use Rattle.plumb_msg.specs.Spelling as spelling;
 ghost use Rattle.plumb_rules.specs.Routes.{route_of};
 ghost use Rattle.plumb_ports.specs.PortList.{edit_name};
 ghost use Rattle.core_scene.specs.Scenes.{scene_of};
-ghost use Rattle.core_plumb.specs.Routing.{IsSpelled, route_in, closed_refusal, numbered_refusal, named_refusal, port_refusal, route_refusal};
+ghost use Rattle.core_plumb.specs.Routing.{IsSpelled, route_in, closed_refusal, numbered_refusal, named_refusal};
+ghost use Rattle.core_plumb.specs.Routing.{port_refusal, route_refusal};
 
 use crate::refusal::PlumbRefusal;
 use am_text::{Bytes, NoMemory};
@@ -19,9 +20,11 @@ use std::alloc::Global;
 #[tactic(auto, using(crate::proofs::Spelled::spelled))]
 fn route_spelled(alloc: Global, scene: &Scene, msg: &PlumbMsg) -> Result<Option<Route>, NoMemory>
     requires { spelling.can_spell msg.now ≡ true }
-    ensures exact { IfOk result (λ route. route ≡ route_of scene.now.files.present scene.now.rules.present.sets msg.now) }
+    ensures exact { IfOk result (λ route. route ≡ route_of scene.now.files.present
+        scene.now.rules.present.sets msg.now) }
     ensures spelled { IfOk result (λ route. IfSome route IsSpelled) }
 {
+    // law: messages are delivered whole, so that a route has a spelling
     messages_are_delivered_whole();
     route(alloc, scene.rules.sets(), msg, &scene.files)
 }

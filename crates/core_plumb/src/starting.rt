@@ -35,7 +35,8 @@ fn request(
     msg: &PlumbMsg,
     command: &Runes,
 ) -> Result<(), NoMemory>
-    ensures ok { OnOk result (Did entry (scene_of scene.old) (scene_of scene.new) (deed.Requests (start_job msg.now command.now) ∷ [])) }
+    ensures ok { OnOk result (Did entry (scene_of scene.old) (scene_of scene.new)
+        (deed.Requests (start_job msg.now command.now) ∷ [])) }
     ensures ports { OnOk result (scene.new.ports.present ≡ scene.old.ports.present) }
     ensures kept { kept_of scene.new ≡ kept_of scene.old }
 {
@@ -43,7 +44,8 @@ fn request(
     scene.act(alloc, entry, Deed::Requests(job))
 }
 
-/// Requests the command of the rules, if they have one, to be started in the message's directory. The ports stay as they are.
+/// Requests the command of the rules, if they have one, to be started in the message's directory.
+/// The ports stay as they are.
 pub(crate) fn start(
     alloc: Global,
     scene: &mut Scene,

@@ -1,5 +1,6 @@
 -- The items that a change of the windows makes.
-use Rattle.std.specs.Prelude.{ℕ, ◌+◌, ◌==◌, not, nat_eq, nat_lt, List, [], ◌∷◌, ◌++◌, length, codes, Option, Some, None, if◌then◌else◌}
+use Rattle.std.specs.Prelude.{ℕ, ◌+◌, ◌==◌, not, nat_eq, nat_lt, List, [], ◌∷◌, ◌++◌, length, codes, Option, Some, None}
+use Rattle.std.specs.Prelude.{if◌then◌else◌}
 use Rattle.std.specs.List.{ends_with}
 use Rattle.std.specs.Option.{option_to_list}
 use Rattle.am_text.specs.declared.range.Range.{Range}
@@ -31,7 +32,8 @@ put_item origin sort at text =
 
 -- what an edit takes away
 abbrev pub cut_item : Origin → Edit → Option Item
-cut_item origin e = if nat_lt e.q0 e.q1 then Some (plain_item origin BodyDel (record { q0 = e.q0; q1 = e.q1 }) []) else None
+cut_item origin e =
+    if nat_lt e.q0 e.q1 then Some (plain_item origin BodyDel (record { q0 = e.q0; q1 = e.q1 }) []) else None
 
 -- an edit: what it takes away, then what it puts
 abbrev pub edit_items : Origin → Edit → List Item
@@ -44,7 +46,8 @@ items_of_edits origin (e ∷ es) = edit_items origin e ++ items_of_edits origin 
 
 -- ---- the tag
 
--- what the tag shows: Undo and Redo where there is a group, Put where the window is modified, Get where it is a directory
+-- what the tag shows: Undo and Redo where there is a group, Put where the window is modified,
+-- Get where it is a directory
 abbrev pub shown_of : Window → Shown
 shown_of window = record {
   undo = not (length window.body.history.past == 0);
@@ -114,8 +117,8 @@ edits_of_redo (Some window) = edits_if_any (edits_to_redo window.body.history)
 
 -- ---- all windows
 
--- The items of this origin that a change of the windows makes, in order, told by its window as it stands before. A new window and a
--- deleted one make none.
+-- The items of this origin that a change of the windows makes, in order, told by its window as it stands before. A new
+-- window and a deleted one make none.
 abbrev pub items_of : List (Option Window) → Origin → Change → List Item
 items_of windows origin (change.Makes name) = []
 items_of windows origin (change.Deletes w) = []

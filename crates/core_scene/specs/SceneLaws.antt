@@ -9,7 +9,9 @@ use Rattle.core_scene.specs.Scenes.{SceneState, done_all, CanDoAll, Did}
 
 -- Deeds that are done after others are done as one list with them.
 abbrev pub DeedsJoin : Type 0
-DeedsJoin = (e : Entry) (a b c : SceneState) (first second : List Deed) → Did e a b first → Did e b c second → Did e a c (first ++ second)
+DeedsJoin =
+    (e : Entry) (a b c : SceneState) (first second : List Deed) → Did e a b first → Did e b c second
+    → Did e a c (first ++ second)
 
 -- the changes of the windows among deeds
 abbrev pub changes_in : List Deed → List Change
@@ -30,7 +32,8 @@ pub record AreShown (e : Entry) (stories : List (Option WindowStory)) (s : Scene
   pub shown : shown_windows (all_changed_stories e.at stories (changes_in ds)) ≡ (done_all e s ds).windows
   pub lawful : AreLawful (all_changed_stories e.at stories (changes_in ds))
 
--- What deeds make of the windows as they stand is what their changes make of the windows by all edits, which stay lawful.
+-- What deeds make of the windows as they stand is what their changes make of the windows by all
+-- edits, which stay lawful.
 abbrev pub DeedsShow : Type 0
 DeedsShow = (e : Entry) (stories : List (Option WindowStory)) (s : SceneState) (ds : List Deed)
     → shown_windows stories ≡ s.windows → AreLawful stories → CanDoAll e s ds → AreShown e stories s ds

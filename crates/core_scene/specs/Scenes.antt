@@ -21,8 +21,8 @@ use Rattle.core_scene.specs.declared.deed.Deed.TheVariants as deed
 use Rattle.core_scene.specs.declared.scene.Scene.{Scene}
 use Rattle.core_scene.specs.Told.{told_in, told_if_any, teller_of, deletes}
 
--- all windows, the event files, the tree of files, the snarfed text, the requests, the rules and ports of the plumber, and the
--- items that the step has made so far, and the windows that it has deleted
+-- all windows, the event files, the tree of files, the snarfed text, the requests, the rules and ports of the plumber,
+-- and the items that the step has made so far, and the windows that it has deleted
 pub record SceneState : Type 0 where
   pub windows : List (Option Window)
   pub book : BookState
@@ -43,7 +43,11 @@ items_told e s c = told_if_any s.book (teller_of c) (items_of s.windows e.origin
 -- the scene after a deed
 abbrev pub done : Entry → SceneState → Deed → SceneState
 done e s (deed.Windows c) =
-    record s { windows = changed e.at s.windows c; items = s.items ++ items_told e s c; deleted = s.deleted ++ deletes c }
+    record s {
+      windows = changed e.at s.windows c;
+      items = s.items ++ items_told e s c;
+      deleted = s.deleted ++ deletes c;
+    }
 done e s (deed.Item w item) = record s { items = s.items ++ told_in s.book w (item ∷ []) }
 done e s (deed.Snarfs text) = record s { snarf = text }
 done e s (deed.Stores path bytes) = record s { files = after_file s.files path bytes }
@@ -58,8 +62,8 @@ done e s (deed.Delivers port message keep) = record s { ports = after_deliver s.
 abbrev pub can_add : PortsState → List ℕ → Bool
 can_add s name = is_port_name name && (is_there s.ports name || nat_lt (length s.ports) max_ports)
 
--- what a change names is there; what is stored or made clashes with nothing; there is room for rules and ports, which have names of ports; a port takes
--- what is delivered
+-- what a change names is there; what is stored or made clashes with nothing; there is room for rules and ports, which
+-- have names of ports; a port takes what is delivered
 abbrev pub CanDo : SceneState → Deed → Type 0
 CanDo s (deed.Windows c) = CanChange s.windows c
 CanDo s (deed.Item w item) = Unit {0}
@@ -111,7 +115,17 @@ deleted_by (deed.Delivers port message keep ∷ ds) = deleted_by ds
 
 -- nothing was ever made
 abbrev pub no_scene : SceneState
-no_scene = record { windows = []; book = empty_book; files = []; snarf = []; jobs = []; rules = no_rules; ports = beginning; items = []; deleted = [] }
+no_scene = record {
+  windows = [];
+  book = empty_book;
+  files = [];
+  snarf = [];
+  jobs = [];
+  rules = no_rules;
+  ports = beginning;
+  items = [];
+  deleted = [];
+}
 
 -- the present state of a scene
 abbrev pub scene_of : Scene → SceneState

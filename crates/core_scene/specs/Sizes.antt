@@ -1,5 +1,6 @@
 -- The lengths of tags, without their texts.
-use Rattle.std.specs.Prelude.{ℕ, ◌+◌, ◌==◌, ◌&&◌, not, nat_eq, Bool, true, false, List, [], ◌∷◌, ◌++◌, length, codes, Option, Some, None, if◌then◌else◌}
+use Rattle.std.specs.Prelude.{ℕ, ◌+◌, ◌==◌, ◌&&◌, not, nat_eq, Bool, true, false, List, [], ◌∷◌, ◌++◌, length, codes}
+use Rattle.std.specs.Prelude.{Option, Some, None, if◌then◌else◌}
 use Rattle.std.specs.List.{ends_with}
 use Rattle.win_events.specs.declared.item.Item.{Item}
 use Rattle.win_events.specs.declared.item.Origin.{Origin}
@@ -22,7 +23,8 @@ shows_put s = not (s.name == 0) && s.shown.modified && not s.shown.dir
 
 -- Del and Snarf, Undo, Redo, Put, Get, and the bar, each with the blank in front of it
 abbrev pub words_size : TagSize → ℕ
-words_size s = 10 + word_size s.shown.undo 5 + word_size s.shown.redo 5 + word_size (shows_put s) 4 + word_size s.shown.dir 4 + 2
+words_size s =
+    10 + word_size s.shown.undo 5 + word_size s.shown.redo 5 + word_size (shows_put s) 4 + word_size s.shown.dir 4 + 2
 
 -- the part that the editor computes, and the whole tag
 abbrev pub left_size : TagSize → ℕ

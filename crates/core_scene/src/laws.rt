@@ -2,7 +2,7 @@
 
 ghost use Rattle.core_scene.specs.SceneLaws.{DeedsJoin, DeedsShow};
 
-use core_windows::{changes_are_lawful, changes_show};
+use core_windows::laws::{changes_are_lawful, changes_show};
 
 /// Deeds that are done after others are done as one list with them.
 pub fn deeds_join()
@@ -13,6 +13,7 @@ pub fn deeds_join()
 pub fn deeds_show()
     ensures { DeedsShow }
 {
+    // law: changes of the windows show in their stories, and leave these lawful
     changes_show();
     changes_are_lawful();
 }

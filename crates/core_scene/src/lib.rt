@@ -1,11 +1,12 @@
-//! What a step is made of: deeds, done one after another to one scene: the windows, the event files, the tree of files, the
-//! snarfed text, the requests, and the rules and ports of the plumber; and the items that a change of the windows makes.
+//! What a step is made of: deeds, done one after another to one scene: the windows, the event files, the tree
+//! of files, the snarfed text, the requests, and the rules and ports of the plumber; and the items that a
+//! change of the windows makes.
 #![tactic(auto)]
 
 mod changing;
 mod deed;
 mod edits;
-mod laws;
+pub mod laws;
 mod making;
 mod plain;
 mod scene;
@@ -19,7 +20,6 @@ pub use core_stores::{Requests, RuleStore, Snarf};
 pub use core_windows::{Change, Changes, Setting, Windows, World};
 pub use deed::{Deed, Deeds, Entry, WindowItem, WindowItems};
 pub use event_book::Book;
-pub use laws::{deeds_join, deeds_show};
 pub use making::items_of;
 pub use name_tree::{Found, Tree};
 pub use plain::NewItems;

@@ -19,7 +19,8 @@ fn items_of_undo(
     origin: Origin,
     window: u32,
 ) -> Result<NewItems, NoMemory>
-    ensures { IfOk result (λ items. items ≡ items_of_edits origin (edits_of_undo (window_at windows.now.present window))) }
+    ensures { IfOk result (λ items. items ≡ items_of_edits origin
+        (edits_of_undo (window_at windows.now.present window))) }
 {
     let Some(pane) = windows.get(window) else {
         return Ok(Items::new(alloc));
@@ -37,7 +38,8 @@ fn items_of_redo(
     origin: Origin,
     window: u32,
 ) -> Result<NewItems, NoMemory>
-    ensures { IfOk result (λ items. items ≡ items_of_edits origin (edits_of_redo (window_at windows.now.present window))) }
+    ensures { IfOk result (λ items. items ≡ items_of_edits origin
+        (edits_of_redo (window_at windows.now.present window))) }
 {
     let Some(pane) = windows.get(window) else {
         return Ok(Items::new(alloc));
@@ -48,11 +50,11 @@ fn items_of_redo(
     }
 }
 
-/// The items that a change of the windows makes, in the order in which they are made, of this origin. The windows are those
-/// before the change. A range that ends past 64 bits is want of memory.
+/// The items that a change of the windows makes, in the order in which they are made, of this origin. The windows are
+/// those before the change. A range that ends past 64 bits is want of memory.
 ///
-/// An edit makes an item of what it takes away and then one of what it puts; a text at the end of a tag makes one, and so
-/// does the removal of a tag's right part. What is empty makes none.
+/// An edit makes an item of what it takes away and then one of what it puts; a text at the end of a tag makes one, and
+/// so does the removal of a tag's right part. What is empty makes none.
 pub fn items_of(
     alloc: Global,
     windows: &Windows,

@@ -26,8 +26,8 @@ pub(crate) fn plain_item(origin: Origin, sort: Sort, range: Range, text: Runes) 
     }
 }
 
-/// The item of a text that is put at a place, unless it is empty. A range that ends past 64 bits is want of memory: a text
-/// of that length can't be there.
+/// The item of a text that is put at a place, unless it is empty. A range that ends past 64 bits is want of memory: a
+/// text of that length can't be there.
 pub(crate) fn put_item(
     alloc: Global,
     origin: Origin,

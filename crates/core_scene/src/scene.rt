@@ -18,8 +18,9 @@ use plumb_ports::{PortFault, Ports};
 use std::alloc::Global;
 use win_events::Item;
 
-/// What deeds are done to: the windows, the event files, the tree of files, the snarfed text, the requests, and the rules and
-/// ports of the plumber, each in two states, and the items that the step has made so far, and the windows that it has deleted.
+/// What deeds are done to: the windows, the event files, the tree of files, the snarfed text, the requests, and
+/// the rules and ports of the plumber, each in two states, and the items that the step has made so far, and the
+/// windows that it has deleted.
 pub struct Scene {
     pub windows: Windows,
     pub book: Book,
@@ -168,7 +169,8 @@ impl Scene {
         keep: bool,
     ) -> Result<(), NoMemory>
         requires { refusal self.old.ports.present port keep ≡ None }
-        ensures ok { OnOk result (scene_of self.new ≡ done entry (scene_of self.old) (deed.Delivers port message keep)) }
+        ensures ok { OnOk result (scene_of self.new
+            ≡ done entry (scene_of self.old) (deed.Delivers port message keep)) }
         ensures kept { kept_of self.new ≡ kept_of self.old }
         ensures book { self.new.book ≡ self.old.book }
     {
@@ -211,7 +213,8 @@ impl Scene {
         self.deleted = Items::new(alloc);
     }
 
-    /// The kept state becomes the present one again, and the items and the deleted windows are let go. It takes no memory.
+    /// The kept state becomes the present one again, and the items and the deleted windows are
+    /// let go. It takes no memory.
     pub fn back(&mut self, alloc: Global)
         ensures { self.new ≡ scene_in (kept_of self.old) }
     {

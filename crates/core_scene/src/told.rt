@@ -89,7 +89,8 @@ pub(crate) fn tell_change(
     origin: Origin,
     change: &Change,
 ) -> Result<(), NoMemory>
-    ensures { OnOk result (items.new ≡ items.old ++ told_if_any book.now.present (teller_of change.now) (items_of windows.now.present origin change.now)) }
+    ensures { OnOk result (items.new ≡ items.old ++ told_if_any book.now.present (teller_of change.now)
+        (items_of windows.now.present origin change.now)) }
 {
     let Some(window) = teller_of(change) else {
         return Ok(());

@@ -37,7 +37,8 @@ pub record AreAllSaid (h : Heard) : Type 0 where
 -- whether nothing is said but the answer to the message, if it is
 abbrev pub is_answer_alone : Heard → Bool
 is_answer_alone h =
-    ((((length h.clunked == 0) && (length h.asked == 0)) && (length h.deleted == 0)) && (length h.served == 0)) && (length h.delivered == 0)
+    ((((length h.clunked == 0) && (length h.asked == 0)) && (length h.deleted == 0)) && (length h.served == 0))
+    && (length h.delivered == 0)
 
 -- ---- what an event finds once its task was done, and what it does to that
 
@@ -50,7 +51,12 @@ pub record Finds : Type 0 where
 
 -- what it finds in the tables of the editor
 abbrev pub found_in : Parts → Effect → Finds
-found_in p effect = record { tables = p.sessions.present; effect = effect; book = p.scene.book.present; ports = p.scene.ports.present }
+found_in p effect = record {
+  tables = p.sessions.present;
+  effect = effect;
+  book = p.scene.book.present;
+  ports = p.scene.ports.present;
+}
 
 -- the sessions with the fid that the message puts
 abbrev pub with_fid_in : Finds → Asks → Tables
@@ -66,15 +72,19 @@ tables_heard f asks = asked_tables (tables_answered f asks) f.ports (port_read_o
 
 -- the event files with what the message takes and opens, and with the items of windows that live on
 abbrev pub book_put : Finds → Asks → List WindowItem → List ℕ → BookState
-book_put f asks items deleted = put_living deleted (opened (message_book (with_fid_in f asks) f.book asks.kind asks.answer asks.at) asks.events) items
+book_put f asks items deleted =
+    put_living deleted (opened (message_book (with_fid_in f asks) f.book asks.kind asks.answer asks.at) asks.events)
+    items
 
 -- and then, once waiting reads are answered, with those of windows that the step deletes
 abbrev pub book_heard : Finds → Asks → List WindowItem → List ℕ → BookState
-book_heard f asks items deleted = put_all (book_served_all asks.at (book_put f asks items deleted)) (ending deleted items)
+book_heard f asks items deleted =
+    put_all (book_served_all asks.at (book_put f asks items deleted)) (ending deleted items)
 
 -- the ports with what the message takes and opens
 abbrev pub ports_opened : Finds → Asks → PortsState
-ports_opened f asks = joined_with (asked_ports (tables_answered f asks) f.ports (port_read_of asks.kind asks.answer)) asks.events
+ports_opened f asks =
+    joined_with (asked_ports (tables_answered f asks) f.ports (port_read_of asks.kind asks.answer)) asks.events
 
 -- and once waiting reads are answered
 abbrev pub ports_heard : Finds → Asks → PortsState

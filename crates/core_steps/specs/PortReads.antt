@@ -19,7 +19,8 @@ abbrev pub port_read_in : ℕ → ℕ → Option Answer → Option PortRead
 port_read_in conn tag None = None
 port_read_in conn tag (Some (Says body)) = None
 port_read_in conn tag (Some (Reads fid opening count)) = None
-port_read_in conn tag (Some (ReadsPort fid opening count)) = Some (record { fid = fid; asker = record { conn = conn; tag = tag; opening = opening; count = count } })
+port_read_in conn tag (Some (ReadsPort fid opening count)) =
+    Some (record { fid = fid; asker = record { conn = conn; tag = tag; opening = opening; count = count } })
 
 -- the read that an event of this kind is, where it is one
 abbrev pub port_read_of : Kind → Option Answer → Option PortRead
@@ -36,7 +37,11 @@ pub record IsReadable (tables : Tables) (read : PortRead) : Type 0 where
 
 -- what is said to it
 abbrev pub port_response : Asker → RBody → Response
-port_response asker body = record { conn = asker.conn; message = record { tag = asker.tag; body = body }; feed = Some (port_feed asker.opening) }
+port_response asker body = record {
+  conn = asker.conn;
+  message = record { tag = asker.tag; body = body };
+  feed = Some (port_feed asker.opening);
+}
 
 -- what is said to a read of a port, if it is answered
 abbrev pub if_port_said : Asker → Option RBody → List Response

@@ -33,4 +33,5 @@ pub record HasReady (p : Parts) (prepared : Prepared) (d : Doing) : Type 0 where
   pub scene : scene_of p.scene ≡ grown_scene (present_of p) (kind_of prepared.event) d
   pub sound : IsSound prepared.at p.scene.book.present
   pub ports : ArePortsSound p.scene.ports.present
-  pub outputs : p.outputs.present ≡ put_replies p.outputs.kept (replies_of (said (present_of p) (kind_of prepared.event) d))
+  pub outputs : p.outputs.present ≡ put_replies p.outputs.kept
+      (replies_of (said (present_of p) (kind_of prepared.event) d))

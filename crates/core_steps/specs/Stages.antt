@@ -1,6 +1,6 @@
--- A step, part by part. First comes what it makes: deeds are done; the message is answered, or waits; items come; waiting reads are
--- answered. Then comes what it ends: the item that is written back, openings of freed fids and of deleted windows, and reads that wait no
--- more.
+-- A step, part by part. First comes what it makes: deeds are done; the message is answered, or waits; items come;
+-- waiting reads are answered. Then comes what it ends: the item that is written back, openings of freed fids and of
+-- deleted windows, and reads that wait no more.
 use Rattle.std.specs.Prelude.{ℕ, List, [], ◌∷◌, ◌++◌, Option, Some, None}
 use Rattle.ninep_types.specs.declared.message.RBody.{RBody}
 use Rattle.fid_table.specs.Tables.{Tables}
@@ -56,21 +56,24 @@ if_said conn tag opening (Some body) = read_response conn tag opening body ∷ [
 abbrev pub answer_said : Tables → BookState → ℕ → ℕ → Option Answer → List Response
 answer_said tables book conn tag None = []
 answer_said tables book conn tag (Some (Says body)) = response conn tag body ∷ []
-answer_said tables book conn tag (Some (Reads fid opening count)) = if_said conn tag opening (read_said tables book (asker_of conn tag opening count))
+answer_said tables book conn tag (Some (Reads fid opening count)) =
+    if_said conn tag opening (read_said tables book (asker_of conn tag opening count))
 answer_said tables book conn tag (Some (ReadsPort fid opening count)) = []
 
 -- the event files after an answer
 abbrev pub answer_book : Tables → BookState → ℕ → ℕ → Option Answer → ℕ → BookState
 answer_book tables book conn tag None at = book
 answer_book tables book conn tag (Some (Says body)) at = book
-answer_book tables book conn tag (Some (Reads fid opening count)) at = book_read tables book (asker_of conn tag opening count) at
+answer_book tables book conn tag (Some (Reads fid opening count)) at =
+    book_read tables book (asker_of conn tag opening count) at
 answer_book tables book conn tag (Some (ReadsPort fid opening count)) at = book
 
 -- the sessions after an answer
 abbrev pub answer_tables : Tables → BookState → ℕ → ℕ → Option Answer → Tables
 answer_tables tables book conn tag None = tables
 answer_tables tables book conn tag (Some (Says body)) = tables
-answer_tables tables book conn tag (Some (Reads fid opening count)) = tables_read tables book (asker_of conn tag opening count) fid
+answer_tables tables book conn tag (Some (Reads fid opening count)) =
+    tables_read tables book (asker_of conn tag opening count) fid
 answer_tables tables book conn tag (Some (ReadsPort fid opening count)) = tables
 
 -- a message alone is answered
@@ -101,7 +104,8 @@ message_tables tables book kind.Acts answer = tables
 
 -- ---- what a step makes
 
--- The scene once the deeds are done, each told by the event files as they stood before the step. Its ports are those that the message finds.
+-- The scene once the deeds are done, each told by the event files as they stood before the step. Its ports are
+-- those that the message finds.
 abbrev pub acted : Present → Doing → SceneState
 acted s d = done_all (entry_of s d) s.scene d.deeds
 
@@ -127,7 +131,8 @@ put_book s k d = put_living (deleted_by d.deeds) (opened (read_book s k d) d.eve
 
 -- waiting reads are answered, and then come the items of the windows that the step deletes
 abbrev pub grown_book : Present → Kind → Doing → BookState
-grown_book s k d = put_all (book_served_all (next_entry s) (put_book s k d)) (ending (deleted_by d.deeds) (acted s d).items)
+grown_book s k d =
+    put_all (book_served_all (next_entry s) (put_book s k d)) (ending (deleted_by d.deeds) (acted s d).items)
 
 -- the ports with what a read takes, and with an opening more
 abbrev pub open_ports : Present → Kind → Doing → PortsState
@@ -137,8 +142,9 @@ open_ports s k d = joined_with (asked_ports (read_tables s k d) (acted s d).port
 abbrev pub grown_ports : Present → Kind → Doing → PortsState
 grown_ports s k d = ports_after_serving (open_ports s k d)
 
--- What is said: to the reads of a fid that is freed, to the message, to the reads of windows that are deleted, and to the reads that
--- can be answered then. No step makes items and delivers to ports as well, so these are the oldest first over all files.
+-- What is said: to the reads of a fid that is freed, to the message, to the reads of windows that are deleted, and
+-- to the reads that can be answered then. No step makes items and delivers to ports as well, so these are the
+-- oldest first over all files.
 abbrev pub said : Present → Kind → Doing → List Response
 said s k d =
     clunked s.tables (conn_of k) d.effect

@@ -36,8 +36,11 @@ pub(crate) fn act(
     requires can { CanDoTask entry (kept_of scene.old) task }
     requires answerable { IsAnswerable answer }
     requires ports { ArePortsSound scene.old.ports.kept }
-    ensures scene { OnOk result (scene_of scene.new ≡ record (done_all entry (kept_of scene.old) (task_deeds entry task (kept_of scene.old))) { items = []; deleted = [] }) }
-    ensures items { IfOk result (λ a. a.items ≡ (done_all entry (kept_of scene.old) (task_deeds entry task (kept_of scene.old))).items) }
+    ensures scene { OnOk result (scene_of scene.new
+        ≡ record (done_all entry (kept_of scene.old) (task_deeds entry task (kept_of scene.old)))
+        { items = []; deleted = [] }) }
+    ensures items { IfOk result (λ a. a.items ≡ (done_all entry (kept_of scene.old)
+        (task_deeds entry task (kept_of scene.old))).items) }
     ensures deleted { IfOk result (λ a. a.deleted ≡ deleted_by (task_deeds entry task (kept_of scene.old))) }
     ensures held { IfOk result (λ a. a.held ≡ task_held entry task (kept_of scene.old)) }
     ensures answer { IfOk result (λ a. a.answer ≡ answer_or (task_refusal entry task (kept_of scene.old)) answer) }

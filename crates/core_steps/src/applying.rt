@@ -19,7 +19,8 @@ use std::alloc::Global;
 pub fn apply(alloc: Global, parts: &mut Parts, prepared: Prepared) -> Event
     requires { (d : Doing) × HasReady parts.old prepared d }
     ensures event { result ≡ prepared.event }
-    ensures state { (d : Doing) → HasReady parts.old prepared d → present_of parts.new ≡ after (present_of parts.old) prepared.event d }
+    ensures state { (d : Doing) → HasReady parts.old prepared d → present_of parts.new
+        ≡ after (present_of parts.old) prepared.event d }
     ensures sound { IsSound parts.new.entries parts.new.scene.book.kept }
     ensures ports { ArePortsSound parts.new.scene.ports.kept }
     ensures steady { AreSteady parts.new }

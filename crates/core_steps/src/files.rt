@@ -21,7 +21,8 @@ use fid_table::Sessions;
 use std::alloc::Global;
 use wait_queue::Asker;
 
-/// What an event of this kind asks of event files at the entry of this number: an answer, where it is a message, and an opening.
+/// What an event of this kind asks of event files at the entry of this number: an answer, where it is a
+/// message, and an opening.
 #[derive(Drop)]
 pub(crate) struct Asks {
     pub kind: Kind,
@@ -42,10 +43,12 @@ fn read(
     requires sound { IsSound read.at book.old.present }
     requires small { read.asker.count + rread_head < 2 ^ 32 }
     requires joined { HasJoined sessions.old.present read.asker.conn }
-    ensures exact { IfOk result (λ said. said ≡ if_said read.asker.conn read.asker.tag read.asker.opening (read_said sessions.old.present book.old.present read.asker)) }
+    ensures exact { IfOk result (λ said. said ≡ if_said read.asker.conn read.asker.tag read.asker.opening
+        (read_said sessions.old.present book.old.present read.asker)) }
     ensures said { IfOk result AreSaid }
     ensures book { OnOk result (book.new.present ≡ book_read sessions.old.present book.old.present read.asker read.at) }
-    ensures tables { OnOk result (sessions.new.present ≡ tables_read sessions.old.present book.old.present read.asker read.fid) }
+    ensures tables { OnOk result (sessions.new.present
+        ≡ tables_read sessions.old.present book.old.present read.asker read.fid) }
     ensures kept_book { book.new.kept ≡ book.old.kept }
     ensures kept_tables { sessions.new.kept ≡ sessions.old.kept }
     ensures sound { OnOk result (IsSound read.at book.new.present) }
@@ -70,10 +73,13 @@ fn answer_message(
     requires sound { IsSound asks.at book.old.present }
     requires answerable { IsAnswerable asks.answer }
     requires joined { IsOfJoined sessions.old.present asks.kind }
-    ensures exact { IfOk result (λ said. said ≡ message_said sessions.old.present book.old.present asks.kind asks.answer) }
+    ensures exact { IfOk result (λ said. said ≡ message_said sessions.old.present book.old.present
+        asks.kind asks.answer) }
     ensures said { IfOk result AreSaid }
-    ensures book { OnOk result (book.new.present ≡ message_book sessions.old.present book.old.present asks.kind asks.answer asks.at) }
-    ensures tables { OnOk result (sessions.new.present ≡ message_tables sessions.old.present book.old.present asks.kind asks.answer) }
+    ensures book { OnOk result (book.new.present ≡ message_book sessions.old.present book.old.present asks.kind
+        asks.answer asks.at) }
+    ensures tables { OnOk result (sessions.new.present
+        ≡ message_tables sessions.old.present book.old.present asks.kind asks.answer) }
     ensures kept_book { book.new.kept ≡ book.old.kept }
     ensures kept_tables { sessions.new.kept ≡ sessions.old.kept }
     ensures sound { OnOk result (IsSound asks.at book.new.present) }
@@ -123,10 +129,14 @@ pub(crate) fn grow_files(
     requires idle { IsIdle book.old.present }
     requires answerable { IsAnswerable asks.answer }
     requires joined { IsJoinedFor sessions.old.present asks.kind }
-    ensures exact { IfOk result (λ said. said ≡ message_said (grown sessions.old.present asks.kind effect.now) book.old.present asks.kind asks.answer) }
+    ensures exact { IfOk result (λ said. said ≡ message_said (grown sessions.old.present asks.kind effect.now)
+        book.old.present asks.kind asks.answer) }
     ensures said { IfOk result AreSaid }
-    ensures book { OnOk result (book.new.present ≡ opened (message_book (grown sessions.old.present asks.kind effect.now) book.old.present asks.kind asks.answer asks.at) asks.events) }
-    ensures tables { OnOk result (sessions.new.present ≡ message_tables (grown sessions.old.present asks.kind effect.now) book.old.present asks.kind asks.answer) }
+    ensures book { OnOk result (book.new.present ≡ opened
+        (message_book (grown sessions.old.present asks.kind effect.now) book.old.present asks.kind asks.answer asks.at)
+        asks.events) }
+    ensures tables { OnOk result (sessions.new.present
+        ≡ message_tables (grown sessions.old.present asks.kind effect.now) book.old.present asks.kind asks.answer) }
     ensures kept_book { book.new.kept ≡ book.old.kept }
     ensures kept_tables { sessions.new.kept ≡ sessions.old.kept }
     ensures sound { OnOk result (IsSound asks.at book.new.present) }
@@ -134,6 +144,7 @@ pub(crate) fn grow_files(
     ensures there { OnOk result (IsOfJoined sessions.new.present asks.kind) }
 {
     let events = asks.events;
+    // law: the book is lawful
     book.is_lawful();
     grow_sessions(alloc, sessions, asks.kind, effect)?;
     let said = answer_message(alloc, book, sessions, asks)?;

@@ -34,8 +34,8 @@ use core_parts::{Parts, conn_of, kind_of};
 use core_scene::{Entry, WindowItems};
 use std::alloc::Global;
 
-// The event files with the items that come; and what is said to the waiting reads that get them. Items of windows that the step deletes
-// come last. Where none come no waiting read can be answered.
+// The event files with the items that come; and what is said to the waiting reads that get them. Items of windows that
+// the step deletes come last. Where none come no waiting read can be answered.
 fn grow_items(
     alloc: Global,
     book: &mut Book,
@@ -47,7 +47,8 @@ fn grow_items(
     requires idle { IsIdle book.old.present }
     ensures exact { IfOk result (λ said. said ≡ served_all at (put_living deleted.now book.old.present items)) }
     ensures said { IfOk result AreSaid }
-    ensures book { OnOk result (book.new.present ≡ put_all (book_served_all at (put_living deleted.now book.old.present items)) (ending deleted.now items)) }
+    ensures book { OnOk result (book.new.present ≡ put_all
+        (book_served_all at (put_living deleted.now book.old.present items)) (ending deleted.now items)) }
     ensures kept { book.new.kept ≡ book.old.kept }
     ensures sound { OnOk result (IsSound at book.new.present) }
 {
@@ -73,8 +74,8 @@ fn grow_ports(alloc: Global, ports: &mut Ports, events: EventChange) -> Result<R
     serve_ports(alloc, ports)
 }
 
-// All that is said, and what is done with it to the sessions, the event files and the ports: the message is answered, or waits; items
-// come; waiting reads are answered.
+// All that is said, and what is done with it to the sessions, the event files and the ports: the message is answered,
+// or waits; items come; waiting reads are answered.
 #[tactic(auto, using(crate::proofs::Joins::joining, crate::proofs::Idling::asking))]
 fn hear(
     alloc: Global,
@@ -93,13 +94,15 @@ fn hear(
     ensures heard { IfOk result (λ h. h ≡ heard_of (found_in parts.old effect.now) asks items deleted.now) }
     ensures said { IfOk result AreAllSaid }
     ensures tables { OnOk result (parts.new.sessions.present ≡ tables_heard (found_in parts.old effect.now) asks) }
-    ensures book { OnOk result (parts.new.scene.book.present ≡ book_heard (found_in parts.old effect.now) asks items deleted.now) }
+    ensures book { OnOk result (parts.new.scene.book.present
+        ≡ book_heard (found_in parts.old effect.now) asks items deleted.now) }
     ensures ports { OnOk result (parts.new.scene.ports.present ≡ ports_heard (found_in parts.old effect.now) asks) }
     ensures there { OnOk result (IsOfJoined parts.new.sessions.present asks.kind) }
     ensures sound { OnOk result (IsSound asks.at parts.new.scene.book.present) }
     ensures sound_ports { OnOk result (ArePortsSound parts.new.scene.ports.present) }
     ensures kept { present_of parts.new ≡ present_of parts.old }
-    ensures rest { parts.new ≡ record parts.old { scene = record parts.old.scene { book = parts.new.scene.book; ports = parts.new.scene.ports }; sessions = parts.new.sessions } }
+    ensures rest { parts.new
+        ≡ record parts.old { scene = record parts.old.scene { book = parts.new.scene.book; ports = parts.new.scene.ports }; sessions = parts.new.sessions } }
 {
     let (kind, events, at) = (asks.kind, asks.events, asks.at);
     let read = port_read_of(kind, &asks.answer);
@@ -153,7 +156,17 @@ fn grow_parts(
     requires at { at ≡ next_entry (present_of parts.old) }
     ensures state { present_of parts.new ≡ present_of parts.old }
     ensures possible { OnOk result (CanBeDone (present_of parts.old) (resolved (present_of parts.old) intent)) }
-    ensures ready { IfOk result (λ g. HasReady parts.new (record { event = event.now; at = at; effect = g.effect; events = intent.events; deleted = g.deleted; back = intent.back; said = g.told.said; replies = g.told.replies }) (resolved (present_of parts.old) intent)) }
+    ensures ready { IfOk result (λ g. HasReady parts.new
+        (record {
+          event = event.now;
+          at = at;
+          effect = g.effect;
+          events = intent.events;
+          deleted = g.deleted;
+          back = intent.back;
+          said = g.told.said;
+          replies = g.told.replies;
+        }) (resolved (present_of parts.old) intent)) }
 {
     let Intent {
         effect,
@@ -185,8 +198,8 @@ fn grow_parts(
     })
 }
 
-/// Makes all that an event does ready, by what it is to do and the number of its entry. What the tables mean stays. `NoMemory`
-/// where there is none for that: `Parts::back` then takes back what was made ready.
+/// Makes all that an event does ready, by what it is to do and the number of its entry. What the tables mean stays.
+/// `NoMemory` where there is none for that: `Parts::back` then takes back what was made ready.
 pub fn grow(
     alloc: Global,
     parts: &mut Parts,

@@ -4,7 +4,8 @@ ghost use Rattle.std.specs.Prelude.{◌≡◌, ◌∷◌, [], Some, IfOk, IfSome
 ghost use Rattle.core_fids.specs.Done.{IsSent};
 ghost use Rattle.core_events.specs.Responses.{AreSaid};
 ghost use Rattle.core_events.specs.PortSound.{ArePortsSound};
-ghost use Rattle.core_steps.specs.PortReads.{port_read_in, port_read_of, port_response, asked_said, asked_ports, asked_tables, IsReadable};
+ghost use Rattle.core_steps.specs.PortReads.{port_read_in, port_read_of, port_response, asked_said, asked_ports};
+ghost use Rattle.core_steps.specs.PortReads.{asked_tables, IsReadable};
 
 use am_text::{Items, NoMemory};
 use core_events::{Ports, Response, Responses, port_feed, read_port};

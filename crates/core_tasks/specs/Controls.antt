@@ -103,9 +103,10 @@ then_rest deeds next.GoesOn rest = record rest { deeds = deeds ++ rest.deeds }
 then_rest deeds next.Deleted rest = record { deeds = deeds; refusal = None }
 then_rest deeds (next.Refused r) rest = record { deeds = deeds; refusal = Some r }
 
--- What the messages of these lines do to a window: one after another, each over the scene that those before it leave, up to the first that
--- deletes the window or is refused. Those before it stay done.
+-- What the messages of these lines do to a window: one after another, each over the scene that those before it leave,
+-- up to the first that deletes the window or is refused. Those before it stay done.
 unfoldable pub controls : Entry → ℕ → List (List ℕ) → SceneState → Controlled
 controls e w [] s = no_controls
 controls e w (line ∷ lines) s =
-    let told = line_told w (ctl_of line) s in then_rest told.deeds told.next (controls e w lines (done_all e s told.deeds))
+    let told = line_told w (ctl_of line) s in then_rest told.deeds told.next
+    (controls e w lines (done_all e s told.deeds))

@@ -33,8 +33,8 @@ task_deeds e (task.AddsRules text) s = (rules_outcome text s).deeds
 task_deeds e (task.AddsRest text) s = (rest_outcome text s).deeds
 task_deeds e (task.Sends text) s = (send_outcome e text s).deeds
 
--- Why a task is refused, if it is. Control messages are, and what is written to the plumber's files. Those control messages and plumb
--- messages that stand before the one that is refused stay done.
+-- Why a task is refused, if it is. Control messages are, and what is written to the plumber's files. Those control
+-- messages and plumb messages that stand before the one that is refused stay done.
 unfoldable pub task_refusal : Entry → Task → SceneState → Option Refusal
 task_refusal e (task.Changes changes) s = None
 task_refusal e (task.Exec at chord) s = None
@@ -48,8 +48,8 @@ task_refusal e (task.AddsRules text) s = rules_if_any (rules_outcome text s).ref
 task_refusal e (task.AddsRest text) s = rules_if_any (rest_outcome text s).refusal
 task_refusal e (task.Sends text) s = send_if_any (send_outcome e text s).refusal
 
--- What the fid holds then that was written to, where the task says it: of a text of rules or of plumb messages what isn't whole yet, and
--- nothing behind a refusal.
+-- What the fid holds then that was written to, where the task says it: of a text of rules or of plumb messages what
+-- isn't whole yet, and nothing behind a refusal.
 unfoldable pub task_held : Entry → Task → SceneState → Option (List ℕ)
 task_held e (task.Changes changes) s = None
 task_held e (task.Exec at chord) s = None

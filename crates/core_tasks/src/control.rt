@@ -69,7 +69,8 @@ fn set(
 fn delete_now(alloc: Global, scene: &mut Scene, entry: Entry, window: u32) -> Result<Next, NoMemory>
     requires { IsSome (window_at scene.old.windows.present window) }
     ensures next { IfOk result (λ next. next ≡ (deletes window (scene_of scene.old)).next) }
-    ensures ok { OnOk result (Did entry (scene_of scene.old) (scene_of scene.new) (deletes window (scene_of scene.old)).deeds) }
+    ensures ok { OnOk result (Did entry (scene_of scene.old) (scene_of scene.new)
+        (deletes window (scene_of scene.old)).deeds) }
     ensures kept { kept_of scene.new ≡ kept_of scene.old }
 {
     delete(alloc, scene, entry, window)?;
@@ -80,7 +81,8 @@ fn delete_now(alloc: Global, scene: &mut Scene, entry: Entry, window: u32) -> Re
 fn del(alloc: Global, scene: &mut Scene, entry: Entry, window: u32) -> Result<Next, NoMemory>
     requires { IsSome (window_at scene.old.windows.present window) }
     ensures next { IfOk result (λ next. next ≡ (msg_told window msg.Del (scene_of scene.old)).next) }
-    ensures ok { OnOk result (Did entry (scene_of scene.old) (scene_of scene.new) (msg_told window msg.Del (scene_of scene.old)).deeds) }
+    ensures ok { OnOk result (Did entry (scene_of scene.old) (scene_of scene.new)
+        (msg_told window msg.Del (scene_of scene.old)).deeds) }
     ensures kept { kept_of scene.new ≡ kept_of scene.old }
 {
     if asks(&scene.windows, window) {
@@ -94,7 +96,8 @@ fn del(alloc: Global, scene: &mut Scene, entry: Entry, window: u32) -> Result<Ne
 fn get_own(alloc: Global, scene: &mut Scene, entry: Entry, window: u32) -> Result<Next, NoMemory>
     requires { IsSome (window_at scene.old.windows.present window) }
     ensures next { IfOk result (λ next. next ≡ (acts (get_outcome window [] (scene_of scene.old))).next) }
-    ensures ok { OnOk result (Did entry (scene_of scene.old) (scene_of scene.new) (acts (get_outcome window [] (scene_of scene.old))).deeds) }
+    ensures ok { OnOk result (Did entry (scene_of scene.old) (scene_of scene.new)
+        (acts (get_outcome window [] (scene_of scene.old))).deeds) }
     ensures kept { kept_of scene.new ≡ kept_of scene.old }
 {
     Ok(next_of(get(alloc, scene, entry, window, &[])?))
@@ -104,7 +107,8 @@ fn get_own(alloc: Global, scene: &mut Scene, entry: Entry, window: u32) -> Resul
 fn put_own(alloc: Global, scene: &mut Scene, entry: Entry, window: u32) -> Result<Next, NoMemory>
     requires { IsSome (window_at scene.old.windows.present window) }
     ensures next { IfOk result (λ next. next ≡ (acts (put_outcome window [] (scene_of scene.old))).next) }
-    ensures ok { OnOk result (Did entry (scene_of scene.old) (scene_of scene.new) (acts (put_outcome window [] (scene_of scene.old))).deeds) }
+    ensures ok { OnOk result (Did entry (scene_of scene.old) (scene_of scene.new)
+        (acts (put_outcome window [] (scene_of scene.old))).deeds) }
     ensures kept { kept_of scene.new ≡ kept_of scene.old }
 {
     Ok(next_of(put(alloc, scene, entry, window, &[])?))
@@ -120,7 +124,8 @@ fn do_message(
 ) -> Result<Next, NoMemory>
     requires { IsSome (window_at scene.old.windows.present window) }
     ensures next { IfOk result (λ next. next ≡ (msg_told window msg (scene_of scene.old)).next) }
-    ensures ok { OnOk result (Did entry (scene_of scene.old) (scene_of scene.new) (msg_told window msg (scene_of scene.old)).deeds) }
+    ensures ok { OnOk result (Did entry (scene_of scene.old) (scene_of scene.new)
+        (msg_told window msg (scene_of scene.old)).deeds) }
     ensures kept { kept_of scene.new ≡ kept_of scene.old }
 {
     match msg {
@@ -151,7 +156,8 @@ fn do_line(
 ) -> Result<Next, NoMemory>
     requires { IsSome (window_at scene.old.windows.present window) }
     ensures next { IfOk result (λ next. next ≡ (line_told window (ctl_of line.now) (scene_of scene.old)).next) }
-    ensures ok { OnOk result (Did entry (scene_of scene.old) (scene_of scene.new) (line_told window (ctl_of line.now) (scene_of scene.old)).deeds) }
+    ensures ok { OnOk result (Did entry (scene_of scene.old) (scene_of scene.new)
+        (line_told window (ctl_of line.now) (scene_of scene.old)).deeds) }
     ensures kept { kept_of scene.new ≡ kept_of scene.old }
 {
     match parse_ctl(alloc, line) {
@@ -162,8 +168,8 @@ fn do_line(
     }
 }
 
-/// Does the messages that are written to a window's `ctl`, a line each, up to the first that deletes the window or is refused. The
-/// answer is why it is refused, if it is.
+/// Does the messages that are written to a window's `ctl`, a line each, up to the first that deletes the window or is
+/// refused. The answer is why it is refused, if it is.
 pub(crate) fn control(
     alloc: Global,
     scene: &mut Scene,
@@ -172,8 +178,10 @@ pub(crate) fn control(
     text: &[u8],
 ) -> Result<Option<Refusal>, NoMemory>
     requires { IsSome (window_at scene.old.windows.present window) }
-    ensures refusal { IfOk result (λ refusal. refusal ≡ (controls entry window (lines_of text.now) (scene_of scene.old)).refusal) }
-    ensures ok { OnOk result (Did entry (scene_of scene.old) (scene_of scene.new) (controls entry window (lines_of text.now) (scene_of scene.old)).deeds) }
+    ensures refusal { IfOk result (λ refusal. refusal
+        ≡ (controls entry window (lines_of text.now) (scene_of scene.old)).refusal) }
+    ensures ok { OnOk result (Did entry (scene_of scene.old) (scene_of scene.new)
+        (controls entry window (lines_of text.now) (scene_of scene.old)).deeds) }
     ensures kept { kept_of scene.new ≡ kept_of scene.old }
 {
     let mut rest = text;

@@ -1,5 +1,5 @@
-//! What a step does to the scene, as a task: changes of windows, Exec and Look, control messages, an item that is written back,
-//! what comes into the tree of files, and what is written to the plumber's files.
+//! What a step does to the scene, as a task: changes of windows, Exec and Look, control messages, an item that is
+//! written back, what comes into the tree of files, and what is written to the plumber's files.
 #![tactic(auto)]
 
 mod control;

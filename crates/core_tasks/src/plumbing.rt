@@ -63,21 +63,30 @@ fn send_if_any(refusal: Option<SendRefusal>) -> Option<Refusal>
 
 // What becomes of a text of rules that is refused, if it is.
 fn rules_held(alloc: Global, text: &[u8], refusal: Option<RulesRefusal>) -> Result<Ended, NoMemory>
-    ensures { IfOk result (λ ended. ended ≡ record { refusal = rules_if_any refusal; held = Some (held_after text.now refusal) }) }
+    ensures { IfOk result (λ ended. ended ≡ record {
+      refusal = rules_if_any refusal;
+      held = Some (held_after text.now refusal);
+    }) }
 {
     let held = Bytes::copied(alloc, held_after(text, refusal))?;
     Ok(Ended::holding(rules_if_any(refusal), held))
 }
 
-/// Adds the whole sets of rules of a text: what a fid of `rules` held, with what is written to it. What follows them is held.
+/// Adds the whole sets of rules of a text: what a fid of `rules` held, with what is written to it.
+/// What follows them is held.
 pub(crate) fn add_rules(
     alloc: Global,
     scene: &mut Scene,
     entry: Entry,
     text: &[u8],
 ) -> Result<Ended, NoMemory>
-    ensures ok { OnOk result (Did entry (scene_of scene.old) (scene_of scene.new) (rules_outcome text.now (scene_of scene.old)).deeds) }
-    ensures ended { IfOk result (λ ended. ended ≡ record { refusal = rules_if_any (rules_outcome text.now (scene_of scene.old)).refusal; held = Some (held_after text.now (rules_outcome text.now (scene_of scene.old)).refusal) }) }
+    ensures ok { OnOk result (Did entry (scene_of scene.old) (scene_of scene.new)
+        (rules_outcome text.now (scene_of scene.old)).deeds) }
+    ensures ended { IfOk result
+        (λ ended. ended ≡ record {
+          refusal = rules_if_any (rules_outcome text.now (scene_of scene.old)).refusal;
+          held = Some (held_after text.now (rules_outcome text.now (scene_of scene.old)).refusal);
+        }) }
     ensures kept { kept_of scene.new ≡ kept_of scene.old }
 {
     let refusal = write_rules(alloc, scene, entry, text)?;
@@ -91,8 +100,13 @@ pub(crate) fn add_rest(
     entry: Entry,
     text: &[u8],
 ) -> Result<Ended, NoMemory>
-    ensures ok { OnOk result (Did entry (scene_of scene.old) (scene_of scene.new) (rest_outcome text.now (scene_of scene.old)).deeds) }
-    ensures ended { IfOk result (λ ended. ended ≡ record { refusal = rules_if_any (rest_outcome text.now (scene_of scene.old)).refusal; held = None }) }
+    ensures ok { OnOk result (Did entry (scene_of scene.old) (scene_of scene.new)
+        (rest_outcome text.now (scene_of scene.old)).deeds) }
+    ensures ended { IfOk result
+        (λ ended. ended ≡ record {
+          refusal = rules_if_any (rest_outcome text.now (scene_of scene.old)).refusal;
+          held = None;
+        }) }
     ensures kept { kept_of scene.new ≡ kept_of scene.old }
 {
     let refusal = core_rules::add_rest(alloc, scene, entry, text)?;
@@ -101,22 +115,30 @@ pub(crate) fn add_rest(
 
 // What becomes of a text of plumb messages.
 fn sent_held(alloc: Global, sent: Sent<'_>) -> Result<Ended, NoMemory>
-    ensures { IfOk result (λ ended. ended ≡ record { refusal = send_if_any sent.entry.refusal; held = Some sent.entry.held.now }) }
+    ensures { IfOk result (λ ended. ended ≡ record {
+      refusal = send_if_any sent.entry.refusal;
+      held = Some sent.entry.held.now;
+    }) }
 {
     let held = Bytes::copied(alloc, sent.held)?;
     Ok(Ended::holding(send_if_any(sent.refusal), held))
 }
 
-/// Plumbs the whole messages of a text: what a fid of `send` held, with what is written to it. A message that is begun behind them
-/// is held.
+/// Plumbs the whole messages of a text: what a fid of `send` held, with what is written to it. A message that is
+/// begun behind them is held.
 pub(crate) fn plumb_all(
     alloc: Global,
     scene: &mut Scene,
     entry: Entry,
     text: &[u8],
 ) -> Result<Ended, NoMemory>
-    ensures ok { OnOk result (Did entry (scene_of scene.old) (scene_of scene.new) (send_outcome entry text.now (scene_of scene.old)).deeds) }
-    ensures ended { IfOk result (λ ended. ended ≡ record { refusal = send_if_any (send_outcome entry text.now (scene_of scene.old)).refusal; held = Some (send_outcome entry text.now (scene_of scene.old)).held }) }
+    ensures ok { OnOk result (Did entry (scene_of scene.old) (scene_of scene.new)
+        (send_outcome entry text.now (scene_of scene.old)).deeds) }
+    ensures ended { IfOk result
+        (λ ended. ended ≡ record {
+          refusal = send_if_any (send_outcome entry text.now (scene_of scene.old)).refusal;
+          held = Some (send_outcome entry text.now (scene_of scene.old)).held;
+        }) }
     ensures kept { kept_of scene.new ≡ kept_of scene.old }
 {
     let sent = send(alloc, scene, entry, text)?;

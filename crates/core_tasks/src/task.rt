@@ -57,7 +57,8 @@ fn change(alloc: Global, scene: &mut Scene, entry: Entry, changes: Changes) -> R
 #[tactic(auto, unfolding(crate::specs::Tasks::task_deeds, crate::specs::Tasks::task_refusal, crate::specs::Tasks::task_held))]
 fn run(alloc: Global, scene: &mut Scene, entry: Entry, task: Task) -> Result<Ended, NoMemory>
     requires { CanDoTask entry (scene_of scene.old) task }
-    ensures ok { OnOk result (Did entry (scene_of scene.old) (scene_of scene.new) (task_deeds entry task (scene_of scene.old))) }
+    ensures ok { OnOk result (Did entry (scene_of scene.old) (scene_of scene.new)
+        (task_deeds entry task (scene_of scene.old))) }
     ensures refusal { IfOk result (λ ended. ended.refusal ≡ task_refusal entry task (scene_of scene.old)) }
     ensures held { IfOk result (λ ended. ended.held ≡ task_held entry task (scene_of scene.old)) }
     ensures kept { kept_of scene.new ≡ kept_of scene.old }
@@ -81,11 +82,11 @@ fn run(alloc: Global, scene: &mut Scene, entry: Entry, task: Task) -> Result<End
     Ok(Ended::done())
 }
 
-/// Does a task, in the present state of the scene alone. The answer is why it is refused, if it is, and what is held then, where
-/// the task says it.
+/// Does a task, in the present state of the scene alone. The answer is why it is refused, if it is, and what is held
+/// then, where the task says it.
 ///
-/// Control messages are refused, and what is written to the plumber's files. Of control messages and of plumb messages those
-/// before the one that is refused stay done, and those behind it aren't looked at; of rules none is added.
+/// Control messages are refused, and what is written to the plumber's files. Of control messages and of plumb messages
+/// those before the one that is refused stay done, and those behind it aren't looked at; of rules none is added.
 pub fn do_task(
     alloc: Global,
     scene: &mut Scene,
@@ -93,7 +94,8 @@ pub fn do_task(
     task: Task,
 ) -> Result<Ended, NoMemory>
     requires { CanDoTask entry (scene_of scene.old) task }
-    ensures ok { OnOk result (Did entry (scene_of scene.old) (scene_of scene.new) (task_deeds entry task (scene_of scene.old))) }
+    ensures ok { OnOk result (Did entry (scene_of scene.old) (scene_of scene.new)
+        (task_deeds entry task (scene_of scene.old))) }
     ensures refusal { IfOk result (λ ended. ended.refusal ≡ task_refusal entry task (scene_of scene.old)) }
     ensures held { IfOk result (λ ended. ended.held ≡ task_held entry task (scene_of scene.old)) }
     ensures kept { kept_of scene.new ≡ kept_of scene.old }

@@ -1,5 +1,6 @@
 -- The windows that the editor keeps.
-use Rattle.std.specs.Prelude.{◌≡◌, ℕ, ◌+◌, ◌<◌, Bool, false, List, length, map, slice_index_or, IsSome, Option, Some, None}
+use Rattle.std.specs.Prelude.{◌≡◌, ℕ, ◌+◌, ◌<◌, Bool, false, List, length, map, slice_index_or, IsSome, Option, Some}
+use Rattle.std.specs.Prelude.{None}
 use Rattle.std.specs.Str.{bytes_eq}
 use Rattle.core_windows.specs.declared.pane.Pane.{Pane}
 use Rattle.core_windows.specs.Places.{at_number}

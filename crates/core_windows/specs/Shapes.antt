@@ -15,7 +15,8 @@ use Rattle.core_windows.specs.declared.undo.TagBack.TheVariants as tag
 use Rattle.core_windows.specs.Possible.{CanSet}
 use Rattle.core_windows.specs.Windows.{Window}
 
--- a window with the undone groups that its body has forgotten, and how many runes its body can have without taking memory
+-- a window with the undone groups that its body has forgotten, and how many runes its body can
+-- have without taking memory
 pub record PaneShape : Type 0 where
   pub name : List ℕ
   pub right : List ℕ
@@ -25,7 +26,13 @@ pub record PaneShape : Type 0 where
 
 -- what of a pane can be taken back
 abbrev pub shape_of_pane : Pane → PaneShape
-shape_of_pane pane = record { name = pane.name; right = pane.right.items; body = shape_of pane.body; modified = pane.modified; room = total pane.body }
+shape_of_pane pane = record {
+  name = pane.name;
+  right = pane.right.items;
+  body = shape_of pane.body;
+  modified = pane.modified;
+  room = total pane.body;
+}
 
 -- the same of a pane that is there
 abbrev pub shape_if_live : Option Pane → Option PaneShape

@@ -1,8 +1,10 @@
 -- Windows by all that was ever done to them.
-use Rattle.std.specs.Prelude.{◌≤◌, ℕ, ◌-◌, ◌==◌, not, Bool, true, List, [], ◌∷◌, ◌++◌, length, map, codes, Option, Some, None}
+use Rattle.std.specs.Prelude.{◌≤◌, ℕ, ◌-◌, ◌==◌, not, Bool, true, List, [], ◌∷◌, ◌++◌, length, map, codes, Option, Some}
+use Rattle.std.specs.Prelude.{None}
 use Rattle.std.specs.Option.{option_map}
 use Rattle.edit_log.specs.declared.types.Edit.{Edit}
-use Rattle.win_text.specs.BodyStories.{BodyStory, new_story, shown, story_changed, story_with_dot, story_with_addr, story_with_limit, story_marked, story_undone, story_redone}
+use Rattle.win_text.specs.BodyStories.{BodyStory, new_story, shown, story_changed, story_with_dot, story_with_addr}
+use Rattle.win_text.specs.BodyStories.{story_with_limit, story_marked, story_undone, story_redone}
 use Rattle.win_text.specs.Laws.{IsLawful}
 use Rattle.core_windows.specs.Places.{at_place, at_number, gone}
 use Rattle.core_windows.specs.declared.change.Change.{Change}
@@ -11,8 +13,8 @@ use Rattle.core_windows.specs.declared.change.Setting.{Setting}
 use Rattle.core_windows.specs.declared.change.Setting.TheVariants as setting
 use Rattle.core_windows.specs.Windows.{Window}
 
--- a window: its name, the right part of its tag, its body by all edits ever made, and the clean mark: how many edits had been
--- made when the window was last marked clean, or none
+-- a window: its name, the right part of its tag, its body by all edits ever made, and the clean mark: how many edits
+-- had been made when the window was last marked clean, or none
 pub record WindowStory : Type 0 where
   pub name : List ℕ
   pub right : List ℕ
@@ -26,7 +28,12 @@ is_modified (Some mark) edits = not (mark == edits)
 
 -- the window as it stands
 abbrev pub shown_window : WindowStory → Window
-shown_window s = record { name = s.name; right = s.right; body = shown s.body; modified = is_modified s.clean (length s.body.edits) }
+shown_window s = record {
+  name = s.name;
+  right = s.right;
+  body = shown s.body;
+  modified = is_modified s.clean (length s.body.edits);
+}
 
 -- the window of a story, if it is there
 abbrev pub shown_if_live : Option WindowStory → Option Window

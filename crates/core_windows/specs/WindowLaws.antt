@@ -8,13 +8,16 @@ use Rattle.core_windows.specs.Stories.{WindowStory, shown_windows, all_changed_s
 
 -- What the changes of a step make of the windows as they stand is what they make of them by all edits.
 abbrev pub ChangesShow : Type 0
-ChangesShow = (at : ℕ) (stories : List (Option WindowStory)) (changes : List Change) → AreLawful stories → CanChangeAll at (shown_windows stories) changes
+ChangesShow =
+    (at : ℕ) (stories : List (Option WindowStory)) (changes : List Change) → AreLawful stories
+    → CanChangeAll at (shown_windows stories) changes
     → shown_windows (all_changed_stories at stories changes) ≡ all_changed at (shown_windows stories) changes
 
 -- Windows are lawful at the start and after the changes of each step.
 pub record ChangesAreLawful : Type 0 where
   pub begins : AreLawful []
-  pub stays : (at : ℕ) (stories : List (Option WindowStory)) (changes : List Change) → AreLawful stories → CanChangeAll at (shown_windows stories) changes
+  pub stays : (at : ℕ) (stories : List (Option WindowStory)) (changes : List Change) → AreLawful stories
+      → CanChangeAll at (shown_windows stories) changes
       → AreLawful (all_changed_stories at stories changes)
 
 -- ---- the numbers of groups
@@ -32,5 +35,6 @@ AreNumbered last (s ∷ ss) = IsNumberedIfLive last s × AreNumbered last ss
 -- So it is at the start, and after the changes of this step or a later one.
 pub record NumbersStay : Type 0 where
   pub begins : AreNumbered 0 []
-  pub stays : (last at : ℕ) (stories : List (Option WindowStory)) (changes : List Change) → last ≤ at → AreNumbered last stories
+  pub stays : (last at : ℕ) (stories : List (Option WindowStory)) (changes : List Change) → last ≤ at
+      → AreNumbered last stories
       → AreNumbered at (all_changed_stories at stories changes)

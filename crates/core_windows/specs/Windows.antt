@@ -1,12 +1,14 @@
 -- Windows as they stand, and what is done to them.
-use Rattle.std.specs.Prelude.{ℕ, ◌+◌, ◌-◌, ◌==◌, ◌||◌, not, Bool, true, false, List, [], ◌∷◌, ◌++◌, length, codes, Option, Some, None, if◌then◌else◌}
+use Rattle.std.specs.Prelude.{ℕ, ◌+◌, ◌-◌, ◌==◌, ◌||◌, not, Bool, true, false, List, [], ◌∷◌, ◌++◌, length, codes}
+use Rattle.std.specs.Prelude.{Option, Some, None, if◌then◌else◌}
 use Rattle.std.specs.Option.{option_map}
 use Rattle.std.specs.Str.{bytes_eq}
 use Rattle.acme_tree.specs.declared.node.World.{World}
 use Rattle.am_text.specs.declared.range.Range.{Range}
 use Rattle.edit_log.specs.declared.types.Edit.{Edit}
 use Rattle.win_text.specs.declared.types.TextPlan.{TextPlan}
-use Rattle.win_text.specs.Bodies.{BodyState, empty_body, applied, undo_plan_of, redo_plan_of, with_dot, with_addr, with_limit, marked_body}
+use Rattle.win_text.specs.Bodies.{BodyState, empty_body, applied, undo_plan_of, redo_plan_of, with_dot, with_addr}
+use Rattle.win_text.specs.Bodies.{with_limit, marked_body}
 use Rattle.win_text.specs.BodyStories.{plan_of}
 use Rattle.core_windows.specs.Places.{at_place, at_number, gone}
 use Rattle.core_windows.specs.declared.change.Change.{Change}

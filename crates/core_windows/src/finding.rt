@@ -1,6 +1,7 @@
 //! Windows by number and by name.
 
-ghost use Rattle.std.specs.Prelude.{◌≡◌, ◌+◌, ◌<◌, true, false, Option, Some, None, MatchOption, IfSome, IsSome, length, slice_get, slice_index_or, position};
+ghost use Rattle.std.specs.Prelude.{◌≡◌, ◌+◌, ◌<◌, true, false, Option, Some, None, MatchOption, IfSome, IsSome};
+ghost use Rattle.std.specs.Prelude.{length, slice_get, slice_index_or, position};
 ghost use Rattle.std.specs.Option.{option_map};
 ghost use Rattle.core_windows.specs.Places.{when_made};
 ghost use Rattle.core_windows.specs.Windows.{window_at, world_of, named};
@@ -12,7 +13,8 @@ use acme_tree::World;
 use am_text::Rune;
 
 fn is_live(panes: &[Option<Pane>], place: usize) -> bool
-    ensures live { result ≡ true → (place < length panes.now) × ((d : Option Pane) → IsSome (slice_index_or panes.now place d)) }
+    ensures live { result ≡ true → (place < length panes.now)
+        × ((d : Option Pane) → IsSome (slice_index_or panes.now place d)) }
     ensures none { result ≡ false → when_made (slice_get panes.now place) ≡ None }
 {
     match panes.get(place) {
@@ -55,7 +57,8 @@ fn has_name(pane: &Option<Pane>, name: &[Rune]) -> bool
 // The place of the first window that has this name.
 fn named_place(panes: &[Option<Pane>], name: &[Rune]) -> Option<usize>
     ensures exact { result ≡ position (has_name name.now) panes.now }
-    ensures lives { IfSome result (λ place. (place < length panes.now) × ((d : Option Pane) → IsSome (slice_index_or panes.now place d))) }
+    ensures lives { IfSome result (λ place. (place < length panes.now)
+        × ((d : Option Pane) → IsSome (slice_index_or panes.now place d))) }
 {
     panes.iter().position(|pane| has_name(pane, name))
 }
@@ -66,6 +69,7 @@ fn number_at(world: &World, panes: &[Option<Pane>], place: Option<usize>) -> Opt
     requires place { IfSome place (λ at. at < length panes.now) }
     ensures { result ≡ option_map (λ at. at + 1) place }
 {
+    // law: the windows are fewer than 2^32, known once their next number is read
     let _next = world.next;
     match place {
         Some(at) => Some(at as u32 + 1),

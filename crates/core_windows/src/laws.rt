@@ -2,12 +2,14 @@
 
 ghost use Rattle.core_windows.specs.WindowLaws.{ChangesShow, ChangesAreLawful, NumbersStay};
 
-use win_text::{begins_lawful, numbers_never_fall};
+use win_text::laws::{begins_lawful, numbers_never_fall};
 
-/// What the changes of a step make of the windows as they stand is what they make of them by all edits that were ever made.
+/// What the changes of a step make of the windows as they stand is what they make of them by all
+/// edits that were ever made.
 pub fn changes_show()
     ensures { ChangesShow }
 {
+    // law: a window is lawful as it begins
     begins_lawful();
 }
 
@@ -15,6 +17,7 @@ pub fn changes_show()
 pub fn changes_are_lawful()
     ensures { ChangesAreLawful }
 {
+    // law: a window is lawful as it begins
     begins_lawful();
 }
 

@@ -1,9 +1,10 @@
-//! The windows of the editor: as they stand, by all that was done to them, and the changes that a step makes, which can be taken back.
+//! The windows of the editor: as they stand, by all that was done to them, and the changes that a step makes,
+//! which can be taken back.
 #![tactic(auto)]
 
 mod change;
 mod finding;
-mod laws;
+pub mod laws;
 mod looks;
 mod numbers;
 mod pane;
@@ -17,7 +18,6 @@ pub use acme_tree::World;
 pub use am_text::{Bytes, Items, NoMemory, Range, Rune, Runes};
 pub use change::{Change, Changes, Setting};
 pub use edit_log::{Edit, Edits};
-pub use laws::{changes_are_lawful, changes_show, group_numbers_never_fall};
 pub use pane::Pane;
 pub use win_text::Body;
 pub use windows::Windows;

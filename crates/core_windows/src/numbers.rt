@@ -2,7 +2,8 @@
 
 ghost use Rattle.std.specs.Prelude.{◌≡◌, ◌==◌, not, false, [], filter, None, Some, IfOk};
 ghost use Rattle.acme_tree.specs.Trees.{world_is_full};
-ghost use Rattle.core_windows.specs.Numbering.{others, with_next, without, numbers_after, numbers_of, renumbered, MayMake};
+ghost use Rattle.core_windows.specs.Numbering.{others, with_next, without, numbers_after, numbers_of, renumbered};
+ghost use Rattle.core_windows.specs.Numbering.{MayMake};
 ghost use Rattle.core_windows.specs.Windows.{world_of};
 
 use crate::change::Change;
@@ -91,7 +92,8 @@ fn exchanged(world: &mut World, numbers: Numbers) -> Numbers
     old
 }
 
-/// Puts numbers into the world, if there are any. Those of the kept windows are held, also where they are the first to change.
+/// Puts numbers into the world, if there are any. Those of the kept windows are held, also where they
+/// are the first to change.
 pub(crate) fn renumber(world: &mut World, earlier: &mut Option<Numbers>, numbers: Option<Numbers>)
     ensures world { world.new ≡ renumbered world.old numbers }
     ensures kept { renumbered world.new earlier.new ≡ renumbered world.old earlier.old }

@@ -1,10 +1,12 @@
 //! The windows by place.
 
-ghost use Rattle.std.specs.Prelude.{◌≡◌, ◌<◌, ◌++◌, ◌∷◌, vec_len, vec_capacity, [], length, IfOk, OnErr, Option, Some, None};
+ghost use Rattle.std.specs.Prelude.{◌≡◌, ◌<◌, ◌++◌, ◌∷◌, vec_len, vec_capacity, [], length, IfOk, OnErr, Option, Some};
+ghost use Rattle.std.specs.Prelude.{None};
 ghost use Rattle.std.specs.Option.{option_map};
 ghost use Rattle.core_windows.specs.Places.{at_place, live_at, gone};
 ghost use Rattle.core_windows.specs.Windows.{Window, added, set, planned};
-ghost use Rattle.core_windows.specs.Shapes.{shape_of_pane, seen_of, shapes_of, seen_in, AreRoomier, IsReadyPane, Lives, Always, IsPlannable, IsSettable};
+ghost use Rattle.core_windows.specs.Shapes.{shape_of_pane, seen_of, shapes_of, seen_in, AreRoomier, IsReadyPane, Lives};
+ghost use Rattle.core_windows.specs.Shapes.{Always, IsPlannable, IsSettable};
 ghost use Rattle.core_windows.specs.Trail.{undone, CanUndo, all_undone, CanGoBack};
 
 use crate::change::Setting;
@@ -39,7 +41,8 @@ pub(crate) fn make_at(
 ) -> Undo
     requires within { at < length panes.old.items }
     requires ready { Lives (IsReadyPane plan ready) (live_at panes.old.items at) }
-    ensures windows { seen_in (shapes_of panes.new.items) ≡ at_place (option_map (planned plan)) at (seen_in (shapes_of panes.old.items)) }
+    ensures windows { seen_in (shapes_of panes.new.items) ≡ at_place (option_map (planned plan)) at
+        (seen_in (shapes_of panes.old.items)) }
     ensures back { undone result (shapes_of panes.new.items) ≡ shapes_of panes.old.items }
     ensures can { CanUndo result (shapes_of panes.new.items) }
 {
@@ -55,7 +58,8 @@ pub(crate) fn add_at(
     requires within { at < length panes.old.items }
     requires lives { Lives Always (live_at (seen_in (shapes_of panes.old.items)) at) }
     ensures err { OnErr result (shapes_of panes.new.items ≡ shapes_of panes.old.items) }
-    ensures windows { IfOk result (λ undo. seen_in (shapes_of panes.new.items) ≡ at_place (option_map (added text.now)) at (seen_in (shapes_of panes.old.items))) }
+    ensures windows { IfOk result (λ undo. seen_in (shapes_of panes.new.items)
+        ≡ at_place (option_map (added text.now)) at (seen_in (shapes_of panes.old.items))) }
     ensures back { IfOk result (λ undo. undone undo (shapes_of panes.new.items) ≡ shapes_of panes.old.items) }
     ensures can { IfOk result (λ undo. CanUndo undo (shapes_of panes.new.items)) }
 {
@@ -75,7 +79,8 @@ pub(crate) fn set_at(
 ) -> Undo
     requires within { at < length panes.old.items }
     requires can { Lives (IsSettable setting) (live_at (seen_in (shapes_of panes.old.items)) at) }
-    ensures windows { seen_in (shapes_of panes.new.items) ≡ at_place (option_map (set setting)) at (seen_in (shapes_of panes.old.items)) }
+    ensures windows { seen_in (shapes_of panes.new.items) ≡ at_place (option_map (set setting)) at
+        (seen_in (shapes_of panes.old.items)) }
     ensures back { undone result (shapes_of panes.new.items) ≡ shapes_of panes.old.items }
     ensures can { CanUndo result (shapes_of panes.new.items) }
 {
@@ -100,7 +105,8 @@ pub(crate) fn delete_at(panes: &mut Vec<Option<Pane>>, at: usize) -> Undo
 /// Puts a window behind the others, into the room that is there.
 pub(crate) fn put(panes: &mut Vec<Option<Pane>>, pane: Pane) -> Undo
     requires { vec_len panes.old < vec_capacity panes.old }
-    ensures windows { seen_in (shapes_of panes.new.items) ≡ seen_in (shapes_of panes.old.items) ++ Some (seen_of (shape_of_pane pane)) ∷ [] }
+    ensures windows { seen_in (shapes_of panes.new.items) ≡ seen_in (shapes_of panes.old.items)
+        ++ Some (seen_of (shape_of_pane pane)) ∷ [] }
     ensures back { undone result (shapes_of panes.new.items) ≡ shapes_of panes.old.items }
     ensures can { CanUndo result (shapes_of panes.new.items) }
 {

@@ -5,7 +5,9 @@ ghost use Rattle.std.specs.Option.{option_map};
 ghost use Rattle.win_text.specs.Bodies.{undo_plan_of, redo_plan_of};
 ghost use Rattle.core_windows.specs.Possible.{CanSet};
 ghost use Rattle.core_windows.specs.Windows.{Window, added, set, planned, edit_plan};
-ghost use Rattle.core_windows.specs.Shapes.{shape_of_pane, seen_of, name_back, right_back, shape_if_live, seen_if_live, taken_back, CanTakeBack, IsSlotRoomier, IsReadyPane, Lives, Always, IsEditable, IsPlannable, IsSettable};
+ghost use Rattle.core_windows.specs.Shapes.{shape_of_pane, seen_of, name_back, right_back, shape_if_live, seen_if_live};
+ghost use Rattle.core_windows.specs.Shapes.{taken_back, CanTakeBack, IsSlotRoomier, IsReadyPane, Lives, Always};
+ghost use Rattle.core_windows.specs.Shapes.{IsEditable, IsPlannable, IsSettable};
 
 use crate::change::Setting;
 use crate::pane::Pane;
@@ -23,7 +25,8 @@ pub(crate) fn edit_plan(
     number: u64,
 ) -> Result<TextPlan, NoMemory>
     requires { Lives (IsEditable edits) (seen_if_live (shape_if_live slot.now)) }
-    ensures plan { IfOk result (λ plan. Lives (λ (w : Window). plan ≡ edit_plan edits number w) (seen_if_live (shape_if_live slot.now))) }
+    ensures plan { IfOk result (λ plan. Lives (λ (w : Window). plan ≡ edit_plan edits number w)
+        (seen_if_live (shape_if_live slot.now))) }
     ensures can { IfOk result (λ plan. Lives (IsPlannable plan) (seen_if_live (shape_if_live slot.now))) }
 {
     match slot {
@@ -35,8 +38,10 @@ pub(crate) fn edit_plan(
 /// The plan of Undo, if there is a group to take back.
 pub(crate) fn undo_plan(slot: &Option<Pane>) -> Result<Option<TextPlan>, NoMemory>
     requires { Lives Always (seen_if_live (shape_if_live slot.now)) }
-    ensures plan { IfOk result (λ plan. Lives (λ (w : Window). plan ≡ undo_plan_of w.body) (seen_if_live (shape_if_live slot.now))) }
-    ensures can { IfOk result (λ plan. IfSome plan (λ p. Lives (IsPlannable p) (seen_if_live (shape_if_live slot.now)))) }
+    ensures plan { IfOk result (λ plan. Lives (λ (w : Window). plan ≡ undo_plan_of w.body)
+        (seen_if_live (shape_if_live slot.now))) }
+    ensures can { IfOk result (λ plan. IfSome plan
+        (λ p. Lives (IsPlannable p) (seen_if_live (shape_if_live slot.now)))) }
 {
     match slot {
         Some(pane) => pane.body.undo_plan(),
@@ -47,8 +52,10 @@ pub(crate) fn undo_plan(slot: &Option<Pane>) -> Result<Option<TextPlan>, NoMemor
 /// The plan of Redo, if there is a group to make again.
 pub(crate) fn redo_plan(slot: &Option<Pane>) -> Result<Option<TextPlan>, NoMemory>
     requires { Lives Always (seen_if_live (shape_if_live slot.now)) }
-    ensures plan { IfOk result (λ plan. Lives (λ (w : Window). plan ≡ redo_plan_of w.body) (seen_if_live (shape_if_live slot.now))) }
-    ensures can { IfOk result (λ plan. IfSome plan (λ p. Lives (IsPlannable p) (seen_if_live (shape_if_live slot.now)))) }
+    ensures plan { IfOk result (λ plan. Lives (λ (w : Window). plan ≡ redo_plan_of w.body)
+        (seen_if_live (shape_if_live slot.now))) }
+    ensures can { IfOk result (λ plan. IfSome plan
+        (λ p. Lives (IsPlannable p) (seen_if_live (shape_if_live slot.now)))) }
 {
     match slot {
         Some(pane) => pane.body.redo_plan(),
@@ -71,7 +78,8 @@ pub(crate) fn reserve(slot: &mut Option<Pane>, plan: &TextPlan) -> Result<Ready,
 /// Does a plan that is ready. It takes no memory.
 pub(crate) fn make(slot: &mut Option<Pane>, plan: TextPlan, ready: Ready) -> Back
     requires { Lives (IsReadyPane plan ready) slot.old }
-    ensures window { seen_if_live (shape_if_live slot.new) ≡ option_map (planned plan) (seen_if_live (shape_if_live slot.old)) }
+    ensures window { seen_if_live (shape_if_live slot.new)
+        ≡ option_map (planned plan) (seen_if_live (shape_if_live slot.old)) }
     ensures back { option_map (taken_back result) (shape_if_live slot.new) ≡ shape_if_live slot.old }
     ensures can { Lives (CanTakeBack result) (shape_if_live slot.new) }
 {
@@ -93,8 +101,10 @@ pub(crate) fn make(slot: &mut Option<Pane>, plan: TextPlan, ready: Ready) -> Bac
 pub(crate) fn add(slot: &mut Option<Pane>, text: &[Rune]) -> Result<Back, NoMemory>
     requires { Lives Always (seen_if_live (shape_if_live slot.old)) }
     ensures err { OnErr result (shape_if_live slot.new ≡ shape_if_live slot.old) }
-    ensures window { IfOk result (λ back. seen_if_live (shape_if_live slot.new) ≡ option_map (added text.now) (seen_if_live (shape_if_live slot.old))) }
-    ensures back { IfOk result (λ back. option_map (taken_back back) (shape_if_live slot.new) ≡ shape_if_live slot.old) }
+    ensures window { IfOk result (λ back. seen_if_live (shape_if_live slot.new)
+        ≡ option_map (added text.now) (seen_if_live (shape_if_live slot.old))) }
+    ensures back { IfOk result (λ back. option_map (taken_back back) (shape_if_live slot.new)
+        ≡ shape_if_live slot.old) }
     ensures can { IfOk result (λ back. Lives (CanTakeBack back) (shape_if_live slot.new)) }
 {
     match slot {
@@ -105,7 +115,8 @@ pub(crate) fn add(slot: &mut Option<Pane>, text: &[Rune]) -> Result<Back, NoMemo
 
 fn add_pane(pane: &mut Pane, text: &[Rune]) -> Result<Back, NoMemory>
     ensures err { OnErr result (shape_of_pane pane.new ≡ shape_of_pane pane.old) }
-    ensures window { IfOk result (λ back. seen_of (shape_of_pane pane.new) ≡ added text.now (seen_of (shape_of_pane pane.old))) }
+    ensures window { IfOk result (λ back. seen_of (shape_of_pane pane.new)
+        ≡ added text.now (seen_of (shape_of_pane pane.old))) }
     ensures back { IfOk result (λ back. taken_back back (shape_of_pane pane.new) ≡ shape_of_pane pane.old) }
     ensures can { IfOk result (λ back. CanTakeBack back (shape_of_pane pane.new)) }
 {
@@ -122,7 +133,8 @@ fn add_pane(pane: &mut Pane, text: &[Rune]) -> Result<Back, NoMemory>
 /// Sets a part of the window. It takes no memory.
 pub(crate) fn set(alloc: Global, slot: &mut Option<Pane>, setting: Setting) -> Back
     requires { Lives (IsSettable setting) (seen_if_live (shape_if_live slot.old)) }
-    ensures window { seen_if_live (shape_if_live slot.new) ≡ option_map (set setting) (seen_if_live (shape_if_live slot.old)) }
+    ensures window { seen_if_live (shape_if_live slot.new)
+        ≡ option_map (set setting) (seen_if_live (shape_if_live slot.old)) }
     ensures back { option_map (taken_back result) (shape_if_live slot.new) ≡ shape_if_live slot.old }
     ensures can { Lives (CanTakeBack result) (shape_if_live slot.new) }
 {

@@ -1,11 +1,13 @@
 //! All windows by place, in two states.
 
-ghost use Rattle.std.specs.Prelude.{◌≡◌, ◌-◌, ◌<◌, ◌++◌, ◌∷◌, [], length, IfOk, IfSome, OnOk, OnErr, Option, Some, None};
+ghost use Rattle.std.specs.Prelude.{◌≡◌, ◌-◌, ◌<◌, ◌++◌, ◌∷◌, [], length, IfOk, IfSome, OnOk, OnErr, Option, Some};
+ghost use Rattle.std.specs.Prelude.{None};
 ghost use Rattle.std.specs.Option.{option_map};
 ghost use Rattle.am_text.specs.Twice.{both};
 ghost use Rattle.win_text.specs.Bodies.{undo_plan_of, redo_plan_of};
 ghost use Rattle.core_windows.specs.Places.{at_place, live_at, gone};
-ghost use Rattle.core_windows.specs.Windows.{Window, window_addr, planned, named_window, edit_plan, edited, undone_window, redone_window, added, set, changed};
+ghost use Rattle.core_windows.specs.Windows.{Window, window_addr, planned, named_window, edit_plan, edited};
+ghost use Rattle.core_windows.specs.Windows.{undone_window, redone_window, added, set, changed};
 ghost use Rattle.core_windows.specs.Possible.{CanChange};
 ghost use Rattle.core_windows.specs.Panes.{windows_of};
 ghost use Rattle.core_windows.specs.Shapes.{Lives, Always, IsEditable, IsPlannable, IsSettable};
@@ -41,7 +43,10 @@ impl Model for States {
     ghost use Rattle.core_windows.specs.Shapes.{shapes_of, seen_in};
     ghost use Rattle.core_windows.specs.Trail.{all_undone, CanGoBack};
 
-    ghost view = { λ s. record { present = seen_in (shapes_of s.panes.items); kept = seen_in (all_undone s.trail.items (shapes_of s.panes.items)) } };
+    ghost view = { λ s. record {
+      present = seen_in (shapes_of s.panes.items);
+      kept = seen_in (all_undone s.trail.items (shapes_of s.panes.items));
+    } };
 
     ghost invariant = { λ s. CanGoBack s.trail.items (shapes_of s.panes.items) };
 }
@@ -113,7 +118,8 @@ impl States {
 
     // Makes a window of this name.
     fn make(&mut self, name: Runes) -> Result<(), NoMemory>
-        ensures ok { OnOk result (self.new ≡ record self.old { present = self.old.present ++ Some (named_window name) ∷ [] }) }
+        ensures ok { OnOk result
+            (self.new ≡ record self.old { present = self.old.present ++ Some (named_window name) ∷ [] }) }
         ensures err { OnErr result (self.new ≡ self.old) }
     {
         self.trail.reserve(1)?;
@@ -139,7 +145,8 @@ impl States {
     // Edits the body of the window at this place.
     fn edit(&mut self, place: usize, edits: Edits, at: u64) -> Result<(), NoMemory>
         requires { Lives (IsEditable edits) (live_at self.old.present place) }
-        ensures ok { OnOk result (self.new ≡ record self.old { present = at_place (option_map (edited edits at)) place self.old.present }) }
+        ensures ok { OnOk result
+            (self.new ≡ record self.old { present = at_place (option_map (edited edits at)) place self.old.present }) }
         ensures err { OnErr result (self.new ≡ self.old) }
     {
         let plan = self.edit_plan(place, edits, at)?;
@@ -149,7 +156,8 @@ impl States {
     // Puts a text at the end of the tag of the window at this place.
     fn add(&mut self, at: usize, text: &[Rune]) -> Result<(), NoMemory>
         requires { Lives Always (live_at self.old.present at) }
-        ensures ok { OnOk result (self.new ≡ record self.old { present = at_place (option_map (added text.now)) at self.old.present }) }
+        ensures ok { OnOk result
+            (self.new ≡ record self.old { present = at_place (option_map (added text.now)) at self.old.present }) }
         ensures err { OnErr result (self.new ≡ self.old) }
     {
         self.trail.reserve(1)?;
@@ -161,7 +169,8 @@ impl States {
     // Sets a part of the window at this place.
     fn set(&mut self, at: usize, setting: Setting) -> Result<(), NoMemory>
         requires { Lives (IsSettable setting) (live_at self.old.present at) }
-        ensures ok { OnOk result (self.new ≡ record self.old { present = at_place (option_map (set setting)) at self.old.present }) }
+        ensures ok { OnOk result
+            (self.new ≡ record self.old { present = at_place (option_map (set setting)) at self.old.present }) }
         ensures err { OnErr result (self.new ≡ self.old) }
     {
         self.trail.reserve(1)?;
@@ -173,7 +182,8 @@ impl States {
     // Takes the last group of the window at this place back, if there is one.
     fn undo(&mut self, at: usize) -> Result<(), NoMemory>
         requires { Lives Always (live_at self.old.present at) }
-        ensures ok { OnOk result (self.new ≡ record self.old { present = at_place (option_map undone_window) at self.old.present }) }
+        ensures ok { OnOk result
+            (self.new ≡ record self.old { present = at_place (option_map undone_window) at self.old.present }) }
         ensures err { OnErr result (self.new ≡ self.old) }
     {
         match self.undo_plan(at)? {
@@ -185,7 +195,8 @@ impl States {
     // Makes the first undone group of the window at this place again, if there is one.
     fn redo(&mut self, at: usize) -> Result<(), NoMemory>
         requires { Lives Always (live_at self.old.present at) }
-        ensures ok { OnOk result (self.new ≡ record self.old { present = at_place (option_map redone_window) at self.old.present }) }
+        ensures ok { OnOk result
+            (self.new ≡ record self.old { present = at_place (option_map redone_window) at self.old.present }) }
         ensures err { OnErr result (self.new ≡ self.old) }
     {
         match self.redo_plan(at)? {
@@ -197,7 +208,8 @@ impl States {
     // The plan of edits of the window at this place.
     fn edit_plan(&self, place: usize, edits: Edits, at: u64) -> Result<TextPlan, NoMemory>
         requires { Lives (IsEditable edits) (live_at self.now.present place) }
-        ensures plan { IfOk result (λ plan. Lives (λ (w : Window). plan ≡ edit_plan edits at w) (live_at self.now.present place)) }
+        ensures plan { IfOk result (λ plan. Lives (λ (w : Window). plan ≡ edit_plan edits at w)
+            (live_at self.now.present place)) }
         ensures can { IfOk result (λ plan. Lives (IsPlannable plan) (live_at self.now.present place)) }
     {
         edit_plan(&self.panes[place], edits, at)
@@ -206,7 +218,8 @@ impl States {
     // The plan of Undo of the window at this place, if there is a group to take back.
     fn undo_plan(&self, at: usize) -> Result<Option<TextPlan>, NoMemory>
         requires { Lives Always (live_at self.now.present at) }
-        ensures plan { IfOk result (λ plan. Lives (λ (w : Window). plan ≡ undo_plan_of w.body) (live_at self.now.present at)) }
+        ensures plan { IfOk result (λ plan. Lives (λ (w : Window). plan ≡ undo_plan_of w.body)
+            (live_at self.now.present at)) }
         ensures can { IfOk result (λ plan. IfSome plan (λ p. Lives (IsPlannable p) (live_at self.now.present at))) }
     {
         undo_plan(&self.panes[at])
@@ -215,7 +228,8 @@ impl States {
     // The plan of Redo of the window at this place, if there is a group to make again.
     fn redo_plan(&self, at: usize) -> Result<Option<TextPlan>, NoMemory>
         requires { Lives Always (live_at self.now.present at) }
-        ensures plan { IfOk result (λ plan. Lives (λ (w : Window). plan ≡ redo_plan_of w.body) (live_at self.now.present at)) }
+        ensures plan { IfOk result (λ plan. Lives (λ (w : Window). plan ≡ redo_plan_of w.body)
+            (live_at self.now.present at)) }
         ensures can { IfOk result (λ plan. IfSome plan (λ p. Lives (IsPlannable p) (live_at self.now.present at))) }
     {
         redo_plan(&self.panes[at])
@@ -224,7 +238,8 @@ impl States {
     // Does a plan in the window at this place.
     fn do_plan(&mut self, at: usize, plan: TextPlan) -> Result<(), NoMemory>
         requires { Lives (IsPlannable plan) (live_at self.old.present at) }
-        ensures ok { OnOk result (self.new ≡ record self.old { present = at_place (option_map (planned plan)) at self.old.present }) }
+        ensures ok { OnOk result
+            (self.new ≡ record self.old { present = at_place (option_map (planned plan)) at self.old.present }) }
         ensures err { OnErr result (self.new ≡ self.old) }
     {
         self.trail.reserve(1)?;

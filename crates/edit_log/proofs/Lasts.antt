@@ -117,13 +117,13 @@ spare_at gs k n v ev h = subst (λ (x : Group). vec_len x.edits + n ≤ vec_capa
 
 -- ---- a push, and taking it back
 
-pub pushed_log : (gs hs : List DoneGroup) (d e n : ℕ) (m : Marking) (room : ℕ) (ready : Option ℕ) (on : Bool) (edits : List Done) (number : ℕ) → d ≤ e → d ≤ length gs → on ≡ goes_on m d number → take n hs ≡ grown on (take d gs) edits number → drop n hs ≡ drop d gs → log_of hs n n (marking_after on m number) 0 ready ≡ pushed (log_of gs d e m room ready) edits number
+pub pushed_log : (gs hs : List DoneGroup) (d e n : ℕ) (m : Marking) (room : ℕ) (ready : Option ℕ) (on : Bool) (edits : List Done) (number : ℕ) → d ≤ e → d ≤ length gs → on ≡ goes_on m d number → take n hs ≡ grown on (take d gs) edits number → drop n hs ≡ drop d gs → log_of (record { groups = hs; done = n; end = n }) (marking_after on m number) 0 ready ≡ pushed (log_of (record { groups = gs; done = d; end = e }) m room ready) edits number
 pushed_log gs hs d e n m room ready on edits number h l o front behind =
     let same : length (take d gs) ≡ d = length-take-le d gs l in
     let none : n - n ≡ 0 = omega arith in
     rw (none, front, behind, same, ← o, two_parts gs d e h) refl
 
-pub unpushed_log : (gs hs : List DoneGroup) (d e n : ℕ) (m : Marking) (room : ℕ) (ready : Option ℕ) (p : Pushed) → d ≤ e → take n hs ≡ ungrown p.begins (take d gs) p.edits → drop n hs ≡ drop d gs → log_of hs n (n + p.undone) m 0 ready ≡ unpushed (log_of gs d e m room ready) p
+pub unpushed_log : (gs hs : List DoneGroup) (d e n : ℕ) (m : Marking) (room : ℕ) (ready : Option ℕ) (p : Pushed) → d ≤ e → take n hs ≡ ungrown p.begins (take d gs) p.edits → drop n hs ≡ drop d gs → log_of (record { groups = hs; done = n; end = n + p.undone }) m 0 ready ≡ unpushed (log_of (record { groups = gs; done = d; end = e }) m room ready) p
 unpushed_log gs hs d e n m room ready p h front behind =
     let more : n + p.undone - n ≡ p.undone = omega arith in
     rw (more, front, ← drop-drop p.undone n hs, behind, two_parts gs d e h) refl
@@ -163,7 +163,7 @@ unpush_takes_back l edits number =
 
 -- ---- what is forgotten goes
 
-pub settled_log : (gs : List Group) (d e : ℕ) (m : Marking) (room : ℕ) (ready : Option ℕ) → d ≤ e → e ≤ length gs → log_of (map group_of (take e gs)) d e m room ready ≡ settled (log_of (map group_of gs) d e m room ready)
+pub settled_log : (gs : List Group) (d e : ℕ) (m : Marking) (room : ℕ) (ready : Option ℕ) → d ≤ e → e ≤ length gs → log_of (record { groups = map group_of (take e gs); done = d; end = e }) m room ready ≡ settled (log_of (record { groups = map group_of gs; done = d; end = e }) m room ready)
 settled_log gs d e m room ready h l =
     let xs = map group_of gs in
     let n : d + (e - d) ≡ e = omega arith in
@@ -177,14 +177,14 @@ pub some_left : {A : Type 0} (n : ℕ) (xs : List A) → 0 < length (take n xs) 
 some_left zero xs h = absurd (omega arith)
 some_left (suc n) xs h = omega arith
 
-pub undone_log : (gs : List DoneGroup) (d e : ℕ) (m : Marking) (room : ℕ) (ready : Option ℕ) → 0 < length (take d gs) → d ≤ e → e ≤ length gs → log_of gs (d - 1) e (ended m) 0 ready ≡ undone (log_of gs d e m room ready)
+pub undone_log : (gs : List DoneGroup) (d e : ℕ) (m : Marking) (room : ℕ) (ready : Option ℕ) → 0 < length (take d gs) → d ≤ e → e ≤ length gs → log_of (record { groups = gs; done = d - 1; end = e }) (ended m) 0 ready ≡ undone (log_of (record { groups = gs; done = d; end = e }) m room ready)
 undone_log gs zero e m room ready some h l = absurd (omega arith)
 undone_log gs (suc k) e m room ready some h l =
     let n : suc k - 1 ≡ k = omega arith in
     let m' : suc k ≡ k + 1 = omega arith in
     rw (n, m', before_place gs k (omega arith), from_place gs k e (omega arith) l) refl
 
-pub redone_log : (gs : List DoneGroup) (d e : ℕ) (m : Marking) (room : ℕ) (ready : Option ℕ) → 0 < length (take (e - d) (drop d gs)) → log_of gs (d + 1) e (ended m) 0 ready ≡ redone (log_of gs d e m room ready)
+pub redone_log : (gs : List DoneGroup) (d e : ℕ) (m : Marking) (room : ℕ) (ready : Option ℕ) → 0 < length (take (e - d) (drop d gs)) → log_of (record { groups = gs; done = d + 1; end = e }) (ended m) 0 ready ≡ redone (log_of (record { groups = gs; done = d; end = e }) m room ready)
 redone_log gs d e m room ready some =
     let h : d < e = omega (arith, some_left (e - d) (drop d gs) some) in
     rw (first_before gs d e h, rest_behind gs d e h) refl

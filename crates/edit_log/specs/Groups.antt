@@ -1,5 +1,6 @@
 -- The groups of edits that Undo takes back one by one.
-use Rattle.std.specs.Prelude.{◌≡◌, ℕ, ◌+◌, ◌-◌, ◌≤◌, ◌<◌, ◌==◌, ◌&&◌, ◌||◌, Bool, true, false, not, List, [], ◌∷◌, ◌++◌, length, take, drop, slice_get, Option, Some, None, if◌then◌else◌}
+use Rattle.std.specs.Prelude.{◌≡◌, ℕ, ◌+◌, ◌-◌, ◌≤◌, ◌<◌, ◌==◌, ◌&&◌, ◌||◌, Bool, true, false, not, List, [], ◌∷◌, ◌++◌}
+use Rattle.std.specs.Prelude.{length, take, drop, slice_get, Option, Some, None, if◌then◌else◌}
 use Rattle.std.specs.Option.{option_map}
 use Rattle.edit_log.specs.declared.types.Done.{Done}
 use Rattle.edit_log.specs.declared.types.Edit.{Edit}
@@ -33,8 +34,8 @@ no_log = record { past = []; future = []; forgotten = []; marking = no_marking; 
 
 -- ---- changes
 
--- Edits of the step of this number go to the last group, of so many: there is one, and it is open since `nomark`, or the
--- last change was of that step, too.
+-- Edits of the step of this number go to the last group, of so many: there is one, and it is open since `nomark`, or
+-- the last change was of that step, too.
 abbrev pub goes_on : Marking → ℕ → ℕ → Bool
 goes_on m groups number = (m.joins || (m.changed == number)) && not (groups == 0)
 
@@ -59,11 +60,16 @@ with_less n g = record g { edits = take (length g.edits - n) g.edits }
 
 -- the groups after edits, which go to the last or are one
 abbrev pub grown : Bool → List DoneGroup → List Done → ℕ → List DoneGroup
-grown on past edits number = if on then at_last (with_more edits) past else past ++ record { number = number; edits = edits } ∷ []
+grown on past edits number =
+    if on then at_last (with_more edits) past else past ++ record { number = number; edits = edits } ∷ []
 
 -- after edits of the step of this number; a group that they began is open where not each change is one
 abbrev pub marking_after : Bool → Marking → ℕ → Marking
-marking_after on m number = record { automatic = m.automatic; joins = (if on then m.joins else not m.automatic); changed = number }
+marking_after on m number = record {
+  automatic = m.automatic;
+  joins = (if on then m.joins else not m.automatic);
+  changed = number;
+}
 
 -- after edits of the step of this number: they go to the last group or are one, and what was undone is forgotten
 abbrev pub pushed : Log → List Done → ℕ → Log
@@ -78,7 +84,11 @@ pushed l edits number = let on = goes_on l.marking (length l.past) number in rec
 
 -- what has to be known to take back a push of so many edits
 abbrev pub pushing : Log → ℕ → ℕ → Pushed
-pushing l edits number = record { begins = not (goes_on l.marking (length l.past) number); edits = edits; undone = length l.future }
+pushing l edits number = record {
+  begins = not (goes_on l.marking (length l.past) number);
+  edits = edits;
+  undone = length l.future;
+}
 
 -- after `mark` (automatic) or `nomark`: the next change begins a group
 abbrev pub marked_marking : Marking → Bool → Marking
@@ -124,7 +134,9 @@ restored l m = record l { marking = m; room = 0 }
 
 -- A push is taken back as if it hadn't been.
 abbrev pub UnpushTakesBack : Type 0
-UnpushTakesBack = (l : Log) (edits : List Done) (number : ℕ) → restored (unpushed (pushed l edits number) (pushing l (length edits) number)) l.marking ≡ record l { room = 0 }
+UnpushTakesBack =
+    (l : Log) (edits : List Done) (number : ℕ) → restored
+    (unpushed (pushed l edits number) (pushing l (length edits) number)) l.marking ≡ record l { room = 0 }
 
 -- ---- Undo and Redo
 
@@ -205,8 +217,10 @@ redo_edits l = option_map redoing_group (first_of l.future)
 
 -- after Undo: the last group of past is the first of future, and the next change begins a group
 abbrev pub undone : Log → Log
-undone l = record l { past = before_last l.past; future = with_last_of l.past l.future; marking = ended l.marking; room = 0 }
+undone l =
+    record l { past = before_last l.past; future = with_last_of l.past l.future; marking = ended l.marking; room = 0 }
 
 -- after Redo: the first group of future is the last of past, and the next change begins a group
 abbrev pub redone : Log → Log
-redone l = record l { past = with_first_of l.future l.past; future = drop 1 l.future; marking = ended l.marking; room = 0 }
+redone l =
+    record l { past = with_first_of l.future l.past; future = drop 1 l.future; marking = ended l.marking; room = 0 }

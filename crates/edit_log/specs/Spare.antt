@@ -1,5 +1,6 @@
 -- Groups in vectors.
-use Rattle.std.specs.Prelude.{ℕ, ◌+◌, ◌-◌, ◌≤◌, ◌==◌, Bool, not, List, take, drop, slice_index_or, Option, Some, None, vec_len, vec_capacity}
+use Rattle.std.specs.Prelude.{ℕ, ◌+◌, ◌-◌, ◌≤◌, ◌==◌, Bool, not, List, take, drop, slice_index_or, Option, Some, None}
+use Rattle.std.specs.Prelude.{vec_len, vec_capacity}
 use Rattle.edit_log.specs.declared.types.Marking.{Marking}
 use Rattle.edit_log.specs.declared.log.Group.{Group}
 use Rattle.edit_log.specs.Groups.{DoneGroup, Log, goes_on}
@@ -17,6 +18,19 @@ abbrev pub may_go_on : Marking → ℕ → Option ℕ → Bool
 may_go_on m groups None = not (groups == 0)
 may_go_on m groups (Some number) = goes_on m groups number
 
+-- groups in a row, how many of them are past, and where those end that are undone
+pub record Stored : Type 0 where
+  pub groups : List DoneGroup
+  pub done : ℕ
+  pub end : ℕ
+
 -- the first of these groups are past, those up to `end` are undone, and the others are forgotten
-abbrev pub log_of : List DoneGroup → ℕ → ℕ → Marking → ℕ → Option ℕ → Log
-log_of gs done end marking room ready = record { past = take done gs; future = take (end - done) (drop done gs); forgotten = drop end gs; marking = marking; room = room; ready = ready }
+abbrev pub log_of : Stored → Marking → ℕ → Option ℕ → Log
+log_of stored marking room ready = record {
+  past = take stored.done stored.groups;
+  future = take (stored.end - stored.done) (drop stored.done stored.groups);
+  forgotten = drop stored.end stored.groups;
+  marking = marking;
+  room = room;
+  ready = ready;
+}

@@ -1,14 +1,13 @@
 //! What was done to a text: edits, where they move places, and the groups that Undo takes back.
 #![tactic(auto)]
 
-mod laws;
+pub mod laws;
 mod log;
 mod places;
 mod splicing;
 mod types;
 mod undoing;
 
-pub use laws::unpush_takes_back;
 pub use log::UndoLog;
 pub use places::image;
 pub use splicing::splice;

@@ -1,8 +1,12 @@
 //! The edits that were done, in groups.
 
-ghost use Rattle.std.specs.Prelude.{ℕ, ◌≡◌, ◌<◌, ◌≤◌, ◌==◌, ◌-◌, ◌+◌, true, false, not, length, map, take, drop, set, Some, None, vec_len, vec_capacity, IfOk, OnOk, OnErr};
+ghost use Rattle.std.specs.Prelude.{ℕ, ◌≡◌, ◌<◌, ◌≤◌, ◌==◌, ◌-◌, ◌+◌, true, false, not, length, map, take, drop, set};
+ghost use Rattle.std.specs.Prelude.{Some, None, vec_len, vec_capacity, IfOk, OnOk, OnErr};
 ghost use Rattle.std.specs.Option.{option_map};
-ghost use Rattle.edit_log.specs.Groups.{no_log, goes_on, grown, ungrown, pushed, pushing, marked, settled, unpushed, CanUnpush, IsReadyFor, restored, undo_edits, redo_edits, undone, redone, last_of, first_of, number_in, last_edits, all_last, all_first, marking_after, ended};
+ghost use Rattle.edit_log.specs.Groups.{no_log, goes_on, grown, ungrown, pushed, pushing, marked, settled, unpushed};
+ghost use Rattle.edit_log.specs.Groups.{CanUnpush, IsReadyFor, restored, undo_edits, redo_edits, undone, redone};
+ghost use Rattle.edit_log.specs.Groups.{last_of, first_of, number_in, last_edits, all_last, all_first, marking_after};
+ghost use Rattle.edit_log.specs.Groups.{ended};
 ghost use Rattle.edit_log.specs.Spare.{group_of, SpareAt, may_go_on};
 
 use crate::types::{Done, DoneList, Edits, Marking, Pushed};
@@ -55,9 +59,12 @@ impl Model for UndoLog {
 
     ghost Value = { Log };
 
-    ghost view = { λ l. log_of (map group_of l.groups.items) l.done l.end l.marking l.room l.ready };
+    ghost view = { λ l. log_of (record { groups = map group_of l.groups.items; done = l.done; end = l.end }) l.marking
+        l.room l.ready };
 
-    ghost invariant = { λ l. (l.done ≤ l.end) × (l.end ≤ length l.groups.items) × (0 < l.room → (vec_len l.groups < vec_capacity l.groups) × (may_go_on l.marking l.done l.ready ≡ true → SpareAt (l.done - 1) l.room l.groups.items)) };
+    ghost invariant = { λ l. (l.done ≤ l.end) × (l.end ≤ length l.groups.items)
+        × (0 < l.room → (vec_len l.groups < vec_capacity l.groups)
+        × (may_go_on l.marking l.done l.ready ≡ true → SpareAt (l.done - 1) l.room l.groups.items)) };
 }
 
 const UNMARKED: Marking = Marking {
@@ -145,7 +152,8 @@ fn grow(groups: &mut Vec<Group>, done: usize, on: bool, edits: usize) -> Result<
 fn extend(groups: &mut Vec<Group>, at: usize, edits: DoneList)
     requires within { at < length groups.old.items }
     requires room { SpareAt at (length edits) groups.old.items }
-    ensures front { take (at + 1) (map group_of groups.new.items) ≡ grown true (take (at + 1) (map group_of groups.old.items)) edits 0 }
+    ensures front { take (at + 1) (map group_of groups.new.items)
+        ≡ grown true (take (at + 1) (map group_of groups.old.items)) edits 0 }
     ensures behind { drop (at + 1) (map group_of groups.new.items) ≡ drop (at + 1) (map group_of groups.old.items) }
     ensures len { vec_len groups.new ≡ vec_len groups.old }
 {
@@ -161,7 +169,8 @@ fn extend(groups: &mut Vec<Group>, at: usize, edits: DoneList)
 fn insert(groups: &mut Vec<Group>, at: usize, edits: DoneList, number: u64)
     requires within { at ≤ length groups.old.items }
     requires room { vec_len groups.old < vec_capacity groups.old }
-    ensures front { take (at + 1) (map group_of groups.new.items) ≡ grown false (take at (map group_of groups.old.items)) edits number }
+    ensures front { take (at + 1) (map group_of groups.new.items)
+        ≡ grown false (take at (map group_of groups.old.items)) edits number }
     ensures behind { drop (at + 1) (map group_of groups.new.items) ≡ drop at (map group_of groups.old.items) }
     ensures len { vec_len groups.new ≡ vec_len groups.old + 1 }
 {
@@ -181,7 +190,8 @@ fn put(groups: &mut Vec<Group>, done: usize, on: bool, edits: DoneList, number: 
     requires past { done ≤ length groups.old.items }
     requires slot { vec_len groups.old < vec_capacity groups.old }
     requires last { on ≡ true → SpareAt (done - 1) (length edits) groups.old.items }
-    ensures front { take result (map group_of groups.new.items) ≡ grown on (take done (map group_of groups.old.items)) edits number }
+    ensures front { take result (map group_of groups.new.items)
+        ≡ grown on (take done (map group_of groups.old.items)) edits number }
     ensures behind { drop result (map group_of groups.new.items) ≡ drop done (map group_of groups.old.items) }
     ensures within { result ≤ vec_len groups.new }
 {
@@ -197,7 +207,8 @@ fn put(groups: &mut Vec<Group>, done: usize, on: bool, edits: DoneList, number: 
 // Takes so many edits from the end of the group at this place.
 fn shorten(groups: &mut Vec<Group>, at: usize, edits: usize)
     requires { at < length groups.old.items }
-    ensures front { take (at + 1) (map group_of groups.new.items) ≡ ungrown false (take (at + 1) (map group_of groups.old.items)) edits }
+    ensures front { take (at + 1) (map group_of groups.new.items)
+        ≡ ungrown false (take (at + 1) (map group_of groups.old.items)) edits }
     ensures behind { drop (at + 1) (map group_of groups.new.items) ≡ drop (at + 1) (map group_of groups.old.items) }
     ensures len { vec_len groups.new ≡ vec_len groups.old }
 {
@@ -209,7 +220,8 @@ fn shorten(groups: &mut Vec<Group>, at: usize, edits: usize)
 // Takes the group at this place away.
 fn remove(groups: &mut Vec<Group>, at: usize)
     requires { at < length groups.old.items }
-    ensures front { take at (map group_of groups.new.items) ≡ ungrown true (take (at + 1) (map group_of groups.old.items)) 0 }
+    ensures front { take at (map group_of groups.new.items)
+        ≡ ungrown true (take (at + 1) (map group_of groups.old.items)) 0 }
     ensures behind { drop at (map group_of groups.new.items) ≡ drop (at + 1) (map group_of groups.old.items) }
     ensures len { vec_len groups.new + 1 ≡ vec_len groups.old }
 {
@@ -220,7 +232,8 @@ fn remove(groups: &mut Vec<Group>, at: usize)
 fn take(groups: &mut Vec<Group>, done: usize, begins: bool, edits: usize) -> usize
     requires some { 0 < done }
     requires past { done ≤ length groups.old.items }
-    ensures front { take result (map group_of groups.new.items) ≡ ungrown begins (take done (map group_of groups.old.items)) edits }
+    ensures front { take result (map group_of groups.new.items)
+        ≡ ungrown begins (take done (map group_of groups.old.items)) edits }
     ensures behind { drop result (map group_of groups.new.items) ≡ drop done (map group_of groups.old.items) }
     ensures within { result ≤ vec_len groups.new }
 {

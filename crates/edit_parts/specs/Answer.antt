@@ -53,8 +53,10 @@ pub record IsBadPiece (text : List ℕ) (at place : ℕ) : Type 0 where
   pub order : at ≤ place
   pub within : place ≤ length text
   -- with some runes more it is whole, at the end of a line or of the text
-  pub before : at < place → (more : List ℕ) × (p : Piece) × ((next : Option ℕ) → ends_line next ≡ true → IsPiece p (slice_range text at place ++ more) next)
-  pub dead : (more : List ℕ) → next_of more ≡ next_of (drop place text) → (p : Piece) (piece behind : List ℕ) → slice_range text at place ++ more ≡ piece ++ behind → IsPiece p piece (next_of behind) → ⊥
+  pub before : at < place → (more : List ℕ) × (p : Piece)
+      × ((next : Option ℕ) → ends_line next ≡ true → IsPiece p (slice_range text at place ++ more) next)
+  pub dead : (more : List ℕ) → next_of more ≡ next_of (drop place text) → (p : Piece) (piece behind : List ℕ)
+      → slice_range text at place ++ more ≡ piece ++ behind → IsPiece p piece (next_of behind) → ⊥
 
 -- why no piece is read
 abbrev pub PieceFails : List ℕ → ℕ → SynFault → Type 0

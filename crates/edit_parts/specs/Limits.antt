@@ -2,7 +2,8 @@
 use Rattle.std.specs.Prelude.{◌||◌, Bool, false, nat_lt}
 use Rattle.re_syntax.specs.Tree as expression
 use Rattle.addr_syntax.specs.Tree as address
-use Rattle.edit_parts.specs.Tree.{Action, Commands, Nothing, Append, Change, Insert, Delete, Substitute, Move, Copy, Print, LineNumber, RuneNumber, Loops, Block, Asks, Done, Then}
+use Rattle.edit_parts.specs.Tree.{Action, Commands, Nothing, Append, Change, Insert, Delete, Substitute, Move, Copy}
+use Rattle.edit_parts.specs.Tree.{Print, LineNumber, RuneNumber, Loops, Block, Asks, Done, Then}
 
 -- an expression has more than 2,048 nodes
 abbrev pub is_large_expression : expression.Tree → Bool

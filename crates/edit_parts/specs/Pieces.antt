@@ -38,18 +38,17 @@ whole_lines = Then (Many AnyLetter) (Letter newline)
 
 -- how the expression of a loop is written behind its letter and blanks
 abbrev pub LoopsOver : loops.Loop → expression.Tree → List ℕ → List ℕ → Type 0
-LoopsOver ForEach re text rest = Quoted re text rest ⊎ ((re ≡ whole_lines) × (text ≡ rest) × (is_next slash (next_of rest) ≡ false))
+LoopsOver ForEach re text rest =
+    Quoted re text rest ⊎ ((re ≡ whole_lines) × (text ≡ rest) × (is_next slash (next_of rest) ≡ false))
 LoopsOver ForBetween re text rest = Quoted re text rest
 LoopsOver Where re text rest = Quoted re text rest
 LoopsOver WhereNot re text rest = Quoted re text rest
 
--- how the parts of `s` are written: its number, `/re/`, `t/`, and maybe a `g`
-abbrev pub Substitutes : ℕ → expression.Tree → List ℕ → Bool → List ℕ → List ℕ → Type 0
-Substitutes n re with all text rest = (l m k : List ℕ) × Nth n text l × Quoted re l m × Closed with m k × All all (after_blanks k) rest
-
--- the action of `s` with parts that are written so
+-- how the action of `s` is written: its number, `/re/`, `t/`, and maybe a `g`
 abbrev pub SubstitutesAs : Action → List ℕ → List ℕ → Type 0
-SubstitutesAs act text rest = (n : ℕ) × (re : expression.Tree) × (with : List ℕ) × (all : Bool) × (act ≡ tree.Substitute n re with all) × Substitutes n re with all text rest
+SubstitutesAs act text rest = (n : ℕ) × (re : expression.Tree) × (with : List ℕ) × (all : Bool)
+    × (act ≡ tree.Substitute n re with all)
+    × (l m k : List ℕ) × Nth n text l × Quoted re l m × Closed with m k × All all (after_blanks k) rest
 
 -- how an action is written behind its letter
 abbrev pub ActsAs : Sign → Action → List ℕ → List ℕ → Type 0
@@ -59,15 +58,18 @@ ActsAs letter.Substitute act text rest = SubstitutesAs act (after_blanks text) r
 ActsAs (letter.Sends way) act text rest = (a : address.Tree) × (act ≡ sends way a) × Begins a (after_blanks text) rest
 ActsAs letter.Print act text rest = (act ≡ tree.Print) × (text ≡ rest)
 ActsAs letter.Equals act text rest =
-    ((act ≡ tree.RuneNumber) × (text ≡ hash ∷ rest)) ⊎ ((act ≡ tree.LineNumber) × (text ≡ rest) × (is_next hash (next_of rest) ≡ false))
-ActsAs (letter.Asks request) act text rest = (t : List ℕ) × (act ≡ tree.Asks (request_of request) t) × RestOfLine t (after_blanks text) rest
+    ((act ≡ tree.RuneNumber) × (text ≡ hash ∷ rest))
+    ⊎ ((act ≡ tree.LineNumber) × (text ≡ rest) × (is_next hash (next_of rest) ≡ false))
+ActsAs (letter.Asks request) act text rest =
+    (t : List ℕ) × (act ≡ tree.Asks (request_of request) t) × RestOfLine t (after_blanks text) rest
 
 -- how a piece of this kind is written: its first rune, what stands behind that, and the rest behind the piece
 abbrev pub GoesOnAs : Kind → Piece → ℕ → List ℕ → List ℕ → Type 0
 GoesOnAs kind.Blank p c text rest = (p ≡ Blank) × (text ≡ rest)
 GoesOnAs kind.EndsLine p c text rest = (p ≡ EndsLine) × (text ≡ rest)
 GoesOnAs kind.Address p c text rest = (a : address.Tree) × (p ≡ At a) × Begins a (c ∷ text) rest
-GoesOnAs (kind.Loops k) p c text rest = (re : expression.Tree) × (p ≡ Loops (loop_of k) re) × LoopsOver k re (after_blanks text) rest
+GoesOnAs (kind.Loops k) p c text rest =
+    (re : expression.Tree) × (p ≡ Loops (loop_of k) re) × LoopsOver k re (after_blanks text) rest
 GoesOnAs kind.Opens p c text rest = (p ≡ Opens) × (text ≡ rest)
 GoesOnAs kind.Closes p c text rest = (p ≡ Closes) × (text ≡ rest)
 GoesOnAs (kind.Acts l) p c text rest = (act : Action) × (p ≡ Does act) × ActsAs l act text rest

@@ -1,5 +1,6 @@
 -- What reading a part of a piece answers.
-use Rattle.std.specs.Prelude.{◌≡◌, ◌≤◌, ◌<◌, ◌+◌, ◌==◌, not, ℕ, Bool, true, false, List, ◌++◌, length, drop, slice_range, slice_index, Option, Some, None}
+use Rattle.std.specs.Prelude.{◌≡◌, ◌≤◌, ◌<◌, ◌+◌, ◌==◌, not, ℕ, Bool, true, false, List, ◌++◌, length, drop}
+use Rattle.std.specs.Prelude.{slice_range, slice_index, Option, Some, None}
 use Rattle.am_text.specs.Ascii as ascii
 use Rattle.re_syntax.specs.Tree as expression
 use Rattle.re_syntax.specs.declared.re.Re.{Re}
@@ -17,7 +18,8 @@ use Rattle.edit_parts.specs.declared.command.Act.{Act}
 use Rattle.edit_parts.specs.declared.kind.Loop.{Loop}
 use Rattle.edit_parts.specs.declared.kind.Loop.TheVariants.{ForEach, ForBetween, Where, WhereNot}
 
--- the text from one place up to another is what these relations say of a text and its rest, whatever stands behind the next rune
+-- the text from one place up to another is what these relations say of a text and its rest, whatever
+-- stands behind the next rune
 pub record IsReadBy (r : List ℕ → List ℕ → Type 0) (text : List ℕ) (from end : ℕ) : Type 0 where
   pub order : from ≤ end
   pub within : end ≤ length text
@@ -33,14 +35,18 @@ is_solid None = false
 is_solid (Some c) = not (c == ascii.space)
 
 -- something goes on from one place up to another, and nothing does there
-pub record IsBadBy (X : Type 0) (r : X → List ℕ → List ℕ → Type 0) (ends : Option ℕ → Bool) (text : List ℕ) (from place : ℕ) : Type 0 where
+pub record IsBadBy (X : Type 0) (r : X → List ℕ → List ℕ → Type 0) (ends : Option ℕ → Bool) (text : List ℕ)
+    (from place : ℕ) : Type 0 where
   pub order : from ≤ place
   pub within : place ≤ length text
-  pub before : (more : List ℕ) × (x : X) × (from ≡ place → is_solid (next_of more) ≡ true) × ((rest : List ℕ) → ends (next_of rest) ≡ true → r x ((slice_range text from place ++ more) ++ rest) rest)
-  pub dead : (more : List ℕ) → next_of more ≡ next_of (drop place text) → (x : X) (rest : List ℕ) → r x (slice_range text from place ++ more) rest → ⊥
+  pub before : (more : List ℕ) × (x : X) × (from ≡ place → is_solid (next_of more) ≡ true)
+      × ((rest : List ℕ) → ends (next_of rest) ≡ true → r x ((slice_range text from place ++ more) ++ rest) rest)
+  pub dead : (more : List ℕ) → next_of more ≡ next_of (drop place text) → (x : X) (rest : List ℕ)
+      → r x (slice_range text from place ++ more) rest → ⊥
 
 -- why a part isn't read
-abbrev pub PartFails : (X : Type 0) → (X → List ℕ → List ℕ → Type 0) → (Option ℕ → Bool) → List ℕ → ℕ → SynFault → Type 0
+abbrev pub PartFails : (X : Type 0) → (X → List ℕ → List ℕ → Type 0) → (Option ℕ → Bool) → List ℕ → ℕ
+    → SynFault → Type 0
 PartFails X r ends text from (Bad place) = IsBadBy X r ends text from place
 PartFails X r ends text from Nodes = ⊥
 PartFails X r ends text from Deep = ⊥
@@ -83,7 +89,8 @@ QuotedFails text from e = PartFails expression.Tree Quoted anything text from e
 
 -- the expression from one place up to another, written so
 abbrev pub IsExpressionBy : (expression.Tree → List ℕ → List ℕ → Type 0) → List ℕ → ℕ → Option Re → ℕ → Type 0
-IsExpressionBy r text from built end = (re : expression.Tree) × IsBuiltExpression built re × IsReadBy (r re) text from end
+IsExpressionBy r text from built end =
+    (re : expression.Tree) × IsBuiltExpression built re × IsReadBy (r re) text from end
 
 -- the loop over the matches, whose expression may be missing
 abbrev pub is_for_each : Loop → Bool

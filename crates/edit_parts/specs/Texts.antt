@@ -1,5 +1,6 @@
 -- How the texts in commands are written.
-use Rattle.std.specs.Prelude.{◌≡◌, ◌⊎◌, ◌==◌, ◌&&◌, ◌||◌, ◌+◌, not, ℕ, Bool, true, false, List, [], ◌∷◌, ◌++◌, Some, if◌then◌else◌}
+use Rattle.std.specs.Prelude.{◌≡◌, ◌⊎◌, ◌==◌, ◌&&◌, ◌||◌, ◌+◌, not, ℕ, Bool, true, false, List, [], ◌∷◌, ◌++◌, Some}
+use Rattle.std.specs.Prelude.{if◌then◌else◌}
 use Rattle.am_text.specs.Ascii.{newline, space, dot, slash, backslash, letter_n}
 use Rattle.re_syntax.specs.Tree as expression
 use Rattle.re_syntax.specs.Grammar.{IsExpression}
@@ -15,9 +16,11 @@ after_blanks (c ∷ cs) = if c == space then after_blanks cs else c ∷ cs
 
 -- what a rune behind a backslash stands for
 abbrev pub escaped : ℕ → List ℕ
-escaped c = if c == letter_n then newline ∷ [] else (if (c == slash) || (c == backslash) then c ∷ [] else backslash ∷ c ∷ [])
+escaped c =
+    if c == letter_n then newline ∷ [] else (if (c == slash) || (c == backslash) then c ∷ [] else backslash ∷ c ∷ [])
 
--- what a text stands for: `\n` is a newline, `\/` and `\\` are `/` and `\`; any other rune stands, with a backslash before it too
+-- what a text stands for: `\n` is a newline, `\/` and `\\` are `/` and `\`; any other rune stands, with
+-- a backslash before it too
 abbrev pub unescaped : Bool → List ℕ → List ℕ
 unescaped b [] = []
 unescaped true (c ∷ cs) = escaped c ++ unescaped false cs
@@ -31,7 +34,8 @@ are_lines starts (c ∷ cs) = not (starts && (c == dot) && ends_line (next_of cs
 -- how many runes stand before the first line `.`
 abbrev pub lines_length : Bool → List ℕ → ℕ
 lines_length starts [] = 0
-lines_length starts (c ∷ cs) = if starts && (c == dot) && ends_line (next_of cs) then 0 else lines_length (c == newline) cs + 1
+lines_length starts (c ∷ cs) =
+    if starts && (c == dot) && ends_line (next_of cs) then 0 else lines_length (c == newline) cs + 1
 
 -- how many runes stand before the first newline
 abbrev pub line_length : List ℕ → ℕ
@@ -64,12 +68,16 @@ RestOfLine t text rest = (text ≡ t ++ rest) × (has_newline t ≡ false) × (e
 -- the text of `a`, `i` and `c`: `/t/`, or a newline and lines
 abbrev pub Text : List ℕ → List ℕ → List ℕ → Type 0
 Text t [] rest = ⊥
-Text t (c ∷ cs) rest = ((c ≡ slash) × (body : List ℕ) × (t ≡ unescaped false body) × Closed body cs rest) ⊎ ((c ≡ newline) × Lines t cs rest)
+Text t (c ∷ cs) rest =
+    ((c ≡ slash) × (body : List ℕ) × (t ≡ unescaped false body) × Closed body cs rest)
+    ⊎ ((c ≡ newline) × Lines t cs rest)
 
 -- the number of a match and the blanks behind it; 1 where none is written
 abbrev pub Nth : ℕ → List ℕ → List ℕ → Type 0
 Nth n text rest =
-    ((is_digit (next_of text) ≡ false) × (n ≡ 1) × (rest ≡ text)) ⊎ ((digits behind : List ℕ) × (text ≡ digits ++ behind) × IsNumber n digits (next_of behind) × (rest ≡ after_blanks behind))
+    ((is_digit (next_of text) ≡ false) × (n ≡ 1) × (rest ≡ text))
+    ⊎ ((digits behind : List ℕ) × (text ≡ digits ++ behind) × IsNumber n digits (next_of behind)
+    × (rest ≡ after_blanks behind))
 
 -- a `g`, where there is one
 abbrev pub All : Bool → List ℕ → List ℕ → Type 0

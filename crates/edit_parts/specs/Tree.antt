@@ -4,7 +4,8 @@ use Rattle.re_syntax.specs.Tree as expression
 use Rattle.addr_syntax.specs.Tree as address
 use Rattle.edit_parts.specs.declared.command.Cmd.{Cmd}
 use Rattle.edit_parts.specs.declared.command.Act as program
-use Rattle.edit_parts.specs.declared.command.Act.{Each', Between', If', Unless', Block', Row_of-Cmd, end_of-Cmd, more_of-Cmd}
+use Rattle.edit_parts.specs.declared.command.Act.{Each', Between', If', Unless', Block', Row_of-Cmd, end_of-Cmd}
+use Rattle.edit_parts.specs.declared.command.Act.{more_of-Cmd}
 
 -- A loop: for each match, for each text between them, where there is a match, where there is none.
 pub data Loop : Type 0 where

@@ -7,7 +7,8 @@ ghost use Rattle.edit_parts.specs.Laws.{MayEndLine};
 
 /// A text begins with one piece at most.
 pub fn a_text_begins_with_one_piece()
-    ensures { (p q : Piece) (u m v n : List ℕ) → u ++ m ≡ v ++ n → IsPiece p u (next_of m) → IsPiece q v (next_of n) → (p ≡ q) × (m ≡ n) }
+    ensures { (p q : Piece) (u m v n : List ℕ) → u ++ m ≡ v ++ n → IsPiece p u (next_of m) → IsPiece q v (next_of n)
+        → (p ≡ q) × (m ≡ n) }
 {}
 
 /// A piece, with some runes more where it ends the text, may stand at the end of a line.

@@ -17,7 +17,12 @@ begin_at r e = record { changes = e.changes; prints = e.prints; jobs = e.jobs; l
 -- nothing isn't made
 abbrev pub with_change : ℕ → ℕ → List ℕ → Effects → Effects
 with_change q0 q1 text e =
-    record { changes = e.changes ++ made (record { q0 = q0; q1 = q1; text = text }); prints = e.prints; jobs = e.jobs; last = e.last }
+    record {
+      changes = e.changes ++ made (record { q0 = q0; q1 = q1; text = text });
+      prints = e.prints;
+      jobs = e.jobs;
+      last = e.last;
+    }
 
 -- more to be printed
 abbrev pub with_print : List ℕ → Effects → Effects

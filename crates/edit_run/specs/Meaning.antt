@@ -1,5 +1,6 @@
 -- The meaning of a command over a text: what is wanted after it, where this was wanted before it.
-use Rattle.std.specs.Prelude.{◌&&◌, ℕ, Bool, List, [], ◌∷◌, length, slice_range, nat_lt, nat_le, is_some, None, Result, Ok, Err, if◌then◌else◌}
+use Rattle.std.specs.Prelude.{◌&&◌, ℕ, Bool, List, [], ◌∷◌, length, slice_range, nat_lt, nat_le, is_some, None, Result}
+use Rattle.std.specs.Prelude.{Ok, Err, if◌then◌else◌}
 use Rattle.am_text.specs.declared.range.Range.{Range}
 use Rattle.am_text.specs.declared.job.Job.{Job}
 use Rattle.am_text.specs.declared.job.JobKind.{JobKind}
@@ -8,7 +9,9 @@ use Rattle.re_syntax.specs.Tree as expression
 use Rattle.re_spans.specs.Search.{first_span}
 use Rattle.addr_syntax.specs.Tree as address
 use Rattle.edit_parts.specs.declared.command.Cmd.{Cmd}
-use Rattle.edit_parts.specs.Tree.{command, Loop, ForEach, ForBetween, Where, WhereNot, Request, Through, FromIt, ToIt, Action, Nothing, Append, Change, Insert, Delete, Substitute, Move, Copy, Print, LineNumber, RuneNumber, Loops, Block, Asks, Commands, Done, Then, Command}
+use Rattle.edit_parts.specs.Tree.{command, Loop, ForEach, ForBetween, Where, WhereNot, Request, Through, FromIt, ToIt}
+use Rattle.edit_parts.specs.Tree.{Action, Nothing, Append, Change, Insert, Delete, Substitute, Move, Copy, Print}
+use Rattle.edit_parts.specs.Tree.{LineNumber, RuneNumber, Loops, Block, Asks, Commands, Done, Then, Command}
 use Rattle.sam_address.specs.Value as sam
 use Rattle.win_ctl.specs.Directory.{directory}
 use Rattle.edit_run.specs.declared.fault.EditFault.{EditFault}
@@ -77,7 +80,13 @@ input_of ToIt t r = text_at t r
 
 -- a request of a window, to be done in the directory of its name
 abbrev pub job_for : JobKind → List ℕ → Site → List ℕ → Job
-job_for kind command site input = record { kind = kind; window = site.window; dir = directory site.name; command = command; input = input }
+job_for kind command site input = record {
+  kind = kind;
+  window = site.window;
+  dir = directory site.name;
+  command = command;
+  input = input;
+}
 
 -- the request of a command over a range
 abbrev pub job_of : Request → List ℕ → List ℕ → Site → Range → Job
@@ -115,20 +124,23 @@ abbrev mutual
   do_action (Insert text) t site dot r e = Ok (with_change r.q0 r.q0 text e)
   do_action (Change text) t site dot r e = Ok (with_change r.q0 r.q1 text e)
   do_action Delete t site dot r e = Ok (with_change r.q0 r.q1 [] e)
-  do_action (Substitute n re with all) t site dot r e = Ok (replace_each (substitute re t with) (choose n all (matches_in re t r)) e)
+  do_action (Substitute n re with all) t site dot r e = Ok
+      (replace_each (substitute re t with) (choose n all (matches_in re t r)) e)
   do_action (Move to) t site dot r e = and_then (range_of to t dot) (λ place. move_to t r place.q1 e)
   do_action (Copy to) t site dot r e = and_then (range_of to t dot) (λ place. copy_to t r place.q1 e)
   do_action Print t site dot r e = Ok (with_print (text_at t r) e)
   do_action LineNumber t site dot r e = Ok (with_print (line_with_name site.name (lines_text t r)) e)
   do_action RuneNumber t site dot r e = Ok (with_print (line_with_name site.name (places_text r)) e)
-  do_action (Loops kind re addr act) t site dot r e = for_each (at_address addr (do_action act t site) t) (ranges_of kind re t r) e
+  do_action (Loops kind re addr act) t site dot r e = for_each (at_address addr (do_action act t site) t)
+      (ranges_of kind re t r) e
   do_action (Block all) t site dot r e = do_all all t site r e
   do_action (Asks request command) t site dot r e = Ok (with_job (job_of request command t site r) e)
 
   -- commands one after another, each over the same dot
   pub do_all : Commands → List ℕ → Site → Range → Effects → Outcome
   do_all Done t site dot e = Ok e
-  do_all (Then addr act rest) t site dot e = and_then (at_address addr (do_action act t site) t dot e) (do_all rest t site dot)
+  do_all (Then addr act rest) t site dot e = and_then (at_address addr (do_action act t site) t dot e)
+      (do_all rest t site dot)
 
 -- what a command makes of its dot
 abbrev pub meaning : Command → List ℕ → Site → Range → Effects → Outcome

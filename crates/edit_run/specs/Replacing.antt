@@ -1,5 +1,6 @@
 -- What `s` puts in the place of a match.
-use Rattle.std.specs.Prelude.{◌==◌, ◌&&◌, ◌||◌, ◌-◌, ℕ, Bool, true, false, List, [], ◌∷◌, ◌++◌, slice_range, slice_index_or, nat_le, Option, Some, None, if◌then◌else◌}
+use Rattle.std.specs.Prelude.{◌==◌, ◌&&◌, ◌||◌, ◌-◌, ℕ, Bool, true, false, List, [], ◌∷◌, ◌++◌, slice_range}
+use Rattle.std.specs.Prelude.{slice_index_or, nat_le, Option, Some, None, if◌then◌else◌}
 use Rattle.am_text.specs.Ascii.{newline, ampersand, digit_0, digit_9, backslash, letter_n}
 use Rattle.am_text.specs.declared.range.Range.{Range}
 use Rattle.re_syntax.specs.Tree.{Tree}
@@ -34,7 +35,8 @@ escaped group c = if is_group c then group (c - digit_0) else ((if c == letter_n
 abbrev pub expand : List ℕ → (ℕ → List ℕ) → Bool → List ℕ → List ℕ
 expand whole group false [] = []
 expand whole group true [] = backslash ∷ []
-expand whole group false (c ∷ cs) = if c == backslash then expand whole group true cs else plain whole c ++ expand whole group false cs
+expand whole group false (c ∷ cs) =
+    if c == backslash then expand whole group true cs else plain whole c ++ expand whole group false cs
 expand whole group true (c ∷ cs) = escaped group c ++ expand whole group false cs
 
 -- some group is named

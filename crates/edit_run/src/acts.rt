@@ -32,7 +32,8 @@ use win_ctl::directory;
 // The range of an address that is written.
 fn range_at<T: Letters>(over: &Over<T>, addr: &Addr, dot: Range) -> Result<Range, EditFault>
     requires { IsInside (T.letters over.now.text.now) dot }
-    ensures value { IfOk result (λ range. range_of (address.tree addr.now) (T.letters over.now.text.now) dot ≡ Ok range) }
+    ensures value { IfOk result (λ range. range_of (address.tree addr.now) (T.letters over.now.text.now) dot
+        ≡ Ok range) }
     ensures fault { IfErr result (λ e. IsFault e (range_of (address.tree addr.now) (T.letters over.now.text.now) dot)) }
     ensures inside { IfOk result (IsInside (T.letters over.now.text.now)) }
 {
@@ -50,8 +51,10 @@ pub fn range_of<T: Letters>(
     dot: Range,
 ) -> Result<Range, EditFault>
     requires { IsInside (T.letters over.now.text.now) dot }
-    ensures value { IfOk result (λ range. range_of (address.tree_of addr.now) (T.letters over.now.text.now) dot ≡ Ok range) }
-    ensures fault { IfErr result (λ e. IsFault e (range_of (address.tree_of addr.now) (T.letters over.now.text.now) dot)) }
+    ensures value { IfOk result (λ range. range_of (address.tree_of addr.now) (T.letters over.now.text.now) dot
+        ≡ Ok range) }
+    ensures fault { IfErr result (λ e. IsFault e (range_of (address.tree_of addr.now)
+        (T.letters over.now.text.now) dot)) }
     ensures inside { IfOk result (IsInside (T.letters over.now.text.now)) }
 {
     match addr {
@@ -70,7 +73,8 @@ pub fn put_text(
 ) -> Result<(), EditFault>
     ensures value { OnOk result (effects.new ≡ with_change q0 q1 put.now effects.old) }
     ensures fault { IfErr result (λ e. e ≡ NoMemory) }
-    ensures within { OnOk result ((t : List ℕ) → q0 ≤ q1 → q1 ≤ length t → IsWithin t effects.old → IsWithin t effects.new) }
+    ensures within { OnOk result ((t : List ℕ) → q0 ≤ q1 → q1 ≤ length t → IsWithin t effects.old
+        → IsWithin t effects.new) }
 {
     effects.change(q0, q1, Items::copied(alloc, put.as_slice())?)?;
     Ok(())
@@ -96,7 +100,8 @@ pub fn replace_all<T: Letters>(
 ) -> Result<(), EditFault>
     requires matches { AreMatches (tree re.now) (T.letters over.now.text.now) spans.now }
     requires within { IsWithin (T.letters over.now.text.now) effects.old }
-    ensures value { OnOk result (effects.new ≡ replace_each (substitute (tree re.now) (T.letters over.now.text.now) with.now) spans.now effects.old) }
+    ensures value { OnOk result (effects.new ≡ replace_each
+        (substitute (tree re.now) (T.letters over.now.text.now) with.now) spans.now effects.old) }
     ensures fault { IfErr result (λ e. e ≡ NoMemory) }
     ensures within { OnOk result (IsWithin (T.letters over.now.text.now) effects.new) }
 {
@@ -155,8 +160,11 @@ pub fn move_text<T: Letters>(
     requires dot { IsInside (T.letters over.now.text.now) dot }
     requires range { IsInside (T.letters over.now.text.now) range }
     requires within { IsWithin (T.letters over.now.text.now) effects.old }
-    ensures value { OnOk result (and_then (range_of (address.tree to.now) (T.letters over.now.text.now) dot) (λ place. move_to (T.letters over.now.text.now) range place.q1 effects.old) ≡ Ok effects.new) }
-    ensures fault { IfErr result (λ e. IsFault e (and_then (range_of (address.tree to.now) (T.letters over.now.text.now) dot) (λ place. move_to (T.letters over.now.text.now) range place.q1 effects.old))) }
+    ensures value { OnOk result (and_then (range_of (address.tree to.now) (T.letters over.now.text.now) dot)
+        (λ place. move_to (T.letters over.now.text.now) range place.q1 effects.old) ≡ Ok effects.new) }
+    ensures fault { IfErr result (λ e. IsFault e (and_then
+        (range_of (address.tree to.now) (T.letters over.now.text.now) dot)
+        (λ place. move_to (T.letters over.now.text.now) range place.q1 effects.old))) }
     ensures within { OnOk result (IsWithin (T.letters over.now.text.now) effects.new) }
 {
     let place = range_at(over, to, dot)?;
@@ -174,8 +182,11 @@ pub fn copy_text<T: Letters>(
     requires dot { IsInside (T.letters over.now.text.now) dot }
     requires range { IsInside (T.letters over.now.text.now) range }
     requires within { IsWithin (T.letters over.now.text.now) effects.old }
-    ensures value { OnOk result (and_then (range_of (address.tree to.now) (T.letters over.now.text.now) dot) (λ place. copy_to (T.letters over.now.text.now) range place.q1 effects.old) ≡ Ok effects.new) }
-    ensures fault { IfErr result (λ e. IsFault e (and_then (range_of (address.tree to.now) (T.letters over.now.text.now) dot) (λ place. copy_to (T.letters over.now.text.now) range place.q1 effects.old))) }
+    ensures value { OnOk result (and_then (range_of (address.tree to.now) (T.letters over.now.text.now) dot)
+        (λ place. copy_to (T.letters over.now.text.now) range place.q1 effects.old) ≡ Ok effects.new) }
+    ensures fault { IfErr result (λ e. IsFault e (and_then
+        (range_of (address.tree to.now) (T.letters over.now.text.now) dot)
+        (λ place. copy_to (T.letters over.now.text.now) range place.q1 effects.old))) }
     ensures within { OnOk result (IsWithin (T.letters over.now.text.now) effects.new) }
 {
     let place = range_at(over, to, dot)?;
@@ -209,7 +220,9 @@ pub fn print_lines<T: Letters>(
     requires range { IsInside (T.letters over.now.text.now) range }
     requires cursor { IsCursorOf (T.letters over.now.text.now) doing.old.cursor }
     requires within { IsWithin (T.letters over.now.text.now) doing.old.effects }
-    ensures value { OnOk result (doing.new.effects ≡ with_print (line_with_name over.now.site.now.name (lines_text (T.letters over.now.text.now) range)) doing.old.effects) }
+    ensures value { OnOk result (doing.new.effects
+        ≡ with_print (line_with_name over.now.site.now.name (lines_text (T.letters over.now.text.now) range))
+        doing.old.effects) }
     ensures fault { IfErr result (λ e. e ≡ NoMemory) }
     ensures cursor { OnOk result (IsCursorOf (T.letters over.now.text.now) doing.new.cursor) }
     ensures within { OnOk result (IsWithin (T.letters over.now.text.now) doing.new.effects) }
@@ -232,7 +245,8 @@ pub fn print_places(
     range: Range,
     effects: &mut Effects,
 ) -> Result<(), EditFault>
-    ensures value { OnOk result (effects.new ≡ with_print (line_with_name site.now.name (places_text range)) effects.old) }
+    ensures value { OnOk result (effects.new ≡ with_print
+        (line_with_name site.now.name (places_text range)) effects.old) }
     ensures fault { IfErr result (λ e. e ≡ NoMemory) }
     ensures within { OnOk result ((t : List ℕ) → IsWithin t effects.old → IsWithin t effects.new) }
 {
@@ -249,7 +263,8 @@ fn ask<T>(
     input: Runes,
     effects: &mut Effects,
 ) -> Result<(), EditFault>
-    ensures value { OnOk result (effects.new ≡ with_job (job_for kind command.now over.now.site.now input) effects.old) }
+    ensures value { OnOk result (effects.new ≡ with_job
+        (job_for kind command.now over.now.site.now input) effects.old) }
     ensures fault { IfErr result (λ e. e ≡ NoMemory) }
     ensures within { OnOk result ((t : List ℕ) → IsWithin t effects.old → IsWithin t effects.new) }
 {
@@ -271,7 +286,8 @@ pub fn ask_with<T: Letters>(
     range: Range,
     effects: &mut Effects,
 ) -> Result<(), EditFault>
-    ensures value { OnOk result (effects.new ≡ with_job (job_for kind command.now over.now.site.now (text_at (T.letters over.now.text.now) range)) effects.old) }
+    ensures value { OnOk result (effects.new ≡ with_job
+        (job_for kind command.now over.now.site.now (text_at (T.letters over.now.text.now) range)) effects.old) }
     ensures fault { IfErr result (λ e. e ≡ NoMemory) }
     ensures within { OnOk result ((t : List ℕ) → IsWithin t effects.old → IsWithin t effects.new) }
 {

@@ -46,7 +46,8 @@ impl Effects {
     /// One change more: the text takes the place of the range. One that takes nothing and puts nothing isn't made.
     pub(crate) fn change(&mut self, q0: usize, q1: usize, text: Runes) -> Result<(), NoMemory>
         ensures value { OnOk result (self.new ≡ with_change q0 q1 text self.old) }
-        ensures within { OnOk result ((t : List ℕ) → q0 ≤ q1 → q1 ≤ length t → IsWithin t self.old → IsWithin t self.new) }
+        ensures within { OnOk result ((t : List ℕ) → q0 ≤ q1 → q1 ≤ length t → IsWithin t self.old
+            → IsWithin t self.new) }
     {
         if q0 == q1 && text.is_empty() {
             return Ok(());

@@ -2,8 +2,8 @@
 
 ghost use Rattle.edit_run.specs.Laws.{NoMatchWantsNothing, NumberZeroWantsNothing, OneOfTheTwo, TextsAreWoven};
 
-/// Where a range has no match, `s` and `x` want nothing, and so does `s0` everywhere. Of `g` and `v` one does its command and
-/// the other doesn't.
+/// Where a range has no match, `s` and `x` want nothing, and so does `s0` everywhere. Of `g` and `v` one does its
+/// command and the other doesn't.
 pub fn no_match_wants_nothing()
     ensures none { NoMatchWantsNothing }
     ensures zero { NumberZeroWantsNothing }

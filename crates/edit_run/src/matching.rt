@@ -234,7 +234,8 @@ pub fn ranges_of<T: Letters>(
 ) -> Result<Spans, NoMemory>
     requires kept { IsFor (tree re.now) kept.now }
     requires inside { IsInside (T.letters over.now.text.now) range }
-    ensures value { IfOk result (λ spans. spans ≡ ranges_of (loop_of kind) (tree re.now) (T.letters over.now.text.now) range) }
+    ensures value { IfOk result (λ spans. spans ≡ ranges_of (loop_of kind) (tree re.now)
+        (T.letters over.now.text.now) range) }
     ensures inside { IfOk result (AreInside (T.letters over.now.text.now)) }
 {
     match kind {

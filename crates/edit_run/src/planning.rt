@@ -26,7 +26,8 @@ fn edits_for(alloc: Global, changes: &Edits, len: usize) -> Result<Edits, EditFa
     requires { AreChangesOf len changes.now }
     ensures edits { IfOk result (λ edits. edits ≡ shifted changes.now) }
     ensures faultless { OnOk result (are_in_sequence 0 changes.now ≡ true) }
-    ensures at_once { IfOk result (λ edits. (t : List ℕ) → length t ≡ len → text_after t edits ≡ spliced t changes.now) }
+    ensures at_once { IfOk result (λ edits. (t : List ℕ) → length t ≡ len → text_after t edits
+        ≡ spliced t changes.now) }
     ensures in_range { IfOk result (λ edits. (t : List ℕ) → length t ≡ len → AreInRange t edits) }
     ensures fault { IfErr result (λ e. IsFault e (edits_of changes.now)) }
 {
@@ -68,7 +69,8 @@ pub fn changes<T: Letters>(
     ensures plan { IfOk result (λ plan. planned (command cmd.now) (T.letters text.now) site.now ≡ Ok plan) }
     ensures fault { IfErr result (λ e. IsFault e (planned (command cmd.now) (T.letters text.now) site.now)) }
     // One by one, the edits make what all changes make at once, each of them over the text as it stands.
-    ensures at_once { IfOk result (λ plan. IfOk (wanted (command cmd.now) (T.letters text.now) site.now) (λ e. text_after (T.letters text.now) plan.edits ≡ spliced (T.letters text.now) e.changes)) }
+    ensures at_once { IfOk result (λ plan. IfOk (wanted (command cmd.now) (T.letters text.now) site.now)
+        (λ e. text_after (T.letters text.now) plan.edits ≡ spliced (T.letters text.now) e.changes)) }
     // Each edit is inside the text as it is then, and dot inside the text after all of them.
     ensures in_range { IfOk result (λ plan. AreInRange (T.letters text.now) plan.edits) }
     ensures dot { IfOk result (λ plan. IsInside (text_after (T.letters text.now) plan.edits) plan.dot) }

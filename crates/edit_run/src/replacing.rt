@@ -4,7 +4,8 @@ ghost use Rattle.std.specs.Prelude.{◌≡◌, ◌≤◌, ◌++◌, true, false,
 ghost use Rattle.re_syntax.specs.Tree.{tree};
 ghost use Rattle.re_syntax.specs.Match.{Matches};
 ghost use Rattle.re_spans.specs.Groups.{groups_of};
-ghost use Rattle.edit_run.specs.Replacing.{text_of, group_text, is_group, plain, escaped, expand, names_group, substitute};
+ghost use Rattle.edit_run.specs.Replacing.{text_of, group_text, is_group, plain, escaped, expand, names_group};
+ghost use Rattle.edit_run.specs.Replacing.{substitute};
 
 use crate::texts::text_at;
 use am_text::{
@@ -125,7 +126,8 @@ fn expand<T: Letters>(
     whole: &[Rune],
     groups: &[Option<Range>],
 ) -> Result<Runes, NoMemory>
-    ensures { IfOk result (λ made. made ≡ expand whole.now (group_text (T.letters text.now) groups.now) false with.now) }
+    ensures { IfOk result (λ made. made ≡ expand whole.now (group_text (T.letters text.now) groups.now)
+        false with.now) }
 {
     let mut made = Items::new(alloc);
     let mut behind = false;

@@ -39,8 +39,10 @@ fn run_each<T: Letters>(
     requires ranges { AreInside (T.letters over.now.text.now) ranges.now }
     requires cursor { IsCursorOf (T.letters over.now.text.now) doing.old.cursor }
     requires within { IsWithin (T.letters over.now.text.now) doing.old.effects }
-    ensures value { OnOk result (for_each (meaning (command cmd.now) (T.letters over.now.text.now) over.now.site.now) ranges.now doing.old.effects ≡ Ok doing.new.effects) }
-    ensures fault { IfErr result (λ e. IsFault e (for_each (meaning (command cmd.now) (T.letters over.now.text.now) over.now.site.now) ranges.now doing.old.effects)) }
+    ensures value { OnOk result (for_each (meaning (command cmd.now) (T.letters over.now.text.now) over.now.site.now)
+        ranges.now doing.old.effects ≡ Ok doing.new.effects) }
+    ensures fault { IfErr result (λ e. IsFault e (for_each
+        (meaning (command cmd.now) (T.letters over.now.text.now) over.now.site.now) ranges.now doing.old.effects)) }
     ensures cursor { OnOk result (IsCursorOf (T.letters over.now.text.now) doing.new.cursor) }
     ensures within { OnOk result (IsWithin (T.letters over.now.text.now) doing.new.effects) }
 {
@@ -65,8 +67,10 @@ fn run_next<T: Letters>(
     requires dot { IsInside (T.letters over.now.text.now) dot }
     requires cursor { IsCursorOf (T.letters over.now.text.now) doing.old.cursor }
     requires within { IsWithin (T.letters over.now.text.now) doing.old.effects }
-    ensures value { OnOk result (meaning (command cmd.now) (T.letters over.now.text.now) over.now.site.now dot doing.old.effects ≡ Ok doing.new.effects) }
-    ensures fault { IfErr result (λ e. IsFault e (meaning (command cmd.now) (T.letters over.now.text.now) over.now.site.now dot doing.old.effects)) }
+    ensures value { OnOk result (meaning (command cmd.now) (T.letters over.now.text.now) over.now.site.now dot
+        doing.old.effects ≡ Ok doing.new.effects) }
+    ensures fault { IfErr result (λ e. IsFault e (meaning (command cmd.now) (T.letters over.now.text.now)
+        over.now.site.now dot doing.old.effects)) }
     ensures cursor { OnOk result (IsCursorOf (T.letters over.now.text.now) doing.new.cursor) }
     ensures within { OnOk result (IsWithin (T.letters over.now.text.now) doing.new.effects) }
 {
@@ -90,8 +94,10 @@ fn run_all<T: Letters>(
     requires dot { IsInside (T.letters over.now.text.now) dot }
     requires cursor { IsCursorOf (T.letters over.now.text.now) doing.old.cursor }
     requires within { IsWithin (T.letters over.now.text.now) doing.old.effects }
-    ensures value { OnOk result (do_list commands.now (T.letters over.now.text.now) over.now.site.now dot doing.old.effects ≡ Ok doing.new.effects) }
-    ensures fault { IfErr result (λ e. IsFault e (do_list commands.now (T.letters over.now.text.now) over.now.site.now dot doing.old.effects)) }
+    ensures value { OnOk result (do_list commands.now (T.letters over.now.text.now) over.now.site.now dot
+        doing.old.effects ≡ Ok doing.new.effects) }
+    ensures fault { IfErr result (λ e. IsFault e (do_list commands.now (T.letters over.now.text.now) over.now.site.now
+        dot doing.old.effects)) }
     ensures cursor { OnOk result (IsCursorOf (T.letters over.now.text.now) doing.new.cursor) }
     ensures within { OnOk result (IsWithin (T.letters over.now.text.now) doing.new.effects) }
 {
@@ -117,8 +123,13 @@ fn repeat<T: Letters>(
     requires inner { OfFirst (IsKept (action cmd.now.act)) (inner_of kept.now.inner) }
     requires cursor { IsCursorOf (T.letters over.now.text.now) doing.old.cursor }
     requires within { IsWithin (T.letters over.now.text.now) doing.old.effects }
-    ensures value { OnOk result (for_each (meaning (command cmd.now) (T.letters over.now.text.now) over.now.site.now) (ranges_of (loop_of kind) (tree re.now) (T.letters over.now.text.now) doing.old.effects.last) doing.old.effects ≡ Ok doing.new.effects) }
-    ensures fault { IfErr result (λ e. IsFault e (for_each (meaning (command cmd.now) (T.letters over.now.text.now) over.now.site.now) (ranges_of (loop_of kind) (tree re.now) (T.letters over.now.text.now) doing.old.effects.last) doing.old.effects)) }
+    ensures value { OnOk result (for_each (meaning (command cmd.now) (T.letters over.now.text.now) over.now.site.now)
+        (ranges_of (loop_of kind) (tree re.now) (T.letters over.now.text.now) doing.old.effects.last) doing.old.effects
+        ≡ Ok doing.new.effects) }
+    ensures fault { IfErr result (λ e. IsFault e (for_each
+        (meaning (command cmd.now) (T.letters over.now.text.now) over.now.site.now)
+        (ranges_of (loop_of kind) (tree re.now) (T.letters over.now.text.now) doing.old.effects.last)
+        doing.old.effects)) }
     ensures cursor { OnOk result (IsCursorOf (T.letters over.now.text.now) doing.new.cursor) }
     ensures within { OnOk result (IsWithin (T.letters over.now.text.now) doing.new.effects) }
 {
@@ -148,8 +159,10 @@ fn act<T: Letters>(
     requires dot { IsInside (T.letters over.now.text.now) dot }
     requires cursor { IsCursorOf (T.letters over.now.text.now) doing.old.cursor }
     requires within { IsWithin (T.letters over.now.text.now) doing.old.effects }
-    ensures value { OnOk result (do_action (action act.now) (T.letters over.now.text.now) over.now.site.now dot doing.old.effects.last doing.old.effects ≡ Ok doing.new.effects) }
-    ensures fault { IfErr result (λ e. IsFault e (do_action (action act.now) (T.letters over.now.text.now) over.now.site.now dot doing.old.effects.last doing.old.effects)) }
+    ensures value { OnOk result (do_action (action act.now) (T.letters over.now.text.now) over.now.site.now dot
+        doing.old.effects.last doing.old.effects ≡ Ok doing.new.effects) }
+    ensures fault { IfErr result (λ e. IsFault e (do_action (action act.now) (T.letters over.now.text.now)
+        over.now.site.now dot doing.old.effects.last doing.old.effects)) }
     ensures cursor { OnOk result (IsCursorOf (T.letters over.now.text.now) doing.new.cursor) }
     ensures within { OnOk result (IsWithin (T.letters over.now.text.now) doing.new.effects) }
 {
@@ -195,8 +208,10 @@ pub fn run<T: Letters>(
     requires dot { IsInside (T.letters over.now.text.now) dot }
     requires cursor { IsCursorOf (T.letters over.now.text.now) doing.old.cursor }
     requires within { IsWithin (T.letters over.now.text.now) doing.old.effects }
-    ensures value { OnOk result (meaning (command cmd.now) (T.letters over.now.text.now) over.now.site.now dot doing.old.effects ≡ Ok doing.new.effects) }
-    ensures fault { IfErr result (λ e. IsFault e (meaning (command cmd.now) (T.letters over.now.text.now) over.now.site.now dot doing.old.effects)) }
+    ensures value { OnOk result (meaning (command cmd.now) (T.letters over.now.text.now) over.now.site.now dot
+        doing.old.effects ≡ Ok doing.new.effects) }
+    ensures fault { IfErr result (λ e. IsFault e (meaning (command cmd.now) (T.letters over.now.text.now)
+        over.now.site.now dot doing.old.effects)) }
     ensures cursor { OnOk result (IsCursorOf (T.letters over.now.text.now) doing.new.cursor) }
     ensures within { OnOk result (IsWithin (T.letters over.now.text.now) doing.new.effects) }
 {

@@ -1,5 +1,6 @@
 -- What holds of the items of event files, over every journal.
-use Rattle.std.specs.Prelude.{◌≡◌, ◌≢◌, ℕ, ◌+◌, true, false, List, [], ◌∷◌, ◌++◌, length, map, take, slice_get, Option, Some, ◌⊎◌}
+use Rattle.std.specs.Prelude.{◌≡◌, ◌≢◌, ℕ, ◌+◌, true, false, List, [], ◌∷◌, ◌++◌, length, map, take, slice_get, Option}
+use Rattle.std.specs.Prelude.{Some, ◌⊎◌}
 use Rattle.win_events.specs.Spelling.{spelling}
 use Rattle.win_events.specs.declared.item.Item.{Item}
 use Rattle.win_events.specs.declared.item.Life.TheVariants.{Pending}
@@ -25,7 +26,8 @@ book_after journal = (run journal).scene.book
 abbrev pub rread_to : ℕ → Asker × Piece → Rread
 rread_to at answer = record { at = at; opening = answer.0.opening; bytes = answer.1.bytes }
 
--- What an entry does to event files it does by calls of the book, and its Rreads on openings are what these give, in order.
+-- What an entry does to event files it does by calls of the book, and its Rreads on openings are
+-- what these give, in order.
 pub record IsByBook (before : List Event) (e : Event) : Type 0 where
   pub answers : Answers
   pub calls : IsByCalls (length before + 1) (book_after before) (book_after (before ++ e ∷ [])) answers
@@ -39,8 +41,8 @@ EntriesAreCalls journal = (before behind : List Event) (e : Event) → before ++
 abbrev pub IsPending : BookState → ℕ → ℕ → Item → Type 0
 IsPending s window number item = recorded_of s window number ≡ Some (record { item = item; life = Pending })
 
--- The life of the item names this entry, behind which the event file of its window is open no more. It was open before, if the item was
--- pending then.
+-- The life of the item names this entry, behind which the event file of its window is open no more. It was open before,
+-- if the item was pending then.
 pub record IsDroppedBy (before : List Event) (e : Event) (window number : ℕ) (item : Item) (at : ℕ) : Type 0 where
   pub entry : at ≡ length before + 1
   pub closed : is_open_window (book_after (before ++ e ∷ [])) window ≡ false
@@ -50,16 +52,18 @@ pub record IsDroppedBy (before : List Event) (e : Event) (window number : ℕ) (
 abbrev pub DroppedAtCloses : List Event → Type 0
 DroppedAtCloses journal =
     (before behind : List Event) (e : Event) → before ++ e ∷ behind ≡ journal → (window number at : ℕ) (item : Item)
-    → IsDropped (book_after (before ++ e ∷ [])) window number item at → IsDropped (book_after before) window number item at ⊎ IsDroppedBy before e window number item at
+    → IsDropped (book_after (before ++ e ∷ [])) window number item at
+    → IsDropped (book_after before) window number item at ⊎ IsDroppedBy before e window number item at
 
 -- What was written back or dropped stays so, with the same entries, whatever comes.
 abbrev pub EndedLivesStay : List Event → Type 0
-EndedLivesStay journal = (before : List Event) → IsPrefix before journal → KeepsEnded (book_after before) (book_after journal)
+EndedLivesStay journal =
+    (before : List Event) → IsPrefix before journal → KeepsEnded (book_after before) (book_after journal)
 
 -- ---- what an opening gets
 
--- What an opening was given is what it took, but for what is missing: a proper end of the spelling of its last item; nothing where it took
--- none. While it is open that is what it has left, and is still to come.
+-- What an opening was given is what it took, but for what is missing: a proper end of the spelling of its last item;
+-- nothing where it took none. While it is open that is what it has left, and is still to come.
 pub record GetsItsItems (journal : List Event) (opening : ℕ) : Type 0 where
   pub missing : List ℕ
   pub joined : delivered journal opening ++ missing ≡ spelled (book_after journal) opening
@@ -69,7 +73,8 @@ pub record GetsItsItems (journal : List Event) (opening : ℕ) : Type 0 where
 -- an opening takes items of its own window alone, those of which its spellings are joined
 abbrev pub TakesInItsWindow : List Event → Type 0
 TakesInItsWindow journal =
-    (window number opening at : ℕ) (item : Item) → WasTaken (book_after journal) window number item opening at → window_of (book_after journal).owners opening ≡ window
+    (window number opening at : ℕ) (item : Item) → WasTaken (book_after journal) window number item opening at
+    → window_of (book_after journal).owners opening ≡ window
 
 -- ---- each item by an Rread of its own
 
@@ -97,7 +102,8 @@ pub record HasItsRread (told : List Telling) (window number : ℕ) (item : Item)
 pub record EachHasItsOwn (journal : List Event) : Type 0 where
   pub told : List Telling
   pub all : map (λ t. t.rread) told ≡ rreads journal
-  pub taken : (window number opening at : ℕ) (item : Item) → WasTaken (book_after journal) window number item opening at → HasItsRread told window number item opening at
+  pub taken : (window number opening at : ℕ) (item : Item) → WasTaken (book_after journal) window number item opening at
+      → HasItsRread told window number item opening at
 
 -- ---- all of them
 

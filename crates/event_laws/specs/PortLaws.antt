@@ -37,7 +37,8 @@ data_of opening (x ∷ xs) = data_in opening x.feed x.message.body ++ data_of op
 
 unfoldable pub given_from : ℕ → List Event → List Event → List ℕ
 given_from opening before [] = []
-given_from opening before (e ∷ events) = data_of opening (said_after before e) ++ given_from opening (before ++ e ∷ []) events
+given_from opening before (e ∷ events) =
+    data_of opening (said_after before e) ++ given_from opening (before ++ e ∷ []) events
 
 -- of all Rreads that a journal makes, in order
 abbrev pub given : List Event → ℕ → List ℕ
@@ -55,7 +56,8 @@ calls_of before e = calls_at (present_after before) (kind_of e) (doing_of (prese
 
 unfoldable pub coming_from : ℕ → List Event → List Event → List (List ℕ)
 coming_from opening before [] = []
-coming_from opening before (e ∷ events) = all_coming opening (ports_after before) (calls_of before e) ++ coming_from opening (before ++ e ∷ []) events
+coming_from opening before (e ∷ events) =
+    all_coming opening (ports_after before) (calls_of before e) ++ coming_from opening (before ++ e ∷ []) events
 
 -- what its port kept when it joined, and each message that was delivered to its port while it was there
 abbrev pub coming : List Event → ℕ → List (List ℕ)
@@ -67,11 +69,13 @@ coming journal opening = coming_from opening [] journal
 pub record IsByPorts (before : List Event) (e : Event) : Type 0 where
   pub can : CanCallAll (ports_after before) (calls_of before e)
   pub ports : after_calls (ports_after before) (calls_of before e) ≡ ports_after (before ++ e ∷ [])
-  pub gives : (opening : ℕ) → data_of opening (said_after before e) ≡ bytes_to opening (all_answers (ports_after before) (calls_of before e))
+  pub gives : (opening : ℕ) → data_of opening (said_after before e)
+      ≡ bytes_to opening (all_answers (ports_after before) (calls_of before e))
 
 pub record PortLaws (journal : List Event) : Type 0 where
   pub calls : (before behind : List Event) (e : Event) → before ++ e ∷ behind ≡ journal → IsByPorts before e
-  pub gets : (opening : ℕ) → GetsItsMessages (given journal opening) (coming journal opening) (ports_after journal) opening
+  pub gets : (opening : ℕ) → GetsItsMessages (given journal opening) (coming journal opening)
+      (ports_after journal) opening
 
 abbrev pub PortsAreLawful : Type 0
 PortsAreLawful = (journal : List Event) → PortLaws journal

@@ -32,7 +32,8 @@ rreads_of at (x ∷ xs) = rread_in at x.feed x.message.body ++ rreads_of at xs
 -- those that entries make, each after those before it
 unfoldable pub rreads_from : List Event → List Event → List Rread
 rreads_from before [] = []
-rreads_from before (e ∷ events) = rreads_of (length before + 1) (said_after before e) ++ rreads_from (before ++ e ∷ []) events
+rreads_from before (e ∷ events) =
+    rreads_of (length before + 1) (said_after before e) ++ rreads_from (before ++ e ∷ []) events
 
 -- all that a journal makes, in order
 abbrev pub rreads : List Event → List Rread

@@ -1,5 +1,7 @@
--- The tree by the parts of its paths: places, each with a number. Place 0 is the top, and any other has a name in the place above it.
-use Rattle.std.specs.Prelude.{◌==◌, ◌-◌, ℕ, Bool, not, List, [], ◌∷◌, ◌++◌, length, take, get_or, slice_get, slice_set, Option, Some, None, if◌then◌else◌}
+-- The tree by the parts of its paths: places, each with a number. Place 0 is the top, and any other has a
+-- name in the place above it.
+use Rattle.std.specs.Prelude.{◌==◌, ◌-◌, ℕ, Bool, not, List, [], ◌∷◌, ◌++◌, length, take, get_or, slice_get, slice_set}
+use Rattle.std.specs.Prelude.{Option, Some, None, if◌then◌else◌}
 use Rattle.std.specs.List.{list_any}
 use Rattle.std.specs.Map.{lookup, remove_entry}
 use Rattle.std.specs.BTreeMap.{insert_entry, is_at}
@@ -64,7 +66,8 @@ child_of names (Some place) name = number_in (slice_get names place) name
 -- where `part ++ path` leads from a place
 abbrev pub walk : List (List (List ℕ × ℕ)) → Option ℕ → List ℕ → List ℕ → Option ℕ
 walk names place part [] = child_of names place part
-walk names place part (b ∷ bs) = if b == slash then walk names (child_of names place part) [] bs else walk names place (part ++ b ∷ []) bs
+walk names place part (b ∷ bs) =
+    if b == slash then walk names (child_of names place part) [] bs else walk names place (part ++ b ∷ []) bs
 
 -- the place of a path
 abbrev pub place_at : List (List (List ℕ × ℕ)) → List ℕ → Option ℕ

@@ -3,7 +3,8 @@
 ghost use Rattle.std.specs.Prelude.{◌≡◌, ◌∷◌, ◌++◌, [], ℕ, List, Some, true, slice_get, IsSome, IsSomeAnd, IfOk, OnOk};
 ghost use Rattle.am_text.specs.Ascii.{slash};
 ghost use Rattle.name_tree.specs.Entries.{with_node};
-ghost use Rattle.name_tree.specs.Kinds.{with_directory, with_directory_before, with_directories, after_file, after_directory};
+ghost use Rattle.name_tree.specs.Kinds.{with_directory, with_directory_before, with_directories, after_file};
+ghost use Rattle.name_tree.specs.Kinds.{after_directory};
 ghost use Rattle.name_tree.specs.Paths.{above};
 ghost use Rattle.name_tree.specs.Shape.{no_places, keys, entries_of, is_name};
 ghost use Rattle.name_tree.specs.Trie.{IsTrie};
@@ -81,7 +82,8 @@ impl Growing {
         requires name { is_name name.now ≡ true }
         ensures grown { IsGrowth self.old.trail.items self.old.places self.new.trail.items self.new.places }
         ensures entries { entries_of self.new.places ≡ entries_of self.old.places }
-        ensures place { IfOk result (λ place. (key : List ℕ) → slice_get (keys self.old.places.origins) parent ≡ Some key → slice_get (keys self.new.places.origins) place ≡ Some (key ++ slash ∷ name.now)) }
+        ensures place { IfOk result (λ place. (key : List ℕ) → slice_get (keys self.old.places.origins) parent
+            ≡ Some key → slice_get (keys self.new.places.origins) place ≡ Some (key ++ slash ∷ name.now)) }
     {
         if let Some(place) = self.places.child(Some(parent), name) {
             return Ok(place);
@@ -97,7 +99,8 @@ impl Growing {
         requires trie { IsTrie self.old.places }
         ensures grown { IsGrowth self.old.trail.items self.old.places self.new.trail.items self.new.places }
         ensures origins { self.new.places.origins ≡ self.old.places.origins }
-        ensures ok { OnOk result ((b : ℕ) (path : List ℕ) → slice_get (keys self.old.places.origins) place ≡ Some (b ∷ path) → entries_of self.new.places ≡ with_node (entries_of self.old.places) path node) }
+        ensures ok { OnOk result ((b : ℕ) (path : List ℕ) → slice_get (keys self.old.places.origins) place
+            ≡ Some (b ∷ path) → entries_of self.new.places ≡ with_node (entries_of self.old.places) path node) }
     {
         self.trail.reserve(1)?;
         let before = self.places.put(place, Some(node));
@@ -122,11 +125,14 @@ impl Growing {
     // The place of a name in another, where a directory is made. Its path comes along.
     fn onward(&mut self, parent: usize, name: &[u8], path: &[u8]) -> Result<usize, NoMemory>
         requires trie { IsTrie self.old.places }
-        requires parent { IsSomeAnd (slice_get (keys self.old.places.origins) parent) (λ key. key ++ slash ∷ name.now ≡ slash ∷ path.now) }
+        requires parent { IsSomeAnd (slice_get (keys self.old.places.origins) parent) (λ key. key ++ slash ∷ name.now
+            ≡ slash ∷ path.now) }
         requires name { is_name name.now ≡ true }
         ensures grown { IsGrowth self.old.trail.items self.old.places self.new.trail.items self.new.places }
-        ensures place { IfOk result (λ place. slice_get (keys self.new.places.origins) place ≡ Some (slash ∷ path.now)) }
-        ensures ok { OnOk result (entries_of self.new.places ≡ with_directory_before (entries_of self.old.places) path.now slash) }
+        ensures place { IfOk result (λ place. slice_get (keys self.new.places.origins) place
+            ≡ Some (slash ∷ path.now)) }
+        ensures ok { OnOk result (entries_of self.new.places
+            ≡ with_directory_before (entries_of self.old.places) path.now slash) }
     {
         let place = self.child(parent, name)?;
         if !path.is_empty() {
@@ -139,8 +145,10 @@ impl Growing {
     fn reach(&mut self, path: &[u8]) -> Result<usize, NoMemory>
         requires trie { IsTrie self.old.places }
         ensures grown { IsGrowth self.old.trail.items self.old.places self.new.trail.items self.new.places }
-        ensures place { IfOk result (λ place. slice_get (keys self.new.places.origins) place ≡ Some (slash ∷ path.now)) }
-        ensures ok { OnOk result (entries_of self.new.places ≡ with_directories (entries_of self.old.places) (above path.now)) }
+        ensures place { IfOk result (λ place. slice_get (keys self.new.places.origins) place
+            ≡ Some (slash ∷ path.now)) }
+        ensures ok { OnOk result (entries_of self.new.places ≡ with_directories (entries_of self.old.places)
+            (above path.now)) }
     {
         let mut place = self.top()?;
         let mut start = 0;

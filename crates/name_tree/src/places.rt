@@ -1,6 +1,7 @@
 //! The tree by the parts of its paths.
 
-ghost use Rattle.std.specs.Prelude.{◌≡◌, ◌&&◌, ◌∷◌, length, not, Some, is_some, slice_get, slice_index_or, option_copied, vec_capacity, OnOk, OnErr, IfOk};
+ghost use Rattle.std.specs.Prelude.{◌≡◌, ◌&&◌, ◌∷◌, length, not, Some, is_some, slice_get, slice_index_or};
+ghost use Rattle.std.specs.Prelude.{option_copied, vec_capacity, OnOk, OnErr, IfOk};
 ghost use Rattle.std.specs.Map.{keys_of};
 ghost use Rattle.std.specs.List.Sorted.{IsStrictlySortedBy};
 ghost use Rattle.am_text.specs.Ascii.{slash};
@@ -8,7 +9,8 @@ ghost use Rattle.name_tree.specs.Entries.{byte_order, entry_at};
 ghost use Rattle.name_tree.specs.Laws.{IsOrdered};
 ghost use Rattle.name_tree.specs.Kinds.{node_at, is_file_node, is_below_file};
 ghost use Rattle.name_tree.specs.Paths.{is_empty, is_root};
-ghost use Rattle.name_tree.specs.Shape.{no_places, keys, entries_of, child_of, place_at, node_in, grown, put_at, cut, with_name, without_name};
+ghost use Rattle.name_tree.specs.Shape.{no_places, keys, entries_of, child_of, place_at, node_in, grown, put_at, cut};
+ghost use Rattle.name_tree.specs.Shape.{with_name, without_name};
 ghost use Rattle.name_tree.specs.Trie.{IsTrie};
 ghost use Rattle.name_tree.specs.Listing.{listing};
 ghost use Rattle.name_tree.specs.Lines.{lines_in, names_in};
@@ -133,7 +135,8 @@ impl Places {
 
     // Whether a file stands at the place of a directory with this path.
     fn is_file_at(&self, place: Option<usize>, front: &[u8]) -> bool
-        ensures { result ≡ ((not (is_empty front.now) && not (is_root front.now)) && is_file_node (node_in self.now.nodes place)) }
+        ensures { result ≡ ((not (is_empty front.now) && not (is_root front.now))
+            && is_file_node (node_in self.now.nodes place)) }
     {
         !front.is_empty() && !is_root(front) && matches!(self.node(place), Some(Node::File(_)))
     }
@@ -223,7 +226,8 @@ impl Places {
         };
         match self.names.get(place) {
             Some(names) => {
-                let _count = names.len(); // for its clause on the order of the names
+                // law: the names are in order, known once their number is asked
+                let _count = names.len();
                 names.lines(self.alloc, self.nodes.as_slice())
             }
             None => Ok(Bytes::new(self.alloc)),

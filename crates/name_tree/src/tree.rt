@@ -2,7 +2,8 @@
 
 ghost use Rattle.std.specs.Prelude.{◌≡◌, ◌↔◌, [], Err, IfOk, OnOk, OnErr, IsTrue};
 ghost use Rattle.am_text.specs.Twice.{both};
-ghost use Rattle.name_tree.specs.Kinds.{is_file, is_directory, file_clashes, directory_clashes, after_file, after_directory};
+ghost use Rattle.name_tree.specs.Kinds.{is_file, is_directory, file_clashes, directory_clashes, after_file};
+ghost use Rattle.name_tree.specs.Kinds.{after_directory};
 ghost use Rattle.name_tree.specs.Laws.{IsOrdered};
 ghost use Rattle.name_tree.specs.Listing.{found_at};
 ghost use Rattle.name_tree.specs.declared.types.TreeFault.TheVariants as fault;
@@ -47,7 +48,10 @@ impl Model for Tree {
     ghost use Rattle.name_tree.specs.Trie.{IsTrie};
     ghost use Rattle.name_tree.specs.Undo.{all_undone};
 
-    ghost view = { λ t. record { present = entries_of t.growing.places; kept = entries_of (all_undone t.growing.trail.items t.growing.places) } };
+    ghost view = { λ t. record {
+      present = entries_of t.growing.places;
+      kept = entries_of (all_undone t.growing.trail.items t.growing.places);
+    } };
 
     ghost invariant = { λ t. IsTrie t.growing.places × IsTrie (all_undone t.growing.trail.items t.growing.places) };
 }
@@ -107,7 +111,8 @@ impl Tree {
     }
 
     fn try_file(&mut self, path: &[u8], bytes: &[u8]) -> Result<(), NoMemory>
-        ensures ok { OnOk result (self.new ≡ record self.old { present = after_file self.old.present path.now bytes.now }) }
+        ensures ok { OnOk result
+            (self.new ≡ record self.old { present = after_file self.old.present path.now bytes.now }) }
         ensures err { OnErr result (self.new.kept ≡ self.old.kept) }
     {
         let copy = Bytes::copied(self.alloc, bytes)?;
@@ -122,7 +127,8 @@ impl Tree {
     pub fn file(&mut self, path: &[u8], bytes: &[u8]) -> Result<(), TreeFault>
         ensures clash { (result ≡ Err fault.Clash) ↔ IsTrue (file_clashes self.old.present path.now) }
         ensures stays { result ≡ Err fault.Clash → self.new ≡ self.old }
-        ensures ok { OnOk result (self.new ≡ record self.old { present = after_file self.old.present path.now bytes.now }) }
+        ensures ok { OnOk result
+            (self.new ≡ record self.old { present = after_file self.old.present path.now bytes.now }) }
         ensures no_memory { result ≡ Err fault.NoMemory → self.new ≡ both self.old.kept }
     {
         if self.clashes_file(path) {
@@ -174,7 +180,8 @@ impl Tree {
         ensures ordered { IsOrdered self.now.present }
     {
         let places = &self.growing.places;
-        let _count = places.len(); // for its clause on the order of the paths
+        // law: the paths are in order, known once their number is asked
+        let _count = places.len();
         if is_root(path) {
             return Ok(Found::Dir(places.listing(path)?));
         }

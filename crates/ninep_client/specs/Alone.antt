@@ -1,5 +1,6 @@
 -- A call that is made while no tag is asked: the next message is its reply, or there is a fault.
-use Rattle.std.specs.Prelude.{◌≡◌, ◌≢◌, ◌⊎◌, ◌+◌, ℕ, true, false, List, [], ◌∷◌, ◌++◌, Option, Some, None, Result, Ok, Err, ◌==◌, if◌then◌else◌}
+use Rattle.std.specs.Prelude.{◌≡◌, ◌≢◌, ◌⊎◌, ◌+◌, ℕ, true, false, List, [], ◌∷◌, ◌++◌, Option, Some, None, Result, Ok}
+use Rattle.std.specs.Prelude.{Err, ◌==◌, if◌then◌else◌}
 use Rattle.am_base.specs.Outside.{AreTold, HasRisen}
 use Rattle.am_base.specs.Seen.{Seen}
 use Rattle.am_base.specs.Written.{IsWhole, IsCut}
@@ -49,7 +50,8 @@ outcome r.Wstat = Ok r.Wstat
 -- what a message is to one with this tag and type byte
 abbrev pub reply_for : ℕ → ℕ → RMsg → Result RBody CallFault
 reply_for tag kind m =
-    if tag == m.tag then (if answers kind m.body then outcome m.body else Err (fault.Kind (kind_r m.body))) else Err (fault.Unasked m.tag)
+    if tag == m.tag then (if answers kind m.body then outcome m.body else Err (fault.Kind (kind_r m.body)))
+    else Err (fault.Unasked m.tag)
 
 -- the same of a message that was read, or what is wrong with it
 abbrev pub reply_read : ℕ → ℕ → Result RMsg WireFault → Result RBody CallFault
@@ -73,7 +75,12 @@ pub record Replies (t : Talk) (body : TBody) (o i : Seen) (got : Result RBody Ca
   pub came : Came i.before.bytes i.now.bytes t.unread (message ++ after.unread)
   pub whole : IsMessage message
   pub reply : reply_to body message ≡ got
-  pub state : after ≡ record { unread = after.unread; asked = []; msize = msize_behind got t.msize; is_closed = t.is_closed }
+  pub state : after ≡ record {
+    unread = after.unread;
+    asked = [];
+    msize = msize_behind got t.msize;
+    is_closed = t.is_closed;
+  }
 
 -- nothing was sent and nothing was read
 pub record IsRefused (e : CallFault) (t : Talk) (body : TBody) (o i : Seen) (after : Talk) : Type 0 where

@@ -1,5 +1,6 @@
 -- What a client knows of the tags that it has asked, and what it sends.
-use Rattle.std.specs.Prelude.{◌≡◌, ◌≢◌, ◌≤◌, ◌<◌, ◌^◌, ℕ, Bool, true, false, ◌&&◌, List, [], ◌∷◌, ◌++◌, length, Option, Some, None, is_some, is_none, nat_lt, nat_le, ◌==◌, if◌then◌else◌}
+use Rattle.std.specs.Prelude.{◌≡◌, ◌≢◌, ◌≤◌, ◌<◌, ◌^◌, ℕ, Bool, true, false, ◌&&◌, List, [], ◌∷◌, ◌++◌, length, Option}
+use Rattle.std.specs.Prelude.{Some, None, is_some, is_none, nat_lt, nat_le, ◌==◌, if◌then◌else◌}
 use Rattle.std.specs.Prelude.{position, slice_get, option_and_then}
 use Rattle.std.specs.List.{list_any}
 use Rattle.ninep_types.specs.Kinds.{tversion, tflush}
@@ -11,8 +12,8 @@ use Rattle.ninep_client.specs.declared.asked.Asked.{Asked}
 use Rattle.ninep_client.specs.declared.fault.CallFault.{CallFault}
 use Rattle.ninep_client.specs.declared.fault.CallFault.TheVariants.{Closed, Tags, Large}
 
--- What a client knows: the bytes that came and weren't read yet, the tags that are asked, in the order of sending, the most bytes of
--- a message, and whether it is closed.
+-- What a client knows: the bytes that came and weren't read yet, the tags that are asked, in the order of sending, the
+-- most bytes of a message, and whether it is closed.
 pub record Talk : Type 0 where
   pub unread : List ℕ
   pub asked : List Asked
@@ -75,7 +76,8 @@ most_tags = 1024
 abbrev pub refusal : Talk → TBody → Option CallFault
 refusal t body =
     if t.is_closed then Some Closed
-    else (if nat_le most_tags (length t.asked) then Some Tags else (if nat_lt t.msize (size_t body) then Some Large else None))
+    else (if nat_le most_tags (length t.asked) then Some Tags
+    else (if nat_lt t.msize (size_t body) then Some Large else None))
 
 -- a tag that was sent, with the type byte of its message, and no reply yet
 abbrev pub asking : ℕ → TBody → Asked

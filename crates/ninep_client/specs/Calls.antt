@@ -64,7 +64,12 @@ pub record Gives (tag : ℕ) (t : Talk) (i : Seen) (body : RBody) (after : Talk)
   pub asked : List Asked
   pub hears : HearsFor tag t i asked after.unread
   pub reply : reply_of tag asked ≡ Some body
-  pub state : after ≡ record { unread = after.unread; asked = answered tag asked; msize = msize_after body t.msize; is_closed = t.is_closed }
+  pub state : after ≡ record {
+    unread = after.unread;
+    asked = answered tag asked;
+    msize = msize_after body t.msize;
+    is_closed = t.is_closed;
+  }
 
 -- nothing was read, and nothing has changed
 pub record IsClosed (tag : ℕ) (t : Talk) (i : Seen) (after : Talk) : Type 0 where
@@ -88,8 +93,8 @@ closes (fault.Wire f) = true
 closes (fault.Unasked n) = true
 closes (fault.Kind kind) = true
 
--- Messages were heard, none of which is a reply to the tag, and then reading has stopped for a cause, which closes the client, unless it is
--- want of memory.
+-- Messages were heard, none of which is a reply to the tag, and then reading has stopped for a cause, which closes the
+-- client, unless it is want of memory.
 pub record Stops (e : CallFault) (tag : ℕ) (t : Talk) (i : Seen) (after : Talk) : Type 0 where
   pub live : t.is_closed ≡ false
   pub hears : HearsFor tag t i after.asked after.unread

@@ -1,5 +1,6 @@
 -- What a client makes of the messages that come.
-use Rattle.std.specs.Prelude.{◌≡◌, ◌≢◌, ◌+◌, ℕ, Bool, ◌||◌, List, [], ◌∷◌, ◌++◌, Option, Some, None, is_some, Result, Ok, Err, ◌==◌, if◌then◌else◌, slice_get, slice_set, remove, min, length, All}
+use Rattle.std.specs.Prelude.{◌≡◌, ◌≢◌, ◌+◌, ℕ, Bool, ◌||◌, List, [], ◌∷◌, ◌++◌, Option, Some, None, is_some, Result}
+use Rattle.std.specs.Prelude.{Ok, Err, ◌==◌, if◌then◌else◌, slice_get, slice_set, remove, min, length, All}
 use Rattle.am_base.specs.Seen.{Seen}
 use Rattle.std.specs.List.{concat}
 use Rattle.am_base.specs.Outside.{then_told, AreTold, HasRisen}
@@ -97,7 +98,8 @@ heard_next go (Err f) = None
 -- these messages are heard, the last of them being the first reply to the tag, if one is
 unfoldable pub heard_until : ℕ → List Asked → List (List ℕ) → Option (List Asked)
 heard_until tag asked [] = Some asked
-heard_until tag asked (m ∷ ms) = if is_some (reply_place tag asked) then None else heard_next (λ next. heard_until tag next ms) (heard asked m)
+heard_until tag asked (m ∷ ms) =
+    if is_some (reply_place tag asked) then None else heard_next (λ next. heard_until tag next ms) (heard asked m)
 
 -- Bytes came from a source, behind those that were unread.
 pub record Came (left left_now : Option (List ℕ)) (unread now : List ℕ) : Type 0 where
@@ -106,7 +108,8 @@ pub record Came (left left_now : Option (List ℕ)) (unread now : List ℕ) : Ty
   pub joined : unread ++ bytes ≡ now
 
 -- Bytes came, and these messages were heard from the front of all that were unread; the rest is unread now.
-pub record Hears (tag : ℕ) (asked : List Asked) (unread : List ℕ) (left left_now : Option (List ℕ)) (asked_now : List Asked) (unread_now : List ℕ) : Type 0 where
+pub record Hears (tag : ℕ) (asked : List Asked) (unread : List ℕ) (left left_now : Option (List ℕ))
+    (asked_now : List Asked) (unread_now : List ℕ) : Type 0 where
   pub messages : List (List ℕ)
   pub came : Came left left_now unread (concat messages ++ unread_now)
   pub whole : All IsMessage messages
@@ -149,8 +152,9 @@ pub record Reads (n : ℕ) (left left_now : Option (List ℕ)) (unread now : Lis
   pub end : n ≡ 0 → AreTold left_now []
   pub none : n ≡ 0 → now ≡ unread
 
--- Why reading has stopped, by what is unread then: the count of faults has risen inside a message; the source has nothing left, between two messages or
--- inside one; what stands at the front is no reply to a tag that waits. Want of memory shows nothing.
+-- Why reading has stopped, by what is unread then: the count of faults has risen inside a message; the source has
+-- nothing left, between two messages or inside one; what stands at the front is no reply to a tag that waits. Want
+-- of memory shows nothing.
 abbrev pub StopsAt : CallFault → List Asked → List ℕ → Seen → Type 0
 StopsAt faults.ReadFault asked unread i = (cut_of unread ≡ More) × HasRisen i.before.faults i.now.faults
 StopsAt faults.Ended asked unread i = (unread ≡ []) × AreTold i.now.bytes []
@@ -181,7 +185,8 @@ ReadFails faults.WriteFault before now = ⊥
 ReadFails (faults.Remote text) before now = ⊥
 
 -- A message stood at the front of the bytes, and its reply was kept.
-pub record HearsOne (asked : List Asked) (unread : List ℕ) (left left_now : Option (List ℕ)) (asked_now : List Asked) (unread_now : List ℕ) : Type 0 where
+pub record HearsOne (asked : List Asked) (unread : List ℕ) (left left_now : Option (List ℕ)) (asked_now : List Asked)
+    (unread_now : List ℕ) : Type 0 where
   pub message : List ℕ
   pub came : Came left left_now unread (message ++ unread_now)
   pub whole : IsMessage message

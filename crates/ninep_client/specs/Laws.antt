@@ -1,5 +1,6 @@
 -- What a client has done after any calls: the messages that it has heard, and the replies that it has given.
-use Rattle.std.specs.Prelude.{◌≡◌, ℕ, Bool, true, false, List, [], ◌∷◌, ◌++◌, filter, Option, Some, None, Result, Ok, Err, ◌==◌, if◌then◌else◌}
+use Rattle.std.specs.Prelude.{◌≡◌, ℕ, Bool, true, false, List, [], ◌∷◌, ◌++◌, filter, Option, Some, None, Result, Ok}
+use Rattle.std.specs.Prelude.{Err, ◌==◌, if◌then◌else◌}
 use Rattle.ninep_types.specs.declared.fault.WireFault.{WireFault}
 use Rattle.ninep_types.specs.declared.message.TBody.{TBody}
 use Rattle.ninep_types.specs.declared.message.RMsg.{RMsg}
@@ -35,12 +36,14 @@ after_hearing b (Ok next) (Ok m) = Some (record b { asked = next; heard = b.hear
 -- a reply was given
 abbrev pub after_giving : Book → ℕ → Option RBody → Option Book
 after_giving b tag None = None
-after_giving b tag (Some body) = Some (record b { asked = answered tag b.asked; given = b.given ++ record { tag = tag; body = body } ∷ [] })
+after_giving b tag (Some body) =
+    Some (record b { asked = answered tag b.asked; given = b.given ++ record { tag = tag; body = body } ∷ [] })
 
--- what a deed makes of the book; none where a client doesn't do it: a tag that is asked isn't sent again, a message that is at fault isn't
--- heard, and a reply that isn't there isn't given
+-- what a deed makes of the book; none where a client doesn't do it: a tag that is asked isn't sent again, a message
+-- that is at fault isn't heard, and a reply that isn't there isn't given
 abbrev pub after_deed : Book → Deed → Option Book
-after_deed b (Sends tag body) = if is_asked tag b.asked then None else Some (record b { asked = b.asked ++ asking tag body ∷ [] })
+after_deed b (Sends tag body) =
+    if is_asked tag b.asked then None else Some (record b { asked = b.asked ++ asking tag body ∷ [] })
 after_deed b (Hears message) = after_hearing b (heard b.asked message) (r_of message)
 after_deed b (Gives tag) = after_giving b tag (reply_of tag b.asked)
 
@@ -69,7 +72,10 @@ unfoldable pub kept : ℕ → List Asked → List RMsg
 kept tag [] = []
 kept tag (a ∷ asked) = kept_one (a.tag == tag) a.tag a.reply ++ kept tag asked
 
--- Of each tag the messages that were heard are, in order, the replies that were given for it and then the one that is kept, if any. So the
--- reply that is given is the message behind the one that was given last for its tag, and none is given twice.
+-- Of each tag the messages that were heard are, in order, the replies that were given for it and then the one
+-- that is kept, if any. So the reply that is given is the message behind the one that was given last for its tag,
+-- and none is given twice.
 abbrev pub GivesEachOnce : Type 0
-GivesEachOnce = (deeds : List Deed) (b : Book) → after_deeds deeds clean ≡ Some b → (tag : ℕ) → of_tag tag b.heard ≡ of_tag tag b.given ++ kept tag b.asked
+GivesEachOnce =
+    (deeds : List Deed) (b : Book) → after_deeds deeds clean ≡ Some b → (tag : ℕ) → of_tag tag b.heard
+    ≡ of_tag tag b.given ++ kept tag b.asked

@@ -1,7 +1,9 @@
 //! The tags that are asked.
 
-ghost use Rattle.std.specs.Prelude.{◌≡◌, ◌≤◌, ◌<◌, ◌+◌, true, false, length, IfOk, IfErr, Some, None, Ok, Err, OnOk, OnErr, slice_get};
-ghost use Rattle.ninep_client.specs.Asking.{most_tags, is_asked, has_tag, has_reply_of, waits_for, waiting_place, reply_place, reply_of, IsLeastFree, HasTag};
+ghost use Rattle.std.specs.Prelude.{◌≡◌, ◌≤◌, ◌<◌, ◌+◌, true, false, length, IfOk, IfErr, Some, None, Ok, Err, OnOk};
+ghost use Rattle.std.specs.Prelude.{OnErr, slice_get};
+ghost use Rattle.ninep_client.specs.Asking.{most_tags, is_asked, has_tag, has_reply_of, waits_for, waiting_place};
+ghost use Rattle.ninep_client.specs.Asking.{reply_place, reply_of, IsLeastFree, HasTag};
 ghost use Rattle.ninep_client.specs.Hearing.{heard_reply, judged, kind_in, answered, waiting, IsOfReply};
 
 use crate::fault::CallFault;
@@ -139,6 +141,7 @@ pub(crate) fn take_reply(asked: &mut Roomy<Asked>, tag: u16, at: usize) -> RBody
     ensures reply { reply_of tag asked.old.items ≡ Some result }
     ensures rest { asked.new.items ≡ answered tag asked.old.items }
 {
+    // law: the tag stands in the contract alone
     let _tag = tag;
     match asked.remove(at).reply {
         Some(body) => body,

@@ -16,7 +16,8 @@ use crate::unread::Unread;
 use am_base::{Failed, Sink, Source, write_all};
 use am_text::Roomy;
 use ninep_types::{MAX_MSIZE, RBody, TBody, TMsg};
-use ninep_wire::{spellings_have_their_size, t_kind, t_size, write_t};
+use ninep_wire::laws::spellings_have_their_size;
+use ninep_wire::{t_kind, t_size, write_t};
 use std::alloc::Global;
 use std::marker::Model;
 
@@ -34,8 +35,8 @@ fn is_above(message: &TMsg, most: u32) -> bool
 
 /// A client over a source and a sink.
 ///
-/// A tag is asked from the `send` of its message until `wait` gives its reply or answers `Remote` for it. Want of memory
-/// loses no bytes, and each call may be made again after it, but for `call`.
+/// A tag is asked from the `send` of its message until `wait` gives its reply or answers `Remote` for it. Want of
+/// memory loses no bytes, and each call may be made again after it, but for `call`.
 #[derive(Drop)]
 pub struct Client<R, W> {
     alloc: Global,
@@ -108,9 +109,10 @@ impl<R: Source, W: Sink> Client<R, W> {
 
     /// Sends a message, and answers its tag: NOTAG for a version message, else the least from 1 on that isn't asked.
     ///
-    /// Errors: `Closed` where the client is closed, then `Tags` where 1,024 tags are asked, then `Large` where the message is
-    /// above the most bytes: 65,560 until an Rversion was given, then the lesser of its msize and that. `WriteFault` where the
-    /// sink has failed; then the client is closed. After any other refusal nothing is sent, and the client is as before.
+    /// Errors: `Closed` where the client is closed, then `Tags` where 1,024 tags are asked, then `Large` where the
+    /// message is above the most bytes: 65,560 until an Rversion was given, then the lesser of its msize and that.
+    /// `WriteFault` where the sink has failed; then the client is closed. After any other refusal nothing is sent, and
+    /// the client is as before.
     pub fn send(&mut self, body: TBody) -> Result<u16, CallFault>
         requires { MaySend self.old.talk.asked body }
         ensures ok { IfOk result (λ tag. Sends self.old.talk body tag self.new.talk
@@ -154,13 +156,14 @@ impl<R: Source, W: Sink> Client<R, W> {
         }
     }
 
-    /// Waits for the reply to a tag and gives it; then the tag is free again. Replies to other tags that are asked are kept.
+    /// Waits for the reply to a tag and gives it; then the tag is free again. Replies to other tags
+    /// that are asked are kept.
     ///
-    /// Errors: `Remote` with the text of an error that was answered, which frees the tag too. `Closed` where the reply isn't kept
-    /// and the client is closed. `ReadFault` where the source has failed, `Ended` and `Torn` at its end, between two messages and inside
-    /// one, `Wire` where the next four bytes are no lawful size or the next message is none from a server, `Unasked` where its tag
-    /// isn't asked or has a reply, `Kind` where its type doesn't answer that of its tag: these close the client. `NoMemory` loses
-    /// nothing, and the call may be made again.
+    /// Errors: `Remote` with the text of an error that was answered, which frees the tag too. `Closed` where the reply
+    /// isn't kept and the client is closed. `ReadFault` where the source has failed, `Ended` and `Torn` at its end,
+    /// between two messages and inside one, `Wire` where the next four bytes are no lawful size or the next message is
+    /// none from a server, `Unasked` where its tag isn't asked or has a reply, `Kind` where its type doesn't answer
+    /// that of its tag: these close the client. `NoMemory` loses nothing, and the call may be made again.
     pub fn wait(&mut self, tag: u16) -> Result<RBody, CallFault>
         requires { is_asked tag self.old.talk.asked ≡ true }
         ensures ok { IfOk result (λ body. Gives tag self.old.talk
@@ -168,7 +171,8 @@ impl<R: Source, W: Sink> Client<R, W> {
         ensures no_error { IfOk result (λ body. kind_r body ≢ rerror) }
         ensures err { IfErr result (λ e. WaitFails e tag self.old.talk
             (seen (R.told self.old.source) (R.told self.new.source)) self.new.talk) }
-        ensures kept { is_some (reply_place tag self.old.talk.asked) ≡ true → (R.told self.new.source).bytes ≡ (R.told self.old.source).bytes }
+        ensures kept { is_some (reply_place tag self.old.talk.asked) ≡ true → (R.told self.new.source).bytes
+            ≡ (R.told self.old.source).bytes }
         ensures later { (R.told self.old.source).faults ≤ (R.told self.new.source).faults }
         ensures sink { self.new.sink ≡ self.old.sink }
     {

@@ -32,9 +32,11 @@ fn end_at(unread: &Unread) -> CallFault
 fn fill<R: Source>(unread: &mut Unread, source: &mut R) -> Result<(), CallFault>
     ensures came { Came (R.told source.old).bytes (R.told source.new).bytes unread.old unread.new }
     ensures ok { OnOk result (cut_of unread.new ≡ Whole) }
-    ensures err { IfErr result (λ e. (asked : _) → StopsAt e asked unread.new (seen (R.told source.old) (R.told source.new))) }
+    ensures err { IfErr result (λ e. (asked : _) → StopsAt e asked unread.new
+        (seen (R.told source.old) (R.told source.new))) }
     ensures later { (R.told source.old).faults ≤ (R.told source.new).faults }
 {
+    // law: what is read of the bytes so far is read of all bytes
     answers_are_exact();
     'pieces: loop {
         match cut_of(unread.bytes()) {
@@ -70,11 +72,13 @@ fn hear<R: Source>(
     unread: &mut Unread,
     source: &mut R,
 ) -> Result<(), CallFault>
-    ensures ok { OnOk result (HearsOne asked.old.items unread.old (R.told source.old).bytes (R.told source.new).bytes asked.new.items unread.new) }
+    ensures ok { OnOk result (HearsOne asked.old.items unread.old (R.told source.old).bytes (R.told source.new).bytes
+        asked.new.items unread.new) }
     ensures fewer { OnOk result (waiting asked.new.items < waiting asked.old.items) }
     ensures came { OnErr result (Came (R.told source.old).bytes (R.told source.new).bytes unread.old unread.new) }
     ensures same { OnErr result (asked.new ≡ asked.old) }
-    ensures err { IfErr result (λ e. StopsAt e asked.old.items unread.new (seen (R.told source.old) (R.told source.new))) }
+    ensures err { IfErr result (λ e. StopsAt e asked.old.items unread.new
+        (seen (R.told source.old) (R.told source.new))) }
     ensures later { (R.told source.old).faults ≤ (R.told source.new).faults }
 {
     if let Err(fault) = fill(unread, source) {
@@ -99,12 +103,15 @@ pub(crate) fn bring<R: Source>(
     source: &mut R,
     tag: u16,
 ) -> Result<usize, CallFault>
-    ensures hears { Hears tag asked.old.items unread.old (R.told source.old).bytes (R.told source.new).bytes asked.new.items unread.new }
+    ensures hears { Hears tag asked.old.items unread.old (R.told source.old).bytes (R.told source.new).bytes
+        asked.new.items unread.new }
     ensures ok { IfOk result (λ at. reply_place tag asked.new.items ≡ Some at) }
     ensures none { OnErr result (reply_place tag asked.new.items ≡ None) }
-    ensures err { IfErr result (λ e. StopsAt e asked.new.items unread.new (seen (R.told source.old) (R.told source.new))) }
+    ensures err { IfErr result (λ e. StopsAt e asked.new.items unread.new
+        (seen (R.told source.old) (R.told source.new))) }
     ensures first { OnErr result (reply_place tag asked.old.items ≡ None) }
-    ensures kept { is_some (reply_place tag asked.old.items) ≡ true → (R.told source.new).bytes ≡ (R.told source.old).bytes }
+    ensures kept { is_some (reply_place tag asked.old.items) ≡ true → (R.told source.new).bytes
+        ≡ (R.told source.old).bytes }
     ensures later { (R.told source.old).faults ≤ (R.told source.new).faults }
 {
     'messages: loop {

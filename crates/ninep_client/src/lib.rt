@@ -9,7 +9,7 @@ mod client;
 mod fault;
 mod hearing;
 mod kinds;
-mod laws;
+pub mod laws;
 mod unread;
 mod version;
 
@@ -17,6 +17,5 @@ pub use am_text::{Bytes, Items, NoMemory};
 pub use asked::Asked;
 pub use client::Client;
 pub use fault::CallFault;
-pub use laws::replies_are_given_once;
 pub use ninep_types::{Qid, Qids, RBody, RMsg, TBody, TMsg, WireFault};
 pub use version::version_message;

@@ -54,8 +54,8 @@ impl Unread {
         self.at += count;
     }
 
-    // Drops the bytes that were read, where no more are unread than these: so a byte that was read pays for the move of one
-    // that is unread.
+    // Drops the bytes that were read, where no more are unread than these: so a byte that was read pays for the
+    // move of one that is unread.
     fn drop_read(&mut self)
         ensures { self.new ≡ self.old }
     {
@@ -67,8 +67,8 @@ impl Unread {
         }
     }
 
-    /// Reads bytes from a source, and answers how many came; none at its end alone. Room is taken first, so that no byte
-    /// is lost for want of memory.
+    /// Reads bytes from a source, and answers how many came; none at its end alone. Room is taken first, so that no
+    /// byte is lost for want of memory.
     pub(crate) fn read<S: Source>(&mut self, source: &mut S) -> Result<usize, CallFault>
         ensures ok { IfOk result (λ n. Reads n (S.told source.old).bytes (S.told source.new).bytes self.old self.new) }
         ensures err { OnErr result (self.new ≡ self.old) }

@@ -19,7 +19,9 @@ start = record { given = []; left = [] }
 -- after one call more
 abbrev pub after_call : Cutting → Call → Cutting
 after_call c (Feed piece) = record c { left = c.left ++ piece }
-after_call c Next = if is_whole (cut_of c.left) then record { given = c.given ++ first_of c.left ∷ []; left = behind_first c.left } else c
+after_call c Next =
+    if is_whole (cut_of c.left) then record { given = c.given ++ first_of c.left ∷ []; left = behind_first c.left }
+    else c
 
 -- after all calls
 abbrev pub after_calls : List Call → Cutting

@@ -1,5 +1,6 @@
 -- How a stream of bytes is cut into whole messages by their size fields.
-use Rattle.std.specs.Prelude.{◌≡◌, ◌≤◌, ℕ, zero, suc, Bool, true, false, ◌&&◌, List, [], ◌∷◌, ◌++◌, length, take, drop, nat_lt, nat_le, if◌then◌else◌}
+use Rattle.std.specs.Prelude.{◌≡◌, ◌≤◌, ℕ, zero, suc, Bool, true, false, ◌&&◌, List, [], ◌∷◌, ◌++◌, length, take, drop}
+use Rattle.std.specs.Prelude.{nat_lt, nat_le, if◌then◌else◌}
 use Rattle.std.specs.Int.{w32, from_le_bytes}
 use Rattle.ninep_cut.specs.declared.cut.Cut.{Cut}
 use Rattle.ninep_types.specs.Limits.{head_size, max_msize}
@@ -23,7 +24,8 @@ pub record IsMessage (bytes : List ℕ) : Type 0 where
 unfoldable pub cut_of : List ℕ → Cut
 cut_of bytes =
     if nat_lt (length bytes) 4 then More
-    else (if is_lawful (size_of bytes) then (if nat_lt (length bytes) (size_of bytes) then More else Whole) else Broken (size_of bytes))
+    else (if is_lawful (size_of bytes) then (if nat_lt (length bytes) (size_of bytes) then More else Whole)
+    else Broken (size_of bytes))
 
 -- whether a whole message stands at the front
 abbrev pub is_whole : Cut → Bool
@@ -54,7 +56,8 @@ then_cut messages stream = record { messages = messages ++ stream.messages; rest
 unfoldable pub cut_within : ℕ → List ℕ → Stream
 cut_within zero bytes = record { messages = []; rest = bytes }
 cut_within (suc n) bytes =
-    if is_whole (cut_of bytes) then then_cut (first_of bytes ∷ []) (cut_within n (behind_first bytes)) else record { messages = []; rest = bytes }
+    if is_whole (cut_of bytes) then then_cut (first_of bytes ∷ []) (cut_within n (behind_first bytes))
+    else record { messages = []; rest = bytes }
 
 -- A message has more than one byte, so there are no more messages than bytes.
 unfoldable pub cut_stream : List ℕ → Stream

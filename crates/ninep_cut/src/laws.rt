@@ -1,6 +1,8 @@
 //! Laws of the cut. Each function has laws as its contract, and does nothing.
 
-ghost use Rattle.ninep_cut.specs.Laws.{WholeWhere, MoreWhere, BrokenWhere, StaysBroken, FrontIs, JoinsBytes, AreMessages, LeavesNone, BeginsWith, IsLongest, JoinsPieces, CutsNoMore, GivesTheCut, GivesAll};
+ghost use Rattle.ninep_cut.specs.Laws.{WholeWhere, MoreWhere, BrokenWhere, StaysBroken, FrontIs, JoinsBytes};
+ghost use Rattle.ninep_cut.specs.Laws.{AreMessages, LeavesNone, BeginsWith, IsLongest, JoinsPieces, CutsNoMore};
+ghost use Rattle.ninep_cut.specs.Laws.{GivesTheCut, GivesAll};
 
 /// Where each answer comes.
 pub fn answers_are_exact()

@@ -11,7 +11,8 @@ records stats = flat_map record_of stats
 -- the stats from the front whose records fit into so many bytes, up to the first that doesn't
 unfoldable pub fitting : ℕ → List Stat → List Stat
 fitting room [] = []
-fitting room (s ∷ stats) = if nat_le (length (record_of s)) room then s ∷ fitting (room - length (record_of s)) stats else []
+fitting room (s ∷ stats) =
+    if nat_le (length (record_of s)) room then s ∷ fitting (room - length (record_of s)) stats else []
 
 -- The part is the longest front of the stats whose records have at most so many bytes.
 pub record IsLongest (room : ℕ) (stats part : List Stat) : Type 0 where

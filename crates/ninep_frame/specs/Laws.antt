@@ -10,7 +10,9 @@ HasSize = (s : Stat) → length (record_of s) ≡ record_size s
 
 -- where two lists of bytes are equal that begin with records, the stats are one, and so is what follows
 abbrev pub PrefixFree : Type 0
-PrefixFree = (s t : Stat) (front back rest more : List ℕ) → InRange s → InRange t → IsRecord s front → IsRecord t back → front ++ rest ≡ back ++ more → (s ≡ t) × (rest ≡ more)
+PrefixFree =
+    (s t : Stat) (front back rest more : List ℕ) → InRange s → InRange t → IsRecord s front → IsRecord t back → front
+    ++ rest ≡ back ++ more → (s ≡ t) × (rest ≡ more)
 
 -- what fits is the longest part that does
 abbrev pub Longest : Type 0

@@ -1,10 +1,12 @@
--- How a record is read: its fields are taken from their places, and the bytes are taken only where they are the record of
--- these.
-use Rattle.std.specs.Prelude.{ℕ, ◌+◌, Bool, ◌&&◌, ◌==◌, nat_le, List, length, take, drop, slice_index, Option, Some, None, if◌then◌else◌}
+-- How a record is read: its fields are taken from their places, and the bytes are taken only where they
+-- are the record of these.
+use Rattle.std.specs.Prelude.{ℕ, ◌+◌, Bool, ◌&&◌, ◌==◌, nat_le, List, length, take, drop, slice_index, Option, Some}
+use Rattle.std.specs.Prelude.{None, if◌then◌else◌}
 use Rattle.std.specs.Int.{w16, w32, w64, from_le_bytes}
 use Rattle.std.specs.Str.{bytes_eq}
 use Rattle.ninep_types.specs.Fields.{is_text}
-use Rattle.ninep_frame.specs.Layout.{qid_kind_place, qid_vers_place, qid_path_place, mode_place, length_place, name_len_place, name_place, unnamed_size}
+use Rattle.ninep_frame.specs.Layout.{qid_kind_place, qid_vers_place, qid_path_place, mode_place, length_place}
+use Rattle.ninep_frame.specs.Layout.{name_len_place, name_place, unnamed_size}
 use Rattle.ninep_frame.specs.declared.stat.Stat.{Stat}
 use Rattle.ninep_frame.specs.Records.{record_of}
 
@@ -27,7 +29,11 @@ name_at bytes = take (u16_at name_len_place bytes) (drop name_place bytes)
 -- the stat whose fields stand at their places
 unfoldable pub stat_at : List ℕ → Stat
 stat_at bytes = record {
-  qid = record { kind = slice_index bytes qid_kind_place; vers = u32_at qid_vers_place bytes; path = u64_at qid_path_place bytes };
+  qid = record {
+    kind = slice_index bytes qid_kind_place;
+    vers = u32_at qid_vers_place bytes;
+    path = u64_at qid_path_place bytes;
+  };
   mode = u32_at mode_place bytes;
   length = u64_at length_place bytes;
   name = name_at bytes;
@@ -35,7 +41,9 @@ stat_at bytes = record {
 
 -- the size is that of the bytes, the name leaves what is behind it, and it is UTF-8 without NUL
 unfoldable pub is_formed : List ℕ → Bool
-is_formed bytes = nat_le unnamed_size (length bytes) && (length bytes == 2 + u16_at 0 bytes) && (length bytes == unnamed_size + u16_at name_len_place bytes) && is_text (name_at bytes)
+is_formed bytes =
+    nat_le unnamed_size (length bytes) && (length bytes == 2 + u16_at 0 bytes)
+    && (length bytes == unnamed_size + u16_at name_len_place bytes) && is_text (name_at bytes)
 
 -- the stat whose record the bytes are
 unfoldable pub stat_of : List ℕ → Option Stat

@@ -20,7 +20,9 @@ no_times = to_le_bytes w32 0 ++ to_le_bytes w32 0
 
 -- the fields after the size
 unfoldable pub stat_fields : Stat → List ℕ
-stat_fields s = no_device ++ (qid_bytes s.qid ++ (to_le_bytes w32 s.mode ++ (no_times ++ (to_le_bytes w64 s.length ++ (string s.name ++ owners)))))
+stat_fields s =
+    no_device ++ (qid_bytes s.qid ++ (to_le_bytes w32 s.mode
+    ++ (no_times ++ (to_le_bytes w64 s.length ++ (string s.name ++ owners)))))
 
 -- the record of a stat; its size doesn't count its own two bytes
 unfoldable pub record_of : Stat → List ℕ

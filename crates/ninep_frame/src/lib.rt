@@ -5,7 +5,7 @@
 #![tactic(auto)]
 
 mod directory;
-mod laws;
+pub mod laws;
 mod layout;
 mod places;
 mod puts;
@@ -14,6 +14,5 @@ mod stat;
 
 pub use am_text::{Bytes, Items, NoMemory};
 pub use directory::dir_read;
-pub use laws::{directory_parts_are_longest, records_are_prefix_free, records_have_their_size};
 pub use ninep_types::Qid;
 pub use stat::{Stat, Stats, stat_read, stat_write};

@@ -1,6 +1,7 @@
 -- The kinds of fields of a message in words: how each is spelled, and how it is read from the front of the bytes.
 -- A front is a blank, the field's name and `=`. Reading gives the value and the bytes after it.
-use Rattle.std.specs.Prelude.{zero, suc, ◌≡◌, ℕ, ◌+◌, ◌^◌, Bool, true, false, ◌&&◌, nat_lt, ◌==◌, List, [], ◌∷◌, ◌++◌, length, Option, Some, None, Result, Ok, Err, if◌then◌else◌}
+use Rattle.std.specs.Prelude.{zero, suc, ◌≡◌, ℕ, ◌+◌, ◌^◌, Bool, true, false, ◌&&◌, nat_lt, ◌==◌, List, [], ◌∷◌, ◌++◌}
+use Rattle.std.specs.Prelude.{length, Option, Some, None, Result, Ok, Err, if◌then◌else◌}
 use Rattle.std.specs.Char.{is_ascii_digit}
 use Rattle.std.specs.Fmt.{decimal}
 use Rattle.std.specs.List.{flat_map}
@@ -81,22 +82,26 @@ letter_q = 113
 abbrev pub marked : ℕ → List ℕ
 marked b =
     if b == newline then backslash ∷ letter_n ∷ []
-    else (if b == backslash then backslash ∷ backslash ∷ [] else (if b == quote then backslash ∷ letter_q ∷ [] else b ∷ []))
+    else (if b == backslash then backslash ∷ backslash ∷ []
+    else (if b == quote then backslash ∷ letter_q ∷ [] else b ∷ []))
 
 -- a text in quotes
 unfoldable pub quoted : List ℕ → List ℕ
 quoted bytes = quote ∷ (flat_map marked bytes ++ quote ∷ [])
 
 -- This text, and then what the bytes stand for up to the closing quote, where a backslash came just before them or not;
--- and the bytes after the quote. None where there is no quote, or before it a newline or a backslash that stands for no byte.
+-- and the bytes after the quote. None where there is no quote, or before it a newline or a backslash
+-- that stands for no byte.
 unfoldable pub unquoted_after : List ℕ → Bool → List ℕ → Option (List ℕ × List ℕ)
 unquoted_after text b [] = None
 unquoted_after text false (b ∷ bs) =
     if b == quote then Some (text, bs)
-    else (if b == newline then None else (if b == backslash then unquoted_after text true bs else unquoted_after (text ++ b ∷ []) false bs))
+    else (if b == newline then None else (if b == backslash then unquoted_after text true bs
+    else unquoted_after (text ++ b ∷ []) false bs))
 unquoted_after text true (b ∷ bs) =
     if b == letter_n then unquoted_after (text ++ newline ∷ []) false bs
-    else (if b == backslash then unquoted_after (text ++ backslash ∷ []) false bs else (if b == letter_q then unquoted_after (text ++ quote ∷ []) false bs else None))
+    else (if b == backslash then unquoted_after (text ++ backslash ∷ []) false bs
+    else (if b == letter_q then unquoted_after (text ++ quote ∷ []) false bs else None))
 
 -- UTF-8 without NUL, of fewer than 2 ^ 16 bytes
 abbrev pub is_string : List ℕ → Bool

@@ -1,5 +1,6 @@
 -- Reading a line in words from left to right.
-use Rattle.std.specs.Prelude.{ℕ, ◌+◌, ◌^◌, ◌&&◌, nat_le, ◌==◌, List, [], ◌∷◌, length, Option, Some, None, if◌then◌else◌, codes}
+use Rattle.std.specs.Prelude.{ℕ, ◌+◌, ◌^◌, ◌&&◌, nat_le, ◌==◌, List, [], ◌∷◌, length, Option, Some, None, if◌then◌else◌}
+use Rattle.std.specs.Prelude.{codes}
 use Rattle.std.specs.Str.{bytes_eq}
 use Rattle.ninep_types.specs.declared.message.TMsg.{TMsg}
 use Rattle.ninep_types.specs.declared.message.TBody.{TBody}
@@ -18,10 +19,12 @@ use Rattle.am_text.specs.Lines.{first_field, after_field}
 use Rattle.am_journal.specs.Line.{event_of}
 use Rattle.ninep_trace.specs.declared.line.Line.{Line}
 use Rattle.ninep_trace.specs.declared.line.Line.TheVariants as line
-use Rattle.ninep_trace.specs.Fields.{◌>>=◌, small_at, number_at, text_at, bytes_in_hex_at, qid_at, qid_field_at, quoted_at, listed_at}
+use Rattle.ninep_trace.specs.Fields.{◌>>=◌, small_at, number_at, text_at, bytes_in_hex_at, qid_at, qid_field_at}
+use Rattle.ninep_trace.specs.Fields.{quoted_at, listed_at}
 
 -- the first of the readers that has this name
-abbrev pub read_by : {B : Type 0} → List (List ℕ × (List ℕ → Option (B × List ℕ))) → List ℕ → List ℕ → Option (B × List ℕ)
+abbrev pub read_by : {B : Type 0} → List (List ℕ × (List ℕ → Option (B × List ℕ))) → List ℕ → List ℕ
+    → Option (B × List ℕ)
 read_by [] name bytes = None
 read_by (r ∷ rs) name bytes = if bytes_eq name r.0 then r.1 bytes else read_by rs name bytes
 
@@ -298,4 +301,6 @@ with_front (Some rest) read others = read rest
 
 -- the event or the reply that a line without its newline spells, if it is in words
 unfoldable pub line_of : List ℕ → Option Line
-line_of bs = with_front (after_front (codes "msg ") bs) t_line_at (with_front (after_front (codes "reply ") bs) r_line_at (event_line (event_of bs)))
+line_of bs =
+    with_front (after_front (codes "msg ") bs) t_line_at
+    (with_front (after_front (codes "reply ") bs) r_line_at (event_line (event_of bs)))

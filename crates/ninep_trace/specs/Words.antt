@@ -40,14 +40,22 @@ name_t (t.Wstat fid stat) = codes "Twstat"
 -- the fields after the tag
 abbrev pub fields_t : TBody → List ℕ
 fields_t (t.Version msize version) = number (codes " msize=") msize ++ text (codes " version=") version
-fields_t (t.Auth afid uname aname) = number (codes " afid=") afid ++ (text (codes " uname=") uname ++ text (codes " aname=") aname)
+fields_t (t.Auth afid uname aname) =
+    number (codes " afid=") afid ++ (text (codes " uname=") uname ++ text (codes " aname=") aname)
 fields_t (t.Flush oldtag) = number (codes " oldtag=") oldtag
-fields_t (t.Attach fid afid uname aname) = number (codes " fid=") fid ++ (number (codes " afid=") afid ++ (text (codes " uname=") uname ++ text (codes " aname=") aname))
-fields_t (t.Walk fid newfid names) = number (codes " fid=") fid ++ (number (codes " newfid=") newfid ++ listed (codes " names=") quoted names)
+fields_t (t.Attach fid afid uname aname) =
+    number (codes " fid=") fid ++ (number (codes " afid=") afid
+    ++ (text (codes " uname=") uname ++ text (codes " aname=") aname))
+fields_t (t.Walk fid newfid names) =
+    number (codes " fid=") fid ++ (number (codes " newfid=") newfid ++ listed (codes " names=") quoted names)
 fields_t (t.Open fid mode) = number (codes " fid=") fid ++ number (codes " mode=") mode
-fields_t (t.Create fid name perm mode) = number (codes " fid=") fid ++ (text (codes " name=") name ++ (number (codes " perm=") perm ++ number (codes " mode=") mode))
-fields_t (t.Read fid offset count) = number (codes " fid=") fid ++ (number (codes " offset=") offset ++ number (codes " count=") count)
-fields_t (t.Write fid offset bytes) = number (codes " fid=") fid ++ (number (codes " offset=") offset ++ bytes_in_hex (codes " data=") bytes)
+fields_t (t.Create fid name perm mode) =
+    number (codes " fid=") fid ++ (text (codes " name=") name
+    ++ (number (codes " perm=") perm ++ number (codes " mode=") mode))
+fields_t (t.Read fid offset count) =
+    number (codes " fid=") fid ++ (number (codes " offset=") offset ++ number (codes " count=") count)
+fields_t (t.Write fid offset bytes) =
+    number (codes " fid=") fid ++ (number (codes " offset=") offset ++ bytes_in_hex (codes " data=") bytes)
 fields_t (t.Clunk fid) = number (codes " fid=") fid
 fields_t (t.Remove fid) = number (codes " fid=") fid
 fields_t (t.Stat fid) = number (codes " fid=") fid
@@ -55,7 +63,8 @@ fields_t (t.Wstat fid stat) = number (codes " fid=") fid ++ bytes_in_hex (codes 
 
 -- `msg C NAME tag=N FIELDS`
 unfoldable pub words_t : ℕ → TMsg → List ℕ
-words_t c m = around (codes "msg ") c (space ∷ []) ++ (name_t m.body ++ space ∷ (number (codes "tag=") m.tag ++ fields_t m.body))
+words_t c m =
+    around (codes "msg ") c (space ∷ []) ++ (name_t m.body ++ space ∷ (number (codes "tag=") m.tag ++ fields_t m.body))
 
 -- ---- messages from the server
 
@@ -95,7 +104,9 @@ fields_r r.Wstat = []
 
 -- `reply C NAME tag=N FIELDS`
 unfoldable pub words_r : ℕ → RMsg → List ℕ
-words_r c m = around (codes "reply ") c (space ∷ []) ++ (name_r m.body ++ space ∷ (number (codes "tag=") m.tag ++ fields_r m.body))
+words_r c m =
+    around (codes "reply ") c (space ∷ []) ++ (name_r m.body ++ space
+    ∷ (number (codes "tag=") m.tag ++ fields_r m.body))
 
 -- ---- lines
 

@@ -9,7 +9,8 @@ use am_journal::{Event, write_line};
 use am_text::{Bytes, NoMemory};
 use std::alloc::Global;
 
-/// The one line in words of an event, without its newline: a message is in words, every other event is as in a transcript.
+/// The one line in words of an event, without its newline: a message is in words, every other
+/// event is as in a transcript.
 pub fn words_of(alloc: Global, event: &Event) -> Result<Bytes, NoMemory>
     requires { IsLawful event.now }
     ensures exact { IfOk result (λ line. line ≡ event_words event.now) }

@@ -1,13 +1,16 @@
 //! The kinds of fields, each taken from the front of the bytes.
 
-ghost use Rattle.std.specs.Prelude.{◌≡◌, ◌==◌, ◌<◌, ◌≤◌, ◌+◌, ◌^◌, ◌++◌, ◌∷◌, [], ℕ, List, false, length, slice_index, IfOk, IfSome, IfNone, None};
+ghost use Rattle.std.specs.Prelude.{◌≡◌, ◌==◌, ◌<◌, ◌≤◌, ◌+◌, ◌^◌, ◌++◌, ◌∷◌, [], ℕ, List, false, length, slice_index};
+ghost use Rattle.std.specs.Prelude.{IfOk, IfSome, IfNone, None};
 ghost use Rattle.std.specs.List.{list_any};
 ghost use Rattle.am_text.specs.Ascii.{quote};
 ghost use Rattle.am_text.specs.Front.{after_front};
 ghost use Rattle.ninep_types.specs.Fields.{is_text};
 ghost use Rattle.ninep_types.specs.Limits.{max_names};
 ghost use Rattle.am_journal.specs.Hexadecimal.{bytes_of_hex};
-ghost use Rattle.ninep_trace.specs.Fields.{Gives, digits, after_digits, value_at, small_at, number_at, unquoted_after, is_string, quoted_at, text_at, bytes_in_hex_at, qid_at, qid_field_at, several_at, listed_at};
+ghost use Rattle.ninep_trace.specs.Fields.{Gives, digits, after_digits, value_at, small_at, number_at, unquoted_after};
+ghost use Rattle.ninep_trace.specs.Fields.{is_string, quoted_at, text_at, bytes_in_hex_at, qid_at, qid_field_at};
+ghost use Rattle.ninep_trace.specs.Fields.{several_at, listed_at};
 
 use crate::unread::Unread;
 use am_journal::bytes_of_hex;

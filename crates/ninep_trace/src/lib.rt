@@ -6,7 +6,7 @@
 
 mod events;
 mod fields;
-mod laws;
+pub mod laws;
 mod line;
 mod puts;
 mod r_reading;
@@ -19,7 +19,6 @@ mod unread;
 pub use am_journal::Event;
 pub use am_text::{Bytes, Items, Names, NoMemory};
 pub use events::words_of;
-pub use laws::{words_are_read_again, words_stand_in_lines};
 pub use line::Line;
 pub use ninep_types::{Qid, Qids, RBody, RMsg, TBody, TMsg};
 pub use r_words::words_r;

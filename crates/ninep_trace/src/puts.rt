@@ -4,7 +4,8 @@ ghost use Rattle.std.specs.Prelude.{◌≡◌, ◌++◌, ◌∷◌, [], OnOk};
 ghost use Rattle.std.specs.Fmt.{decimal};
 ghost use Rattle.std.specs.List.{flat_map};
 ghost use Rattle.am_journal.specs.Parts.{around};
-ghost use Rattle.ninep_trace.specs.Fields.{number, marked, quoted, text, bytes_in_hex, qid_text, qid_field, blank_and, listed};
+ghost use Rattle.ninep_trace.specs.Fields.{number, marked, quoted, text, bytes_in_hex, qid_text, qid_field, blank_and};
+ghost use Rattle.ninep_trace.specs.Fields.{listed};
 
 use am_journal::put_hex;
 use am_text::{Bytes, NoMemory, decimal};

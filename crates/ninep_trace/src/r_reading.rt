@@ -3,7 +3,8 @@
 ghost use Rattle.std.specs.Prelude.{◌≡◌, ◌<◌, ◌^◌};
 ghost use Rattle.ninep_types.specs.Spelling.{size_r};
 ghost use Rattle.ninep_trace.specs.Fields.{Gives};
-ghost use Rattle.ninep_trace.specs.Reading.{r_version_at, r_auth_at, r_error_at, r_attach_at, r_walk_at, r_open_at, r_create_at, r_read_at, r_write_at, r_stat_at, r_body_at, r_message_at};
+ghost use Rattle.ninep_trace.specs.Reading.{r_version_at, r_auth_at, r_error_at, r_attach_at, r_walk_at, r_open_at};
+ghost use Rattle.ninep_trace.specs.Reading.{r_create_at, r_read_at, r_write_at, r_stat_at, r_body_at, r_message_at};
 
 use crate::fields::{SHORT, take_bytes, take_qid, take_qids, take_text, take_u16, take_u32};
 use crate::unread::Unread;

@@ -50,8 +50,8 @@ fn take_line(alloc: Global, line: &[u8]) -> Result<Line, Unread>
     }
 }
 
-/// What a line in words says, without its newline: an event, or a message to a connection. None exactly where the line is no
-/// spelling of either: `docs/formats/words.md` has them.
+/// What a line in words says, without its newline: an event, or a message to a connection. None exactly where the line
+/// is no spelling of either: `docs/formats/words.md` has them.
 pub fn read_words(alloc: Global, line: &[u8]) -> Result<Option<Line>, NoMemory>
     ensures exact { IfOk result (λ read. read ≡ line_of line.now) }
     // What is read is spelled so, and has words.

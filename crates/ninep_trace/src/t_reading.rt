@@ -2,7 +2,9 @@
 
 ghost use Rattle.std.specs.Prelude.{◌≡◌};
 ghost use Rattle.ninep_trace.specs.Fields.{Gives};
-ghost use Rattle.ninep_trace.specs.Reading.{t_version_at, t_auth_at, t_flush_at, t_attach_at, t_walk_at, t_open_at, t_create_at, t_read_at, t_write_at, t_clunk_at, t_remove_at, t_stat_at, t_wstat_at, t_body_at, t_message_at};
+ghost use Rattle.ninep_trace.specs.Reading.{t_version_at, t_auth_at, t_flush_at, t_attach_at, t_walk_at, t_open_at};
+ghost use Rattle.ninep_trace.specs.Reading.{t_create_at, t_read_at, t_write_at, t_clunk_at, t_remove_at, t_stat_at};
+ghost use Rattle.ninep_trace.specs.Reading.{t_wstat_at, t_body_at, t_message_at};
 
 use crate::fields::{
     SHORT, take_bytes, take_names, take_text, take_u8, take_u16, take_u32, take_u64,

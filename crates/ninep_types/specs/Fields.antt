@@ -1,6 +1,7 @@
 -- The kinds of fields: how each is spelled, and how it is read from the front of the bytes.
 -- Reading gives the value and the bytes after it, or the first fault.
-use Rattle.std.specs.Prelude.{zero, suc, ◌≡◌, ℕ, Bool, not, ◌&&◌, List, [], ◌∷◌, ◌++◌, length, take, drop, Result, Ok, Err, nat_lt, ◌==◌, if◌then◌else◌}
+use Rattle.std.specs.Prelude.{zero, suc, ◌≡◌, ℕ, Bool, not, ◌&&◌, List, [], ◌∷◌, ◌++◌, length, take, drop, Result, Ok}
+use Rattle.std.specs.Prelude.{Err, nat_lt, ◌==◌, if◌then◌else◌}
 use Rattle.std.specs.Int.{Width, w16, w32, w64, byte_len, from_le_bytes, to_le_bytes}
 use Rattle.std.specs.List.{list_any, flat_map}
 use Rattle.std.specs.Str.{is_utf8}
@@ -36,7 +37,9 @@ byte_at (b ∷ rest) = Ok (b, rest)
 
 -- a number, its low byte first
 abbrev pub number_at : Width → List ℕ → Result (ℕ × List ℕ) WireFault
-number_at w bytes = if nat_lt (length bytes) (byte_len w) then Err Short else Ok (from_le_bytes w (take (byte_len w) bytes), drop (byte_len w) bytes)
+number_at w bytes =
+    if nat_lt (length bytes) (byte_len w) then Err Short
+    else Ok (from_le_bytes w (take (byte_len w) bytes), drop (byte_len w) bytes)
 
 -- n bytes
 abbrev pub bytes_at : ℕ → List ℕ → Result (List ℕ × List ℕ) WireFault
@@ -98,7 +101,8 @@ count_at bytes = do
   if nat_lt max_names n.0 then Err Names else Ok n
 
 -- n members, one after the other
-unfoldable pub several_at : {A : Type 0} → (List ℕ → Result (A × List ℕ) WireFault) → ℕ → List ℕ → Result (List A × List ℕ) WireFault
+unfoldable pub several_at : {A : Type 0} → (List ℕ → Result (A × List ℕ) WireFault) → ℕ → List ℕ
+    → Result (List A × List ℕ) WireFault
 several_at one_at zero bytes = Ok ([], bytes)
 several_at one_at (suc n) bytes = do
   first ← one_at bytes
@@ -106,7 +110,8 @@ several_at one_at (suc n) bytes = do
   Ok (first.0 ∷ others.0, others.1)
 
 -- a list
-unfoldable pub listed_at : {A : Type 0} → (List ℕ → Result (A × List ℕ) WireFault) → List ℕ → Result (List A × List ℕ) WireFault
+unfoldable pub listed_at : {A : Type 0} → (List ℕ → Result (A × List ℕ) WireFault) → List ℕ
+    → Result (List A × List ℕ) WireFault
 listed_at one_at bytes = do
   n ← count_at bytes
   several_at one_at n.0 n.1

@@ -1,5 +1,6 @@
 -- Reading a message from left to right, with the first fault that is met.
-use Rattle.std.specs.Prelude.{ℕ, List, length, take, drop, Result, Ok, Err, nat_lt, ◌==◌, if◌then◌else◌, slice_index, [], ◌∷◌}
+use Rattle.std.specs.Prelude.{ℕ, List, length, take, drop, Result, Ok, Err, nat_lt, ◌==◌, if◌then◌else◌, slice_index}
+use Rattle.std.specs.Prelude.{[], ◌∷◌}
 use Rattle.std.specs.Int.{w16, w32, w64, from_le_bytes}
 use Rattle.ninep_types.specs.declared.fault.WireFault.{WireFault}
 use Rattle.ninep_types.specs.declared.fault.WireFault.TheVariants.{Size, Kind, Long}
@@ -10,17 +11,21 @@ use Rattle.ninep_types.specs.declared.message.RMsg.{RMsg}
 use Rattle.ninep_types.specs.declared.message.RBody.{RBody}
 use Rattle.ninep_types.specs.declared.message.RBody.TheVariants as r
 use Rattle.ninep_types.specs.Limits.{head_size}
-use Rattle.ninep_types.specs.Kinds.{tversion, tauth, tattach, tflush, twalk, topen, tcreate, tread, twrite, tclunk, tremove, tstat, twstat}
-use Rattle.ninep_types.specs.Kinds.{rversion, rauth, rattach, rerror, rflush, rwalk, ropen, rcreate, rread, rwrite, rclunk, rremove, rstat, rwstat}
+use Rattle.ninep_types.specs.Kinds.{tversion, tauth, tattach, tflush, twalk, topen, tcreate, tread, twrite, tclunk}
+use Rattle.ninep_types.specs.Kinds.{tremove, tstat, twstat}
+use Rattle.ninep_types.specs.Kinds.{rversion, rauth, rattach, rerror, rflush, rwalk, ropen, rcreate, rread, rwrite}
+use Rattle.ninep_types.specs.Kinds.{rclunk, rremove, rstat, rwstat}
 use Rattle.ninep_types.specs.Fields.{◌>>=◌, number_at, byte_at, string_at, counted_at, qid_at, listed_at}
 
 -- the type byte, the tag, and the bytes after them, where the size is the number of bytes
 unfoldable pub head_at : List ℕ → Result (ℕ × ℕ × List ℕ) WireFault
 head_at bytes = if nat_lt (length bytes) head_size then Err Size
-    else (if from_le_bytes w32 (take 4 bytes) == length bytes then Ok (slice_index bytes 4, from_le_bytes w16 (take 2 (drop 5 bytes)), drop head_size bytes) else Err Size)
+    else (if from_le_bytes w32 (take 4 bytes) == length bytes
+    then Ok (slice_index bytes 4, from_le_bytes w16 (take 2 (drop 5 bytes)), drop head_size bytes) else Err Size)
 
 -- the first of the readers that has this type byte
-abbrev pub read_by : {B : Type 0} → List (ℕ × (List ℕ → Result (B × List ℕ) WireFault)) → ℕ → List ℕ → Result (B × List ℕ) WireFault
+abbrev pub read_by : {B : Type 0} → List (ℕ × (List ℕ → Result (B × List ℕ) WireFault)) → ℕ → List ℕ
+    → Result (B × List ℕ) WireFault
 read_by [] kind bytes = Err Kind
 read_by (reader ∷ readers) kind bytes = if kind == reader.0 then reader.1 bytes else read_by readers kind bytes
 
@@ -123,7 +128,10 @@ t_wstat_at input = do
 
 -- the readers of the fields, by the type byte
 abbrev pub t_readers : List (ℕ × (List ℕ → Result (TBody × List ℕ) WireFault))
-t_readers = (tversion, t_version_at) ∷ (tauth, t_auth_at) ∷ (tattach, t_attach_at) ∷ (tflush, t_flush_at) ∷ (twalk, t_walk_at) ∷ (topen, t_open_at) ∷ (tcreate, t_create_at) ∷ (tread, t_read_at) ∷ (twrite, t_write_at) ∷ (tclunk, t_clunk_at) ∷ (tremove, t_remove_at) ∷ (tstat, t_stat_at) ∷ (twstat, t_wstat_at) ∷ []
+t_readers =
+    (tversion, t_version_at) ∷ (tauth, t_auth_at) ∷ (tattach, t_attach_at) ∷ (tflush, t_flush_at) ∷ (twalk, t_walk_at)
+    ∷ (topen, t_open_at) ∷ (tcreate, t_create_at) ∷ (tread, t_read_at) ∷ (twrite, t_write_at) ∷ (tclunk, t_clunk_at)
+    ∷ (tremove, t_remove_at) ∷ (tstat, t_stat_at) ∷ (twstat, t_wstat_at) ∷ []
 
 -- the fields of the message of a type byte
 unfoldable pub t_body_at : ℕ → List ℕ → Result (TBody × List ℕ) WireFault
@@ -219,7 +227,10 @@ r_wstat_at input = Ok (r.Wstat, input)
 
 -- the readers of the fields, by the type byte
 abbrev pub r_readers : List (ℕ × (List ℕ → Result (RBody × List ℕ) WireFault))
-r_readers = (rversion, r_version_at) ∷ (rauth, r_auth_at) ∷ (rattach, r_attach_at) ∷ (rerror, r_error_at) ∷ (rflush, r_flush_at) ∷ (rwalk, r_walk_at) ∷ (ropen, r_open_at) ∷ (rcreate, r_create_at) ∷ (rread, r_read_at) ∷ (rwrite, r_write_at) ∷ (rclunk, r_clunk_at) ∷ (rremove, r_remove_at) ∷ (rstat, r_stat_at) ∷ (rwstat, r_wstat_at) ∷ []
+r_readers =
+    (rversion, r_version_at) ∷ (rauth, r_auth_at) ∷ (rattach, r_attach_at) ∷ (rerror, r_error_at) ∷ (rflush, r_flush_at)
+    ∷ (rwalk, r_walk_at) ∷ (ropen, r_open_at) ∷ (rcreate, r_create_at) ∷ (rread, r_read_at) ∷ (rwrite, r_write_at)
+    ∷ (rclunk, r_clunk_at) ∷ (rremove, r_remove_at) ∷ (rstat, r_stat_at) ∷ (rwstat, r_wstat_at) ∷ []
 
 -- the fields of the message of a type byte
 unfoldable pub r_body_at : ℕ → List ℕ → Result (RBody × List ℕ) WireFault

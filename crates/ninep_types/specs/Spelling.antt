@@ -10,8 +10,10 @@ use Rattle.ninep_types.specs.declared.message.RMsg.{RMsg}
 use Rattle.ninep_types.specs.declared.message.RBody.{RBody}
 use Rattle.ninep_types.specs.declared.message.RBody.TheVariants as r
 use Rattle.ninep_types.specs.Limits.{head_size, max_names}
-use Rattle.ninep_types.specs.Kinds.{tversion, tauth, tattach, tflush, twalk, topen, tcreate, tread, twrite, tclunk, tremove, tstat, twstat}
-use Rattle.ninep_types.specs.Kinds.{rversion, rauth, rattach, rerror, rflush, rwalk, ropen, rcreate, rread, rwrite, rclunk, rremove, rstat, rwstat}
+use Rattle.ninep_types.specs.Kinds.{tversion, tauth, tattach, tflush, twalk, topen, tcreate, tread, twrite, tclunk}
+use Rattle.ninep_types.specs.Kinds.{tremove, tstat, twstat}
+use Rattle.ninep_types.specs.Kinds.{rversion, rauth, rattach, rerror, rflush, rwalk, ropen, rcreate, rread, rwrite}
+use Rattle.ninep_types.specs.Kinds.{rclunk, rremove, rstat, rwstat}
 use Rattle.ninep_types.specs.Fields.{string, counted, listed, qid_bytes, is_text}
 
 -- size, type and tag
@@ -60,7 +62,8 @@ abbrev pub fields_t : TBody → List ℕ
 fields_t (t.Version msize version) = to_le_bytes w32 msize ++ string version
 fields_t (t.Auth afid uname aname) = to_le_bytes w32 afid ++ (string uname ++ string aname)
 fields_t (t.Flush oldtag) = to_le_bytes w16 oldtag
-fields_t (t.Attach fid afid uname aname) = to_le_bytes w32 fid ++ (to_le_bytes w32 afid ++ (string uname ++ string aname))
+fields_t (t.Attach fid afid uname aname) =
+    to_le_bytes w32 fid ++ (to_le_bytes w32 afid ++ (string uname ++ string aname))
 fields_t (t.Walk fid newfid names) = to_le_bytes w32 fid ++ (to_le_bytes w32 newfid ++ listed string names)
 fields_t (t.Open fid mode) = to_le_bytes w32 fid ++ (mode ∷ [])
 fields_t (t.Create fid name perm mode) = to_le_bytes w32 fid ++ (string name ++ (to_le_bytes w32 perm ++ (mode ∷ [])))

@@ -1,6 +1,7 @@
 //! Limits of messages, and numbers and a name that mean something of their own.
 
-/// The most bytes of a message, as its size field has them, and the largest msize that is agreed on: 65,536 bytes of data, and 24 before them.
+/// The most bytes of a message, as its size field has them, and the largest msize that is agreed on: 65,536 bytes of
+/// data, and 24 before them.
 pub const MAX_MSIZE: u32 = 65_560;
 
 /// The least msize that is agreed on.

@@ -12,7 +12,9 @@ use Rattle.ninep_types.specs.Spelling.{spelling_t, spelling_r, size_t, size_r, F
 
 -- no spelling is a proper front of another
 abbrev pub PrefixFree_t : Type 0
-PrefixFree_t = (a b : TMsg) (rest : List ℕ) → Fits_t a → InRange_t a → Fits_t b → InRange_t b → spelling_t a ++ rest ≡ spelling_t b → (rest ≡ []) × (a ≡ b)
+PrefixFree_t =
+    (a b : TMsg) (rest : List ℕ) → Fits_t a → InRange_t a → Fits_t b → InRange_t b → spelling_t a ++ rest ≡ spelling_t b
+    → (rest ≡ []) × (a ≡ b)
 
 -- what is written is read again
 abbrev pub ReadAgain_t : Type 0
@@ -26,7 +28,9 @@ HasSize_t = (m : TMsg) → length (spelling_t m) ≡ size_t m.body
 
 -- no spelling is a proper front of another
 abbrev pub PrefixFree_r : Type 0
-PrefixFree_r = (a b : RMsg) (rest : List ℕ) → Fits_r a → InRange_r a → Fits_r b → InRange_r b → spelling_r a ++ rest ≡ spelling_r b → (rest ≡ []) × (a ≡ b)
+PrefixFree_r =
+    (a b : RMsg) (rest : List ℕ) → Fits_r a → InRange_r a → Fits_r b → InRange_r b → spelling_r a ++ rest ≡ spelling_r b
+    → (rest ≡ []) × (a ≡ b)
 
 -- what is written is read again
 abbrev pub ReadAgain_r : Type 0

@@ -3,7 +3,8 @@
 ghost use Rattle.std.specs.Prelude.{◌≡◌, ◌==◌, length};
 ghost use Rattle.std.specs.List.{list_any};
 ghost use Rattle.std.specs.Int.{w16, w32, w64};
-ghost use Rattle.ninep_types.specs.Fields.{Gives, bytes_at, number_at, byte_at, string_at, counted_at, qid_at, count_at, several_at, listed_at, is_text};
+ghost use Rattle.ninep_types.specs.Fields.{Gives, bytes_at, number_at, byte_at, string_at, counted_at, qid_at};
+ghost use Rattle.ninep_types.specs.Fields.{count_at, several_at, listed_at, is_text};
 ghost use Rattle.ninep_types.specs.Reading.{head_at};
 
 use am_text::{Bytes, Items, Names, is_utf8};

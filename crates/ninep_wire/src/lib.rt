@@ -5,7 +5,7 @@
 #![tactic(auto)]
 
 mod fields;
-mod laws;
+pub mod laws;
 mod puts;
 mod r_reading;
 mod r_writing;
@@ -13,7 +13,6 @@ mod t_reading;
 mod t_writing;
 
 pub use am_text::{Bytes, Items, Names, NoMemory};
-pub use laws::{spellings_are_prefix_free, spellings_are_read_again, spellings_have_their_size};
 pub use ninep_types::{Qid, Qids, RBody, RMsg, TBody, TMsg, WireError, WireFault};
 pub use r_reading::read_r;
 pub use r_writing::{r_kind, write_r};

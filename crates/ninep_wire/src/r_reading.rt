@@ -3,7 +3,8 @@
 ghost use Rattle.std.specs.Prelude.{◌≡◌, IfOk, Ok};
 ghost use Rattle.ninep_types.specs.declared.message.RMsg.{RMsg};
 ghost use Rattle.ninep_types.specs.Fields.{Gives};
-ghost use Rattle.ninep_types.specs.Reading.{r_version_at, r_auth_at, r_error_at, r_attach_at, r_walk_at, r_open_at, r_create_at, r_read_at, r_write_at, r_stat_at, r_body_at, r_of};
+ghost use Rattle.ninep_types.specs.Reading.{r_version_at, r_auth_at, r_error_at, r_attach_at, r_walk_at, r_open_at};
+ghost use Rattle.ninep_types.specs.Reading.{r_create_at, r_read_at, r_write_at, r_stat_at, r_body_at, r_of};
 ghost use Rattle.ninep_types.specs.Spelling.{spelling_r, Fits_r, InRange_r};
 
 use crate::fields::{take_data, take_head, take_qid, take_qids, take_stat, take_string, take_u32};

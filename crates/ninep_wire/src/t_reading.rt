@@ -3,7 +3,9 @@
 ghost use Rattle.std.specs.Prelude.{◌≡◌, IfOk, Ok};
 ghost use Rattle.ninep_types.specs.declared.message.TMsg.{TMsg};
 ghost use Rattle.ninep_types.specs.Fields.{Gives};
-ghost use Rattle.ninep_types.specs.Reading.{t_version_at, t_auth_at, t_flush_at, t_attach_at, t_walk_at, t_open_at, t_create_at, t_read_at, t_write_at, t_clunk_at, t_remove_at, t_stat_at, t_wstat_at, t_body_at, t_of};
+ghost use Rattle.ninep_types.specs.Reading.{t_version_at, t_auth_at, t_flush_at, t_attach_at, t_walk_at, t_open_at};
+ghost use Rattle.ninep_types.specs.Reading.{t_create_at, t_read_at, t_write_at, t_clunk_at, t_remove_at, t_stat_at};
+ghost use Rattle.ninep_types.specs.Reading.{t_wstat_at, t_body_at, t_of};
 ghost use Rattle.ninep_types.specs.Spelling.{spelling_t, Fits_t, InRange_t};
 
 use crate::fields::{

@@ -1,7 +1,8 @@
 //! Messages to the server, to their bytes.
 
 ghost use Rattle.std.specs.Prelude.{◌≡◌, ◌<◌, ◌≤◌, ◌^◌, ◌++◌, ◌+◌, length, OnOk, IfOk};
-ghost use Rattle.ninep_types.specs.Spelling.{kind_t, fields_t, size_t, spelling_t, Fits_t, BodyFits_t, IsString, AreNames};
+ghost use Rattle.ninep_types.specs.Spelling.{kind_t, fields_t, size_t, spelling_t, Fits_t, BodyFits_t, IsString};
+ghost use Rattle.ninep_types.specs.Spelling.{AreNames};
 
 use crate::puts::{
     begun, put_data, put_names, put_stat, put_string, put_u16, put_u32, put_u64, strings_len,

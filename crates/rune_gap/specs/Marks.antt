@@ -1,5 +1,6 @@
 -- How many bytes stand before and behind places of a text, noted for each stride of runes.
-use Rattle.std.specs.Prelude.{◌≡◌, ◌≤◌, ◌<◌, ℕ, zero, suc, ◌+◌, ◌-◌, ◌*◌, ◌^◌, Bool, true, List, length, take, drop, slice_index}
+use Rattle.std.specs.Prelude.{◌≡◌, ◌≤◌, ◌<◌, ℕ, zero, suc, ◌+◌, ◌-◌, ◌*◌, ◌^◌, Bool, true, List, length, take, drop}
+use Rattle.std.specs.Prelude.{slice_index}
 use Rattle.am_text.specs.Utf8.{utf8}
 use Rattle.am_text.specs.declared.range.Range.{Range}
 use Rattle.rune_gap.specs.Gap.{around, IsGapIn}

@@ -1,6 +1,7 @@
 //! How many bytes stand before and behind places of a text, noted for each stride of runes.
 
-ghost use Rattle.std.specs.Prelude.{◌≡◌, ◌≤◌, ◌<◌, ◌+◌, ◌-◌, ◌*◌, ◌^◌, ◌==◌, ℕ, [], true, length, take, drop, IfOk, OnOk};
+ghost use Rattle.std.specs.Prelude.{◌≡◌, ◌≤◌, ◌<◌, ◌+◌, ◌-◌, ◌*◌, ◌^◌, ◌==◌, ℕ, [], true, length, take, drop, IfOk};
+ghost use Rattle.std.specs.Prelude.{OnOk};
 ghost use Rattle.am_text.specs.Utf8.{rune_bytes, utf8};
 ghost use Rattle.rune_gap.specs.Gap.{around, IsGapIn};
 ghost use Rattle.rune_gap.specs.Marks.{stride, size, noted, HasRoom, IsMarked, IsMarkedBack, IsPlain};
@@ -168,8 +169,10 @@ impl Marks {
         ensures behind { OnOk result (runes < (length self.new.behind.items + 1) * stride) }
         ensures before_longer { length self.old.before.items ≤ length self.new.before.items }
         ensures behind_longer { length self.old.behind.items ≤ length self.new.behind.items }
-        ensures before_stays { (k : ℕ) → k ≤ length self.old.before.items → noted self.new.before.items k ≡ noted self.old.before.items k }
-        ensures behind_stays { (k : ℕ) → k ≤ length self.old.behind.items → noted self.new.behind.items k ≡ noted self.old.behind.items k }
+        ensures before_stays { (k : ℕ) → k ≤ length self.old.before.items → noted self.new.before.items k
+            ≡ noted self.old.before.items k }
+        ensures behind_stays { (k : ℕ) → k ≤ length self.old.behind.items → noted self.new.behind.items k
+            ≡ noted self.old.behind.items k }
     {
         reserve(&mut self.before, runes)?;
         reserve(&mut self.behind, runes)

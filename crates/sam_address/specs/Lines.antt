@@ -1,5 +1,6 @@
 -- The lines of a text, by the places at which they begin.
-use Rattle.std.specs.Prelude.{◌==◌, ◌+◌, ◌-◌, ℕ, List, [], ◌∷◌, Option, Some, None, length, reverse, filter, nat_le, unwrap_or, if◌then◌else◌}
+use Rattle.std.specs.Prelude.{◌==◌, ◌+◌, ◌-◌, ℕ, List, [], ◌∷◌, Option, Some, None, length, reverse, filter, nat_le}
+use Rattle.std.specs.Prelude.{unwrap_or, if◌then◌else◌}
 use Rattle.am_text.specs.Ascii.{newline}
 use Rattle.am_text.specs.declared.range.Range.{Range}
 

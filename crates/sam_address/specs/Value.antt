@@ -1,10 +1,12 @@
 -- The value of an address in a text.
-use Rattle.std.specs.Prelude.{◌≡◌, ◌≤◌, ◌==◌, ◌+◌, ◌-◌, ℕ, List, [], ◌∷◌, Option, Some, None, Result, Ok, Err, length, nat_le, nat_lt, if◌then◌else◌}
+use Rattle.std.specs.Prelude.{◌≡◌, ◌≤◌, ◌==◌, ◌+◌, ◌-◌, ℕ, List, [], ◌∷◌, Option, Some, None, Result, Ok, Err, length}
+use Rattle.std.specs.Prelude.{nat_le, nat_lt, if◌then◌else◌}
 use Rattle.am_text.specs.declared.range.Range.{Range}
 use Rattle.sam_address.specs.declared.fault.AddrFault.{AddrFault}
 use Rattle.sam_address.specs.declared.fault.AddrFault.TheVariants as fault
 use Rattle.sam_address.specs.declared.fault.AddrFault.TheVariants.{NoMatch, Order, NoMemory}
-use Rattle.addr_syntax.specs.Tree.{Tree, Missing, Dot, Front, End, RuneAt, LineAt, Forward, Backward, Sum, Difference, Span, MovingSpan}
+use Rattle.addr_syntax.specs.Tree.{Tree, Missing, Dot, Front, End, RuneAt, LineAt, Forward, Backward, Sum, Difference}
+use Rattle.addr_syntax.specs.Tree.{Span, MovingSpan}
 use Rattle.sam_address.specs.Search.{forward, backward}
 use Rattle.sam_address.specs.Lines.{line_starts, starts_from, starts_back, nth, line_at}
 

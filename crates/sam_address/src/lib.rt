@@ -2,13 +2,12 @@
 #![tactic(auto)]
 
 mod fault;
-mod laws;
+pub mod laws;
 mod lines;
 mod search;
 mod tree;
 
 pub use addr_syntax::Addr;
 pub use fault::AddrFault;
-pub use laws::line_starts_follow_newlines;
 pub use re_spans::searches_choose_a_match;
 pub use tree::value;

@@ -37,7 +37,8 @@ pub fn forward<T: Letters>(
 ) -> Result<Range, AddrFault>
     requires { IsInside (T.letters text.now) limit }
     ensures value { IfOk result (λ r. match_or_fault (forward (tree re.now) (T.letters text.now) limit place) ≡ Ok r) }
-    ensures fault { IfErr result (λ e. IsFault e (match_or_fault (forward (tree re.now) (T.letters text.now) limit place))) }
+    ensures fault { IfErr result (λ e. IsFault e (match_or_fault
+        (forward (tree re.now) (T.letters text.now) limit place))) }
     ensures inside { IfOk result (IsBetween limit.q0 limit.q1) }
 {
     let machine = Machine::build(alloc, re)?;
@@ -61,7 +62,8 @@ pub fn backward<T: Letters>(
 ) -> Result<Range, AddrFault>
     requires { IsInside (T.letters text.now) limit }
     ensures value { IfOk result (λ r. match_or_fault (backward (tree re.now) (T.letters text.now) limit place) ≡ Ok r) }
-    ensures fault { IfErr result (λ e. IsFault e (match_or_fault (backward (tree re.now) (T.letters text.now) limit place))) }
+    ensures fault { IfErr result (λ e. IsFault e (match_or_fault
+        (backward (tree re.now) (T.letters text.now) limit place))) }
     ensures inside { IfOk result (IsBetween limit.q0 limit.q1) }
 {
     let machine = Machine::build(alloc, re)?;

@@ -3,7 +3,8 @@
 ghost use Rattle.std.specs.Prelude.{◌≡◌, ◌<◌, ◌≤◌, ◌+◌, length, IfOk, IfErr, Ok};
 ghost use Rattle.addr_syntax.specs.Tree.{tree, side};
 ghost use Rattle.addr_syntax.specs.declared.address.Addr.{back-Addr-Plus-0};
-ghost use Rattle.sam_address.specs.Value.{value, after, before, written_or, rune_at, runes_back, span_of, IsFault, IsInside, line_from};
+ghost use Rattle.sam_address.specs.Value.{value, after, before, written_or, rune_at, runes_back, span_of, IsFault};
+ghost use Rattle.sam_address.specs.Value.{IsInside, line_from};
 ghost use Rattle.sam_address.specs.Lines.{line_starts, nth};
 
 use crate::fault::AddrFault;
@@ -74,8 +75,10 @@ fn after<T: Letters>(
 ) -> Result<Range, AddrFault>
     requires left { IsInside (T.letters text.now) left }
     requires limit { IsInside (T.letters text.now) limit }
-    ensures value { IfOk result (λ r. after (tree addr.now) (value (tree addr.now) (T.letters text.now) limit left) (T.letters text.now) limit left ≡ Ok r) }
-    ensures fault { IfErr result (λ e. IsFault e (after (tree addr.now) (value (tree addr.now) (T.letters text.now) limit left) (T.letters text.now) limit left)) }
+    ensures value { IfOk result (λ r. after (tree addr.now) (value (tree addr.now) (T.letters text.now) limit left)
+        (T.letters text.now) limit left ≡ Ok r) }
+    ensures fault { IfErr result (λ e. IsFault e (after (tree addr.now)
+        (value (tree addr.now) (T.letters text.now) limit left) (T.letters text.now) limit left)) }
     ensures inside { IfOk result (IsInside (T.letters text.now)) }
 {
     match addr {
@@ -98,8 +101,10 @@ fn before<T: Letters>(
 ) -> Result<Range, AddrFault>
     requires left { IsInside (T.letters text.now) left }
     requires limit { IsInside (T.letters text.now) limit }
-    ensures value { IfOk result (λ r. before (tree addr.now) (value (tree addr.now) (T.letters text.now) limit left) (T.letters text.now) limit left ≡ Ok r) }
-    ensures fault { IfErr result (λ e. IsFault e (before (tree addr.now) (value (tree addr.now) (T.letters text.now) limit left) (T.letters text.now) limit left)) }
+    ensures value { IfOk result (λ r. before (tree addr.now) (value (tree addr.now) (T.letters text.now) limit left)
+        (T.letters text.now) limit left ≡ Ok r) }
+    ensures fault { IfErr result (λ e. IsFault e (before (tree addr.now)
+        (value (tree addr.now) (T.letters text.now) limit left) (T.letters text.now) limit left)) }
     ensures inside { IfOk result (IsInside (T.letters text.now)) }
 {
     match addr {
@@ -125,8 +130,10 @@ fn side<T: Letters>(
     requires missing { IsInside (T.letters text.now) missing }
     requires dot { IsInside (T.letters text.now) dot }
     requires limit { IsInside (T.letters text.now) limit }
-    ensures value { IfOk result (λ r. written_or (side (back-Addr-Plus-0 addr.now)) (Ok missing) (value (side (back-Addr-Plus-0 addr.now)) (T.letters text.now) limit dot) ≡ Ok r) }
-    ensures fault { IfErr result (λ e. IsFault e (written_or (side (back-Addr-Plus-0 addr.now)) (Ok missing) (value (side (back-Addr-Plus-0 addr.now)) (T.letters text.now) limit dot))) }
+    ensures value { IfOk result (λ r. written_or (side (back-Addr-Plus-0 addr.now)) (Ok missing)
+        (value (side (back-Addr-Plus-0 addr.now)) (T.letters text.now) limit dot) ≡ Ok r) }
+    ensures fault { IfErr result (λ e. IsFault e (written_or (side (back-Addr-Plus-0 addr.now)) (Ok missing)
+        (value (side (back-Addr-Plus-0 addr.now)) (T.letters text.now) limit dot))) }
     ensures inside { IfOk result (IsInside (T.letters text.now)) }
 {
     match addr {

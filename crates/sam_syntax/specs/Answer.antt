@@ -15,7 +15,8 @@ pub record IsBad (text : List ℕ) (place : ℕ) : Type 0 where
   pub after : place < length text → GoesOn (slice_range text 0 (place + 1)) → ⊥
   pub short : place ≡ length text → (c : Command) → IsEdit text c → ⊥
 
--- the command is inside the limits: no expression of more than 2,048 nodes, at most 32 levels, no address of more than 1,024 operators
+-- the command is inside the limits: no expression of more than 2,048 nodes, at most 32 levels, no address of
+-- more than 1,024 operators
 pub record IsInLimits (c : Command) : Type 0 where
   pub nodes : is_large c ≡ false
   pub depth : is_deep c ≡ false

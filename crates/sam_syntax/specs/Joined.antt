@@ -88,7 +88,8 @@ join_address bs (Ended c) a = None
 -- with a loop, whose command comes next
 abbrev pub join_loop : List OpenBlock → Option Start → Loop → expression.Tree → Option Reading
 join_loop bs None kind re = None
-join_loop bs (Some s) kind re = Some (record { blocks = bs; line = Looping (record { addr = s.addr; kind = kind; re = re } ∷ s.heads) })
+join_loop bs (Some s) kind re =
+    Some (record { blocks = bs; line = Looping (record { addr = s.addr; kind = kind; re = re } ∷ s.heads) })
 
 -- with what the line's command does
 abbrev pub join_action : List OpenBlock → Option Start → Action → Option Reading
@@ -98,7 +99,8 @@ join_action bs (Some s) act = Some (record { blocks = bs; line = Ended (in_loops
 -- with a block that opens
 abbrev pub open_block : List OpenBlock → Option Start → Option Reading
 open_block bs None = None
-open_block bs (Some s) = Some (record { blocks = record { heads = s.heads; addr = s.addr; commands = [] } ∷ bs; line = Opened })
+open_block bs (Some s) =
+    Some (record { blocks = record { heads = s.heads; addr = s.addr; commands = [] } ∷ bs; line = Opened })
 
 -- a line ends inside a block
 abbrev pub end_line : List OpenBlock → Line → Option Reading

@@ -5,7 +5,8 @@ use Rattle.addr_syntax.specs.Tree.{Missing}
 use Rattle.edit_parts.specs.Tree as tree
 use Rattle.edit_parts.specs.Tree.{Loop, Command, Print, Block}
 use Rattle.edit_parts.specs.Pieces.{Piece, EndsLine, Loops, Opens, Closes}
-use Rattle.sam_syntax.specs.Joined.{Line, Opened, Looping, Addressed, Ended, Reading, begin, is_done, command_of, commands_of, whole, after_pieces}
+use Rattle.sam_syntax.specs.Joined.{Line, Opened, Looping, Addressed, Ended, Reading, begin, is_done, command_of}
+use Rattle.sam_syntax.specs.Joined.{commands_of, whole, after_pieces}
 use Rattle.sam_syntax.specs.Grammar.{BeginsWith, IsEdit}
 use Rattle.sam_syntax.specs.Written.{Writes}
 
@@ -36,15 +37,18 @@ body_of (Ended c) = command_of (Ended c)
 -- a loop does all that stands behind it
 abbrev pub LoopsTakeTheRest : Type 0
 LoopsTakeTheRest =
-    (kind : Loop) (re : expression.Tree) (ps : List Piece) (r : Reading) → after_pieces (Some begin) ps ≡ Some r → is_done r ≡ true →
-    (s : Reading) × (after_pieces (Some begin) (Loops kind re ∷ ps) ≡ Some s) × (is_done s ≡ true) × (whole s ≡ (Missing, tree.Loops kind re (body_of r.line).0 (body_of r.line).1))
+    (kind : Loop) (re : expression.Tree) (ps : List Piece) (r : Reading) → after_pieces (Some begin) ps ≡ Some r
+    → is_done r ≡ true →
+    (s : Reading) × (after_pieces (Some begin) (Loops kind re ∷ ps) ≡ Some s) × (is_done s ≡ true)
+    × (whole s ≡ (Missing, tree.Loops kind re (body_of r.line).0 (body_of r.line).1))
 
 -- each of these lines is a command by itself
 abbrev pub AreLines : List (List Piece) → List Command → Type 0
 AreLines [] [] = Unit {0}
 AreLines [] (c ∷ cs) = ⊥
 AreLines (line ∷ lines) [] = ⊥
-AreLines (line ∷ lines) (c ∷ cs) = ((r : Reading) × (after_pieces (Some begin) line ≡ Some r) × (is_done r ≡ true) × (whole r ≡ c)) × AreLines lines cs
+AreLines (line ∷ lines) (c ∷ cs) =
+    ((r : Reading) × (after_pieces (Some begin) line ≡ Some r) × (is_done r ≡ true) × (whole r ≡ c)) × AreLines lines cs
 
 -- the lines, each with its end
 abbrev pub ended_lines : List (List Piece) → List Piece
@@ -55,4 +59,5 @@ ended_lines (line ∷ lines) = line ++ EndsLine ∷ ended_lines lines
 abbrev pub BlocksHoldTheirLines : Type 0
 BlocksHoldTheirLines =
     (lines : List (List Piece)) (cs : List Command) → AreLines lines cs →
-    after_pieces (Some begin) (Opens ∷ EndsLine ∷ (ended_lines lines ++ Closes ∷ [])) ≡ Some (record { blocks = []; line = Ended (Missing, Block (commands_of cs)) })
+    after_pieces (Some begin) (Opens ∷ EndsLine ∷ (ended_lines lines ++ Closes ∷ []))
+    ≡ Some (record { blocks = []; line = Ended (Missing, Block (commands_of cs)) })

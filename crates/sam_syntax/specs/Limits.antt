@@ -1,7 +1,8 @@
 -- How large commands are.
 use Rattle.std.specs.Prelude.{ℕ, ◌+◌, ◌||◌, Bool, nat_lt, max}
 use Rattle.addr_syntax.specs.Tree as address
-use Rattle.edit_parts.specs.Tree.{Action, Commands, Command, Nothing, Append, Change, Insert, Delete, Substitute, Move, Copy, Print, LineNumber, RuneNumber, Loops, Block, Asks, Done, Then}
+use Rattle.edit_parts.specs.Tree.{Action, Commands, Command, Nothing, Append, Change, Insert, Delete, Substitute, Move}
+use Rattle.edit_parts.specs.Tree.{Copy, Print, LineNumber, RuneNumber, Loops, Block, Asks, Done, Then}
 use Rattle.edit_parts.specs.Limits as part
 use Rattle.edit_parts.specs.Limits.{is_long_address}
 

@@ -19,7 +19,8 @@ use Rattle.sam_syntax.specs.Texts.{up_to_slash, rest_of_line, text, quoted_expre
 
 -- the expression of a loop; `x` may be written without one
 abbrev pub loop_expression : Loop → List ℕ → Cut expression.Tree
-loop_expression ForEach behind = if is_next slash (next_of behind) then quoted_expression behind else Some (whole_lines, behind)
+loop_expression ForEach behind =
+    if is_next slash (next_of behind) then quoted_expression behind else Some (whole_lines, behind)
 loop_expression ForBetween behind = quoted_expression behind
 loop_expression Where behind = quoted_expression behind
 loop_expression WhereNot behind = quoted_expression behind
@@ -27,7 +28,9 @@ loop_expression WhereNot behind = quoted_expression behind
 -- the parts of `s`: its number, `/re/`, `t/`, and maybe a `g`
 abbrev pub substitution : List ℕ → Cut Action
 substitution behind =
-    cut_on (nth behind) (λ n re_from. cut_on (quoted_expression re_from) (λ re with_from. cut_on (up_to_slash false with_from) (λ with end. cut_as (tree.Substitute n re with) (all (after_blanks end)))))
+    cut_on (nth behind) (λ n re_from. cut_on (quoted_expression re_from)
+    (λ re with_from. cut_on (up_to_slash false with_from)
+    (λ with end. cut_as (tree.Substitute n re with) (all (after_blanks end)))))
 
 -- the lines of `=`, or the runes of `=#`
 abbrev pub place : List ℕ → Cut Action

@@ -11,7 +11,8 @@ use Rattle.edit_parts.specs.Kinds.{loop_of}
 use Rattle.edit_parts.specs.Limits as part
 use Rattle.edit_parts.specs.Limits.{is_large_expression, is_long_address}
 use Rattle.edit_parts.specs.Pieces.{Piece, Blank, EndsLine, At, Loops, Opens, Closes, Does}
-use Rattle.sam_syntax.specs.Joined.{Head, OpenBlock, Line, Opened, Looping, Addressed, Ended, Reading, Start, is_done, after_piece, whole}
+use Rattle.sam_syntax.specs.Joined.{Head, OpenBlock, Line, Opened, Looping, Addressed, Ended, Reading, Start, is_done}
+use Rattle.sam_syntax.specs.Joined.{after_piece, whole}
 use Rattle.sam_syntax.specs.Limits.{levels, is_large, is_deep}
 use Rattle.sam_syntax.specs.Position.{position_of, position_if}
 use Rattle.sam_syntax.specs.Depth.{depth}
@@ -32,7 +33,11 @@ head_of h = record { addr = address.tree_of h.addr; kind = loop_of h.kind; re = 
 
 -- an open block of the program
 abbrev pub block_is : block.OpenBlock → OpenBlock
-block_is b = record { heads = map head_of b.heads.items; addr = address.tree_of b.addr; commands = map command b.commands.items }
+block_is b = record {
+  heads = map head_of b.heads.items;
+  addr = address.tree_of b.addr;
+  commands = map command b.commands.items;
+}
 
 -- what stands before a command, of the program
 abbrev pub start_is : start.Start → Start
@@ -51,17 +56,21 @@ reading_of s = record { blocks = map block_is s.blocks.items; line = line_is s.l
 
 -- a sheet is the next behind a piece
 abbrev pub IsNext : sheet.Sheet → Piece → sheet.Sheet → Type 0
-IsNext old p new = (after_piece (reading_of old) p ≡ Some (reading_of new)) × (old.depth ≡ depth (reading_of old) → new.depth ≡ depth (reading_of new))
+IsNext old p new =
+    (after_piece (reading_of old) p ≡ Some (reading_of new))
+    × (old.depth ≡ depth (reading_of old) → new.depth ≡ depth (reading_of new))
 
 -- The program builds inside the limits; past one it knows which, and where it is.
 abbrev pub Follows : Progress → Reading → Type 0
-Follows (Whole s) r = (reading_of s ≡ r) × (s.depth ≡ depth r) × (is_large (whole r) ≡ false) × (is_deep (whole r) ≡ false)
+Follows (Whole s) r =
+    (reading_of s ≡ r) × (s.depth ≡ depth r) × (is_large (whole r) ≡ false) × (is_deep (whole r) ≡ false)
 Follows (Past at Deep) r = (at ≡ position_of r) × (is_large (whole r) ≡ false) × (is_deep (whole r) ≡ true)
 Follows (Past at Large) r = (at ≡ position_of r) × (is_large (whole r) ≡ true)
 
 -- what is read goes on with the piece to a place, where the program has this
 abbrev pub GoesTo : Reading → Piece → Position → Progress → Type 0
-GoesTo r p next new = position_if (after_piece r p) ≡ Some next → (s : Reading) × (after_piece r p ≡ Some s) × Follows new s
+GoesTo r p next new =
+    position_if (after_piece r p) ≡ Some next → (s : Reading) × (after_piece r p ≡ Some s) × Follows new s
 
 -- the program's answer to the piece: what is read with it, or that no command goes on so
 abbrev pub Joins : Progress → Piece → Position → Option Progress → Type 0

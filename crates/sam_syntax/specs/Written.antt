@@ -16,7 +16,8 @@ without_blanks (p ∷ row) = p ∷ without_blanks row
 
 -- an address, which may be left out, and then what is done there
 abbrev pub AtAddress : address.Tree → (List Piece → List Piece → Type 0) → List Piece → List Piece → Type 0
-AtAddress a Acts row rest = ((a ≡ Missing) × Acts row rest) ⊎ ((behind : List Piece) × (row ≡ At a ∷ behind) × Acts behind rest)
+AtAddress a Acts row rest =
+    ((a ≡ Missing) × Acts row rest) ⊎ ((behind : List Piece) × (row ≡ At a ∷ behind) × Acts behind rest)
 
 -- behind a loop stands its command; where nothing stands there, that is `p`
 abbrev pub InLoop : address.Tree → Action → (List Piece → List Piece → Type 0) → List Piece → List Piece → Type 0
@@ -26,14 +27,16 @@ abbrev mutual
   -- what a command does: nothing, a loop, a block that begins with `{` and a newline, or a letter with its parts
   pub Acts : Action → List Piece → List Piece → Type 0
   Acts Nothing row rest = row ≡ rest
-  Acts (Loops kind re a act) row rest = (behind : List Piece) × (row ≡ piece.Loops kind re ∷ behind) × InLoop a act (Acts act) behind rest
+  Acts (Loops kind re a act) row rest = (behind : List Piece) × (row ≡ piece.Loops kind re ∷ behind)
+      × InLoop a act (Acts act) behind rest
   Acts (Block all) row rest = (lines : List Piece) × (row ≡ Opens ∷ EndsLine ∷ lines) × Lines all lines rest
   Acts act row rest = row ≡ Does act ∷ rest
 
   -- the commands of a block, each with a newline behind it, and `}`
   pub Lines : Commands → List Piece → List Piece → Type 0
   Lines Done row rest = row ≡ Closes ∷ rest
-  Lines (Then a act more) row rest = (next : List Piece) × AtAddress a (Acts act) row (EndsLine ∷ next) × Lines more next rest
+  Lines (Then a act more) row rest = (next : List Piece) × AtAddress a (Acts act) row (EndsLine ∷ next)
+      × Lines more next rest
 
 -- a command
 abbrev pub Begins : Command → List Piece → List Piece → Type 0

@@ -5,6 +5,8 @@ ghost use Rattle.edit_parts.specs.Tree.{Command};
 ghost use Rattle.sam_syntax.specs.Grammar.{IsEdit};
 ghost use Rattle.sam_syntax.specs.Laws.{JoinsAsWritten, EditsAreWritten, LoopsTakeTheRest, BlocksHoldTheirLines};
 
+pub use crate::tree_laws::edits_have_commands;
+
 /// A text has one command at most.
 pub fn an_edit_has_one_tree()
     ensures { (text : List ℕ) (a b : Command) → IsEdit text a → IsEdit text b → a ≡ b }

@@ -1,7 +1,8 @@
-//! Edit's commands, as sam has them: how they are written, a reader of them, and the command that a text is, as a function of the text.
+//! Edit's commands, as sam has them: how they are written, a reader of them, and the command that a text is,
+//! as a function of the text.
 #![tactic(auto)]
 
-mod laws;
+pub mod laws;
 mod parser;
 mod position;
 mod progress;
@@ -11,9 +12,5 @@ mod tree_laws;
 
 pub use addr_syntax::parse_addr;
 pub use edit_parts::{Act, Addr, Cmd, Cmds, SynFault};
-pub use laws::{
-    a_block_holds_its_lines, a_loop_takes_the_rest, an_edit_has_one_tree, an_edit_is_as_written,
-};
 pub use parser::parse_edit;
 pub use reader::read_edit;
-pub use tree_laws::edits_have_commands;

@@ -22,7 +22,8 @@ fn step(
 ) -> Result<(Progress, usize), SynFault>
     requires { at < length text.now }
     ensures on { IfOk result (λ a. at < a.1) }
-    ensures ok { IfOk result (λ a. (r : Reading) → Reaches text.now at r → Follows progress r → (s : Reading) × Reaches text.now a.1 s × Follows a.0 s) }
+    ensures ok { IfOk result (λ a. (r : Reading) → Reaches text.now at r → Follows progress r → (s : Reading)
+        × Reaches text.now a.1 s × Follows a.0 s) }
     ensures err { IfErr result (λ e. (r : Reading) → Reaches text.now at r → Follows progress r → Refuses text.now e) }
 {
     let Some(next) = after_kind(position_of(&progress), kind_of(text[at])) else {

@@ -1,7 +1,8 @@
 //! Where in a command the reader is.
 
 ghost use Rattle.std.specs.Prelude.{◌≡◌, ◌+◌, ◌<◌, ◌^◌};
-ghost use Rattle.sam_syntax.specs.Position.{behind_start, behind_address, behind_block, behind_line, after_kind, is_end};
+ghost use Rattle.sam_syntax.specs.Position.{behind_start, behind_address, behind_block, behind_line, after_kind};
+ghost use Rattle.sam_syntax.specs.Position.{is_end};
 
 use edit_parts::Kind;
 

@@ -13,7 +13,8 @@ ghost use Rattle.edit_parts.specs.Answer.{IsToken, IsBuiltExpression, IsBuiltAct
 ghost use Rattle.sam_syntax.specs.Limits.{levels};
 ghost use Rattle.sam_syntax.specs.Joined.{Reading, begin, is_done, whole};
 ghost use Rattle.sam_syntax.specs.Position.{place_of, position_of};
-ghost use Rattle.sam_syntax.specs.Read.{line_is, Follows, GoesTo, Joins, whole_if, is_told_large, piece_large, piece_levels, PastFails, FinishFails};
+ghost use Rattle.sam_syntax.specs.Read.{line_is, Follows, GoesTo, Joins, whole_if, is_told_large, piece_large};
+ghost use Rattle.sam_syntax.specs.Read.{piece_levels, PastFails, FinishFails};
 ghost use Rattle.sam_syntax.specs.Answer.{IsInLimits};
 
 use crate::position::{Place, Position, is_end};
@@ -74,7 +75,8 @@ pub fn position_of(progress: &Progress) -> Position
     }
 }
 
-// Past a limit all that is built is let go. A call does it, so that the check of this function doesn't go into the tree's type.
+// Past a limit all that is built is let go. A call does it, so that the check of this function doesn't
+// go into the tree's type.
 fn past(sheet: Sheet, next: Position, limit: Limit) -> Option<Progress>
     ensures { result ≡ Some (Progress.Past next limit) }
 {
@@ -108,7 +110,8 @@ fn with_small_loop(
     re: Re,
     next: Position,
 ) -> Result<Option<Progress>, NoMemory>
-    ensures { IfOk result (λ o. (t : expression.Tree) → IsBuiltExpression (Some re) t → Joins (Progress.Whole sheet) (piece.Loops (loop_of kind) t) next o) }
+    ensures { IfOk result (λ o. (t : expression.Tree) → IsBuiltExpression (Some re) t
+        → Joins (Progress.Whole sheet) (piece.Loops (loop_of kind) t) next o) }
 {
     if sheet.depth < MOST {
         Ok(whole_if(join_loop(sheet, kind, re)?))
@@ -123,7 +126,8 @@ fn with_loop(
     re: Option<Re>,
     next: Position,
 ) -> Result<Option<Progress>, NoMemory>
-    ensures { IfOk result (λ o. (t : expression.Tree) → IsBuiltExpression re t → Joins (Progress.Whole sheet) (piece.Loops (loop_of kind) t) next o) }
+    ensures { IfOk result (λ o. (t : expression.Tree) → IsBuiltExpression re t
+        → Joins (Progress.Whole sheet) (piece.Loops (loop_of kind) t) next o) }
 {
     match re {
         Some(re) => with_small_loop(sheet, kind, re, next),
@@ -147,7 +151,8 @@ fn with_action(
     built: Limited<Act>,
     next: Position,
 ) -> Result<Option<Progress>, NoMemory>
-    ensures { IfOk result (λ o. (act : Action) → IsBuiltAction built act → levels act ≡ 0 → Joins (Progress.Whole sheet) (Does act) next o) }
+    ensures { IfOk result (λ o. (act : Action) → IsBuiltAction built act → levels act ≡ 0
+        → Joins (Progress.Whole sheet) (Does act) next o) }
 {
     match built {
         Limited::Whole(act) => Ok(whole_if(join_action(alloc, sheet, act)?)),
@@ -162,7 +167,8 @@ fn with_token(
     token: Token,
     next: Position,
 ) -> Result<Option<Progress>, NoMemory>
-    ensures { IfOk result (λ o. (p : Piece) → IsToken token p → piece_levels p ≡ 0 → Joins (Progress.Whole sheet) p next o) }
+    ensures { IfOk result (λ o. (p : Piece) → IsToken token p → piece_levels p ≡ 0
+        → Joins (Progress.Whole sheet) p next o) }
 {
     match token {
         Token::Blank => Ok(Some(Progress::Whole(sheet))),
@@ -218,15 +224,16 @@ fn worse(limit: Limit, large: bool) -> Limit
 
 // Past a limit, a token is let go, by a call as in `past`.
 fn past_on(limit: Limit, token: Token, next: Position) -> Progress
-    ensures { (p : Piece) → IsToken token p → result ≡ Progress.Past next (if piece_large p then Limit.Large else limit) }
+    ensures { (p : Piece) → IsToken token p → result
+        ≡ Progress.Past next (if piece_large p then Limit.Large else limit) }
 {
     let large = is_large(&token);
     drop(token);
     Progress::Past(next, worse(limit, large))
 }
 
-/// What is read with one token more, behind which the reader is at the position; `None` where no command goes on so, which
-/// `after_kind` tells before.
+/// What is read with one token more, behind which the reader is at the position; `None` where no command goes on so,
+/// which `after_kind` tells before.
 pub fn join(
     alloc: Global,
     progress: Progress,
@@ -250,7 +257,8 @@ pub fn begin(alloc: Global) -> Progress
 
 // The command of all that is read, where it may end here.
 fn whole(alloc: Global, progress: Progress) -> Result<Cmd, SynFault>
-    ensures ok { IfOk result (λ c. (r : Reading) → Follows progress r → is_done r ≡ true → (command c ≡ whole r) × IsInLimits (whole r)) }
+    ensures ok { IfOk result (λ c. (r : Reading) → Follows progress r → is_done r ≡ true → (command c ≡ whole r)
+        × IsInLimits (whole r)) }
     ensures err { IfErr result (λ e. (r : Reading) → Follows progress r → PastFails r e) }
 {
     match progress {
@@ -270,7 +278,8 @@ fn short(progress: Progress, end: usize) -> Result<Cmd, SynFault>
 
 /// The command of all that is read.
 pub fn finish(alloc: Global, progress: Progress, end: usize) -> Result<Cmd, SynFault>
-    ensures ok { IfOk result (λ c. (r : Reading) → Follows progress r → (is_done r ≡ true) × (command c ≡ whole r) × IsInLimits (whole r)) }
+    ensures ok { IfOk result (λ c. (r : Reading) → Follows progress r → (is_done r ≡ true) × (command c ≡ whole r)
+        × IsInLimits (whole r)) }
     ensures err { IfErr result (λ e. (r : Reading) → Follows progress r → FinishFails end r e) }
 {
     if is_end(position_of(&progress)) {

@@ -11,8 +11,8 @@ use edit_parts::{Cmd, SynFault};
 use std::alloc::Global;
 
 /// The command of Edit that the whole text is, after sam(1), and `None` where it is none inside the limits: no
-/// expression of more than 2,048 nodes, at most 32 levels (a block and each of `x y g v` is one), and no address of more
-/// than 1,024 operators.
+/// expression of more than 2,048 nodes, at most 32 levels (a block and each of `x y g v` is one), and no address of
+/// more than 1,024 operators.
 pub fn read_edit(alloc: Global, text: &[Rune]) -> Result<Option<Cmd>, NoMemory>
     ensures { IfOk result (λ found. option_map command found ≡ small_edit text.now) }
 {

@@ -12,7 +12,8 @@ ghost use Rattle.edit_parts.specs.Pieces as piece;
 ghost use Rattle.edit_parts.specs.Pieces.{EndsLine, At, Opens, Closes, Does};
 ghost use Rattle.sam_syntax.specs.Limits.{level_limit};
 ghost use Rattle.sam_syntax.specs.Depth.{heads_of};
-ghost use Rattle.sam_syntax.specs.Joined.{Looping, begin, in_loops, command_of, with_command, with_line, block_of, start_of, after_piece};
+ghost use Rattle.sam_syntax.specs.Joined.{Looping, begin, in_loops, command_of, with_command, with_line, block_of};
+ghost use Rattle.sam_syntax.specs.Joined.{start_of, after_piece};
 ghost use Rattle.sam_syntax.specs.Read.{head_of, block_is, line_is, start_is, reading_of, IsNext};
 
 use am_text::NoMemory;
@@ -67,7 +68,8 @@ pub struct Sheet {
 
 // A loop over a command.
 fn loop_act(alloc: Global, kind: Loop, re: Re, inner: Cmd) -> Result<Act, NoMemory>
-    ensures { IfOk result (λ act. action act ≡ Loops (loop_of kind) (expression.tree re) (command inner).0 (command inner).1) }
+    ensures { IfOk result (λ act. action act ≡ Loops (loop_of kind) (expression.tree re) (command inner).0
+        (command inner).1) }
 {
     let inner = Box::new(alloc, inner)?;
     Ok(match kind {
@@ -232,7 +234,8 @@ pub fn join_address(sheet: Sheet, addr: Addr) -> Option<Sheet>
 pub fn join_loop(sheet: Sheet, kind: Loop, re: Re) -> Result<Option<Sheet>, NoMemory>
     requires { sheet.depth < level_limit }
     ensures some { IfOk result (λ o. IfSome o (IsNext sheet (piece.Loops (loop_of kind) (expression.tree re)))) }
-    ensures none { IfOk result (λ o. IfNone o (after_piece (reading_of sheet) (piece.Loops (loop_of kind) (expression.tree re)) ≡ None)) }
+    ensures none { IfOk result (λ o. IfNone o (after_piece (reading_of sheet)
+        (piece.Loops (loop_of kind) (expression.tree re)) ≡ None)) }
 {
     let Sheet {
         blocks,

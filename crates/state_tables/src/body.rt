@@ -25,7 +25,8 @@ use crate::edits::{edits_line, edits_of, spliced, text_after};
 use crate::fault::Fault;
 use am_text::{Bytes, Items, Letters, Range, Runes, encode, escape};
 use std::alloc::Global;
-use win_text::{Body, TextPlan, settings_are_taken_back};
+use win_text::laws::settings_are_taken_back;
+use win_text::{Body, TextPlan};
 
 // Does a plan, and tells its edits.
 fn done(alloc: Global, body: &mut Body, plan: TextPlan) -> Result<Bytes, Fault>

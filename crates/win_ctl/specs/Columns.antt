@@ -25,7 +25,8 @@ tab_width = 32
 
 -- the columns, then a width, a font and the width of a tab
 unfoldable pub ctl_text : ℕ → ℕ → ℕ → Bool → Bool → List ℕ
-ctl_text id tag body dir modified = columns id tag body dir modified ++ column11 display_width ++ codes "fixed " ++ column11 tab_width
+ctl_text id tag body dir modified =
+    columns id tag body dir modified ++ column11 display_width ++ codes "fixed " ++ column11 tab_width
 
 -- the columns, the first line of the tag, a newline
 unfoldable pub index_line : ℕ → List ℕ → ℕ → Bool → Bool → List ℕ

@@ -1,5 +1,6 @@
 -- Control messages, one line each without its newline.
-use Rattle.std.specs.Prelude.{◌≡◌, ◌≢◌, ℕ, Bool, ◌==◌, ◌||◌, nat_eq, nat_le, List, [], ◌∷◌, length, codes, Option, Some, None, Result, Ok, Err, if◌then◌else◌}
+use Rattle.std.specs.Prelude.{◌≡◌, ◌≢◌, ℕ, Bool, ◌==◌, ◌||◌, nat_eq, nat_le, List, [], ◌∷◌, length, codes, Option, Some}
+use Rattle.std.specs.Prelude.{None, Result, Ok, Err, if◌then◌else◌}
 use Rattle.std.specs.Str.{bytes_eq}
 use Rattle.std.specs.List.{starts_with, list_any}
 use Rattle.am_text.specs.Ascii.{space}
@@ -50,7 +51,8 @@ is_dump line = starts_with nat_eq line (codes "dump ") || starts_with nat_eq lin
 unfoldable pub plain_msg : List ℕ → Option CtlMsg
 plain_msg line = if is_dump line
     then Some msg.Idle
-    else or_else (message_beside range_messages line) (or_else (message_beside window_messages line) (message_beside idle_messages line))
+    else or_else (message_beside range_messages line)
+    (or_else (message_beside window_messages line) (message_beside idle_messages line))
 
 -- a rune is at most U+0020
 abbrev pub has_blank : List ℕ → Bool

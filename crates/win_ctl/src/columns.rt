@@ -46,9 +46,9 @@ fn columns(
     Ok(bytes)
 }
 
-/// What a read of a window's `ctl` gives: the number of the window, the runes in its tag and in its body, whether it is a
-/// directory and whether it is modified (1 or 0), then 800, `fixed` and 32 in place of the width, the font and the tab of
-/// a display.
+/// What a read of a window's `ctl` gives: the number of the window, the runes in its tag and in its body, whether
+/// it is a directory and whether it is modified (1 or 0), then 800, `fixed` and 32 in place of the width, the font
+/// and the tab of a display.
 #[tactic(auto, unfolding(crate::specs::Columns::ctl_text))]
 pub fn ctl_text(
     alloc: Global,

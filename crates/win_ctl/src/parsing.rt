@@ -2,7 +2,8 @@
 
 ghost use Rattle.std.specs.Prelude.{◌≡◌, IfOk, IfErr, Ok};
 ghost use Rattle.am_text.specs.Utf8.{decode};
-ghost use Rattle.win_ctl.specs.Messages.{message_beside, range_messages, window_messages, idle_messages, is_dump, plain_msg, has_blank, is_bad_name, name_msg, ctl_of, Refuses};
+ghost use Rattle.win_ctl.specs.Messages.{message_beside, range_messages, window_messages, idle_messages, is_dump};
+ghost use Rattle.win_ctl.specs.Messages.{plain_msg, has_blank, is_bad_name, name_msg, ctl_of, Refuses};
 
 use crate::message::{CtlFault, CtlMsg};
 use am_text::{Rune, SPACE, after_front, decode_whole};
@@ -116,9 +117,9 @@ fn name_msg(alloc: Global, bytes: &[u8]) -> Result<CtlMsg, CtlFault>
     Ok(CtlMsg::Name(name))
 }
 
-/// The control message in one line without its newline. Unknown comes exactly where there is no such message, also where
-/// memory runs out. BadName comes exactly where a name is given that is empty or has a rune of at most 0x20. Only a line
-/// with a name takes memory.
+/// The control message in one line without its newline. Unknown comes exactly where there is no such message, also
+/// where memory runs out. BadName comes exactly where a name is given that is empty or has a rune of at most 0x20. Only
+/// a line with a name takes memory.
 #[tactic(auto, unfolding(crate::specs::Messages::ctl_of))]
 pub fn parse_ctl(alloc: Global, line: &[u8]) -> Result<CtlMsg, CtlFault>
     ensures ok { IfOk result (λ msg. ctl_of line.now ≡ Ok msg) }

@@ -1,5 +1,6 @@
 -- Event messages that are written back.
-use Rattle.std.specs.Prelude.{◌≡◌, ◌<◌, ◌≤◌, ◌^◌, ℕ, Bool, true, false, ◌&&◌, ◌==◌, List, [], ◌∷◌, ◌++◌, length, replicate, nat_le, Option, Some, None, if◌then◌else◌}
+use Rattle.std.specs.Prelude.{◌≡◌, ◌<◌, ◌≤◌, ◌^◌, ℕ, Bool, true, false, ◌&&◌, ◌==◌, List, [], ◌∷◌, ◌++◌, length}
+use Rattle.std.specs.Prelude.{replicate, nat_le, Option, Some, None, if◌then◌else◌}
 use Rattle.std.specs.Char.{is_ascii_digit}
 use Rattle.std.specs.Fmt.{decimal}
 use Rattle.am_text.specs.Ascii.{newline, space}
@@ -11,7 +12,8 @@ use Rattle.win_events.specs.declared.item.BackMsg.{BackMsg}
 use Rattle.win_events.specs.declared.item.Origin.{Origin}
 use Rattle.win_events.specs.declared.item.Origin.TheVariants.{E, F, K, M}
 use Rattle.win_events.specs.declared.item.Sort.{Sort}
-use Rattle.win_events.specs.declared.item.Sort.TheVariants.{BodyDel, TagDel, BodyIns, TagIns, BodyLook, TagLook, BodyExec, TagExec}
+use Rattle.win_events.specs.declared.item.Sort.TheVariants.{BodyDel, TagDel, BodyIns, TagIns, BodyLook, TagLook}
+use Rattle.win_events.specs.declared.item.Sort.TheVariants.{BodyExec, TagExec}
 
 -- whether events of this type can be written back
 abbrev pub is_action : Sort → Bool
@@ -27,7 +29,8 @@ is_action TagExec = true
 -- The bytes are the message, with k blanks before its newline.
 abbrev pub back_text : BackMsg → ℕ → List ℕ
 back_text m k =
-    origin_letter m.origin ∷ sort_letter m.sort ∷ (decimal m.range.q0 ++ space ∷ (decimal m.range.q1 ++ (replicate k space ++ newline ∷ [])))
+    origin_letter m.origin ∷ sort_letter m.sort ∷ (decimal m.range.q0 ++ space
+    ∷ (decimal m.range.q1 ++ (replicate k space ++ newline ∷ [])))
 
 -- The bytes are an event message that is written back.
 pub record IsBack (bytes : List ℕ) (m : BackMsg) : Type 0 where
@@ -41,11 +44,15 @@ pub record IsBack (bytes : List ℕ) (m : BackMsg) : Type 0 where
 
 -- the origin that a letter stands for
 abbrev pub origin_of : ℕ → Option Origin
-origin_of b = if b == letter_E then Some E else (if b == letter_F then Some F else (if b == letter_K then Some K else (if b == letter_M then Some M else None)))
+origin_of b =
+    if b == letter_E then Some E else (if b == letter_F then Some F
+    else (if b == letter_K then Some K else (if b == letter_M then Some M else None)))
 
 -- the type of an action that a letter stands for
 abbrev pub action_of : ℕ → Option Sort
-action_of b = if b == letter_X then Some BodyExec else (if b == letter_x then Some TagExec else (if b == letter_L then Some BodyLook else (if b == letter_l then Some TagLook else None)))
+action_of b =
+    if b == letter_X then Some BodyExec else (if b == letter_x then Some TagExec
+    else (if b == letter_L then Some BodyLook else (if b == letter_l then Some TagLook else None)))
 
 -- the digits in front
 abbrev pub digits : List ℕ → List ℕ

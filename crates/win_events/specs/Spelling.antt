@@ -1,16 +1,19 @@
 -- How the events of a window are spelled.
-use Rattle.std.specs.Prelude.{ℕ, Bool, true, false, ◌||◌, List, [], ◌∷◌, ◌++◌, length, nat_le, Option, Some, None, if◌then◌else◌}
+use Rattle.std.specs.Prelude.{ℕ, Bool, true, false, ◌||◌, List, [], ◌∷◌, ◌++◌, length, nat_le, Option, Some, None}
+use Rattle.std.specs.Prelude.{if◌then◌else◌}
 use Rattle.std.specs.Fmt.{decimal}
 use Rattle.am_text.specs.Ascii.{newline, space}
 use Rattle.am_text.specs.Utf8.{utf8}
 use Rattle.am_text.specs.declared.range.Range.{Range}
-use Rattle.win_events.specs.Letters.{letter_E, letter_F, letter_K, letter_M, letter_D, letter_d, letter_I, letter_i, letter_L, letter_l, letter_X, letter_x}
+use Rattle.win_events.specs.Letters.{letter_E, letter_F, letter_K, letter_M, letter_D, letter_d, letter_I, letter_i}
+use Rattle.win_events.specs.Letters.{letter_L, letter_l, letter_X, letter_x}
 use Rattle.win_events.specs.Limits.{long_text}
 use Rattle.win_events.specs.declared.item.Item.{Item}
 use Rattle.win_events.specs.declared.item.Origin.{Origin}
 use Rattle.win_events.specs.declared.item.Origin.TheVariants.{E, F, K, M}
 use Rattle.win_events.specs.declared.item.Sort.{Sort}
-use Rattle.win_events.specs.declared.item.Sort.TheVariants.{BodyDel, TagDel, BodyIns, TagIns, BodyLook, TagLook, BodyExec, TagExec}
+use Rattle.win_events.specs.declared.item.Sort.TheVariants.{BodyDel, TagDel, BodyIns, TagIns, BodyLook, TagLook}
+use Rattle.win_events.specs.declared.item.Sort.TheVariants.{BodyExec, TagExec}
 
 -- the letter of an origin
 abbrev pub origin_letter : Origin → ℕ

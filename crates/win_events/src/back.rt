@@ -1,7 +1,8 @@
 //! Event messages that are written back.
 
 ghost use Rattle.std.specs.Prelude.{◌≡◌, ◌<◌, ℕ, IfSome, IfNone, length};
-ghost use Rattle.win_events.specs.Back.{IsBack, origin_of, action_of, digits, after_digits, is_end, last_number, in_order, range_of, message_of, back_of};
+ghost use Rattle.win_events.specs.Back.{IsBack, origin_of, action_of, digits, after_digits, is_end, last_number};
+ghost use Rattle.win_events.specs.Back.{in_order, range_of, message_of, back_of};
 ghost use Rattle.win_events.specs.declared.item.BackMsg.{BackMsg};
 
 use crate::item::{BackMsg, Origin, Sort};

@@ -4,7 +4,8 @@ ghost use Rattle.std.specs.Prelude.{◌≡◌, ◌++◌, ◌∷◌, [], length, 
 ghost use Rattle.std.specs.Fmt.{decimal};
 ghost use lib.Utf8.{scalar};
 ghost use Rattle.am_text.specs.Utf8.{rune_bytes, utf8};
-ghost use Rattle.win_events.specs.Spelling.{origin_letter, sort_letter, is_deletion, shown, field, message, first_text, expansion, argument, spelling};
+ghost use Rattle.win_events.specs.Spelling.{origin_letter, sort_letter, is_deletion, shown, field, message, first_text};
+ghost use Rattle.win_events.specs.Spelling.{expansion, argument, spelling};
 
 use crate::item::{Item, Origin, Sort};
 use am_text::{Bytes, NoMemory, Range, Rune};

@@ -1,12 +1,15 @@
 -- The body of a window, as it is kept: its text and ranges as they are now.
-use Rattle.std.specs.Prelude.{◌≡◌, ℕ, ◌+◌, ◌<◌, ◌≤◌, ◌^◌, Bool, List, [], ◌∷◌, ◌++◌, length, drop, slice_range, Option, Some, None}
+use Rattle.std.specs.Prelude.{◌≡◌, ℕ, ◌+◌, ◌<◌, ◌≤◌, ◌^◌, Bool, List, [], ◌∷◌, ◌++◌, length, drop, slice_range, Option}
+use Rattle.std.specs.Prelude.{Some, None}
 use Rattle.std.specs.Option.{option_map}
 use Rattle.am_text.specs.declared.range.Range.{Range}
 use Rattle.edit_log.specs.declared.types.Edit.{Edit}
 use Rattle.edit_log.specs.declared.types.Done.{Done}
 use Rattle.edit_log.specs.Edited.{after, text_after, images}
 use Rattle.edit_log.specs.declared.types.Marking.{Marking}
-use Rattle.edit_log.specs.Groups.{DoneGroup, Log, IsReadyFor, no_marking, goes_on, grown, marking_after, marked_marking, ended, redoing, undoing_group, redoing_group, last_of, first_of, before_last, with_last_of, with_first_of}
+use Rattle.edit_log.specs.Groups.{DoneGroup, Log, IsReadyFor, no_marking, goes_on, grown, marking_after, marked_marking}
+use Rattle.edit_log.specs.Groups.{ended, redoing, undoing_group, redoing_group, last_of, first_of, before_last}
+use Rattle.edit_log.specs.Groups.{with_last_of, with_first_of}
 use Rattle.win_text.specs.declared.types.TextPlan.{TextPlan}
 use Rattle.win_text.specs.declared.types.PlanKind.{PlanKind}
 use Rattle.win_text.specs.declared.types.PlanKind.TheVariants.{Change, Undo, Redo}
@@ -47,7 +50,11 @@ marked_history h automatic = record h { marking = marked_marking h.marking autom
 
 -- after Undo: the last group of past is the first of future, and the next change begins a group
 abbrev pub undone_history : History → History
-undone_history h = record { past = before_last h.past; future = with_last_of h.past h.future; marking = ended h.marking }
+undone_history h = record {
+  past = before_last h.past;
+  future = with_last_of h.past h.future;
+  marking = ended h.marking;
+}
 
 -- after Redo: the first group of future is the last of past, and the next change begins a group
 abbrev pub redone_history : History → History
@@ -265,4 +272,6 @@ pub record IsReady (b : BodyRoom) (plan : TextPlan) : Type 0 where
 
 -- It stays so while the text is the same and the room doesn't fall.
 abbrev pub StaysReady : Type 0
-StaysReady = (b c : BodyRoom) (plan : TextPlan) → IsReady b plan → c.state.text ≡ b.state.text → b.runes ≤ c.runes → b.edits ≤ c.edits → c.ready ≡ b.ready → IsReady c plan
+StaysReady =
+    (b c : BodyRoom) (plan : TextPlan) → IsReady b plan → c.state.text ≡ b.state.text → b.runes ≤ c.runes → b.edits
+    ≤ c.edits → c.ready ≡ b.ready → IsReady c plan

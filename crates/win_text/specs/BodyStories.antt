@@ -3,7 +3,9 @@ use Rattle.std.specs.Prelude.{ℕ, Bool, List, [], ◌++◌, length, drop, Optio
 use Rattle.am_text.specs.declared.range.Range.{Range}
 use Rattle.edit_log.specs.declared.types.Edit.{Edit}
 use Rattle.edit_log.specs.Edited.{text_after}
-use Rattle.win_text.specs.Bodies.{History, no_history, after_group, marked_history, undone_history, redone_history, edits_to_undo, edits_to_redo, put_range, IsLimitInside, moved, AreInRange, done_group, null_range, BodyState}
+use Rattle.win_text.specs.Bodies.{History, no_history, after_group, marked_history, undone_history, redone_history}
+use Rattle.win_text.specs.Bodies.{edits_to_undo, edits_to_redo, put_range, IsLimitInside, moved, AreInRange, done_group}
+use Rattle.win_text.specs.Bodies.{null_range, BodyState}
 use Rattle.win_text.specs.declared.types.TextPlan.{TextPlan}
 use Rattle.win_text.specs.declared.types.PlanKind.TheVariants.{Change}
 
@@ -31,7 +33,13 @@ limit_at at (Some r) = Some (set_at at r)
 
 -- no edit was made, and each range is null at the front
 abbrev pub new_story : BodyStory
-new_story = record { edits = []; dot = set_at 0 null_range; addr = set_at 0 null_range; limit = None; history = no_history }
+new_story = record {
+  edits = [];
+  dot = set_at 0 null_range;
+  addr = set_at 0 null_range;
+  limit = None;
+  history = no_history;
+}
 
 -- ---- what is seen now
 

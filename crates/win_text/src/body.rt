@@ -1,10 +1,14 @@
 //! The body of a window.
 
-ghost use Rattle.std.specs.Prelude.{◌≡◌, ◌<◌, ◌≤◌, ◌+◌, ◌^◌, ◌==◌, not, [], length, take, drop, slice_range, IfOk, IfSome, OnOk};
+ghost use Rattle.std.specs.Prelude.{◌≡◌, ◌<◌, ◌≤◌, ◌+◌, ◌^◌, ◌==◌, not, [], length, take, drop, slice_range, IfOk};
+ghost use Rattle.std.specs.Prelude.{IfSome, OnOk};
 ghost use Rattle.am_text.specs.Utf8.{utf8};
 ghost use Rattle.edit_log.specs.Edited.{text_after};
-ghost use Rattle.win_text.specs.Bodies.{empty_body, IsInside, IsLimitInside, IsSound, AreInRange, moved, moved_limit, group_for, put_length, with_dot, with_addr, with_limit, marked_body, undo_plan_of, redo_plan_of, IsPlanFor, IsReady, applied, history_of};
-ghost use Rattle.win_text.specs.Traces.{total, shape_of, made, settled_shape, trace_of, unmade, CanUnmake, noted_trace, marks_of};
+ghost use Rattle.win_text.specs.Bodies.{empty_body, IsInside, IsLimitInside, IsSound, AreInRange, moved, moved_limit};
+ghost use Rattle.win_text.specs.Bodies.{group_for, put_length, with_dot, with_addr, with_limit, marked_body};
+ghost use Rattle.win_text.specs.Bodies.{undo_plan_of, redo_plan_of, IsPlanFor, IsReady, applied, history_of};
+ghost use Rattle.win_text.specs.Traces.{total, shape_of, made, settled_shape, trace_of, unmade, CanUnmake, noted_trace};
+ghost use Rattle.win_text.specs.Traces.{marks_of};
 ghost use Rattle.edit_log.specs.Groups.{last_of, first_of, number_in};
 ghost use Rattle.std.specs.Option.{option_map};
 ghost use Rattle.win_text.specs.BodyStories.{IsChangeOf, moved_or_set, plan_of};
@@ -50,7 +54,13 @@ impl Model for Body {
 
     ghost Value = { BodyRoom };
 
-    ghost view = { λ b. record { state = state_of b.text.items b.dot b.addr b.limit b.log; forgotten = b.log.forgotten; runes = b.text.spare; edits = b.log.room; ready = b.log.ready } };
+    ghost view = { λ b. record {
+      state = state_of b.text.items b.dot b.addr b.limit b.log;
+      forgotten = b.log.forgotten;
+      runes = b.text.spare;
+      edits = b.log.room;
+      ready = b.log.ready;
+    } };
 
     ghost invariant = { λ b. IsSound (state_of b.text.items b.dot b.addr b.limit b.log) };
 }
@@ -98,6 +108,7 @@ impl Body {
     pub fn is_sound(&self)
         ensures { IsSound self.now.state }
     {
+        // law: it is the invariant of a body, known once a field is read
         let _dot = self.dot;
     }
 
@@ -174,7 +185,8 @@ impl Body {
     /// The plan of a change by the step of this number: these edits, and dot after them, or where dot moves with them.
     pub fn plan(&self, edits: Edits, dot: Option<Range>, number: u64) -> Result<TextPlan, NoMemory>
         requires { IsChangeOf self.now.state.text (record { edits = edits; dot = dot }) }
-        ensures plan { IfOk result (λ plan. plan ≡ plan_of self.now.state (record { edits = edits; dot = dot }) number) }
+        ensures plan { IfOk result (λ plan. plan ≡ plan_of self.now.state
+            (record { edits = edits; dot = dot }) number) }
         ensures sound { IfOk result (λ plan. IsPlanFor self.now.state plan) }
     {
         let dot = self.dot_after(edits.as_slice(), dot)?;
@@ -269,6 +281,7 @@ impl Body {
         ensures trace { result ≡ noted_trace self.now.state }
         ensures sound { IsSound self.now.state }
     {
+        // law: the ranges of a body are inside its text
         self.is_sound();
         Trace {
             kind: TraceKind::Nothing,

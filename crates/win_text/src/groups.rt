@@ -3,9 +3,11 @@
 ghost use Rattle.std.specs.Prelude.{◌≡◌, ◌<◌, ◌≤◌, ◌+◌, ◌^◌, length, IfOk, OnOk};
 ghost use Rattle.edit_log.specs.Groups.{IsReadyFor, inverse, again, undoing, redoing};
 ghost use Rattle.edit_log.specs.Edited.{after, text_after};
-ghost use Rattle.win_text.specs.Bodies.{IsEditOf, AreInRange, done_edit, done_group, put_length, history_of, after_group, history_after, noted, IsLogReady};
+ghost use Rattle.win_text.specs.Bodies.{IsEditOf, AreInRange, done_edit, done_group, put_length, history_of};
+ghost use Rattle.win_text.specs.Bodies.{after_group, history_after, noted, IsLogReady};
 ghost use Rattle.win_text.specs.Kept.{HasGroupFor};
-ghost use Rattle.win_text.specs.Traces.{forgotten_with, forgotten_after, change_kind, kind_of, back_edits, back_past, back_future, back_forgotten, HasGroups, Fits};
+ghost use Rattle.win_text.specs.Traces.{forgotten_with, forgotten_after, change_kind, kind_of, back_edits, back_past};
+ghost use Rattle.win_text.specs.Traces.{back_future, back_forgotten, HasGroups, Fits};
 
 use crate::types::{PlanKind, TextPlan, TraceKind};
 use am_text::{Items, NoMemory, Runes};
@@ -119,6 +121,7 @@ fn undo_edit(text: &mut RuneText, done: &Done)
     ensures items { text.new.items ≡ after text.old.items (inverse done.now) }
     ensures total { length text.new.items + text.new.spare ≡ length text.old.items + text.old.spare }
 {
+    // law: a text has fewer than 2^64 runes, known once its length is asked
     let _len = text.len();
     text.replace(done.q0, done.q0 + done.put.len(), done.cut.as_slice());
 }
@@ -130,6 +133,7 @@ fn redo_edit(text: &mut RuneText, done: &Done)
     ensures items { text.new.items ≡ after text.old.items (again done.now) }
     ensures total { length text.new.items + text.new.spare ≡ length text.old.items + text.old.spare }
 {
+    // law: a text has fewer than 2^64 runes, known once its length is asked
     let _len = text.len();
     text.replace(done.q0, done.q0 + done.cut.len(), done.put.as_slice());
 }
@@ -164,7 +168,8 @@ fn redo_edits(text: &mut RuneText, group: &[Done])
 pub(crate) fn take_back(text: &mut RuneText, log: &mut UndoLog, kind: TraceKind)
     requires groups { HasGroups kind (history_of log.old) log.old.forgotten }
     requires range { AreInRange text.old.items (back_edits kind (history_of log.old)) }
-    requires fits { Fits (length text.old.items + text.old.spare) text.old.items (back_edits kind (history_of log.old)) }
+    requires fits { Fits (length text.old.items + text.old.spare) text.old.items
+        (back_edits kind (history_of log.old)) }
     ensures items { text.new.items ≡ text_after text.old.items (back_edits kind (history_of log.old)) }
     ensures total { length text.new.items + text.new.spare ≡ length text.old.items + text.old.spare }
     ensures past { log.new.past ≡ back_past kind (history_of log.old) }
