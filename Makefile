@@ -27,7 +27,8 @@ stage = out/dist/acmefs-$(VERSION)
 # copies a file as it stands, with the folders above it
 copy = copy() { $(INSTALL) -D -m $$([ -x "$$1" ] && echo 755 || echo 644) "$$1" "$$2"; }; set -e
 # the usage without the launcher, which isn't installed
-usage = awk -v RS= -v ORS='\n\n' '!/\.\/acmefs/' docs/manual/usage.txt | sed '/^status 70:/d'
+usage = awk -v RS= -v ORS='\n\n' '!/\.\/acmefs/' docs/manual/usage.txt | \
+  sed -e '/^status 70:/d' -e 's/^More: .*/More: acmefs(1), acmefs-clients(7)/'
 figures = if [ -f FIGURES ]; then cat FIGURES; else packaging/figures $(PROGRAM); fi
 
 .PHONY: all install install-program install-tools install-man install-doc uninstall dist clean

@@ -79,7 +79,7 @@ def does_replay(program: str, said: Union[IO[str], int]) -> bool:
 def build(why: str) -> None:
     """Proves and builds the program, and tries it on a transcript without lines. The stamp has the time of the start,
     so that a source which changes meanwhile is seen at the next use."""
-    say(f"{why}; proving and building the program (./acmefs --unproved runs it at once, unproved)")
+    say(f"{why}; proving and building the program (./acmefs --unproved runs it in some two minutes, unproved)")
     os.makedirs(os.path.dirname(SAID), exist_ok=True)
     with open(SAID, "w+", encoding="utf-8", errors="replace") as said:
         said.write(f"{why}\n")

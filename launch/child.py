@@ -5,7 +5,7 @@ import os
 import resource
 import signal
 import subprocess
-from typing import Iterator, List, Optional
+from typing import Any, Callable, Iterator, List, Optional, Union
 
 from launch.telling import fail, say
 
@@ -16,6 +16,7 @@ PASSED = [signal.SIGHUP, signal.SIGINT, signal.SIGQUIT, signal.SIGALRM, signal.S
 ENDS = [signal.SIGHUP, signal.SIGINT, signal.SIGQUIT, signal.SIGTERM]
 # how long a build may take to end by a signal, in seconds
 GRACE = 10
+Handler = Union[Callable[[int, Any], Any], signal.Handlers]
 
 
 class Ended(BaseException):
@@ -33,7 +34,7 @@ def hear_interrupts() -> None:
         signal.signal(signal.SIGINT, signal.SIG_DFL)
 
 
-def handle(numbers: List[signal.Signals], handler) -> None:
+def handle(numbers: List[signal.Signals], handler: Handler) -> None:
     """Has signals go to a handler. One that was ignored from the start stays so."""
     for number in numbers:
         if signal.getsignal(number) != signal.SIG_IGN:
@@ -49,12 +50,12 @@ def end_by(number: int) -> None:
 
 
 @contextlib.contextmanager
-def build_step(words: List[str], **ways) -> Iterator[subprocess.Popen]:
+def build_step(words: List[str], **ways: Any) -> Iterator[subprocess.Popen]:
     """A child that builds. A signal that ends the launcher ends it, and it ends what it started."""
     process: Optional[subprocess.Popen] = None
     early: List[int] = []
 
-    def ends(number, _):
+    def ends(number: int, _: object) -> None:
         if process is None:
             early.append(number)
         else:
@@ -97,12 +98,12 @@ def ended(status: int, by: int = 0) -> int:
     return status
 
 
-def run(words: List[str], **ways) -> int:
+def run(words: List[str], **ways: Any) -> int:
     """The status of a command that is run as a child, which gets the signals that come to the launcher."""
     process: Optional[subprocess.Popen] = None
     early: List[int] = []
 
-    def passes(number, _):
+    def passes(number: int, _: object) -> None:
         early.append(number) if process is None else process.send_signal(number)
 
     handle(PASSED, passes)

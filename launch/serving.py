@@ -12,7 +12,7 @@ import stat
 import subprocess
 import tempfile
 import time
-from typing import Dict, List, NamedTuple, Optional
+from typing import Any, Dict, List, NamedTuple, Optional
 
 from launch import child
 from launch.telling import fail, say
@@ -131,11 +131,11 @@ class Server:
         # the signal that was passed on
         self.passed = 0
 
-    def start(self, words: List[str], **ways) -> None:
+    def start(self, words: List[str], **ways: Any) -> None:
         """Starts it. The signals that ask for a clean end come to the launcher alone, also those of a terminal, which
         come to both. Its sockets are for the user alone, whatever the umask is."""
 
-        def begins():
+        def begins() -> None:
             os.umask(UMASK)
             for it in (signal.SIGHUP, signal.SIGINT):
                 signal.signal(it, signal.SIG_IGN)
@@ -147,7 +147,7 @@ class Server:
         for number in self.early:
             self.gets(number)
 
-    def gets(self, number: int, _=None) -> None:
+    def gets(self, number: int, _: object = None) -> None:
         """What a signal to the launcher does."""
         if self.process is None:
             self.early.append(number)

@@ -1,6 +1,6 @@
 /*
- * A stand-in for the command 9p of plan9port, written from its pages 9p(1), namespace(1) and intro(9p). It knows nothing
- * of this repository: a service's socket is $NAMESPACE/SERVICE, or that of the user and the display, each run is one
+ * A stand-in for the command 9p of plan9port, written from its pages 9p(1), namespace(1) and intro(9p). It knows
+ * nothing of this repository: a service's socket is $NAMESPACE/SERVICE, or that of the user and the display, each run is one
  * connection, which attaches with no name, and messages have at most 8,192 bytes.
  *
  *     9p read SERVICE/FILE            writes the file to the standard output, read by read
@@ -9,6 +9,7 @@
  *     9p ls SERVICE[/FOLDER]          the names in a folder, a line each
  */
 #include <errno.h>
+#include <signal.h>
 #include <stdint.h>
 #include <stdio.h>
 #include <stdlib.h>
@@ -92,11 +93,11 @@ static void ask(const char *of) {
 static void dial(const char *service, size_t length) {
     struct sockaddr_un to = {.sun_family = AF_UNIX};
     const char *namespace = getenv("NAMESPACE"), *user = getenv("USER"), *display = getenv("DISPLAY");
-    int n;
+    int n, cut = display && strlen(display) > 2 && !strcmp(display + strlen(display) - 2, ".0") ? 2 : 0;
     if (namespace) n = snprintf(to.sun_path, sizeof to.sun_path, "%s/%.*s", namespace, (int)length, service);
     else
-        n = snprintf(to.sun_path, sizeof to.sun_path, "/tmp/ns.%s.%s/%.*s", user ? user : "none",
-                     display ? display : ":0", (int)length, service);
+        n = snprintf(to.sun_path, sizeof to.sun_path, "/tmp/ns.%s.%.*s/%.*s", user ? user : "none",
+                     display ? (int)strlen(display) - cut : 2, display ? display : ":0", (int)length, service);
     if (n < 0 || (size_t)n >= sizeof to.sun_path) fail(service, "name too long");
     server = socket(AF_UNIX, SOCK_STREAM, 0);
     if (server < 0 || connect(server, (struct sockaddr *)&to, sizeof to) < 0) fail(to.sun_path, strerror(errno));
@@ -246,6 +247,7 @@ int main(int count, char **words) {
         return 1;
     }
     const char *name = words[2 + by_lines];
+    signal(SIGPIPE, SIG_IGN);
     size_t length = strcspn(name, "/");
     dial(name, length);
     open_file(name + length, mode);

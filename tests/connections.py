@@ -342,6 +342,15 @@ def writes_a_body(data: bytes) -> Callable[[Client], bool]:
     return does
 
 
+def walks_to(client: Client, names: Sequence[bytes], mode: int) -> bool:
+    """Walks to a file of a window that may not be made yet, and opens it."""
+    for _ in range(SECONDS * 1000):
+        if client.ask(walk(0, 1, names))[4:5] == b"\x6f":
+            return client.ask(opening(1, mode))[4:5] == b"\x71"
+        time.sleep(0.001)
+    return False
+
+
 # ---- cases: functions that take a folder of their own, and give what is wrong, in words
 
 

@@ -25,6 +25,7 @@ import signal
 import socket
 import stat
 import threading
+import time
 from typing import Dict, Iterator, List, Optional
 
 from acme9 import BadMessage, Error, wire
@@ -37,6 +38,8 @@ from .lines import Fault
 MOST_CLIENTS = 64
 # how long a slot may be missing, since the server is only starting, in seconds
 STARTING = 10.0
+# how often it is looked for
+LOOKS = 0.02
 TATTACH = 104
 # what a connection that has ended sends to the front's bell; a signal sends its number
 RUNG = b"\0"
@@ -76,46 +79,68 @@ def pieces_from(stream: socket.socket, tree: Optional[str]) -> Iterator[bytes]:
 
 
 class Relay:
-    """A client and the slot that it got, each with a thread that carries what it sends."""
+    """A client and the slot that it gets, each with a thread that carries what it sends."""
 
-    def __init__(self, client: socket.socket, slot: socket.socket, tree: Optional[str], bell: socket.socket):
-        self.client, self.slot, self.tree, self.bell = client, slot, tree, bell
-        self.has_ended = False
-        self.threads = [threading.Thread(target=it, daemon=True) for it in (self.there, self.back)]
-        for it in self.threads:
-            it.start()
+    def __init__(self, client: socket.socket, path: str, tree: Optional[str], bell: socket.socket):
+        self.client, self.path, self.tree, self.bell = client, path, tree, bell
+        self.slot: Optional[socket.socket] = None
+        self.is_to_end = self.has_ended = False
+        self.thread = threading.Thread(target=self.run, daemon=True)
+        self.thread.start()
 
-    def there(self) -> None:
+    def run(self) -> None:
+        """Connects to the slot and carries what is sent, until both have ended; then the front's bell is rung."""
+        try:
+            self.slot = self.dialled()
+        except Error as why:
+            say(f"a connection is refused: {why}")
+            refuse(self.client, str(why))
+        else:
+            there = threading.Thread(target=self.there, args=(self.slot,), daemon=True)
+            there.start()
+            self.back(self.slot)
+            there.join()
+            self.slot.close()
+        self.client.close()
+        self.has_ended = True
+        with contextlib.suppress(OSError):
+            self.bell.send(RUNG)
+
+    def dialled(self) -> socket.socket:
+        """The slot, which may be missing a while."""
+        last = time.monotonic() + STARTING
+        while True:
+            try:
+                return dial_socket(self.path)
+            except Error:
+                if self.is_to_end or time.monotonic() >= last:
+                    raise
+            time.sleep(LOOKS)
+
+    def there(self, slot: socket.socket) -> None:
         """From the client to the slot. At its end the slot is told, and what it still answers is carried back."""
         try:
             for data in pieces_from(self.client, self.tree):
-                self.slot.sendall(data)
-            self.slot.shutdown(socket.SHUT_WR)
+                slot.sendall(data)
+            slot.shutdown(socket.SHUT_WR)
         except BadMessage as why:
             say(f"a connection is hung up: {why}")
             self.end()
         except OSError:
             self.end()
 
-    def back(self) -> None:
-        """From the slot to the client, until the slot ends; then the front's bell is rung."""
+    def back(self, slot: socket.socket) -> None:
+        """From the slot to the client, until the slot ends."""
         with contextlib.suppress(OSError):
-            for data in pieces_from(self.slot, None):
+            for data in pieces_from(slot, None):
                 self.client.sendall(data)
         self.end()
-        self.has_ended = True
-        with contextlib.suppress(OSError):
-            self.bell.send(RUNG)
 
     def end(self) -> None:
+        self.is_to_end = True
         hang_up(self.client)
-        hang_up(self.slot)
-
-    def join(self) -> None:
-        for it in self.threads:
-            it.join()
-        self.client.close()
-        self.slot.close()
+        if self.slot:
+            hang_up(self.slot)
 
 
 def refuse(client: socket.socket, why: str) -> None:
@@ -171,41 +196,43 @@ def forget(listening: Dict[socket.socket, Optional[str]]) -> None:
 
 
 class Front:
-    """The slots of a server, and which of them are used."""
+    """The slots of a server, and which of them are unused."""
 
     def __init__(self, path: str, clients: int, bell: socket.socket):
-        self.path, self.clients, self.used, self.bell = path, clients, 0, bell
+        self.unused, self.clients, self.bell = [f"{path}.{it}" for it in range(clients)], clients, bell
         self.relays: List[Relay] = []
 
     def take(self, client: socket.socket, tree: Optional[str]) -> None:
         """Gives a client the next slot."""
-        try:
-            if self.used == self.clients:
-                raise Error(f"all {self.clients} slots are used")
-            slot = dial_socket(f"{self.path}.{self.used}", STARTING)
-        except Error as why:
-            say(f"a connection is refused: {why}")
-            threading.Thread(target=refuse, args=(client, str(why)), daemon=True).start()
+        if self.unused:
+            self.relays.append(Relay(client, self.unused.pop(0), tree, self.bell))
             return
-        self.used += 1
-        self.relays.append(Relay(client, slot, tree, self.bell))
+        why = f"all {self.clients} slots are used"
+        say(f"a connection is refused: {why}")
+        threading.Thread(target=refuse, args=(client, why), daemon=True).start()
+
+    def forget_ended(self) -> None:
+        """Forgets the connections that have ended. A slot that none came to is unused."""
+        for it in [it for it in self.relays if it.has_ended]:
+            self.relays.remove(it)
+            if it.slot is None:
+                self.unused.insert(0, it.path)
 
     def is_done(self) -> bool:
         """Whether all slots are used and all of their connections have ended."""
-        for it in [it for it in self.relays if it.has_ended]:
-            it.join()
-            self.relays.remove(it)
-        return self.used == self.clients and not self.relays
+        self.forget_ended()
+        return not self.unused and not self.relays
 
     def end(self) -> bool:
         """Ends all connections and uses up the slots, and tells whether all could be."""
         for it in self.relays:
             it.end()
         for it in self.relays:
-            it.join()
+            it.thread.join()
+        self.forget_ended()
         try:
-            for slot in range(self.used, self.clients):
-                dial_socket(f"{self.path}.{slot}").close()
+            for slot in self.unused:
+                dial_socket(slot).close()
         except Error as why:
             say(f"not all slots could be used up: {why}")
             return False

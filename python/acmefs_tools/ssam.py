@@ -1,7 +1,7 @@
 """usage: acmefs-ssam [-n] [-e SCRIPT] [-f FILE] [SCRIPT] [FILE..]
 
-Edits a text by commands of sam, as ssam(1) does: copies the files, or the standard input, to the standard output, edited
-by a script. When the script begins the whole text is selected. The editor's own command Edit does it.
+Edits a text by commands of sam, as ssam(1) does: copies the files, or the standard input, to the standard output,
+edited by a script. When the script begins the whole text is selected. The editor's own command Edit does it.
 
     -n              only what the script prints is written
     -e SCRIPT       a script; several are one, a line behind the other
@@ -25,7 +25,8 @@ from .program import replayed, transcript
 EDIT = "23 27"
 BAD = "bad command"
 FAULTS = (
-    BAD, "address out of range", "no match", "address out of order", "changes out of sequence", "move overlaps", "text too long",
+    BAD, "address out of range", "no match", "address out of order", "changes out of sequence", "move overlaps",
+    "text too long",
 )  # fmt: skip
 # how many lines of a script may make one command, each of which is tried
 MOST_LINES = 1000
@@ -48,8 +49,8 @@ class Edited:
 def edited(text: str, dot: Tuple[int, int], command: str) -> Edited:
     """What Edit makes of a text. The command is the argument of the word Edit in the tag of the text's window, and
     stands in another one. The letter that is typed first has the tag tell Undo, whatever the text is."""
-    lines = ["new", "key 1 tag :Edit", "key 1 body :x", "sel 1 0 1", f"key 1 body :{escape(text)}", f"sel 1 {dot[0]} {dot[1]}"]
-    lines += ["new", f"key 2 body :{escape(command)}", f"arg 1 tag {EDIT} 2 body 0 {len(command)}"]
+    lines = ["new", "key 1 tag :Edit", "key 1 body :x", "sel 1 0 1", f"key 1 body :{escape(text)}"]
+    lines += [f"sel 1 {dot[0]} {dot[1]}", "new", f"key 2 body :{escape(command)}", f"arg 1 tag {EDIT} 2 body 0 {len(command)}"]
     report = Report.of(report_lines(replayed(transcript(lines))))
     if report.requests:
         raise Fault(f"no program is run here: {report.requests[0].command}")
