@@ -12,9 +12,8 @@ use Rattle.core_scene.specs.declared.deed.Deed.TheVariants as deed
 use Rattle.core_scene.specs.Scenes.{SceneState}
 use Rattle.am_journal.specs.declared.event.Spot.{Spot}
 use Rattle.core_exec.specs.declared.click.Clicked.{Clicked}
-use Rattle.core_exec.specs.declared.running.Executed.{Executed}
 use Rattle.core_exec.specs.Clicks.{clicked_at, own_text, argument_if_any, text_if_any, exec_item, look_item}
-use Rattle.core_exec.specs.Executing.{exec_deeds}
+use Rattle.core_exec.specs.Executing.{Executed, exec_deeds}
 use Rattle.core_exec.specs.Looking.{look_step, look_at_text_deeds}
 
 -- ---- clicks

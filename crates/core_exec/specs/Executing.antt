@@ -26,7 +26,6 @@ use Rattle.core_actions.specs.declared.fault.ActionFault.{ActionFault}
 use Rattle.core_actions.specs.declared.fault.ActionFault.TheVariants as fault
 use Rattle.core_actions.specs.declared.undoing.Move.TheVariants as move
 use Rattle.core_edit.specs.Editing.{edit_deeds}
-use Rattle.core_exec.specs.declared.running.Executed.{Executed}
 
 -- ---- faults are said in the errors window
 
@@ -92,6 +91,11 @@ abbrev pub request : JobKind → ℕ → Option Window → List ℕ → List ℕ
 request k w window text input = deed.Requests (job_of k w window text input) ∷ []
 
 -- ---- a text is executed
+
+-- a text that is executed, and its chord's, if there is one
+pub record Executed : Type 0 where
+  pub text : List ℕ
+  pub chord : Option (List ℕ)
 
 -- what a command does
 unfoldable pub command_deeds : Entry → ℕ → Executed → Command → SceneState → List Deed

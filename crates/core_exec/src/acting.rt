@@ -8,7 +8,6 @@ ghost use Rattle.core_scene.specs.Scenes.{scene_of, kept_of, Did};
 ghost use Rattle.core_exec.specs.Clicks.{IsSpot, own_text, text_if_any, look_item};
 ghost use Rattle.core_exec.specs.Looking.{look_step};
 ghost use Rattle.core_exec.specs.Acting.{exec_click, exec_at_deeds, look_click, look_at_deeds, action_of, act_on_deeds};
-ghost use Rattle.core_exec.specs.Acting.{executed_of};
 
 use crate::click::{Clicked, argument_if_any, clicked_at, own_text};
 use crate::items::{exec_item, look_item};
@@ -169,7 +168,7 @@ fn act(
 ) -> Result<(), NoMemory>
     requires { IsSome (window_at scene.old.windows.present window) }
     ensures ok { OnOk result (Did entry (scene_of scene.old) (scene_of scene.new)
-        (action_of entry window work.0 work.1 (scene_of scene.old))) }
+        (action_of entry window work.0 (record { text = work.1.text; chord = work.1.chord }) (scene_of scene.old))) }
     ensures kept { kept_of scene.new ≡ kept_of scene.old }
 {
     let (sort, executed) = work;
@@ -187,7 +186,13 @@ fn act(
 
 // What is executed or looked at of an item.
 fn of_item(alloc: Global, item: &Item) -> Result<(Sort, Executed), NoMemory>
-    ensures { IfOk result (λ x. x ≡ (item.now.sort, executed_of item.now)) }
+    ensures { IfOk result (λ x. x ≡ (
+      item.now.sort,
+      record {
+        text = own_text item.now.text item.now.expanded;
+        chord = text_if_any item.now.argument;
+      },
+    )) }
 {
     let text = Runes::copied(alloc, own_text(&item.text, &item.expanded))?;
     let chord = text_if_any(alloc, &item.argument)?;

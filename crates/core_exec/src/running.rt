@@ -109,7 +109,8 @@ fn run(
     requires lives { IsSome (window_at scene.old.windows.present window) }
     requires inside { HasItsArgumentIn (length work.0.text) work.1 }
     ensures ok { OnOk result (Did entry (scene_of scene.old) (scene_of scene.new)
-        (command_deeds entry window work.0 work.1 (scene_of scene.old))) }
+        (command_deeds entry window (record { text = work.0.text; chord = work.0.chord }) work.1
+        (scene_of scene.old))) }
     ensures kept { kept_of scene.new ≡ kept_of scene.old }
 {
     let (executed, command) = work;
@@ -145,7 +146,7 @@ pub(crate) fn exec(
 ) -> Result<(), NoMemory>
     requires { IsSome (window_at scene.old.windows.present window) }
     ensures ok { OnOk result (Did entry (scene_of scene.old) (scene_of scene.new)
-        (exec_deeds entry window executed (scene_of scene.old))) }
+        (exec_deeds entry window (record { text = executed.text; chord = executed.chord }) (scene_of scene.old))) }
     ensures kept { kept_of scene.new ≡ kept_of scene.old }
 {
     let command = command_in(&executed);

@@ -16,8 +16,7 @@ use Rattle.core_actions.specs.declared.undoing.Move.{Move}
 use Rattle.core_actions.specs.Undoing.{move_deeds}
 use Rattle.core_exec.specs.Acting.{action_of, act_on_deeds, back_deeds, executed_of}
 use Rattle.core_exec.specs.Clicks.{argument_if_any, clicked_at, own_text}
-use Rattle.core_exec.specs.Executing.{exec_deeds}
-use Rattle.core_exec.specs.declared.running.Executed.{Executed}
+use Rattle.core_exec.specs.Executing.{Executed, exec_deeds}
 use Rattle.core_tasks.specs.Tasks.{task_deeds}
 use Rattle.core_intents.specs.Doings.{entry_by}
 use Rattle.acme_core.specs.Run.{present_after}

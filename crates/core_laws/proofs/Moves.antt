@@ -29,8 +29,7 @@ use Rattle.core_actions.specs.declared.undoing.Move.TheVariants as move
 use Rattle.core_actions.specs.Undoing.{next_group, moves, is_number, moves_from, linked_deeds, move_deeds}
 use Rattle.core_exec.specs.declared.click.Clicked.{Clicked}
 use Rattle.core_exec.specs.Clicks.{own_text, text_if_any}
-use Rattle.core_exec.specs.Executing.{builtin_deeds, command_deeds, exec_deeds}
-use Rattle.core_exec.specs.declared.running.Executed.{Executed}
+use Rattle.core_exec.specs.Executing.{Executed, builtin_deeds, command_deeds, exec_deeds}
 use Rattle.core_exec.specs.Acting.{exec_click, exec_clicked}
 use Rattle.core_intents.specs.Doings.{doing_of}
 use Rattle.acme_core.specs.Run.{step, run, IsPossible}

@@ -48,7 +48,7 @@ LoopsOver WhereNot re text rest = Quoted re text rest
 abbrev pub SubstitutesAs : Action → List ℕ → List ℕ → Type 0
 SubstitutesAs act text rest = (n : ℕ) × (re : expression.Tree) × (with : List ℕ) × (all : Bool)
     × (act ≡ tree.Substitute n re with all)
-    × (l m k : List ℕ) × Nth n text l × Quoted re l m × Closed with m k × All all (after_blanks k) rest
+    × ((l m k : List ℕ) × Nth n text l × Quoted re l m × Closed with m k × All all (after_blanks k) rest)
 
 -- how an action is written behind its letter
 abbrev pub ActsAs : Sign → Action → List ℕ → List ℕ → Type 0
