@@ -1,5 +1,6 @@
 -- What a directory lists, entry by entry.
-use Rattle.std.proofs.Common.{◌≡◌, ℕ, ◌+◌, ◌<◌, ◌≤◌, zero, suc, List, [], ◌∷◌, ◌++◌, length, take, get_or, refl, sym, ap, ◌∙◌, append_assoc, arith, min, inl, inr}
+use Rattle.std.proofs.Common.{◌≡◌, ℕ, ◌+◌, ◌<◌, ◌≤◌, zero, suc, List, [], ◌∷◌, ◌++◌, length, take, get_or, refl, sym}
+use Rattle.std.proofs.Common.{ap, ◌∙◌, append_assoc, arith, min, inl, inr}
 use Rattle.std.specs.Prelude.{map}
 use Rattle.std.proofs.lemmas.List.{take_more, take_all, map-append, append-nil}
 use Rattle.std.proofs.lemmas.Bool.{cases_lt}
@@ -8,10 +9,12 @@ use Rattle.acme_tree.specs.declared.node.Node.TheVariants.{Window, Port}
 use Rattle.acme_tree.specs.Trees.{ports_from}
 
 -- one window more
-pub windows_more : (windows : List ℕ) (i w : ℕ) → i < length windows → w ≡ get_or windows i w → map Window (take (i + 1) windows) ≡ map Window (take i windows) ++ Window w ∷ []
+pub windows_more : (windows : List ℕ) (i w : ℕ) → i < length windows → w ≡ get_or windows i w
+    → map Window (take (i + 1) windows) ≡ map Window (take i windows) ++ Window w ∷ []
 windows_more windows i w lt is = rw (take_more windows i w lt, ← is, map-append) refl
 
-ports_after : (k i : ℕ) (names : List (List ℕ)) → i < length names → ports_from k (take (suc i) names) ≡ ports_from k (take i names) ++ Port (k + i) ∷ []
+ports_after : (k i : ℕ) (names : List (List ℕ)) → i < length names
+    → ports_from k (take (suc i) names) ≡ ports_from k (take i names) ++ Port (k + i) ∷ []
 ports_after k i [] lt = absurd (omega arith)
 ports_after k zero (name ∷ names) lt =
     let e : k + 0 ≡ k = omega arith in
@@ -21,7 +24,8 @@ ports_after k (suc i) (name ∷ names) lt =
     rw e (ap (λ (nodes : List Node). Port k ∷ nodes) (ports_after (k + 1) i names (omega arith)))
 
 -- one port more
-pub ports_more : (names : List (List ℕ)) (i : ℕ) → i < length names → ports_from 0 (take (i + 1) names) ≡ ports_from 0 (take i names) ++ Port i ∷ []
+pub ports_more : (names : List (List ℕ)) (i : ℕ) → i < length names
+    → ports_from 0 (take (i + 1) names) ≡ ports_from 0 (take i names) ++ Port i ∷ []
 ports_more names i lt =
     let s : i + 1 ≡ suc i = omega arith in
     let e : 0 + i ≡ i = omega arith in

@@ -74,14 +74,38 @@ nul_is_no_digit : IsInRange 48 57 0 → ⊥
 nul_is_no_digit h = absurd (omega arith)
 
 not_nul : (n i : ℕ) → n < 2 ^ 64 → i < length (decimal n) → eqb (get_or (decimal n) i 0) 0 ≡ false
-not_nul n i fits lt = false_from_ne_true (eqb (get_or (decimal n) i 0) 0) (λ e. not_in_digits digits (decimal n) 0 (digits_decimal digits n fits) nul_is_no_digit i lt (eqb-true (get_or (decimal n) i 0) 0 e))
+not_nul n i fits lt = false_from_ne_true (eqb (get_or (decimal n) i 0) 0)
+    (λ e. not_in_digits digits (decimal n) 0 (digits_decimal digits n fits) nul_is_no_digit i lt
+    (eqb-true (get_or (decimal n) i 0) 0 e))
 
 pub decimal_named : (n : ℕ) → n < 2 ^ 32 → IsName (decimal n)
 unfolding is_text
 decimal_named n fits =
     let small : n < 2 ^ 64 = omega arith in
-    let utf8 : is_utf8 (decimal n) ≡ true = is_utf8-from_IsUtf8 (decimal n) (IsUtf8-from_ascii (decimal n) (IsAscii-decimal n small)) in
-    let no_nul : list_any (λ b. eqb b 0) (decimal n) ≡ false = list_any_none (λ b. eqb b 0) (decimal n) (All-from_get_or (λ b. eqb b 0 ≡ false) (decimal n) 0 (λ i lt. not_nul n i small lt)) in
-    record { text = rw (utf8, no_nul) refl; len = omega (arith, length-decimal-le 10 n (omega arith) (omega arith) small) }
+    let utf8 : is_utf8 (decimal n) ≡ true = is_utf8-from_IsUtf8 (decimal n)
+    (IsUtf8-from_ascii (decimal n) (IsAscii-decimal n small)) in
+    let no_nul : list_any (λ b. eqb b 0) (decimal n) ≡ false = list_any_none (λ b. eqb b 0) (decimal n)
+    (All-from_get_or (λ b. eqb b 0 ≡ false) (decimal n) 0 (λ i lt. not_nul n i small lt)) in
+    record {
+      text = rw (utf8, no_nul) refl;
+      len = omega (
+        arith,
+        length-decimal-le 10 n (omega arith) (omega arith)
+            small,
+      );
+    }
 
-pub ruleset spelled = (acme_named, cons_named, consctl_named, index_named, label_named, new_named, plumb_named, send_named, rules_named, file_named, decimal_named, get_or_read)
+pub ruleset spelled = (
+  acme_named,
+  cons_named,
+  consctl_named,
+  index_named,
+  label_named,
+  new_named,
+  plumb_named,
+  send_named,
+  rules_named,
+  file_named,
+  decimal_named,
+  get_or_read,
+)

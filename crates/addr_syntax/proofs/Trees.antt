@@ -1,5 +1,6 @@
 -- Texts and their trees: the function gives the tree of an address, and of nothing else.
-use Rattle.std.proofs.Common.{◌≡◌, ℕ, zero, suc, ◌+◌, ◌-◌, ◌<◌, ◌≤◌, true, false, List, [], ◌∷◌, ◌++◌, length, drop, Option, Some, None, refl, sym, ap, subst, ◌∙◌, inl, inr, arith}
+use Rattle.std.proofs.Common.{◌≡◌, ℕ, zero, suc, ◌+◌, ◌-◌, ◌<◌, ◌≤◌, true, false, List, [], ◌∷◌, ◌++◌, length, drop}
+use Rattle.std.proofs.Common.{Option, Some, None, refl, sym, ap, subst, ◌∙◌, inl, inr, arith}
 use Rattle.std.specs.Prelude.{slice_range}
 use Rattle.std.specs.Option.{option_map}
 use Rattle.std.proofs.lemmas.Bool.{cases_lt, le-leb, lt-leb}
@@ -11,7 +12,8 @@ use Rattle.addr_syntax.specs.Joined.{Reading, begin, whole, after_pieces}
 use Rattle.addr_syntax.specs.Grammar.{IsAddress, GoesOn}
 use Rattle.addr_syntax.specs.Answer.{IsBad, IsInLimits, Refuses}
 use Rattle.addr_syntax.specs.declared.address.SynFault.TheVariants as fault
-use Rattle.addr_syntax.specs.Addresses.{Cut, first_piece, with_piece, pieces_within, pieces_of, tree_of_pieces, address_of, small_one, small_address}
+use Rattle.addr_syntax.specs.Addresses.{Cut, first_piece, with_piece, pieces_within, pieces_of, tree_of_pieces}
+use Rattle.addr_syntax.specs.Addresses.{address_of, small_one, small_address}
 use Rattle.addr_syntax.proofs.Cuts.{piece_cut, piece_back}
 
 -- ---- rows of pieces
@@ -24,20 +26,24 @@ within_zero : (c : ℕ) (cs : List ℕ) → pieces_within 0 (c ∷ cs) ≡ None
 unfolding pieces_within
 within_zero c cs = refl
 
-within_more : (n c : ℕ) (cs : List ℕ) → pieces_within (suc n) (c ∷ cs) ≡ with_piece (first_piece (c ∷ cs)) (λ behind. pieces_within n behind)
+within_more : (n c : ℕ) (cs : List ℕ) → pieces_within (suc n) (c ∷ cs) ≡ with_piece (first_piece (c ∷ cs))
+    (λ behind. pieces_within n behind)
 unfolding pieces_within
 within_more n c cs = refl
 
 pieces_same : (ps qs : List Piece) → Some ps ≡ Some qs → ps ≡ qs
 pieces_same ps qs e = cc
 
-pub row_pieces : (ps : List Piece) (text : List ℕ) (n : ℕ) → length text ≤ n → BeginsWith ps text [] → pieces_within n text ≡ Some ps
+pub row_pieces : (ps : List Piece) (text : List ℕ) (n : ℕ) → length text ≤ n → BeginsWith ps text []
+    → pieces_within n text ≡ Some ps
 row_pieces [] text n l x = ap (pieces_within n) x ∙ within_none n
 row_pieces (p ∷ ps) text n l x = go x.0 x.1 n x.2 x.3 l (λ m k. row_pieces ps x.1 m k x.4)
   where
-    go : (piece behind : List ℕ) (n : ℕ) → text ≡ piece ++ behind → IsPiece p piece (next_of behind) → length text ≤ n → ((m : ℕ) → length behind ≤ m → pieces_within m behind ≡ Some ps) → pieces_within n text ≡ Some (p ∷ ps)
+    go : (piece behind : List ℕ) (n : ℕ) → text ≡ piece ++ behind → IsPiece p piece (next_of behind) → length text ≤ n
+        → ((m : ℕ) → length behind ≤ m → pieces_within m behind ≡ Some ps) → pieces_within n text ≡ Some (p ∷ ps)
     go [] behind n e y l on = absurd y
-    go (c ∷ cs) behind zero e y l on = absurd (let k : length text ≡ suc (length (cs ++ behind)) = ap length e in omega (arith, k, l))
+    go (c ∷ cs) behind zero e y l on = absurd (let k : length text ≡ suc (length (cs ++ behind)) = ap length e in
+        omega (arith, k, l))
     go (c ∷ cs) behind (suc m) e y l on =
         let k : length text ≡ suc (length (cs ++ behind)) = ap length e in
         let small : length behind ≤ m = omega (arith, k, l, length-append cs behind) in
@@ -51,16 +57,21 @@ pieces_row n [] ps e =
     let none : [] ≡ ps = pieces_same [] ps (sym (within_none n) ∙ e) in
     subst (λ (qs : List Piece). BeginsWith qs [] []) none refl
 pieces_row zero (c ∷ cs) ps e = let f = within_zero c cs in absurd cc
-pieces_row (suc n) (c ∷ cs) ps e = go (first_piece (c ∷ cs)) refl (λ t qs. pieces_row n t qs) (sym (within_more n c cs) ∙ e)
+pieces_row (suc n) (c ∷ cs) ps e = go (first_piece (c ∷ cs)) refl (λ t qs. pieces_row n t qs)
+    (sym (within_more n c cs) ∙ e)
   where
-    made : (p : Piece) (behind : List ℕ) (o : Option (List Piece)) → first_piece (c ∷ cs) ≡ Some (p, behind) → ((qs : List Piece) → o ≡ Some qs → BeginsWith qs behind []) → option_map (λ (qs : List Piece). p ∷ qs) o ≡ Some ps → BeginsWith ps (c ∷ cs) []
+    made : (p : Piece) (behind : List ℕ) (o : Option (List Piece)) → first_piece (c ∷ cs) ≡ Some (p, behind)
+        → ((qs : List Piece) → o ≡ Some qs → BeginsWith qs behind [])
+        → option_map (λ (qs : List Piece). p ∷ qs) o ≡ Some ps → BeginsWith ps (c ∷ cs) []
     made p behind None f on h = absurd cc
     made p behind (Some qs) f on h =
         let s = piece_back p c cs behind f in
         let same : p ∷ qs ≡ ps = pieces_same (p ∷ qs) ps h in
-        subst (λ (rs : List Piece). BeginsWith rs (c ∷ cs) []) same (c ∷ s.0, behind, ap (λ (l : List ℕ). c ∷ l) s.1, s.2, on qs refl)
+        subst (λ (rs : List Piece). BeginsWith rs (c ∷ cs) []) same
+        (c ∷ s.0, behind, ap (λ (l : List ℕ). c ∷ l) s.1, s.2, on qs refl)
 
-    go : (o : Cut) → first_piece (c ∷ cs) ≡ o → ((t : List ℕ) (qs : List Piece) → pieces_within n t ≡ Some qs → BeginsWith qs t []) → with_piece o (λ behind. pieces_within n behind) ≡ Some ps → BeginsWith ps (c ∷ cs) []
+    go : (o : Cut) → first_piece (c ∷ cs) ≡ o → ((t : List ℕ) (qs : List Piece) → pieces_within n t ≡ Some qs
+        → BeginsWith qs t []) → with_piece o (λ behind. pieces_within n behind) ≡ Some ps → BeginsWith ps (c ∷ cs) []
     go None f on h = absurd cc
     go (Some (p, behind)) f on h = made p behind (pieces_within n behind) f (on behind) h
 
@@ -79,14 +90,16 @@ pub address_only : (text : List ℕ) (a : Tree) → address_of text ≡ Some a �
 unfolding address_of
 address_only text a e = go (pieces_of text) refl e
   where
-    joins : (p : Piece) (ps : List Piece) → BeginsWith (p ∷ ps) text [] → (o : Option Reading) → after_pieces (Some begin) (p ∷ ps) ≡ o → option_map whole o ≡ Some a → IsAddress text a
+    joins : (p : Piece) (ps : List Piece) → BeginsWith (p ∷ ps) text [] → (o : Option Reading)
+        → after_pieces (Some begin) (p ∷ ps) ≡ o → option_map whole o ≡ Some a → IsAddress text a
     joins p ps x None f h = absurd cc
     joins p ps x (Some r) f h = (p, ps, r, x, f, tree_same (whole r) a h)
 
     go : (o : Option (List Piece)) → pieces_of text ≡ o → tree_of_pieces o ≡ Some a → IsAddress text a
     go None f h = absurd cc
     go (Some []) f h = absurd cc
-    go (Some (p ∷ ps)) f h = joins p ps (pieces_row (length text) text (p ∷ ps) f) (after_pieces (Some begin) (p ∷ ps)) refl h
+    go (Some (p ∷ ps)) f h = joins p ps (pieces_row (length text) text (p ∷ ps) f) (after_pieces (Some begin) (p ∷ ps))
+        refl h
 
 -- ---- what reading answers
 

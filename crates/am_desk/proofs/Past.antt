@@ -22,7 +22,8 @@ use Rattle.acme_core.proofs.Few.{length-connections}
 
 length_put : (us : List Unsent) (xs : List Reply) → length (put_replies us xs) ≡ length us
 length_put us [] = refl
-length_put us (x ∷ xs) = length_put (put_reply us x) xs ∙ length-set us x.conn (with_reply (unsent_at us x.conn) x.bytes)
+length_put us (x ∷ xs) = length_put (put_reply us x) xs ∙ length-set us x.conn
+    (with_reply (unsent_at us x.conn) x.bytes)
 
 length_left : (us : List Unsent) (k : Kind) → length (left_unsent us k) ≡ length us
 length_left us (kind.Dials conn) = refl
@@ -64,7 +65,9 @@ past (x ∷ xs) zero d h = absurd (omega (arith, h))
 past (x ∷ xs) (suc k) d h = past xs k d (omega (arith, h))
 
 pub nothing_past : (journal : List Event) (conn : ℕ) → 64 ≤ conn → output_at journal conn ≡ []
-nothing_past journal conn h = ap (λ (u : Unsent). u.bytes) (past (run journal).unsent conn nothing_unsent (omega (arith, h, unsents journal)))
+nothing_past journal conn h = ap (λ (u : Unsent). u.bytes) (past (run journal).unsent conn nothing_unsent
+    (omega (arith, h, unsents journal)))
 
 pub not_ended_past : (journal : List Event) (conn : ℕ) → 64 ≤ conn → answer_at journal (ask.Ended conn) ≡ false
-not_ended_past journal conn h = ap is_ended (past (run journal).connections conn Undialed (omega (arith, h, conns journal)))
+not_ended_past journal conn h = ap is_ended (past (run journal).connections conn Undialed
+    (omega (arith, h, conns journal)))

@@ -12,7 +12,13 @@ first_known parts = record { parts = parts; seen = []; mine = []; ended = [] }
 
 -- the first took in the second
 abbrev pub joined : Known → Known → Known
-joined v w = record { parts = v.parts + w.parts; seen = longer v.seen w.seen; mine = v.mine; ended = v.ended ++ w.mine ∷ w.ended }
+joined v w = record {
+  parts = v.parts + w.parts;
+  seen = longer v.seen w.seen;
+  mine = v.mine;
+  ended =
+      v.ended ++ w.mine ∷ w.ended;
+}
 
 -- each number of what was seen stands in just one of these lists, once, and no other number does
 abbrev pub EachOnce : Known → Type 0

@@ -11,7 +11,8 @@ use Rattle.am_desk.specs.Journals.{journal_of, number_of}
 -- a seat with an editor aside has the turn and its number, and has seen just its journal; another has no turn
 abbrev pub Stays : Option (Stay Settled) → View Event → Type 0
 Stays None v = v.turn ≡ false
-Stays (Some stay) v = (v.turn ≡ true) × (journal_of (value_aside stay) ≡ v.seen) × (number_of (value_aside stay) ≡ v.number)
+Stays (Some stay) v = (v.turn ≡ true) × (journal_of (value_aside stay) ≡ v.seen)
+    × (number_of (value_aside stay) ≡ v.number)
 
 -- this fact has one proof, so it can be kept beside a seat
 pub stays-prop : (stay : Option (Stay Settled)) (v : View Event) → IsProp (Stays stay v)

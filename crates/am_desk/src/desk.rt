@@ -32,9 +32,9 @@ pub struct Desk {
     turn: Turn<Settled>,
 }
 
-/// The right to take turns at a desk. Each caller has one of its own. Behind a message that was done the seat keeps its turn for the next
-/// call, so that messages which come together take one turn. Any other call gives the turn up, and so does a message that is refused: who
-/// submits messages has to make such a call before it waits for anything.
+/// The right to take turns at a desk. Each caller has one of its own. Behind a message that was done the seat keeps its
+/// turn for the next call, so that messages which come together take one turn. Any other call gives the turn up, and so
+/// does a message that is refused: who submits messages has to make such a call before it waits for anything.
 #[derive(Drop)]
 pub struct DeskSeat {
     seat: Seat<Settled>,
@@ -135,8 +135,9 @@ impl Desk {
         place
     }
 
-    /// Does an event in one turn, if it is enabled then, and answers the number of its entry. The connections that it replied to are
-    /// added to `told`. A refusal changes nothing but what the seat has seen. Behind a message that was done the seat keeps the turn.
+    /// Does an event in one turn, if it is enabled then, and answers the number of its entry. The connections that it
+    /// replied to are added to `told`. A refusal changes nothing but what the seat has seen. Behind a message that was
+    /// done the seat keeps the turn.
     pub fn submit<R: Wait>(
         &self,
         rt: &R,
@@ -172,8 +173,9 @@ impl Desk {
         }
     }
 
-    /// Takes the unsent replies of a connection in one turn, all of them, into `into`. Where there is none, or memory runs
-    /// out, nothing changes but what the seat has seen. A connection that was never dialled has none yet, whatever its number.
+    /// Takes the unsent replies of a connection in one turn, all of them, into `into`. Where there is none, or memory
+    /// runs out, nothing changes but what the seat has seen. A connection that was never dialled has none yet, whatever
+    /// its number.
     pub fn take<R: Wait>(
         &self,
         rt: &R,
@@ -184,8 +186,10 @@ impl Desk {
         requires lock { seat_lock seat.old ≡ desk_id self.now }
         ensures lock { seat_lock seat.new ≡ seat_lock seat.old }
         ensures played { IsPlayed enabled (known_of seat.new).seen }
-        ensures bytes { result ≡ Ok taken.Bytes → TakesBytes enabled output_at (known_of seat.old) conn into.new (known_of seat.new) }
-        ensures nothing_yet { result ≡ Ok taken.NothingYet → Looks (known_of seat.old) (known_of seat.new) × (into.new ≡ into.old)
+        ensures bytes { result ≡ Ok taken.Bytes → TakesBytes enabled output_at (known_of seat.old) conn into.new
+            (known_of seat.new) }
+        ensures nothing_yet { result ≡ Ok taken.NothingYet → Looks (known_of seat.old) (known_of seat.new)
+            × (into.new ≡ into.old)
             × (answer_at (known_of seat.new).seen (ask.Ended conn) ≡ false) × (output_at (known_of seat.new).seen conn ≡ []) }
         ensures ended { result ≡ Ok taken.Ended → Looks (known_of seat.old) (known_of seat.new) × (into.new ≡ into.old)
             × (answer_at (known_of seat.new).seen (ask.Ended conn) ≡ true) × (output_at (known_of seat.new).seen conn ≡ []) }
@@ -252,8 +256,8 @@ impl Desk {
         self.turn.join(&mut seat.seat, other);
     }
 
-    /// Takes in a seat that has ended, as `join` does, and sees the journal as it is then, in a turn. It begins with what both seats
-    /// had seen.
+    /// Takes in a seat that has ended, as `join` does, and sees the journal as it is then, in a turn. It begins with
+    /// what both seats had seen.
     pub fn take_in<R: Wait>(&self, rt: &R, seat: &mut DeskSeat, other: DeskSeat)
         requires lock { (seat_lock seat.old ≡ desk_id self.now) × (seat_lock other ≡ desk_id self.now) }
         ensures lock { seat_lock seat.new ≡ seat_lock seat.old }
@@ -269,8 +273,8 @@ impl Desk {
         self.turn.leave(place, held);
     }
 
-    /// The core, from the seat that has all parts. What the seat has seen is the whole journal, and each entry stands in just one
-    /// of its lists, once.
+    /// The core, from the seat that has all parts. What the seat has seen is the whole journal, and each entry stands
+    /// in just one of its lists, once.
     pub fn close(self, seat: DeskSeat) -> Core
         requires lock { seat_lock seat ≡ desk_id self }
         requires whole { (known_of seat).parts ≡ desk_parts self }

@@ -1,6 +1,7 @@
 //! The value under the lock: a core without a plan that waits.
 
-ghost use Rattle.std.specs.Prelude.{◌≡◌, ◌≢◌, ◌+◌, ◌<◌, ◌^◌, ◌++◌, ◌∷◌, [], None, length, IfOk, OnOk, OnErr, IfErr, Ok, true, false};
+ghost use Rattle.std.specs.Prelude.{◌≡◌, ◌≢◌, ◌+◌, ◌<◌, ◌^◌, ◌++◌, ◌∷◌, [], None, length, IfOk, OnOk, OnErr, IfErr, Ok};
+ghost use Rattle.std.specs.Prelude.{true, false};
 ghost use Rattle.std.specs.List.{AllByRecursion};
 ghost use Rattle.am_journal.specs.declared.event.Event.TheVariants.{Took};
 ghost use Rattle.am_journal.specs.Lawful.{IsLawful, IsInRange};
@@ -21,8 +22,8 @@ use am_journal::CONNECTIONS;
 use std::alloc::Global;
 use turn_lock::Kept;
 
-/// A core without a plan that waits, with fewer than 2^64 entries, each number of which fits its field. It stands in a box: each turn
-/// moves it out of the lock and back.
+/// A core without a plan that waits, with fewer than 2^64 entries, each number of which fits its field. It stands in a
+/// box: each turn moves it out of the lock and back.
 #[derive(Drop)]
 pub struct Settled {
     alloc: Global,
@@ -83,7 +84,8 @@ impl Settled {
     fn step_alone(&mut self, event: Event) -> Result<u64, Refused>
         requires lawful { IsLawful event }
         requires in_range { IsInRange event }
-        ensures ok { IfOk result (λ n. (enabled (journal_of self.old) event ≡ None) × (n ≡ length (journal_of self.old) + 1)) }
+        ensures ok { IfOk result (λ n. (enabled (journal_of self.old) event ≡ None)
+            × (n ≡ length (journal_of self.old) + 1)) }
         ensures done { OnOk result (journal_of self.new ≡ journal_of self.old ++ event ∷ []) }
         ensures refused { IfErr result (λ e. Refuses e (enabled (journal_of self.old) event)) }
         ensures err { OnErr result (journal_of self.new ≡ journal_of self.old) }
@@ -100,7 +102,8 @@ impl Settled {
     pub fn step(&mut self, event: Event, told: &mut Told) -> Result<u64, Refused>
         requires lawful { IsLawful event }
         requires in_range { IsInRange event }
-        ensures ok { IfOk result (λ n. (enabled (journal_of self.old) event ≡ None) × (n ≡ length (journal_of self.old) + 1)) }
+        ensures ok { IfOk result (λ n. (enabled (journal_of self.old) event ≡ None)
+            × (n ≡ length (journal_of self.old) + 1)) }
         ensures done { OnOk result (journal_of self.new ≡ journal_of self.old ++ event ∷ []) }
         ensures refused { IfErr result (λ e. Refuses e (enabled (journal_of self.old) event)) }
         ensures err { OnErr result (journal_of self.new ≡ journal_of self.old) }
@@ -141,7 +144,8 @@ impl Settled {
         ensures bytes { result ≡ Ok taken.Bytes → (journal_of self.new ≡ journal_of self.old ++ Took conn ∷ [])
             × (enabled (journal_of self.old) (Took conn) ≡ None)
             × (into.new ≡ output_at (journal_of self.old) conn) × (output_at (journal_of self.old) conn ≢ []) }
-        ensures nothing_yet { result ≡ Ok taken.NothingYet → (journal_of self.new ≡ journal_of self.old) × (into.new ≡ into.old)
+        ensures nothing_yet { result ≡ Ok taken.NothingYet → (journal_of self.new ≡ journal_of self.old)
+            × (into.new ≡ into.old)
             × (answer_at (journal_of self.old) (ask.Ended conn) ≡ false) × (output_at (journal_of self.old) conn ≡ []) }
         ensures ended { result ≡ Ok taken.Ended → (journal_of self.new ≡ journal_of self.old) × (into.new ≡ into.old)
             × (answer_at (journal_of self.old) (ask.Ended conn) ≡ true) × (output_at (journal_of self.old) conn ≡ []) }
@@ -167,7 +171,8 @@ impl Settled {
         ensures bytes { result ≡ Ok taken.Bytes → (journal_of self.new ≡ journal_of self.old ++ Took conn ∷ [])
             × (enabled (journal_of self.old) (Took conn) ≡ None)
             × (into.new ≡ output_at (journal_of self.old) conn) × (output_at (journal_of self.old) conn ≢ []) }
-        ensures nothing_yet { result ≡ Ok taken.NothingYet → (journal_of self.new ≡ journal_of self.old) × (into.new ≡ into.old)
+        ensures nothing_yet { result ≡ Ok taken.NothingYet → (journal_of self.new ≡ journal_of self.old)
+            × (into.new ≡ into.old)
             × (answer_at (journal_of self.old) (ask.Ended conn) ≡ false) × (output_at (journal_of self.old) conn ≡ []) }
         ensures ended { result ≡ Ok taken.Ended → (journal_of self.new ≡ journal_of self.old) × (into.new ≡ into.old)
             × (answer_at (journal_of self.old) (ask.Ended conn) ≡ true) × (output_at (journal_of self.old) conn ≡ []) }

@@ -16,4 +16,8 @@ unfolding ArePlayed
 plays journal none = subst (IsPlayed enabled) (sym none) tt
 
 pub laws : JournalsAreLawful → (journal : List Event) → journal ≡ [] → JournalLaws journal
-laws all journal none = all journal (record { played = plays journal none; possible = subst IsPossible (sym none) none_possible })
+laws all journal none = all journal (record {
+  played = plays journal none;
+  possible = subst IsPossible (sym none)
+      none_possible;
+})

@@ -1,5 +1,6 @@
 -- What an output got of a text, and then of more.
-use Rattle.std.proofs.Common.{◌≡◌, inl, inr, ℕ, ◌+◌, ◌≤◌, Bool, true, false, List, [], ◌∷◌, ◌++◌, length, take, suc, zero, Option, Some, None, refl, sym, ap, subst, ◌∙◌, append_assoc, arith}
+use Rattle.std.proofs.Common.{◌≡◌, inl, inr, ℕ, ◌+◌, ◌≤◌, Bool, true, false, List, [], ◌∷◌, ◌++◌, length, take, suc}
+use Rattle.std.proofs.Common.{zero, Option, Some, None, refl, sym, ap, subst, ◌∙◌, append_assoc, arith}
 use Rattle.std.proofs.lemmas.List.{append-nil, length-append}
 use Rattle.am_base.specs.Outside.{BytesTold, told_then, HasRisen}
 use Rattle.am_base.specs.Seen.{Seen, seen}
@@ -16,7 +17,8 @@ told_then-nil (Some h) = ap (λ (x : List ℕ). Some x) (append-nil h)
 
 take-join : (x y : List ℕ) (i : ℕ) → take (length x + i) (x ++ y) ≡ x ++ take i y
 take-join [] y i = let e : 0 + i ≡ i = omega arith in rw e refl
-take-join (a ∷ x) y i = let e : suc (length x) + i ≡ suc (length x + i) = omega arith in rw e (ap (λ (l : List ℕ). a ∷ l) (take-join x y i))
+take-join (a ∷ x) y i = let e : suc (length x) + i ≡ suc (length x + i) = omega arith in
+    rw e (ap (λ (l : List ℕ). a ∷ l) (take-join x y i))
 
 pub take-within : (x y : List ℕ) (i : ℕ) → i ≤ length x → take i (x ++ y) ≡ take i x
 take-within x y zero h = refl
@@ -47,7 +49,9 @@ wrote_on false true first mid last text more w p =
         front = (
           length text + i,
           omega (arith, length-append text more, p.holds.front.1),
-          p.holds.front.2 ∙ ap (λ (x : Option (List ℕ)). told_then x (take i more)) w.holds ∙ told_then-then first.bytes text (take i more) ∙ ap (told_then first.bytes) (sym (take-join text more i)),
+          p.holds.front.2 ∙ ap (λ (x : Option (List ℕ)). told_then x (take i more)) w.holds
+              ∙ told_then-then first.bytes text (take i more) ∙ ap (told_then first.bytes)
+              (sym (take-join text more i)),
         );
         risen = risen_from first.faults mid.faults last.faults w.later p.holds.risen;
       };

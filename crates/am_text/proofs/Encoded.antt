@@ -1,5 +1,6 @@
 -- Decoding undoes encoding.
-use Rattle.std.proofs.Common.{◌≡◌, ◌⊎◌, ℕ, ◌+◌, ◌/◌, ◌%◌, ◌<◌, ◌≤◌, Bool, true, false, cond, ◌&&◌, eqb, leb, List, [], ◌∷◌, ◌++◌, length, drop, refl, ap, ◌∙◌, arith, inl, inr}
+use Rattle.std.proofs.Common.{◌≡◌, ◌⊎◌, ℕ, ◌+◌, ◌/◌, ◌%◌, ◌<◌, ◌≤◌, Bool, true, false, cond, ◌&&◌, eqb, leb, List, []}
+use Rattle.std.proofs.Common.{◌∷◌, ◌++◌, length, drop, refl, ap, ◌∙◌, arith, inl, inr}
 use Rattle.std.specs.Char.{encode_utf8, IsScalar}
 use Rattle.std.specs.Int.{is_in_range}
 use Rattle.std.specs.List.{AllByRecursion}
@@ -26,14 +27,16 @@ least : (a b : ℕ) → 0x80 ≤ b → (a ≡ 0xE0 → 0xA0 ≤ b) → (a ≡ 0x
 least a b h e f =
     elim (eqb a 0xE0) as (λ t. eqb a 0xE0 ≡ t → cond t 0xA0 (cond (eqb a 0xF0) 0x90 0x80) ≤ b) [
       | true ↦ λ i. e (eqb-true a 0xE0 i)
-      | false ↦ λ i. elim (eqb a 0xF0) as (λ t. eqb a 0xF0 ≡ t → cond t 0x90 0x80 ≤ b) [ true ↦ λ j. f (eqb-true a 0xF0 j) | false ↦ λ j. h ] refl
+      | false ↦ λ i. elim (eqb a 0xF0) as (λ t. eqb a 0xF0 ≡ t → cond t 0x90 0x80 ≤ b)
+          [ true ↦ λ j. f (eqb-true a 0xF0 j) | false ↦ λ j. h ] refl
     ] refl
 
 most : (a b : ℕ) → b ≤ 0xBF → (a ≡ 0xED → b ≤ 0x9F) → (a ≡ 0xF4 → b ≤ 0x8F) → b ≤ second_byte_max a
 most a b h e f =
     elim (eqb a 0xED) as (λ t. eqb a 0xED ≡ t → b ≤ cond t 0x9F (cond (eqb a 0xF4) 0x8F 0xBF)) [
       | true ↦ λ i. e (eqb-true a 0xED i)
-      | false ↦ λ i. elim (eqb a 0xF4) as (λ t. eqb a 0xF4 ≡ t → b ≤ cond t 0x8F 0xBF) [ true ↦ λ j. f (eqb-true a 0xF4 j) | false ↦ λ j. h ] refl
+      | false ↦ λ i. elim (eqb a 0xF4) as (λ t. eqb a 0xF4 ≡ t → b ≤ cond t 0x8F 0xBF)
+          [ true ↦ λ j. f (eqb-true a 0xF4 j) | false ↦ λ j. h ] refl
     ] refl
 
 -- the front of the bytes is this rune, and these bytes follow
@@ -68,7 +71,8 @@ two c rest low high =
       after = rw (a, b) refl;
     }
 
-three : (c : ℕ) (rest : List ℕ) → 2048 ≤ c → c < 65536 → (c < 55296) ⊎ (57344 ≤ c) → Begins ((224 + c / 4096) ∷ (128 + c / 64 % 64) ∷ (128 + c % 64) ∷ rest) c rest
+three : (c : ℕ) (rest : List ℕ) → 2048 ≤ c → c < 65536 → (c < 55296) ⊎ (57344 ≤ c)
+    → Begins ((224 + c / 4096) ∷ (128 + c / 64 % 64) ∷ (128 + c % 64) ∷ rest) c rest
 unfolding front_rune front_width
 three c rest low high s =
     let a = 224 + c / 4096 in
@@ -76,7 +80,8 @@ three c rest low high s =
     let no_two = above 0xC2 0xDF a (omega arith) in
     let first = inside 0xE0 0xEF a (omega arith) (omega arith) in
     let apart : a ≡ 0xED → b ≤ 0x9F = λ e. elim s [ inl x ↦ omega arith | inr x ↦ omega arith ] in
-    let second = inside (second_byte_min a) (second_byte_max a) b (least a b (omega arith) (λ e. omega arith) (λ e. omega arith)) (most a b (omega arith) apart (λ e. omega arith)) in
+    let second = inside (second_byte_min a) (second_byte_max a) b (least a b (omega arith) (λ e. omega arith)
+    (λ e. omega arith)) (most a b (omega arith) apart (λ e. omega arith)) in
     let third = inside 0x80 0xBF (128 + c % 64) (omega arith) (omega arith) in
     record {
       some = omega arith;
@@ -85,7 +90,8 @@ three c rest low high s =
       after = rw (no_two, first, second, third) refl;
     }
 
-four : (c : ℕ) (rest : List ℕ) → 65536 ≤ c → c < 1114112 → Begins ((240 + c / 262144) ∷ (128 + c / 4096 % 64) ∷ (128 + c / 64 % 64) ∷ (128 + c % 64) ∷ rest) c rest
+four : (c : ℕ) (rest : List ℕ) → 65536 ≤ c → c < 1114112 → Begins ((240 + c / 262144) ∷ (128 + c / 4096 % 64)
+    ∷ (128 + c / 64 % 64) ∷ (128 + c % 64) ∷ rest) c rest
 unfolding front_rune front_width
 four c rest low high =
     let a = 240 + c / 262144 in
@@ -93,7 +99,8 @@ four c rest low high =
     let no_two = above 0xC2 0xDF a (omega arith) in
     let no_three = above 0xE0 0xEF a (omega arith) in
     let first = inside 0xF0 0xF4 a (omega arith) (omega arith) in
-    let second = inside (second_byte_min a) (second_byte_max a) b (least a b (omega arith) (λ e. omega arith) (λ e. omega arith)) (most a b (omega arith) (λ e. omega arith) (λ e. omega arith)) in
+    let second = inside (second_byte_min a) (second_byte_max a) b (least a b (omega arith) (λ e. omega arith)
+    (λ e. omega arith)) (most a b (omega arith) (λ e. omega arith) (λ e. omega arith)) in
     let third = inside 0x80 0xBF (128 + c / 64 % 64) (omega arith) (omega arith) in
     let fourth = inside 0x80 0xBF (128 + c % 64) (omega arith) (omega arith) in
     record {
@@ -129,4 +136,5 @@ decode-encode c rest s =
 pub decode_encode_all : (cs : List ℕ) → AllByRecursion IsScalar cs → decode (utf8 cs) ≡ cs
 decode_encode_all [] s = decode-nil [] refl
 decode_encode_all (c ∷ cs) s =
-    ap (λ (t : Bool). decode (cond t (encode_utf8 c) (encode_utf8 0xFFFD) ++ utf8 cs)) s.0 ∙ decode-encode c (utf8 cs) s.0 ∙ ap (λ (l : List ℕ). c ∷ l) (decode_encode_all cs s.1)
+    ap (λ (t : Bool). decode (cond t (encode_utf8 c) (encode_utf8 0xFFFD) ++ utf8 cs)) s.0
+    ∙ decode-encode c (utf8 cs) s.0 ∙ ap (λ (l : List ℕ). c ∷ l) (decode_encode_all cs s.1)

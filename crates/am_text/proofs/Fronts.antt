@@ -1,5 +1,6 @@
 -- What is begun is a proper front of a sequence, and each such front is begun.
-use Rattle.std.proofs.Common.{◌≡◌, ◌↔◌, ℕ, ◌<◌, ◌≤◌, Bool, true, false, cond, ◌&&◌, leb, eqb, List, [], ◌∷◌, ◌++◌, length, refl, arith, inl, inr}
+use Rattle.std.proofs.Common.{◌≡◌, ◌↔◌, ℕ, ◌<◌, ◌≤◌, Bool, true, false, cond, ◌&&◌, leb, eqb, List, [], ◌∷◌, ◌++◌}
+use Rattle.std.proofs.Common.{length, refl, arith, inl, inr}
 use Rattle.std.specs.Int.{is_in_range}
 use Rattle.std.specs.Str.Lossy.{second_byte_min, second_byte_max}
 use Rattle.std.proofs.lemmas.Bool.{and_parts, and_from, false≢true, leb-true, le-leb, lt-leb, eqb-true, cases_lt}
@@ -14,7 +15,8 @@ bounds : (lo hi b : ℕ) → is_in_range lo hi b ≡ true → (lo ≤ b) × (b �
 bounds lo hi b e = let p = and_parts (leb lo b) (leb b hi) e in (leb-true lo b p.0, leb-true b hi p.1)
 
 wider : (lo hi low high b : ℕ) → low ≤ lo → hi ≤ high → is_in_range lo hi b ≡ true → is_in_range low high b ≡ true
-wider lo hi low high b h k e = let p = bounds lo hi b e in let below = p.0 in let above = p.1 in in_range low high b (omega arith) (omega arith)
+wider lo hi low high b h k e = let p = bounds lo hi b e in let below = p.0 in let above = p.1 in
+    in_range low high b (omega arith) (omega arith)
 
 three_parts : (p s l : Bool) → (p && s && l) ≡ true → (p ≡ true) × (s ≡ true) × (l ≡ true)
 three_parts true true true e = (refl, refl, refl)
@@ -84,22 +86,31 @@ unfolding is_begun
 front_begun [] more some left q = absurd (omega arith)
 front_begun (a ∷ bs) [] some left q = absurd (omega arith)
 front_begun (a ∷ []) (b ∷ []) some left q =
-    let p = and_parts (is_in_range 0xC2 0xDF a) (is_later b) (two_of a b q) in wider 0xC2 0xDF 0xC2 0xF4 a (omega arith) (omega arith) p.0
+    let p = and_parts (is_in_range 0xC2 0xDF a) (is_later b) (two_of a b q) in
+    wider 0xC2 0xDF 0xC2 0xF4 a (omega arith) (omega arith) p.0
 front_begun (a ∷ []) (b ∷ c ∷ []) some left q =
-    let p = three_parts (is_in_range 0xE0 0xEF a) _ (is_later c) (three_of a b c q) in wider 0xE0 0xEF 0xC2 0xF4 a (omega arith) (omega arith) p.0
+    let p = three_parts (is_in_range 0xE0 0xEF a) _ (is_later c) (three_of a b c q) in
+    wider 0xE0 0xEF 0xC2 0xF4 a (omega arith) (omega arith) p.0
 front_begun (a ∷ []) (b ∷ c ∷ d ∷ []) some left q =
-    let p = four_parts (is_in_range 0xF0 0xF4 a) _ (is_later c) (is_later d) (four_of a b c d q) in wider 0xF0 0xF4 0xC2 0xF4 a (omega arith) (omega arith) p.0
+    let p = four_parts (is_in_range 0xF0 0xF4 a) _ (is_later c) (is_later d) (four_of a b c d q) in
+    wider 0xF0 0xF4 0xC2 0xF4 a (omega arith) (omega arith) p.0
 front_begun (a ∷ []) (b ∷ c ∷ d ∷ e ∷ more) some left q = absurd (too_long (a ∷ b ∷ c ∷ d ∷ e ∷ more) (omega arith) q.1)
 front_begun (a ∷ b ∷ []) (c ∷ []) some left q =
-    let p = three_parts (is_in_range 0xE0 0xEF a) (is_in_range (second_byte_min a) (second_byte_max a) b) (is_later c) (three_of a b c q) in
-    and_from (is_in_range 0xE0 0xF4 a) (is_in_range (second_byte_min a) (second_byte_max a) b) (wider 0xE0 0xEF 0xE0 0xF4 a (omega arith) (omega arith) p.0) p.1
+    let p = three_parts (is_in_range 0xE0 0xEF a) (is_in_range (second_byte_min a) (second_byte_max a) b) (is_later c)
+    (three_of a b c q) in
+    and_from (is_in_range 0xE0 0xF4 a) (is_in_range (second_byte_min a) (second_byte_max a) b)
+    (wider 0xE0 0xEF 0xE0 0xF4 a (omega arith) (omega arith) p.0) p.1
 front_begun (a ∷ b ∷ []) (c ∷ d ∷ []) some left q =
-    let p = four_parts (is_in_range 0xF0 0xF4 a) (is_in_range (second_byte_min a) (second_byte_max a) b) (is_later c) (is_later d) (four_of a b c d q) in
-    and_from (is_in_range 0xE0 0xF4 a) (is_in_range (second_byte_min a) (second_byte_max a) b) (wider 0xF0 0xF4 0xE0 0xF4 a (omega arith) (omega arith) p.0) p.1
+    let p = four_parts (is_in_range 0xF0 0xF4 a) (is_in_range (second_byte_min a) (second_byte_max a) b) (is_later c)
+    (is_later d) (four_of a b c d q) in
+    and_from (is_in_range 0xE0 0xF4 a) (is_in_range (second_byte_min a) (second_byte_max a) b)
+    (wider 0xF0 0xF4 0xE0 0xF4 a (omega arith) (omega arith) p.0) p.1
 front_begun (a ∷ b ∷ []) (c ∷ d ∷ e ∷ more) some left q = absurd (too_long (a ∷ b ∷ c ∷ d ∷ e ∷ more) (omega arith) q.1)
 front_begun (a ∷ b ∷ c ∷ []) (d ∷ []) some left q =
-    let p = four_parts (is_in_range 0xF0 0xF4 a) (is_in_range (second_byte_min a) (second_byte_max a) b) (is_later c) (is_later d) (four_of a b c d q) in
-    three_from (is_in_range 0xF0 0xF4 a) (is_in_range (second_byte_min a) (second_byte_max a) b) (is_later c) p.0 p.1 p.2
+    let p = four_parts (is_in_range 0xF0 0xF4 a) (is_in_range (second_byte_min a) (second_byte_max a) b) (is_later c)
+    (is_later d) (four_of a b c d q) in
+    three_from (is_in_range 0xF0 0xF4 a) (is_in_range (second_byte_min a) (second_byte_max a) b) (is_later c) p.0 p.1
+    p.2
 front_begun (a ∷ b ∷ c ∷ []) (d ∷ e ∷ more) some left q = absurd (too_long (a ∷ b ∷ c ∷ d ∷ e ∷ more) (omega arith) q.1)
 front_begun (a ∷ b ∷ c ∷ d ∷ bs) (e ∷ more) some left q =
     let n = length-append bs (e ∷ more) in absurd (too_long (a ∷ b ∷ c ∷ d ∷ (bs ++ e ∷ more)) (omega arith) q.1)
@@ -130,20 +141,25 @@ no_three a bs h = rw (lt-leb a 0xEF (omega arith), le-leb 0xE0 a (omega arith)) 
 
 two_is : (a b : ℕ) → is_in_range 0xC2 0xDF a ≡ true → is_later b ≡ true → IsSequence (a ∷ b ∷ [])
 unfolding front_width
-two_is a b h k = let whole : begins_two (a ∷ b ∷ []) ≡ true = and_from (is_in_range 0xC2 0xDF a) (is_later b) h k in (omega arith, rw whole refl)
+two_is a b h k = let whole : begins_two (a ∷ b ∷ []) ≡ true = and_from (is_in_range 0xC2 0xDF a) (is_later b) h k in
+    (omega arith, rw whole refl)
 
-three_is : (a b c : ℕ) → is_in_range 0xE0 0xEF a ≡ true → is_in_range (second_byte_min a) (second_byte_max a) b ≡ true → is_later c ≡ true → IsSequence (a ∷ b ∷ c ∷ [])
+three_is : (a b c : ℕ) → is_in_range 0xE0 0xEF a ≡ true → is_in_range (second_byte_min a) (second_byte_max a) b ≡ true →
+    is_later c ≡ true → IsSequence (a ∷ b ∷ c ∷ [])
 unfolding front_width
 three_is a b c h s k =
     let lead = (bounds 0xE0 0xEF a h).0 in
-    let whole : begins_three (a ∷ b ∷ c ∷ []) ≡ true = three_from (is_in_range 0xE0 0xEF a) (is_in_range (second_byte_min a) (second_byte_max a) b) (is_later c) h s k in
+    let whole : begins_three (a ∷ b ∷ c ∷ []) ≡ true = three_from (is_in_range 0xE0 0xEF a)
+    (is_in_range (second_byte_min a) (second_byte_max a) b) (is_later c) h s k in
     (omega arith, rw (no_two a (b ∷ c ∷ []) lead, whole) refl)
 
-four_is : (a b c d : ℕ) → is_in_range 0xF0 0xF4 a ≡ true → is_in_range (second_byte_min a) (second_byte_max a) b ≡ true → is_later c ≡ true → is_later d ≡ true → IsSequence (a ∷ b ∷ c ∷ d ∷ [])
+four_is : (a b c d : ℕ) → is_in_range 0xF0 0xF4 a ≡ true → is_in_range (second_byte_min a) (second_byte_max a)
+    b ≡ true → is_later c ≡ true → is_later d ≡ true → IsSequence (a ∷ b ∷ c ∷ d ∷ [])
 unfolding front_width
 four_is a b c d h s k m =
     let lead = (bounds 0xF0 0xF4 a h).0 in
-    let whole : begins_four (a ∷ b ∷ c ∷ d ∷ []) ≡ true = four_from (is_in_range 0xF0 0xF4 a) (is_in_range (second_byte_min a) (second_byte_max a) b) (is_later c) (is_later d) h s k m in
+    let whole : begins_four (a ∷ b ∷ c ∷ d ∷ []) ≡ true = four_from (is_in_range 0xF0 0xF4 a)
+    (is_in_range (second_byte_min a) (second_byte_max a) b) (is_later c) (is_later d) h s k m in
     (omega arith, rw (no_two a (b ∷ c ∷ d ∷ []) (omega arith), no_three a (b ∷ c ∷ d ∷ []) lead, whole) refl)
 
 abbrev Front : List ℕ → Type 0
@@ -158,8 +174,27 @@ begun_front (a ∷ []) e =
     elim (cases_lt a 0xE0) [
       | inl h ↦ (omega arith, (0x80 ∷ [], (omega arith, two_is a 0x80 (in_range 0xC2 0xDF a low (omega arith)) refl)))
       | inr h ↦ elim (cases_lt a 0xF0) [
-        | inl k ↦ (omega arith, (second_byte_min a ∷ 0x80 ∷ [], (omega arith, three_is a (second_byte_min a) 0x80 (in_range 0xE0 0xEF a h (omega arith)) (least_second a) refl)))
-        | inr k ↦ (omega arith, (second_byte_min a ∷ 0x80 ∷ 0x80 ∷ [], (omega arith, four_is a (second_byte_min a) 0x80 0x80 (in_range 0xF0 0xF4 a k high) (least_second a) refl refl)))
+        | inl k ↦ (
+          omega arith,
+          (
+            second_byte_min a ∷ 0x80 ∷ [],
+            (
+              omega arith,
+              three_is a (second_byte_min a) 0x80 (in_range 0xE0 0xEF a h (omega arith)) (least_second a) refl,
+            ),
+          ),
+        )
+        | inr k ↦ (
+          omega arith,
+          (
+            second_byte_min a ∷ 0x80 ∷ 0x80 ∷ [],
+            (
+              omega arith,
+              four_is a (second_byte_min a) 0x80 0x80 (in_range 0xF0 0xF4 a k high) (least_second a) refl
+                  refl,
+            ),
+          ),
+        )
       ]
     ]
 begun_front (a ∷ b ∷ []) e =
@@ -167,11 +202,32 @@ begun_front (a ∷ b ∷ []) e =
     let low = (bounds 0xE0 0xF4 a p.0).0 in
     let high = (bounds 0xE0 0xF4 a p.0).1 in
     elim (cases_lt a 0xF0) [
-      | inl k ↦ (omega arith, (0x80 ∷ [], (omega arith, three_is a b 0x80 (in_range 0xE0 0xEF a low (omega arith)) p.1 refl)))
-      | inr k ↦ (omega arith, (0x80 ∷ 0x80 ∷ [], (omega arith, four_is a b 0x80 0x80 (in_range 0xF0 0xF4 a k high) p.1 refl refl)))
+      | inl k ↦ (
+        omega arith,
+        (
+          0x80 ∷ [],
+          (
+            omega arith,
+            three_is a b 0x80 (in_range 0xE0 0xEF a low (omega arith)) p.1
+                refl,
+          ),
+        ),
+      )
+      | inr k ↦ (
+        omega arith,
+        (
+          0x80 ∷ 0x80 ∷ [],
+          (
+            omega arith,
+            four_is a b 0x80 0x80 (in_range 0xF0 0xF4 a k high) p.1
+                refl refl,
+          ),
+        ),
+      )
     ]
 begun_front (a ∷ b ∷ c ∷ []) e =
-    let p = three_parts (is_in_range 0xF0 0xF4 a) (is_in_range (second_byte_min a) (second_byte_max a) b) (is_later c) e in
+    let p = three_parts (is_in_range 0xF0 0xF4 a) (is_in_range (second_byte_min a) (second_byte_max a) b) (is_later c)
+    e in
     (omega arith, (0x80 ∷ [], (omega arith, four_is a b c 0x80 p.0 p.1 p.2 refl)))
 begun_front (a ∷ b ∷ c ∷ d ∷ bs) e = absurd (false≢true e)
 

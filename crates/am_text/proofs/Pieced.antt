@@ -1,12 +1,15 @@
 -- Pieces of a text, joined.
-use Rattle.std.proofs.Common.{◌≡◌, ◌⊎◌, ℕ, zero, suc, ◌+◌, ◌-◌, ◌/◌, ◌%◌, ◌<◌, ◌≤◌, Bool, true, false, cond, ◌&&◌, leb, eqb, List, [], ◌∷◌, ◌++◌, length, take, drop, get_or, refl, sym, ap, ◌∙◌, arith, inl, inr}
+use Rattle.std.proofs.Common.{◌≡◌, ◌⊎◌, ℕ, zero, suc, ◌+◌, ◌-◌, ◌/◌, ◌%◌, ◌<◌, ◌≤◌, Bool, true, false, cond, ◌&&◌, leb}
+use Rattle.std.proofs.Common.{eqb, List, [], ◌∷◌, ◌++◌, length, take, drop, get_or, refl, sym, ap, ◌∙◌, arith, inl, inr}
 use Rattle.std.specs.Char.{encode_utf8, IsScalar}
 use Rattle.std.specs.Int.{is_in_range}
 use Rattle.std.specs.List.{AllByRecursion}
 use Rattle.std.specs.Str.Lossy.{second_byte_min, second_byte_max}
-use Rattle.std.proofs.lemmas.Bool.{and_cases, and_parts, and_right, false≢true, leb-true, leb-false, lt-ltb, le-ltb, le-leb, lt-leb, cases_lt}
+use Rattle.std.proofs.lemmas.Bool.{and_cases, and_parts, and_right, false≢true, leb-true, leb-false, lt-ltb, le-ltb}
+use Rattle.std.proofs.lemmas.Bool.{le-leb, lt-leb, cases_lt}
 use Rattle.std.proofs.lemmas.List.{append-nil, length-append, take_at, drop_at}
-use Rattle.am_text.specs.Utf8.{is_later, begins_two, begins_three, begins_four, front_rune, front_width, decode_after, decode, rune_bytes, utf8}
+use Rattle.am_text.specs.Utf8.{is_later, begins_two, begins_three, begins_four, front_rune, front_width, decode_after}
+use Rattle.am_text.specs.Utf8.{decode, rune_bytes, utf8}
 use Rattle.am_text.proofs.Encoded.{decode_encode_all}
 use Rattle.am_text.specs.Pieces.{is_begun, rest_of, whole_of, decode_part}
 
@@ -99,15 +102,21 @@ apart_begun (a ∷ []) y some e = record {
 }
 apart_begun (a ∷ b ∷ []) y some e = record {
   two = λ h. absurd (omega arith);
-  three = λ h. three_wider (is_in_range 0xE0 0xF4 a) (is_in_range 0xE0 0xEF a) _ _ e (λ r. narrow 0xE0 0xF4 0xE0 0xEF a (omega arith) (omega arith) r);
-  four = λ h. four_wider (is_in_range 0xE0 0xF4 a) (is_in_range 0xF0 0xF4 a) _ _ _ e (λ r. narrow 0xE0 0xF4 0xF0 0xF4 a (omega arith) (omega arith) r);
+  three = λ h. three_wider (is_in_range 0xE0 0xF4 a) (is_in_range 0xE0 0xEF a) _ _ e
+      (λ r. narrow 0xE0 0xF4 0xE0 0xEF a (omega arith) (omega arith) r);
+  four = λ h. four_wider (is_in_range 0xE0 0xF4 a) (is_in_range 0xF0 0xF4 a) _ _ _ e
+      (λ r. narrow 0xE0 0xF4 0xF0 0xF4 a (omega arith) (omega arith) r);
 }
 apart_begun (a ∷ b ∷ c ∷ []) y some e = record {
   two = λ h. absurd (omega arith);
   three = λ h. absurd (omega arith);
   four = λ h. four_more (is_in_range 0xF0 0xF4 a) _ _ _ e;
 }
-apart_begun (a ∷ b ∷ c ∷ d ∷ x) y some e = record { two = λ h. absurd (omega arith); three = λ h. absurd (omega arith); four = λ h. absurd (omega arith) }
+apart_begun (a ∷ b ∷ c ∷ d ∷ x) y some e = record {
+  two = λ h. absurd (omega arith);
+  three = λ h. absurd (omega arith);
+  four = λ h. absurd (omega arith);
+}
 
 apart_later : (x y : List ℕ) → 0 < length x → is_later (get_or y 0 0) ≡ false → Apart x y
 apart_later [] y some e = absurd (omega arith)
@@ -126,7 +135,11 @@ apart_later (a ∷ b ∷ c ∷ []) y some e = record {
   three = λ h. absurd (omega arith);
   four = λ h. four_fourth (is_in_range 0xF0 0xF4 a) _ _ (is_later (get_or y 0 0)) e;
 }
-apart_later (a ∷ b ∷ c ∷ d ∷ x) y some e = record { two = λ h. absurd (omega arith); three = λ h. absurd (omega arith); four = λ h. absurd (omega arith) }
+apart_later (a ∷ b ∷ c ∷ d ∷ x) y some e = record {
+  two = λ h. absurd (omega arith);
+  three = λ h. absurd (omega arith);
+  four = λ h. absurd (omega arith);
+}
 
 -- a width, where each test can hold only of as many bytes
 width_low : (t u v : Bool) → 0 < cond t 2 (cond u 3 (cond v 4 1))
@@ -135,10 +148,16 @@ width_low false true v = omega arith
 width_low false false true = omega arith
 width_low false false false = omega arith
 
-width_high : (t u v : Bool) (n : ℕ) → 0 < n → (n < 2 → t ≡ false) → (n < 3 → u ≡ false) → (n < 4 → v ≡ false) → cond t 2 (cond u 3 (cond v 4 1)) ≤ n
-width_high true u v n some two three four = elim (cases_lt n 2) [ inl h ↦ absurd (false≢true (sym (two h))) | inr h ↦ h ]
-width_high false true v n some two three four = elim (cases_lt n 3) [ inl h ↦ absurd (false≢true (sym (three h))) | inr h ↦ h ]
-width_high false false true n some two three four = elim (cases_lt n 4) [ inl h ↦ absurd (false≢true (sym (four h))) | inr h ↦ h ]
+width_high : (t u v : Bool) (n : ℕ) → 0 < n → (n < 2 → t ≡ false) → (n < 3 → u ≡ false) → (n < 4 → v ≡ false)
+    → cond t 2 (cond u 3 (cond v 4 1)) ≤ n
+width_high true u v n some two three four = elim (cases_lt n 2) [
+  | inl h ↦ absurd (false≢true (sym (two h)))
+  | inr h ↦ h
+]
+width_high false true v n some two three four = elim (cases_lt n 3)
+    [ inl h ↦ absurd (false≢true (sym (three h))) | inr h ↦ h ]
+width_high false false true n some two three four = elim (cases_lt n 4)
+    [ inl h ↦ absurd (false≢true (sym (four h))) | inr h ↦ h ]
 width_high false false false n some two three four = omega arith
 
 -- the front is the same, and stands in x
@@ -197,7 +216,8 @@ same_front (a ∷ b ∷ c ∷ d ∷ l) y some p =
       width = refl;
       rune = refl;
       positive = width_low (begins_two x) (begins_three x) (begins_four x);
-      inside = width_high (begins_two x) (begins_three x) (begins_four x) (length x) some (λ h. absurd (omega arith)) (λ h. absurd (omega arith)) (λ h. absurd (omega arith));
+      inside = width_high (begins_two x) (begins_three x) (begins_four x) (length x) some (λ h. absurd (omega arith))
+          (λ h. absurd (omega arith)) (λ h. absurd (omega arith));
     }
 
 -- ---- decoding of joined bytes
@@ -220,9 +240,14 @@ parted_apart b bs y p =
 
 parted_tail : (b : ℕ) (bs y : List ℕ) → Parted (b ∷ bs) y → Parted bs y
 unfolding rest_of
-parted_tail b bs y p = elim p [ inl e ↦ let g = guard_nil (is_begun (b ∷ bs)) b bs (rest_of bs) e in inl g.1 | inr e ↦ inr e ]
+parted_tail b bs y p = elim p [
+  | inl e ↦ let g = guard_nil (is_begun (b ∷ bs)) b bs (rest_of bs) e in
+      inl g.1
+  | inr e ↦ inr e
+]
 
-decode_after-append : (x y : List ℕ) (n : ℕ) → n ≤ length x → Parted x y → decode_after n (x ++ y) ≡ decode_after n x ++ decode y
+decode_after-append : (x y : List ℕ) (n : ℕ) → n ≤ length x → Parted x y → decode_after n (x ++ y) ≡ decode_after n x
+    ++ decode y
 unfolding decode_after
 decode_after-append [] y zero h p = refl
 decode_after-append [] y (suc n) h p = absurd (omega arith)
@@ -246,7 +271,8 @@ unfolding whole_of rest_of
 whole-append-rest [] = refl
 whole-append-rest (b ∷ bs) =
     let ih = whole-append-rest bs in
-    elim (is_begun (b ∷ bs)) as (λ t. cond t [] (b ∷ whole_of bs) ++ cond t (b ∷ bs) (rest_of bs) ≡ b ∷ bs) [ true ↦ refl | false ↦ ap (λ (l : List ℕ). b ∷ l) ih ]
+    elim (is_begun (b ∷ bs)) as (λ t. cond t [] (b ∷ whole_of bs) ++ cond t (b ∷ bs) (rest_of bs) ≡ b ∷ bs)
+    [ true ↦ refl | false ↦ ap (λ (l : List ℕ). b ∷ l) ih ]
 
 -- what isn't begun isn't with more bytes
 not_begun : (x y : List ℕ) → 0 < length x → is_begun x ≡ false → is_begun (x ++ y) ≡ false
@@ -254,10 +280,12 @@ unfolding is_begun
 not_begun [] y some e = absurd (omega arith)
 not_begun (a ∷ []) [] some e = e
 not_begun (a ∷ []) (b ∷ []) some e = rw (narrow 0xC2 0xF4 0xE0 0xF4 a (omega arith) (omega arith) e) refl
-not_begun (a ∷ []) (b ∷ c ∷ []) some e = three_first (is_in_range 0xF0 0xF4 a) _ _ (narrow 0xC2 0xF4 0xF0 0xF4 a (omega arith) (omega arith) e)
+not_begun (a ∷ []) (b ∷ c ∷ []) some e = three_first (is_in_range 0xF0 0xF4 a) _ _
+    (narrow 0xC2 0xF4 0xF0 0xF4 a (omega arith) (omega arith) e)
 not_begun (a ∷ []) (b ∷ c ∷ d ∷ y) some e = refl
 not_begun (a ∷ b ∷ []) [] some e = e
-not_begun (a ∷ b ∷ []) (c ∷ []) some e = three_wider (is_in_range 0xE0 0xF4 a) (is_in_range 0xF0 0xF4 a) _ _ e (λ r. narrow 0xE0 0xF4 0xF0 0xF4 a (omega arith) (omega arith) r)
+not_begun (a ∷ b ∷ []) (c ∷ []) some e = three_wider (is_in_range 0xE0 0xF4 a) (is_in_range 0xF0 0xF4 a) _ _ e
+    (λ r. narrow 0xE0 0xF4 0xF0 0xF4 a (omega arith) (omega arith) r)
 not_begun (a ∷ b ∷ []) (c ∷ d ∷ y) some e = refl
 not_begun (a ∷ b ∷ c ∷ []) [] some e = e
 not_begun (a ∷ b ∷ c ∷ []) (d ∷ y) some e = refl
@@ -268,7 +296,8 @@ unfolding rest_of
 rest-append [] b = refl
 rest-append (c ∷ cs) b =
     let ih = rest-append cs b in
-    elim (is_begun (c ∷ cs)) as (λ t. is_begun (c ∷ cs) ≡ t → rest_of (c ∷ (cs ++ b)) ≡ rest_of (cond t (c ∷ cs) (rest_of cs) ++ b)) [
+    elim (is_begun (c ∷ cs)) as (λ t. is_begun (c ∷ cs) ≡ t → rest_of (c ∷ (cs ++ b))
+    ≡ rest_of (cond t (c ∷ cs) (rest_of cs) ++ b)) [
       | true ↦ λ e. refl
       | false ↦ λ e. rw (not_begun (c ∷ cs) b (omega arith) e) ih
     ] refl
@@ -278,7 +307,8 @@ unfolding whole_of rest_of
 whole-append [] b = refl
 whole-append (c ∷ cs) b =
     let ih = whole-append cs b in
-    elim (is_begun (c ∷ cs)) as (λ t. is_begun (c ∷ cs) ≡ t → whole_of (c ∷ (cs ++ b)) ≡ cond t [] (c ∷ whole_of cs) ++ whole_of (cond t (c ∷ cs) (rest_of cs) ++ b)) [
+    elim (is_begun (c ∷ cs)) as (λ t. is_begun (c ∷ cs) ≡ t → whole_of (c ∷ (cs ++ b)) ≡ cond t [] (c ∷ whole_of cs)
+    ++ whole_of (cond t (c ∷ cs) (rest_of cs) ++ b)) [
       | true ↦ λ e. refl
       | false ↦ λ e. rw (not_begun (c ∷ cs) b (omega arith) e) (ap (λ (l : List ℕ). c ∷ l) ih)
     ] refl
@@ -288,11 +318,13 @@ unfolding rest_of
 rest_cases [] = inl refl
 rest_cases (b ∷ bs) =
     let ih = rest_cases bs in
-    elim (is_begun (b ∷ bs)) as (λ t. is_begun (b ∷ bs) ≡ t → (cond t (b ∷ bs) (rest_of bs) ≡ []) ⊎ (is_begun (cond t (b ∷ bs) (rest_of bs)) ≡ true)) [ true ↦ λ e. inr e | false ↦ λ e. ih ] refl
+    elim (is_begun (b ∷ bs)) as (λ t. is_begun (b ∷ bs) ≡ t → (cond t (b ∷ bs) (rest_of bs) ≡ [])
+    ⊎ (is_begun (cond t (b ∷ bs) (rest_of bs)) ≡ true)) [ true ↦ λ e. inr e | false ↦ λ e. ih ] refl
 
 -- the first byte of what is begun
 lead : (lo hi b : ℕ) → 0xC2 ≤ lo → is_in_range lo hi b ≡ true → is_later b ≡ false
-lead lo hi b h e = let p = and_parts (leb lo b) (leb b hi) e in let low = leb-true lo b p.0 in and_right (leb 0x80 b) (leb b 0xBF) (lt-leb b 0xBF (omega arith))
+lead lo hi b h e = let p = and_parts (leb lo b) (leb b hi) e in let low = leb-true lo b p.0 in
+    and_right (leb 0x80 b) (leb b 0xBF) (lt-leb b 0xBF (omega arith))
 
 three_parts : (p s l : Bool) → (p && s && l) ≡ true → p ≡ true
 three_parts true s l e = refl
@@ -318,20 +350,28 @@ whole_first : (r b : List ℕ) → is_begun r ≡ true → is_later (get_or (who
 unfolding whole_of
 whole_first [] b e = absurd (begun_some e)
 whole_first (c ∷ cs) b e =
-    elim (is_begun (c ∷ (cs ++ b))) as (λ t. is_later (get_or (cond t [] (c ∷ whole_of (cs ++ b))) 0 0) ≡ false) [ true ↦ refl | false ↦ begun_lead c cs e ]
+    elim (is_begun (c ∷ (cs ++ b))) as (λ t. is_later (get_or (cond t [] (c ∷ whole_of (cs ++ b))) 0 0) ≡ false)
+    [ true ↦ refl | false ↦ begun_lead c cs e ]
 
 whole_all : (bs : List ℕ) → rest_of bs ≡ [] → whole_of bs ≡ bs
 whole_all bs e = sym (append-nil (whole_of bs)) ∙ ap (λ (l : List ℕ). whole_of bs ++ l) (sym e) ∙ whole-append-rest bs
 
 parted_whole : (a b : List ℕ) → Parted (whole_of a) (whole_of (rest_of a ++ b))
-parted_whole a b = elim (rest_cases a) [ inl e ↦ inl (ap rest_of (whole_all a e) ∙ e) | inr e ↦ inr (whole_first (rest_of a) b e) ]
+parted_whole a b = elim (rest_cases a) [
+  | inl e ↦ inl (ap rest_of (whole_all a e) ∙ e)
+  | inr e ↦ inr
+      (whole_first (rest_of a) b e)
+]
 
-pub text-append : (a b : List ℕ) → decode (whole_of (a ++ b)) ≡ decode (whole_of a) ++ decode (whole_of (rest_of a ++ b))
-text-append a b = ap decode (whole-append a b) ∙ decode-append (whole_of a) (whole_of (rest_of a ++ b)) (parted_whole a b)
+pub text-append : (a b : List ℕ) → decode (whole_of (a ++ b)) ≡ decode (whole_of a)
+    ++ decode (whole_of (rest_of a ++ b))
+text-append a b = ap decode (whole-append a b) ∙ decode-append (whole_of a) (whole_of (rest_of a ++ b))
+    (parted_whole a b)
 
 pub ends_whole : (bs : List ℕ) → decode bs ≡ decode (whole_of bs) ++ decode (rest_of bs)
 ends_whole bs =
-    let p : Parted (whole_of bs) (rest_of bs) = elim (rest_cases bs) [ inl e ↦ inl (ap rest_of (whole_all bs e) ∙ e) | inr e ↦ inr (begun_first (rest_of bs) e) ] in
+    let p : Parted (whole_of bs) (rest_of bs) = elim (rest_cases bs)
+    [ inl e ↦ inl (ap rest_of (whole_all bs e) ∙ e) | inr e ↦ inr (begun_first (rest_of bs) e) ] in
     ap decode (sym (whole-append-rest bs)) ∙ decode-append (whole_of bs) (rest_of bs) p
 
 begun_few : (bs : List ℕ) → is_begun bs ≡ true → length bs ≤ 3
@@ -373,7 +413,8 @@ long_begun (a ∷ b ∷ c ∷ d ∷ bs) h = refl
 rest-drop : (k : ℕ) (bs : List ℕ) → k + 3 ≤ length bs → rest_of (drop k bs) ≡ rest_of bs
 rest-drop zero bs h = refl
 rest-drop (suc k) [] h = absurd (omega arith)
-rest-drop (suc k) (b ∷ bs) h = rest-drop k bs (omega arith) ∙ sym (rest-front (b ∷ bs) (omega arith) (long_begun (b ∷ bs) (omega arith)))
+rest-drop (suc k) (b ∷ bs) h = rest-drop k bs (omega arith) ∙ sym (rest-front (b ∷ bs) (omega arith)
+    (long_begun (b ∷ bs) (omega arith)))
 
 pub rest-last : (bs : List ℕ) → rest_of (drop (length bs - 3) bs) ≡ rest_of bs
 rest-last bs =
@@ -383,21 +424,24 @@ rest-last bs =
     ]
 
 pub length-rest : (bs : List ℕ) → length (rest_of bs) ≤ length bs
-length-rest bs = let e = ap length (whole-append-rest bs) in let n = length-append (whole_of bs) (rest_of bs) in omega arith
+length-rest bs = let e = ap length (whole-append-rest bs) in let n = length-append (whole_of bs) (rest_of bs) in
+    omega arith
 
 pub whole-take : (bs : List ℕ) → take (length bs - length (rest_of bs)) bs ≡ whole_of bs
 whole-take bs =
     let n = length-append (whole_of bs) (rest_of bs) in
     let all = ap length (whole-append-rest bs) in
     let e : length (whole_of bs) ≡ length bs - length (rest_of bs) = omega arith in
-    ap (λ (l : List ℕ). take (length bs - length (rest_of bs)) l) (sym (whole-append-rest bs)) ∙ take_at (whole_of bs) (rest_of bs) (length bs - length (rest_of bs)) e
+    ap (λ (l : List ℕ). take (length bs - length (rest_of bs)) l) (sym (whole-append-rest bs))
+    ∙ take_at (whole_of bs) (rest_of bs) (length bs - length (rest_of bs)) e
 
 pub rest-drop-whole : (bs : List ℕ) → drop (length bs - length (rest_of bs)) bs ≡ rest_of bs
 rest-drop-whole bs =
     let n = length-append (whole_of bs) (rest_of bs) in
     let all = ap length (whole-append-rest bs) in
     let e : length (whole_of bs) ≡ length bs - length (rest_of bs) = omega arith in
-    ap (λ (l : List ℕ). drop (length bs - length (rest_of bs)) l) (sym (whole-append-rest bs)) ∙ drop_at (whole_of bs) (rest_of bs) (length bs - length (rest_of bs)) e
+    ap (λ (l : List ℕ). drop (length bs - length (rest_of bs)) l) (sym (whole-append-rest bs))
+    ∙ drop_at (whole_of bs) (rest_of bs) (length bs - length (rest_of bs)) e
 
 -- ---- the bytes of a text
 
@@ -430,21 +474,27 @@ rest_one c h = rw (lt-leb 0xC2 c (omega arith)) refl
 
 rest_two : (c : ℕ) → c < 2048 → rest_of ((192 + c / 64) ∷ (128 + c % 64) ∷ []) ≡ []
 rest_two c h =
-    let no : is_begun ((192 + c / 64) ∷ (128 + c % 64) ∷ []) ≡ false = no_two (192 + c / 64) (128 + c % 64) (omega arith) in
-    rest-front ((192 + c / 64) ∷ (128 + c % 64) ∷ []) (omega arith) no ∙ rest-later (128 + c % 64) [] (later c) ∙ rest_nil
+    let no : is_begun ((192 + c / 64) ∷ (128 + c % 64) ∷ []) ≡ false = no_two (192 + c / 64) (128 + c % 64)
+    (omega arith) in
+    rest-front ((192 + c / 64) ∷ (128 + c % 64) ∷ []) (omega arith) no ∙ rest-later (128 + c % 64) [] (later c)
+    ∙ rest_nil
 
 rest_three : (c : ℕ) → c < 65536 → rest_of ((224 + c / 4096) ∷ (128 + c / 64 % 64) ∷ (128 + c % 64) ∷ []) ≡ []
 rest_three c h =
-    let no : is_begun ((224 + c / 4096) ∷ (128 + c / 64 % 64) ∷ (128 + c % 64) ∷ []) ≡ false = no_three (224 + c / 4096) (128 + c / 64 % 64) (128 + c % 64) (omega arith) in
+    let no : is_begun ((224 + c / 4096) ∷ (128 + c / 64 % 64) ∷ (128 + c % 64) ∷ []) ≡ false = no_three (224 + c / 4096)
+    (128 + c / 64 % 64) (128 + c % 64) (omega arith) in
     rest-front ((224 + c / 4096) ∷ (128 + c / 64 % 64) ∷ (128 + c % 64) ∷ []) (omega arith) no
-    ∙ rest-later (128 + c / 64 % 64) ((128 + c % 64) ∷ []) (later (c / 64)) ∙ rest-later (128 + c % 64) [] (later c) ∙ rest_nil
+    ∙ rest-later (128 + c / 64 % 64) ((128 + c % 64) ∷ []) (later (c / 64)) ∙ rest-later (128 + c % 64) [] (later c)
+    ∙ rest_nil
 
-rest_four : (c : ℕ) → rest_of ((240 + c / 262144) ∷ (128 + c / 4096 % 64) ∷ (128 + c / 64 % 64) ∷ (128 + c % 64) ∷ []) ≡ []
+rest_four : (c : ℕ) → rest_of ((240 + c / 262144) ∷ (128 + c / 4096 % 64) ∷ (128 + c / 64 % 64) ∷ (128 + c % 64) ∷ [])
+    ≡ []
 rest_four c =
     let l : List ℕ = (128 + c / 4096 % 64) ∷ (128 + c / 64 % 64) ∷ (128 + c % 64) ∷ [] in
     rest-front ((240 + c / 262144) ∷ l) (omega arith) (long_begun ((240 + c / 262144) ∷ l) (omega arith))
     ∙ rest-later (128 + c / 4096 % 64) ((128 + c / 64 % 64) ∷ (128 + c % 64) ∷ []) (later (c / 4096))
-    ∙ rest-later (128 + c / 64 % 64) ((128 + c % 64) ∷ []) (later (c / 64)) ∙ rest-later (128 + c % 64) [] (later c) ∙ rest_nil
+    ∙ rest-later (128 + c / 64 % 64) ((128 + c % 64) ∷ []) (later (c / 64)) ∙ rest-later (128 + c % 64) [] (later c)
+    ∙ rest_nil
 
 rest-encode : (c : ℕ) → rest_of (encode_utf8 c) ≡ []
 unfolding encode_utf8
@@ -469,10 +519,12 @@ rest-utf8 (c ∷ cs) s =
     ∙ ap (λ (l : List ℕ). rest_of (l ++ utf8 cs)) (rest-encode c)
     ∙ rest-utf8 cs s.1
 
-pub leaves_none : (text : List ℕ) → AllByRecursion IsScalar text → decode_part (utf8 text) ≡ record { text = text; rest = [] }
+pub leaves_none : (text : List ℕ) → AllByRecursion IsScalar text →
+    decode_part (utf8 text) ≡ record { text = text; rest = [] }
 leaves_none text s =
     let none = rest-utf8 text s in
-    let same : decode (whole_of (utf8 text)) ≡ text = ap decode (whole_all (utf8 text) none) ∙ decode_encode_all text s in
+    let same : decode (whole_of (utf8 text)) ≡ text = ap decode (whole_all (utf8 text) none)
+    ∙ decode_encode_all text s in
     cc
 
 pub ruleset leaving = (rest-front, rest-here, rest-nil, rest-last, length-rest, length-rest-few)

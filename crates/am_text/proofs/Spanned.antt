@@ -1,5 +1,6 @@
 -- The spans of the lines hold the lines.
-use Rattle.std.proofs.Common.{◌≡◌, ℕ, zero, suc, ◌+◌, ◌-◌, ◌<◌, ◌≤◌, true, false, cond, eqb, List, [], ◌∷◌, ◌++◌, length, map, take, drop, refl, sym, ap, ◌∙◌, append_assoc, arith}
+use Rattle.std.proofs.Common.{◌≡◌, ℕ, zero, suc, ◌+◌, ◌-◌, ◌<◌, ◌≤◌, true, false, cond, eqb, List, [], ◌∷◌, ◌++◌}
+use Rattle.std.proofs.Common.{length, map, take, drop, refl, sym, ap, ◌∙◌, append_assoc, arith}
 use Rattle.std.specs.List.{onto_first}
 use Rattle.std.proofs.lemmas.Bool.{eqb-true}
 use Rattle.std.proofs.lemmas.Bool.Decides.{nat_tests}
@@ -43,7 +44,8 @@ length-drop (suc n) [] h = absurd (omega arith)
 length-drop (suc n) (x ∷ xs) h = length-drop n xs (omega arith) ∙ omega arith
 
 -- a span inside the front
-within : (all pre bs : List ℕ) (from : ℕ) → all ≡ pre ++ bs → from ≤ length pre → line_at all (record { q0 = from; q1 = length pre }) ≡ drop from pre
+within : (all pre bs : List ℕ) (from : ℕ) → all ≡ pre ++ bs → from ≤ length pre
+    → line_at all (record { q0 = from; q1 = length pre }) ≡ drop from pre
 within all pre bs from e h =
     let n : length pre - from ≡ length (drop from pre) = sym (length-drop from pre h) in
     rw (e, drop-front from pre bs h) (take-front (drop from pre) bs (length pre - from) n)
@@ -64,20 +66,25 @@ onto-none [] e = refl
 onto-none (p ∷ ps) e = absurd cc
 
 -- the span of what is pending
-pending : (all pre bs : List ℕ) (from at : ℕ) → all ≡ pre ++ bs → at ≡ length pre → from ≤ at → line_at all (record { q0 = from; q1 = at }) ≡ drop from pre
+pending : (all pre bs : List ℕ) (from at : ℕ) → all ≡ pre ++ bs → at ≡ length pre → from ≤ at
+    → line_at all (record { q0 = from; q1 = at }) ≡ drop from pre
 pending all pre bs from at e n h =
     ap (λ (k : ℕ). line_at all (record { q0 = from; q1 = k })) n ∙ within all pre bs from e (omega arith)
 
-last-span : (all pre : List ℕ) (from at : ℕ) → all ≡ pre ++ [] → at ≡ length pre → from ≤ at → map (line_at all) (spans_after from at []) ≡ onto (drop from pre) []
+last-span : (all pre : List ℕ) (from at : ℕ) → all ≡ pre ++ [] → at ≡ length pre → from ≤ at
+    → map (line_at all) (spans_after from at []) ≡ onto (drop from pre) []
 last-span all pre from at e n h =
-    elim (eqb from at) as (λ t. eqb from at ≡ t → map (line_at all) (cond t [] (record { q0 = from; q1 = at } ∷ [])) ≡ onto (drop from pre) []) [
+    elim (eqb from at) as (λ t. eqb from at ≡ t → map (line_at all)
+    (cond t [] (record { q0 = from; q1 = at } ∷ [])) ≡ onto (drop from pre) []) [
       | true ↦ λ i. sym (onto-none (drop from pre) (drop-all pre from (eqb-true from at i ∙ n)))
       | false ↦ λ i.
-          let some : 0 < length (drop from pre) = let l = length-drop from pre (omega arith) in let d : from < at = grind (arith, nat_tests) in omega arith in
+          let some : 0 < length (drop from pre) = let l = length-drop from pre (omega arith) in
+          let d : from < at = grind (arith, nat_tests) in omega arith in
           ap (λ (x : List ℕ). x ∷ []) (pending all pre [] from at e n h) ∙ sym (onto-one (drop from pre) some)
     ] refl
 
-spans-lines : (all pre bs : List ℕ) (from at : ℕ) → all ≡ pre ++ bs → at ≡ length pre → from ≤ at → map (line_at all) (spans_after from at bs) ≡ onto (drop from pre) (lines_of bs)
+spans-lines : (all pre bs : List ℕ) (from at : ℕ) → all ≡ pre ++ bs → at ≡ length pre → from ≤ at
+    → map (line_at all) (spans_after from at bs) ≡ onto (drop from pre) (lines_of bs)
 spans-lines all pre [] from at e n h = last-span all pre from at e n h
 spans-lines all pre (b ∷ bs) from at e n h =
     let more : List ℕ = pre ++ b ∷ [] in
@@ -85,13 +92,19 @@ spans-lines all pre (b ∷ bs) from at e n h =
     let n' : at + 1 ≡ length more = omega (arith, length-append pre (b ∷ []), n) in
     let next = spans-lines all more bs (at + 1) (at + 1) e' n' (omega arith) in
     let on = spans-lines all more bs from (at + 1) e' n' (omega arith) in
-    elim (eqb b 10) as (λ t. map (line_at all) (cond t (record { q0 = from; q1 = at } ∷ spans_after (at + 1) (at + 1) bs) (spans_after from (at + 1) bs))
+    elim (eqb b 10) as (λ t. map (line_at all) (cond t (record { q0 = from; q1 = at } ∷ spans_after (at + 1) (at + 1)
+    bs) (spans_after from (at + 1) bs))
     ≡ onto (drop from pre) (cond t ([] ∷ lines_of bs) (onto_first b (lines_of bs)))) [
       | true ↦
-          let front : line_at all (record { q0 = from; q1 = at }) ≡ drop from pre ++ [] = pending all pre (b ∷ bs) from at e n h ∙ sym (append-nil (drop from pre)) in
-          let back : map (line_at all) (spans_after (at + 1) (at + 1) bs) ≡ lines_of bs = next ∙ ap (λ (x : List ℕ). onto x (lines_of bs)) (drop-all more (at + 1) n') ∙ onto-nil (lines_of bs) in
-          ap (λ (x : List ℕ). x ∷ map (line_at all) (spans_after (at + 1) (at + 1) bs)) front ∙ ap (λ (x : List (List ℕ)). (drop from pre ++ []) ∷ x) back ∙ sym (onto-cons (drop from pre) [] (lines_of bs))
-      | false ↦ on ∙ ap (λ (x : List ℕ). onto x (lines_of bs)) (drop-front from pre (b ∷ []) (omega arith)) ∙ onto-first (drop from pre) b (lines_of bs)
+          let front : line_at all (record { q0 = from; q1 = at }) ≡ drop from pre
+          ++ [] = pending all pre (b ∷ bs) from at e n h ∙ sym (append-nil (drop from pre)) in
+          let back : map (line_at all) (spans_after (at + 1) (at + 1) bs) ≡ lines_of bs =
+          next ∙ ap (λ (x : List ℕ). onto x (lines_of bs)) (drop-all more (at + 1) n') ∙ onto-nil (lines_of bs) in
+          ap (λ (x : List ℕ). x ∷ map (line_at all) (spans_after (at + 1) (at + 1) bs)) front
+          ∙ ap (λ (x : List (List ℕ)). (drop from pre ++ []) ∷ x) back
+          ∙ sym (onto-cons (drop from pre) [] (lines_of bs))
+      | false ↦ on ∙ ap (λ (x : List ℕ). onto x (lines_of bs)) (drop-front from pre (b ∷ []) (omega arith))
+          ∙ onto-first (drop from pre) b (lines_of bs)
     ]
 
 pub lines_spans : (bytes : List ℕ) → map (line_at bytes) (spans_of bytes) ≡ lines_of bytes

@@ -1,5 +1,6 @@
 -- Reading undoes escaping, and nothing else is read.
-use Rattle.std.proofs.Common.{◌≡◌, ℕ, Bool, true, false, cond, eqb, List, [], ◌∷◌, ◌++◌, Option, Some, None, refl, sym, ap, subst, ◌∙◌, append_assoc}
+use Rattle.std.proofs.Common.{◌≡◌, ℕ, Bool, true, false, cond, eqb, List, [], ◌∷◌, ◌++◌, Option, Some, None, refl, sym}
+use Rattle.std.proofs.Common.{ap, subst, ◌∙◌, append_assoc}
 use Rattle.std.specs.Char.{encode_utf8, IsScalar}
 use Rattle.std.specs.List.{AllByRecursion, flat_map}
 use Rattle.std.specs.Str.{is_utf8, encode_utf8_all}
@@ -24,9 +25,11 @@ marks text = flat_map mark text
 escaped-mark : (c : ℕ) → escaped c ≡ utf8 (mark c)
 unfolding encode_utf8
 escaped-mark c =
-    elim (eqb c 10) as (λ t. cond t (92 ∷ 110 ∷ []) (cond (eqb c 92) (92 ∷ 92 ∷ []) (rune_bytes c)) ≡ utf8 (cond t (92 ∷ 110 ∷ []) (cond (eqb c 92) (92 ∷ 92 ∷ []) (c ∷ [])))) [
+    elim (eqb c 10) as (λ t. cond t (92 ∷ 110 ∷ []) (cond (eqb c 92) (92 ∷ 92 ∷ []) (rune_bytes c))
+    ≡ utf8 (cond t (92 ∷ 110 ∷ []) (cond (eqb c 92) (92 ∷ 92 ∷ []) (c ∷ [])))) [
       | true ↦ refl
-      | false ↦ elim (eqb c 92) as (λ t. cond t (92 ∷ 92 ∷ []) (rune_bytes c) ≡ utf8 (cond t (92 ∷ 92 ∷ []) (c ∷ []))) [ true ↦ refl | false ↦ sym (append-nil (rune_bytes c)) ]
+      | false ↦ elim (eqb c 92) as (λ t. cond t (92 ∷ 92 ∷ []) (rune_bytes c) ≡ utf8 (cond t (92 ∷ 92 ∷ []) (c ∷ [])))
+          [ true ↦ refl | false ↦ sym (append-nil (rune_bytes c)) ]
     ]
 
 escaped-marks : (text : List ℕ) → flat_map escaped text ≡ utf8 (marks text)
@@ -42,20 +45,25 @@ scalar_marks : (text : List ℕ) → AllByRecursion IsScalar text → AllByRecur
 scalar_marks [] s = tt
 scalar_marks (c ∷ cs) s =
     let ih = scalar_marks cs s.1 in
-    elim (eqb c 10) as (λ t. AllByRecursion IsScalar (cond t (92 ∷ 110 ∷ []) (cond (eqb c 92) (92 ∷ 92 ∷ []) (c ∷ [])) ++ marks cs)) [
+    elim (eqb c 10) as (λ t. AllByRecursion IsScalar (cond t (92 ∷ 110 ∷ []) (cond (eqb c 92) (92 ∷ 92 ∷ []) (c ∷ []))
+    ++ marks cs)) [
       | true ↦ (refl, (refl, ih))
-      | false ↦ elim (eqb c 92) as (λ t. AllByRecursion IsScalar (cond t (92 ∷ 92 ∷ []) (c ∷ []) ++ marks cs)) [ true ↦ (refl, (refl, ih)) | false ↦ (s.0, ih) ]
+      | false ↦ elim (eqb c 92) as (λ t. AllByRecursion IsScalar (cond t (92 ∷ 92 ∷ []) (c ∷ []) ++ marks cs))
+          [ true ↦ (refl, (refl, ih)) | false ↦ (s.0, ih) ]
     ]
 
 scalar_text : (text : List ℕ) → AllByRecursion IsScalar (marks text) → AllByRecursion IsScalar text
 scalar_text [] s = tt
 scalar_text (c ∷ cs) s =
-    elim (eqb c 10) as (λ t. eqb c 10 ≡ t → AllByRecursion IsScalar (cond t (92 ∷ 110 ∷ []) (cond (eqb c 92) (92 ∷ 92 ∷ []) (c ∷ [])) ++ marks cs) → AllByRecursion IsScalar (c ∷ cs)) [
+    elim (eqb c 10) as (λ t. eqb c 10 ≡ t → AllByRecursion IsScalar
+    (cond t (92 ∷ 110 ∷ []) (cond (eqb c 92) (92 ∷ 92 ∷ []) (c ∷ [])) ++ marks cs)
+    → AllByRecursion IsScalar (c ∷ cs)) [
       | true ↦ λ e m. (ap scalar (eqb-true c 10 e), scalar_text cs m.1.1)
-      | false ↦ λ e. elim (eqb c 92) as (λ t. eqb c 92 ≡ t → AllByRecursion IsScalar (cond t (92 ∷ 92 ∷ []) (c ∷ []) ++ marks cs) → AllByRecursion IsScalar (c ∷ cs)) [
-        | true ↦ λ f m. (ap scalar (eqb-true c 92 f), scalar_text cs m.1.1)
-        | false ↦ λ f m. (m.0, scalar_text cs m.1)
-      ] refl
+      | false ↦ λ e. elim (eqb c 92) as (λ t. eqb c 92 ≡ t → AllByRecursion IsScalar
+          (cond t (92 ∷ 92 ∷ []) (c ∷ []) ++ marks cs) → AllByRecursion IsScalar (c ∷ cs)) [
+            | true ↦ λ f m. (ap scalar (eqb-true c 92 f), scalar_text cs m.1.1)
+            | false ↦ λ f m. (m.0, scalar_text cs m.1)
+          ] refl
     ] refl s
 
 all_scalars : (cs : List ℕ) → AllByRecursion IsScalar cs → scalars cs ≡ true
@@ -82,14 +90,17 @@ unfolding unescaped_after
 after-marks [] text = ap (λ (l : List ℕ). Some l) (sym (append-nil text))
 after-marks (c ∷ t) text =
     let put : (d : ℕ) → c ≡ d → unescaped_after (text ++ d ∷ []) false (marks t) ≡ Some (text ++ c ∷ t) =
-    λ d e. after-marks t (text ++ d ∷ []) ∙ ap (λ (l : List ℕ). Some l) (append_assoc text (d ∷ []) t) ∙ ap (λ (x : ℕ). Some (text ++ x ∷ t)) (sym e)
+    λ d e. after-marks t (text ++ d ∷ []) ∙ ap (λ (l : List ℕ). Some l) (append_assoc text (d ∷ []) t)
+    ∙ ap (λ (x : ℕ). Some (text ++ x ∷ t)) (sym e)
     in
-    elim (eqb c 10) as (λ b. eqb c 10 ≡ b → unescaped_after text false (cond b (92 ∷ 110 ∷ []) (cond (eqb c 92) (92 ∷ 92 ∷ []) (c ∷ [])) ++ marks t) ≡ Some (text ++ c ∷ t)) [
+    elim (eqb c 10) as (λ b. eqb c 10 ≡ b → unescaped_after text false
+    (cond b (92 ∷ 110 ∷ []) (cond (eqb c 92) (92 ∷ 92 ∷ []) (c ∷ [])) ++ marks t) ≡ Some (text ++ c ∷ t)) [
       | true ↦ λ e. put 10 (eqb-true c 10 e)
-      | false ↦ λ e. elim (eqb c 92) as (λ b. eqb c 92 ≡ b → unescaped_after text false (cond b (92 ∷ 92 ∷ []) (c ∷ []) ++ marks t) ≡ Some (text ++ c ∷ t)) [
-        | true ↦ λ f. put 92 (eqb-true c 92 f)
-        | false ↦ λ f. rw (e, f) (put c refl)
-      ] refl
+      | false ↦ λ e. elim (eqb c 92) as (λ b. eqb c 92 ≡ b → unescaped_after text false
+          (cond b (92 ∷ 92 ∷ []) (c ∷ []) ++ marks t) ≡ Some (text ++ c ∷ t)) [
+            | true ↦ λ f. put 92 (eqb-true c 92 f)
+            | false ↦ λ f. rw (e, f) (put c refl)
+          ] refl
     ] refl
 
 guard_true : (b : Bool) (o : Option (List ℕ)) → b ≡ true → cond b o None ≡ o
@@ -100,7 +111,8 @@ unfolding unescaped
 reads_again text s =
     let m = scalar_marks text s in
     ap unescaped (escaped-marks text)
-    ∙ guard_true (is_utf8 (utf8 (marks text))) (unescaped_after [] false (decode (utf8 (marks text)))) (utf8-is_utf8 (marks text) m)
+    ∙ guard_true (is_utf8 (utf8 (marks text))) (unescaped_after [] false (decode (utf8 (marks text))))
+    (utf8-is_utf8 (marks text) m)
     ∙ ap (λ (l : List ℕ). unescaped_after [] false l) (decode_encode_all (marks text) m)
     ∙ after-marks text []
 
@@ -118,34 +130,50 @@ record Read (text answer runes : List ℕ) : Type 0 where
   spelled : runes ≡ marks more
 
 -- one rune more
-one_more : (text answer runes : List ℕ) (c : ℕ) → Read (text ++ c ∷ []) answer runes → Read text answer (mark c ++ runes)
+one_more : (text answer runes : List ℕ) (c : ℕ) → Read (text ++ c ∷ []) answer runes
+    → Read text answer (mark c ++ runes)
 one_more text answer runes c r = record {
   more = c ∷ r.more;
   whole = r.whole ∙ append_assoc text (c ∷ []) r.more;
   spelled = ap (λ (l : List ℕ). mark c ++ l) r.spelled;
 }
 
-read-only : (cs text answer : List ℕ) (b : Bool) → unescaped_after text b cs ≡ Some answer → Read text answer (pending b cs)
+read-only : (cs text answer : List ℕ) (b : Bool) → unescaped_after text b cs ≡ Some answer
+    → Read text answer (pending b cs)
 unfolding unescaped_after
-read-only [] text answer false e = record { more = []; whole = let same : text ≡ answer = cc in sym same ∙ sym (append-nil text); spelled = refl }
+read-only [] text answer false e = record {
+  more = [];
+  whole = let same : text ≡ answer = cc in
+      sym same ∙ sym (append-nil text);
+  spelled = refl;
+}
 read-only [] text answer true e = absurd cc
 read-only (c ∷ cs) text answer false e =
-    elim (eqb c 10) as (λ t. eqb c 10 ≡ t → cond t None (cond (eqb c 92) (unescaped_after text true cs) (unescaped_after (text ++ c ∷ []) false cs)) ≡ Some answer → Read text answer (c ∷ cs)) [
+    elim (eqb c 10) as (λ t. eqb c 10 ≡ t → cond t None (cond (eqb c 92) (unescaped_after text true cs)
+    (unescaped_after (text ++ c ∷ []) false cs)) ≡ Some answer → Read text answer (c ∷ cs)) [
       | true ↦ λ i k. absurd cc
-      | false ↦ λ i. elim (eqb c 92) as (λ t. eqb c 92 ≡ t → cond t (unescaped_after text true cs) (unescaped_after (text ++ c ∷ []) false cs) ≡ Some answer → Read text answer (c ∷ cs)) [
-        | true ↦ λ j k. subst (λ (x : ℕ). Read text answer (x ∷ cs)) (sym (eqb-true c 92 j)) (read-only cs text answer true k)
-        | false ↦ λ j k.
-            let plain : mark c ≡ c ∷ [] = rw (i, j) refl in
-            subst (λ (l : List ℕ). Read text answer (l ++ cs)) plain (one_more text answer cs c (read-only cs (text ++ c ∷ []) answer false k))
-      ] refl
+      | false ↦ λ i. elim (eqb c 92) as (λ t. eqb c 92 ≡ t → cond t (unescaped_after text true cs)
+          (unescaped_after (text ++ c ∷ []) false cs) ≡ Some answer → Read text answer (c ∷ cs)) [
+            | true ↦ λ j k. subst (λ (x : ℕ). Read text answer (x ∷ cs)) (sym (eqb-true c 92 j))
+                (read-only cs text answer true k)
+            | false ↦ λ j k.
+                let plain : mark c ≡ c ∷ [] = rw (i, j) refl in
+                subst (λ (l : List ℕ). Read text answer (l ++ cs)) plain
+                (one_more text answer cs c (read-only cs (text ++ c ∷ []) answer false k))
+          ] refl
     ] refl e
 read-only (c ∷ cs) text answer true e =
-    elim (eqb c 110) as (λ t. eqb c 110 ≡ t → cond t (unescaped_after (text ++ 10 ∷ []) false cs) (cond (eqb c 92) (unescaped_after (text ++ 92 ∷ []) false cs) None) ≡ Some answer → Read text answer (92 ∷ c ∷ cs)) [
-      | true ↦ λ i k. subst (λ (x : ℕ). Read text answer (92 ∷ x ∷ cs)) (sym (eqb-true c 110 i)) (one_more text answer cs 10 (read-only cs (text ++ 10 ∷ []) answer false k))
-      | false ↦ λ i. elim (eqb c 92) as (λ t. eqb c 92 ≡ t → cond t (unescaped_after (text ++ 92 ∷ []) false cs) None ≡ Some answer → Read text answer (92 ∷ c ∷ cs)) [
-        | true ↦ λ j k. subst (λ (x : ℕ). Read text answer (92 ∷ x ∷ cs)) (sym (eqb-true c 92 j)) (one_more text answer cs 92 (read-only cs (text ++ 92 ∷ []) answer false k))
-        | false ↦ λ j k. absurd cc
-      ] refl
+    elim (eqb c 110) as (λ t. eqb c 110 ≡ t → cond t (unescaped_after (text ++ 10 ∷ []) false cs)
+    (cond (eqb c 92) (unescaped_after (text ++ 92 ∷ []) false cs) None) ≡ Some answer
+    → Read text answer (92 ∷ c ∷ cs)) [
+      | true ↦ λ i k. subst (λ (x : ℕ). Read text answer (92 ∷ x ∷ cs)) (sym (eqb-true c 110 i))
+          (one_more text answer cs 10 (read-only cs (text ++ 10 ∷ []) answer false k))
+      | false ↦ λ i. elim (eqb c 92) as (λ t. eqb c 92 ≡ t → cond t (unescaped_after (text ++ 92 ∷ []) false cs)
+          None ≡ Some answer → Read text answer (92 ∷ c ∷ cs)) [
+            | true ↦ λ j k. subst (λ (x : ℕ). Read text answer (92 ∷ x ∷ cs)) (sym (eqb-true c 92 j))
+                (one_more text answer cs 92 (read-only cs (text ++ 92 ∷ []) answer false k))
+            | false ↦ λ j k. absurd cc
+          ] refl
     ] refl e
 
 guard_some : (b : Bool) (o : Option (List ℕ)) (text : List ℕ) → cond b o None ≡ Some text → (b ≡ true) × (o ≡ Some text)

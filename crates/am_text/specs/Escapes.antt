@@ -13,7 +13,8 @@ unfoldable pub unescaped_after : List ℕ → Bool → List ℕ → Option (List
 unescaped_after text false [] = Some text
 unescaped_after text true [] = None
 unescaped_after text false (c ∷ cs) =
-    if c == newline then None else (if c == backslash then unescaped_after text true cs else unescaped_after (text ++ c ∷ []) false cs)
+    if c == newline then None else (if c == backslash then unescaped_after text true cs else unescaped_after
+    (text ++ c ∷ []) false cs)
 unescaped_after text true (c ∷ cs) =
     if c == letter_n then unescaped_after (text ++ newline ∷ []) false cs
     else (if c == backslash then unescaped_after (text ++ backslash ∷ []) false cs else None)

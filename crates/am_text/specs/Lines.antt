@@ -8,7 +8,8 @@ use Rattle.am_text.specs.declared.range.Range.{Range}
 -- the spans of the lines, where the bytes are those at a place, and their first line began at from
 abbrev pub spans_after : ℕ → ℕ → List ℕ → List Range
 spans_after from at [] = if from == at then [] else record { q0 = from; q1 = at } ∷ []
-spans_after from at (b ∷ bs) = if b == newline then record { q0 = from; q1 = at } ∷ spans_after (at + 1) (at + 1) bs else spans_after from (at + 1) bs
+spans_after from at (b ∷ bs) = if b == newline then record { q0 = from; q1 = at } ∷ spans_after (at + 1) (at + 1)
+    bs else spans_after from (at + 1) bs
 
 abbrev pub spans_of : List ℕ → List Range
 spans_of bs = spans_after 0 0 bs
@@ -43,4 +44,5 @@ lines_of (b ∷ bs) = if b == newline then [] ∷ lines_of bs else onto_first b 
 
 -- a rune in a text of one line
 abbrev pub escaped : ℕ → List ℕ
-escaped c = if c == newline then backslash ∷ letter_n ∷ [] else (if c == backslash then backslash ∷ backslash ∷ [] else rune_bytes c)
+escaped c = if c == newline then backslash ∷ letter_n ∷ [] else (if c == backslash then backslash ∷ backslash ∷ [] else
+    rune_bytes c)

@@ -1,5 +1,6 @@
 -- Texts whose bytes come in pieces.
-use Rattle.std.specs.Prelude.{◌≡◌, ◌↔◌, ◌<◌, ◌≤◌, ℕ, Bool, true, false, ◌&&◌, List, [], ◌∷◌, ◌++◌, length, if◌then◌else◌}
+use Rattle.std.specs.Prelude.{◌≡◌, ◌↔◌, ◌<◌, ◌≤◌, ℕ, Bool, true, false, ◌&&◌, List, [], ◌∷◌, ◌++◌, length}
+use Rattle.std.specs.Prelude.{if◌then◌else◌}
 use Rattle.std.specs.Char.{IsScalar}
 use Rattle.std.specs.Int.{is_in_range}
 use Rattle.std.specs.List.{AllByRecursion}
@@ -11,7 +12,8 @@ unfoldable pub is_begun : List ℕ → Bool
 is_begun [] = false
 is_begun (a ∷ []) = is_in_range 0xC2 0xF4 a
 is_begun (a ∷ b ∷ []) = is_in_range 0xE0 0xF4 a && is_in_range (second_byte_min a) (second_byte_max a) b
-is_begun (a ∷ b ∷ c ∷ []) = is_in_range 0xF0 0xF4 a && is_in_range (second_byte_min a) (second_byte_max a) b && is_later c
+is_begun (a ∷ b ∷ c ∷ []) = is_in_range 0xF0 0xF4 a && is_in_range (second_byte_min a) (second_byte_max a) b
+    && is_later c
 is_begun (a ∷ b ∷ c ∷ d ∷ bs) = false
 
 -- the longest end of the bytes that is begun; no bytes where there is none
@@ -40,11 +42,13 @@ IsSequence bs = (1 < length bs) × (front_width bs ≡ length bs)
 
 -- What is begun is exactly what more bytes end to a sequence.
 abbrev pub BegunIsFront : Type 0
-BegunIsFront = (bs : List ℕ) → (is_begun bs ≡ true) ↔ ((0 < length bs) × ((more : List ℕ) × ((0 < length more) × IsSequence (bs ++ more))))
+BegunIsFront = (bs : List ℕ) → (is_begun bs ≡ true) ↔ ((0 < length bs)
+    × ((more : List ℕ) × ((0 < length more) × IsSequence (bs ++ more))))
 
 -- Decoding piece by piece is decoding of the whole: the text of two pieces, and what is left over of them.
 abbrev pub JoinsTexts : Type 0
-JoinsTexts = (a b : List ℕ) → (decode_part (a ++ b)).text ≡ (decode_part a).text ++ (decode_part ((decode_part a).rest ++ b)).text
+JoinsTexts = (a b : List ℕ) → (decode_part (a ++ b)).text ≡ (decode_part a).text
+    ++ (decode_part ((decode_part a).rest ++ b)).text
 
 abbrev pub JoinsRests : Type 0
 JoinsRests = (a b : List ℕ) → (decode_part (a ++ b)).rest ≡ (decode_part ((decode_part a).rest ++ b)).rest
@@ -55,7 +59,8 @@ EndsWhole = (bs : List ℕ) → decode bs ≡ (decode_part bs).text ++ decode (d
 
 -- Of the bytes of a text nothing is left over.
 abbrev pub LeavesNone : Type 0
-LeavesNone = (text : List ℕ) → AllByRecursion IsScalar text → decode_part (utf8 text) ≡ record { text = text; rest = [] }
+LeavesNone = (text : List ℕ) → AllByRecursion IsScalar text → decode_part (utf8 text)
+    ≡ record { text = text; rest = [] }
 
 -- At most three bytes are left over.
 abbrev pub LeavesFew : Type 0

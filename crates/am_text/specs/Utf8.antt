@@ -1,5 +1,6 @@
 -- Texts as bytes: UTF-8 by the Unicode standard.
-use Rattle.std.specs.Prelude.{ℕ, zero, suc, ◌+◌, ◌-◌, ◌*◌, Bool, ◌&&◌, List, [], ◌∷◌, slice_index, nat_lt, if◌then◌else◌}
+use Rattle.std.specs.Prelude.{ℕ, zero, suc, ◌+◌, ◌-◌, ◌*◌, Bool, ◌&&◌, List, [], ◌∷◌, slice_index, nat_lt}
+use Rattle.std.specs.Prelude.{if◌then◌else◌}
 use Rattle.std.specs.Int.{is_in_range}
 use Rattle.std.specs.List.{flat_map}
 use Rattle.std.specs.Prelude.{encode_utf8}
@@ -16,11 +17,13 @@ begins_two bs = is_in_range 0xC2 0xDF (slice_index bs 0) && is_later (slice_inde
 
 abbrev pub begins_three : List ℕ → Bool
 begins_three bs = let b = slice_index bs 0 in
-    is_in_range 0xE0 0xEF b && is_in_range (second_byte_min b) (second_byte_max b) (slice_index bs 1) && is_later (slice_index bs 2)
+    is_in_range 0xE0 0xEF b && is_in_range (second_byte_min b) (second_byte_max b) (slice_index bs 1)
+    && is_later (slice_index bs 2)
 
 abbrev pub begins_four : List ℕ → Bool
 begins_four bs = let b = slice_index bs 0 in
-    is_in_range 0xF0 0xF4 b && is_in_range (second_byte_min b) (second_byte_max b) (slice_index bs 1) && is_later (slice_index bs 2) && is_later (slice_index bs 3)
+    is_in_range 0xF0 0xF4 b && is_in_range (second_byte_min b) (second_byte_max b) (slice_index bs 1)
+    && is_later (slice_index bs 2) && is_later (slice_index bs 3)
 
 -- how many bytes the front of the bytes takes: those of its sequence, or one
 unfoldable pub front_width : List ℕ → ℕ
@@ -31,7 +34,8 @@ unfoldable pub front_rune : List ℕ → ℕ
 front_rune bs = let b = slice_index bs 0 in
     if begins_two bs then (b - 0xC0) * 64 + (slice_index bs 1 - 0x80)
     else (if begins_three bs then (b - 0xE0) * 4096 + (slice_index bs 1 - 0x80) * 64 + (slice_index bs 2 - 0x80)
-    else (if begins_four bs then (b - 0xF0) * 262144 + (slice_index bs 1 - 0x80) * 4096 + (slice_index bs 2 - 0x80) * 64 + (slice_index bs 3 - 0x80)
+    else (if begins_four bs then (b - 0xF0) * 262144 + (slice_index bs 1 - 0x80) * 4096 + (slice_index bs 2 - 0x80) *
+    64 + (slice_index bs 3 - 0x80)
     else (if nat_lt b 0x80 then b else 0xFFFD)))
 
 -- the runes of the bytes, after n of them

@@ -2,7 +2,8 @@
 
 ghost use Rattle.std.specs.Prelude.{◌≡◌, ◌≤◌, ◌<◌, ◌++◌, ◌+◌, ◌∷◌, length, map, IfOk};
 ghost use Rattle.std.specs.List.{flat_map};
-ghost use Rattle.am_text.specs.Lines.{spans_of, line_at, escaped, first_line, after_line, lines_of, first_field, after_field};
+ghost use Rattle.am_text.specs.Lines.{spans_of, line_at, escaped, first_line, after_line, lines_of, first_field};
+ghost use Rattle.am_text.specs.Lines.{after_field};
 
 use crate::ascii::{BACKSLASH, NEWLINE};
 use crate::items::{Bytes, Items};

@@ -1,6 +1,7 @@
 //! A vector with reserved room, which contracts see as a list and a number.
 
-ghost use Rattle.std.specs.Prelude.{◌≡◌, ◌<◌, ◌≤◌, ◌+◌, ◌-◌, ◌^◌, ◌∷◌, [], ◌++◌, length, ◌==◌, OnOk, slice_get, slice_set, remove, Some};
+ghost use Rattle.std.specs.Prelude.{◌≡◌, ◌<◌, ◌≤◌, ◌+◌, ◌-◌, ◌^◌, ◌∷◌, [], ◌++◌, length, ◌==◌, OnOk, slice_get};
+ghost use Rattle.std.specs.Prelude.{slice_set, remove, Some};
 
 use crate::items::Items;
 use crate::memory::NoMemory;

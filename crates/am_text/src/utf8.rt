@@ -1,13 +1,15 @@
 //! Bytes to runes and back.
 
 ghost use Rattle.std.specs.List.{AllByRecursion};
-ghost use Rattle.std.specs.Prelude.{List, ℕ, ◌≡◌, ◌<◌, ◌≤◌, ◌-◌, ◌++◌, length, IfOk, OnOk, slice_index, take, drop, if◌then◌else◌};
+ghost use Rattle.std.specs.Prelude.{List, ℕ, ◌≡◌, ◌<◌, ◌≤◌, ◌-◌, ◌++◌, length, IfOk, OnOk, slice_index, take, drop};
+ghost use Rattle.std.specs.Prelude.{if◌then◌else◌};
 ghost use lib.Utf8.{scalar};
 ghost use Rattle.std.specs.Char.{IsScalar};
 ghost use Rattle.std.specs.Int.{is_in_range};
 ghost use Rattle.std.specs.Str.{is_utf8};
 ghost use Rattle.std.specs.Str.Lossy.{second_byte_min, second_byte_max};
-ghost use Rattle.am_text.specs.Utf8.{begins_two, begins_three, begins_four, front_rune, front_width, decode, rune_bytes, utf8};
+ghost use Rattle.am_text.specs.Utf8.{begins_two, begins_three, begins_four, front_rune, front_width, decode};
+ghost use Rattle.am_text.specs.Utf8.{rune_bytes, utf8};
 
 use crate::items::{Bytes, Items, Rune, Runes};
 use crate::letters::Letters;
@@ -114,7 +116,8 @@ fn decoded(alloc: Global, bytes: &[u8]) -> Result<Runes, NoMemory>
 pub fn decode_whole(alloc: Global, bytes: &[u8]) -> Result<Runes, NoMemory>
     ensures exact { IfOk result (λ runes. runes ≡ decode bytes.now) }
     // What was encoded is decoded again.
-    ensures again { IfOk result (λ runes. (text : List ℕ) → AllByRecursion IsScalar text → bytes.now ≡ utf8 text → runes ≡ text) }
+    ensures again { IfOk result (λ runes. (text : List ℕ) → AllByRecursion IsScalar text → bytes.now ≡ utf8 text
+        → runes ≡ text) }
 {
     decoded(alloc, bytes)
 }

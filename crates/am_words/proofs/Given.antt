@@ -1,5 +1,6 @@
 -- What the commands read in words that they take.
-use Rattle.std.proofs.Common.{◌≡◌, ℕ, Bool, cond, true, false, List, Option, Some, None, refl, sym, ap, ◌∙◌, codes, is_some}
+use Rattle.std.proofs.Common.{◌≡◌, ℕ, Bool, cond, true, false, List, Option, Some, None, refl, sym, ap, ◌∙◌, codes}
+use Rattle.std.proofs.Common.{is_some}
 use Rattle.std.specs.Prelude.{option_and_then}
 use Rattle.clap.specs.Walk.{Row, first_of}
 use Rattle.clap.specs.Simple.{App, matches_of}
@@ -24,7 +25,8 @@ drill_given words e = by_test (takes drill words) refl e
     by_value (Some number) t v e = record { taken = t; number = number; value = v; reads = rw (t, v) refl }
 
     by_test : (b : Bool) → takes drill words ≡ b
-        → is_some (cond b (option_and_then rounds_of (value_in drill (codes "rounds") words)) None) ≡ true → DrillGiven words
+        → is_some (cond b (option_and_then rounds_of (value_in drill (codes "rounds") words)) None) ≡ true →
+        DrillGiven words
     by_test false t e = absurd cc
     by_test true t e = by_value (value_in drill (codes "rounds") words) t refl e
 
@@ -50,21 +52,25 @@ serve_given words e = by_test (takes serve words) refl e
         record { taken = t; path = path; number = number; path_value = v; number_value = w; reads = rw (t, v, w) refl }
 
     by_test : (b : Bool) → takes serve words ≡ b
-        → is_some (cond b (served_by (value_in serve (codes "path") words) (value_in serve (codes "clients") words)) None) ≡ true → ServeGiven words
+        → is_some (cond b (served_by (value_in serve (codes "path") words) (value_in serve (codes "clients") words))
+        None) ≡ true → ServeGiven words
     by_test false t e = absurd cc
-    by_test true t e = by_values (value_in serve (codes "path") words) (value_in serve (codes "clients") words) t refl refl e
+    by_test true t e = by_values (value_in serve (codes "path") words) (value_in serve (codes "clients") words) t refl
+        refl e
 
 -- ---- what the functions read of the matches
 
 some_is : (o : Option (List ℕ)) (v w : List ℕ) → o ≡ Some v → o ≡ Some w → v ≡ w
 some_is o v w e f = let both : Some v ≡ Some w = sym e ∙ f in cc
 
-pub value_there : (a : App) (id : List ℕ) (words : List (List ℕ)) (rows : List Row) (v : List ℕ) → rows ≡ matches_of a words
+pub value_there : (a : App) (id : List ℕ) (words : List (List ℕ)) (rows : List Row) (v : List ℕ)
+    → rows ≡ matches_of a words
     → value_in a id words ≡ Some v
     → is_some (first_of id rows) ≡ true
 value_there a id words rows v is e = ap (λ (r : List Row). is_some (first_of id r)) is ∙ ap is_some e
 
-pub drill_number : (words : List (List ℕ)) (rows : List Row) (v bytes : List ℕ) → is_some (drill_reads words) ≡ true → rows ≡ matches_of drill words
+pub drill_number : (words : List (List ℕ)) (rows : List Row) (v bytes : List ℕ)
+    → is_some (drill_reads words) ≡ true → rows ≡ matches_of drill words
     → first_of (codes "rounds") rows ≡ Some v → bytes ≡ v → drill_reads words ≡ rounds_of bytes
 drill_number words rows v bytes h is e same =
     let given = drill_given words h in
@@ -83,7 +89,8 @@ serve_parts words rows path v bytes h is e f same =
     let number_is = some_is _ given.number v given.number_value number_here ∙ sym same in
     given.reads ∙ λ i. path_and_clients (path_is i) (number_is i)
 
-pub path_with : (path : List ℕ) (n : ℕ) → is_some (with_clients path (Some n)) ≡ true → with_clients path (Some n) ≡ Some (path, n)
+pub path_with : (path : List ℕ) (n : ℕ) → is_some (with_clients path (Some n)) ≡ true → with_clients path
+    (Some n) ≡ Some (path, n)
 path_with path n e = go (is_path path) e
   where
     go : (b : Bool) → is_some (cond {A = Option (List ℕ × ℕ)} b (Some (path, n)) None) ≡ true

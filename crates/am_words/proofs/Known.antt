@@ -1,5 +1,6 @@
 -- Words that ask for something.
-use Rattle.std.proofs.Common.{◌≡◌, ℕ, ◌≤◌, Bool, cond, true, false, List, [], ◌∷◌, codes, Option, Some, None, refl, inl, inr}
+use Rattle.std.proofs.Common.{◌≡◌, ℕ, ◌≤◌, Bool, cond, true, false, List, [], ◌∷◌, codes, Option, Some, None, refl, inl}
+use Rattle.std.proofs.Common.{inr}
 use Rattle.std.specs.Str.{bytes_eq}
 use Rattle.am_words.proofs.Forms.{three_words, two_words}
 use Rattle.am_words.specs.Words.{AreKnown, IsText, asks_do, asks_serve, in_two, in_three}
@@ -23,7 +24,8 @@ guarded : {A : Type 0} (b : Bool) (t : Option A) (x : A) → cond b t None ≡ S
 guarded true t x e = e
 guarded false t x e = absurd cc
 
-pub serve_within : (words : List (List ℕ)) (path : List ℕ) (clients : ℕ) → asks_serve words ≡ Some (path, clients) → (1 ≤ clients) × (clients ≤ 64)
+pub serve_within : (words : List (List ℕ)) (path : List ℕ) (clients : ℕ) → asks_serve words ≡ Some (path, clients)
+    → (1 ≤ clients) × (clients ≤ 64)
 serve_within [] path clients e = absurd cc
 serve_within (command ∷ []) path clients e = absurd cc
 serve_within (command ∷ a ∷ []) path clients e = absurd cc

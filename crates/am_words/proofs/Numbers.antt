@@ -1,5 +1,6 @@
 -- Numbers among the words.
-use Rattle.std.proofs.Common.{◌≡◌, ℕ, ◌≤◌, ◌==◌, ◌&&◌, Bool, true, false, not, List, [], ◌∷◌, Option, Some, None, refl, sym}
+use Rattle.std.proofs.Common.{◌≡◌, ℕ, ◌≤◌, ◌==◌, ◌&&◌, Bool, true, false, not, List, [], ◌∷◌, Option, Some, None, refl}
+use Rattle.std.proofs.Common.{sym}
 use Rattle.std.proofs.Common.{subst, if◌then◌else◌, arith}
 use Rattle.std.specs.Prelude.{nat_lt, nat_le}
 use Rattle.std.specs.Str.{IsUtf8}
@@ -23,7 +24,8 @@ pub up_to_within : (most : ℕ) (o : Option ℕ) (n : ℕ) → up_to most o ≡ 
 up_to_within most None n e = absurd cc
 up_to_within most (Some m) n e = go (nat_lt 0 m) (nat_le m most) refl refl e
   where
-    go : (a b : Bool) → nat_lt 0 m ≡ a → nat_le m most ≡ b → (if a && b then Some m else None) ≡ Some n → (1 ≤ n) × (n ≤ most)
+    go : (a b : Bool) → nat_lt 0 m ≡ a → nat_le m most ≡ b → (if a && b then Some m else None) ≡ Some n → (1 ≤ n)
+        × (n ≤ most)
     go true true s t e =
         let same : m ≡ n = cc in
         (omega (arith, ltb-true 0 m s, same), omega (arith, leb-true m most t, same))

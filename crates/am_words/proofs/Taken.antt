@@ -30,7 +30,8 @@ drill_read number h = rw (drill_taken number h, drill_value number h) refl
 
 -- ---- `serve`
 
-by_values : (words : List (List ℕ)) (path number : List ℕ) → takes serve words ≡ true → value_in serve (codes "path") words ≡ Some path
+by_values : (words : List (List ℕ)) (path number : List ℕ) → takes serve words ≡ true → value_in serve (codes "path")
+    words ≡ Some path
     → value_in serve (codes "clients") words ≡ Some number → serve_reads words ≡ path_and_clients path number
 unfolding serve_reads
 by_values words path number t p c = rw (t, p, c) refl
@@ -45,7 +46,8 @@ apart_before (b ∷ bs) (n ∷ ns) h k =
     let d = no_hyphen n k in
     let e = no_hyphen b h in
     by_values (codes "--clients" ∷ (n ∷ ns) ∷ (b ∷ bs) ∷ []) (b ∷ bs) (n ∷ ns)
-    (rw (d, d, e, e) (refl {a = true})) (rw (d, d, e, e) (refl {a = Some (b ∷ bs)})) (rw (d, d, e, e) (refl {a = Some (n ∷ ns)}))
+    (rw (d, d, e, e) (refl {a = true})) (rw (d, d, e, e) (refl {a = Some (b ∷ bs)}))
+    (rw (d, d, e, e) (refl {a = Some (n ∷ ns)}))
 
 -- `PATH --clients N`
 pub apart_behind : (path number : List ℕ) → is_path path ≡ true → is_path number ≡ true
@@ -57,7 +59,8 @@ apart_behind (b ∷ bs) (n ∷ ns) h k =
     let d = no_hyphen n k in
     let e = no_hyphen b h in
     by_values ((b ∷ bs) ∷ codes "--clients" ∷ (n ∷ ns) ∷ []) (b ∷ bs) (n ∷ ns)
-    (rw (e, e, d, d) (refl {a = true})) (rw (e, e, d, d) (refl {a = Some (b ∷ bs)})) (rw (e, e, d, d) (refl {a = Some (n ∷ ns)}))
+    (rw (e, e, d, d) (refl {a = true})) (rw (e, e, d, d) (refl {a = Some (b ∷ bs)}))
+    (rw (e, e, d, d) (refl {a = Some (n ∷ ns)}))
 
 -- `--clients=N PATH`
 pub joined_before : (path number : List ℕ) → is_path path ≡ true

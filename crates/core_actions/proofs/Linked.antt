@@ -1,5 +1,6 @@
 -- Undo and Redo, window by window.
-use Rattle.std.proofs.Common.{◌≡◌, ℕ, ◌+◌, ◌-◌, true, false, cond, List, [], ◌∷◌, ◌++◌, length, Option, Some, None, refl, sym, ap, ◌∙◌, arith, append_assoc}
+use Rattle.std.proofs.Common.{◌≡◌, ℕ, ◌+◌, ◌-◌, true, false, cond, List, [], ◌∷◌, ◌++◌, length, Option, Some, None}
+use Rattle.std.proofs.Common.{refl, sym, ap, ◌∙◌, arith, append_assoc}
 use Rattle.std.specs.Prelude.{map}
 use Rattle.std.specs.Option.{option_map}
 use Rattle.std.proofs.lemmas.List.{length-append}
@@ -19,14 +20,17 @@ at_here : (f : Window → Window) (front : List (Option Window)) (o : Option Win
 at_here f [] o rest = refl
 at_here f (x ∷ front) o rest = ap (λ (l : List (Option Window)). x ∷ l) (at_here f front o rest)
 
-moved_list : (m : Move) (at w : ℕ) (ws : List (Option Window)) → changed at ws (moves m w) ≡ at_place (option_map (moved_window m)) (w - 1) ws
+moved_list : (m : Move) (at w : ℕ) (ws : List (Option Window)) → changed at ws
+    (moves m w) ≡ at_place (option_map (moved_window m)) (w - 1) ws
 moved_list move.Undo at w ws = refl
 moved_list move.Redo at w ws = refl
 
-one_more : (front : List (Option Window)) (o : Option Window) (w : ℕ) → length front + 1 ≡ w → length (front ++ o ∷ []) + 1 ≡ w + 1
+one_more : (front : List (Option Window)) (o : Option Window) (w : ℕ)
+    → length front + 1 ≡ w → length (front ++ o ∷ []) + 1 ≡ w + 1
 one_more front o w h = omega (arith, length-append front (o ∷ []))
 
-moved_here : (e : Entry) (m : Move) (w : ℕ) (front : List (Option Window)) (o : Option Window) (rest : List (Option Window)) (s : SceneState)
+moved_here : (e : Entry) (m : Move) (w : ℕ) (front : List (Option Window)) (o : Option Window)
+    (rest : List (Option Window)) (s : SceneState)
     → s.windows ≡ front ++ o ∷ rest → length front + 1 ≡ w
     → (done e s (deed.Windows (moves m w))).windows ≡ (front ++ option_map (moved_window m) o ∷ []) ++ rest
 moved_here e m w front o rest s h l =
@@ -37,18 +41,22 @@ moved_here e m w front o rest s h l =
     ∙ at_here (moved_window m) front o rest
     ∙ sym (append_assoc front (option_map (moved_window m) o ∷ []) rest)
 
-linked_from : (e : Entry) (m : Move) (n w : ℕ) (rest front : List (Option Window)) (s : SceneState) → s.windows ≡ front ++ rest → length front + 1 ≡ w
+linked_from : (e : Entry) (m : Move) (n w : ℕ) (rest front : List (Option Window)) (s : SceneState)
+    → s.windows ≡ front ++ rest → length front + 1 ≡ w
     → (done_all e s (moves_from m n w rest)).windows ≡ front ++ map (moved_if m (Some n)) rest
 linked_from e m n w [] front s h l = h
 linked_from e m n w (o ∷ rest) front s h l =
     let f = moved_if m (Some n) in
     let o' = option_map (moved_window m) o in
-    elim (is_number n (next_group m o)) as (λ b. (done_all e s (cond b (deed.Windows (moves m w) ∷ []) [] ++ moves_from m n (w + 1) rest)).windows ≡ front ++ cond b o' o ∷ map f rest) [
+    elim (is_number n (next_group m o)) as (λ b. (done_all e s (cond b (deed.Windows (moves m w) ∷ []) []
+    ++ moves_from m n (w + 1) rest)).windows ≡ front ++ cond b o' o ∷ map f rest) [
       | true ↦
-          linked_from e m n (w + 1) rest (front ++ o' ∷ []) (done e s (deed.Windows (moves m w))) (moved_here e m w front o rest s h l) (one_more front o' w l)
+          linked_from e m n (w + 1) rest (front ++ o' ∷ []) (done e s (deed.Windows (moves m w)))
+          (moved_here e m w front o rest s h l) (one_more front o' w l)
           ∙ append_assoc front (o' ∷ []) (map f rest)
       | false ↦
-          linked_from e m n (w + 1) rest (front ++ o ∷ []) s (h ∙ sym (append_assoc front (o ∷ []) rest)) (one_more front o w l)
+          linked_from e m n (w + 1) rest (front ++ o ∷ []) s (h ∙ sym (append_assoc front (o ∷ []) rest))
+          (one_more front o w l)
           ∙ append_assoc front (o ∷ []) (map f rest)
     ]
 
@@ -56,7 +64,8 @@ all_same : (m : Move) (ws : List (Option Window)) → ws ≡ map (moved_if m Non
 all_same m [] = refl
 all_same m (o ∷ ws) = ap (λ (l : List (Option Window)). o ∷ l) (all_same m ws)
 
-linked_by : (e : Entry) (m : Move) (s : SceneState) (g : Option ℕ) → (done_all e s (linked_deeds m g s)).windows ≡ map (moved_if m g) s.windows
+linked_by : (e : Entry) (m : Move) (s : SceneState) (g : Option ℕ)
+    → (done_all e s (linked_deeds m g s)).windows ≡ map (moved_if m g) s.windows
 linked_by e m s None = all_same m s.windows
 linked_by e m s (Some n) = linked_from e m n 1 s.windows [] s refl refl
 

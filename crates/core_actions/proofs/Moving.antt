@@ -1,5 +1,6 @@
 -- Undo and Redo in several windows, one after another.
-use Rattle.std.proofs.Common.{◌≡◌, ℕ, zero, suc, ◌+◌, ◌-◌, Bool, true, false, cond, eqb, List, [], ◌∷◌, ◌++◌, Option, Some, None, refl, sym, ap, subst, ◌∙◌, arith, append_assoc}
+use Rattle.std.proofs.Common.{◌≡◌, ℕ, zero, suc, ◌+◌, ◌-◌, Bool, true, false, cond, eqb, List, [], ◌∷◌, ◌++◌, Option}
+use Rattle.std.proofs.Common.{Some, None, refl, sym, ap, subst, ◌∙◌, arith, append_assoc}
 use Rattle.std.specs.Prelude.{IsSome}
 use Rattle.std.specs.Option.{option_map}
 use Rattle.std.proofs.lemmas.Bool.Decides.{nat_tests}
@@ -17,7 +18,8 @@ use Rattle.core_actions.specs.Undoing.{next_group, moves, is_number, moves_from}
 
 -- ---- a change of one window leaves the others
 
-lives_on : (f : Window → Window) (j : ℕ) (ws : List (Option Window)) (k : ℕ) → IsSome (live_at ws k) → IsSome (live_at (at_place (option_map f) j ws) k)
+lives_on : (f : Window → Window) (j : ℕ) (ws : List (Option Window)) (k : ℕ) → IsSome (live_at ws k)
+    → IsSome (live_at (at_place (option_map f) j ws) k)
 lives_on f j [] k h = h
 lives_on f zero (None ∷ ws) k h = h
 lives_on f zero (Some w ∷ ws) zero h = refl
@@ -29,10 +31,13 @@ or_none : (b : Bool) (o p : Option Window) → (IsSome o → IsSome p) → IsSom
 or_none true o p f h = h
 or_none false o p f h = f h
 
-window_lives : (f : Window → Window) (j v : ℕ) (ws : List (Option Window)) → IsSome (window_at ws v) → IsSome (window_at (at_place (option_map f) j ws) v)
-window_lives f j v ws h = or_none (eqb v 0) (live_at ws (v - 1)) (live_at (at_place (option_map f) j ws) (v - 1)) (lives_on f j ws (v - 1)) h
+window_lives : (f : Window → Window) (j v : ℕ) (ws : List (Option Window)) → IsSome (window_at ws v)
+    → IsSome (window_at (at_place (option_map f) j ws) v)
+window_lives f j v ws h = or_none (eqb v 0) (live_at ws (v - 1)) (live_at (at_place (option_map f) j ws) (v - 1))
+    (lives_on f j ws (v - 1)) h
 
-lives_moved : (m : Move) (e : Entry) (w v : ℕ) (s : SceneState) → IsSome (window_at s.windows v) → IsSome (window_at (done e s (deed.Windows (moves m w))).windows v)
+lives_moved : (m : Move) (e : Entry) (w v : ℕ) (s : SceneState) → IsSome (window_at s.windows v)
+    → IsSome (window_at (done e s (deed.Windows (moves m w))).windows v)
 lives_moved move.Undo e w v s h = window_lives undone_window (w - 1) v s.windows h
 lives_moved move.Redo e w v s h = window_lives redone_window (w - 1) v s.windows h
 
@@ -46,20 +51,28 @@ can_move move.Redo w s h = h
 abbrev AreThere : ℕ → List (Option Window) → List (Option Window) → Type 0
 AreThere w rest ws = (k : ℕ) → IsSome (live_at rest k) → IsSome (window_at ws (w + k))
 
-others : (w : ℕ) (o : Option Window) (rest ws : List (Option Window)) → AreThere w (o ∷ rest) ws → AreThere (w + 1) rest ws
-others w o rest ws h k l = let e : w + suc k ≡ w + 1 + k = omega arith in subst (λ (n : ℕ). IsSome (window_at ws n)) e (h (suc k) l)
+others : (w : ℕ) (o : Option Window) (rest ws : List (Option Window)) → AreThere w (o ∷ rest) ws
+    → AreThere (w + 1) rest ws
+others w o rest ws h k l = let e : w + suc k ≡ w + 1 + k = omega arith in
+    subst (λ (n : ℕ). IsSome (window_at ws n)) e (h (suc k) l)
 
 first : (w : ℕ) (x : Window) (rest ws : List (Option Window)) → AreThere w (Some x ∷ rest) ws → IsSome (window_at ws w)
 first w x rest ws h = let e : w + 0 ≡ w = omega arith in subst (λ (n : ℕ). IsSome (window_at ws n)) e (h zero refl)
 
-moves_can : (e : Entry) (m : Move) (n w : ℕ) (rest : List (Option Window)) (s : SceneState) → AreThere w rest s.windows → CanDoAll e s (moves_from m n w rest)
+moves_can : (e : Entry) (m : Move) (n w : ℕ) (rest : List (Option Window)) (s : SceneState) → AreThere w rest s.windows
+    → CanDoAll e s (moves_from m n w rest)
 moves_can e m n w [] s h = tt
 moves_can e m n w (None ∷ rest) s h = moves_can e m n (w + 1) rest s (others w None rest s.windows h)
 moves_can e m n w (Some x ∷ rest) s h =
     let t : IsSome (window_at s.windows w) = first w x rest s.windows h in
     let l : AreThere (w + 1) rest s.windows = others w (Some x) rest s.windows h in
-    elim (is_number n (next_group m (Some x))) as (λ b. CanDoAll e s (cond b (deed.Windows (moves m w) ∷ []) [] ++ moves_from m n (w + 1) rest)) [
-      | true ↦ (can_move m w s t, moves_can e m n (w + 1) rest (done e s (deed.Windows (moves m w))) (λ k g. lives_moved m e w (w + 1 + k) s (l k g)))
+    elim (is_number n (next_group m (Some x))) as (λ b. CanDoAll e s
+    (cond b (deed.Windows (moves m w) ∷ []) [] ++ moves_from m n (w + 1) rest)) [
+      | true ↦ (
+        can_move m w s t,
+        moves_can e m n (w + 1) rest (done e s (deed.Windows (moves m w)))
+            (λ k g. lives_moved m e w (w + 1 + k) s (l k g)),
+      )
       | false ↦ moves_can e m n (w + 1) rest s l
     ]
 
@@ -67,9 +80,11 @@ there : (ws : List (Option Window)) → AreThere 1 ws ws
 there ws k h =
     let e : eqb (1 + k) 0 ≡ false = grind (arith, nat_tests) in
     let q : k ≡ 1 + k - 1 = omega arith in
-    subst (λ (b : Bool). IsSome (cond b None (live_at ws (1 + k - 1)))) (sym e) (subst (λ (i : ℕ). IsSome (live_at ws i)) q h)
+    subst (λ (b : Bool). IsSome (cond b None (live_at ws (1 + k - 1)))) (sym e)
+    (subst (λ (i : ℕ). IsSome (live_at ws i)) q h)
 
-pub all_can_move : (e : Entry) (m : Move) (n : ℕ) (s : SceneState) (ds : List Deed) → ds ≡ moves_from m n 1 s.windows → CanDoAll e s ds
+pub all_can_move : (e : Entry) (m : Move) (n : ℕ) (s : SceneState) (ds : List Deed) → ds ≡ moves_from m n 1 s.windows
+    → CanDoAll e s ds
 all_can_move e m n s ds h = subst (CanDoAll e s) (sym h) (moves_can e m n 1 s.windows s (there s.windows))
 
 pub ruleset moving = (append_assoc, append-nil, length-map)

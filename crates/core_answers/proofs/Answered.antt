@@ -1,5 +1,6 @@
 -- Each message is answered.
-use Rattle.std.proofs.Common.{[], ◌∷◌, inl, inr, ℕ, Bool, true, false, cond, List, ◌++◌, length, Option, Some, None, Result, Ok, Err, refl, min}
+use Rattle.std.proofs.Common.{[], ◌∷◌, inl, inr, ℕ, Bool, true, false, cond, List, ◌++◌, length, Option, Some, None}
+use Rattle.std.proofs.Common.{Result, Ok, Err, refl, min}
 use Rattle.std.specs.Prelude.{codes, nat_lt, ◌==◌}
 use Rattle.am_text.specs.Part.{part_bytes, part_of}
 use Rattle.am_text.specs.Pieces.{Decoded, decode_part}
@@ -16,7 +17,8 @@ use Rattle.core_addresses.specs.Data.{data_taken}
 use Rattle.core_addresses.specs.Ranges.{address_range}
 use Rattle.core_addresses.specs.declared.data.Taken.{Taken}
 use Rattle.core_addresses.specs.declared.fault.RangeFault.{RangeFault}
-use Rattle.core_answers.specs.Addressing.{data_reaction, xdata_reaction, addr_or_refusal, addr_reaction, data_or_refusal, taking_reaction}
+use Rattle.core_answers.specs.Addressing.{data_reaction, xdata_reaction, addr_or_refusal, addr_reaction}
+use Rattle.core_answers.specs.Addressing.{data_or_refusal, taking_reaction}
 use Rattle.core_fids.specs.declared.content.Content.{Content}
 use Rattle.core_fids.specs.declared.content.Content.TheVariants as content
 use Rattle.core_fids.specs.declared.effect.Effect.{Effect}
@@ -32,13 +34,15 @@ use Rattle.core_fids.specs.Plainly.{does}
 use Rattle.core_fids.specs.Refusals.{refusal_with_effect, reaction_or_refusal}
 use Rattle.core_windows.specs.declared.change.Change.TheVariants as change
 use Rattle.core_windows.specs.Windows.{Window, window_at, named}
-use Rattle.core_fids.specs.Attaching.{is_version, agreement, version_reaction, root_of, attach_refusal, attach_to, or_attaches}
+use Rattle.core_fids.specs.Attaching.{is_version, agreement, version_reaction, root_of, attach_refusal, attach_to}
+use Rattle.core_fids.specs.Attaching.{or_attaches}
 use Rattle.core_fids.specs.Servers.{ServerState, world_by, fid_by}
 use Rattle.core_fids.specs.Walking.{course, walk_refusal, arrives_at, or_walks, walk_from}
 use Rattle.core_fids.specs.Opening.{open_refusal, or_opens, open_fid, denial, clunk_fid, remove_fid}
 use Rattle.core_fids.specs.Directories.{Tread, place_at, read_dir, stat_fid}
 use Rattle.core_answers.specs.Reading.{read_opening, read_port, read_content, use_refusal, or_reads, lowered, read_fid}
-use Rattle.core_answers.specs.Writing.{Twrite, change_reaction, if_lives, append_reaction, add_reaction, or_errors, errors_reaction, asking_reaction, write_content, write_fid}
+use Rattle.core_answers.specs.Writing.{Twrite, change_reaction, if_lives, append_reaction, add_reaction, or_errors}
+use Rattle.core_answers.specs.Writing.{errors_reaction, asking_reaction, write_content, write_fid}
 use Rattle.core_answers.specs.Erring.{fits_in, fits_tag, appends, errors_of, root_errors, errors_refusal}
 use Rattle.core_answers.specs.Texts.{text_at, right_of}
 use Rattle.core_fids.specs.Contents.{content_of}
@@ -58,43 +62,55 @@ settled : (body : TBody) (x : Result Reaction Refusal) → Answers body x → Is
 settled body (Ok d) h = h
 settled body (Err x) h = inr (x, refl)
 
-refused_or : (body : TBody) (b : Bool) (f : Effect) (x : Refusal) (d : Reaction) → IsAnswered body d.answer → IsAnswered body (cond b (refusal_with_effect f x) d).answer
+refused_or : (body : TBody) (b : Bool) (f : Effect) (x : Refusal) (d : Reaction) → IsAnswered body d.answer
+    → IsAnswered body (cond b (refusal_with_effect f x) d).answer
 refused_or body true f x d h = inr (x, refl)
 refused_or body false f x d h = h
 
-done_or : (body : TBody) (b : Bool) (d : Reaction) (x : Refusal) → IsAnswered body d.answer → Answers body (cond b (Ok d) (Err x))
+done_or : (body : TBody) (b : Bool) (d : Reaction) (x : Refusal) → IsAnswered body d.answer
+    → Answers body (cond b (Ok d) (Err x))
 done_or body true d x h = h
 done_or body false d x h = tt
 
-or_done : (body : TBody) (b : Bool) (x : Refusal) (d : Reaction) → IsAnswered body d.answer → Answers body (cond b (Err x) (Ok d))
+or_done : (body : TBody) (b : Bool) (x : Refusal) (d : Reaction) → IsAnswered body d.answer
+    → Answers body (cond b (Err x) (Ok d))
 or_done body true x d h = tt
 or_done body false x d h = h
 
 -- ---- message by message
 
 known_answers : (asked msize : ℕ) (version : List ℕ) (known : Bool)
-    → IsAnswered (t.Version asked version) (cond {A = Reaction} known (does (effect.Begins (Some msize)) [] (r.Version msize (codes "9P2000"))) (does (effect.Begins None) [] (r.Version msize (codes "unknown")))).answer
+    → IsAnswered (t.Version asked version) (cond {A = Reaction} known
+    (does (effect.Begins (Some msize)) [] (r.Version msize (codes "9P2000")))
+    (does (effect.Begins None) [] (r.Version msize (codes "unknown")))).answer
 known_answers asked msize version true = inl refl
 known_answers asked msize version false = inl refl
 
-version_answers : (msize : ℕ) (version : List ℕ) → IsAnswered (t.Version msize version) (version_reaction msize version).answer
+version_answers : (msize : ℕ) (version : List ℕ) → IsAnswered (t.Version msize version)
+    (version_reaction msize version).answer
 version_answers msize version =
-    refused_or (t.Version msize version) (nat_lt msize 256) (effect.Begins None) refusal.MsizeTooSmall (agreement (min msize 65560) version) (known_answers msize (min msize 65560) version (is_version version))
+    refused_or (t.Version msize version) (nat_lt msize 256) (effect.Begins None) refusal.MsizeTooSmall
+    (agreement (min msize 65560) version) (known_answers msize (min msize 65560) version (is_version version))
 
-root_answers : (fid afid : ℕ) (uname aname : List ℕ) (o : Option Node) → Answers (t.Attach fid afid uname aname) (attach_to fid o)
+root_answers : (fid afid : ℕ) (uname aname : List ℕ) (o : Option Node)
+    → Answers (t.Attach fid afid uname aname) (attach_to fid o)
 root_answers fid afid uname aname None = tt
 root_answers fid afid uname aname (Some node) = inl refl
 
-attach_answers : (fid afid : ℕ) (uname aname : List ℕ) (o : Option Refusal) → Answers (t.Attach fid afid uname aname) (or_attaches o fid aname)
+attach_answers : (fid afid : ℕ) (uname aname : List ℕ) (o : Option Refusal)
+    → Answers (t.Attach fid afid uname aname) (or_attaches o fid aname)
 attach_answers fid afid uname aname None = root_answers fid afid uname aname (root_of aname)
 attach_answers fid afid uname aname (Some x) = tt
 
-arrives_answers : (fid newfid : ℕ) (names : List (List ℕ)) (world : World) (qids : List Qid) (e : WalkEnd) → Answers (t.Walk fid newfid names) (arrives_at newfid world qids e)
+arrives_answers : (fid newfid : ℕ) (names : List (List ℕ)) (world : World) (qids : List Qid) (e : WalkEnd)
+    → Answers (t.Walk fid newfid names) (arrives_at newfid world qids e)
 arrives_answers fid newfid names world qids (end.At node) = inl refl
 arrives_answers fid newfid names world qids (end.Makes file) = inl refl
-arrives_answers fid newfid names world qids (end.Stops x) = or_done (t.Walk fid newfid names) (length qids == 0) x (does effect.Nothing [] (r.Walk qids)) (inl refl)
+arrives_answers fid newfid names world qids (end.Stops x) = or_done (t.Walk fid newfid names) (length qids == 0) x
+    (does effect.Nothing [] (r.Walk qids)) (inl refl)
 
-or_walks_answers : (body : TBody) (o : Option Refusal) (x : Result Reaction Refusal) → Answers body x → Answers body (or_walks o x)
+or_walks_answers : (body : TBody) (o : Option Refusal) (x : Result Reaction Refusal) → Answers body x
+    → Answers body (or_walks o x)
 or_walks_answers body None x h = h
 or_walks_answers body (Some y) x h = tt
 
@@ -111,7 +127,8 @@ opens_answers : (o : Option Refusal) (server : ServerState) (fid mode : ℕ) (f 
 opens_answers None server fid mode f = inl refl
 opens_answers (Some x) server fid mode f = tt
 
-open_answers : (server : ServerState) (fid mode : ℕ) (o : Option Fid) → Answers (t.Open fid mode) (open_fid server fid o mode)
+open_answers : (server : ServerState) (fid mode : ℕ) (o : Option Fid)
+    → Answers (t.Open fid mode) (open_fid server fid o mode)
 open_answers server fid mode None = tt
 open_answers server fid mode (Some f) = opens_answers (open_refusal server f mode) server fid mode f
 
@@ -119,7 +136,8 @@ denied_answers : (body : TBody) (o : Option Fid) → Answers body (denial o)
 denied_answers body None = tt
 denied_answers body (Some f) = tt
 
-or_reads_answers : (body : TBody) (o : Option Refusal) (x : Result Reaction Refusal) → Answers body x → Answers body (or_reads o x)
+or_reads_answers : (body : TBody) (o : Option Refusal) (x : Result Reaction Refusal) → Answers body x
+    → Answers body (or_reads o x)
 or_reads_answers body None x h = h
 or_reads_answers body (Some y) x h = tt
 
@@ -137,11 +155,13 @@ module _ (fid offset count : ℕ) (server : ServerState) (asked : Tread) where
   read_port_answers None = tt
   read_port_answers (Some opening) = refl
 
-  data_answers : (w : ℕ) (o : Option Window) → IsAnswered (t.Read fid offset count) (data_reaction w asked.count o).answer
+  data_answers : (w : ℕ) (o : Option Window) → IsAnswered (t.Read fid offset count)
+      (data_reaction w asked.count o).answer
   data_answers w None = inl refl
   data_answers w (Some window) = inl refl
 
-  xdata_answers : (w : ℕ) (o : Option Window) → IsAnswered (t.Read fid offset count) (xdata_reaction w asked.count o).answer
+  xdata_answers : (w : ℕ) (o : Option Window) → IsAnswered (t.Read fid offset count)
+      (xdata_reaction w asked.count o).answer
   xdata_answers w None = inl refl
   xdata_answers w (Some window) = inl refl
 
@@ -168,7 +188,8 @@ module _ (fid offset count : ℕ) (server : ServerState) (asked : Tread) where
       or_reads_answers (t.Read fid offset count) (use_refusal (world_by server) server.plumber.names f is_for_reading) _
       (read_content_answers f (content_of f.node))
 
-if_lives_answers : (body : TBody) (o : Option Window) (x : Result Reaction Refusal) → Answers body x → Answers body (if_lives o x)
+if_lives_answers : (body : TBody) (o : Option Window) (x : Result Reaction Refusal) → Answers body x
+    → Answers body (if_lives o x)
 if_lives_answers body None x h = tt
 if_lives_answers body (Some w) x h = h
 
@@ -177,42 +198,51 @@ append_answers : (windows : List (Option Window)) (offset : ℕ) (asked : Twrite
 append_answers windows offset asked f w decoded =
     if_lives_answers (t.Write asked.number offset asked.bytes) (window_at windows w) _
     (done_or (t.Write asked.number offset asked.bytes) (fits_in (text_at windows w) decoded.text)
-    (change_reaction asked (appends windows w decoded.text) (fid_with_part f (part_of decoded.rest))) refusal.TextTooLong (inl refl))
+    (change_reaction asked (appends windows w decoded.text) (fid_with_part f (part_of decoded.rest)))
+    refusal.TextTooLong (inl refl))
 
 add_answers : (windows : List (Option Window)) (offset : ℕ) (asked : Twrite) (f : Fid) (w : ℕ) (decoded : Decoded)
     → Answers (t.Write asked.number offset asked.bytes) (add_reaction windows asked f w decoded)
 add_answers windows offset asked f w decoded =
     if_lives_answers (t.Write asked.number offset asked.bytes) (window_at windows w) _
     (done_or (t.Write asked.number offset asked.bytes) (fits_tag (right_of (window_at windows w)) decoded.text)
-    (change_reaction asked (change.Adds w decoded.text ∷ []) (fid_with_part f (part_of decoded.rest))) refusal.TextTooLong (inl refl))
+    (change_reaction asked (change.Adds w decoded.text ∷ []) (fid_with_part f (part_of decoded.rest)))
+    refusal.TextTooLong (inl refl))
 
-or_errors_answers : (body : TBody) (o : Option Refusal) (d : Reaction) → IsAnswered body d.answer → Answers body (or_errors o d)
+or_errors_answers : (body : TBody) (o : Option Refusal) (d : Reaction) → IsAnswered body d.answer
+    → Answers body (or_errors o d)
 or_errors_answers body None d h = h
 or_errors_answers body (Some x) d h = tt
 
-errors_answers : (windows : List (Option Window)) (offset : ℕ) (asked : Twrite) (f : Fid) (name : List ℕ) (decoded : Decoded)
+errors_answers : (windows : List (Option Window)) (offset : ℕ) (asked : Twrite) (f : Fid) (name : List ℕ)
+    (decoded : Decoded)
     → Answers (t.Write asked.number offset asked.bytes) (errors_reaction windows asked f name decoded)
 errors_answers windows offset asked f name decoded =
-    or_errors_answers (t.Write asked.number offset asked.bytes) (errors_refusal windows (named windows name) decoded.text) _ (inl refl)
+    or_errors_answers (t.Write asked.number offset asked.bytes) (errors_refusal windows (named windows name)
+    decoded.text) _ (inl refl)
 
 asking_answers : (windows : List (Option Window)) (offset : ℕ) (asked : Twrite) (w : ℕ) (d : Demand)
     → Answers (t.Write asked.number offset asked.bytes) (asking_reaction windows asked w d)
 asking_answers windows offset asked w d =
     if_lives_answers (t.Write asked.number offset asked.bytes) (window_at windows w) _ (inl refl)
 
-addr_set_answers : (fid offset w : ℕ) (bytes : List ℕ) (x : Result Range RangeFault) → Answers (t.Write fid offset bytes) (addr_or_refusal w (length bytes) x)
+addr_set_answers : (fid offset w : ℕ) (bytes : List ℕ) (x : Result Range RangeFault)
+    → Answers (t.Write fid offset bytes) (addr_or_refusal w (length bytes) x)
 addr_set_answers fid offset w bytes (Ok range) = inl refl
 addr_set_answers fid offset w bytes (Err f) = tt
 
-addr_answers : (fid offset w : ℕ) (bytes : List ℕ) (o : Option Window) → Answers (t.Write fid offset bytes) (addr_reaction w bytes o)
+addr_answers : (fid offset w : ℕ) (bytes : List ℕ) (o : Option Window)
+    → Answers (t.Write fid offset bytes) (addr_reaction w bytes o)
 addr_answers fid offset w bytes None = tt
 addr_answers fid offset w bytes (Some window) = addr_set_answers fid offset w bytes (address_range window.body bytes)
 
-data_set_answers : (fid offset w : ℕ) (bytes : List ℕ) (x : Result Taken RangeFault) → Answers (t.Write fid offset bytes) (data_or_refusal w (length bytes) x)
+data_set_answers : (fid offset w : ℕ) (bytes : List ℕ) (x : Result Taken RangeFault)
+    → Answers (t.Write fid offset bytes) (data_or_refusal w (length bytes) x)
 data_set_answers fid offset w bytes (Ok taken) = inl refl
 data_set_answers fid offset w bytes (Err f) = tt
 
-taking_answers : (fid offset w : ℕ) (bytes : List ℕ) (o : Option Window) → Answers (t.Write fid offset bytes) (taking_reaction w bytes o)
+taking_answers : (fid offset w : ℕ) (bytes : List ℕ) (o : Option Window)
+    → Answers (t.Write fid offset bytes) (taking_reaction w bytes o)
 taking_answers fid offset w bytes None = tt
 taking_answers fid offset w bytes (Some window) = data_set_answers fid offset w bytes (data_taken window.body bytes)
 
@@ -233,7 +263,8 @@ write_content_answers windows offset asked f (content.XdataOf w) =
     taking_answers asked.number offset w asked.bytes (window_at windows w)
 write_content_answers windows offset asked f content.IndexText = tt
 write_content_answers windows offset asked f (content.ErrorsOf w) =
-    errors_answers windows offset asked f (errors_of (window_at windows w)) (decode_part (part_bytes f.part ++ asked.bytes))
+    errors_answers windows offset asked f (errors_of (window_at windows w))
+    (decode_part (part_bytes f.part ++ asked.bytes))
 write_content_answers windows offset asked f content.ConsErrors =
     errors_answers windows offset asked f root_errors (decode_part (part_bytes f.part ++ asked.bytes))
 write_content_answers windows offset asked f content.Empty = inl refl
@@ -275,7 +306,8 @@ served_answers server (t.Open fid mode) = open_answers server fid mode (fid_by s
 served_answers server (t.Create fid name perm mode) =
     denied_answers (t.Create fid name perm mode) (fid_by server fid)
 served_answers server (t.Read fid offset count) =
-    read_answers fid offset count server (lowered server (record { number = fid; offset = offset; count = count })) (fid_by server fid)
+    read_answers fid offset count server (lowered server (record { number = fid; offset = offset; count = count }))
+    (fid_by server fid)
 served_answers server (t.Write fid offset bytes) =
     write_answers server offset (record { number = fid; bytes = bytes }) (fid_by server fid)
 served_answers server (t.Clunk fid) = clunk_answers fid (fid_by server fid)

@@ -1,5 +1,6 @@
 -- A text that is put into an errors window changes no other window.
-use Rattle.std.proofs.Common.{◌≡◌, ℕ, zero, suc, ◌+◌, ◌-◌, ◌<◌, ◌≤◌, Bool, true, false, cond, eqb, List, [], ◌∷◌, ◌++◌, length, Option, Some, None, Err, refl, sym, ap, subst, ◌∙◌, arith}
+use Rattle.std.proofs.Common.{◌≡◌, ℕ, zero, suc, ◌+◌, ◌-◌, ◌<◌, ◌≤◌, Bool, true, false, cond, eqb, List, [], ◌∷◌, ◌++◌}
+use Rattle.std.proofs.Common.{length, Option, Some, None, Err, refl, sym, ap, subst, ◌∙◌, arith}
 use Rattle.std.specs.Prelude.{IsSome}
 use Rattle.std.specs.Option.{option_map}
 use Rattle.std.specs.Str.{bytes_eq}
@@ -19,14 +20,16 @@ use Rattle.core_edit.specs.EditLaws.{OnlyOneChanged, FaultsAreOnlySaid}
 
 -- ---- places
 
-live_other : (f : Option Window → Option Window) (j k : ℕ) (ws : List (Option Window)) → (j ≡ k → ⊥) → live_at (at_place f j ws) k ≡ live_at ws k
+live_other : (f : Option Window → Option Window) (j k : ℕ) (ws : List (Option Window)) → (j ≡ k → ⊥)
+    → live_at (at_place f j ws) k ≡ live_at ws k
 live_other f j k [] h = refl
 live_other f zero zero (w ∷ ws) h = absurd (h refl)
 live_other f zero (suc k) (w ∷ ws) h = refl
 live_other f (suc j) zero (w ∷ ws) h = refl
 live_other f (suc j) (suc k) (w ∷ ws) h = live_other f j k ws (λ e. h (ap (λ (n : ℕ). suc n) e))
 
-live_more : (x : Option Window) (k : ℕ) (ws : List (Option Window)) → IsSome (live_at ws k) → live_at (ws ++ x ∷ []) k ≡ live_at ws k
+live_more : (x : Option Window) (k : ℕ) (ws : List (Option Window)) → IsSome (live_at ws k)
+    → live_at (ws ++ x ∷ []) k ≡ live_at ws k
 live_more x k [] h = absurd cc
 live_more x zero (w ∷ ws) h = refl
 live_more x (suc k) (w ∷ ws) h = live_more x k ws h
@@ -38,7 +41,8 @@ live_within (suc k) (w ∷ ws) h = let i : k < length ws = live_within k ws h in
 
 -- ---- windows
 
-at_other : (b : Bool) (o p : Option Window) → (IsSome o → p ≡ o) → IsSome (cond b None o) → cond b None p ≡ cond b None o
+at_other : (b : Bool) (o p : Option Window) → (IsSome o → p ≡ o) → IsSome (cond b None o)
+    → cond b None p ≡ cond b None o
 at_other true o p f h = refl
 at_other false o p f h = f h
 
@@ -47,11 +51,15 @@ in_it true o h = absurd cc
 in_it false o h = h
 
 -- the window of another place
-window_other : (f : Window → Window) (j v : ℕ) (ws : List (Option Window)) → (j ≡ v - 1 → ⊥) → IsSome (window_at ws v) → window_at (at_place (option_map f) j ws) v ≡ window_at ws v
-window_other f j v ws h lives = at_other (eqb v 0) (live_at ws (v - 1)) (live_at (at_place (option_map f) j ws) (v - 1)) (λ _. live_other (option_map f) j (v - 1) ws h) lives
+window_other : (f : Window → Window) (j v : ℕ) (ws : List (Option Window)) → (j ≡ v - 1 → ⊥) → IsSome (window_at ws v)
+    → window_at (at_place (option_map f) j ws) v ≡ window_at ws v
+window_other f j v ws h lives = at_other (eqb v 0) (live_at ws (v - 1)) (live_at (at_place (option_map f) j ws) (v - 1))
+    (λ _. live_other (option_map f) j (v - 1) ws h) lives
 
-window_more : (x : Option Window) (v : ℕ) (ws : List (Option Window)) → IsSome (window_at ws v) → window_at (ws ++ x ∷ []) v ≡ window_at ws v
-window_more x v ws lives = at_other (eqb v 0) (live_at ws (v - 1)) (live_at (ws ++ x ∷ []) (v - 1)) (live_more x (v - 1) ws) lives
+window_more : (x : Option Window) (v : ℕ) (ws : List (Option Window)) → IsSome (window_at ws v)
+    → window_at (ws ++ x ∷ []) v ≡ window_at ws v
+window_more x v ws lives = at_other (eqb v 0) (live_at ws (v - 1)) (live_at (ws ++ x ∷ []) (v - 1))
+    (live_more x (v - 1) ws) lives
 
 -- where a window is made and changed, each other one stays
 window_before : (f : Window → Window) (x : Option Window) (v : ℕ) (ws : List (Option Window)) → IsSome (window_at ws v)
@@ -59,7 +67,8 @@ window_before : (f : Window → Window) (x : Option Window) (v : ℕ) (ws : List
 window_before f x v ws lives =
     let same : window_at (ws ++ x ∷ []) v ≡ window_at ws v = window_more x v ws lives in
     let place : v - 1 < length ws = live_within (v - 1) ws (in_it (eqb v 0) (live_at ws (v - 1)) lives) in
-    window_other f (length ws + 1 - 1) v (ws ++ x ∷ []) (λ e. absurd (omega (arith, place, e))) (subst IsSome (sym same) lives) ∙ same
+    window_other f (length ws + 1 - 1) v (ws ++ x ∷ []) (λ e. absurd (omega (arith, place, e)))
+    (subst IsSome (sym same) lives) ∙ same
 
 -- ---- the first window of a name has a number
 
@@ -70,7 +79,8 @@ first_by false n k o f h = let i : n + 1 ≤ k = f h in omega (arith, i)
 named_after : (n k : ℕ) (ws : List (Option Window)) (name : List ℕ) → named_from n ws name ≡ Some k → n ≤ k
 named_after n k [] name h = absurd cc
 named_after n k (None ∷ ws) name h = let i : n + 1 ≤ k = named_after (n + 1) k ws name h in omega (arith, i)
-named_after n k (Some w ∷ ws) name h = first_by (bytes_eq w.name name) n k (named_from (n + 1) ws name) (named_after (n + 1) k ws name) h
+named_after n k (Some w ∷ ws) name h = first_by (bytes_eq w.name name) n k (named_from (n + 1) ws name)
+    (named_after (n + 1) k ws name) h
 
 -- another number is another place
 apart : (k v : ℕ) → 1 ≤ k → 0 < v → (k ≡ v → ⊥) → k - 1 ≡ v - 1 → ⊥
@@ -78,7 +88,8 @@ apart k v h i other e = other (omega (arith, h, i, e))
 
 -- ---- a text for an errors window
 
-put_only : (e : Entry) (name text : List ℕ) (o : Option ℕ) (s : SceneState) → named s.windows name ≡ o → OnlyOneChanged name s (done_all e s (put_in name text o s))
+put_only : (e : Entry) (name text : List ℕ) (o : Option ℕ) (s : SceneState)
+    → named s.windows name ≡ o → OnlyOneChanged name s (done_all e s (put_in name text o s))
 put_only e name text None s h = record {
   windows = λ v lives other. window_before _ _ v s.windows lives;
   book = refl;
@@ -89,7 +100,8 @@ put_only e name text None s h = record {
   ports = refl;
 }
 put_only e name text (Some k) s h = record {
-  windows = λ v lives other. window_other _ (k - 1) v s.windows (apart k v (named_after 1 k s.windows name h) (has_place s.windows v lives) (λ same. other (h ∙ ap (λ (j : ℕ). Some j) same))) lives;
+  windows = λ v lives other. window_other _ (k - 1) v s.windows (apart k v (named_after 1 k s.windows name h)
+      (has_place s.windows v lives) (λ same. other (h ∙ ap (λ (j : ℕ). Some j) same))) lives;
   book = refl;
   files = refl;
   snarf = refl;
@@ -114,13 +126,16 @@ dropped_only : (e : Entry) (name text : List ℕ) (o : Option ℕ) (s : SceneSta
 dropped_only e name text o s true h = same_only name s
 dropped_only e name text o s false h = put_only e name text o s h
 
-errors_only : (e : Entry) (dir text : List ℕ) (s : SceneState) → OnlyOneChanged (errors_name dir) s (done_all e s (errors_deeds e dir text s))
+errors_only : (e : Entry) (dir text : List ℕ) (s : SceneState) → OnlyOneChanged (errors_name dir) s
+    (done_all e s (errors_deeds e dir text s))
 errors_only e dir text s =
-    dropped_only e (errors_name dir) text (named s.windows (errors_name dir)) s (is_dropped text (named s.windows (errors_name dir)) s) refl
+    dropped_only e (errors_name dir) text (named s.windows (errors_name dir)) s
+    (is_dropped text (named s.windows (errors_name dir)) s) refl
 
 -- ---- faults
 
-fault_only : (e : Entry) (dir : List ℕ) (f : Option CommandFault) (s : SceneState) → OnlyOneChanged (errors_name dir) s (done_all e s (fault_deeds e dir f s))
+fault_only : (e : Entry) (dir : List ℕ) (f : Option CommandFault) (s : SceneState)
+    → OnlyOneChanged (errors_name dir) s (done_all e s (fault_deeds e dir f s))
 fault_only e dir None s = same_only (errors_name dir) s
 fault_only e dir (Some f) s = errors_only e dir (fault_line f) s
 
@@ -128,4 +143,5 @@ pub are_only_said : FaultsAreOnlySaid
 unfolding edit_deeds
 are_only_said e w text s f h =
     let dir = dir_of (window_at s.windows w) in
-    subst (λ (p : Planned). OnlyOneChanged (errors_name dir) s (done_all e s (planned_deeds e w dir p s))) (sym h) (fault_only e dir f s)
+    subst (λ (p : Planned). OnlyOneChanged (errors_name dir) s (done_all e s (planned_deeds e w dir p s))) (sym h)
+    (fault_only e dir f s)

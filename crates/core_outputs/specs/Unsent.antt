@@ -1,5 +1,6 @@
 -- Replies, and those of each connection that aren't taken yet.
-use Rattle.std.specs.Prelude.{◌≡◌, ℕ, ◌<◌, ◌≤◌, ◌+◌, List, [], ◌++◌, length, map, take, drop, slice_set, slice_index_or, All}
+use Rattle.std.specs.Prelude.{◌≡◌, ℕ, ◌<◌, ◌≤◌, ◌+◌, List, [], ◌++◌, length, map, take, drop, slice_set, slice_index_or}
+use Rattle.std.specs.Prelude.{All}
 use Rattle.std.specs.List.{fold}
 use Rattle.am_text.specs.Twice.{Twice}
 use Rattle.am_text.specs.declared.range.Range.{Range}

@@ -3,7 +3,8 @@
 ghost use Rattle.std.specs.Prelude.{◌≡◌, ◌<◌, ◌≤◌, ◌^◌, ℕ, length, map, replicate, slice_set, OnOk, IfOk};
 ghost use Rattle.am_text.specs.Twice.{both, IsSteady};
 ghost use Rattle.am_journal.specs.Limits.{connection_count};
-ghost use Rattle.core_outputs.specs.Unsent.{with_reply, nothing_unsent, unsent_at, put_replies, taken, present_of, kept_of, with_present, with_kept, HaveBytes, IsTouched};
+ghost use Rattle.core_outputs.specs.Unsent.{with_reply, nothing_unsent, unsent_at, put_replies, taken, present_of};
+ghost use Rattle.core_outputs.specs.Unsent.{kept_of, with_present, with_kept, HaveBytes, IsTouched};
 
 use crate::reply::Reply;
 use crate::unsent::Unsent;
@@ -129,7 +130,8 @@ fn put_at(
     requires some { 0 < length reply.now }
     requires place { place < 2 ^ 32 }
     requires touched { IsTouched touched.old all.old }
-    ensures present { OnOk result (map present_of all.new ≡ slice_set (map present_of all.old) place (with_reply (unsent_at (map present_of all.old) place) reply.now)) }
+    ensures present { OnOk result (map present_of all.new ≡ slice_set (map present_of all.old) place
+        (with_reply (unsent_at (map present_of all.old) place) reply.now)) }
     ensures kept { map kept_of all.new ≡ map kept_of all.old }
     ensures touched { IsTouched touched.new all.new }
 {

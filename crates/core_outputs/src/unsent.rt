@@ -31,7 +31,8 @@ impl Model for Unsent {
     } };
 
     // Each reply has bytes.
-    ghost invariant = { λ u. (u.count ≤ length u.bytes.items) × (u.kept_count ≤ u.kept) × (u.kept ≤ length u.bytes.items) };
+    ghost invariant = { λ u. (u.count ≤ length u.bytes.items) × (u.kept_count ≤ u.kept)
+        × (u.kept ≤ length u.bytes.items) };
 }
 
 impl Unsent {

@@ -13,9 +13,11 @@ use Rattle.core_plumb.specs.Looking.{asked_msg, plumbed_if_any, plumb_look_deeds
 pub shown_too : (e : Entry) (a b : SceneState) (t t' : Option Target) (o o' : Option (List ℕ)) → t ≡ t' → o ≡ o'
     → Did e a b (open_if_any e t o a) → Did e a b (open_if_any e t' o' a)
 shown_too e a b t t' o o' h k did =
-    subst (λ (x : Option Target). Did e a b (open_if_any e x o' a)) h (subst (λ (x : Option (List ℕ)). Did e a b (open_if_any e t x a)) k did)
+    subst (λ (x : Option Target). Did e a b (open_if_any e x o' a)) h
+    (subst (λ (x : Option (List ℕ)). Did e a b (open_if_any e t x a)) k did)
 
-pub plumbed_too : (e : Entry) (a b : SceneState) (m : PlumbMsg) (r : Option Route) → r ≡ route_in m a → Did e a b (routed_deeds e r a) → Did e a b (plumb_deeds e m a)
+pub plumbed_too : (e : Entry) (a b : SceneState) (m : PlumbMsg) (r : Option Route) → r ≡ route_in m a
+    → Did e a b (routed_deeds e r a) → Did e a b (plumb_deeds e m a)
 plumbed_too e a b m r h did = subst (λ (x : Option Route). Did e a b (routed_deeds e x a)) h did
 
 pub looked_too : (e : Entry) (a b : SceneState) (w : ℕ) (t : List ℕ) (o : Option PlumbMsg) → o ≡ asked_msg w t a

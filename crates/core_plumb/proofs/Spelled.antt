@@ -10,7 +10,8 @@ use Rattle.plumb_rules.specs.Verbs.{Nodes}
 use Rattle.plumb_rules.specs.declared.answer.Route.{Route}
 use Rattle.core_plumb.specs.Routing.{IsSpelled}
 
-pub stays_spelled : SpelledStaysSo → (tree : Nodes) (sets : List (List Rule)) (m : PlumbMsg) (found : Option Route) → can_spell m ≡ true → found ≡ route_of tree sets m → IfSome found IsSpelled
+pub stays_spelled : SpelledStaysSo → (tree : Nodes) (sets : List (List Rule)) (m : PlumbMsg) (found : Option Route)
+    → can_spell m ≡ true → found ≡ route_of tree sets m → IfSome found IsSpelled
 stays_spelled law tree sets m None h k = tt
 stays_spelled law tree sets m (Some route) h k = law tree sets m route h (sym k)
 

@@ -18,18 +18,22 @@ pub open_takes : (p : PortsState) (name : List ℕ) → is_open_named p name ≡
 open_takes p name h = open_on (number_of p.ports name) p h
 
 -- the two refusals of a port without openings come together
-closed_with : (opened full : Bool) → opened ≡ false → cond opened None (cond full (Some plumb.PortQueueFull) None) ≡ None → cond opened None (cond full (Some port.Full) None) ≡ None
+closed_with : (opened full : Bool) → opened ≡ false → cond opened None
+    (cond full (Some plumb.PortQueueFull) None) ≡ None → cond opened None (cond full (Some port.Full) None) ≡ None
 closed_with true full h k = absurd cc
 closed_with false true h k = absurd cc
 closed_with false false h k = refl
 
-kept_on : (n : Option ℕ) (p : PortsState) (w : Way) → is_client w ≡ true → is_open_at p n ≡ false → numbered_refusal w n p ≡ None → refusal_on n p true ≡ None
+kept_on : (n : Option ℕ) (p : PortsState) (w : Way) → is_client w ≡ true → is_open_at p n ≡ false → numbered_refusal w n
+    p ≡ None → refusal_on n p true ≡ None
 kept_on n p way.Port c h k = absurd cc
 kept_on n p (way.Start command) c h k = absurd cc
 kept_on None p (way.Client command) c h k = absurd cc
 kept_on (Some n) p (way.Client command) c h k = closed_with (is_open p n) (is_full p n) h k
 
 -- one without openings keeps a message that isn't refused, whatever else was done since, while the ports stayed
-pub closed_takes : (p q : PortsState) (name : List ℕ) (w : Way) → q ≡ p → is_client w ≡ true → is_open_named p name ≡ false
+pub closed_takes : (p q : PortsState) (name : List ℕ) (w : Way) → q ≡ p → is_client w ≡ true → is_open_named p
+    name ≡ false
     → numbered_refusal w (number_of p.ports name) p ≡ None → refusal q name true ≡ None
-closed_takes p q name w same c h k = subst (λ (x : PortsState). refusal x name true ≡ None) (sym same) (kept_on (number_of p.ports name) p w c h k)
+closed_takes p q name w same c h k = subst (λ (x : PortsState). refusal x name true ≡ None) (sym same)
+    (kept_on (number_of p.ports name) p w c h k)

@@ -8,7 +8,18 @@ use Rattle.core_scene.specs.declared.scene.Scene.{Scene}
 use Rattle.core_scene.specs.Scenes.{SceneState, scene_of, kept_of, scene_in, IsSettled}
 
 pub settled_in : (s : SceneState) → IsSettled (scene_in s)
-settled_in s = record { windows = refl; book = refl; files = refl; snarf = refl; jobs = refl; rules = refl; ports = refl; items = refl; deleted = refl }
+settled_in s = record {
+  windows = refl;
+  book = refl;
+  files = refl;
+  snarf = refl;
+  jobs = refl;
+  rules = refl;
+  ports =
+      refl;
+  items = refl;
+  deleted = refl;
+}
 
 pub settled_by : (x : Scene) (s : SceneState) → x ≡ scene_in s → IsSettled x
 settled_by x s e = subst IsSettled (sym e) (settled_in s)

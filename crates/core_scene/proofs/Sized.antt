@@ -1,5 +1,6 @@
 -- The sizes of tags are the lengths of their texts.
-use Rattle.std.proofs.Common.{◌≡◌, ℕ, ◌+◌, Bool, true, false, cond, List, [], ◌∷◌, ◌++◌, length, Option, Some, None, refl, sym, ap, ◌∙◌, length-append, arith}
+use Rattle.std.proofs.Common.{◌≡◌, ℕ, ◌+◌, Bool, true, false, cond, List, [], ◌∷◌, ◌++◌, length, Option, Some, None}
+use Rattle.std.proofs.Common.{refl, sym, ap, ◌∙◌, length-append, arith}
 use Rattle.std.specs.Prelude.{◌==◌, codes}
 use Rattle.win_events.specs.declared.item.Item.{Item}
 use Rattle.win_events.specs.declared.item.Origin.{Origin}
@@ -44,8 +45,10 @@ clear_of origin w a b = cond (length w.right == 0) None (Some (plain_item origin
 
 sized_cleared : (origin : Origin) (w : Window) → cleared_item origin w ≡ sized_clear origin (size_of w)
 sized_cleared origin w =
-    ap (λ a. clear_of origin w a (tag_len w)) (sized_left w) ∙ ap (λ b. clear_of origin w (left_size (size_of w)) b) (sized_whole w)
+    ap (λ a. clear_of origin w a (tag_len w)) (sized_left w) ∙ ap (λ b. clear_of origin w (left_size (size_of w)) b)
+    (sized_whole w)
 
 -- the removal, told by the size alone
-pub cleared_is : (origin : Origin) (w : Window) (size : TagSize) (item : Option Item) → size ≡ size_of w → item ≡ sized_clear origin size → item ≡ cleared_item origin w
+pub cleared_is : (origin : Origin) (w : Window) (size : TagSize) (item : Option Item) → size ≡ size_of w
+    → item ≡ sized_clear origin size → item ≡ cleared_item origin w
 cleared_is origin w size item e h = h ∙ ap (sized_clear origin) e ∙ sym (sized_cleared origin w)

@@ -1,5 +1,6 @@
 -- What the editor keeps beside its windows and its files: the requests that it made, and the rules of the plumber.
-use Rattle.std.specs.Prelude.{ℕ, ◌+◌, ◌-◌, ◌==◌, Bool, nat_le, List, [], ◌++◌, length, slice_get, Option, Some, None, if◌then◌else◌}
+use Rattle.std.specs.Prelude.{ℕ, ◌+◌, ◌-◌, ◌==◌, Bool, nat_le, List, [], ◌++◌, length, slice_get, Option, Some, None}
+use Rattle.std.specs.Prelude.{if◌then◌else◌}
 use Rattle.am_text.specs.declared.job.Job.{Job}
 use Rattle.rule_syntax.specs.declared.rule.Rule.{Rule}
 use Rattle.rule_syntax.specs.declared.rule.Var.{Var}

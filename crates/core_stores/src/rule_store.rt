@@ -16,9 +16,9 @@ use std::mem;
 // How many bytes of rules are accepted at most.
 const MAX_RULE_BYTES: usize = 262_144;
 
-/// The rules of the plumber, after plumb(6), in two states: the accepted sets, the variables that they define, and the text
-/// in which they were written, which a read of the file `rules` gives back. They are added to, and all are forgotten at
-/// once. There are 262,144 bytes of text at most.
+/// The rules of the plumber, after plumb(6), in two states: the accepted sets, the variables that they define, and the
+/// text in which they were written, which a read of the file `rules` gives back. They are added to, and all are
+/// forgotten at once. There are 262,144 bytes of text at most.
 pub struct RuleStore {
     alloc: Global,
     lists: RuleLists,
@@ -47,7 +47,8 @@ impl Model for RuleStore {
 
     ghost view = { λ r. record { present = r.lists.present; kept = (first_of r.before r.lists).kept } };
 
-    ghost invariant = { λ r. (length r.lists.present.text ≤ max_rule_bytes) × (length (first_of r.before r.lists).kept.text ≤ max_rule_bytes) };
+    ghost invariant = { λ r. (length r.lists.present.text ≤ max_rule_bytes)
+        × (length (first_of r.before r.lists).kept.text ≤ max_rule_bytes) };
 }
 
 impl RuleStore {
@@ -90,8 +91,8 @@ impl RuleStore {
         bytes <= MAX_RULE_BYTES - self.lists.text().len()
     }
 
-    /// The sets of a text, read with the present variables, and the variables after it; or what is wrong in it. Nothing is
-    /// added.
+    /// The sets of a text, read with the present variables, and the variables after it; or what is wrong in it. Nothing
+    /// is added.
     pub fn read(&self, alloc: Global, text: &[u8]) -> Result<(RuleSets, Vars), RuleFault>
         ensures ok { IfOk result (λ read. rules_of (decode text.now) self.now.present.vars ≡ Ok read) }
         ensures refused { IfErr result (λ e. Refuses e (rules_of (decode text.now) self.now.present.vars)) }
@@ -99,8 +100,8 @@ impl RuleStore {
         parse_rules(alloc, text, self.vars())
     }
 
-    /// Adds sets that were read, with the variables after them, and their text, for which there is room. After a refusal the
-    /// present state is to be given up, by `back`.
+    /// Adds sets that were read, with the variables after them, and their text, for which there is room. After a
+    /// refusal the present state is to be given up, by `back`.
     pub fn add(&mut self, sets: RuleSets, vars: Vars, text: &[u8]) -> Result<(), NoMemory>
         requires { has_room self.old.present (length text.now) ≡ true }
         ensures ok { OnOk result (self.new ≡ record self.old { present = added self.old.present sets vars text.now }) }

@@ -13,7 +13,8 @@ pub struct Snarf {
     text: Swapped<Runes>,
 }
 
-// By hand, so that a crate that drops a snarfed text goes by this drop, and has not to prove those of all that is in it.
+// By hand, so that a crate that drops a snarfed text goes by this drop, and has not to prove those of all that is in
+// it.
 impl Drop for Snarf {
     fn drop(self) {
         let Snarf { text: _ } = self;

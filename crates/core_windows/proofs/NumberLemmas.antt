@@ -1,5 +1,6 @@
 -- The numbers of the live windows after a change.
-use Rattle.std.proofs.Common.{◌≡◌, ℕ, zero, suc, ◌+◌, ◌-◌, ◌<◌, Bool, true, false, not, cond, eqb, leb, ◌||◌, ◌^◌, List, [], ◌∷◌, ◌++◌, length, Option, Some, None, refl, sym, ap, subst, ◌∙◌, arith}
+use Rattle.std.proofs.Common.{◌≡◌, ℕ, zero, suc, ◌+◌, ◌-◌, ◌<◌, Bool, true, false, not, cond, eqb, leb, ◌||◌, ◌^◌, List}
+use Rattle.std.proofs.Common.{[], ◌∷◌, ◌++◌, length, Option, Some, None, refl, sym, ap, subst, ◌∙◌, arith}
 use Rattle.std.specs.Prelude.{IsSome}
 use Rattle.std.specs.Option.{option_map}
 use Rattle.std.proofs.lemmas.List.{length-append}
@@ -11,13 +12,15 @@ use Rattle.core_windows.specs.declared.change.Change.TheVariants as change
 use Rattle.core_windows.specs.declared.numbers.Numbers.{Numbers}
 use Rattle.core_windows.specs.Places.{at_place, live_at, gone}
 use Rattle.core_windows.specs.Possible.{CanChange}
-use Rattle.core_windows.specs.Windows.{Window, window_at, named_window, edited, added, set, undone_window, redone_window, changed, numbers, world_of}
+use Rattle.core_windows.specs.Windows.{Window, window_at, named_window, edited, added, set, undone_window}
+use Rattle.core_windows.specs.Windows.{redone_window, changed, numbers, world_of}
 use Rattle.core_windows.specs.Numbering.{others, with_next, without, numbers_after, numbers_of, renumbered, MayMake}
 use Rattle.core_windows.proofs.Conditions.{has_place, at_its_place}
 
 -- ---- one window more
 
-numbers_more : (n : ℕ) (ws : List (Option Window)) (x : Window) → numbers n (ws ++ Some x ∷ []) ≡ numbers n ws ++ (n + length ws) ∷ []
+numbers_more : (n : ℕ) (ws : List (Option Window)) (x : Window) → numbers n (ws ++ Some x ∷ []) ≡ numbers n ws
+    ++ (n + length ws) ∷ []
 numbers_more n [] x = ap (λ (i : ℕ). i ∷ []) (omega arith)
 numbers_more n (None ∷ ws) x = numbers_more (n + 1) ws x ∙ ap (λ (i : ℕ). numbers (n + 1) ws ++ i ∷ []) (omega arith)
 numbers_more n (Some y ∷ ws) x =
@@ -26,15 +29,18 @@ numbers_more n (Some y ∷ ws) x =
 abbrev world_with : List ℕ → ℕ → World
 world_with ids next = record { windows = ids; next = next }
 
-world_more : (ws : List (Option Window)) (x : Window) → renumbered (world_of ws) (Some (with_next (world_of ws))) ≡ world_of (ws ++ Some x ∷ [])
+world_more : (ws : List (Option Window)) (x : Window) → renumbered (world_of ws)
+    (Some (with_next (world_of ws))) ≡ world_of (ws ++ Some x ∷ [])
 world_more ws x =
-    let more : numbers 1 (ws ++ Some x ∷ []) ≡ numbers 1 ws ++ (length ws + 1) ∷ [] = numbers_more 1 ws x ∙ ap (λ (i : ℕ). numbers 1 ws ++ i ∷ []) (omega arith) in
+    let more : numbers 1 (ws ++ Some x ∷ []) ≡ numbers 1 ws ++ (length ws + 1) ∷ [] = numbers_more 1 ws x
+    ∙ ap (λ (i : ℕ). numbers 1 ws ++ i ∷ []) (omega arith) in
     sym (ap (λ (l : List ℕ). world_with l (length (ws ++ Some x ∷ []) + 1)) more
     ∙ ap (λ (i : ℕ). world_with (numbers 1 ws ++ (length ws + 1) ∷ []) (i + 1)) (length-append ws (Some x ∷ [])))
 
 -- ---- another window in the place of one
 
-numbers_same : (f : Window → Window) (k n : ℕ) (ws : List (Option Window)) → numbers n (at_place (option_map f) k ws) ≡ numbers n ws
+numbers_same : (f : Window → Window) (k n : ℕ) (ws : List (Option Window))
+    → numbers n (at_place (option_map f) k ws) ≡ numbers n ws
 numbers_same f k n [] = refl
 numbers_same f zero n (None ∷ ws) = refl
 numbers_same f zero n (Some x ∷ ws) = refl
@@ -46,7 +52,8 @@ place_length f k [] = refl
 place_length f zero (x ∷ xs) = refl
 place_length f (suc k) (x ∷ xs) = ap suc (place_length f k xs)
 
-world_same : (f : Window → Window) (k : ℕ) (ws : List (Option Window)) → world_of ws ≡ world_of (at_place (option_map f) k ws)
+world_same : (f : Window → Window) (k : ℕ) (ws : List (Option Window))
+    → world_of ws ≡ world_of (at_place (option_map f) k ws)
 world_same f k ws =
     sym (ap (λ (l : List ℕ). world_with l (length (at_place (option_map f) k ws) + 1)) (numbers_same f k 1 ws)
     ∙ ap (λ (i : ℕ). world_with (numbers 1 ws) (i + 1)) (place_length (option_map f) k ws))
@@ -54,18 +61,22 @@ world_same f k ws =
 -- ---- one window less
 
 other : (n w : ℕ) (ids : List ℕ) → w < n → others w (n ∷ ids) ≡ n ∷ others w ids
-other n w ids h = let e : eqb n w ≡ false = grind (arith, nat_tests) in ap (λ (b : Bool). cond (not b) (n ∷ others w ids) (others w ids)) e
+other n w ids h = let e : eqb n w ≡ false = grind (arith, nat_tests) in
+    ap (λ (b : Bool). cond (not b) (n ∷ others w ids) (others w ids)) e
 
 other_below : (n w : ℕ) (ids : List ℕ) → n < w → others w (n ∷ ids) ≡ n ∷ others w ids
-other_below n w ids h = let e : eqb n w ≡ false = grind (arith, nat_tests) in ap (λ (b : Bool). cond (not b) (n ∷ others w ids) (others w ids)) e
+other_below n w ids h = let e : eqb n w ≡ false = grind (arith, nat_tests) in
+    ap (λ (b : Bool). cond (not b) (n ∷ others w ids) (others w ids)) e
 
 the_one : (n w : ℕ) (ids : List ℕ) → n ≡ w → others w (n ∷ ids) ≡ others w ids
-the_one n w ids h = let e : eqb n w ≡ true = grind (arith, nat_tests) in ap (λ (b : Bool). cond (not b) (n ∷ others w ids) (others w ids)) e
+the_one n w ids h = let e : eqb n w ≡ true = grind (arith, nat_tests) in
+    ap (λ (b : Bool). cond (not b) (n ∷ others w ids) (others w ids)) e
 
 others_above : (ws : List (Option Window)) (n w : ℕ) → w < n → others w (numbers n ws) ≡ numbers n ws
 others_above [] n w h = refl
 others_above (None ∷ ws) n w h = others_above ws (n + 1) w (omega arith)
-others_above (Some v ∷ ws) n w h = other n w (numbers (n + 1) ws) h ∙ ap (λ (l : List ℕ). n ∷ l) (others_above ws (n + 1) w (omega arith))
+others_above (Some v ∷ ws) n w h = other n w (numbers (n + 1) ws) h
+    ∙ ap (λ (l : List ℕ). n ∷ l) (others_above ws (n + 1) w (omega arith))
 
 numbers_less : (ws : List (Option Window)) (k n : ℕ) → numbers n (at_place gone k ws) ≡ others (n + k) (numbers n ws)
 numbers_less [] k n = refl
@@ -78,15 +89,18 @@ numbers_less (Some v ∷ ws) (suc k) n =
     ap (λ (l : List ℕ). n ∷ l) (numbers_less ws k (n + 1) ∙ ap (λ (i : ℕ). others i (numbers (n + 1) ws)) (omega arith))
     ∙ sym (other_below n (n + suc k) (numbers (n + 1) ws) (omega arith))
 
-world_less : (ws : List (Option Window)) (w : ℕ) → 0 < w → renumbered (world_of ws) (Some (without (world_of ws) w)) ≡ world_of (at_place gone (w - 1) ws)
+world_less : (ws : List (Option Window)) (w : ℕ) → 0 < w → renumbered (world_of ws)
+    (Some (without (world_of ws) w)) ≡ world_of (at_place gone (w - 1) ws)
 world_less ws w h =
     let n : 1 + (w - 1) ≡ w = omega arith in
-    sym (ap (λ (l : List ℕ). world_with l (length (at_place gone (w - 1) ws) + 1)) (numbers_less ws (w - 1) 1 ∙ ap (λ (i : ℕ). others i (numbers 1 ws)) n)
+    sym (ap (λ (l : List ℕ). world_with l (length (at_place gone (w - 1) ws) + 1))
+    (numbers_less ws (w - 1) 1 ∙ ap (λ (i : ℕ). others i (numbers 1 ws)) n)
     ∙ ap (λ (i : ℕ). world_with (others w (numbers 1 ws)) (i + 1)) (place_length gone (w - 1) ws))
 
 -- ---- any change
 
-pub world_changed : (at : ℕ) (ws : List (Option Window)) (c : Change) → CanChange ws c → renumbered (world_of ws) (numbers_after (world_of ws) c) ≡ world_of (changed at ws c)
+pub world_changed : (at : ℕ) (ws : List (Option Window)) (c : Change) → CanChange ws c
+    → renumbered (world_of ws) (numbers_after (world_of ws) c) ≡ world_of (changed at ws c)
 world_changed at ws (change.Makes name) h = world_more ws (named_window name)
 world_changed at ws (change.Deletes w) h = world_less ws w (has_place ws w h)
 world_changed at ws (change.Edits w es) h = world_same (edited es at) (w - 1) ws
@@ -110,5 +124,6 @@ either_false false b e = e
 
 pub can_count : (world : World) → world_is_full world ≡ false → world.next < 2 ^ 32 → world.next + 1 < 2 ^ 32
 can_count world e h =
-    let ne : eqb world.next 4294967295 ≡ false = either_false (leb 4096 (length world.windows)) (eqb world.next 4294967295) e in
+    let ne : eqb world.next 4294967295 ≡ false = either_false (leb 4096 (length world.windows))
+    (eqb world.next 4294967295) e in
     grind (arith, nat_tests)

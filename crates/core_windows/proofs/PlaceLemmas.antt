@@ -1,5 +1,6 @@
 -- A window at its place in the list.
-use Rattle.std.proofs.Common.{◌≡◌, ℕ, ◌+◌, ◌-◌, ◌<◌, Bool, true, false, cond, eqb, List, [], ◌∷◌, length, get_or, Option, Some, None, refl, sym, ap, ◌∙◌, subst, arith}
+use Rattle.std.proofs.Common.{◌≡◌, ℕ, ◌+◌, ◌-◌, ◌<◌, Bool, true, false, cond, eqb, List, [], ◌∷◌, length, get_or}
+use Rattle.std.proofs.Common.{Option, Some, None, refl, sym, ap, ◌∙◌, subst, arith}
 use Rattle.std.specs.Prelude.{slice_get, slice_index_or, IsSome, IfSome}
 use Rattle.std.specs.Option.{option_map}
 use Rattle.std.proofs.lemmas.Option.{slice_get-get_or, slice_get-map}
@@ -34,13 +35,15 @@ not_zero w k e = grind (arith, nat_tests)
 before_it : (w k : ℕ) → w ≡ k + 1 → w - 1 ≡ k
 before_it w k e = omega arith
 
-pane_there : (ps : List (Option Pane)) (w k : ℕ) (d : Option Pane) → w ≡ k + 1 → k < length ps → pane_at ps w ≡ get_or ps k d
+pane_there : (ps : List (Option Pane)) (w k : ℕ) (d : Option Pane) → w ≡ k + 1 → k < length ps
+    → pane_at ps w ≡ get_or ps k d
 pane_there ps w k d e h =
     ap (λ (b : Bool). cond b None (when_made (slice_get ps (w - 1)))) (not_zero w k e)
     ∙ ap (λ (i : ℕ). when_made (slice_get ps i)) (before_it w k e)
     ∙ ap when_made (slice_get-get_or ps k d h)
 
-pub pane_of_place : (ps : List (Option Pane)) (w k : ℕ) (d : Option Pane) → IsPlaceOf ps w k → pane_at ps w ≡ get_or ps k d
+pub pane_of_place : (ps : List (Option Pane)) (w k : ℕ) (d : Option Pane) → IsPlaceOf ps w k
+    → pane_at ps w ≡ get_or ps k d
 pane_of_place ps w k d h = pane_there ps w k d h.number h.within
 
 lives_same : (o : Option Pane) → IsSome o → IsSome (window_if_live o)
@@ -49,10 +52,13 @@ lives_same (Some p) h = refl
 
 -- ---- a window of a name
 
-pub lives_at : (ps : List (Option Pane)) (o : Option ℕ) → IfSome o (λ k. (k < length ps) × ((d : Option Pane) → IsSome (slice_index_or ps k d))) → IfSome (option_map (λ (k : ℕ). k + 1) o) (λ w. IsSome (window_at (windows_of ps) w))
+pub lives_at : (ps : List (Option Pane)) (o : Option ℕ) → IfSome o
+    (λ k. (k < length ps) × ((d : Option Pane) → IsSome (slice_index_or ps k d)))
+    → IfSome (option_map (λ (k : ℕ). k + 1) o) (λ w. IsSome (window_at (windows_of ps) w))
 lives_at ps None h = tt
 lives_at ps (Some k) h =
-    let there : window_at (windows_of ps) (k + 1) ≡ window_if_live (get_or ps k None) = window_of_pane ps (k + 1) ∙ ap window_if_live (pane_there ps (k + 1) k None refl h.0) in
+    let there : window_at (windows_of ps) (k + 1) ≡ window_if_live (get_or ps k None) = window_of_pane ps (k + 1)
+    ∙ ap window_if_live (pane_there ps (k + 1) k None refl h.0) in
     subst IsSome (sym there) (lives_same (get_or ps k None) (h.1 None))
 
 -- ---- the panes are what is seen

@@ -1,5 +1,6 @@
 -- The right part of a tag, shortened.
-use Rattle.std.proofs.Common.{◌≡◌, ℕ, zero, suc, ◌-◌, ◌<◌, ◌≤◌, List, [], ◌∷◌, ◌++◌, length, take, drop, refl, ap, arith}
+use Rattle.std.proofs.Common.{◌≡◌, ℕ, zero, suc, ◌-◌, ◌<◌, ◌≤◌, List, [], ◌∷◌, ◌++◌, length, take, drop, refl, ap}
+use Rattle.std.proofs.Common.{arith}
 use Rattle.std.specs.Prelude.{remove}
 
 kept_front : {A : Type 0} (n i : ℕ) (xs : List A) → n ≤ i → take n (take i xs ++ drop (suc i) xs) ≡ take n xs

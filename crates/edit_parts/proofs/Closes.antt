@@ -1,5 +1,6 @@
 -- A piece may end a line, with some runes more where it ends the text.
-use Rattle.std.proofs.Common.{◌≡◌, ℕ, ◌==◌, ◌⊎◌, Bool, true, false, List, [], ◌∷◌, ◌++◌, Option, Some, None, refl, sym, ap, subst, ◌∙◌, inl, inr, append-nil, append_assoc}
+use Rattle.std.proofs.Common.{◌≡◌, ℕ, ◌==◌, ◌⊎◌, Bool, true, false, List, [], ◌∷◌, ◌++◌, Option, Some, None, refl, sym}
+use Rattle.std.proofs.Common.{ap, subst, ◌∙◌, inl, inr, append-nil, append_assoc}
 use Rattle.std.proofs.lemmas.Bool.{eqb-true}
 use Rattle.std.proofs.lemmas.List.{append_cancel_right}
 use Rattle.re_syntax.specs.Tree as expression
@@ -28,9 +29,11 @@ use Rattle.edit_parts.proofs.Acts.{ends_no_piece}
 -- the runes of something and some more may stand at the end of a line; none is needed where a rune comes next
 abbrev pub Closing : (List ℕ → List ℕ → Type 0) → List ℕ → List ℕ → Type 0
 Closing R u y =
-    (more : List ℕ) × ((n : ℕ) → next_of y ≡ Some n → more ≡ []) × (u ≡ [] → more ≡ []) × ((z : List ℕ) → ends_line (next_of z) ≡ true → R ((u ++ more) ++ z) z)
+    (more : List ℕ) × ((n : ℕ) → next_of y ≡ Some n → more ≡ []) × (u ≡ [] → more ≡ [])
+    × ((z : List ℕ) → ends_line (next_of z) ≡ true → R ((u ++ more) ++ z) z)
 
-still : (R : List ℕ → List ℕ → Type 0) (u y : List ℕ) → ((z : List ℕ) → ends_line (next_of z) ≡ true → R (u ++ z) z) → Closing R u y
+still : (R : List ℕ → List ℕ → Type 0) (u y : List ℕ) → ((z : List ℕ) → ends_line (next_of z) ≡ true → R (u ++ z) z)
+    → Closing R u y
 still R u y f = ([], λ n e. refl, λ e. refl, λ z e. subst (λ (l : List ℕ). R (l ++ z) z) (sym (append-nil u)) (f z e))
 
 ends_not : (c : ℕ) (z : List ℕ) → (10 == c) ≡ false → ends_line (next_of z) ≡ true → is_next c (next_of z) ≡ false
@@ -42,11 +45,13 @@ ends_not c (d ∷ ds) f e = ap (λ v. v == c) (eqb-true d 10 e) ∙ f
 abbrev Suffix : (List ℕ → List ℕ → Type 0) → Type 0
 Suffix R = (t r : List ℕ) → R t r → (w : List ℕ) × (t ≡ w ++ r)
 
-first_solid : (w more y z : List ℕ) → is_next 32 (next_of (w ++ y)) ≡ false → (w ≡ [] → more ≡ []) → ends_line (next_of z) ≡ true → is_next 32 (next_of ((w ++ more) ++ z)) ≡ false
+first_solid : (w more y z : List ℕ) → is_next 32 (next_of (w ++ y)) ≡ false → (w ≡ [] → more ≡ [])
+    → ends_line (next_of z) ≡ true → is_next 32 (next_of ((w ++ more) ++ z)) ≡ false
 first_solid [] more y z h b e = ap (λ (l : List ℕ). is_next 32 (next_of (l ++ z))) (b refl) ∙ ends_not 32 z refl e
 first_solid (c ∷ cs) more y z h b e = h
 
-blank_closing : (R : List ℕ → List ℕ → Type 0) (u y : List ℕ) → Suffix R → ((w : List ℕ) → R (w ++ y) y → Closing R w y) → R (after_blanks (u ++ y)) y → Closing (λ t r. R (after_blanks t) r) u y
+blank_closing : (R : List ℕ → List ℕ → Type 0) (u y : List ℕ) → Suffix R → ((w : List ℕ) → R (w ++ y) y → Closing R w y)
+    → R (after_blanks (u ++ y)) y → Closing (λ t r. R (after_blanks t) r) u y
 blank_closing R u y suffix closing x = (c.0, c.1, bare, closed)
   where
     s : Skipped (u ++ y)
@@ -70,22 +75,35 @@ blank_closing R u y suffix closing x = (c.0, c.1, bare, closed)
 
     closed : (z : List ℕ) → ends_line (next_of z) ≡ true → R (after_blanks ((u ++ c.0) ++ z)) z
     closed z e =
-        let solid : is_next 32 (next_of ((w.0 ++ c.0) ++ z)) ≡ false = first_solid w.0 c.0 y z (ap (λ (t : List ℕ). is_next 32 (next_of t)) (sym w.1) ∙ solid_behind (u ++ y)) c.2 e in
+        let solid : is_next 32 (next_of ((w.0 ++ c.0) ++ z)) ≡ false = first_solid w.0 c.0 y z
+        (ap (λ (t : List ℕ). is_next 32 (next_of t)) (sym w.1) ∙ solid_behind (u ++ y)) c.2 e in
         let group : (u ++ c.0) ++ z ≡ s.0 ++ ((w.0 ++ c.0) ++ z) =
-        ap (λ (l : List ℕ). (l ++ c.0) ++ z) cut ∙ ap (λ (l : List ℕ). l ++ z) (append_assoc s.0 w.0 c.0) ∙ append_assoc s.0 (w.0 ++ c.0) z in
-        let gone : after_blanks ((u ++ c.0) ++ z) ≡ (w.0 ++ c.0) ++ z = ap after_blanks group ∙ s.2 ((w.0 ++ c.0) ++ z) solid in
+        ap (λ (l : List ℕ). (l ++ c.0) ++ z) cut ∙ ap (λ (l : List ℕ). l ++ z) (append_assoc s.0 w.0 c.0)
+        ∙ append_assoc s.0 (w.0 ++ c.0) z in
+        let gone : after_blanks ((u ++ c.0) ++ z) ≡ (w.0 ++ c.0) ++ z = ap after_blanks group
+        ∙ s.2 ((w.0 ++ c.0) ++ z) solid in
         subst (λ (t : List ℕ). R t z) (sym gone) (c.3 z e)
 
 -- ---- addresses
 
-row_ends : (p : part.Piece) (ps : List part.Piece) (text : List ℕ) → part.BeginsWith (p ∷ ps) text [] → (more : List ℕ) × ((z : List ℕ) → begins_piece (next_of z) ≡ false → part.BeginsWith (p ∷ ps) ((text ++ more) ++ z) z)
+row_ends : (p : part.Piece) (ps : List part.Piece) (text : List ℕ) → part.BeginsWith (p ∷ ps) text [] → (more : List ℕ)
+    × ((z : List ℕ) → begins_piece (next_of z) ≡ false → part.BeginsWith (p ∷ ps) ((text ++ more) ++ z) z)
 row_ends p [] text x =
     let c = piece_closable p x.0 (next_of x.1) x.3 in
     let whole : text ≡ x.0 = x.2 ∙ ap (λ (l : List ℕ). x.0 ++ l) x.4 ∙ append-nil x.0 in
     (c.0, λ z e. (x.0 ++ c.0, z, ap (λ (l : List ℕ). (l ++ c.0) ++ z) whole, c.1 (next_of z) e, refl))
 row_ends p (q ∷ qs) text x =
-    let on = row_ends q qs x.1 x.4 in
-    (on.0, λ z e. (x.0, (x.1 ++ on.0) ++ z, ap (λ (l : List ℕ). (l ++ on.0) ++ z) x.2 ∙ ap (λ (l : List ℕ). l ++ z) (append_assoc x.0 x.1 on.0) ∙ append_assoc x.0 (x.1 ++ on.0) z, subst (λ (n : Option ℕ). part.IsPiece p x.0 n) (same x.1 on.0 z (row_first q qs x.1 [] x.4)) x.3, on.1 z e))
+    let on = row_ends q qs x.1 x.4 in (
+      on.0,
+      λ z e. (
+        x.0,
+        (x.1 ++ on.0) ++ z,
+        ap (λ (l : List ℕ). (l ++ on.0) ++ z) x.2
+            ∙ ap (λ (l : List ℕ). l ++ z) (append_assoc x.0 x.1 on.0) ∙ append_assoc x.0 (x.1 ++ on.0) z,
+        subst (λ (n : Option ℕ). part.IsPiece p x.0 n) (same x.1 on.0 z (row_first q qs x.1 [] x.4)) x.3,
+        on.1 z e,
+      ),
+    )
   where
     same : (t more z : List ℕ) → begins_piece (next_of t) ≡ true → next_of t ≡ next_of ((t ++ more) ++ z)
     same [] more z e = absurd cc
@@ -100,11 +118,13 @@ address_closing : (a : address.Tree) (w y : List ℕ) → Begins a (w ++ y) y �
 address_closing a w y x = go y refl
   where
     bare : w ≡ [] → ⊥
-    bare e = not_both (begins_piece (next_of y)) (ap (λ (l : List ℕ). begins_piece (next_of (l ++ y))) (sym e) ∙ row_first x.0 x.1 (w ++ y) y x.3) x.6
+    bare e = not_both (begins_piece (next_of y)) (ap (λ (l : List ℕ). begins_piece (next_of (l ++ y))) (sym e)
+        ∙ row_first x.0 x.1 (w ++ y) y x.3) x.6
 
     go : (k : List ℕ) → y ≡ k → Closing (Begins a) w y
     go [] e =
-        let row : part.BeginsWith (x.0 ∷ x.1) w [] = subst (λ (l : List ℕ). part.BeginsWith (x.0 ∷ x.1) l []) (append-nil w) (subst (λ (l : List ℕ). part.BeginsWith (x.0 ∷ x.1) (w ++ l) l) e x.3) in
+        let row : part.BeginsWith (x.0 ∷ x.1) w [] = subst (λ (l : List ℕ). part.BeginsWith (x.0 ∷ x.1) l [])
+        (append-nil w) (subst (λ (l : List ℕ). part.BeginsWith (x.0 ∷ x.1) (w ++ l) l) e x.3) in
         let on = row_ends x.0 x.1 w row in (
           on.0,
           λ n f. absurd (let g : None ≡ Some n = ap next_of (sym e) ∙ f in cc),
@@ -115,12 +135,25 @@ address_closing a w y x = go y refl
     go (c ∷ cs) e =
         let on = rows_close (x.0 ∷ x.1) (w ++ y) y c (ap next_of e) x.3 in
         let same : on.0 ≡ w = append_cancel_right on.0 w y (sym on.1) in
-        still (Begins a) w y (λ z f. (x.0, x.1, x.2, subst (λ (l : List ℕ). part.BeginsWith (x.0 ∷ x.1) (l ++ z) z) same (on.2 z (ends_no_piece (next_of z) f)), x.4, x.5, ends_no_piece (next_of z) f))
+        still (Begins a) w y (λ z f. (
+          x.0,
+          x.1,
+          x.2,
+          subst (λ (l : List ℕ). part.BeginsWith (x.0 ∷ x.1) (l ++ z) z) same
+              (on.2 z (ends_no_piece (next_of z) f)),
+          x.4,
+          x.5,
+          ends_no_piece (next_of z) f,
+        ))
 
 -- ---- expressions
 
 quoted_suffix : (re : expression.Tree) → Suffix (Quoted re)
-quoted_suffix re t r (body, e, x) = (47 ∷ body ++ 47 ∷ [], e ∙ ap (λ (l : List ℕ). 47 ∷ l) (sym (append_assoc body (47 ∷ []) r)))
+quoted_suffix re t r (body, e, x) = (
+  47 ∷ body ++ 47 ∷ [],
+  e ∙ ap (λ (l : List ℕ). 47 ∷ l)
+      (sym (append_assoc body (47 ∷ []) r)),
+)
 
 quoted_closing : (re : expression.Tree) (w y : List ℕ) → Quoted re (w ++ y) y → Closing (Quoted re) w y
 quoted_closing re w y x = still (Quoted re) w y (λ z e. quoted_behind re w y z x)
@@ -132,7 +165,8 @@ loop_suffix ForBetween re t r x = quoted_suffix re t r x
 loop_suffix Where re t r x = quoted_suffix re t r x
 loop_suffix WhereNot re t r x = quoted_suffix re t r x
 
-loop_closing : (k : Loop) (re : expression.Tree) (w y : List ℕ) → LoopsOver k re (w ++ y) y → Closing (LoopsOver k re) w y
+loop_closing : (k : Loop) (re : expression.Tree) (w y : List ℕ) → LoopsOver k re (w ++ y) y
+    → Closing (LoopsOver k re) w y
 loop_closing ForEach re w y (inl x) = still (LoopsOver ForEach re) w y (λ z e. inl (quoted_behind re w y z x))
 loop_closing ForEach re w y (inr x) =
     let none : w ≡ [] = append_cancel_right w [] y x.1 in
@@ -145,12 +179,18 @@ loop_closing WhereNot re w y x = quoted_closing re w y x
 
 abbrev TextParts : List ℕ → List ℕ → List ℕ → Type 0
 TextParts t text rest =
-    ((body : List ℕ) × (text ≡ (47 ∷ body ++ 47 ∷ []) ++ rest) × (t ≡ unescaped false body) × (is_whole 47 false body ≡ true)) ⊎ ((text ≡ (10 ∷ t ++ 46 ∷ []) ++ rest) × (are_lines true t ≡ true))
+    ((body : List ℕ) × (text ≡ (47 ∷ body ++ 47 ∷ []) ++ rest) × (t ≡ unescaped false body)
+    × (is_whole 47 false body ≡ true)) ⊎ ((text ≡ (10 ∷ t ++ 46 ∷ []) ++ rest) × (are_lines true t ≡ true))
 
 text_parts : (t text rest : List ℕ) → Text t text rest → TextParts t text rest
 text_parts t [] rest x = absurd x
 text_parts t (c ∷ cs) rest (inl x) =
-    inl (x.1, ap (λ z. z ∷ cs) x.0 ∙ ap (λ (l : List ℕ). 47 ∷ l) (x.3.0 ∙ sym (append_assoc x.1 (47 ∷ []) rest)), x.2, x.3.1)
+    inl (
+      x.1,
+      ap (λ z. z ∷ cs) x.0 ∙ ap (λ (l : List ℕ). 47 ∷ l) (x.3.0 ∙ sym (append_assoc x.1 (47 ∷ []) rest)),
+      x.2,
+      x.3.1,
+    )
 text_parts t (c ∷ cs) rest (inr x) =
     inr (ap (λ z. z ∷ cs) x.0 ∙ ap (λ (l : List ℕ). 10 ∷ l) (x.1.0 ∙ sym (append_assoc t (46 ∷ []) rest)), x.1.1)
 
@@ -184,17 +224,24 @@ rest_closing t w y x =
 nth_suffix : (n : ℕ) → Suffix (Nth n)
 nth_suffix n t r (inl x) = ([], sym x.2)
 nth_suffix n t r (inr (digits, m, e, number, i)) =
-    let s : Skipped m = skipped m in
-    (digits ++ s.0, e ∙ ap (λ (l : List ℕ). digits ++ l) (s.1 ∙ ap (λ (l : List ℕ). s.0 ++ l) (sym i)) ∙ sym (append_assoc digits s.0 r))
+    let s : Skipped m = skipped m in (
+      digits ++ s.0,
+      e ∙ ap (λ (l : List ℕ). digits ++ l) (s.1 ∙ ap (λ (l : List ℕ). s.0 ++ l) (sym i))
+          ∙ sym (append_assoc digits s.0 r),
+    )
 
 -- a `g` with the blanks before it, where there is one
 abbrev AllParts : Bool → List ℕ → List ℕ → Type 0
-AllParts all k y = (w : List ℕ) × (k ≡ w ++ y) × ((z : List ℕ) → ends_line (next_of z) ≡ true → All all (after_blanks (w ++ z)) z)
+AllParts all k y = (w : List ℕ) × (k ≡ w ++ y) × ((z : List ℕ) → ends_line (next_of z) ≡ true → All all
+    (after_blanks (w ++ z)) z)
 
 all_parts : (all : Bool) (k y : List ℕ) → All all (after_blanks k) y → AllParts all k y
 all_parts true k y x =
-    let s : Skipped k = skipped k in
-    (s.0 ++ 103 ∷ [], s.1 ∙ ap (λ (l : List ℕ). s.0 ++ l) x ∙ sym (append_assoc s.0 (103 ∷ []) y), λ z e. ap after_blanks (append_assoc s.0 (103 ∷ []) z) ∙ s.2 (103 ∷ z) refl)
+    let s : Skipped k = skipped k in (
+      s.0 ++ 103 ∷ [],
+      s.1 ∙ ap (λ (l : List ℕ). s.0 ++ l) x ∙ sym (append_assoc s.0 (103 ∷ []) y),
+      λ z e. ap after_blanks (append_assoc s.0 (103 ∷ []) z) ∙ s.2 (103 ∷ z) refl,
+    )
 all_parts false k y x =
     let s : Skipped k = skipped k in
     (s.0, s.1 ∙ ap (λ (l : List ℕ). s.0 ++ l) x.0, λ z e. (s.2 z (ends_not 32 z refl e), ends_not 103 z refl e))
@@ -202,7 +249,8 @@ all_parts false k y x =
 -- what stands before the rest of a substitution: its number, and all behind it
 abbrev SubstituteParts : Action → List ℕ → List ℕ → Type 0
 SubstituteParts act text y =
-    (d w : List ℕ) × (text ≡ (d ++ w) ++ y) × ((z : List ℕ) → ends_line (next_of z) ≡ true → SubstitutesAs act ((d ++ w) ++ z) z)
+    (d w : List ℕ) × (text ≡ (d ++ w) ++ y) × ((z : List ℕ) → ends_line (next_of z) ≡ true → SubstitutesAs act
+    ((d ++ w) ++ z) z)
 
 substitute_parts : (act : Action) (text y : List ℕ) → SubstitutesAs act text y → SubstituteParts act text y
 substitute_parts act text y (n, re, with, all, e, (l, m, k, a, (body, f, x), c, g)) = (d.0, slashes, cut, closed)
@@ -234,9 +282,18 @@ substitute_parts act text y (n, re, with, all, e, (l, m, k, a, (body, f, x), c, 
 
     closed : (z : List ℕ) → ends_line (next_of z) ≡ true → SubstitutesAs act ((d.0 ++ slashes) ++ z) z
     closed z h =
-        let nth : Nth n (d.0 ++ from_slash z) (from_slash z) = slash_behind n d.0 l (from_slash z) (subst (λ (t : List ℕ). Nth n t l) d.1 a) refl refl in
-        let group : (d.0 ++ slashes) ++ z ≡ d.0 ++ from_slash z = append_assoc d.0 slashes z ∙ ap (λ (t : List ℕ). d.0 ++ t) (slashes_on z) in
-        let whole : SubstitutesAs act (d.0 ++ from_slash z) z = (n, re, with, all, e, (from_slash z, with ++ 47 ∷ (ends.0 ++ z), ends.0 ++ z, nth, (body, refl, x), (refl, c.1), ends.2 z h)) in
+        let nth : Nth n (d.0 ++ from_slash z) (from_slash z) = slash_behind n d.0 l (from_slash z)
+        (subst (λ (t : List ℕ). Nth n t l) d.1 a) refl refl in
+        let group : (d.0 ++ slashes) ++ z ≡ d.0 ++ from_slash z = append_assoc d.0 slashes z
+        ∙ ap (λ (t : List ℕ). d.0 ++ t) (slashes_on z) in
+        let whole : SubstitutesAs act (d.0 ++ from_slash z) z = (
+          n,
+          re,
+          with,
+          all,
+          e,
+          (from_slash z, with ++ 47 ∷ (ends.0 ++ z), ends.0 ++ z, nth, (body, refl, x), (refl, c.1), ends.2 z h),
+        ) in
         subst (λ (t : List ℕ). SubstitutesAs act t z) (sym group) whole
 
 substitute_suffix : (act : Action) → Suffix (SubstitutesAs act)
@@ -257,27 +314,40 @@ act_closing : (l : Letter) (act : Action) (u y : List ℕ) → ActsAs l act (u +
 act_closing (letter.Puts place) act u y x =
     let c = blank_closing (Text x.0) u y (text_suffix x.0) (λ w z. text_closing x.0 w y z) x.2 in
     (c.0, c.1, c.2, λ z e. (x.0, x.1, c.3 z e))
-act_closing letter.Delete act u y x = still (ActsAs letter.Delete act) u y (λ z e. (x.0, ap (λ (l : List ℕ). l ++ z) (none_between u y x.1)))
-act_closing letter.Substitute act u y x = blank_closing (SubstitutesAs act) u y (substitute_suffix act) (λ w z. substitute_closing act w y z) x
+act_closing letter.Delete act u y x = still (ActsAs letter.Delete act) u y
+    (λ z e. (x.0, ap (λ (l : List ℕ). l ++ z) (none_between u y x.1)))
+act_closing letter.Substitute act u y x = blank_closing (SubstitutesAs act) u y (substitute_suffix act)
+    (λ w z. substitute_closing act w y z) x
 act_closing (letter.Sends way) act u y x =
     let c = blank_closing (Begins x.0) u y (address_suffix x.0) (λ w z. address_closing x.0 w y z) x.2 in
     (c.0, c.1, c.2, λ z e. (x.0, x.1, c.3 z e))
-act_closing letter.Print act u y x = still (ActsAs letter.Print act) u y (λ z e. (x.0, ap (λ (l : List ℕ). l ++ z) (none_between u y x.1)))
+act_closing letter.Print act u y x = still (ActsAs letter.Print act) u y
+    (λ z e. (x.0, ap (λ (l : List ℕ). l ++ z) (none_between u y x.1)))
 act_closing letter.Equals act u y (inl x) =
     let cut : u ≡ 35 ∷ [] = append_cancel_right u (35 ∷ []) y x.1 in
     still (ActsAs letter.Equals act) u y (λ z e. inl (x.0, ap (λ (l : List ℕ). l ++ z) cut))
 act_closing letter.Equals act u y (inr x) =
-    still (ActsAs letter.Equals act) u y (λ z e. inr (x.0, ap (λ (l : List ℕ). l ++ z) (none_between u y x.1), ends_not 35 z refl e))
+    still (ActsAs letter.Equals act) u y (λ z e. inr (
+      x.0,
+      ap (λ (l : List ℕ). l ++ z) (none_between u y x.1),
+      ends_not 35 z refl e,
+    ))
 act_closing (letter.Asks request) act u y x =
     let c = blank_closing (RestOfLine x.0) u y (rest_suffix x.0) (λ w z. rest_closing x.0 w y z) x.2 in
     (c.0, c.1, c.2, λ z e. (x.0, x.1, c.3 z e))
 
 -- the same of a piece behind its first rune, which may be all of it
 abbrev Ending : (List ℕ → List ℕ → Type 0) → List ℕ → List ℕ → Type 0
-Ending R u y = (more : List ℕ) × ((n : ℕ) → next_of y ≡ Some n → more ≡ []) × ((z : List ℕ) → ends_line (next_of z) ≡ true → R ((u ++ more) ++ z) z)
+Ending R u y = (more : List ℕ) × ((n : ℕ) → next_of y ≡ Some n → more ≡ [])
+    × ((z : List ℕ) → ends_line (next_of z) ≡ true → R ((u ++ more) ++ z) z)
 
 alone : (R : List ℕ → List ℕ → Type 0) (u y : List ℕ) → ((t r : List ℕ) → t ≡ r → R t r) → u ++ y ≡ y → Ending R u y
-alone R u y f x = ([], λ n e. refl, λ z e. f ((u ++ []) ++ z) z (ap (λ (l : List ℕ). l ++ z) (append-nil u ∙ none_between u y x)))
+alone R u y f x = (
+  [],
+  λ n e. refl,
+  λ z e. f ((u ++ []) ++ z) z (ap (λ (l : List ℕ). l ++ z)
+      (append-nil u ∙ none_between u y x)),
+)
 
 piece_ending : (k : Kind) (p : Piece) (c : ℕ) (u y : List ℕ) → GoesOnAs k p c (u ++ y) y → Ending (GoesOnAs k p c) u y
 piece_ending kind.Blank p c u y x = alone (GoesOnAs kind.Blank p c) u y (λ t r e. (x.0, e)) x.1

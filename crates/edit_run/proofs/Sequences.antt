@@ -1,5 +1,6 @@
 -- Changes inside a text are at fault only where they aren't in sequence.
-use Rattle.std.proofs.Common.{◌≡◌, ℕ, ◌+◌, ◌<◌, ◌≤◌, ◌⊎◌, true, false, ltb, leb, List, [], ◌∷◌, Some, None, Err, refl, inl, inr, arith}
+use Rattle.std.proofs.Common.{◌≡◌, ℕ, ◌+◌, ◌<◌, ◌≤◌, ◌⊎◌, true, false, ltb, leb, List, [], ◌∷◌, Some, None, Err, refl}
+use Rattle.std.proofs.Common.{inl, inr, arith}
 use Rattle.std.proofs.lemmas.Bool.{cases_lt, le-leb}
 use Rattle.std.proofs.lemmas.Bool.Decides.{nat_tests}
 use Rattle.edit_log.specs.declared.types.Edit.{Edit}
@@ -11,7 +12,8 @@ use Rattle.edit_run.specs.Plan.{are_in_sequence, edits_of}
 
 abbrev Told : ℕ → ℕ → ℕ → List Edit → Type 0
 Told len end k cs =
-    ((first_fault_from len end k cs ≡ None) × (are_in_sequence end cs ≡ true)) ⊎ ((n : ℕ) × (first_fault_from len end k cs ≡ Some (fault.Sequence n)) × (are_in_sequence end cs ≡ false))
+    ((first_fault_from len end k cs ≡ None) × (are_in_sequence end cs ≡ true))
+    ⊎ ((n : ℕ) × (first_fault_from len end k cs ≡ Some (fault.Sequence n)) × (are_in_sequence end cs ≡ false))
 
 inside_is : (len : ℕ) (c : Edit) → c.q0 ≤ c.q1 → c.q1 ≤ len → is_inside len c ≡ true
 inside_is len c a b = grind (arith, nat_tests)
@@ -36,19 +38,22 @@ told_by len end k (c ∷ cs) h = elim (cases_lt c.q0 end) [
       ]
 ]
 
-pub no_range : (len k : ℕ) (cs : List Edit) → AreChangesOf len cs → first_fault_from len 0 0 cs ≡ Some (fault.Range k) → ⊥
+pub no_range : (len k : ℕ) (cs : List Edit) → AreChangesOf len cs → first_fault_from len 0 0 cs ≡ Some (fault.Range k)
+    → ⊥
 no_range len k cs h e = elim (told_by len 0 0 cs h) [
   | inl both ↦ let none = both.0 in cc
   | inr some ↦ let other = some.1 in cc
 ]
 
-pub at_fault : (len k : ℕ) (cs : List Edit) → AreChangesOf len cs → first_fault_from len 0 0 cs ≡ Some (fault.Sequence k) → edits_of cs ≡ Err Sequence
+pub at_fault : (len k : ℕ) (cs : List Edit) → AreChangesOf len cs → first_fault_from len 0 0
+    cs ≡ Some (fault.Sequence k) → edits_of cs ≡ Err Sequence
 at_fault len k cs h e = elim (told_by len 0 0 cs h) [
   | inl both ↦ let none = both.0 in absurd (cc)
   | inr some ↦ rw some.2 refl
 ]
 
-pub faultless : (len : ℕ) (cs : List Edit) → AreChangesOf len cs → first_fault_from len 0 0 cs ≡ None → are_in_sequence 0 cs ≡ true
+pub faultless : (len : ℕ) (cs : List Edit) → AreChangesOf len cs → first_fault_from len 0 0 cs ≡ None →
+    are_in_sequence 0 cs ≡ true
 faultless len cs h e = elim (told_by len 0 0 cs h) [
   | inl both ↦ both.1
   | inr some ↦ let other = some.1 in absurd (cc)

@@ -1,5 +1,7 @@
 -- What each call does to what an opening was given.
-use Rattle.std.proofs.Common.{◌≡◌, ◌≢◌, ◌==◌, ◌&&◌, ℕ, zero, suc, ◌+◌, ◌-◌, ◌<◌, Bool, true, false, not, cond, List, [], ◌∷◌, ◌++◌, length, take, find, slice_get, Option, Some, None, IfSome, refl, sym, ap, ◌∙◌, subst, arith, add-one, add-zero, ◌⊎◌, inl, inr, Ok}
+use Rattle.std.proofs.Common.{◌≡◌, ◌≢◌, ◌==◌, ◌&&◌, ℕ, zero, suc, ◌+◌, ◌-◌, ◌<◌, Bool, true, false, not, cond, List, []}
+use Rattle.std.proofs.Common.{◌∷◌, ◌++◌, length, take, find, slice_get, Option, Some, None, IfSome, refl, sym, ap, ◌∙◌}
+use Rattle.std.proofs.Common.{subst, arith, add-one, add-zero, ◌⊎◌, inl, inr, Ok}
 use Rattle.std.specs.Option.{option_map}
 use Rattle.std.specs.List.{list_any}
 use Rattle.std.proofs.lemmas.List.{length-append, take_at}
@@ -18,15 +20,23 @@ use Rattle.wait_queue.specs.declared.types.Asked.TheVariants.{Now, Waits}
 use Rattle.wait_queue.proofs.LawLemmas.{leaves}
 use Rattle.wait_queue.specs.WaitState.{piece_from}
 use Rattle.wait_queue.specs.declared.pending.Pending.{Pending as QueueItem}
-use Rattle.event_book.specs.Lives.{is_pending, is_taken, has_taken, pends, take_first, pending_from, numbered, back_life, written_back}
+use Rattle.event_book.specs.Lives.{is_pending, is_taken, has_taken, pends, take_first, pending_from, numbered}
+use Rattle.event_book.specs.Lives.{back_life, written_back}
 use Rattle.event_book.specs.Finding.{fits, is_open_fit, is_back_fit, or_else, last_from, found_or}
-use Rattle.event_book.specs.WindowFiles.{EventFile, queue_of, items_after, enlisted, with_item, given, with_written, left_with, left, deleted, file_of, with_file}
-use Rattle.event_book.specs.BookState.{BookState, recorded_of, is_taken_of, window_of, file_on, is_living, after_add, read_waits, piece_for, after_answer, is_ready, next_of, after_written, after_leave, after_delete}
-use Rattle.event_book.specs.Laws.{IsOwned, AllNamed, named, took, TakenWithItsAnswer, NoneTakenNoneChanged, spelled_in, spelled, carry, given_to, IsRest, IsLawful, WhatAFidGets, WindowOrder, BeginsWithNothing, AskAppends, ServeAppends, Same, AskLeavesOthers, ServeLeavesOthers, NothingElseGives, CancelledIsNotNext, FoundFits, WrittenOnce}
+use Rattle.event_book.specs.WindowFiles.{EventFile, queue_of, items_after, enlisted, with_item, given, with_written}
+use Rattle.event_book.specs.WindowFiles.{left_with, left, deleted, file_of, with_file}
+use Rattle.event_book.specs.BookState.{BookState, recorded_of, is_taken_of, window_of, file_on, is_living, after_add}
+use Rattle.event_book.specs.BookState.{read_waits, piece_for, after_answer, is_ready, next_of, after_written}
+use Rattle.event_book.specs.BookState.{after_leave, after_delete}
+use Rattle.event_book.specs.Laws.{IsOwned, AllNamed, named, took, TakenWithItsAnswer, NoneTakenNoneChanged, spelled_in}
+use Rattle.event_book.specs.Laws.{spelled, carry, given_to, IsRest, IsLawful, WhatAFidGets, WindowOrder}
+use Rattle.event_book.specs.Laws.{BeginsWithNothing, AskAppends, ServeAppends, Same, AskLeavesOthers, ServeLeavesOthers}
+use Rattle.event_book.specs.Laws.{NothingElseGives, CancelledIsNotNext, FoundFits, WrittenOnce}
 use Rattle.event_book.specs.declared.lives.Recorded.{Recorded}
 use Rattle.event_book.proofs.TableLemmas.{eq_from_test, true_false}
 use Rattle.event_book.proofs.OrderLemmas.{spelled-push, spelled-written, spelled-dropped, owned-last, not_owned}
-use Rattle.event_book.proofs.BookLemmas.{same_window, other_window, joined-given, spelled-after_other, carry-enlisted, carry-without}
+use Rattle.event_book.proofs.BookLemmas.{same_window, other_window, joined-given, spelled-after_other, carry-enlisted}
+use Rattle.event_book.proofs.BookLemmas.{carry-without}
 use Rattle.event_book.proofs.LawfulLemmas.{next-living, window-more, owner-window}
 
 -- ---- what was given, by what is joined with the carry
@@ -58,33 +68,46 @@ in_order s h w = ((h.files w).order, (h.files w).closed)
 -- ---- an answer
 
 -- the file on the read's opening after the answer
-answered : (s : BookState) (r : Asker) (at : ℕ) → IsLawful s → file_on (after_answer s r at) r.opening ≡ given (file_on s r.opening) r at
+answered : (s : BookState) (r : Asker) (at : ℕ) → IsLawful s → file_on (after_answer s r at)
+    r.opening ≡ given (file_on s r.opening) r at
 answered s r at h = same_window 0 (window_of s.owners r.opening) (given (file_on s r.opening) r at) s.files h.rise
 
 given_with : (f : EventFile) (o : ℕ) → List ℕ
 given_with f o = take (length (spelled_in o f.items) - length (carry_of f.openings o)) (spelled_in o f.items)
 
-pub answer-appends : (s : BookState) (r : Asker) (at : ℕ) → IsLawful s → is_living s r.opening ≡ true → given_to (after_answer s r at) r.opening ≡ given_to s r.opening ++ (piece_for s r).bytes
+pub answer-appends : (s : BookState) (r : Asker) (at : ℕ) → IsLawful s
+    → is_living s r.opening ≡ true → given_to (after_answer s r at) r.opening ≡ given_to s r.opening
+    ++ (piece_for s r).bytes
 answer-appends s r at h l =
     let f = file_on s r.opening in
     let rest = rest-on s r.opening h in
     let order = (h.files (window_of s.owners r.opening)).order in
-    ap (λ (g : EventFile). take (length (spelled_in r.opening g.items) - length (carry_of g.openings r.opening)) (spelled_in r.opening g.items)) (answered s r at h)
-    ∙ given_is (rest.before ++ (piece_for s r).bytes) (carry_of (given f r at).openings r.opening) (spelled_in r.opening (given f r at).items) (joined-given f r s.latest at order l rest)
+    ap (λ (g : EventFile). take (length (spelled_in r.opening g.items) - length (carry_of g.openings r.opening))
+    (spelled_in r.opening g.items)) (answered s r at h)
+    ∙ given_is (rest.before ++ (piece_for s r).bytes) (carry_of (given f r at).openings r.opening)
+    (spelled_in r.opening (given f r at).items) (joined-given f r s.latest at order l rest)
     ∙ ap (λ t. t ++ (piece_for s r).bytes) (sym (given-before s r.opening rest))
 
 -- what is the same of two files
-same-given : (f g : EventFile) (o : ℕ) → spelled_in o g.items ≡ spelled_in o f.items → carry_of g.openings o ≡ carry_of f.openings o → (take (length (spelled_in o g.items) - length (carry_of g.openings o)) (spelled_in o g.items) ≡ take (length (spelled_in o f.items) - length (carry_of f.openings o)) (spelled_in o f.items)) × (carry_of g.openings o ≡ carry_of f.openings o)
+same-given : (f g : EventFile) (o : ℕ) → spelled_in o g.items ≡ spelled_in o f.items
+    → carry_of g.openings o ≡ carry_of f.openings o → (take (length (spelled_in o g.items) - length
+    (carry_of g.openings o)) (spelled_in o g.items) ≡ take (length (spelled_in o f.items) - length
+    (carry_of f.openings o)) (spelled_in o f.items)) × (carry_of g.openings o ≡ carry_of f.openings o)
 same-given f g o s c = (rw (s, c), c)
 
 -- a state whose file on the opening took as much, and has as much left
-same-on : (s t : BookState) (o : ℕ) → spelled_in o (file_on t o).items ≡ spelled_in o (file_on s o).items → carry_of (file_on t o).openings o ≡ carry_of (file_on s o).openings o → Same s t o
+same-on : (s t : BookState) (o : ℕ) → spelled_in o (file_on t o).items ≡ spelled_in o (file_on s o).items
+    → carry_of (file_on t o).openings o ≡ carry_of (file_on s o).openings o → Same s t o
 same-on s t o a b = same-given (file_on s o) (file_on t o) o a b
 
 -- one file changed, which took as much for the opening
-same-with : (s : BookState) (w : ℕ) (f : EventFile) (latest o : ℕ) (reads : List Asker) → IsLawful s → spelled_in o f.items ≡ spelled_in o (file_of s.files w).items → carry_of f.openings o ≡ carry_of (file_of s.files w).openings o → Same s (record { files = with_file w f s.files; owners = s.owners; reads = reads; latest = latest }) o
+same-with : (s : BookState) (w : ℕ) (f : EventFile) (latest o : ℕ) (reads : List Asker) → IsLawful s
+    → spelled_in o f.items ≡ spelled_in o (file_of s.files w).items
+    → carry_of f.openings o ≡ carry_of (file_of s.files w).openings o
+    → Same s (record { files = with_file w f s.files; owners = s.owners; reads = reads; latest = latest }) o
 same-with s w f latest o reads h a b =
-    (elim (window_of s.owners o == w) as (λ t. (window_of s.owners o == w) ≡ t → Same s (record { files = with_file w f s.files; owners = s.owners; reads = reads; latest = latest }) o) [
+    (elim (window_of s.owners o == w) as (λ t. (window_of s.owners o == w) ≡ t → Same s
+    (record { files = with_file w f s.files; owners = s.owners; reads = reads; latest = latest }) o) [
       | true ↦ λ e.
           let same = eq_from_test (window_of s.owners o) w e in
           let file : file_of (with_file w f s.files) (window_of s.owners o) ≡ f =
@@ -93,7 +116,8 @@ same-with s w f latest o reads h a b =
           let before : file_of s.files w ≡ file_on s o = ap (file_of s.files) (sym same) in
           same-on s (record { files = with_file w f s.files; owners = s.owners; reads = reads; latest = latest }) o
           (ap (λ (g : EventFile). spelled_in o g.items) file ∙ a ∙ ap (λ (g : EventFile). spelled_in o g.items) before)
-          (ap (λ (g : EventFile). carry_of g.openings o) file ∙ b ∙ ap (λ (g : EventFile). carry_of g.openings o) before)
+          (ap (λ (g : EventFile). carry_of g.openings o) file ∙ b ∙ ap (λ (g : EventFile). carry_of g.openings o)
+          before)
       | false ↦ λ e.
           let other : window_of s.owners o ≢ w = grind (arith, nat_tests) in
           let file : file_of (with_file w f s.files) (window_of s.owners o) ≡ file_on s o =
@@ -125,7 +149,8 @@ ask_appends s r at piece h l a =
 some_same : {A : Type 0} (a b : A) → Some a ≡ Some b → a ≡ b
 some_same a b h = cc
 
-pub served_is : (next : Option Asker) (piece : Asker → Piece) (r : Asker) (p : Piece) → option_map {U = Asker × Piece} (λ r. (r, piece r)) next ≡ Some (r, p) → (next ≡ Some r) × (piece r ≡ p)
+pub served_is : (next : Option Asker) (piece : Asker → Piece) (r : Asker) (p : Piece)
+    → option_map {U = Asker × Piece} (λ r. (r, piece r)) next ≡ Some (r, p) → (next ≡ Some r) × (piece r ≡ p)
 served_is None piece r p h = cc
 served_is (Some x) piece r p h =
     let same : ◌≡◌ {A = Asker × Piece} (x, piece x) (r, p) = some_same {A = Asker × Piece} (x, piece x) (r, p) h in
@@ -144,7 +169,8 @@ ask-waits s r at o = (refl, refl)
 
 pub ask_leaves_others : AskLeavesOthers
 ask_leaves_others s r at o h l n k =
-    elim (read_waits s r) as (λ b. Same s (cond b (record s { reads = s.reads ++ r ∷ []; latest = at }) (after_answer s r at)) o)
+    elim (read_waits s r) as (λ b. Same s (cond b (record s { reads = s.reads ++ r ∷ []; latest = at })
+    (after_answer s r at)) o)
     [ true ↦ ask-waits s r at o | false ↦ answer-others s r at o h n ]
 
 pub serve_leaves_others : ServeLeavesOthers
@@ -152,7 +178,8 @@ serve_leaves_others s at r piece o h e n k =
     let is = served_is (next_of s) (piece_for s) r piece e in
     rw is.0 (answer-others s r at o h n)
 
-unnamed_by : (owners : List ℕ) (w o b : ℕ) (own rest : List ℕ) → (IsOwned owners w o → ⊥) → IsOwned owners w b → rest ≡ [] → cond (b == o) (own ++ rest) rest ≡ []
+unnamed_by : (owners : List ℕ) (w o b : ℕ) (own rest : List ℕ) → (IsOwned owners w o → ⊥) → IsOwned owners w b
+    → rest ≡ [] → cond (b == o) (own ++ rest) rest ≡ []
 unnamed_by owners w o b own rest n k h =
     (elim (b == o) as (λ t. (b == o) ≡ t → cond t (own ++ rest) rest ≡ []) [
       | true ↦ λ e. absurd (n (subst (IsOwned owners w) (eq_from_test b o e) k))
@@ -160,11 +187,13 @@ unnamed_by owners w o b own rest n k h =
     ]) refl
 
 -- no item names an opening that was never added
-unnamed : (owners : List ℕ) (w o : ℕ) (es : List Recorded) → (IsOwned owners w o → ⊥) → AllNamed owners w es → spelled_in o es ≡ []
+unnamed : (owners : List ℕ) (w o : ℕ) (es : List Recorded) → (IsOwned owners w o → ⊥) → AllNamed owners w es
+    → spelled_in o es ≡ []
 unnamed owners w o [] n h = refl
 unnamed owners w o (e ∷ es) n h =
     let rest = unnamed owners w o es n h.1 in
-    (elim e.life as (λ l. IfSome (named l) (IsOwned owners w) → cond (took o l) (spelling e.item ++ spelled_in o es) (spelled_in o es) ≡ []) [
+    (elim e.life as (λ l. IfSome (named l) (IsOwned owners w) → cond (took o l) (spelling e.item ++ spelled_in o es)
+    (spelled_in o es) ≡ []) [
       | Pending ↦ λ k. rest
       | Taken b a ↦ λ k. unnamed_by owners w o b (spelling e.item) (spelled_in o es) n k rest
       | Back b a c ↦ λ k. unnamed_by owners w o b (spelling e.item) (spelled_in o es) n k rest
@@ -189,19 +218,25 @@ begins s w h =
     (ap (file_of (with_file w f s.files)) window ∙ same_window 0 w f s.files h.rise)
     in
     let none : spelled (after_add s w) x ≡ [] =
-    (ap (λ (g : EventFile). spelled_in x g.items) file ∙ unnamed s.owners w x (file_of s.files w).items not_own (h.files w).takers)
+    (ap (λ (g : EventFile). spelled_in x g.items) file ∙ unnamed s.owners w x (file_of s.files w).items not_own
+    (h.files w).takers)
     in
-    nothing_given (spelled (after_add s w) x) (length (spelled (after_add s w) x) - length (carry (after_add s w) x)) none
+    nothing_given (spelled (after_add s w) x) (length (spelled (after_add s w) x) - length (carry (after_add s w) x))
+    none
 
 same-add : (s : BookState) (w o : ℕ) → IsLawful s → is_living s o ≡ true → Same s (after_add s w) o
 same-add s w o h l =
     let x = length s.owners + 1 in
     let f = enlisted (file_of s.files w) x in
     let more = window-more s (w ∷ []) o h l in
-    subst (λ v. (take (length (spelled_in o (file_of (with_file w f s.files) v).items) - length (carry_of (file_of (with_file w f s.files) v).openings o)) (spelled_in o (file_of (with_file w f s.files) v).items) ≡ given_to s o) × (carry_of (file_of (with_file w f s.files) v).openings o ≡ carry s o)) (sym more)
+    subst (λ v. (take (length (spelled_in o (file_of (with_file w f s.files) v).items) - length
+    (carry_of (file_of (with_file w f s.files) v).openings o))
+    (spelled_in o (file_of (with_file w f s.files) v).items) ≡ given_to s o)
+    × (carry_of (file_of (with_file w f s.files) v).openings o ≡ carry s o)) (sym more)
     (same-with s w f s.latest o s.reads h refl (carry-enlisted (file_of s.files w).openings x o))
 
-left-spelled : (cs : List OpenCarry) (at o : ℕ) (f : EventFile) → spelled_in o (left_with cs at f).items ≡ spelled_in o f.items
+left-spelled : (cs : List OpenCarry) (at o : ℕ) (f : EventFile) → spelled_in o (left_with cs at f).items
+    ≡ spelled_in o f.items
 left-spelled [] at o f = spelled-dropped o at f.items
 left-spelled (c ∷ cs) at o f = refl
 
@@ -234,23 +269,31 @@ idle-serve s o = (refl, refl)
 pub nothing_else : NothingElseGives
 nothing_else s o h l = record {
   add = λ w. same-add s w o h l;
-  put = λ w item. same-with s w (with_item (file_of s.files w) item) s.latest o s.reads h (spelled-push o (file_of s.files w).items item) refl;
+  put = λ w item. same-with s w (with_item (file_of s.files w) item) s.latest o s.reads h
+      (spelled-push o (file_of s.files w).items item) refl;
   waits = λ r at e. rw e (ask-waits s r at o);
   idle = λ at e. rw e (idle-serve s o);
-  written = λ w number at. same-with s w (with_written (file_of s.files w) number at) at o s.reads h (spelled-written o at number (file_of s.files w).items) refl;
+  written = λ w number at. same-with s w (with_written (file_of s.files w) number at) at o s.reads h
+      (spelled-written o at number (file_of s.files w).items) refl;
   cancel = λ conn tag. (refl, refl);
   leave = λ other at n. same-leave s other at o h n;
   delete = λ w at n. same-delete s w at o h n;
 }
 
-not_found : (p : Asker → Bool) (rs : List Asker) (conn tag : ℕ) (r : Asker) → find p (without_read rs conn tag) ≡ Some r → is_read conn tag r ≡ false
+not_found : (p : Asker → Bool) (rs : List Asker) (conn tag : ℕ) (r : Asker) → find p (without_read rs conn tag) ≡ Some r
+    → is_read conn tag r ≡ false
 not_found p [] conn tag r h = cc
 not_found p (x ∷ xs) conn tag r h =
-    (elim (is_read conn tag x) as (λ b. is_read conn tag x ≡ b → find p (cond (not b) (x ∷ without_read xs conn tag) (without_read xs conn tag)) ≡ Some r → is_read conn tag r ≡ false) [
+    (elim (is_read conn tag x) as (λ b. is_read conn tag x ≡ b → find p
+    (cond (not b) (x ∷ without_read xs conn tag) (without_read xs conn tag)) ≡ Some r → is_read conn tag r ≡ false) [
       | true ↦ λ e k. not_found p xs conn tag r k
       | false ↦ λ e k.
-          (elim (p x) as (λ b. cond b (Some x) (find p (without_read xs conn tag)) ≡ Some r → is_read conn tag r ≡ false)
-          [ true ↦ λ k. let same : x ≡ r = cc in sym (ap (is_read conn tag) same) ∙ e | false ↦ λ k. not_found p xs conn tag r k ]) k
+          (elim (p x) as (λ b. cond b (Some x) (find p (without_read xs conn tag)) ≡ Some r
+          → is_read conn tag r ≡ false) [
+            | true ↦ λ k. let same : x ≡ r = cc in sym (ap (is_read conn tag) same)
+                ∙ e
+            | false ↦ λ k. not_found p xs conn tag r k
+          ]) k
     ]) refl h
 
 pub cancelled_not_next : CancelledIsNotNext
@@ -273,7 +316,9 @@ later-same x y es zero n = absurd (n refl)
 later-same x y es (suc k) n = refl
 
 -- and one of the later ones leaves the first
-with-first : (x : Recorded) (xs ys : List Recorded) (place k : ℕ) → ((j : ℕ) → j ≢ place → slice_get xs j ≡ slice_get ys j) → k ≢ suc place → slice_get (x ∷ xs) k ≡ slice_get (x ∷ ys) k
+with-first : (x : Recorded) (xs ys : List Recorded) (place k : ℕ) →
+    ((j : ℕ) → j ≢ place → slice_get xs j ≡ slice_get ys j) → k ≢ suc place
+    → slice_get (x ∷ xs) k ≡ slice_get (x ∷ ys) k
 with-first x xs ys place zero h n = refl
 with-first x xs ys place (suc k) h n = h k (λ e. n (ap suc e))
 
@@ -298,10 +343,12 @@ none_some n h = cc
 first_is : (x q : QueueItem) (xs qs : List QueueItem) → x ∷ xs ≡ q ∷ qs → x ≡ q
 first_is x q xs qs h = cc
 
-first_pending : (n : ℕ) (es : List Recorded) (life : Life) (q : QueueItem) (qs : List QueueItem) → pending_from n es ≡ q ∷ qs → FirstPending n es life q
+first_pending : (n : ℕ) (es : List Recorded) (life : Life) (q : QueueItem) (qs : List QueueItem)
+    → pending_from n es ≡ q ∷ qs → FirstPending n es life q
 first_pending n [] life q qs h = absurd (nil_cons q qs h)
 first_pending n (e ∷ es) life q qs h =
-    (elim (pends e) as (λ b. pends e ≡ b → cond b (record { number = n; bytes = spelling e.item } ∷ pending_from (suc n) es) (pending_from (suc n) es) ≡ q ∷ qs → FirstPending n (e ∷ es) life q) [
+    (elim (pends e) as (λ b. pends e ≡ b → cond b (record { number = n; bytes = spelling e.item } ∷ pending_from (suc n)
+    es) (pending_from (suc n) es) ≡ q ∷ qs → FirstPending n (e ∷ es) life q) [
       | true ↦ λ t k.
           let same = first_is (record { number = n; bytes = spelling e.item }) q (pending_from (suc n) es) qs k in
           record {
@@ -334,7 +381,10 @@ record TakenFirst (none : Bool) (qs : List QueueItem) (count number : ℕ) (byte
   bytes_is : bytes ≡ take count q.bytes
   some : none ≡ false
 
-taken_first : (none : Bool) (carry : List ℕ) (qs : List QueueItem) (count number : ℕ) → (cond none (record { bytes = []; taken = None }) (piece_from carry qs count)).taken ≡ Some number → TakenFirst none qs count number (cond none (record { bytes = []; taken = None }) (piece_from carry qs count)).bytes
+taken_first : (none : Bool) (carry : List ℕ) (qs : List QueueItem) (count number : ℕ)
+    → (cond none (record { bytes = []; taken = None }) (piece_from carry qs count)).taken ≡ Some number
+    → TakenFirst none qs count number (cond none (record { bytes = []; taken = None })
+    (piece_from carry qs count)).bytes
 taken_first true carry qs count number h = absurd (none_some number h)
 taken_first false (b ∷ bs) qs count number h = absurd (none_some number h)
 taken_first false [] [] count number h = absurd (none_some number h)
@@ -361,18 +411,23 @@ length-take_some zero xs l h = absurd (omega arith)
 length-take_some (suc n) [] l h = absurd (omega arith)
 length-take_some (suc n) (x ∷ xs) l h = omega arith
 
-numbered-others : (es es' : List Recorded) (place n : ℕ) → ((k : ℕ) → k ≢ place → slice_get es' k ≡ slice_get es k) → n ≢ suc place → numbered es' n ≡ numbered es n
+numbered-others : (es es' : List Recorded) (place n : ℕ) → ((k : ℕ) → k ≢ place → slice_get es' k ≡ slice_get es k)
+    → n ≢ suc place → numbered es' n ≡ numbered es n
 numbered-others es es' place zero h n = refl
 numbered-others es es' place (suc k) h n = h k (λ e. n (ap suc e))
 
 -- where one window's items changed at one number alone
-others-same : (s : BookState) (w number v other : ℕ) (f : EventFile) → IsLawful s → (other ≢ number → numbered f.items other ≡ numbered (file_of s.files w).items other) → (v ≢ w) ⊎ (other ≢ number) → numbered (file_of (with_file w f s.files) v).items other ≡ numbered (file_of s.files v).items other
+others-same : (s : BookState) (w number v other : ℕ) (f : EventFile) → IsLawful s
+    → (other ≢ number → numbered f.items other ≡ numbered (file_of s.files w).items other) → (v ≢ w) ⊎ (other ≢ number)
+    → numbered (file_of (with_file w f s.files) v).items other ≡ numbered (file_of s.files v).items other
 others-same s w number v other f h own d =
-    (elim (v == w) as (λ b. (v == w) ≡ b → numbered (file_of (with_file w f s.files) v).items other ≡ numbered (file_of s.files v).items other) [
+    (elim (v == w) as (λ b. (v == w) ≡ b → numbered (file_of (with_file w f s.files) v).items
+    other ≡ numbered (file_of s.files v).items other) [
       | true ↦ λ e.
           let same = eq_from_test v w e in
           let not_it : other ≢ number = elim d [ inl n ↦ absurd (n same) | inr n ↦ n ] in
-          subst (λ x. numbered (file_of (with_file w f s.files) x).items other ≡ numbered (file_of s.files x).items other) (sym same)
+          subst (λ x. numbered (file_of (with_file w f s.files) x).items other ≡ numbered (file_of s.files x).items
+          other) (sym same)
           (ap (λ (g : EventFile). numbered g.items other) (same_window 0 w f s.files h.rise) ∙ own not_it)
       | false ↦ λ e.
           let apart : v ≢ w = grind (arith, nat_tests) in
@@ -397,21 +452,28 @@ taken_with s r at number h t =
     record {
       item = found.item;
       before = ap (numbered f.items) is ∙ found.before;
-      after = ap (λ es. numbered es number) items ∙ ap (numbered (take_first (Taken r.opening at) f.items)) is ∙ found.after;
+      after = ap (λ es. numbered es number) items ∙ ap (numbered (take_first (Taken r.opening at) f.items)) is
+          ∙ found.after;
       prefix = prefix;
-      bytes = subst (λ bs. bs ≢ []) (sym prefix) (not_nil (take r.count (spelling found.item)) (length-take_some r.count (spelling found.item) count (spelling-some found.item)));
-      others = λ v other d. others-same s w number v other (given f r at) h (λ n. ap (λ o. numbered (items_after o (Taken r.opening at) f.items) other) t ∙ numbered-others f.items (take_first (Taken r.opening at) f.items) found.place other found.others (λ e. n (e ∙ sym is))) d;
+      bytes = subst (λ bs. bs ≢ []) (sym prefix) (not_nil (take r.count (spelling found.item))
+          (length-take_some r.count (spelling found.item) count (spelling-some found.item)));
+      others = λ v other d. others-same s w number v other (given f r at) h
+          (λ n. ap (λ o. numbered (items_after o (Taken r.opening at) f.items) other) t
+          ∙ numbered-others f.items (take_first (Taken r.opening at) f.items) found.place other found.others
+          (λ e. n (e ∙ sym is))) d;
     }
 
 pub none_taken : NoneTakenNoneChanged
 none_taken s r at window h t =
     let w = window_of s.owners r.opening in
     let f = file_on s r.opening in
-    (elim (window == w) as (λ b. (window == w) ≡ b → (file_of (after_answer s r at).files window).items ≡ (file_of s.files window).items) [
+    (elim (window == w) as (λ b. (window == w) ≡ b → (file_of (after_answer s r at).files window).items
+    ≡ (file_of s.files window).items) [
       | true ↦ λ e.
           let same = eq_from_test window w e in
           subst (λ v. (file_of (after_answer s r at).files v).items ≡ (file_of s.files v).items) (sym same)
-          (ap (λ (g : EventFile). g.items) (same_window 0 w (given f r at) s.files h.rise) ∙ ap (λ o. items_after o (Taken r.opening at) f.items) t)
+          (ap (λ (g : EventFile). g.items) (same_window 0 w (given f r at) s.files h.rise)
+          ∙ ap (λ o. items_after o (Taken r.opening at) f.items) t)
       | false ↦ λ e.
           let other : window ≢ w = grind (arith, nat_tests) in
           ap (λ (g : EventFile). g.items) (other_window w window (given f r at) s.files other)
@@ -426,7 +488,8 @@ record PassesAt (p : Recorded → Bool) (k : ℕ) (es : List Recorded) (n : ℕ)
   is : slice_get es place ≡ Some one
   passes : p one ≡ true
 
-or_else_is : (later : Option ℕ) (b : Bool) (k n : ℕ) → or_else later b k ≡ Some n → (later ≡ Some n) ⊎ ((b ≡ true) × (k ≡ n))
+or_else_is : (later : Option ℕ) (b : Bool) (k n : ℕ) → or_else later b k ≡ Some n → (later ≡ Some n)
+    ⊎ ((b ≡ true) × (k ≡ n))
 or_else_is (Some later) b k n h = inl h
 or_else_is None true k n h = inr (refl, cc)
 or_else_is None false k n h = absurd (none_some n h)
@@ -461,7 +524,8 @@ both_pass false b h = cc
 pub found_fits : FoundFits
 found_fits s w number m h =
     let es = (file_of s.files w).items in
-    let at = last_passes (is_open_fit m) 1 es number (found_is (last_from (is_open_fit m) 1 es) (list_any (is_back_fit m) es) number h) in
+    let at = last_passes (is_open_fit m) 1 es number (found_is (last_from (is_open_fit m) 1 es)
+    (list_any (is_back_fit m) es) number h) in
     let is : number ≡ suc at.place = (let a = at.number in omega (arith, a)) in
     let here : recorded_of s w number ≡ Some at.one = (ap (numbered es) is ∙ at.is) in
     let pass = both_pass (is_taken at.one.life) (fits m at.one.item) at.passes in
@@ -478,7 +542,8 @@ back_not_taken at (Taken o a) = refl
 back_not_taken at (Back o a b) = refl
 back_not_taken at (Dropped a) = refl
 
-written_not_taken : (at number : ℕ) (es : List Recorded) → has_taken (numbered (written_back at number es) number) ≡ false
+written_not_taken : (at number : ℕ) (es : List Recorded) → has_taken (numbered (written_back at number es) number)
+    ≡ false
 written_not_taken at zero es = refl
 written_not_taken at (suc n) [] = refl
 written_not_taken at (suc zero) (e ∷ es) = back_not_taken at e.life
@@ -489,6 +554,7 @@ written_back_once s w number at m h f =
     let found = found_fits (after_written s w number at) w number m f in
     let file = same_window 0 w (with_written (file_of s.files w) number at) s.files h.rise in
     let no : is_taken_of (after_written s w number at) w number ≡ false =
-    (ap (λ (g : EventFile). has_taken (numbered g.items number)) file ∙ written_not_taken at number (file_of s.files w).items)
+    (ap (λ (g : EventFile). has_taken (numbered g.items number)) file
+    ∙ written_not_taken at number (file_of s.files w).items)
     in
     true_false (is_taken_of (after_written s w number at) w number) found.taken no

@@ -5,7 +5,8 @@ use Rattle.wait_queue.specs.Reads.{is_read, is_on}
 use Rattle.wait_queue.specs.Laws.{AddsNone, AddsOnly}
 use Rattle.wait_queue.specs.declared.types.Asker.{Asker}
 use Rattle.wait_queue.proofs.WaitingLemmas.{filter-adds, without_first-adds, found-there, none_left}
-use Rattle.event_book.specs.BookState.{BookState, read_waits, piece_for, after_answer, after_ask, is_ready, next_of, after_next, is_on_window}
+use Rattle.event_book.specs.BookState.{BookState, read_waits, piece_for, after_answer, after_ask, is_ready, next_of}
+use Rattle.event_book.specs.BookState.{after_next, is_on_window}
 use Rattle.event_book.specs.Laws.{CancelledIsGone, OnlyAskWaits, ServedWaited}
 use Rattle.event_book.proofs.FidLemmas.{served_is}
 
@@ -14,7 +15,8 @@ cancelled_gone s conn tag = none_left s.reads conn tag
 
 ask-adds : (s : BookState) (r : Asker) (at : ℕ) → AddsOnly r s.reads (after_ask s r at).reads
 ask-adds s r at =
-    elim (read_waits s r) as (λ b. AddsOnly r s.reads (cond b (record s { reads = s.reads ++ r ∷ []; latest = at }) (after_answer s r at)).reads) [
+    elim (read_waits s r) as (λ b. AddsOnly r s.reads (cond b (record s { reads = s.reads ++ r ∷ []; latest = at })
+    (after_answer s r at)).reads) [
       | true ↦ λ x c. Contains-push_cases s.reads r x c
       | false ↦ λ x c. inl c
     ]

@@ -1,5 +1,6 @@
 -- What a book holds, and what each call does to it.
-use Rattle.std.specs.Prelude.{◌==◌, ◌+◌, ℕ, Bool, not, List, [], ◌∷◌, ◌++◌, length, filter, find, Option, Some, None, option_map, unwrap_or, Result, IsTrue, if◌then◌else◌}
+use Rattle.std.specs.Prelude.{◌==◌, ◌+◌, ℕ, Bool, not, List, [], ◌∷◌, ◌++◌, length, filter, find, Option, Some, None}
+use Rattle.std.specs.Prelude.{option_map, unwrap_or, Result, IsTrue, if◌then◌else◌}
 use Rattle.wait_queue.specs.Reads.{without_first, without_read, without_reads_on}
 use Rattle.wait_queue.specs.WaitState.{must_wait, piece_of}
 use Rattle.wait_queue.specs.declared.types.Asker.{Asker}
@@ -10,7 +11,8 @@ use Rattle.win_events.specs.declared.item.Item.{Item}
 use Rattle.win_events.specs.declared.item.BackMsg.{BackMsg}
 use Rattle.event_book.specs.Lives.{has_taken, numbered}
 use Rattle.event_book.specs.Finding.{found_in}
-use Rattle.event_book.specs.WindowFiles.{EventFile, WindowFile, queue_of, has_opening, is_enlisted, enlisted, with_item, given, with_written, left, deleted, file_of, with_file}
+use Rattle.event_book.specs.WindowFiles.{EventFile, WindowFile, queue_of, has_opening, is_enlisted, enlisted, with_item}
+use Rattle.event_book.specs.WindowFiles.{given, with_written, left, deleted, file_of, with_file}
 use Rattle.event_book.specs.declared.lives.Recorded.{Recorded}
 use Rattle.event_book.specs.declared.finding.BackFault.{BackFault}
 

@@ -1,5 +1,6 @@
 -- What holds of every book, and what each call does to what an opening was given.
-use Rattle.std.specs.Prelude.{◌≡◌, ◌≢◌, ◌==◌, ◌≤◌, ◌-◌, ℕ, suc, Bool, true, false, not, List, [], ◌∷◌, ◌++◌, length, take, Option, Some, None, IfSome, Ok, if◌then◌else◌, ◌⊎◌}
+use Rattle.std.specs.Prelude.{◌≡◌, ◌≢◌, ◌==◌, ◌≤◌, ◌-◌, ℕ, suc, Bool, true, false, not, List, [], ◌∷◌, ◌++◌, length}
+use Rattle.std.specs.Prelude.{take, Option, Some, None, IfSome, Ok, if◌then◌else◌, ◌⊎◌}
 use Rattle.std.specs.List.{Contains, list_all, list_any}
 use Rattle.win_events.specs.Spelling.{spelling}
 use Rattle.win_events.specs.declared.item.Item.{Item}
@@ -15,7 +16,10 @@ use Rattle.wait_queue.specs.declared.types.Asked.TheVariants.{Now}
 use Rattle.event_book.specs.Lives.{pends}
 use Rattle.event_book.specs.Finding.{fits}
 use Rattle.event_book.specs.WindowFiles.{EventFile, WindowFile, has_opening, file_of}
-use Rattle.event_book.specs.BookState.{BookState, owner_of, file_on, is_open_window, is_living, IsLiving, recorded_of, item_of, IsTaken, found_of, window_of, next_opening, after_add, after_put, read_waits, piece_for, after_answer, asked_of, after_ask, next_of, served_of, after_serve, after_written, after_cancel, after_leave, after_delete}
+use Rattle.event_book.specs.BookState.{BookState, owner_of, file_on, is_open_window, is_living, IsLiving, recorded_of}
+use Rattle.event_book.specs.BookState.{item_of, IsTaken, found_of, window_of, next_opening, after_add, after_put}
+use Rattle.event_book.specs.BookState.{read_waits, piece_for, after_answer, asked_of, after_ask, next_of, served_of}
+use Rattle.event_book.specs.BookState.{after_serve, after_written, after_cancel, after_leave, after_delete}
 use Rattle.event_book.specs.declared.lives.Recorded.{Recorded}
 
 -- ---- window order
@@ -48,7 +52,8 @@ none_pending es = list_all (λ e. not (pends e)) es
 -- in each window; and an item is pending only while the event file is open
 abbrev pub WindowOrder : BookState → Type 0
 WindowOrder s =
-    (window : ℕ) → InOrder 0 s.latest (file_of s.files window).items × (is_open_window s window ≡ false → none_pending (file_of s.files window).items ≡ true)
+    (window : ℕ) → InOrder 0 s.latest (file_of s.files window).items
+    × (is_open_window s window ≡ false → none_pending (file_of s.files window).items ≡ true)
 
 -- ---- what a fid gets
 
@@ -154,12 +159,14 @@ BeginsWithNothing =
 -- each answer appends its bytes to what its opening was given
 abbrev pub AskAppends : Type 0
 AskAppends =
-    (s : BookState) (r : Asker) (at : ℕ) (piece : Piece) → IsLawful s → IsLiving s r.opening → asked_of s r ≡ Now piece → given_to (after_ask s r at) r.opening ≡ given_to s r.opening ++ piece.bytes
+    (s : BookState) (r : Asker) (at : ℕ) (piece : Piece) → IsLawful s → IsLiving s r.opening → asked_of s r ≡ Now piece
+    → given_to (after_ask s r at) r.opening ≡ given_to s r.opening ++ piece.bytes
 
 -- what an answer gives goes behind what was given before
 abbrev pub ServeAppends : Type 0
 ServeAppends =
-    (s : BookState) (at : ℕ) (r : Asker) (piece : Piece) → IsLawful s → served_of s ≡ Some (r, piece) → given_to (after_serve s at) r.opening ≡ given_to s r.opening ++ piece.bytes
+    (s : BookState) (at : ℕ) (r : Asker) (piece : Piece) → IsLawful s → served_of s ≡ Some (r, piece)
+    → given_to (after_serve s at) r.opening ≡ given_to s r.opening ++ piece.bytes
 
 -- and nothing to what another was given
 abbrev pub Same : BookState → BookState → ℕ → Type 0
@@ -168,12 +175,14 @@ Same s t opening = (given_to t opening ≡ given_to s opening) × (carry t openi
 -- a read gives nothing to other openings
 abbrev pub AskLeavesOthers : Type 0
 AskLeavesOthers =
-    (s : BookState) (r : Asker) (at opening : ℕ) → IsLawful s → IsLiving s r.opening → opening ≢ r.opening → IsLiving s opening → Same s (after_ask s r at) opening
+    (s : BookState) (r : Asker) (at opening : ℕ) → IsLawful s → IsLiving s r.opening → opening ≢ r.opening
+    → IsLiving s opening → Same s (after_ask s r at) opening
 
 -- an answer gives nothing to other openings
 abbrev pub ServeLeavesOthers : Type 0
 ServeLeavesOthers =
-    (s : BookState) (at : ℕ) (r : Asker) (piece : Piece) (opening : ℕ) → IsLawful s → served_of s ≡ Some (r, piece) → opening ≢ r.opening → IsLiving s opening → Same s (after_serve s at) opening
+    (s : BookState) (at : ℕ) (r : Asker) (piece : Piece) (opening : ℕ) → IsLawful s → served_of s ≡ Some (r, piece)
+    → opening ≢ r.opening → IsLiving s opening → Same s (after_serve s at) opening
 
 -- no other call changes what an opening was given that is open before and after
 pub record OthersGiveNothing (s : BookState) (opening : ℕ) : Type 0 where
@@ -228,20 +237,24 @@ ServedWaited = (s : BookState) (r : Asker) (piece : Piece) → served_of s ≡ S
 pub record IsTakenBy (s : BookState) (r : Asker) (at number : ℕ) : Type 0 where
   pub item : Item
   pub before : recorded_of s (window_of s.owners r.opening) number ≡ Some (record { item = item; life = Pending })
-  pub after : recorded_of (after_answer s r at) (window_of s.owners r.opening) number ≡ Some (record { item = item; life = Taken r.opening at })
+  pub after : recorded_of (after_answer s r at) (window_of s.owners r.opening)
+      number ≡ Some (record { item = item; life = Taken r.opening at })
   pub prefix : (piece_for s r).bytes ≡ take r.count (spelling item)
   pub bytes : (piece_for s r).bytes ≢ []
-  pub others : (window other : ℕ) → (window ≢ window_of s.owners r.opening) ⊎ (other ≢ number) → recorded_of (after_answer s r at) window other ≡ recorded_of s window other
+  pub others : (window other : ℕ) → (window ≢ window_of s.owners r.opening) ⊎ (other ≢ number)
+      → recorded_of (after_answer s r at) window other ≡ recorded_of s window other
 
 -- an item is taken by the read that gets its first bytes
 abbrev pub TakenWithItsAnswer : Type 0
 TakenWithItsAnswer =
-    (s : BookState) (r : Asker) (at number : ℕ) → IsLawful s → (piece_for s r).taken ≡ Some number → IsTakenBy s r at number
+    (s : BookState) (r : Asker) (at number : ℕ) → IsLawful s → (piece_for s r).taken ≡ Some number
+    → IsTakenBy s r at number
 
 -- and an answer that takes none leaves all items
 abbrev pub NoneTakenNoneChanged : Type 0
 NoneTakenNoneChanged =
-    (s : BookState) (r : Asker) (at window : ℕ) → IsLawful s → (piece_for s r).taken ≡ None → (file_of (after_answer s r at).files window).items ≡ (file_of s.files window).items
+    (s : BookState) (r : Asker) (at window : ℕ) → IsLawful s → (piece_for s r).taken ≡ None →
+    (file_of (after_answer s r at).files window).items ≡ (file_of s.files window).items
 
 -- the opening took the item at this entry, and it isn't written back
 abbrev pub IsTakenAt : BookState → ℕ → ℕ → Item → ℕ → ℕ → Type 0
@@ -251,7 +264,8 @@ IsTakenAt s window number item opening at =
 -- what is taken after the call was so before, by the same opening at the same entry
 abbrev pub TakesNone : BookState → BookState → Type 0
 TakesNone s t =
-    (window number : ℕ) (item : Item) (opening at : ℕ) → IsTakenAt t window number item opening at → IsTakenAt s window number item opening at
+    (window number : ℕ) (item : Item) (opening at : ℕ) → IsTakenAt t window number item opening at
+    → IsTakenAt s window number item opening at
 
 -- no call but one that answers a read takes an item
 pub record OnlyAnswersTake (s : BookState) : Type 0 where
@@ -285,7 +299,8 @@ FoundFits =
 -- and is not found again once it was
 abbrev pub WrittenOnce : Type 0
 WrittenOnce =
-    (s : BookState) (window number at : ℕ) (m : BackMsg) → IsLawful s → found_of (after_written s window number at) window m ≡ Ok number → ⊥
+    (s : BookState) (window number at : ℕ) (m : BackMsg) → IsLawful s
+    → found_of (after_written s window number at) window m ≡ Ok number → ⊥
 
 -- ---- dropped at a close alone
 
@@ -299,12 +314,14 @@ IsDropped s window number item at = recorded_of s window number ≡ Some (droppe
 
 -- what is dropped after the call was so before
 abbrev pub DropsNone : BookState → BookState → Type 0
-DropsNone s t = (window number : ℕ) (item : Item) (at : ℕ) → IsDropped t window number item at → IsDropped s window number item at
+DropsNone s t = (window number : ℕ) (item : Item) (at : ℕ) → IsDropped t window number item at
+    → IsDropped s window number item at
 
 -- what is dropped after the call was so before, or it is dropped at this entry and its event file isn't open then
 abbrev pub DropsAt : BookState → BookState → ℕ → Type 0
 DropsAt s t now =
-    (window number : ℕ) (item : Item) (at : ℕ) → IsDropped t window number item at → IsDropped s window number item at ⊎ ((at ≡ now) × (is_open_window t window ≡ false))
+    (window number : ℕ) (item : Item) (at : ℕ) → IsDropped t window number item at → IsDropped s window number item at
+    ⊎ ((at ≡ now) × (is_open_window t window ≡ false))
 
 -- only what closes a file drops items
 pub record OnlyClosesDrop (s : BookState) : Type 0 where
@@ -333,7 +350,8 @@ is_ended (Dropped at) = true
 -- what is written back or dropped before the call is so after it, with the same entries
 abbrev pub KeepsEnded : BookState → BookState → Type 0
 KeepsEnded s t =
-    (window number : ℕ) (e : Recorded) → recorded_of s window number ≡ Some e → is_ended e.life ≡ true → recorded_of t window number ≡ Some e
+    (window number : ℕ) (e : Recorded) → recorded_of s window number ≡ Some e
+    → is_ended e.life ≡ true → recorded_of t window number ≡ Some e
 
 -- no call changes an item that was written back or dropped
 pub record AllKeepEnded (s : BookState) : Type 0 where

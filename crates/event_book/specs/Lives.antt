@@ -1,5 +1,6 @@
 -- The items of a window, with their lives.
-use Rattle.std.specs.Prelude.{ℕ, zero, suc, Bool, true, false, List, [], ◌∷◌, map, slice_get, Option, Some, None, if◌then◌else◌}
+use Rattle.std.specs.Prelude.{ℕ, zero, suc, Bool, true, false, List, [], ◌∷◌, map, slice_get, Option, Some, None}
+use Rattle.std.specs.Prelude.{if◌then◌else◌}
 use Rattle.win_events.specs.Spelling.{spelling}
 use Rattle.win_events.specs.declared.item.Item.{Item}
 use Rattle.win_events.specs.declared.item.Life.{Life}
@@ -91,7 +92,8 @@ module _ {A : Type 0} where
 abbrev pub pending_from : ℕ → List Recorded → List QueueItem
 pending_from n [] = []
 pending_from n (e ∷ es) =
-    if pends e then record { number = n; bytes = spelling e.item } ∷ pending_from (suc n) es else pending_from (suc n) es
+    if pends e then record { number = n; bytes = spelling e.item } ∷ pending_from (suc n) es else pending_from (suc n)
+    es
 
 -- the items as a report tells them, with numbers from this one on
 abbrev pub views_from : ℕ → ℕ → List Recorded → List ItemView

@@ -36,7 +36,8 @@ shown_life (e ∷ es) zero i = Pending
 shown_life (e ∷ es) (suc n) zero = e.life
 shown_life (e ∷ es) (suc n) (suc i) = shown_life es n i
 
--- the invariant of the list: how many are settled, how many there were at the last keep, and how many of these were settled
+-- the invariant of the list: how many are settled, how many there were at the last keep, and how many of these were
+-- settled
 pub record IsSplit (settled kept kept_settled : ℕ) (es : List Recorded) : Type 0 where
   pub within : settled ≤ length es
   pub kept_within : kept ≤ length es

@@ -6,7 +6,10 @@ ghost use Rattle.am_text.specs.Twice.{Twice, both, IsSteady};
 ghost use Rattle.wait_queue.specs.Limits.{max_openings};
 ghost use Rattle.wait_queue.specs.Reads.{is_read};
 ghost use Rattle.event_book.specs.WindowFiles.{ledger_of};
-ghost use Rattle.event_book.specs.BookState.{BookState, empty_book, is_open_window, is_living, IsOpen, IsLiving, IsTaken, is_taken_of, item_of, next_opening, after_add, next_number, after_put, asked_of, after_ask, served_of, after_serve, found_of, after_written, after_cancel, after_leave, after_delete};
+ghost use Rattle.event_book.specs.BookState.{BookState, empty_book, is_open_window, is_living, IsOpen, IsLiving};
+ghost use Rattle.event_book.specs.BookState.{IsTaken, is_taken_of, item_of, next_opening, after_add, next_number};
+ghost use Rattle.event_book.specs.BookState.{after_put, asked_of, after_ask, served_of, after_serve, found_of};
+ghost use Rattle.event_book.specs.BookState.{after_written, after_cancel, after_leave, after_delete};
 ghost use Rattle.event_book.specs.Laws.{IsLawful, WindowOrder, WhatAFidGets};
 
 use crate::finding::BackFault;

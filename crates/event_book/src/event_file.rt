@@ -1,13 +1,15 @@
 //! The event file of a window: its items, its openings, and what each has left.
 
-ghost use Rattle.std.specs.Prelude.{◌≡◌, ◌+◌, false, [], ◌∷◌, ◌++◌, length, IfOk, OnOk, OnErr, option_map, option_copied, IsTrue};
+ghost use Rattle.std.specs.Prelude.{◌≡◌, ◌+◌, false, [], ◌∷◌, ◌++◌, length, IfOk, OnOk, OnErr, option_map};
+ghost use Rattle.std.specs.Prelude.{option_copied, IsTrue};
 ghost use Rattle.am_text.specs.Twice.{Twice, both, IsSteady};
 ghost use Rattle.wait_queue.specs.WaitState.{IsEnlisted, must_wait, piece_of, after_piece, after_put};
 ghost use Rattle.win_events.specs.Spelling.{spelling};
 ghost use Rattle.win_events.specs.declared.item.Life.TheVariants.{Taken};
 ghost use Rattle.event_book.specs.Lives.{fresh, numbered, has_taken, views_from};
 ghost use Rattle.event_book.specs.Finding.{found_in};
-ghost use Rattle.event_book.specs.WindowFiles.{unopened, queue_of, IsQueueOf, file_in, has_opening, is_enlisted, enlisted, with_item, items_after, given, with_written, left, deleted};
+ghost use Rattle.event_book.specs.WindowFiles.{unopened, queue_of, IsQueueOf, file_in, has_opening, is_enlisted};
+ghost use Rattle.event_book.specs.WindowFiles.{enlisted, with_item, items_after, given, with_written, left, deleted};
 
 use crate::finding::BackFault;
 use crate::lives::ItemList;
@@ -52,7 +54,10 @@ fn put_both(
 ) -> Result<u64, NoMemory>
     ensures number { IfOk result (λ number. number ≡ length items.old.present + 1) }
     ensures items { OnOk result (items.new ≡ record items.old { present = items.old.present ++ fresh item ∷ [] }) }
-    ensures queue { OnOk result (queue.new ≡ record queue.old { present = after_put queue.old.present (length items.old.present + 1) (spelling item) }) }
+    ensures queue { OnOk result (queue.new ≡ record queue.old {
+      present = after_put queue.old.present
+          (length items.old.present + 1) (spelling item);
+    }) }
     ensures err { OnErr result ((items.new.kept ≡ items.old.kept) × (queue.new.kept ≡ queue.old.kept)) }
 {
     let spelled = spell(alloc, &item)?;

@@ -1,12 +1,15 @@
 //! The event files of all windows.
 
-ghost use Rattle.std.specs.Prelude.{◌≡◌, ◌<◌, ◌+◌, true, false, [], ◌++◌, length, IfOk, IfSome, IfNone, OnOk, OnErr, option_map, option_copied, IsTrue};
+ghost use Rattle.std.specs.Prelude.{◌≡◌, ◌<◌, ◌+◌, true, false, [], ◌++◌, length, IfOk, IfSome, IfNone, OnOk, OnErr};
+ghost use Rattle.std.specs.Prelude.{option_map, option_copied, IsTrue};
 ghost use Rattle.am_text.specs.Twice.{Twice, both, IsSteady};
 ghost use Rattle.wait_queue.specs.WaitState.{must_wait, piece_of};
 ghost use Rattle.event_book.specs.Lives.{numbered, has_taken};
 ghost use Rattle.event_book.specs.Finding.{found_in};
-ghost use Rattle.event_book.specs.WindowFiles.{queue_of, has_opening, is_enlisted, enlisted, with_item, given, with_written, left, deleted, file_of, with_file, ledger_of};
-ghost use Rattle.event_book.specs.Table.{present_of, kept_of, files_in, Rises, place_of, is_at, has_window, changed_in, with_present, with_kept, IsTable, IsReplaced, shown_file};
+ghost use Rattle.event_book.specs.WindowFiles.{queue_of, has_opening, is_enlisted, enlisted, with_item, given};
+ghost use Rattle.event_book.specs.WindowFiles.{with_written, left, deleted, file_of, with_file, ledger_of};
+ghost use Rattle.event_book.specs.Table.{present_of, kept_of, files_in, Rises, place_of, is_at, has_window, changed_in};
+ghost use Rattle.event_book.specs.Table.{with_present, with_kept, IsTable, IsReplaced, shown_file};
 
 use crate::event_file::EventFile;
 use crate::finding::BackFault;
@@ -147,7 +150,8 @@ fn put(
     requires table { IsTable touched.old.items all.old.items }
     requires is_open { IsTrue (has_opening (file_of (files_in present_of all.old.items) window)) }
     ensures table { IsTable touched.new.items all.new.items }
-    ensures number { IfOk result (λ number. number ≡ length (file_of (files_in present_of all.old.items) window).items + 1) }
+    ensures number { IfOk result (λ number. number ≡ length (file_of (files_in present_of all.old.items) window).items
+        + 1) }
     ensures ok { OnOk result
         (files_in present_of all.new.items ≡ with_file window (with_item (file_of (files_in present_of all.old.items) window) item) (files_in present_of all.old.items)) }
     ensures kept { files_in kept_of all.new.items ≡ files_in kept_of all.old.items }
@@ -172,7 +176,8 @@ fn give(
     requires living { IsTrue (is_enlisted (file_of (files_in present_of all.old.items) window) asker.opening) }
     requires ready { must_wait (queue_of (file_of (files_in present_of all.old.items) window)) asker ≡ false }
     ensures table { IsTable touched.new.items all.new.items }
-    ensures piece { IfOk result (λ piece. piece ≡ piece_of (queue_of (file_of (files_in present_of all.old.items) window)) asker) }
+    ensures piece { IfOk result (λ piece. piece ≡ piece_of (queue_of
+        (file_of (files_in present_of all.old.items) window)) asker) }
     ensures ok { OnOk result
         (files_in present_of all.new.items ≡ with_file window (given (file_of (files_in present_of all.old.items) window) asker at) (files_in present_of all.old.items)) }
     ensures kept { files_in kept_of all.new.items ≡ files_in kept_of all.old.items }
@@ -189,7 +194,8 @@ fn give(
 fn written(all: &mut Vec<FileAt>, window: u32, number: u64, at: u64)
     requires rises { Rises 0 all.old.items }
     requires steady { files_in present_of all.old.items ≡ files_in kept_of all.old.items }
-    ensures { IsReplaced window (with_written (file_of (files_in present_of all.old.items) window) number at) all.old.items all.new.items }
+    ensures { IsReplaced window (with_written (file_of (files_in present_of all.old.items) window) number at)
+        all.old.items all.new.items }
 {
     if let Some(place) = place_in(all.as_slice(), window) {
         let found = &mut all[place];
@@ -200,7 +206,8 @@ fn written(all: &mut Vec<FileAt>, window: u32, number: u64, at: u64)
 fn leave(all: &mut Vec<FileAt>, window: u32, opening: u32, at: u64)
     requires rises { Rises 0 all.old.items }
     requires steady { files_in present_of all.old.items ≡ files_in kept_of all.old.items }
-    ensures { IsReplaced window (left (file_of (files_in present_of all.old.items) window) opening at) all.old.items all.new.items }
+    ensures { IsReplaced window (left (file_of (files_in present_of all.old.items) window) opening at) all.old.items
+        all.new.items }
 {
     if let Some(place) = place_in(all.as_slice(), window) {
         let found = &mut all[place];
@@ -211,7 +218,8 @@ fn leave(all: &mut Vec<FileAt>, window: u32, opening: u32, at: u64)
 fn delete(all: &mut Vec<FileAt>, window: u32, at: u64)
     requires rises { Rises 0 all.old.items }
     requires steady { files_in present_of all.old.items ≡ files_in kept_of all.old.items }
-    ensures { IsReplaced window (deleted (file_of (files_in present_of all.old.items) window) at) all.old.items all.new.items }
+    ensures { IsReplaced window (deleted (file_of (files_in present_of all.old.items) window) at) all.old.items
+        all.new.items }
 {
     if let Some(place) = place_in(all.as_slice(), window) {
         let found = &mut all[place];
@@ -345,7 +353,8 @@ impl FileTable {
 
     /// The window's item with this number, if there is one.
     pub fn item(&self, window: u32, number: u64) -> Option<&Item>
-        ensures { option_copied result ≡ option_map (λ e. e.item) (numbered (file_of self.now.present window).items number) }
+        ensures { option_copied result ≡ option_map (λ e. e.item) (numbered (file_of self.now.present window).items
+            number) }
     {
         match self.file(window) {
             Some(file) => file.item(number),
@@ -454,7 +463,8 @@ impl FileTable {
     /// The window's taken item with this number is written back. It takes no memory.
     pub fn written(&mut self, window: u32, number: u64, at: u64)
         requires { IsSteady self.old }
-        ensures { self.new ≡ both (with_file window (with_written (file_of self.old.present window) number at) self.old.present) }
+        ensures { self.new ≡ both (with_file window (with_written (file_of self.old.present window) number at)
+            self.old.present) }
     {
         written(&mut self.all, window, number, at);
     }
@@ -462,7 +472,8 @@ impl FileTable {
     /// An opening of the window closes. It takes no memory.
     pub fn leave(&mut self, window: u32, opening: u32, at: u64)
         requires { IsSteady self.old }
-        ensures { self.new ≡ both (with_file window (left (file_of self.old.present window) opening at) self.old.present) }
+        ensures { self.new ≡ both (with_file window (left (file_of self.old.present window) opening at)
+            self.old.present) }
     {
         leave(&mut self.all, window, opening, at);
     }

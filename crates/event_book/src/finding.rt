@@ -2,7 +2,8 @@
 
 ghost use Rattle.std.specs.Prelude.{◌≡◌, ◌≤◌, length, take};
 ghost use Rattle.std.specs.List.{list_any};
-ghost use Rattle.event_book.specs.Finding.{same_range, expands_to, fits, is_open_fit, is_back_fit, last_from, found_or, found_in};
+ghost use Rattle.event_book.specs.Finding.{same_range, expands_to, fits, is_open_fit, is_back_fit, last_from, found_or};
+ghost use Rattle.event_book.specs.Finding.{found_in};
 
 use crate::lives::Recorded;
 use am_text::{Range, Runes};

@@ -1,6 +1,9 @@
 //! What each call does to what an opening was given.
 
-ghost use Rattle.event_book.specs.Laws.{BeginsWithNothing, AskAppends, ServeAppends, AskLeavesOthers, ServeLeavesOthers, NothingElseGives, CancelledIsGone, CancelledIsNotNext, OnlyAskWaits, ServedWaited, TakenWithItsAnswer, NoneTakenNoneChanged, TakenByAnswers, FoundFits, WrittenOnce, DroppedAtClose, EndedStay};
+ghost use Rattle.event_book.specs.Laws.{BeginsWithNothing, AskAppends, ServeAppends, AskLeavesOthers};
+ghost use Rattle.event_book.specs.Laws.{ServeLeavesOthers, NothingElseGives, CancelledIsGone, CancelledIsNotNext};
+ghost use Rattle.event_book.specs.Laws.{OnlyAskWaits, ServedWaited, TakenWithItsAnswer, NoneTakenNoneChanged};
+ghost use Rattle.event_book.specs.Laws.{TakenByAnswers, FoundFits, WrittenOnce, DroppedAtClose, EndedStay};
 
 /// An opening begins with nothing given.
 pub fn begins_with_nothing()

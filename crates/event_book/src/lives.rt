@@ -1,8 +1,10 @@
 //! The items of a window, with their lives.
 
-ghost use Rattle.std.specs.Prelude.{◌≡◌, ◌≤◌, ◌<◌, ◌-◌, false, [], ◌∷◌, ◌++◌, length, take, OnOk, OnErr, option_map, option_copied};
+ghost use Rattle.std.specs.Prelude.{◌≡◌, ◌≤◌, ◌<◌, ◌-◌, false, [], ◌∷◌, ◌++◌, length, take, OnOk, OnErr, option_map};
+ghost use Rattle.std.specs.Prelude.{option_copied};
 ghost use Rattle.am_text.specs.Twice.{Twice, both};
-ghost use Rattle.event_book.specs.Lives.{is_pending, is_taken, has_taken, fresh, take_first, all_dropped, back_life, written_back, numbered, views_from};
+ghost use Rattle.event_book.specs.Lives.{is_pending, is_taken, has_taken, fresh, take_first, all_dropped, back_life};
+ghost use Rattle.event_book.specs.Lives.{written_back, numbered, views_from};
 ghost use Rattle.event_book.specs.Finding.{found_in};
 ghost use Rattle.event_book.specs.Shown.{shown, shown_life, AreSettled, dropped_after, with_life_at};
 
@@ -41,7 +43,11 @@ impl Model for ItemList {
 
     ghost use Rattle.event_book.specs.Shown.{shown, IsSplit};
 
-    ghost view = { λ l. record { present = shown l.settled l.all.items; kept = shown l.kept_settled (take l.kept l.all.items) } };
+    ghost view = { λ l. record {
+      present = shown l.settled l.all.items;
+      kept = shown l.kept_settled
+          (take l.kept l.all.items);
+    } };
 
     ghost invariant = { λ l. IsSplit l.settled l.kept l.kept_settled l.all.items };
 }

@@ -6,7 +6,11 @@ ghost use Rattle.am_text.specs.Twice.{Twice, both, IsSteady};
 ghost use Rattle.wait_queue.specs.Limits.{max_openings};
 ghost use Rattle.wait_queue.specs.Reads.{is_read};
 ghost use Rattle.event_book.specs.WindowFiles.{ledger_of};
-ghost use Rattle.event_book.specs.BookState.{BookState, empty_book, is_open_window, is_living, IsOpen, IsLiving, item_of, is_taken_of, next_opening, after_add, next_number, after_put, read_waits, piece_for, after_answer, asked_of, after_ask, next_of, without_next, served_of, after_serve, found_of, after_written, after_cancel, after_leave, after_delete};
+ghost use Rattle.event_book.specs.BookState.{BookState, empty_book, is_open_window, is_living, IsOpen, IsLiving};
+ghost use Rattle.event_book.specs.BookState.{item_of, is_taken_of, next_opening, after_add, next_number, after_put};
+ghost use Rattle.event_book.specs.BookState.{read_waits, piece_for, after_answer, asked_of, after_ask, next_of};
+ghost use Rattle.event_book.specs.BookState.{without_next, served_of, after_serve, found_of, after_written};
+ghost use Rattle.event_book.specs.BookState.{after_cancel, after_leave, after_delete};
 ghost use Rattle.event_book.specs.Laws.{AllLiving};
 
 use crate::file_table::FileTable;
@@ -80,7 +84,8 @@ impl Model for Tables {
 
     ghost use Rattle.std.specs.Prelude.{◌≡◌, false};
 
-    ghost invariant = { λ t. t.changed ≡ false → (t.files.present ≡ t.files.kept) × (t.owners.present ≡ t.owners.kept) × (t.reads.present ≡ t.reads.kept) × (t.latest ≡ t.kept_latest) };
+    ghost invariant = { λ t. t.changed ≡ false → (t.files.present ≡ t.files.kept) × (t.owners.present ≡ t.owners.kept)
+        × (t.reads.present ≡ t.reads.kept) × (t.latest ≡ t.kept_latest) };
 }
 
 impl Tables {

@@ -12,7 +12,8 @@ use Rattle.core_fids.specs.declared.effect.Effect.TheVariants as effect
 use Rattle.core_fids.specs.declared.effect.EventChange.{EventChange}
 use Rattle.core_fids.specs.declared.effect.EventChange.TheVariants as events
 use Rattle.core_events.specs.declared.closing.BackItem.{BackItem}
-use Rattle.core_events.specs.Closing.{written_back, without_opening, without_fid, opening_in, freed, cancelled, closed_with}
+use Rattle.core_events.specs.Closing.{written_back, without_opening, without_fid, opening_in, freed, cancelled}
+use Rattle.core_events.specs.Closing.{closed_with}
 use Rattle.core_parts.specs.declared.kind.Kind.{Kind}
 use Rattle.core_parts.specs.declared.kind.Kind.TheVariants as kind
 use Rattle.core_parts.specs.Doing.{Doing}
@@ -27,7 +28,8 @@ module _ (at : ℕ) (first : BookState) where
   end_written : (s : BookState) (o : Option BackItem) → E s → E (written_back at s o)
   end_written s None e = e
   end_written s (Some b) e =
-      (elim (is_taken_of s b.window b.number) as (λ t. is_taken_of s b.window b.number ≡ t → E (cond t (after_written s b.window b.number at) s)) [
+      (elim (is_taken_of s b.window b.number) as (λ t. is_taken_of s b.window b.number ≡ t →
+      E (cond t (after_written s b.window b.number at) s)) [
         | true ↦ λ taken. one_ended at first s (Written b.window b.number) e taken
         | false ↦ λ other. e
       ]) refl
@@ -58,7 +60,8 @@ module _ (at : ℕ) (first : BookState) where
 
   end_left : (t : Tables) (s : BookState) (k : Kind) (d : Doing) → E s → E (left_book at t k d s)
   end_left t s (kind.Dials conn) d e = e
-  end_left t s (kind.Asks conn tag) d e = end_cancelled (freed at s t conn d.effect) conn d.events (end_freed s t conn d.effect e)
+  end_left t s (kind.Asks conn tag) d e = end_cancelled (freed at s t conn d.effect) conn d.events
+      (end_freed s t conn d.effect e)
   end_left t s (kind.Ends conn why) d e = end_fids s (fids_of t conn) e
   end_left t s (kind.Takes conn) d e = e
   end_left t s kind.Acts d e = e
@@ -74,4 +77,5 @@ all_end p k d =
     let g : BookState = grown_book p k d in
     let t : Tables = grown_tables p k d in
     let w : BookState = written_back at g d.back in
-    end_closed at g (left_book at t k d w) (deleted_by d.deeds) (end_left at g t w k d (end_written at g g d.back (none_ended at g)))
+    end_closed at g (left_book at t k d w) (deleted_by d.deeds) (end_left at g t w k d
+    (end_written at g g d.back (none_ended at g)))

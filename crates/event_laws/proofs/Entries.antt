@@ -13,13 +13,15 @@ use Rattle.event_laws.specs.PortLaws.{ports_after, calls_of, IsByPorts}
 use Rattle.event_laws.proofs.Stages.{Stage, entry_stage}
 
 step_stage : (s : State) (e : Event)
-    → Stage s.scene.ports (calls_at (present s) (kind_of e) (doing_of (present s) e)) (said (present s) (kind_of e) (doing_of (present s) e)) (step s e).scene.ports
+    → Stage s.scene.ports (calls_at (present s) (kind_of e) (doing_of (present s) e))
+    (said (present s) (kind_of e) (doing_of (present s) e)) (step s e).scene.ports
 unfolding step
 step_stage s e = entry_stage (present s) (kind_of e) (doing_of (present s) e)
 
 pub entry : (before : List Event) (e : Event) → IsByPorts before e
 entry before e =
     let all : Stage (ports_after before) (calls_of before e) (said_after before e) (ports_after (before ++ e ∷ [])) =
-    subst (λ (t : State). Stage (ports_after before) (calls_of before e) (said_after before e) t.scene.ports) (sym (run-push before e)) (step_stage (run before) e)
+    subst (λ (t : State). Stage (ports_after before) (calls_of before e) (said_after before e) t.scene.ports)
+    (sym (run-push before e)) (step_stage (run before) e)
     in
     record { can = all.can; ports = all.ports; gives = all.gives }

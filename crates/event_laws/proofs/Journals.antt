@@ -1,5 +1,7 @@
 -- The laws of all journals: each entry keeps them.
-use Rattle.std.proofs.Common.{◌≡◌, ℕ, zero, suc, ◌+◌, ◌==◌, not, true, false, cond, List, [], ◌∷◌, ◌++◌, length, map, slice_get, Option, Some, None, refl, sym, ap, subst, ◌∙◌, append_assoc, append-nil, arith, ◌⊎◌, inl, inr}
+use Rattle.std.proofs.Common.{◌≡◌, ℕ, zero, suc, ◌+◌, ◌==◌, not, true, false, cond, List, [], ◌∷◌, ◌++◌, length, map}
+use Rattle.std.proofs.Common.{slice_get, Option, Some, None, refl, sym, ap, subst, ◌∙◌, append_assoc, append-nil, arith}
+use Rattle.std.proofs.Common.{◌⊎◌, inl, inr}
 use Rattle.std.specs.Option.{option_map}
 use Rattle.std.proofs.lemmas.Bool.{and_parts}
 use Rattle.win_events.specs.declared.item.Item.{Item}
@@ -21,7 +23,8 @@ use Rattle.acme_core.specs.Run.{run}
 use Rattle.acme_core.proofs.Idling.{run_idle}
 use Rattle.core_laws.specs.Saying.{said_after}
 use Rattle.event_laws.specs.Rreads.{Rread, rreads_of, rreads_from, data_on, delivered}
-use Rattle.event_laws.specs.Laws.{book_after, rread_to, IsPending, IsDroppedBy, GetsItsItems, Telling, HasItsRread, EachHasItsOwn, EventsAreLawful}
+use Rattle.event_laws.specs.Laws.{book_after, rread_to, IsPending, IsDroppedBy, GetsItsItems, Telling, HasItsRread}
+use Rattle.event_laws.specs.Laws.{EachHasItsOwn, EventsAreLawful}
 use Rattle.event_laws.proofs.Steps.{entry, entry_laws}
 
 lawful_after : (journal : List Event) → IsLawful (book_after journal)
@@ -38,28 +41,35 @@ none_some a h = cc
 abbrev pending : Item → Recorded
 pending item = record { item = item; life = Pending }
 
-pending_there : (es : List Recorded) (k : ℕ) (item : Item) → slice_get es k ≡ Some (pending item) → none_pending es ≡ true → ⊥
+pending_there : (es : List Recorded) (k : ℕ) (item : Item) → slice_get es k ≡ Some (pending item)
+    → none_pending es ≡ true → ⊥
 pending_there [] k item is none = none_some (pending item) is
 pending_there (x ∷ es) zero item is none =
     let parts = and_parts (not (pends x)) (none_pending es) none in
     let same : x ≡ pending item = some_same x (pending item) is in
     let no : false ≡ true = sym (ap (λ (y : Recorded). not (pends y)) same) ∙ parts.0 in
     absurd cc
-pending_there (x ∷ es) (suc k) item is none = pending_there es k item is (and_parts (not (pends x)) (none_pending es) none).1
+pending_there (x ∷ es) (suc k) item is none = pending_there es k item is
+    (and_parts (not (pends x)) (none_pending es) none).1
 
-pending_number : (es : List Recorded) (n : ℕ) (item : Item) → numbered es n ≡ Some (pending item) → none_pending es ≡ true → ⊥
+pending_number : (es : List Recorded) (n : ℕ) (item : Item) → numbered es n ≡ Some (pending item)
+    → none_pending es ≡ true → ⊥
 pending_number es zero item is none = none_some (pending item) is
 pending_number es (suc k) item is none = pending_there es k item is none
 
 -- an item pends only while the event file is open
-pending_open : (journal : List Event) (w n : ℕ) (item : Item) → IsPending (book_after journal) w n item → is_open_window (book_after journal) w ≡ true
+pending_open : (journal : List Event) (w n : ℕ) (item : Item) → IsPending (book_after journal) w n item
+    → is_open_window (book_after journal) w ≡ true
 pending_open journal w n item pends =
     (elim (is_open_window (book_after journal) w) as (λ b. is_open_window (book_after journal) w ≡ b → b ≡ true) [
       | true ↦ λ e. refl
-      | false ↦ λ e. absurd (pending_number (file_of (book_after journal).files w).items n item pends (((lawful_after journal).files w).closed e))
+      | false ↦ λ e. absurd (pending_number (file_of (book_after journal).files w).items n item pends
+          (((lawful_after journal).files w).closed e))
     ]) refl
 
-dropped : (before : List Event) (e : Event) (w n at : ℕ) (item : Item) → IsDropped (book_after (before ++ e ∷ [])) w n item at → IsDropped (book_after before) w n item at ⊎ IsDroppedBy before e w n item at
+dropped : (before : List Event) (e : Event) (w n at : ℕ) (item : Item)
+    → IsDropped (book_after (before ++ e ∷ [])) w n item at → IsDropped (book_after before) w n item at
+    ⊎ IsDroppedBy before e w n item at
 dropped before e w n at item is =
     elim ((entry_laws before e).drops w n item at is) [
       | inl was ↦ inl was
@@ -69,7 +79,8 @@ dropped before e w n at item is =
 -- ---- what ended stays so
 
 stays_from : (before events : List Event) → KeepsEnded (book_after before) (book_after (before ++ events))
-stays_from before [] = subst (λ (l : List Event). KeepsEnded (book_after before) (book_after l)) (sym (append-nil before)) (λ w n e is t. is)
+stays_from before [] = subst (λ (l : List Event). KeepsEnded (book_after before) (book_after l))
+    (sym (append-nil before)) (λ w n e is t. is)
 stays_from before (e ∷ events) =
     subst (λ (l : List Event). KeepsEnded (book_after before) (book_after l)) (append_assoc before (e ∷ []) events)
     (λ w n x is t. stays_from (before ++ e ∷ []) events w n x ((entry_laws before e).stays w n x is t) t)
@@ -79,7 +90,8 @@ stays_from before (e ∷ events) =
 data_append : (o : ℕ) (xs ys : List Rread) → data_on o (xs ++ ys) ≡ data_on o xs ++ data_on o ys
 data_append o [] ys = refl
 data_append o (x ∷ xs) ys =
-    ap (λ (l : List ℕ). cond (x.opening == o) x.bytes [] ++ l) (data_append o xs ys) ∙ sym (append_assoc (cond (x.opening == o) x.bytes []) (data_on o xs) (data_on o ys))
+    ap (λ (l : List ℕ). cond (x.opening == o) x.bytes [] ++ l) (data_append o xs ys)
+    ∙ sym (append_assoc (cond (x.opening == o) x.bytes []) (data_on o xs) (data_on o ys))
 
 -- the data of the Rreads is what the answers give
 data_given : (at o : ℕ) (g : Answers) → data_on o (map (rread_to at) g) ≡ bytes_to o g
@@ -87,26 +99,33 @@ data_given at o [] = refl
 data_given at o (a ∷ g) = ap (λ (l : List ℕ). cond (a.0.opening == o) a.1.bytes [] ++ l) (data_given at o g)
 
 gets_entry : (before : List Event) (e : Event) (o : ℕ) (d : List ℕ) → Gets d (file_on (book_after before) o) o
-    → Gets (d ++ data_on o (rreads_of (length before + 1) (said_after before e))) (file_on (book_after (before ++ e ∷ [])) o) o
+    → Gets (d ++ data_on o (rreads_of (length before + 1) (said_after before e)))
+    (file_on (book_after (before ++ e ∷ [])) o) o
 gets_entry before e o d h =
     let at : ℕ = length before + 1 in
-    let same : bytes_to o (entry before e).answers ≡ data_on o (rreads_of at (said_after before e)) = sym (data_given at o (entry before e).answers) ∙ ap (data_on o) (entry before e).tells in
-    subst (λ (x : List ℕ). Gets (d ++ x) (file_on (book_after (before ++ e ∷ [])) o) o) same ((entry_laws before e).gets o d h)
+    let same : bytes_to o (entry before e).answers ≡ data_on o (rreads_of at (said_after before e)) =
+    sym (data_given at o (entry before e).answers) ∙ ap (data_on o) (entry before e).tells in
+    subst (λ (x : List ℕ). Gets (d ++ x) (file_on (book_after (before ++ e ∷ [])) o) o) same
+    ((entry_laws before e).gets o d h)
 
-gets_from : (before events : List Event) (o : ℕ) (d : List ℕ) → Gets d (file_on (book_after before) o) o → Gets (d ++ data_on o (rreads_from before events)) (file_on (book_after (before ++ events)) o) o
+gets_from : (before events : List Event) (o : ℕ) (d : List ℕ) → Gets d (file_on (book_after before) o) o
+    → Gets (d ++ data_on o (rreads_from before events)) (file_on (book_after (before ++ events)) o) o
 unfolding rreads_from
 gets_from before [] o d h =
-    subst (λ (l : List Event). Gets (d ++ []) (file_on (book_after l) o) o) (sym (append-nil before)) (subst (λ (x : List ℕ). Gets x (file_on (book_after before) o) o) (sym (append-nil d)) h)
+    subst (λ (l : List Event). Gets (d ++ []) (file_on (book_after l) o) o) (sym (append-nil before))
+    (subst (λ (x : List ℕ). Gets x (file_on (book_after before) o) o) (sym (append-nil d)) h)
 gets_from before (e ∷ events) o d h =
     let now : List Rread = rreads_of (length before + 1) (said_after before e) in
     let later : List Rread = rreads_from (before ++ e ∷ []) events in
-    let rest : Gets ((d ++ data_on o now) ++ data_on o later) (file_on (book_after ((before ++ e ∷ []) ++ events)) o) o =
+    let rest : Gets ((d ++ data_on o now) ++ data_on o later) (file_on (book_after ((before ++ e ∷ []) ++ events)) o)
+    o =
     gets_from (before ++ e ∷ []) events o (d ++ data_on o now) (gets_entry before e o d h)
     in
     let whole : (d ++ data_on o now) ++ data_on o later ≡ d ++ data_on o (now ++ later) =
     append_assoc d (data_on o now) (data_on o later) ∙ ap (λ (x : List ℕ). d ++ x) (sym (data_append o now later))
     in
-    subst (λ (l : List Event). Gets (d ++ data_on o (now ++ later)) (file_on (book_after l) o) o) (append_assoc before (e ∷ []) events)
+    subst (λ (l : List Event). Gets (d ++ data_on o (now ++ later)) (file_on (book_after l) o) o)
+    (append_assoc before (e ∷ []) events)
     (subst (λ (x : List ℕ). Gets x (file_on (book_after ((before ++ e ∷ []) ++ events)) o) o) whole rest)
 
 begins : (o : ℕ) → Gets [] (file_on (book_after []) o) o
@@ -116,7 +135,13 @@ begins o = record { missing = []; joined = refl; proper = omega arith; living = 
 gets : (journal : List Event) (o : ℕ) → GetsItsItems journal o
 gets journal o =
     let h : Gets (delivered journal o) (file_on (book_after journal) o) o = gets_from [] journal o [] (begins o) in
-    record { missing = h.missing; joined = h.joined; proper = proper_end (delivered journal o) (file_on (book_after journal) o) o h; living = h.living }
+    record {
+      missing = h.missing;
+      joined = h.joined;
+      proper = proper_end (delivered journal o)
+          (file_on (book_after journal) o) o h;
+      living = h.living;
+    }
 
 -- ---- each item by an Rread of its own
 
@@ -136,17 +161,20 @@ told_by at owners a = record { rread = rread_to at a; takes = takes_item owners 
 told_from : List Event → List Event → List Telling
 told_from before [] = []
 told_from before (e ∷ events) =
-    map (told_by (length before + 1) (book_after (before ++ e ∷ [])).owners) (entry before e).answers ++ told_from (before ++ e ∷ []) events
+    map (told_by (length before + 1) (book_after (before ++ e ∷ [])).owners) (entry before e).answers
+    ++ told_from (before ++ e ∷ []) events
 
 map_append : (f : Telling → Rread) (xs ys : List Telling) → map f (xs ++ ys) ≡ map f xs ++ map f ys
 map_append f [] ys = refl
 map_append f (x ∷ xs) ys = ap (λ (l : List Rread). f x ∷ l) (map_append f xs ys)
 
-told_rreads : (at : ℕ) (owners : List ℕ) (g : Answers) → map (λ (t : Telling). t.rread) (map (told_by at owners) g) ≡ map (rread_to at) g
+told_rreads : (at : ℕ) (owners : List ℕ) (g : Answers) → map (λ (t : Telling). t.rread)
+    (map (told_by at owners) g) ≡ map (rread_to at) g
 told_rreads at owners [] = refl
 told_rreads at owners (a ∷ g) = ap (λ (l : List Rread). rread_to at a ∷ l) (told_rreads at owners g)
 
-told_all : (before events : List Event) → map (λ (t : Telling). t.rread) (told_from before events) ≡ rreads_from before events
+told_all : (before events : List Event) → map (λ (t : Telling). t.rread) (told_from before events) ≡ rreads_from before
+    events
 unfolding rreads_from told_from
 told_all before [] = refl
 told_all before (e ∷ events) =
@@ -154,7 +182,8 @@ told_all before (e ∷ events) =
     let owners : List ℕ = (book_after (before ++ e ∷ [])).owners in
     let g : Answers = (entry before e).answers in
     map_append (λ (t : Telling). t.rread) (map (told_by at owners) g) (told_from (before ++ e ∷ []) events)
-    ∙ ap (λ (l : List Rread). l ++ map (λ (t : Telling). t.rread) (told_from (before ++ e ∷ []) events)) (told_rreads at owners g ∙ (entry before e).tells)
+    ∙ ap (λ (l : List Rread). l ++ map (λ (t : Telling). t.rread) (told_from (before ++ e ∷ []) events))
+    (told_rreads at owners g ∙ (entry before e).tells)
     ∙ ap (λ (l : List Rread). rreads_of at (said_after before e) ++ l) (told_all (before ++ e ∷ []) events)
 
 front_get : (xs ys : List Telling) (k : ℕ) (v : Telling) → slice_get xs k ≡ Some v → slice_get (xs ++ ys) k ≡ Some v
@@ -171,43 +200,65 @@ back_get : (xs ys : List Telling) (k : ℕ) → slice_get (xs ++ ys) (behind xs 
 back_get [] ys k = refl
 back_get (x ∷ xs) ys k = back_get xs ys k
 
-get_told : (at : ℕ) (owners : List ℕ) (g : Answers) (k : ℕ) (a : Asker × Piece) → slice_get g k ≡ Some a → slice_get (map (told_by at owners) g) k ≡ Some (told_by at owners a)
+get_told : (at : ℕ) (owners : List ℕ) (g : Answers) (k : ℕ) (a : Asker × Piece) → slice_get g k ≡ Some a
+    → slice_get (map (told_by at owners) g) k ≡ Some (told_by at owners a)
 get_told at owners [] k a h = absurd (none_some a h)
 get_told at owners (x ∷ g) zero a h = ap (λ (y : Asker × Piece). Some (told_by at owners y)) (some_same x a h)
 get_told at owners (x ∷ g) (suc k) a h = get_told at owners g k a h
 
-has_front : (xs ys : List Telling) (w n : ℕ) (item : Item) (o at : ℕ) → HasItsRread xs w n item o at → HasItsRread (xs ++ ys) w n item o at
+has_front : (xs ys : List Telling) (w n : ℕ) (item : Item) (o at : ℕ) → HasItsRread xs w n item o at
+    → HasItsRread (xs ++ ys) w n item o at
 has_front xs ys w n item o at h =
-    record { place = h.place; rread = h.rread; is = front_get xs ys h.place (as_telling h.rread (as_item w n)) h.is; its = h.its }
+    record {
+      place = h.place;
+      rread = h.rread;
+      is = front_get xs ys h.place (as_telling h.rread (as_item w n)) h.is;
+      its = h.its;
+    }
 
-has_back : (xs ys : List Telling) (w n : ℕ) (item : Item) (o at : ℕ) → HasItsRread ys w n item o at → HasItsRread (xs ++ ys) w n item o at
-has_back xs ys w n item o at h = record { place = behind xs h.place; rread = h.rread; is = back_get xs ys h.place ∙ h.is; its = h.its }
+has_back : (xs ys : List Telling) (w n : ℕ) (item : Item) (o at : ℕ) → HasItsRread ys w n item o at
+    → HasItsRread (xs ++ ys) w n item o at
+has_back xs ys w n item o at h = record {
+  place = behind xs h.place;
+  rread = h.rread;
+  is = back_get xs ys h.place
+      ∙ h.is;
+  its = h.its;
+}
 
 -- an answer of this entry is told as the Rread of the item
-told_answer : (at : ℕ) (owners : List ℕ) (g : Answers) (w n o a : ℕ) (item : Item) → a ≡ at → window_of owners o ≡ w → HasItsAnswer g n item o → HasItsRread (map (told_by at owners) g) w n item o a
+told_answer : (at : ℕ) (owners : List ℕ) (g : Answers) (w n o a : ℕ) (item : Item)
+    → a ≡ at → window_of owners o ≡ w → HasItsAnswer g n item o → HasItsRread (map (told_by at owners) g) w n item o a
 told_answer at owners g w n o a item now window h =
     let own : window_of owners h.asker.opening ≡ w = ap (window_of owners) h.on ∙ window in
     let takes : takes_item owners (h.asker, h.piece) ≡ Some (w, n) =
-    ap (λ (x : Option ℕ). option_map {U = ℕ × ℕ} (λ m. (window_of owners h.asker.opening, m)) x) h.takes ∙ ap (λ (v : ℕ). as_item v n) own
+    ap (λ (x : Option ℕ). option_map {U = ℕ × ℕ} (λ m. (window_of owners h.asker.opening, m)) x) h.takes
+    ∙ ap (λ (v : ℕ). as_item v n) own
     in
     record {
       place = h.place;
       rread = rread_to at (h.asker, h.piece);
-      is = get_told at owners g h.place (h.asker, h.piece) h.is ∙ ap (λ (t : Option (ℕ × ℕ)). Some (as_telling (rread_to at (h.asker, h.piece)) t)) takes;
+      is = get_told at owners g h.place (h.asker, h.piece) h.is ∙ ap
+          (λ (t : Option (ℕ × ℕ)). Some (as_telling (rread_to at (h.asker, h.piece)) t)) takes;
       its = record { entry = sym now; on = h.on; count = h.asker.count; front = h.front; some = h.some };
     }
 
-taken_from : (before events : List Event) (w n o at : ℕ) (item : Item) → WasTaken (book_after (before ++ events)) w n item o at
+taken_from : (before events : List Event) (w n o at : ℕ) (item : Item)
+    → WasTaken (book_after (before ++ events)) w n item o at
     → WasTaken (book_after before) w n item o at ⊎ HasItsRread (told_from before events) w n item o at
 unfolding told_from
-taken_from before [] w n o at item h = inl (subst (λ (l : List Event). WasTaken (book_after l) w n item o at) (append-nil before) h)
+taken_from before [] w n o at item h = inl (subst (λ (l : List Event). WasTaken (book_after l) w n item o at)
+    (append-nil before) h)
 taken_from before (e ∷ events) w n o at item h =
     let next : List Event = before ++ e ∷ [] in
     let now : List Telling = map (told_by (length before + 1) (book_after next).owners) (entry before e).answers in
-    elim (taken_from next events w n o at item (subst (λ (l : List Event). WasTaken (book_after l) w n item o at) (sym (append_assoc before (e ∷ []) events)) h)) [
+    elim (taken_from next events w n o at item (subst (λ (l : List Event). WasTaken (book_after l) w n item o at)
+    (sym (append_assoc before (e ∷ []) events)) h)) [
       | inl was ↦ elim ((entry_laws before e).takes w n o at item was) [
         | inl earlier ↦ inl earlier
-        | inr own ↦ inr (has_front now (told_from next events) w n item o at (told_answer (length before + 1) (book_after next).owners (entry before e).answers w n o at item own.0 ((entry_laws before e).windows w n o at item was) own.1))
+        | inr own ↦ inr (has_front now (told_from next events) w n item o at
+            (told_answer (length before + 1) (book_after next).owners (entry before e).answers w n o at item own.0
+            ((entry_laws before e).windows w n o at item was) own.1))
       ]
       | inr later ↦ inr (has_back now (told_from next events) w n item o at later)
     ]
@@ -234,7 +285,8 @@ lawful journal = record {
   calls = λ before after e is. entry before e;
   order = in_order (book_after journal) (lawful_after journal);
   drops = λ before after e is w n at item there. dropped before e w n at item there;
-  stays = λ before prefix. subst (λ (l : List Event). KeepsEnded (book_after before) (book_after l)) prefix.1 (stays_from before prefix.0);
+  stays = λ before prefix. subst (λ (l : List Event). KeepsEnded (book_after before) (book_after l)) prefix.1
+      (stays_from before prefix.0);
   gets = gets journal;
   windows = λ w n o at item h. taken_window (book_after journal) w n o at item (lawful_after journal) h;
   own = own journal;

@@ -27,7 +27,8 @@ record IsStep (at : ℕ) (old new : BookState) (heard : List Response) : Type 0 
   calls : IsByCalls at old new answers
   tells : map (rread_to at) answers ≡ rreads_of at heard
 
-step_of : (s : State) (e : Event) → IsStep (s.entries + 1) s.scene.book (step s e).scene.book (said (present s) (kind_of e) (doing_of (present s) e))
+step_of : (s : State) (e : Event) → IsStep (s.entries + 1) s.scene.book (step s e).scene.book
+    (said (present s) (kind_of e) (doing_of (present s) e))
 unfolding step
 step_of s e =
     let p : Present = present s in
@@ -57,13 +58,17 @@ entry before e =
     subst (λ (t : State). IsStep (s.entries + 1) s.scene.book t.scene.book heard) (sym (run-push before e)) one
     in
     let counted : IsStep (length before + 1) (book_after before) (book_after (before ++ e ∷ [])) heard =
-    subst (λ (n : ℕ). IsStep (n + 1) (book_after before) (book_after (before ++ e ∷ [])) heard) (entries_counted before) ran
+    subst (λ (n : ℕ). IsStep (n + 1) (book_after before) (book_after (before ++ e ∷ [])) heard) (entries_counted before)
+    ran
     in
     record { answers = counted.answers; calls = counted.calls; tells = counted.tells }
 
 -- so the laws of calls hold of it
-pub entry_laws : (before : List Event) (e : Event) → IsLawfulEntry (length before + 1) (book_after before) (book_after (before ++ e ∷ [])) (entry before e).answers
+pub entry_laws : (before : List Event) (e : Event) → IsLawfulEntry (length before + 1) (book_after before)
+    (book_after (before ++ e ∷ [])) (entry before e).answers
 entry_laws before e =
     let idle : AreIdle [] (run before).entries (book_after before) = run_idle before in
-    let first : IsBefore (length before + 1) (book_after before) = record { lawful = idle.lawful; earlier = omega (arith, idle.latest, entries_counted before) } in
-    lawful (length before + 1) (book_after before) (book_after (before ++ e ∷ [])) (entry before e).answers first (entry before e).calls
+    let first : IsBefore (length before + 1) (book_after before) =
+    record { lawful = idle.lawful; earlier = omega (arith, idle.latest, entries_counted before) } in
+    lawful (length before + 1) (book_after before) (book_after (before ++ e ∷ [])) (entry before e).answers first
+    (entry before e).calls

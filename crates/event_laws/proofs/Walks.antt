@@ -1,5 +1,6 @@
 -- What an entry makes of the event files is made by calls of the book, which give the Rreads that it says.
-use Rattle.std.proofs.Common.{◌≡◌, ℕ, zero, suc, Bool, true, false, cond, nat_lt, List, [], ◌∷◌, ◌++◌, length, map, filter, Option, Some, None, refl, sym, ap, ◌∙◌, subst, append_assoc, append-nil}
+use Rattle.std.proofs.Common.{◌≡◌, ℕ, zero, suc, Bool, true, false, cond, nat_lt, List, [], ◌∷◌, ◌++◌, length, map}
+use Rattle.std.proofs.Common.{filter, Option, Some, None, refl, sym, ap, ◌∙◌, subst, append_assoc, append-nil}
 use Rattle.ninep_types.specs.declared.message.RBody.{RBody}
 use Rattle.ninep_types.specs.declared.message.RBody.TheVariants as r
 use Rattle.fid_table.specs.declared.session.Waiting.{Waiting}
@@ -8,7 +9,8 @@ use Rattle.wait_queue.specs.declared.types.Asker.{Asker}
 use Rattle.wait_queue.specs.declared.types.Asked.{Asked}
 use Rattle.wait_queue.specs.declared.types.Asked.TheVariants.{Now, Waits}
 use Rattle.wait_queue.specs.declared.types.Piece.{Piece}
-use Rattle.event_book.specs.BookState.{BookState, is_open_window, is_living, read_waits, piece_for, served_of, after_add, after_put, after_serve}
+use Rattle.event_book.specs.BookState.{BookState, is_open_window, is_living, read_waits, piece_for, served_of}
+use Rattle.event_book.specs.BookState.{after_add, after_put, after_serve}
 use Rattle.event_book.proofs.TableLemmas.{lt_from_test}
 use Rattle.book_calls.specs.Calls.{Making, Add, Put, Ask, Serve, CanMake, made, Answers, if_answered, given}
 use Rattle.book_calls.proofs.Trails.{IsMade, none_made, one_made}
@@ -30,7 +32,8 @@ use Rattle.core_events.specs.declared.response.FeedKind.TheVariants.{Events, Por
 use Rattle.core_events.specs.declared.response.Response.{Response}
 use Rattle.core_events.specs.Putting.{put_one, put_all, is_ending, put_if_lives, put_living, ending}
 use Rattle.core_events.specs.Responses.{feed_at, errors}
-use Rattle.core_events.specs.Serving.{response_to, then_served, served_most, book_served_most, served_all, book_served_all}
+use Rattle.core_events.specs.Serving.{response_to, then_served, served_most, book_served_most, served_all}
+use Rattle.core_events.specs.Serving.{book_served_all}
 use Rattle.core_events.specs.Waits.{is_of_fid, is_of_window, clunked, deletions}
 use Rattle.core_events.proofs.Turns.{idle, book_none_more}
 use Rattle.core_parts.specs.declared.kind.Kind.{Kind}
@@ -39,10 +42,12 @@ use Rattle.core_parts.specs.Doing.{Doing}
 use Rattle.core_parts.specs.Kinds.{conn_of}
 use Rattle.plumb_ports.specs.PortsState.{PortsState, served_of as port_served_of, after_serve as after_port_serve}
 use Rattle.core_events.specs.PortAsking.{port_said}
-use Rattle.core_events.specs.PortServing.{then_served as then_port_served, served_most as ports_served_most, ports_served}
+use Rattle.core_events.specs.PortServing.{then_served as then_port_served, served_most as ports_served_most}
+use Rattle.core_events.specs.PortServing.{ports_served}
 use Rattle.core_steps.specs.declared.reading.PortRead.{PortRead}
 use Rattle.core_steps.specs.PortReads.{port_read_of, if_port_said, asked_said}
-use Rattle.core_steps.specs.Stages.{asker_of, if_said, answer_said, answer_book, message_said, message_book, acted, with_fid, read_tables, read_book, put_book, grown_book, open_ports, said}
+use Rattle.core_steps.specs.Stages.{asker_of, if_said, answer_said, answer_book, message_said, message_book, acted}
+use Rattle.core_steps.specs.Stages.{with_fid, read_tables, read_book, put_book, grown_book, open_ports, said}
 use Rattle.core_parts.specs.States.{Present, next_entry}
 use Rattle.event_laws.specs.Rreads.{Rread, rread_on, rread_in, rreads_of}
 use Rattle.event_laws.specs.Laws.{rread_to}
@@ -52,7 +57,8 @@ use Rattle.event_laws.specs.Laws.{rread_to}
 pub rreads_append : (at : ℕ) (xs ys : List Response) → rreads_of at (xs ++ ys) ≡ rreads_of at xs ++ rreads_of at ys
 rreads_append at [] ys = refl
 rreads_append at (x ∷ xs) ys =
-    ap (λ (l : List Rread). rread_in at x.feed x.message.body ++ l) (rreads_append at xs ys) ∙ sym (append_assoc (rread_in at x.feed x.message.body) (rreads_of at xs) (rreads_of at ys))
+    ap (λ (l : List Rread). rread_in at x.feed x.message.body ++ l) (rreads_append at xs ys)
+    ∙ sym (append_assoc (rread_in at x.feed x.message.body) (rreads_of at xs) (rreads_of at ys))
 
 map_append : (f : Asker × Piece → Rread) (xs ys : Answers) → map f (xs ++ ys) ≡ map f xs ++ map f ys
 map_append f [] ys = refl
@@ -69,7 +75,8 @@ refused_in at (Some feed) text = refused_on at feed.kind feed.opening text
 
 no_errors : (at : ℕ) (x : Refusal) (t : Tables) (ws : List Waiting) → rreads_of at (errors x t ws) ≡ []
 no_errors at x t [] = refl
-no_errors at x t (w ∷ ws) = ap (λ (l : List Rread). l ++ rreads_of at (errors x t ws)) (refused_in at (feed_at t w) (refusal_text x)) ∙ no_errors at x t ws
+no_errors at x t (w ∷ ws) = ap (λ (l : List Rread). l ++ rreads_of at (errors x t ws))
+    (refused_in at (feed_at t w) (refusal_text x)) ∙ no_errors at x t ws
 
 no_clunked : (at : ℕ) (t : Tables) (conn : ℕ) (e : Effect) → rreads_of at (clunked t conn e) ≡ []
 no_clunked at t conn effect.Nothing = refl
@@ -81,7 +88,8 @@ no_deletions : (at : ℕ) (t : Tables) (ws : List ℕ) → rreads_of at (deletio
 no_deletions at t [] = refl
 no_deletions at t (w ∷ ws) =
     rreads_append at (errors refusal.WindowDeleted t (filter (is_of_window t w) t.waiting)) (deletions t ws)
-    ∙ ap (λ (l : List Rread). l ++ rreads_of at (deletions t ws)) (no_errors at refusal.WindowDeleted t (filter (is_of_window t w) t.waiting))
+    ∙ ap (λ (l : List Rread). l ++ rreads_of at (deletions t ws)) (no_errors at refusal.WindowDeleted t
+    (filter (is_of_window t w) t.waiting))
     ∙ no_deletions at t ws
 
 -- what reads of ports are answered is none of an event file
@@ -93,14 +101,16 @@ no_asked : (at : ℕ) (t : Tables) (p : PortsState) (o : Option PortRead) → rr
 no_asked at t p None = refl
 no_asked at t p (Some read) = no_port at read.asker (port_said t p read.asker)
 
-no_then : (at : ℕ) (o : Option (Asker × Piece)) (rest : List Response) → rreads_of at rest ≡ [] → rreads_of at (then_port_served o rest) ≡ []
+no_then : (at : ℕ) (o : Option (Asker × Piece)) (rest : List Response) → rreads_of at rest ≡ []
+    → rreads_of at (then_port_served o rest) ≡ []
 no_then at None rest h = refl
 no_then at (Some x) rest h = h
 
 no_ports_most : (at n : ℕ) (p : PortsState) → rreads_of at (ports_served_most n p) ≡ []
 unfolding ports_served_most
 no_ports_most at zero p = refl
-no_ports_most at (suc n) p = no_then at (port_served_of p) (ports_served_most n (after_port_serve p)) (no_ports_most at n (after_port_serve p))
+no_ports_most at (suc n) p = no_then at (port_served_of p) (ports_served_most n (after_port_serve p))
+    (no_ports_most at n (after_port_serve p))
 
 no_ports : (at : ℕ) (p : PortsState) → rreads_of at (ports_served p) ≡ []
 no_ports at p = no_ports_most at (length p.reads) p
@@ -117,7 +127,8 @@ module _ (at : ℕ) (first : BookState) where
   W heard s = Walks at first heard s
 
   -- a call, and what it gives is said
-  walk_more : (heard more : List Response) (s : BookState) (c : Making) → W heard s → CanMake s c → map (rread_to at) (given s c) ≡ rreads_of at more → W (heard ++ more) (made at s c)
+  walk_more : (heard more : List Response) (s : BookState) (c : Making) → W heard s → CanMake s c
+      → map (rread_to at) (given s c) ≡ rreads_of at more → W (heard ++ more) (made at s c)
   walk_more heard more s c w can tells = record {
     answers = w.answers ++ given s c;
     makes = one_made at first w.answers s c w.makes can;
@@ -139,16 +150,19 @@ module _ (at : ℕ) (first : BookState) where
   }
 
   -- a call that gives nothing
-  walk_quiet : (heard : List Response) (s : BookState) (c : Making) → W heard s → CanMake s c → given s c ≡ [] → W heard (made at s c)
+  walk_quiet : (heard : List Response) (s : BookState) (c : Making) → W heard s → CanMake s c → given s c ≡ []
+      → W heard (made at s c)
   walk_quiet heard s c w can none =
-      subst (λ (l : List Response). W l (made at s c)) (append-nil heard) (walk_more heard [] s c w can (ap (λ (g : Answers). map (rread_to at) g) none))
+      subst (λ (l : List Response). W l (made at s c)) (append-nil heard)
+      (walk_more heard [] s c w can (ap (λ (g : Answers). map (rread_to at) g) none))
 
   -- ---- an opening, and items
 
   walk_opened : (heard : List Response) (s : BookState) (e : EventChange) → W heard s → W heard (opened s e)
   walk_opened heard s events.Nothing w = w
   walk_opened heard s (events.Opens v) w =
-      (elim (nat_lt (length s.owners) 4294967295) as (λ t. nat_lt (length s.owners) 4294967295 ≡ t → W heard (cond t (after_add s v) s)) [
+      (elim (nat_lt (length s.owners) 4294967295) as (λ t. nat_lt (length s.owners) 4294967295 ≡ t → W heard
+      (cond t (after_add s v) s)) [
         | true ↦ λ e. walk_quiet heard s (Add v) w (lt_from_test (length s.owners) 4294967295 e) refl
         | false ↦ λ e. w
       ]) refl
@@ -157,7 +171,8 @@ module _ (at : ℕ) (first : BookState) where
 
   walk_put : (heard : List Response) (s : BookState) (i : WindowItem) → W heard s → W heard (put_one s i)
   walk_put heard s i w =
-      (elim (is_open_window s i.window) as (λ t. is_open_window s i.window ≡ t → W heard (cond t (after_put s i.window i.item) s)) [
+      (elim (is_open_window s i.window) as (λ t. is_open_window s i.window ≡ t → W heard
+      (cond t (after_put s i.window i.item) s)) [
         | true ↦ λ e. walk_quiet heard s (Put i.window i.item) w e refl
         | false ↦ λ e. w
       ]) refl
@@ -166,7 +181,8 @@ module _ (at : ℕ) (first : BookState) where
   walk_all heard s [] w = w
   walk_all heard s (i ∷ items) w = walk_all heard (put_one s i) items (walk_put heard s i w)
 
-  walk_living : (deleted : List ℕ) (heard : List Response) (s : BookState) (items : List WindowItem) → W heard s → W heard (put_living deleted s items)
+  walk_living : (deleted : List ℕ) (heard : List Response) (s : BookState) (items : List WindowItem) → W heard s
+      → W heard (put_living deleted s items)
   walk_living deleted heard s [] w = w
   walk_living deleted heard s (i ∷ items) w =
       walk_living deleted heard (put_if_lives deleted s i) items
@@ -177,49 +193,70 @@ module _ (at : ℕ) (first : BookState) where
 
   -- ---- a read of a message
 
-  walk_refused : (heard : List Response) (s : BookState) (conn tag opening : ℕ) (x : Refusal) → W heard s → W (heard ++ if_said conn tag opening (Some (r.Error (refusal_text x)))) s
-  walk_refused heard s conn tag opening x w = walk_silent heard (if_said conn tag opening (Some (r.Error (refusal_text x)))) s w refl
+  walk_refused : (heard : List Response) (s : BookState) (conn tag opening : ℕ) (x : Refusal) → W heard s
+      → W (heard ++ if_said conn tag opening (Some (r.Error (refusal_text x)))) s
+  walk_refused heard s conn tag opening x w = walk_silent heard (if_said conn tag opening
+      (Some (r.Error (refusal_text x)))) s w refl
 
-  walk_waits : (full : Bool) (heard : List Response) (s : BookState) (conn tag opening count : ℕ) → is_living s opening ≡ true → read_waits s (asker_of conn tag opening count) ≡ true → W heard s
-      → W (heard ++ if_said conn tag opening (said_to full Waits)) (book_asked full Waits s (asker_of conn tag opening count) at)
-  walk_waits true heard s conn tag opening count living waits w = walk_refused heard s conn tag opening refusal.TooManyWaitingReads w
+  walk_waits : (full : Bool) (heard : List Response) (s : BookState) (conn tag opening count : ℕ)
+      → is_living s opening ≡ true → read_waits s (asker_of conn tag opening count) ≡ true → W heard s
+      → W (heard ++ if_said conn tag opening (said_to full Waits))
+      (book_asked full Waits s (asker_of conn tag opening count) at)
+  walk_waits true heard s conn tag opening count living waits w = walk_refused heard s conn tag opening
+      refusal.TooManyWaitingReads w
   walk_waits false heard s conn tag opening count living waits w =
       let a : Asker = asker_of conn tag opening count in
-      walk_more heard [] s (Ask a) w living (ap (λ (b : Bool). map (rread_to at) (cond b [] ((a, piece_for s a) ∷ []))) waits)
+      walk_more heard [] s (Ask a) w living (ap (λ (b : Bool). map (rread_to at) (cond b [] ((a, piece_for s a) ∷ [])))
+      waits)
 
-  walk_now : (full : Bool) (heard : List Response) (s : BookState) (conn tag opening count : ℕ) → is_living s opening ≡ true → read_waits s (asker_of conn tag opening count) ≡ false → W heard s
-      → W (heard ++ if_said conn tag opening (said_to full (Now (piece_for s (asker_of conn tag opening count))))) (book_asked full (Now (piece_for s (asker_of conn tag opening count))) s (asker_of conn tag opening count) at)
+  walk_now : (full : Bool) (heard : List Response) (s : BookState) (conn tag opening count : ℕ)
+      → is_living s opening ≡ true → read_waits s (asker_of conn tag opening count) ≡ false → W heard s
+      → W (heard ++ if_said conn tag opening (said_to full (Now (piece_for s (asker_of conn tag opening count)))))
+      (book_asked full (Now (piece_for s (asker_of conn tag opening count))) s (asker_of conn tag opening count) at)
   walk_now full heard s conn tag opening count living now w =
       let a : Asker = asker_of conn tag opening count in
-      walk_more heard (if_said conn tag opening (Some (r.Read (piece_for s a).bytes))) s (Ask a) w living (ap (λ (b : Bool). map (rread_to at) (cond b [] ((a, piece_for s a) ∷ []))) now)
+      walk_more heard (if_said conn tag opening (Some (r.Read (piece_for s a).bytes))) s (Ask a) w living
+      (ap (λ (b : Bool). map (rread_to at) (cond b [] ((a, piece_for s a) ∷ []))) now)
 
-  walk_asked : (full : Bool) (heard : List Response) (s : BookState) (conn tag opening count : ℕ) → is_living s opening ≡ true → W heard s
-      → W (heard ++ if_said conn tag opening (said_to full (cond (read_waits s (asker_of conn tag opening count)) Waits (Now (piece_for s (asker_of conn tag opening count))))))
-      (book_asked full (cond (read_waits s (asker_of conn tag opening count)) Waits (Now (piece_for s (asker_of conn tag opening count)))) s (asker_of conn tag opening count) at)
+  walk_asked : (full : Bool) (heard : List Response) (s : BookState) (conn tag opening count : ℕ)
+      → is_living s opening ≡ true → W heard s
+      → W (heard ++ if_said conn tag opening (said_to full (cond (read_waits s (asker_of conn tag opening count)) Waits
+      (Now (piece_for s (asker_of conn tag opening count))))))
+      (book_asked full (cond (read_waits s (asker_of conn tag opening count)) Waits
+      (Now (piece_for s (asker_of conn tag opening count)))) s (asker_of conn tag opening count) at)
   walk_asked full heard s conn tag opening count living w =
       let a : Asker = asker_of conn tag opening count in
-      (elim (read_waits s a) as (λ b. read_waits s a ≡ b → W (heard ++ if_said conn tag opening (said_to full (cond b Waits (Now (piece_for s a))))) (book_asked full (cond b Waits (Now (piece_for s a))) s a at)) [
+      (elim (read_waits s a) as (λ b. read_waits s a ≡ b → W (heard ++ if_said conn tag opening
+      (said_to full (cond b Waits (Now (piece_for s a))))) (book_asked full (cond b Waits (Now (piece_for s a))) s a
+      at)) [
         | true ↦ λ e. walk_waits full heard s conn tag opening count living e w
         | false ↦ λ e. walk_now full heard s conn tag opening count living e w
       ]) refl
 
   walk_read : (t : Tables) (heard : List Response) (s : BookState) (conn tag opening count : ℕ) → W heard s
-      → W (heard ++ if_said conn tag opening (read_said t s (asker_of conn tag opening count))) (book_read t s (asker_of conn tag opening count) at)
+      → W (heard ++ if_said conn tag opening (read_said t s (asker_of conn tag opening count)))
+      (book_read t s (asker_of conn tag opening count) at)
   walk_read t heard s conn tag opening count w =
       let a : Asker = asker_of conn tag opening count in
       let asked : Asked = cond (read_waits s a) Waits (Now (piece_for s a)) in
-      (elim (is_living s opening) as (λ l. is_living s opening ≡ l → W (heard ++ if_said conn tag opening (cond l (said_to (reads_are_full t conn) asked) (Some (r.Error (refusal_text refusal.WindowDeleted))))) (cond l (book_asked (reads_are_full t conn) asked s a at) s)) [
+      (elim (is_living s opening) as (λ l. is_living s opening ≡ l →
+      W (heard ++ if_said conn tag opening (cond l (said_to (reads_are_full t conn) asked)
+      (Some (r.Error (refusal_text refusal.WindowDeleted))))) (cond l
+      (book_asked (reads_are_full t conn) asked s a at) s)) [
         | true ↦ λ living. walk_asked (reads_are_full t conn) heard s conn tag opening count living w
         | false ↦ λ dead. walk_refused heard s conn tag opening refusal.WindowDeleted w
       ]) refl
 
-  walk_answer : (t : Tables) (heard : List Response) (s : BookState) (conn tag : ℕ) (a : Option Answer) → W heard s → W (heard ++ answer_said t s conn tag a) (answer_book t s conn tag a at)
+  walk_answer : (t : Tables) (heard : List Response) (s : BookState) (conn tag : ℕ) (a : Option Answer) → W heard s
+      → W (heard ++ answer_said t s conn tag a) (answer_book t s conn tag a at)
   walk_answer t heard s conn tag None w = walk_silent heard [] s w refl
-  walk_answer t heard s conn tag (Some (Says body)) w = walk_silent heard (answer_said t s conn tag (Some (Says body))) s w refl
+  walk_answer t heard s conn tag (Some (Says body)) w = walk_silent heard (answer_said t s conn tag (Some (Says body)))
+      s w refl
   walk_answer t heard s conn tag (Some (Reads fid opening count)) w = walk_read t heard s conn tag opening count w
   walk_answer t heard s conn tag (Some (ReadsPort fid opening count)) w = walk_silent heard [] s w refl
 
-  walk_message : (t : Tables) (heard : List Response) (s : BookState) (k : Kind) (a : Option Answer) → W heard s → W (heard ++ message_said t s k a) (message_book t s k a at)
+  walk_message : (t : Tables) (heard : List Response) (s : BookState) (k : Kind) (a : Option Answer) → W heard s
+      → W (heard ++ message_said t s k a) (message_book t s k a at)
   walk_message t heard s (kind.Dials conn) a w = walk_silent heard [] s w refl
   walk_message t heard s (kind.Asks conn tag) a w = walk_answer t heard s conn tag a w
   walk_message t heard s (kind.Ends conn why) a w = walk_silent heard [] s w refl
@@ -229,19 +266,25 @@ module _ (at : ℕ) (first : BookState) where
   -- ---- reads that waited
 
   walk_next : (n : ℕ) (heard : List Response) (s : BookState) (x : Option (Asker × Piece)) → served_of s ≡ x → W heard s
-      → ((more : List Response) → W more (after_serve s at) → W (more ++ served_most n at (after_serve s at)) (book_served_most n at (after_serve s at)))
+      → ((more : List Response) → W more (after_serve s at) → W (more ++ served_most n at (after_serve s at))
+      (book_served_most n at (after_serve s at)))
       → W (heard ++ then_served x (served_most n at (after_serve s at))) (book_served_most n at (after_serve s at))
   walk_next n heard s None e w rest =
-      let stays : book_served_most n at (after_serve s at) ≡ s = ap (λ (t : BookState). book_served_most n at t) (idle at s e) ∙ book_none_more n at s e in
+      let stays : book_served_most n at (after_serve s at) ≡ s = ap (λ (t : BookState). book_served_most n at t)
+      (idle at s e) ∙ book_none_more n at s e in
       subst (λ (t : BookState). W (heard ++ []) t) (sym stays) (walk_silent heard [] s w refl)
   walk_next n heard s (Some x) e w rest =
-      subst (λ (l : List Response). W l (book_served_most n at (after_serve s at))) (append_assoc heard (response_to x ∷ []) (served_most n at (after_serve s at)))
-      (rest (heard ++ response_to x ∷ []) (walk_more heard (response_to x ∷ []) s Serve w tt (ap (λ (o : Option (Asker × Piece)). map (rread_to at) (if_answered o)) e)))
+      subst (λ (l : List Response). W l (book_served_most n at (after_serve s at)))
+      (append_assoc heard (response_to x ∷ []) (served_most n at (after_serve s at)))
+      (rest (heard ++ response_to x ∷ []) (walk_more heard (response_to x ∷ []) s Serve w tt
+      (ap (λ (o : Option (Asker × Piece)). map (rread_to at) (if_answered o)) e)))
 
-  walk_most : (n : ℕ) (heard : List Response) (s : BookState) → W heard s → W (heard ++ served_most n at s) (book_served_most n at s)
+  walk_most : (n : ℕ) (heard : List Response) (s : BookState) → W heard s
+      → W (heard ++ served_most n at s) (book_served_most n at s)
   unfolding served_most book_served_most
   walk_most zero heard s w = walk_silent heard [] s w refl
-  walk_most (suc n) heard s w = walk_next n heard s (served_of s) refl w (λ more h. walk_most n more (after_serve s at) h)
+  walk_most (suc n) heard s w = walk_next n heard s (served_of s) refl w
+      (λ more h. walk_most n more (after_serve s at) h)
 
 -- ---- all that an entry makes
 
@@ -257,17 +300,24 @@ grown p k d =
     let put : BookState = put_book p k d in
     let e : List Response = served_all at put in
     let none : Walks at first [] first = record { answers = []; makes = none_made at first; tells = refl } in
-    let clunks : Walks at first a first = walk_silent at first [] a first none (no_clunked at p.tables (conn_of k) d.effect) in
-    let read : Walks at first (a ++ b) (read_book p k d) = walk_message at first (with_fid p k d) a first k d.answer clunks in
+    let clunks : Walks at first a first = walk_silent at first [] a first none
+    (no_clunked at p.tables (conn_of k) d.effect) in
+    let read : Walks at first (a ++ b) (read_book p k d) = walk_message at first (with_fid p k d) a first k d.answer
+    clunks in
     let puts : Walks at first (a ++ b) put =
-    walk_living at first ends (a ++ b) (opened (read_book p k d) d.events) items (walk_opened at first (a ++ b) (read_book p k d) d.events read)
+    walk_living at first ends (a ++ b) (opened (read_book p k d) d.events) items
+    (walk_opened at first (a ++ b) (read_book p k d) d.events read)
     in
     let q : List Response = asked_said (read_tables p k d) (acted p d).ports (port_read_of k d.answer) in
     let f : List Response = ports_served (open_ports p k d) in
-    let asks : Walks at first ((a ++ b) ++ q) put = walk_silent at first (a ++ b) q put puts (no_asked at (read_tables p k d) (acted p d).ports (port_read_of k d.answer)) in
-    let deletes : Walks at first (((a ++ b) ++ q) ++ c) put = walk_silent at first ((a ++ b) ++ q) c put asks (no_deletions at p.tables ends) in
-    let served : Walks at first ((((a ++ b) ++ q) ++ c) ++ e) (book_served_all at put) = walk_most at first (length put.reads) (((a ++ b) ++ q) ++ c) put deletes in
+    let asks : Walks at first ((a ++ b) ++ q) put = walk_silent at first (a ++ b) q put puts
+    (no_asked at (read_tables p k d) (acted p d).ports (port_read_of k d.answer)) in
+    let deletes : Walks at first (((a ++ b) ++ q) ++ c) put = walk_silent at first ((a ++ b) ++ q) c put asks
+    (no_deletions at p.tables ends) in
+    let served : Walks at first ((((a ++ b) ++ q) ++ c) ++ e) (book_served_all at put) = walk_most at first
+    (length put.reads) (((a ++ b) ++ q) ++ c) put deletes in
     let ported : Walks at first (((((a ++ b) ++ q) ++ c) ++ e) ++ f) (book_served_all at put) =
-    walk_silent at first ((((a ++ b) ++ q) ++ c) ++ e) f (book_served_all at put) served (no_ports at (open_ports p k d))
+    walk_silent at first ((((a ++ b) ++ q) ++ c) ++ e) f (book_served_all at put) served
+    (no_ports at (open_ports p k d))
     in
     walk_all at first (((((a ++ b) ++ q) ++ c) ++ e) ++ f) (book_served_all at put) (ending ends items) ported

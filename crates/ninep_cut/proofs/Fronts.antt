@@ -1,8 +1,11 @@
 -- What stands at the front of bytes.
-use Rattle.std.proofs.Common.{◌≡◌, ◌⊎◌, ℕ, ◌-◌, ◌<◌, ◌≤◌, Bool, true, false, cond, ltb, leb, List, ◌++◌, length, take, replicate, refl, sym, ap, ◌∙◌, subst, arith, inl, inr}
+use Rattle.std.proofs.Common.{◌≡◌, ◌⊎◌, ℕ, ◌-◌, ◌<◌, ◌≤◌, Bool, true, false, cond, ltb, leb, List, ◌++◌, length, take}
+use Rattle.std.proofs.Common.{replicate, refl, sym, ap, ◌∙◌, subst, arith, inl, inr}
 use Rattle.std.specs.Int.{w32, from_le_bytes}
-use Rattle.std.proofs.lemmas.Bool.{and_parts, and_cases, and_from, and_left, and_right, ltb-true, ltb-false, leb-true, leb-false, lt-ltb, le-ltb, le-leb, lt-leb, cases_lt}
-use Rattle.std.proofs.lemmas.List.{length-append, length-take-le, length-replicate, take-append-le, take-append-drop, take-take, take_at, drop_at}
+use Rattle.std.proofs.lemmas.Bool.{and_parts, and_cases, and_from, and_left, and_right, ltb-true, ltb-false, leb-true}
+use Rattle.std.proofs.lemmas.Bool.{leb-false, lt-ltb, le-ltb, le-leb, lt-leb, cases_lt}
+use Rattle.std.proofs.lemmas.List.{length-append, length-take-le, length-replicate, take-append-le, take-append-drop}
+use Rattle.std.proofs.lemmas.List.{take-take, take_at, drop_at}
 use Rattle.ninep_cut.specs.declared.cut.Cut.{Cut}
 use Rattle.ninep_cut.specs.declared.cut.Cut.TheVariants.{Whole, More, Broken}
 use Rattle.ninep_cut.specs.Cuts.{size_of, is_lawful, IsMessage, cut_of, first_of, behind_first}
@@ -22,13 +25,21 @@ lawful : (n : ℕ) → 7 ≤ n → n ≤ 65560 → is_lawful n ≡ true
 lawful n low high = and_from (leb 7 n) (leb n 65560) (le-leb 7 n low) (le-leb n 65560 high)
 
 unlawful : (n : ℕ) → (n < 7) ⊎ (65560 < n) → is_lawful n ≡ false
-unlawful n out = elim out [ inl h ↦ and_left (leb 7 n) (leb n 65560) (lt-leb 7 n h) | inr h ↦ and_right (leb 7 n) (leb n 65560) (lt-leb n 65560 h) ]
+unlawful n out = elim out [
+  | inl h ↦ and_left (leb 7 n) (leb n 65560) (lt-leb 7 n h)
+  | inr h ↦ and_right (leb 7 n)
+      (leb n 65560) (lt-leb n 65560 h)
+]
 
 lawful_parts : (n : ℕ) → is_lawful n ≡ true → (7 ≤ n) × (n ≤ 65560)
 lawful_parts n e = let p = and_parts (leb 7 n) (leb n 65560) e in (leb-true 7 n p.0, leb-true n 65560 p.1)
 
 unlawful_parts : (n : ℕ) → is_lawful n ≡ false → (n < 7) ⊎ (65560 < n)
-unlawful_parts n e = elim (and_cases (leb 7 n) (leb n 65560) e) [ inl h ↦ inl (leb-false 7 n h) | inr h ↦ inr (leb-false n 65560 h) ]
+unlawful_parts n e = elim (and_cases (leb 7 n) (leb n 65560) e) [
+  | inl h ↦ inl (leb-false 7 n h)
+  | inr h ↦ inr
+      (leb-false n 65560 h)
+]
 
 -- ---- what each answer says of the bytes
 
@@ -53,7 +64,8 @@ Means bytes Whole = WholeAt bytes
 Means bytes More = (length bytes < 4) ⊎ ShortAt bytes
 Means bytes (Broken size) = BrokenAt bytes size
 
-means_within : (bytes : List ℕ) → 4 ≤ length bytes → is_lawful (size_of bytes) ≡ true → (b : Bool) → ltb (length bytes) (size_of bytes) ≡ b → Means bytes (cond b More Whole)
+means_within : (bytes : List ℕ) → 4 ≤ length bytes → is_lawful (size_of bytes) ≡ true → (b : Bool)
+    → ltb (length bytes) (size_of bytes) ≡ b → Means bytes (cond b More Whole)
 means_within bytes four l true e =
     let p = lawful_parts (size_of bytes) l in
     inr (record { four = four; least = p.0; most = p.1; short = ltb-true (length bytes) (size_of bytes) e })
@@ -61,12 +73,14 @@ means_within bytes four l false e =
     let p = lawful_parts (size_of bytes) l in
     record { least = p.0; most = p.1; within = ltb-false (length bytes) (size_of bytes) e }
 
-means_size : (bytes : List ℕ) → 4 ≤ length bytes → (b : Bool) → is_lawful (size_of bytes) ≡ b → Means bytes (cond b (cond (ltb (length bytes) (size_of bytes)) More Whole) (Broken (size_of bytes)))
+means_size : (bytes : List ℕ) → 4 ≤ length bytes → (b : Bool) → is_lawful (size_of bytes) ≡ b → Means bytes
+    (cond b (cond (ltb (length bytes) (size_of bytes)) More Whole) (Broken (size_of bytes)))
 means_size bytes four true e = means_within bytes four e (ltb (length bytes) (size_of bytes)) refl
 means_size bytes four false e = record { four = four; told = refl; out = unlawful_parts (size_of bytes) e }
 
 means_length : (bytes : List ℕ) (b : Bool) → ltb (length bytes) 4 ≡ b
-    → Means bytes (cond b More (cond (is_lawful (size_of bytes)) (cond (ltb (length bytes) (size_of bytes)) More Whole) (Broken (size_of bytes))))
+    → Means bytes (cond b More (cond (is_lawful (size_of bytes)) (cond (ltb (length bytes) (size_of bytes)) More Whole)
+    (Broken (size_of bytes))))
 means_length bytes true e = inl (ltb-true (length bytes) 4 e)
 means_length bytes false e = means_size bytes (ltb-false (length bytes) 4 e) (is_lawful (size_of bytes)) refl
 
@@ -87,7 +101,11 @@ broken_at bytes size e = subst (Means bytes) e (means bytes)
 
 pub at_whole : (bytes : List ℕ) → WholeAt bytes → cut_of bytes ≡ Whole
 unfolding cut_of
-at_whole bytes w = rw (le-ltb (length bytes) 4 (omega arith), lawful (size_of bytes) w.least w.most, le-ltb (length bytes) (size_of bytes) w.within) refl
+at_whole bytes w = rw (
+  le-ltb (length bytes) 4 (omega arith),
+  lawful (size_of bytes) w.least w.most,
+  le-ltb (length bytes) (size_of bytes) w.within,
+) refl
 
 pub at_few : (bytes : List ℕ) → length bytes < 4 → cut_of bytes ≡ More
 unfolding cut_of
@@ -95,7 +113,11 @@ at_few bytes h = rw (lt-ltb (length bytes) 4 h) refl
 
 at_short : (bytes : List ℕ) → ShortAt bytes → cut_of bytes ≡ More
 unfolding cut_of
-at_short bytes s = rw (le-ltb (length bytes) 4 s.four, lawful (size_of bytes) s.least s.most, lt-ltb (length bytes) (size_of bytes) s.short) refl
+at_short bytes s = rw (
+  le-ltb (length bytes) 4 s.four,
+  lawful (size_of bytes) s.least s.most,
+  lt-ltb (length bytes) (size_of bytes) s.short,
+) refl
 
 at_broken : (bytes : List ℕ) (size : ℕ) → BrokenAt bytes size → cut_of bytes ≡ Broken size
 unfolding cut_of
@@ -176,7 +198,11 @@ pub stays_broken : StaysBroken
 stays_broken bytes more size e =
     let b = broken_at bytes size e in
     let all = length-append bytes more in
-    at_broken (bytes ++ more) size (record { four = omega arith; told = b.told ∙ sym (size_of-append bytes more b.four); out = b.out })
+    at_broken (bytes ++ more) size (record {
+      four = omega arith;
+      told = b.told ∙ sym (size_of-append bytes more b.four);
+      out = b.out;
+    })
 
 -- ---- for the function that takes a message
 

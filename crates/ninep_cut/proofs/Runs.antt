@@ -17,20 +17,27 @@ pieces_none : (more bytes : List ℕ) → is_whole (cut_of bytes) ≡ false → 
 pieces_none more bytes e = rw (stream-none bytes e) refl
 
 -- a message and what is behind it, with more bytes behind that
-stream-more : (more bytes : List ℕ) → is_whole (cut_of bytes) ≡ true → cut_stream (bytes ++ more) ≡ then_cut (first_of bytes ∷ []) (cut_stream (behind_first bytes ++ more))
+stream-more : (more bytes : List ℕ) → is_whole (cut_of bytes) ≡ true →
+    cut_stream (bytes ++ more) ≡ then_cut (first_of bytes ∷ []) (cut_stream (behind_first bytes ++ more))
 stream-more more bytes e =
     ap (λ (l : List ℕ). cut_stream (l ++ more)) (first_and_behind bytes)
     ∙ ap cut_stream (append_assoc (first_of bytes) (behind_first bytes) more)
-    ∙ stream-message (first_of bytes) (behind_first bytes ++ more) (first_is_message bytes (whole_test (cut_of bytes) e))
+    ∙ stream-message (first_of bytes) (behind_first bytes ++ more)
+    (first_is_message bytes (whole_test (cut_of bytes) e))
 
-pieces_whole : (more bytes : List ℕ) → is_whole (cut_of bytes) ≡ true → IsJoinedBy more (behind_first bytes) (cut_stream (behind_first bytes)) → IsJoinedBy more bytes (cut_stream bytes)
-pieces_whole more bytes e ih = rw (stream-whole bytes e) (stream-more more bytes e ∙ ap (then_cut (first_of bytes ∷ [])) ih)
+pieces_whole : (more bytes : List ℕ) → is_whole (cut_of bytes) ≡ true → IsJoinedBy more (behind_first bytes)
+    (cut_stream (behind_first bytes)) → IsJoinedBy more bytes (cut_stream bytes)
+pieces_whole more bytes e ih = rw (stream-whole bytes e) (stream-more more bytes e
+    ∙ ap (then_cut (first_of bytes ∷ [])) ih)
 
 pub joins_pieces : JoinsPieces
-joins_pieces bytes more = by_messages (λ b. IsJoinedBy more b (cut_stream b)) (pieces_none more) (pieces_whole more) bytes
+joins_pieces bytes more = by_messages (λ b. IsJoinedBy more b (cut_stream b)) (pieces_none more) (pieces_whole more)
+    bytes
 
-then_none : (messages : List (List ℕ)) (rest : List ℕ) → then_cut messages (record { messages = []; rest = rest }) ≡ record { messages = messages; rest = rest }
-then_none messages rest = ap (λ (ms : List (List ℕ)). let s : Stream = record { messages = ms; rest = rest } in s) (append-nil messages)
+then_none : (messages : List (List ℕ)) (rest : List ℕ) → then_cut messages
+    (record { messages = []; rest = rest }) ≡ record { messages = messages; rest = rest }
+then_none messages rest = ap (λ (ms : List (List ℕ)). let s : Stream = record { messages = ms; rest = rest } in s)
+    (append-nil messages)
 
 pub cuts_no_more : CutsNoMore
 cuts_no_more bytes more size e =
@@ -46,7 +53,8 @@ abbrev Gives : List ℕ → Cutting → Type 0
 Gives bytes c = cut_stream bytes ≡ then_cut c.given (cut_stream c.left)
 
 then_then : (ms ns : List (List ℕ)) (s : Stream) → then_cut ms (then_cut ns s) ≡ then_cut (ms ++ ns) s
-then_then ms ns s = ap (λ (l : List (List ℕ)). let t : Stream = record { messages = l; rest = s.rest } in t) (sym (append_assoc ms ns s.messages))
+then_then ms ns s = ap (λ (l : List (List ℕ)). let t : Stream = record { messages = l; rest = s.rest } in t)
+    (sym (append_assoc ms ns s.messages))
 
 gives_feed : (bytes piece : List ℕ) (c : Cutting) → Gives bytes c → Gives (bytes ++ piece) (after_call c (Feed piece))
 gives_feed bytes piece c e =
@@ -58,12 +66,15 @@ gives_feed bytes piece c e =
 
 gives_next : (bytes : List ℕ) (c : Cutting) → Gives bytes c → Gives bytes (after_call c Next)
 gives_next bytes c e =
-    elim (is_whole (cut_of c.left)) as (λ b. is_whole (cut_of c.left) ≡ b → Gives bytes (cond b (record { given = c.given ++ first_of c.left ∷ []; left = behind_first c.left }) c)) [
-      | true ↦ λ w. e ∙ ap (then_cut c.given) (stream-whole c.left w) ∙ then_then c.given (first_of c.left ∷ []) (cut_stream (behind_first c.left))
+    elim (is_whole (cut_of c.left)) as (λ b. is_whole (cut_of c.left) ≡ b → Gives bytes
+    (cond b (record { given = c.given ++ first_of c.left ∷ []; left = behind_first c.left }) c)) [
+      | true ↦ λ w. e ∙ ap (then_cut c.given) (stream-whole c.left w)
+          ∙ then_then c.given (first_of c.left ∷ []) (cut_stream (behind_first c.left))
       | false ↦ λ w. e
     ] refl
 
-gives_calls : (calls : List Call) (bytes : List ℕ) (c : Cutting) → Gives bytes c → Gives (bytes ++ fed calls) (fold after_call c calls)
+gives_calls : (calls : List Call) (bytes : List ℕ) (c : Cutting) → Gives bytes c
+    → Gives (bytes ++ fed calls) (fold after_call c calls)
 gives_calls [] bytes c e = rw (append-nil bytes) e
 gives_calls (Feed piece ∷ calls) bytes c e =
     ap cut_stream (sym (append_assoc bytes piece (fed calls)))

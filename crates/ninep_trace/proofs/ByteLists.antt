@@ -1,5 +1,6 @@
 -- Spellings are lists of bytes.
-use Rattle.std.proofs.Common.{◌≡◌, ℕ, zero, suc, ◌+◌, ◌*◌, ◌/◌, ◌%◌, ◌<◌, ◌≤◌, true, List, [], ◌∷◌, ◌++◌, length, subst, arith, inl, inr, length-append}
+use Rattle.std.proofs.Common.{◌≡◌, ℕ, zero, suc, ◌+◌, ◌*◌, ◌/◌, ◌%◌, ◌<◌, ◌≤◌, true, List, [], ◌∷◌, ◌++◌, length, subst}
+use Rattle.std.proofs.Common.{arith, inl, inr, length-append}
 use Rattle.std.specs.Prelude.{All}
 use Rattle.std.specs.Char.{encode_utf8}
 use Rattle.std.specs.Int.{w16, w32, w64, to_le_bytes}
@@ -76,12 +77,15 @@ encoded_bytes c top =
     elim (cases_lt c 128) [
       | inl h ↦ rw (lt-ltb c 128 h) (bytes_cons c [] (omega arith) no_bytes)
       | inr h ↦ elim (cases_lt c 2048) [
-        | inl k ↦ rw (le-ltb c 128 h, lt-ltb c 2048 k) (two_bytes (192 + c / 64) (128 + c % 64) (omega arith) (omega arith))
+        | inl k ↦ rw (le-ltb c 128 h, lt-ltb c 2048 k) (two_bytes (192 + c / 64) (128 + c % 64) (omega arith)
+            (omega arith))
         | inr k ↦ elim (cases_lt c 65536) [
           | inl m ↦ rw (le-ltb c 128 h, le-ltb c 2048 k, lt-ltb c 65536 m)
-              (three_bytes (224 + c / 4096) (128 + c / 64 % 64) (128 + c % 64) (omega arith) (omega arith) (omega arith))
+              (three_bytes (224 + c / 4096) (128 + c / 64 % 64) (128 + c % 64) (omega arith) (omega arith)
+              (omega arith))
           | inr m ↦ rw (le-ltb c 128 h, le-ltb c 2048 k, le-ltb c 65536 m)
-              (four_bytes (240 + c / 262144) (128 + c / 4096 % 64) (128 + c / 64 % 64) (128 + c % 64) (omega arith) (omega arith) (omega arith) (omega arith))
+              (four_bytes (240 + c / 262144) (128 + c / 4096 % 64) (128 + c / 64 % 64) (128 + c % 64) (omega arith)
+              (omega arith) (omega arith) (omega arith))
         ]
       ]
     ]
@@ -102,16 +106,20 @@ text_bytes bytes e =
     subst AreBytes u.1.1 (all_bytes u.0 u.1.0)
 
 pub string_bytes : (text : List ℕ) → IsString text → AreBytes (string text)
-string_bytes text fits = bytes_append (to_le_bytes w16 (length text)) text (bytes_16 (length text)) (text_bytes text fits.text)
+string_bytes text fits = bytes_append (to_le_bytes w16 (length text)) text (bytes_16 (length text))
+    (text_bytes text fits.text)
 
 strings_bytes : (names : List (List ℕ)) → AllByRecursion IsString names → AreBytes (flat_map string names)
 strings_bytes [] fits = no_bytes
-strings_bytes (name ∷ names) fits = bytes_append (string name) (flat_map string names) (string_bytes name fits.0) (strings_bytes names fits.1)
+strings_bytes (name ∷ names) fits = bytes_append (string name) (flat_map string names) (string_bytes name fits.0)
+    (strings_bytes names fits.1)
 
 pub names_bytes : (names : List (List ℕ)) → AreNames names → AreBytes (listed string names)
-names_bytes names fits = bytes_append (to_le_bytes w16 (length names)) (flat_map string names) (bytes_16 (length names)) (strings_bytes names (recursion_from_All IsString names fits.1))
+names_bytes names fits = bytes_append (to_le_bytes w16 (length names)) (flat_map string names) (bytes_16 (length names))
+    (strings_bytes names (recursion_from_All IsString names fits.1))
 
-strings_short : (names : List (List ℕ)) → AllByRecursion IsString names → length (flat_map string names) ≤ length names * 65538
+strings_short : (names : List (List ℕ)) → AllByRecursion IsString names
+    → length (flat_map string names) ≤ length names * 65538
 strings_short [] fits = omega arith
 strings_short (name ∷ names) fits =
     omega (arith, length-append (string name) (flat_map string names), strings_short names fits.1, fits.0.len)
@@ -129,11 +137,14 @@ pub stat_bytes : (bytes : List ℕ) → AreBytes bytes → AreBytes (counted w16
 stat_bytes bytes h = bytes_append (to_le_bytes w16 (length bytes)) bytes (bytes_16 (length bytes)) h
 
 pub qid_are : (q : Qid) → IsQid q → AreBytes (qid_bytes q)
-qid_are q fits = bytes_cons q.kind (to_le_bytes w32 q.vers ++ to_le_bytes w64 q.path) fits.kind (bytes_append (to_le_bytes w32 q.vers) (to_le_bytes w64 q.path) (bytes_32 q.vers) (bytes_64 q.path))
+qid_are q fits = bytes_cons q.kind (to_le_bytes w32 q.vers ++ to_le_bytes w64 q.path) fits.kind
+    (bytes_append (to_le_bytes w32 q.vers) (to_le_bytes w64 q.path) (bytes_32 q.vers) (bytes_64 q.path))
 
 several_qids_are : (qids : List Qid) → AllByRecursion IsQid qids → AreBytes (flat_map qid_bytes qids)
 several_qids_are [] fits = no_bytes
-several_qids_are (q ∷ qids) fits = bytes_append (qid_bytes q) (flat_map qid_bytes qids) (qid_are q fits.0) (several_qids_are qids fits.1)
+several_qids_are (q ∷ qids) fits = bytes_append (qid_bytes q) (flat_map qid_bytes qids) (qid_are q fits.0)
+    (several_qids_are qids fits.1)
 
 pub qids_are : (qids : List Qid) → All IsQid qids → AreBytes (listed qid_bytes qids)
-qids_are qids fits = bytes_append (to_le_bytes w16 (length qids)) (flat_map qid_bytes qids) (bytes_16 (length qids)) (several_qids_are qids (recursion_from_All IsQid qids fits))
+qids_are qids fits = bytes_append (to_le_bytes w16 (length qids)) (flat_map qid_bytes qids) (bytes_16 (length qids))
+    (several_qids_are qids (recursion_from_All IsQid qids fits))

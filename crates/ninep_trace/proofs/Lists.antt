@@ -5,7 +5,9 @@ use Rattle.std.proofs.lemmas.List.{append-nil, take_more}
 use Rattle.std.proofs.lemmas.Grind.{flat_map-append}
 
 -- one member more
-pub flat_map-take_more : {A : Type 0} (spelled : A → List ℕ) (xs : List A) (i : ℕ) (x : A) → i < length xs → x ≡ get_or xs i x → flat_map spelled (take (i + 1) xs) ≡ flat_map spelled (take i xs) ++ spelled x
-flat_map-take_more spelled xs i x lt e = rw (take_more xs i x lt, ← e, flat_map-append) (ap (λ (l : List ℕ). flat_map spelled (take i xs) ++ l) (append-nil (spelled x)))
+pub flat_map-take_more : {A : Type 0} (spelled : A → List ℕ) (xs : List A) (i : ℕ) (x : A) → i < length xs
+    → x ≡ get_or xs i x → flat_map spelled (take (i + 1) xs) ≡ flat_map spelled (take i xs) ++ spelled x
+flat_map-take_more spelled xs i x lt e = rw (take_more xs i x lt, ← e, flat_map-append)
+    (ap (λ (l : List ℕ). flat_map spelled (take i xs) ++ l) (append-nil (spelled x)))
 
 pub ruleset lists = (flat_map-take_more, append_assoc)

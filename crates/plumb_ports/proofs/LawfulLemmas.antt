@@ -1,19 +1,24 @@
 -- How many messages are kept, and where.
-use Rattle.std.proofs.Common.{◌≡◌, ◌≢◌, ◌==◌, ◌≤◌, ◌<◌, ◌||◌, ℕ, zero, suc, Bool, true, false, cond, not, List, [], ◌∷◌, ◌++◌, length, map, filter, Option, Some, None, refl, sym, ap, ◌∙◌, arith, length-append}
+use Rattle.std.proofs.Common.{◌≡◌, ◌≢◌, ◌==◌, ◌≤◌, ◌<◌, ◌||◌, ℕ, zero, suc, Bool, true, false, cond, not, List, [], ◌∷◌}
+use Rattle.std.proofs.Common.{◌++◌, length, map, filter, Option, Some, None, refl, sym, ap, ◌∙◌, arith, length-append}
 use Rattle.std.proofs.lemmas.Bool.{eqb-true, eq-eqb}
 use Rattle.std.proofs.lemmas.Bool.Decides.{nat_tests}
 use Rattle.std.specs.List.{list_any}
 use Rattle.wait_queue.specs.declared.types.Asker.{Asker}
 use Rattle.plumb_ports.specs.PortList.{Port, named, number_of, with_name, kept_of, with_kept}
-use Rattle.plumb_ports.specs.Inboxes.{Inbox, is_of, is_on, received, delivered, after_piece_from, after_piece, after_read}
-use Rattle.plumb_ports.specs.PortsState.{PortsState, beginning, is_open, is_full, read_waits, next_of, refusal_at, refusal_on, after_join, delivered_at, delivered_on, after_next, after_answer}
+use Rattle.plumb_ports.specs.Inboxes.{Inbox, is_of, is_on, received, delivered, after_piece_from, after_piece}
+use Rattle.plumb_ports.specs.Inboxes.{after_read}
+use Rattle.plumb_ports.specs.PortsState.{PortsState, beginning, is_open, is_full, read_waits, next_of, refusal_at}
+use Rattle.plumb_ports.specs.PortsState.{refusal_on, after_join, delivered_at, delivered_on, after_next, after_answer}
 use Rattle.plumb_ports.specs.declared.fault.PortFault.TheVariants.{Closed, Full}
-use Rattle.plumb_ports.specs.Laws.{Call, Add, Join, Deliver, Ask, Serve, Cancel, Leave, IsAllowed, AreAllowed, after_call, run, IsLawful, StaysLawful}
+use Rattle.plumb_ports.specs.Laws.{Call, Add, Join, Deliver, Ask, Serve, Cancel, Leave, IsAllowed, AreAllowed}
+use Rattle.plumb_ports.specs.Laws.{after_call, run, IsLawful, StaysLawful}
 use Rattle.plumb_ports.proofs.LawLemmas.{kept-with, kept-with_other}
 
 -- ---- which ports are open
 
-port-piece_from : (carry : List ℕ) (ms : List (List ℕ)) (o : Inbox) (n : ℕ) → (after_piece_from carry ms o n).port ≡ o.port
+port-piece_from : (carry : List ℕ) (ms : List (List ℕ)) (o : Inbox) (n : ℕ)
+    → (after_piece_from carry ms o n).port ≡ o.port
 port-piece_from (b ∷ bs) ms o n = refl
 port-piece_from [] (m ∷ ms) o n = refl
 port-piece_from [] [] o n = refl
@@ -23,11 +28,13 @@ port-piece o n =
     elim (n == 0) as (λ b. (cond b o (after_piece_from o.carry o.messages o n)).port ≡ o.port)
     [ true ↦ refl | false ↦ port-piece_from o.carry o.messages o n ]
 
-open-read : (port : ℕ) (os : List Inbox) (x n : ℕ) → list_any (is_on port) (after_read os x n) ≡ list_any (is_on port) os
+open-read : (port : ℕ) (os : List Inbox) (x n : ℕ) → list_any (is_on port) (after_read os x n) ≡ list_any (is_on port)
+    os
 open-read port [] x n = refl
 open-read port (o ∷ os) x n = by (is_of x o) refl (open-read port os x n)
   where
-    by : (b : Bool) → is_of x o ≡ b → list_any (is_on port) (after_read os x n) ≡ list_any (is_on port) os → list_any (is_on port) (after_read (o ∷ os) x n) ≡ list_any (is_on port) (o ∷ os)
+    by : (b : Bool) → is_of x o ≡ b → list_any (is_on port) (after_read os x n) ≡ list_any (is_on port) os
+        → list_any (is_on port) (after_read (o ∷ os) x n) ≡ list_any (is_on port) (o ∷ os)
     by true e later =
         ap (λ b. list_any (is_on port) (cond b (after_piece o n ∷ os) (o ∷ after_read os x n))) e
         ∙ ap (λ m. (m == port) || list_any (is_on port) os) (port-piece o n)
@@ -39,24 +46,29 @@ port-delivered : (port : ℕ) (message : List ℕ) (o : Inbox) → (delivered po
 port-delivered port message o =
     elim (is_on port o) as (λ b. (cond b (received message o) o).port ≡ o.port) [ true ↦ refl | false ↦ refl ]
 
-open-delivered : (other port : ℕ) (message : List ℕ) (os : List Inbox) → list_any (is_on other) (map (delivered port message) os) ≡ list_any (is_on other) os
+open-delivered : (other port : ℕ) (message : List ℕ) (os : List Inbox)
+    → list_any (is_on other) (map (delivered port message) os) ≡ list_any (is_on other) os
 open-delivered other port message [] = refl
 open-delivered other port message (o ∷ os) =
     ap (λ n. (n == other) || list_any (is_on other) (map (delivered port message) os)) (port-delivered port message o)
     ∙ ap (λ b. is_on other o || b) (open-delivered other port message os)
 
 -- an opening that leaves opens no port
-open-left : (port : ℕ) (os : List Inbox) (x : ℕ) → list_any (is_on port) (filter (λ o. not (is_of x o)) os) ≡ true → list_any (is_on port) os ≡ true
+open-left : (port : ℕ) (os : List Inbox) (x : ℕ) → list_any (is_on port) (filter (λ o. not (is_of x o)) os) ≡ true →
+    list_any (is_on port) os ≡ true
 open-left port [] x h = h
 open-left port (o ∷ os) x h = by (is_of x o) refl (is_on port o) refl (open-left port os x)
   where
-    by : (b : Bool) → is_of x o ≡ b → (t : Bool) → is_on port o ≡ t → (list_any (is_on port) (filter (λ p. not (is_of x p)) os) ≡ true → list_any (is_on port) os ≡ true) → list_any (is_on port) (o ∷ os) ≡ true
+    by : (b : Bool) → is_of x o ≡ b → (t : Bool) → is_on port o ≡ t →
+        (list_any (is_on port) (filter (λ p. not (is_of x p)) os) ≡ true → list_any (is_on port) os ≡ true)
+        → list_any (is_on port) (o ∷ os) ≡ true
     by b e true f later = rw f
     by true e false f later = rw f (later (rw e at h))
     by false e false f later = rw f (later (rw f at (rw e at h)))
 
 -- one that joins opens its port alone
-open-joined : (other port : ℕ) (os : List Inbox) (new : Inbox) → new.port ≡ port → other ≢ port → list_any (is_on other) (os ++ new ∷ []) ≡ true → list_any (is_on other) os ≡ true
+open-joined : (other port : ℕ) (os : List Inbox) (new : Inbox) → new.port ≡ port → other ≢ port
+    → list_any (is_on other) (os ++ new ∷ []) ≡ true → list_any (is_on other) os ≡ true
 open-joined other port [] new e d h = by (is_on other new) refl
   where
     by : (b : Bool) → is_on other new ≡ b → list_any (is_on other) [] ≡ true
@@ -64,7 +76,8 @@ open-joined other port [] new e d h = by (is_on other new) refl
     by false f = let bad : false ≡ true = rw f at h in cc
 open-joined other port (o ∷ os) new e d h = by (is_on other o) refl (open-joined other port os new e d)
   where
-    by : (b : Bool) → is_on other o ≡ b → (list_any (is_on other) (os ++ new ∷ []) ≡ true → list_any (is_on other) os ≡ true) → list_any (is_on other) (o ∷ os) ≡ true
+    by : (b : Bool) → is_on other o ≡ b → (list_any (is_on other) (os ++ new ∷ []) ≡ true → list_any (is_on other)
+        os ≡ true) → list_any (is_on other) (o ∷ os) ≡ true
     by true f later = rw f
     by false f later = rw f (later (rw f at h))
 
@@ -77,12 +90,14 @@ kept-added (p ∷ ps) name zero = refl
 kept-added (p ∷ ps) name (suc port) = kept-added ps name port
 
 -- a port that is written keeps that, if it is there
-kept-set : (ps : List Port) (port : ℕ) (messages : List (List ℕ)) → length messages ≤ 64 → length (kept_of (with_kept ps port messages) port) ≤ 64
+kept-set : (ps : List Port) (port : ℕ) (messages : List (List ℕ)) → length messages ≤ 64
+    → length (kept_of (with_kept ps port messages) port) ≤ 64
 kept-set [] port messages l = omega arith
 kept-set (p ∷ ps) zero messages l = l
 kept-set (p ∷ ps) (suc port) messages l = kept-set ps port messages l
 
-kept-set_other : (ps : List Port) (port other : ℕ) (messages : List (List ℕ)) → other ≢ port → kept_of (with_kept ps port messages) other ≡ kept_of ps other
+kept-set_other : (ps : List Port) (port other : ℕ) (messages : List (List ℕ)) → other ≢ port
+    → kept_of (with_kept ps port messages) other ≡ kept_of ps other
 kept-set_other [] port other messages d = refl
 kept-set_other (p ∷ ps) zero zero messages d = absurd (d refl)
 kept-set_other (p ∷ ps) zero (suc other) messages d = refl
@@ -94,7 +109,8 @@ apart a b e g = let t : (a == b) ≡ true = eq-eqb a b g in let bad : true ≡ f
 
 -- ---- each call
 
-lawful-add : (s : PortsState) (number : Option ℕ) (name : List ℕ) → IsLawful s → IsLawful (record s { ports = with_name number s.ports name })
+lawful-add : (s : PortsState) (number : Option ℕ) (name : List ℕ) → IsLawful s
+    → IsLawful (record s { ports = with_name number s.ports name })
 lawful-add s None name h = record {
   few = λ port. rw (kept-added s.ports name port) (h.few port);
   none = λ port e. kept-added s.ports name port ∙ h.none port e;
@@ -113,26 +129,31 @@ lawful-join s port opening h = record {
     few : (other : ℕ) (b : Bool) → (other == port) ≡ b → length (kept_of (with_kept s.ports port []) other) ≤ 64
     few other true e =
         let same : other ≡ port = eqb-true other port e in
-        let here : kept_of (with_kept s.ports port []) other ≡ [] = ap (kept_of (with_kept s.ports port [])) same ∙ kept-with s.ports port in
+        let here : kept_of (with_kept s.ports port []) other ≡ [] = ap (kept_of (with_kept s.ports port [])) same
+        ∙ kept-with s.ports port in
         rw here (omega arith)
     few other false e = rw (kept-with_other s.ports port other (apart other port e)) (h.few other)
 
-    none : (other : ℕ) → list_any (is_on other) (s.openings ++ new ∷ []) ≡ true → (b : Bool) → (other == port) ≡ b → kept_of (with_kept s.ports port []) other ≡ []
+    none : (other : ℕ) → list_any (is_on other) (s.openings ++ new ∷ []) ≡ true → (b : Bool)
+        → (other == port) ≡ b → kept_of (with_kept s.ports port []) other ≡ []
     none other o true e = ap (kept_of (with_kept s.ports port [])) (eqb-true other port e) ∙ kept-with s.ports port
     none other o false e =
         let d : other ≢ port = apart other port e in
         kept-with_other s.ports port other d ∙ h.none other (open-joined other port s.openings new refl d o)
 
 -- a message that isn't refused finds fewer than 64 kept, or an opening
-room-at : (s : PortsState) (port : ℕ) (keep : Bool) → is_open s port ≡ false → refusal_at s port keep ≡ None → length (kept_of s.ports port) < 64
+room-at : (s : PortsState) (port : ℕ) (keep : Bool) → is_open s port ≡ false → refusal_at s port keep ≡ None →
+    length (kept_of s.ports port) < 64
 room-at s port keep e a = by keep (rw e at a) (is_full s port) refl
   where
-    by : (k : Bool) → cond (not k) (Some Closed) (cond (is_full s port) (Some Full) None) ≡ None → (b : Bool) → is_full s port ≡ b → length (kept_of s.ports port) < 64
+    by : (k : Bool) → cond (not k) (Some Closed) (cond (is_full s port) (Some Full) None) ≡ None → (b : Bool)
+        → is_full s port ≡ b → length (kept_of s.ports port) < 64
     by false r b f = cc
     by true r true f = let bad : Some Full ≡ None = rw f at r in cc
     by true r false f = grind (arith, nat_tests)
 
-lawful-deliver_at : (s : PortsState) (port : ℕ) (message : List ℕ) (keep : Bool) → refusal_at s port keep ≡ None → IsLawful s → IsLawful (delivered_at s port message)
+lawful-deliver_at : (s : PortsState) (port : ℕ) (message : List ℕ) (keep : Bool)
+    → refusal_at s port keep ≡ None → IsLawful s → IsLawful (delivered_at s port message)
 lawful-deliver_at s port message keep a h = by (is_open s port) refl
   where
     more : List (List ℕ)
@@ -144,11 +165,13 @@ lawful-deliver_at s port message keep a h = by (is_open s port) refl
     copied : PortsState
     copied = record s { openings = map (delivered port message) s.openings }
 
-    few : length more ≤ 64 → (other : ℕ) (b : Bool) → (other == port) ≡ b → length (kept_of (with_kept s.ports port more) other) ≤ 64
+    few : length more ≤ 64 → (other : ℕ) (b : Bool) → (other == port) ≡ b →
+        length (kept_of (with_kept s.ports port more) other) ≤ 64
     few l other true e = rw (eqb-true other port e) (kept-set s.ports port more l)
     few l other false e = rw (kept-set_other s.ports port other more (apart other port e)) (h.few other)
 
-    none : is_open s port ≡ false → (other : ℕ) → is_open s other ≡ true → (b : Bool) → (other == port) ≡ b → kept_of (with_kept s.ports port more) other ≡ []
+    none : is_open s port ≡ false → (other : ℕ) → is_open s other ≡ true → (b : Bool)
+        → (other == port) ≡ b → kept_of (with_kept s.ports port more) other ≡ []
     none c other o true e =
         let bad : true ≡ false = sym o ∙ ap (is_open s) (eqb-true other port e) ∙ c in cc
     none c other o false e = kept-set_other s.ports port other more (apart other port e) ∙ h.none other o
@@ -159,13 +182,18 @@ lawful-deliver_at s port message keep a h = by (is_open s port) refl
       none = λ other o. h.none other (sym (open-delivered other port message s.openings) ∙ o);
     })
     by false e =
-        let l : length more ≤ 64 = omega (arith, room-at s port keep e a, length-append (kept_of s.ports port) (message ∷ [])) in
+        let l : length more ≤ 64 = omega (
+          arith,
+          room-at s port keep e a,
+          length-append (kept_of s.ports port) (message ∷ []),
+        ) in
         rw e (record {
           few = λ other. few l other (other == port) refl;
           none = λ other o. none e other o (other == port) refl;
         })
 
-lawful-deliver : (s : PortsState) (number : Option ℕ) (message : List ℕ) (keep : Bool) → refusal_on number s keep ≡ None → IsLawful s → IsLawful (delivered_on number s message)
+lawful-deliver : (s : PortsState) (number : Option ℕ) (message : List ℕ) (keep : Bool)
+    → refusal_on number s keep ≡ None → IsLawful s → IsLawful (delivered_on number s message)
 lawful-deliver s None message keep a h = h
 lawful-deliver s (Some port) message keep a h = lawful-deliver_at s port message keep a h
 
@@ -175,7 +203,8 @@ lawful-answer s r h = record {
   none = λ port o. h.none port (sym (open-read port s.openings r.opening r.count) ∙ o);
 }
 
-lawful-ask : (s : PortsState) (r : Asker) (b : Bool) → IsLawful s → IsLawful (cond b (record s { reads = s.reads ++ r ∷ [] }) (after_answer s r))
+lawful-ask : (s : PortsState) (r : Asker) (b : Bool) → IsLawful s →
+    IsLawful (cond b (record s { reads = s.reads ++ r ∷ [] }) (after_answer s r))
 lawful-ask s r true h = record { few = h.few; none = h.none }
 lawful-ask s r false h = lawful-answer s r h
 

@@ -1,5 +1,6 @@
 -- What the table of openings shows after each change.
-use Rattle.std.proofs.Common.{◌≡◌, ℕ, zero, suc, ◌<◌, ◌≤◌, Bool, true, false, cond, not, List, [], ◌∷◌, length, get_or, set, take, map, filter, Some, None, refl, sym, ap, ◌∙◌, arith, length-take, take_all}
+use Rattle.std.proofs.Common.{◌≡◌, ℕ, zero, suc, ◌<◌, ◌≤◌, Bool, true, false, cond, not, List, [], ◌∷◌, length, get_or}
+use Rattle.std.proofs.Common.{set, take, map, filter, Some, None, refl, sym, ap, ◌∙◌, arith, length-take, take_all}
 use Rattle.std.proofs.lemmas.List.{length-map}
 use Rattle.std.proofs.lemmas.Bool.Decides.{nat_tests}
 use Rattle.std.proofs.lemmas.List.Quantifiers.{position-Some}
@@ -13,56 +14,85 @@ use Rattle.plumb_ports.proofs.EachLemmas.{map-set, map-take}
 abbrev pub has : ℕ → Twice Inbox → Bool
 has opening q = is_of opening (present_of q)
 
-none_has : (qs : List (Twice Inbox)) (opening : ℕ) → position (has opening) qs ≡ None → (k : ℕ) (d : Twice Inbox) → k < length qs → has opening (get_or qs k d) ≡ false
+none_has : (qs : List (Twice Inbox)) (opening : ℕ) → position (has opening) qs ≡ None → (k : ℕ) (d : Twice Inbox)
+    → k < length qs → has opening (get_or qs k d) ≡ false
 none_has qs opening h k d l = fails_before_first (has opening) qs k d (grind (arith, nat_tests))
 
-inbox_missing : (qs : List (Twice Inbox)) (opening : ℕ) → ((k : ℕ) (d : Twice Inbox) → k < length qs → has opening (get_or qs k d) ≡ false) → inbox_of (map present_of qs) opening ≡ blank opening 0
+inbox_missing : (qs : List (Twice Inbox)) (opening : ℕ) → ((k : ℕ) (d : Twice Inbox) → k < length qs
+    → has opening (get_or qs k d) ≡ false) → inbox_of (map present_of qs) opening ≡ blank opening 0
 inbox_missing [] opening h = refl
-inbox_missing (q ∷ qs) opening h = rw (h 0 q (omega arith)) (inbox_missing qs opening (λ k d l. h (suc k) d (omega arith)))
+inbox_missing (q ∷ qs) opening h = rw (h 0 q (omega arith)) (inbox_missing qs opening
+    (λ k d l. h (suc k) d (omega arith)))
 
 -- an opening that isn't there has nothing
-pub inbox-none : (qs : List (Twice Inbox)) (opening : ℕ) → position (has opening) qs ≡ None → inbox_of (map present_of qs) opening ≡ blank opening 0
+pub inbox-none : (qs : List (Twice Inbox)) (opening : ℕ) → position (has opening) qs ≡ None →
+    inbox_of (map present_of qs) opening ≡ blank opening 0
 inbox-none qs opening h = inbox_missing qs opening (none_has qs opening h)
 
-read_missing : (qs : List (Twice Inbox)) (opening count : ℕ) → ((k : ℕ) (d : Twice Inbox) → k < length qs → has opening (get_or qs k d) ≡ false) → after_read (map present_of qs) opening count ≡ map present_of qs
+read_missing : (qs : List (Twice Inbox)) (opening count : ℕ) → ((k : ℕ) (d : Twice Inbox) → k < length qs
+    → has opening (get_or qs k d) ≡ false) → after_read (map present_of qs) opening count ≡ map present_of qs
 read_missing [] opening count h = refl
-read_missing (q ∷ qs) opening count h = rw (h 0 q (omega arith)) (ap (λ os. present_of q ∷ os) (read_missing qs opening count (λ k d l. h (suc k) d (omega arith))))
+read_missing (q ∷ qs) opening count h = rw (h 0 q (omega arith)) (ap (λ os. present_of q ∷ os)
+    (read_missing qs opening count (λ k d l. h (suc k) d (omega arith))))
 
-inbox_found : (qs : List (Twice Inbox)) (opening k : ℕ) (d : Twice Inbox) → k < length qs → has opening (get_or qs k d) ≡ true → ((j : ℕ) → j < k → has opening (get_or qs j d) ≡ false) → inbox_of (map present_of qs) opening ≡ present_of (get_or qs k d)
+inbox_found : (qs : List (Twice Inbox)) (opening k : ℕ) (d : Twice Inbox) → k < length qs
+    → has opening (get_or qs k d) ≡ true → ((j : ℕ) → j < k → has opening (get_or qs j d) ≡ false)
+    → inbox_of (map present_of qs) opening ≡ present_of (get_or qs k d)
 inbox_found [] opening k d l t f = absurd (omega arith)
 inbox_found (q ∷ qs) opening zero d l t f = rw t
-inbox_found (q ∷ qs) opening (suc k) d l t f = rw (f 0 (omega arith)) (inbox_found qs opening k d (omega arith) t (λ j h. f (suc j) (omega arith)))
+inbox_found (q ∷ qs) opening (suc k) d l t f = rw (f 0 (omega arith))
+    (inbox_found qs opening k d (omega arith) t (λ j h. f (suc j) (omega arith)))
 
 -- the first one with the number is the opening's
-pub inbox-some : (qs : List (Twice Inbox)) (opening k : ℕ) (d : Twice Inbox) → position (has opening) qs ≡ Some k → d ≡ get_or qs k d → inbox_of (map present_of qs) opening ≡ d.present
+pub inbox-some : (qs : List (Twice Inbox)) (opening k : ℕ) (d : Twice Inbox) → position (has opening) qs ≡ Some k
+    → d ≡ get_or qs k d → inbox_of (map present_of qs) opening ≡ d.present
 inbox-some qs opening k d h r =
     let p = position-Some (has opening) qs k d h in
     inbox_found qs opening k d p.0 p.1 p.2 ∙ sym (ap present_of r)
 
-read_found : (qs : List (Twice Inbox)) (opening count k : ℕ) (d q' : Twice Inbox) → k < length qs → has opening (get_or qs k d) ≡ true → ((j : ℕ) → j < k → has opening (get_or qs j d) ≡ false) → q'.present ≡ after_piece (get_or qs k d).present count → map present_of (set qs k q') ≡ after_read (map present_of qs) opening count
+read_found : (qs : List (Twice Inbox)) (opening count k : ℕ) (d q' : Twice Inbox) → k < length qs
+    → has opening (get_or qs k d) ≡ true → ((j : ℕ) → j < k → has opening (get_or qs j d) ≡ false)
+    → q'.present ≡ after_piece (get_or qs k d).present count → map present_of
+    (set qs k q') ≡ after_read (map present_of qs) opening count
 read_found [] opening count k d q' l t f e = absurd (omega arith)
 read_found (q ∷ qs) opening count zero d q' l t f e = rw t (ap (λ o. o ∷ map present_of qs) e)
 read_found (q ∷ qs) opening count (suc k) d q' l t f e =
     rw (f 0 (omega arith))
-    (ap (λ os. present_of q ∷ os) (read_found qs opening count k d q' (omega arith) t (λ j h. f (suc j) (omega arith)) e))
+    (ap (λ os. present_of q ∷ os) (read_found qs opening count k d q' (omega arith) t (λ j h. f (suc j) (omega arith))
+    e))
 
-kept_stays : (qs : List (Twice Inbox)) (n k : ℕ) (d q' : Twice Inbox) → q'.kept ≡ (get_or qs k d).kept → map kept_of (take n (set qs k q')) ≡ map kept_of (take n qs)
+kept_stays : (qs : List (Twice Inbox)) (n k : ℕ) (d q' : Twice Inbox) → q'.kept ≡ (get_or qs k d).kept
+    → map kept_of (take n (set qs k q')) ≡ map kept_of (take n qs)
 kept_stays qs n k d q' e =
     map-take kept_of n (set qs k q') ∙ ap (take n) (map-set kept_of qs k d q' e) ∙ sym (map-take kept_of n qs)
 
 -- the table's view after a read on an opening
-pub read-some : (qs : List (Twice Inbox)) (n opening count k : ℕ) (d q' : Twice Inbox) → position (has opening) qs ≡ Some k → d ≡ get_or qs k d → q' ≡ record d { present = after_piece d.present count } → ◌≡◌ {A = Twice (List Inbox)} (record { present = map present_of (set qs k q'); kept = map kept_of (take n (set qs k q')) }) (record { present = after_read (map present_of qs) opening count; kept = map kept_of (take n qs) })
+pub read-some : (qs : List (Twice Inbox)) (n opening count k : ℕ) (d q' : Twice Inbox)
+    → position (has opening) qs ≡ Some k → d ≡ get_or qs k d → q' ≡ record d { present = after_piece d.present count }
+    → ◌≡◌ {A = Twice (List Inbox)} (record {
+      present = map present_of (set qs k q');
+      kept = map kept_of
+          (take n (set qs k q'));
+    }) (record {
+      present = after_read (map present_of qs) opening count;
+      kept = map kept_of
+          (take n qs);
+    })
 read-some qs n opening count k d q' h r e =
     let p = position-Some (has opening) qs k d h in
-    let new : q'.present ≡ after_piece (get_or qs k d).present count = ap present_of e ∙ ap (λ (t : Twice Inbox). after_piece t.present count) r in
+    let new : q'.present ≡ after_piece (get_or qs k d).present count = ap present_of e
+    ∙ ap (λ (t : Twice Inbox). after_piece t.present count) r in
     let same : q'.kept ≡ (get_or qs k d).kept = ap kept_of e ∙ ap kept_of r in
     rw (read_found qs opening count k d q' p.0 p.1 p.2 new, kept_stays qs n k d q' same)
 
-pub read-none : (qs : List (Twice Inbox)) (n opening count : ℕ) → position (has opening) qs ≡ None → ◌≡◌ {A = Twice (List Inbox)} (record { present = map present_of qs; kept = map kept_of (take n qs) }) (record { present = after_read (map present_of qs) opening count; kept = map kept_of (take n qs) })
+pub read-none : (qs : List (Twice Inbox)) (n opening count : ℕ) → position (has opening) qs ≡ None → ◌≡◌
+    {A = Twice (List Inbox)} (record { present = map present_of qs; kept = map kept_of (take n qs) })
+    (record { present = after_read (map present_of qs) opening count; kept = map kept_of (take n qs) })
 read-none qs n opening count h = rw (read_missing qs opening count (none_has qs opening h))
 
 -- what is kept stays where one failed
-pub read-kept : (qs : List (Twice Inbox)) (n k : ℕ) (d q' : Twice Inbox) → d ≡ get_or qs k d → q'.kept ≡ d.kept → map kept_of (take n (set qs k q')) ≡ map kept_of (take n qs)
+pub read-kept : (qs : List (Twice Inbox)) (n k : ℕ) (d q' : Twice Inbox) → d ≡ get_or qs k d
+    → q'.kept ≡ d.kept → map kept_of (take n (set qs k q')) ≡ map kept_of (take n qs)
 read-kept qs n k d q' r e = kept_stays qs n k d q' (e ∙ ap kept_of r)
 
 -- ---- all of them
@@ -84,45 +114,71 @@ kept-with_kept [] = refl
 kept-with_kept (q ∷ qs) = ap (λ os. kept_of q ∷ os) (kept-with_kept qs)
 
 -- the table's view where each was kept, or went back
-pub all_kept : (qs ws : List (Twice Inbox)) (n : ℕ) → ws ≡ map with_present qs → length ws ≤ n → ◌≡◌ {A = Twice (List Inbox)} (record { present = map present_of ws; kept = map kept_of (take n ws) }) (both (map present_of qs))
+pub all_kept : (qs ws : List (Twice Inbox)) (n : ℕ) → ws ≡ map with_present qs → length ws ≤ n
+    → ◌≡◌ {A = Twice (List Inbox)} (record { present = map present_of ws; kept = map kept_of (take n ws) })
+    (both (map present_of qs))
 all_kept qs ws n e l = rw (take_all n ws l, e, present-with_present qs, kept-with_present qs)
 
-pub all_back : (qs ws : List (Twice Inbox)) (n : ℕ) → ws ≡ map with_kept qs → length ws ≤ n → ◌≡◌ {A = Twice (List Inbox)} (record { present = map present_of ws; kept = map kept_of (take n ws) }) (both (map kept_of qs))
+pub all_back : (qs ws : List (Twice Inbox)) (n : ℕ) → ws ≡ map with_kept qs → length ws ≤ n
+    → ◌≡◌ {A = Twice (List Inbox)} (record { present = map present_of ws; kept = map kept_of (take n ws) })
+    (both (map kept_of qs))
 all_back qs ws n e l = rw (take_all n ws l, e, present-with_kept qs, kept-with_kept qs)
 
-present-filter : (qs : List (Twice Inbox)) (opening : ℕ) → map present_of (filter (λ q. not (has opening q)) qs) ≡ filter (λ o. not (is_of opening o)) (map present_of qs)
+present-filter : (qs : List (Twice Inbox)) (opening : ℕ) → map present_of
+    (filter (λ q. not (has opening q)) qs) ≡ filter (λ o. not (is_of opening o)) (map present_of qs)
 present-filter [] opening = refl
 present-filter (q ∷ qs) opening =
-    elim (has opening q) as (λ b. map present_of (cond (not b) (q ∷ filter (λ p. not (has opening p)) qs) (filter (λ p. not (has opening p)) qs)) ≡ cond (not b) (present_of q ∷ filter (λ o. not (is_of opening o)) (map present_of qs)) (filter (λ o. not (is_of opening o)) (map present_of qs)))
+    elim (has opening q) as (λ b. map present_of (cond (not b) (q ∷ filter (λ p. not (has opening p)) qs)
+    (filter (λ p. not (has opening p)) qs)) ≡ cond (not b) (present_of q ∷ filter (λ o. not (is_of opening o))
+    (map present_of qs)) (filter (λ o. not (is_of opening o)) (map present_of qs)))
     [ true ↦ present-filter qs opening | false ↦ ap (λ os. present_of q ∷ os) (present-filter qs opening) ]
 
 -- where both states of each are equal, the ones that stay show the same in both
-kept-filter : (qs : List (Twice Inbox)) (opening : ℕ) → map kept_of qs ≡ map present_of qs → map kept_of (filter (λ q. not (has opening q)) qs) ≡ map present_of (filter (λ q. not (has opening q)) qs)
+kept-filter : (qs : List (Twice Inbox)) (opening : ℕ) → map kept_of qs ≡ map present_of qs
+    → map kept_of (filter (λ q. not (has opening q)) qs) ≡ map present_of (filter (λ q. not (has opening q)) qs)
 kept-filter [] opening e = refl
 kept-filter (q ∷ qs) opening e =
     let here : kept_of q ≡ present_of q = cc in
     let later : map kept_of qs ≡ map present_of qs = cc in
-    elim (has opening q) as (λ b. map kept_of (cond (not b) (q ∷ filter (λ p. not (has opening p)) qs) (filter (λ p. not (has opening p)) qs)) ≡ map present_of (cond (not b) (q ∷ filter (λ p. not (has opening p)) qs) (filter (λ p. not (has opening p)) qs)))
+    elim (has opening q) as (λ b. map kept_of (cond (not b) (q ∷ filter (λ p. not (has opening p)) qs)
+    (filter (λ p. not (has opening p)) qs)) ≡ map present_of (cond (not b)
+    (q ∷ filter (λ p. not (has opening p)) qs) (filter (λ p. not (has opening p)) qs)))
     [ true ↦ kept-filter qs opening later | false ↦ rw (here, kept-filter qs opening later) ]
 
 -- where both states are equal, all openings are kept
-steady_kept : (qs : List (Twice Inbox)) (n : ℕ) → map present_of qs ≡ map kept_of (take n qs) → map kept_of qs ≡ map present_of qs
+steady_kept : (qs : List (Twice Inbox)) (n : ℕ) → map present_of qs ≡ map kept_of (take n qs)
+    → map kept_of qs ≡ map present_of qs
 steady_kept qs n e =
-    let long : length qs ≤ n = omega (arith, ap length e, length-map qs present_of, length-map (take n qs) kept_of, length-take n qs) in
+    let long : length qs ≤ n = omega (
+      arith,
+      ap length e,
+      length-map qs present_of,
+      length-map (take n qs) kept_of,
+      length-take n qs,
+    ) in
     ap (map kept_of) (sym (take_all n qs long)) ∙ sym e
 
-pub all_without : (qs ws : List (Twice Inbox)) (opening n m : ℕ) → map present_of qs ≡ map kept_of (take n qs) → ws ≡ filter (λ q. not (has opening q)) qs → length ws ≤ m → ◌≡◌ {A = Twice (List Inbox)} (record { present = map present_of ws; kept = map kept_of (take m ws) }) (both (filter (λ o. not (is_of opening o)) (map present_of qs)))
+pub all_without : (qs ws : List (Twice Inbox)) (opening n m : ℕ) → map present_of qs ≡ map kept_of (take n qs)
+    → ws ≡ filter (λ q. not (has opening q)) qs → length ws ≤ m → ◌≡◌ {A = Twice (List Inbox)}
+    (record { present = map present_of ws; kept = map kept_of (take m ws) })
+    (both (filter (λ o. not (is_of opening o)) (map present_of qs)))
 all_without qs ws opening n m s e l =
     rw (take_all m ws l, e, kept-filter qs opening (steady_kept qs n s), present-filter qs opening)
 
 -- ---- a message to a port
 
-present-delivered : (port : ℕ) (message : List ℕ) (qs : List (Twice Inbox)) → map present_of (map (with_delivered port message) qs) ≡ map (delivered port message) (map present_of qs)
+present-delivered : (port : ℕ) (message : List ℕ) (qs : List (Twice Inbox))
+    → map present_of (map (with_delivered port message) qs) ≡ map (delivered port message) (map present_of qs)
 present-delivered port message [] = refl
-present-delivered port message (q ∷ qs) = ap (λ os. delivered port message (present_of q) ∷ os) (present-delivered port message qs)
+present-delivered port message (q ∷ qs) = ap (λ os. delivered port message (present_of q) ∷ os)
+    (present-delivered port message qs)
 
-pub kept_of-taken : (qs ws : List (Twice Inbox)) (n : ℕ) → map kept_of ws ≡ map kept_of qs → map kept_of (take n ws) ≡ map kept_of (take n qs)
+pub kept_of-taken : (qs ws : List (Twice Inbox)) (n : ℕ) → map kept_of ws ≡ map kept_of qs
+    → map kept_of (take n ws) ≡ map kept_of (take n qs)
 kept_of-taken qs ws n e = map-take kept_of n ws ∙ ap (take n) e ∙ sym (map-take kept_of n qs)
 
-pub all_delivered : (port : ℕ) (message : List ℕ) (qs ws : List (Twice Inbox)) (n : ℕ) → ws ≡ map (with_delivered port message) qs → map kept_of ws ≡ map kept_of qs → ◌≡◌ {A = Twice (List Inbox)} (record { present = map present_of ws; kept = map kept_of (take n ws) }) (record { present = map (delivered port message) (map present_of qs); kept = map kept_of (take n qs) })
+pub all_delivered : (port : ℕ) (message : List ℕ) (qs ws : List (Twice Inbox)) (n : ℕ)
+    → ws ≡ map (with_delivered port message) qs → map kept_of ws ≡ map kept_of qs
+    → ◌≡◌ {A = Twice (List Inbox)} (record { present = map present_of ws; kept = map kept_of (take n ws) })
+    (record { present = map (delivered port message) (map present_of qs); kept = map kept_of (take n qs) })
 all_delivered port message qs ws n e k = rw (kept_of-taken qs ws n k, e, present-delivered port message qs)

@@ -1,5 +1,6 @@
 -- The openings of ports: the messages that wait for each, what it has left, and what a read is given.
-use Rattle.std.specs.Prelude.{◌==◌, ◌&&◌, ◌||◌, ℕ, Bool, not, nat_lt, List, [], ◌∷◌, ◌++◌, length, take, drop, Some, None, if◌then◌else◌}
+use Rattle.std.specs.Prelude.{◌==◌, ◌&&◌, ◌||◌, ℕ, Bool, not, nat_lt, List, [], ◌∷◌, ◌++◌, length, take, drop, Some}
+use Rattle.std.specs.Prelude.{None, if◌then◌else◌}
 use Rattle.wait_queue.specs.declared.types.Piece.{Piece}
 
 -- messages: those delivered to the opening that no read has begun, the first first

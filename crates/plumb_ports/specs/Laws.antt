@@ -1,5 +1,6 @@
 -- What holds of all that openings are given.
-use Rattle.std.specs.Prelude.{◌≡◌, ◌≢◌, ◌==◌, ◌+◌, ◌≤◌, nat_le, length, ℕ, Bool, true, false, List, [], ◌∷◌, ◌++◌, Option, Some, None, if◌then◌else◌}
+use Rattle.std.specs.Prelude.{◌≡◌, ◌≢◌, ◌==◌, ◌+◌, ◌≤◌, nat_le, length, ℕ, Bool, true, false, List, [], ◌∷◌, ◌++◌}
+use Rattle.std.specs.Prelude.{Option, Some, None, if◌then◌else◌}
 use Rattle.std.specs.List.{Contains, concat, list_all, list_any}
 use Rattle.wait_queue.specs.Laws.{AddsNone, AddsOnly}
 use Rattle.wait_queue.specs.Reads.{is_read}
@@ -8,7 +9,9 @@ use Rattle.wait_queue.specs.declared.types.Piece.{Piece}
 use Rattle.plumb_ports.specs.Limits.{kept_messages}
 use Rattle.plumb_ports.specs.PortList.{number_of, kept_of}
 use Rattle.plumb_ports.specs.Inboxes.{Inbox, inbox_of, is_on}
-use Rattle.plumb_ports.specs.PortsState.{PortsState, beginning, HasJoined, has_joined, is_open, read_waits, piece_for, next_of, served_of, refusal, after_add, after_join, after_deliver, delivered_at, after_ask, after_serve, after_cancel, after_leave, after_answer}
+use Rattle.plumb_ports.specs.PortsState.{PortsState, beginning, HasJoined, has_joined, is_open, read_waits, piece_for}
+use Rattle.plumb_ports.specs.PortsState.{next_of, served_of, refusal, after_add, after_join, after_deliver}
+use Rattle.plumb_ports.specs.PortsState.{delivered_at, after_ask, after_serve, after_cancel, after_leave, after_answer}
 
 -- a call that isn't refused
 pub data Call : Type 0 where
@@ -76,7 +79,8 @@ message_to (Some port) message o = if is_on port o then message else []
 abbrev pub delivered_by : PortsState → Call → ℕ → List ℕ
 delivered_by s (Add name) opening = []
 delivered_by s (Join port o) opening = if o == opening then concat (kept_of s.ports port) else []
-delivered_by s (Deliver name message keep) opening = message_to (number_of s.ports name) message (inbox_of s.openings opening)
+delivered_by s (Deliver name message keep) opening = message_to (number_of s.ports name) message
+    (inbox_of s.openings opening)
 delivered_by s (Ask r) opening = []
 delivered_by s Serve opening = []
 delivered_by s (Cancel conn tag) opening = []
@@ -131,9 +135,12 @@ BeginsWithNothing = (s : PortsState) (opening : ℕ) → has_joined s opening �
 -- theirs, and what is copied to openings isn't kept, nor what is kept copied.
 pub record KeptOnce : Type 0 where
   pub taken : (s : PortsState) (port opening : ℕ) → kept_of (after_join s port opening).ports port ≡ []
-  pub others : (s : PortsState) (port other opening : ℕ) → other ≢ port → kept_of (after_join s port opening).ports other ≡ kept_of s.ports other
-  pub copied : (s : PortsState) (port : ℕ) (message : List ℕ) → is_open s port ≡ true → (delivered_at s port message).ports ≡ s.ports
-  pub kept : (s : PortsState) (port : ℕ) (message : List ℕ) → is_open s port ≡ false → (delivered_at s port message).openings ≡ s.openings
+  pub others : (s : PortsState) (port other opening : ℕ) → other ≢ port
+      → kept_of (after_join s port opening).ports other ≡ kept_of s.ports other
+  pub copied : (s : PortsState) (port : ℕ) (message : List ℕ) → is_open s port ≡ true →
+      (delivered_at s port message).ports ≡ s.ports
+  pub kept : (s : PortsState) (port : ℕ) (message : List ℕ) → is_open s port ≡ false →
+      (delivered_at s port message).openings ≡ s.openings
 
 -- an answer to a read leaves the other openings
 abbrev pub LeavesOthers : Type 0

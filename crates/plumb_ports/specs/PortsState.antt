@@ -1,5 +1,6 @@
 -- The ports, their openings and the reads that wait, and what each call does to them.
-use Rattle.std.specs.Prelude.{◌≡◌, ◌+◌, ℕ, Bool, List, [], ◌∷◌, ◌++◌, not, nat_le, length, filter, find, map, Option, Some, None, option_map, IsTrue, if◌then◌else◌}
+use Rattle.std.specs.Prelude.{◌≡◌, ◌+◌, ℕ, Bool, List, [], ◌∷◌, ◌++◌, not, nat_le, length, filter, find, map, Option}
+use Rattle.std.specs.Prelude.{Some, None, option_map, IsTrue, if◌then◌else◌}
 use Rattle.std.specs.List.{list_any}
 use Rattle.am_text.specs.Twice.{Twice, both}
 use Rattle.wait_queue.specs.Reads.{without_first, without_read, without_reads_on}
@@ -9,7 +10,8 @@ use Rattle.wait_queue.specs.declared.types.Asked.{Asked}
 use Rattle.wait_queue.specs.declared.types.Asked.TheVariants.{Now, Waits}
 use Rattle.plumb_ports.specs.Limits.{kept_messages}
 use Rattle.plumb_ports.specs.PortList.{Port, named, edit_name, number_of, number_or_next, with_name, kept_of, with_kept}
-use Rattle.plumb_ports.specs.Inboxes.{Inbox, is_of, is_on, inbox_with, inbox_of, delivered, must_wait, piece_of, after_read}
+use Rattle.plumb_ports.specs.Inboxes.{Inbox, is_of, is_on, inbox_with, inbox_of, delivered, must_wait, piece_of}
+use Rattle.plumb_ports.specs.Inboxes.{after_read}
 use Rattle.plumb_ports.specs.declared.fault.PortFault.{PortFault}
 use Rattle.plumb_ports.specs.declared.fault.PortFault.TheVariants.{NoPort, Closed, Full, NoMemory}
 

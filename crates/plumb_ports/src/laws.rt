@@ -1,6 +1,8 @@
 //! What holds of all that openings are given.
 
-ghost use Rattle.plumb_ports.specs.Laws.{LosesNothing, GetsEachMessage, BeginsWithNothing, KeptOnce, StaysLawful, LeavesOthers, CancelledIsGone, CancelledIsNotNext, OnlyAskWaits, ServedWaited, OpeningsAreNumbered};
+ghost use Rattle.plumb_ports.specs.Laws.{LosesNothing, GetsEachMessage, BeginsWithNothing, KeptOnce, StaysLawful};
+ghost use Rattle.plumb_ports.specs.Laws.{LeavesOthers, CancelledIsGone, CancelledIsNotNext, OnlyAskWaits, ServedWaited};
+ghost use Rattle.plumb_ports.specs.Laws.{OpeningsAreNumbered};
 
 /// What a call gives to an opening, with what is then still to come, is what was to come before with
 /// what the call delivers. So no byte of a message is lost or given twice.

@@ -2,7 +2,8 @@
 
 ghost use Rattle.std.specs.Prelude.{◌≡◌, false, [], IfOk, OnOk, OnErr};
 ghost use Rattle.am_text.specs.Twice.{Twice, both};
-ghost use Rattle.wait_queue.specs.WaitState.{WaitState, must_wait as queue_waits, piece_of as queue_piece, after_piece as after_queue_piece, IsEnlisted};
+ghost use Rattle.wait_queue.specs.WaitState.{WaitState, must_wait as queue_waits, piece_of as queue_piece};
+ghost use Rattle.wait_queue.specs.WaitState.{after_piece as after_queue_piece, IsEnlisted};
 ghost use Rattle.plumb_ports.specs.Shown.{queue_of};
 ghost use Rattle.plumb_ports.specs.Inboxes.{blank, is_of, is_on, delivered, received, must_wait, piece_of, after_piece};
 

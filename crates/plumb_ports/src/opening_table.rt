@@ -1,9 +1,11 @@
 //! The openings of all ports.
 
-ghost use Rattle.std.specs.Prelude.{◌≡◌, ◌<◌, ◌≤◌, false, not, [], ◌∷◌, ◌++◌, map, filter, length, position, IfOk, IfSome, OnOk, OnErr};
+ghost use Rattle.std.specs.Prelude.{◌≡◌, ◌<◌, ◌≤◌, false, not, [], ◌∷◌, ◌++◌, map, filter, length, position, IfOk};
+ghost use Rattle.std.specs.Prelude.{IfSome, OnOk, OnErr};
 ghost use Rattle.std.specs.List.{list_any};
 ghost use Rattle.am_text.specs.Twice.{Twice, both, IsSteady};
-ghost use Rattle.plumb_ports.specs.Inboxes.{is_of, is_on, inbox_with, inbox_of, delivered, must_wait, piece_of, after_read};
+ghost use Rattle.plumb_ports.specs.Inboxes.{is_of, is_on, inbox_with, inbox_of, delivered, must_wait, piece_of};
+ghost use Rattle.plumb_ports.specs.Inboxes.{after_read};
 ghost use Rattle.plumb_ports.specs.Shown.{present_of, kept_of, with_present, with_kept, with_delivered};
 
 use crate::opening_queue::OpeningQueue;
@@ -87,7 +89,10 @@ fn remove_each(all: &mut Vec<OpeningQueue>, opening: u32)
 
 // Copies of these messages, in order.
 fn receive_each(queue: &mut OpeningQueue, messages: &[Bytes]) -> Result<(), NoMemory>
-    ensures { OnOk result (queue.new ≡ record queue.old { present = record queue.old.present { messages = queue.old.present.messages ++ messages.now } }) }
+    ensures { OnOk result (queue.new ≡ record queue.old {
+      present = record queue.old.present
+          { messages = queue.old.present.messages ++ messages.now };
+    }) }
 {
     for message in messages {
         queue.receive(message.as_slice())?;
@@ -149,7 +154,10 @@ impl OpeningTable {
 
     /// Adds an opening of this port, with copies of these messages.
     pub fn join(&mut self, port: u32, opening: u32, messages: &[Bytes]) -> Result<(), NoMemory>
-        ensures ok { OnOk result (self.new ≡ record self.old { present = self.old.present ++ inbox_with opening port messages.now ∷ [] }) }
+        ensures ok { OnOk result (self.new ≡ record self.old {
+          present = self.old.present ++ inbox_with opening port
+              messages.now ∷ [];
+        }) }
         ensures err { OnErr result (self.new ≡ self.old) }
     {
         let mut queue = OpeningQueue::new(self.alloc, opening, port)?;
@@ -160,7 +168,10 @@ impl OpeningTable {
 
     /// Puts a copy of the message at the end for each opening of the port.
     pub fn deliver(&mut self, port: u32, message: &[u8]) -> Result<(), NoMemory>
-        ensures ok { OnOk result (self.new ≡ record self.old { present = map (delivered port message.now) self.old.present }) }
+        ensures ok { OnOk result (self.new ≡ record self.old {
+          present = map (delivered port message.now)
+              self.old.present;
+        }) }
         ensures kept { self.new.kept ≡ self.old.kept }
     {
         deliver_each(self.all.as_mut_slice(), port, message)

@@ -1,6 +1,7 @@
 //! The ports by name, in one state.
 
-ghost use Rattle.std.specs.Prelude.{◌≡◌, ◌<◌, ◌≤◌, [], ◌∷◌, ◌++◌, length, None, slice_get, option_copied, option_map, true, IfOk, OnOk, OnErr};
+ghost use Rattle.std.specs.Prelude.{◌≡◌, ◌<◌, ◌≤◌, [], ◌∷◌, ◌++◌, length, None, slice_get, option_copied, option_map};
+ghost use Rattle.std.specs.Prelude.{true, IfOk, OnOk, OnErr};
 ghost use Rattle.std.specs.List.{list_all};
 ghost use Rattle.rule_syntax.specs.Verbs.{is_port_name};
 ghost use Rattle.plumb_ports.specs.Limits.{max_ports};

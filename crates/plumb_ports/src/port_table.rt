@@ -107,7 +107,10 @@ impl PortTable {
 
     /// The port keeps one more message. A refusal changes nothing.
     pub fn keep_message(&mut self, port: u32, message: Bytes) -> Result<(), NoMemory>
-        ensures ok { OnOk result (self.new ≡ record self.old { present = with_kept self.old.present port (kept_of self.old.present port ++ message ∷ []) }) }
+        ensures ok { OnOk result (self.new ≡ record self.old {
+          present = with_kept self.old.present port
+              (kept_of self.old.present port ++ message ∷ []);
+        }) }
         ensures err { OnErr result (self.new ≡ self.old) }
     {
         self.trail.reserve(1)?;

@@ -1,6 +1,7 @@
 //! The ports.
 
-ghost use Rattle.std.specs.Prelude.{◌≡◌, ◌<◌, ◌⊎◌, false, ◌≤◌, true, [], ◌∷◌, length, None, Some, IfOk, IfErr, OnOk, OnErr, IsTrue};
+ghost use Rattle.std.specs.Prelude.{◌≡◌, ◌<◌, ◌⊎◌, false, ◌≤◌, true, [], ◌∷◌, length, None, Some, IfOk, IfErr, OnOk};
+ghost use Rattle.std.specs.Prelude.{OnErr, IsTrue};
 ghost use Rattle.std.specs.List.{list_all, list_any};
 ghost use Rattle.am_text.specs.Twice.{Twice, both, IsSteady};
 ghost use Rattle.wait_queue.specs.Reads.{is_read};
@@ -8,7 +9,11 @@ ghost use Rattle.rule_syntax.specs.Verbs.{is_port_name};
 ghost use Rattle.wait_queue.specs.Limits.{max_openings};
 ghost use Rattle.plumb_ports.specs.Limits.{max_ports};
 ghost use Rattle.plumb_ports.specs.PortList.{named, names_of, edit_name, is_there, number_of};
-ghost use Rattle.plumb_ports.specs.PortsState.{PortsState, beginning, is_open, is_full, has_joined, HasJoined, added_number, after_add, after_join, refusal, Refuses, after_fault, after_deliver, delivered_at, read_waits, piece_for, after_answer, asked_of, after_ask, next_of, without_next, served_of, after_serve, after_cancel, after_leave};
+ghost use Rattle.plumb_ports.specs.PortsState.{PortsState, beginning, is_open, is_full, has_joined, HasJoined};
+ghost use Rattle.plumb_ports.specs.PortsState.{added_number, after_add, after_join, refusal, Refuses, after_fault};
+ghost use Rattle.plumb_ports.specs.PortsState.{after_deliver, delivered_at, read_waits, piece_for, after_answer};
+ghost use Rattle.plumb_ports.specs.PortsState.{asked_of, after_ask, next_of, without_next, served_of, after_serve};
+ghost use Rattle.plumb_ports.specs.PortsState.{after_cancel, after_leave};
 
 use crate::fault::PortFault;
 use crate::limits::KEPT_MESSAGES;
@@ -96,7 +101,8 @@ impl Model for Ports {
 
     ghost use Rattle.std.specs.Prelude.{◌≡◌, false};
 
-    ghost invariant = { λ p. p.changed ≡ false → (p.table.present ≡ p.table.kept) × (p.openings.present ≡ p.openings.kept) × (p.joined ≡ p.kept_joined) × (p.reads.present ≡ p.reads.kept) };
+    ghost invariant = { λ p. p.changed ≡ false → (p.table.present ≡ p.table.kept)
+        × (p.openings.present ≡ p.openings.kept) × (p.joined ≡ p.kept_joined) × (p.reads.present ≡ p.reads.kept) };
 }
 
 impl Ports {
@@ -193,7 +199,8 @@ impl Ports {
     }
 
     fn try_add(&mut self, name: &[u8]) -> Result<u32, NoMemory>
-        requires room { IsTrue (is_there self.old.present.ports name.now) ⊎ (length self.old.present.ports < max_ports) }
+        requires room { IsTrue (is_there self.old.present.ports name.now)
+            ⊎ (length self.old.present.ports < max_ports) }
         requires named_well { is_port_name name.now ≡ true }
         ensures number { IfOk result (λ number. number ≡ added_number self.old.present name.now) }
         ensures ok { OnOk result (self.new ≡ record self.old { present = after_add self.old.present name.now }) }
@@ -211,7 +218,8 @@ impl Ports {
     /// Adds a port of this name, the last one, and answers its number. A name that is there keeps its
     /// port, whose number is answered. There are at most 65,536 ports.
     pub fn add(&mut self, name: &[u8]) -> Result<u32, NoMemory>
-        requires room { IsTrue (is_there self.old.present.ports name.now) ⊎ (length self.old.present.ports < max_ports) }
+        requires room { IsTrue (is_there self.old.present.ports name.now)
+            ⊎ (length self.old.present.ports < max_ports) }
         requires named_well { is_port_name name.now ≡ true }
         ensures number { IfOk result (λ number. number ≡ added_number self.old.present name.now) }
         ensures ok { OnOk result (self.new ≡ record self.old { present = after_add self.old.present name.now }) }
@@ -279,7 +287,9 @@ impl Ports {
 
     // Gives each opening of the port a copy, or has the port keep the message.
     fn try_deliver(&mut self, port: u32, message: &[u8]) -> Result<(), NoMemory>
-        ensures ok { OnOk result (self.new ≡ record self.old { present = delivered_at self.old.present port message.now }) }
+        ensures ok { OnOk result (self.new ≡ record self.old {
+          present = delivered_at self.old.present port message.now;
+        }) }
         ensures err { OnErr result (self.new.kept ≡ self.old.kept) }
     {
         self.changed = true;
@@ -296,7 +306,10 @@ impl Ports {
     pub fn deliver(&mut self, name: &[u8], item: &[u8], keep: bool) -> Result<(), PortFault>
         ensures admitted { OnOk result (refusal self.old.present name.now keep ≡ None) }
         ensures refused { IfErr result (λ fault. Refuses fault (refusal self.old.present name.now keep)) }
-        ensures ok { OnOk result (self.new ≡ record self.old { present = after_deliver self.old.present name.now item.now }) }
+        ensures ok { OnOk result (self.new ≡ record self.old {
+          present = after_deliver self.old.present name.now
+              item.now;
+        }) }
         ensures err { IfErr result (λ fault. self.new ≡ after_fault fault self.old) }
     {
         let port = self.admit(name, keep)?;

@@ -35,8 +35,8 @@ tree_in (Some re) = Some (tree re)
 abbrev pub is_whole : Tree → List ℕ → Bool
 is_whole r t = matches r t 0 (length t)
 
--- the match at a click on the place n: not null, from at most n up to at least n; of these the one that begins first, and of those
--- that begin there the longest. There is none past the text's end.
+-- the match at a click on the place n: not null, from at most n up to at least n; of these the one that begins first,
+-- and of those that begin there the longest. There is none past the text's end.
 abbrev pub click_span : Tree → List ℕ → ℕ → Option Range
 click_span r t n = if nat_le n (length t) then match_over r t n else None
 

@@ -1,4 +1,5 @@
--- Which rules leave the message as it is, so that it isn't asked again whether it can be spelled. No public contract needs this.
+-- Which rules leave the message as it is, so that it isn't asked again whether it can be spelled. No public contract
+-- needs this.
 use Rattle.std.specs.Prelude.{Bool, true, false}
 use Rattle.plumb_msg.specs.declared.message.PlumbMsg.{PlumbMsg}
 use Rattle.rule_syntax.specs.declared.rule.Field.TheVariants.{Src, Dst, Wdir, Sort, Data}

@@ -2,7 +2,8 @@
 
 ghost use Rattle.std.specs.Prelude.{◌≡◌, not, option_copied, IfOk};
 ghost use Rattle.am_text.specs.Number.{number_of};
-ghost use Rattle.plumb_rules.specs.Attributes.{has_name, attr_value, with_attrs, without_attr, is_absent, click_read, click_of, unclicked};
+ghost use Rattle.plumb_rules.specs.Attributes.{has_name, attr_value, with_attrs, without_attr, is_absent, click_read};
+ghost use Rattle.plumb_rules.specs.Attributes.{click_of, unclicked};
 
 use crate::message::copied_attr;
 use crate::placed::PlacedAttrs;

@@ -47,7 +47,8 @@ impl<'a> Draft<'a> {
         }
     }
 
-    /// Takes the message itself, to be changed and put back: a copy of the one that was given, where no rule has changed it yet.
+    /// Takes the message itself, to be changed and put back: a copy of the one that was given, where no rule has
+    /// changed it yet.
     pub fn take(&mut self, alloc: Global) -> Result<PlumbMsg, NoMemory>
         ensures { IfOk result (λ msg. msg ≡ self.old) }
     {

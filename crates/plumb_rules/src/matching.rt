@@ -20,8 +20,8 @@ pub fn is_whole(alloc: Global, re: &Re, text: &Runes) -> Result<bool, NoMemory>
     Ok(yes)
 }
 
-/// The match at a click: not null, from at most a place up to at least the place; of these the one that begins first, and of
-/// those that begin there the longest. There is none past the text's end.
+/// The match at a click: not null, from at most a place up to at least the place; of these the one that begins first,
+/// and of those that begin there the longest. There is none past the text's end.
 pub fn click_span(alloc: Global, re: &Re, text: &Runes, at: u64) -> Result<Option<Range>, NoMemory>
     ensures value { IfOk result (λ found. found ≡ click_span (tree re.now) text.now at) }
     ensures inside { IfOk result (λ found. IfSome found (IsMatchIn (tree re.now) text.now)) }

@@ -43,7 +43,8 @@ impl Places {
 
     // The name has this place from now on.
     fn put(&mut self, alloc: Global, name: &[u8], place: usize) -> Result<(), NoMemory>
-        ensures { OnOk result ((other : List ℕ) → place_among self.new other ≡ (if bytes_eq name.now other then Some place else place_among self.old other)) }
+        ensures { OnOk result ((other : List ℕ) → place_among self.new
+            other ≡ (if bytes_eq name.now other then Some place else place_among self.old other)) }
     {
         let name = Vec::from_slice(alloc, name)?;
         self.by_name.insert(name, place)?;

@@ -61,11 +61,12 @@ fn rules_route(
     Ok(None)
 }
 
-/// Where a message goes: by the first set all of whose rules hold, with the message as its rules leave it and the port as its
-/// dst; or else, unchanged, to the port that its dst names. It is `None` exactly where no set holds and the dst is empty.
+/// Where a message goes: by the first set all of whose rules hold, with the message as its rules leave it and the port
+/// as its dst; or else, unchanged, to the port that its dst names. It is `None` exactly where no set holds and the dst
+/// is empty.
 ///
-/// The rules are done in order on a copy of the message, and a rule that leaves a message which can't be spelled doesn't hold.
-/// Names of files are looked up in the present state of the tree.
+/// The rules are done in order on a copy of the message, and a rule that leaves a message which can't be spelled
+/// doesn't hold. Names of files are looked up in the present state of the tree.
 pub fn route(
     alloc: Global,
     rules: &RuleSets,

@@ -38,7 +38,8 @@ fn rule_holds(
     rule: &ReadRule,
 ) -> Result<bool, NoMemory>
     requires { spelling.can_spell state.old.msg ≡ true }
-    ensures value { IfOk result (λ holds. where_holds state.new holds ≡ rule_holds tree.now.present state.old rule.now) }
+    ensures value { IfOk result (λ holds. where_holds state.new holds ≡ rule_holds tree.now.present state.old
+        rule.now) }
     ensures spelled { IfOk result (λ holds. IsTrue holds → spelling.can_spell state.new.msg ≡ true) }
 {
     let is_same = keeps_message(state.msg.get(), rule.get().verb);

@@ -4,7 +4,8 @@ ghost use Rattle.std.specs.Prelude.{◌≡◌, ◌++◌, length, slice_range, If
 ghost use Rattle.std.specs.Fmt.{decimal};
 ghost use Rattle.am_text.specs.Utf8.{decode};
 ghost use Rattle.plumb_msg.specs.Spelling.{attrs_text};
-ghost use Rattle.plumb_rules.specs.Texts.{field_text, with_field, whole_name, data_name, found_or, group_text, is_group, has_group, late_text, piece_text, argument_text};
+ghost use Rattle.plumb_rules.specs.Texts.{field_text, with_field, whole_name, data_name, found_or, group_text};
+ghost use Rattle.plumb_rules.specs.Texts.{is_group, has_group, late_text, piece_text, argument_text};
 
 use crate::matched::Matched;
 use crate::state::State;

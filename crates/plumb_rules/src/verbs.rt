@@ -8,7 +8,9 @@ ghost use Rattle.rule_syntax.specs.declared.rule.Verb.TheVariants as verbs;
 ghost use Rattle.plumb_rules.specs.Refused.{IsRefused};
 ghost use Rattle.plumb_rules.specs.Texts as texts;
 ghost use Rattle.plumb_rules.specs.Unchanged.{keeps_message};
-ghost use Rattle.plumb_rules.specs.Verbs.{where_holds, is_text, set, with_match, whole_data, clicked_msg, clicked, data_matches, field_matches, tree_matches, matches, isfile, isdir, add, delete, to, verb_done, rule_done};
+ghost use Rattle.plumb_rules.specs.Verbs.{where_holds, is_text, set, with_match, whole_data, clicked_msg, clicked};
+ghost use Rattle.plumb_rules.specs.Verbs.{data_matches, field_matches, tree_matches, matches, isfile, isdir, add};
+ghost use Rattle.plumb_rules.specs.Verbs.{delete, to, verb_done, rule_done};
 
 use crate::answer::Way;
 use crate::attributes::{Click, click_of, is_absent, unclicked, with_attrs, without_attr};
@@ -110,7 +112,8 @@ fn clicked_msg(
 
 #[tactic(auto, unfolding(crate::specs::Verbs::clicked))]
 fn clicked(alloc: Global, state: &mut State, re: Re, text: Runes, at: u64) -> Result<bool, NoMemory>
-    ensures { IfOk result (λ holds. where_holds state.new holds ≡ clicked state.old (tree re) text (click_span (tree re) text at)) }
+    ensures { IfOk result (λ holds. where_holds state.new holds ≡ clicked state.old (tree re) text
+        (click_span (tree re) text at)) }
 {
     let Some(found) = click_span(alloc, &re, &text, at)? else {
         return Ok(false);
@@ -274,7 +277,8 @@ fn never_matches(
     rule: &ReadRule,
     field: Field,
 ) -> Result<bool, NoMemory>
-    ensures { IfOk result (λ never. IsTrue never → NeverMatches rule.now.argument (texts.field_text state.now.msg field)) }
+    ensures { IfOk result (λ never. IsTrue never → NeverMatches rule.now.argument
+        (texts.field_text state.now.msg field)) }
 {
     let present = field_text(alloc, state.msg.get(), field)?;
     Ok(rule.never_matches(present.as_slice()))
@@ -295,7 +299,8 @@ fn field_refused(
     Ok(never)
 }
 
-// Whether it is known before the expression of a rule is read that the rule doesn't hold. At a click a part of the data is enough.
+// Whether it is known before the expression of a rule is read that the rule doesn't hold. At a click a part of the data
+// is enough.
 fn is_refused(alloc: Global, state: &State, rule: &ReadRule) -> Result<bool, NoMemory>
     ensures { IfOk result (λ refused. IsTrue refused → IsRefused state.now rule.now) }
 {

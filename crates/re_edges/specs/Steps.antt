@@ -17,8 +17,10 @@ abbrev pub put_by : Side → List Step → RuneSet → Bool → Put
 put_by side [] s null = record { runes = s; null = null }
 put_by side (Part r ∷ rest) s null = put_by side rest (with_runes side (tree r.now) s) (may_be_null (tree r.now))
 put_by side (Behind r ∷ rest) s null =
-    if null then put_by side rest (with_runes side (tree r.now) s) (may_be_null (tree r.now)) else put_by side rest s null
-put_by side (Beside r ∷ rest) s null = put_by side rest (with_runes side (tree r.now) s) (null || may_be_null (tree r.now))
+    if null then put_by side rest (with_runes side (tree r.now) s) (may_be_null (tree r.now)) else put_by side rest s
+    null
+put_by side (Beside r ∷ rest) s null = put_by side rest (with_runes side (tree r.now) s)
+    (null || may_be_null (tree r.now))
 put_by side (Or other ∷ rest) s null = put_by side rest s (other || null)
 put_by side (Optional ∷ rest) s null = put_by side rest s true
 

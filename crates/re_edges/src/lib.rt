@@ -1,5 +1,5 @@
-//! With which runes the matches of an expression may begin and end: a look at the edges of a text tells of most texts that no
-//! match is the whole of them, without the expression.
+//! With which runes the matches of an expression may begin and end: a look at the edges of a text tells of most texts
+//! that no match is the whole of them, without the expression.
 #![tactic(auto)]
 
 mod edges;

@@ -42,8 +42,11 @@ fn put_two<'a>(
     b: &'a Re,
     rest: &mut VecDeque<Step<'a>>,
 ) -> Result<(), NoMemory>
-    ensures put { OnOk result ((set : RuneSet) (null : Bool) → put_by side rest.new.items set null ≡ put_by side rest.old.items (with_runes side (Then (tree a.now) (tree b.now)) set) (may_be_null (Then (tree a.now) (tree b.now)))) }
-    ensures fewer { OnOk result (weight rest.new.items < weight rest.old.items + 3 * nodes (Then (tree a.now) (tree b.now))) }
+    ensures put { OnOk result ((set : RuneSet) (null : Bool) → put_by side rest.new.items set null ≡ put_by side
+        rest.old.items (with_runes side (Then (tree a.now) (tree b.now)) set)
+        (may_be_null (Then (tree a.now) (tree b.now)))) }
+    ensures fewer { OnOk result (weight rest.new.items < weight rest.old.items + 3 * nodes
+        (Then (tree a.now) (tree b.now))) }
 {
     let (first, behind) = match side {
         Side::First => (a, b),
@@ -70,7 +73,8 @@ fn put_part<'a>(
     re: &'a Re,
     rest: &mut VecDeque<Step<'a>>,
 ) -> Result<bool, NoMemory>
-    ensures put { IfOk result (λ null. put_by side rest.new.items set.new null ≡ put_by side rest.old.items (with_runes side (tree re.now) set.old) (may_be_null (tree re.now))) }
+    ensures put { IfOk result (λ null. put_by side rest.new.items set.new null ≡ put_by side rest.old.items
+        (with_runes side (tree re.now) set.old) (may_be_null (tree re.now))) }
     ensures fewer { OnOk result (weight rest.new.items < weight rest.old.items + 3 * nodes (tree re.now)) }
 {
     match re {
@@ -123,7 +127,8 @@ fn do_step<'a>(
     null: bool,
     rest: &mut VecDeque<Step<'a>>,
 ) -> Result<bool, NoMemory>
-    ensures put { IfOk result (λ now. put_by side rest.new.items set.new now ≡ put_by side (step.entry ∷ rest.old.items) set.old null) }
+    ensures put { IfOk result (λ now. put_by side rest.new.items set.new now ≡ put_by side (step.entry ∷ rest.old.items)
+        set.old null) }
     ensures fewer { OnOk result (weight rest.new.items < weight (step.entry ∷ rest.old.items)) }
 {
     match step {

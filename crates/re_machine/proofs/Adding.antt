@@ -17,21 +17,29 @@ set_other xs k m v o = get_or-set_other xs k m v 0 o
 pub record IsAdding (old new : List ℕ) (from to left : ℕ) : Type 0 where
   pub inside : (m : ℕ) → IsTrue (on left m) → IsTrue (on from m)
   pub had : (m n : ℕ) → IsTrue (on (slice_index old m) n) → IsTrue (on (slice_index new m) n)
-  pub got : (m n : ℕ) → IsTrue (on (slice_index new m) n) → IsTrue (on (slice_index old m) n) ⊎ (IsTrue (on from m) × IsTrue (on to n))
-  pub done : (m : ℕ) → IsTrue (on from m) → IsTrue (on left m) ⊎ ((n : ℕ) → IsTrue (on to n) → IsTrue (on (slice_index new m) n))
+  pub got : (m n : ℕ) → IsTrue (on (slice_index new m) n) → IsTrue (on (slice_index old m) n)
+      ⊎ (IsTrue (on from m) × IsTrue (on to n))
+  pub done : (m : ℕ) → IsTrue (on from m) → IsTrue (on left m) ⊎ ((n : ℕ) → IsTrue (on to n)
+      → IsTrue (on (slice_index new m) n))
 
 pub adding_begun : (old : List ℕ) (from to : ℕ) → IsAdding old old from to from
 adding_begun old from to = record { inside = λ m h. h; had = λ m n h. h; got = λ m n h. inl h; done = λ m h. inl h }
 
-pub adding_more : (old rows new : List ℕ) (from to left k left' : ℕ) → IsAdding old rows from to left → k < length rows → IsTrue (on left k) → IsWithout left k left' → new ≡ slice_set rows k (bit_or (slice_index rows k) to) → IsAdding old new from to left'
+pub adding_more : (old rows new : List ℕ) (from to left k left' : ℕ) → IsAdding old rows from to left → k < length rows
+    → IsTrue (on left k) → IsWithout left k left' → new ≡ slice_set rows k (bit_or (slice_index rows k) to)
+    → IsAdding old new from to left'
 adding_more old rows new from to left k left' a l h w e =
     let row : ℕ = bit_or (slice_index rows k) to in
-    let same : (m : ℕ) → m ≡ k → slice_index new m ≡ row = λ m s. subst (λ (z : List ℕ). slice_index z m ≡ row) (sym e) (set_same rows k m row l s) in
-    let other : (m : ℕ) → (m ≡ k → ⊥) → slice_index new m ≡ slice_index rows m = λ m o. subst (λ (z : List ℕ). slice_index z m ≡ slice_index rows m) (sym e) (set_other rows k m row o) in
+    let same : (m : ℕ) → m ≡ k → slice_index new m ≡ row = λ m s. subst (λ (z : List ℕ). slice_index z m ≡ row) (sym e)
+    (set_same rows k m row l s) in
+    let other : (m : ℕ) → (m ≡ k → ⊥) → slice_index new m ≡ slice_index rows m =
+    λ m o. subst (λ (z : List ℕ). slice_index z m ≡ slice_index rows m) (sym e) (set_other rows k m row o) in
     record {
       inside = λ m x. a.inside m ((w.others m).0 x).0;
       had = λ m n x. elim (cases_eq m k) [
-        | inl s ↦ subst (λ (z : ℕ). IsTrue (on z n)) (sym (same m s)) (on_or_left (slice_index rows k) to n (subst (λ (z : ℕ). IsTrue (on (slice_index rows z) n)) s (a.had m n x)))
+        | inl s ↦ subst (λ (z : ℕ). IsTrue (on z n)) (sym (same m s))
+            (on_or_left (slice_index rows k) to n (subst (λ (z : ℕ). IsTrue (on (slice_index rows z) n)) s
+            (a.had m n x)))
         | inr o ↦ subst (λ (z : ℕ). IsTrue (on z n)) (sym (other m o)) (a.had m n x)
       ];
       got = λ m n x. elim (cases_eq m k) [
@@ -42,7 +50,8 @@ adding_more old rows new from to left k left' a l h w e =
         | inr o ↦ a.got m n (subst (λ (z : ℕ). IsTrue (on z n)) (other m o) x)
       ];
       done = λ m x. elim (cases_eq m k) [
-        | inl s ↦ inr (λ n y. subst (λ (z : ℕ). IsTrue (on z n)) (sym (same m s)) (on_or_right (slice_index rows k) to n y))
+        | inl s ↦ inr (λ n y. subst (λ (z : ℕ). IsTrue (on z n)) (sym (same m s))
+            (on_or_right (slice_index rows k) to n y))
         | inr o ↦ elim (a.done m x) [
           | inl y ↦ inl ((w.others m).1 (y, o))
           | inr f ↦ inr (λ n y. subst (λ (z : ℕ). IsTrue (on z n)) (sym (other m o)) (f n y))
@@ -50,7 +59,8 @@ adding_more old rows new from to left k left' a l h w e =
       ];
     }
 
-pub adding_done : (old new : List ℕ) (from to left : ℕ) → IsAdding old new from to left → left ≡ 0 → AreAdded old new from to
+pub adding_done : (old new : List ℕ) (from to left : ℕ) → IsAdding old new from to left
+    → left ≡ 0 → AreAdded old new from to
 adding_done old new from to left a z m n = (
   λ x. a.got m n x,
   λ x. elim x [
@@ -63,7 +73,9 @@ adding_done old new from to left a z m n = (
 )
 
 -- one row is written
-pub set_more : {S : Type 0} (bits : S → ℕ) (rows : List S) (n : ℕ) (x y : S) (to : ℕ) → n < length rows → x ≡ get_or rows n x → bits y ≡ bit_or (bits x) to → map bits (slice_set rows n y) ≡ slice_set (map bits rows) n (bit_or (slice_index (map bits rows) n) to)
+pub set_more : {S : Type 0} (bits : S → ℕ) (rows : List S) (n : ℕ) (x y : S) (to : ℕ) → n < length rows
+    → x ≡ get_or rows n x → bits y ≡ bit_or (bits x) to → map bits (slice_set rows n y) ≡ slice_set (map bits rows) n
+    (bit_or (slice_index (map bits rows) n) to)
 set_more bits rows n x y to l e f =
     let there : bits x ≡ slice_index (map bits rows) n = ap bits e ∙ sym (get_or-map bits rows n x 0 l) in
     map-set bits rows n y ∙ ap (λ (v : ℕ). slice_set (map bits rows) n v) (f ∙ ap (λ (z : ℕ). bit_or z to) there)

@@ -1,5 +1,6 @@
 -- Lists that are gone through from the front, and lists that grow at the end.
-use Rattle.std.proofs.Common.{◌≡◌, ℕ, zero, suc, ◌+◌, ◌<◌, ◌≤◌, List, [], ◌∷◌, ◌++◌, length, map, get_or, drop, refl, sym, ap, subst, ◌∙◌, inl, inr, arith}
+use Rattle.std.proofs.Common.{◌≡◌, ℕ, zero, suc, ◌+◌, ◌<◌, ◌≤◌, List, [], ◌∷◌, ◌++◌, length, map, get_or, drop, refl}
+use Rattle.std.proofs.Common.{sym, ap, subst, ◌∙◌, inl, inr, arith}
 use Rattle.std.specs.Prelude.{slice_index}
 use Rattle.std.proofs.lemmas.Bool.{cases_lt}
 
@@ -9,13 +10,16 @@ drop_at (x ∷ xs) zero d l = refl
 drop_at (x ∷ xs) (suc n) d l = drop_at xs n d (omega (arith, l))
 
 -- the same of what a list is seen as
-drop_map : {X Y : Type 0} (f : X → Y) (xs : List X) (n : ℕ) (y : X) → n < length xs → y ≡ get_or xs n y → drop n (map f xs) ≡ f y ∷ drop (suc n) (map f xs)
+drop_map : {X Y : Type 0} (f : X → Y) (xs : List X) (n : ℕ) (y : X) → n < length xs → y ≡ get_or xs n y
+    → drop n (map f xs) ≡ f y ∷ drop (suc n) (map f xs)
 drop_map f [] n y l e = absurd (omega (arith, l))
 drop_map f (x ∷ xs) zero y l e = ap (λ z. f z ∷ map f xs) (sym e)
 drop_map f (x ∷ xs) (suc n) y l e = drop_map f xs n y (omega (arith, l)) e
 
-pub drop_map_at : {X Y : Type 0} (f : X → Y) (xs : List X) (n m : ℕ) (y : X) → n < length xs → y ≡ get_or xs n y → m ≡ suc n → drop n (map f xs) ≡ f y ∷ drop m (map f xs)
-drop_map_at f xs n m y l e s = subst (λ (z : ℕ). drop n (map f xs) ≡ f y ∷ drop z (map f xs)) (sym s) (drop_map f xs n y l e)
+pub drop_map_at : {X Y : Type 0} (f : X → Y) (xs : List X) (n m : ℕ) (y : X) → n < length xs → y ≡ get_or xs n y
+    → m ≡ suc n → drop n (map f xs) ≡ f y ∷ drop m (map f xs)
+drop_map_at f xs n m y l e s = subst (λ (z : ℕ). drop n (map f xs) ≡ f y ∷ drop z (map f xs)) (sym s)
+    (drop_map f xs n y l e)
 
 pub drop_map_all : {X Y : Type 0} (f : X → Y) (xs : List X) (n : ℕ) → length xs ≤ n → drop n (map f xs) ≡ []
 drop_map_all f [] zero l = refl
@@ -44,11 +48,13 @@ grown_at [] x = refl
 grown_at (y ∷ xs) x = grown_at xs x
 
 -- what holds of all numbers of a list so far holds of one more
-pub grown : (xs : List ℕ) (x n : ℕ) (f : ℕ → ℕ) → length xs ≡ n → ((d : ℕ) → d < n → slice_index xs d ≡ f d) → x ≡ f n → (d : ℕ) → d < n + 1 → slice_index (xs ++ x ∷ []) d ≡ f d
+pub grown : (xs : List ℕ) (x n : ℕ) (f : ℕ → ℕ) → length xs ≡ n → ((d : ℕ) → d < n → slice_index xs d ≡ f d) → x ≡ f n
+    → (d : ℕ) → d < n + 1 → slice_index (xs ++ x ∷ []) d ≡ f d
 grown xs x n f e h last d l = elim (cases_lt d n) [
   | inl y ↦ grown_below xs x d (omega (arith, e, y)) ∙ h d y
   | inr y ↦
       let s : d ≡ n = omega (arith, l, y) in
-      let at : slice_index (xs ++ x ∷ []) n ≡ x = subst (λ (z : ℕ). slice_index (xs ++ x ∷ []) z ≡ x) e (grown_at xs x) in
+      let at : slice_index (xs ++ x ∷ []) n ≡ x = subst (λ (z : ℕ). slice_index (xs ++ x ∷ []) z ≡ x) e
+      (grown_at xs x) in
       subst (λ (z : ℕ). slice_index (xs ++ x ∷ []) z ≡ f z) (sym s) (at ∙ last)
 ]

@@ -1,5 +1,6 @@
 -- The rows of a set's members, joined one after another.
-use Rattle.std.proofs.Common.{◌≡◌, ℕ, ◌<◌, ◌≤◌, ◌⊎◌, List, [], ◌∷◌, length, map, refl, sym, ap, subst, ◌∙◌, inl, inr, arith}
+use Rattle.std.proofs.Common.{◌≡◌, ℕ, ◌<◌, ◌≤◌, ◌⊎◌, List, [], ◌∷◌, length, map, refl, sym, ap, subst, ◌∙◌, inl, inr}
+use Rattle.std.proofs.Common.{arith}
 use Rattle.std.specs.Prelude.{IsTrue, bit_or, slice_index}
 use Rattle.std.specs.Int.Bits.{or_zero_r}
 use Rattle.std.proofs.Math.ListN.{get_or-eq_default}
@@ -13,7 +14,8 @@ use Rattle.re_sets.proofs.Telling.{join_to, join_from}
 use Rattle.re_machine.specs.Sets.{IsWithout}
 
 -- two sets with the same letters
-pub same_set : (a b : ℕ) → ((n : ℕ) → IsTrue (on a n) → IsTrue (on b n)) → ((n : ℕ) → IsTrue (on b n) → IsTrue (on a n)) → a ≡ b
+pub same_set : (a b : ℕ) → ((n : ℕ) → IsTrue (on a n) → IsTrue (on b n)) → ((n : ℕ) → IsTrue (on b n) → IsTrue (on a n))
+    → a ≡ b
 same_set a b f g = same_from_bits a b (λ n. elim (cases_eq (bit_at a n) 1) [
   | inl e ↦ omega (arith, e, (on_is b n).0 (f n ((on_is a n).1 e)))
   | inr o ↦ elim (cases_eq (bit_at b n) 1) [
@@ -35,9 +37,11 @@ joining_begun row size set all z = record {
   to = λ m h. inl h;
 }
 
-pub joining_more : (row : ℕ → ℕ) (size set left all n left' all' : ℕ) → IsJoining row size set left all → n < size → IsTrue (on left n) → IsWithout left n left' → all' ≡ bit_or all (row n) → IsJoining row size set left' all'
+pub joining_more : (row : ℕ → ℕ) (size set left all n left' all' : ℕ) → IsJoining row size set left all → n < size
+    → IsTrue (on left n) → IsWithout left n left' → all' ≡ bit_or all (row n) → IsJoining row size set left' all'
 joining_more row size set left all n left' all' j l h w e =
-    let here : (m : ℕ) → IsTrue (on (bit_or all (row n)) m) → IsTrue (on all' m) = λ m x. subst (λ (a : ℕ). IsTrue (on a m)) (sym e) x in
+    let here : (m : ℕ) → IsTrue (on (bit_or all (row n)) m) → IsTrue (on all' m) =
+    λ m x. subst (λ (a : ℕ). IsTrue (on a m)) (sym e) x in
     record {
       inside = λ m x. j.inside m ((w.others m).0 x).0;
       from = λ m x. elim (on_or_cases all (row n) m (subst (λ (a : ℕ). IsTrue (on a m)) e x)) [
@@ -53,7 +57,8 @@ joining_more row size set left all n left' all' j l h w e =
       ];
     }
 
-pub joining_done : (row : ℕ → ℕ) (size set left all : ℕ) → IsJoining row size set left all → left ≡ 0 → all ≡ join_rows row set size
+pub joining_done : (row : ℕ → ℕ) (size set left all : ℕ) → IsJoining row size set left all
+    → left ≡ 0 → all ≡ join_rows row set size
 joining_done row size set left all j z = same_set all (join_rows row set size)
     (λ n h. let p = j.from n h in join_to row set size p.0 n p.1 p.2 p.3)
     (λ n h.
@@ -68,7 +73,8 @@ len f [] = refl
 len f (x ∷ xs) = let e = len f xs in omega (arith, e)
 
 -- a row that isn't there
-pub or_beyond : {S : Type 0} (bits : S → ℕ) (x : ℕ) (xs : List S) (n : ℕ) → length xs ≤ n → x ≡ bit_or x (slice_index (map bits xs) n)
+pub or_beyond : {S : Type 0} (bits : S → ℕ) (x : ℕ) (xs : List S) (n : ℕ) → length xs ≤ n
+    → x ≡ bit_or x (slice_index (map bits xs) n)
 or_beyond bits x xs n l =
     let e : slice_index (map bits xs) n ≡ 0 = get_or-eq_default (map bits xs) 0 (omega (arith, l, len bits xs)) in
     sym (ap (λ (z : ℕ). bit_or x z) e ∙ or_zero_r x)

@@ -1,5 +1,6 @@
 -- One machine word as a set.
-use Rattle.std.proofs.Common.{◌≡◌, ℕ, ◌*◌, ◌%◌, ◌^◌, ◌<◌, ◌==◌, ◌&&◌, Bool, true, false, not, refl, sym, subst, ◌∙◌, inl, inr, arith, w64}
+use Rattle.std.proofs.Common.{◌≡◌, ℕ, ◌*◌, ◌%◌, ◌^◌, ◌<◌, ◌==◌, ◌&&◌, Bool, true, false, not, refl, sym, subst, ◌∙◌}
+use Rattle.std.proofs.Common.{inl, inr, arith, w64}
 use Rattle.std.specs.Prelude.{IsTrue, bit_and}
 use Rattle.std.specs.Int.{bit_at, bit_not, trailing_zeros}
 use Rattle.std.proofs.lemmas.Bool.{cases_eq, cases_lt, cases_Bool}
@@ -19,7 +20,8 @@ has_one word small o =
     let lowest = bit_at-trailing_zeros w64 word (omega (arith, o)) small in
     (k, lowest.0, (on_is word k).1 lowest.1)
 
-pub without_is : (word k : ℕ) → word < 2 ^ 64 → k < 64 → IsTrue (on word k) → IsWithout word k (bit_and word (bit_not w64 (1 * 2 ^ k % 2 ^ 64)))
+pub without_is : (word k : ℕ) → word < 2 ^ 64 → k < 64 → IsTrue (on word k)
+    → IsWithout word k (bit_and word (bit_not w64 (1 * 2 ^ k % 2 ^ 64)))
 without_is word k small within has =
     let left : ℕ = bit_and word (bit_not w64 (1 * 2 ^ k % 2 ^ 64)) in
     let c = cleared word k within ((on_is word k).0 has) in
@@ -29,7 +31,8 @@ without_is word k small within has =
       others = λ m. (
         λ h. elim (cases_lt m 64) [
           | inl l ↦ elim (cases_eq m k) [
-            | inl e ↦ absurd (let s : bit_at left k ≡ 1 = subst (λ (z : ℕ). bit_at left z ≡ 1) e ((on_is left m).0 h) in omega (arith, s, gone))
+            | inl e ↦ absurd (let s : bit_at left k ≡ 1 = subst (λ (z : ℕ). bit_at left z ≡ 1) e ((on_is left m).0 h) in
+                omega (arith, s, gone))
             | inr o ↦ ((on_is word m).1 (omega (arith, c.1 m l o, (on_is left m).0 h)), o)
           ]
           | inr g ↦ absurd (omega (arith, (on_is left m).0 h, bit_at_above left 64 m (omega (arith, c.0, small)) g))
@@ -42,7 +45,8 @@ without_is word k small within has =
     }
 
 -- whether two sets have a letter in common
-pub meets_is : (size x y z : ℕ) (n : Bool) → z ≡ bit_and x y → n ≡ (z == 0) → (n ≡ false → HasOne size z) → not n ≡ meet size x y
+pub meets_is : (size x y z : ℕ) (n : Bool) → z ≡ bit_and x y → n ≡ (z == 0) → (n ≡ false → HasOne size z)
+    → not n ≡ meet size x y
 meets_is size x y z true e t f = elim (cases_Bool (meet size x y)) [
   | inl m ↦ absurd (
       let p = below_from (λ m. on x m && on y m) size m in

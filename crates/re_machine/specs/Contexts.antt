@@ -1,6 +1,8 @@
 -- What the tables of a tree have in each kind of place.
-use Rattle.std.specs.Prelude.{◌≡◌, ◌<◌, ◌↔◌, ◌||◌, ◌&&◌, ℕ, Bool, true, false, List, length, map, slice_index, slice_index_or, bit_and, IsTrue, if◌then◌else◌}
-use Rattle.re_syntax.specs.Tree.{Tree, Letter, AnyLetter, OneOf, LineStart, LineEnd, Then, Either, Many, Several, Maybe, Group}
+use Rattle.std.specs.Prelude.{◌≡◌, ◌<◌, ◌↔◌, ◌||◌, ◌&&◌, ℕ, Bool, true, false, List, length, map, slice_index}
+use Rattle.std.specs.Prelude.{slice_index_or, bit_and, IsTrue, if◌then◌else◌}
+use Rattle.re_syntax.specs.Tree.{Tree, Letter, AnyLetter, OneOf, LineStart, LineEnd, Then, Either, Many, Several, Maybe}
+use Rattle.re_syntax.specs.Tree.{Group}
 use Rattle.re_spans.specs.declared.leaf.Here.{Here}
 use Rattle.re_sets.specs.Spots.{null, first, last, follow}
 use Rattle.re_sets.specs.Numbers.{rows}
@@ -38,7 +40,8 @@ HasFirsts word all = (n : ℕ) → IsTrue (on word n) → IsTrue (on all n)
 
 -- where a rune's test is false no letter is both in the one set and in that of the rune
 abbrev pub BeginsAre : ℕ → List ℕ → List Bool → Type 0
-BeginsAre firsts sets begins = (d : ℕ) → d < length begins → slice_index_or begins d false ≡ false → bit_and firsts (slice_index sets d) ≡ 0
+BeginsAre firsts sets begins = (d : ℕ) → d < length begins → slice_index_or begins d false ≡ false → bit_and firsts
+    (slice_index sets d) ≡ 0
 
 -- the null text is a match nowhere
 abbrev pub IsNeverNull : Table → Type 0
@@ -51,7 +54,8 @@ NoneBegins t d = (x : Here) (n : ℕ) → IsTrue (on (bit_and (t.first x) (t.tak
 -- the context of a kind of place
 abbrev pub context_at : {S : Type 0} → Contexts S → Here → Context S
 context_at (Same c) x = c
-context_at (ByPlace inside starts ends empty) x = if x.starts && x.ends then empty else (if x.starts then starts else (if x.ends then ends else inside))
+context_at (ByPlace inside starts ends empty) x = if x.starts && x.ends then empty else
+    (if x.starts then starts else (if x.ends then ends else inside))
 
 module _ {S : Type 0} (bits : S → ℕ) where
   -- the context of a tree in one kind of place
@@ -59,7 +63,8 @@ module _ {S : Type 0} (bits : S → ℕ) where
     pub null_is : c.null ≡ null r x
     pub first_is : IsSet r 0 (first r x) (bits c.first)
     pub last_is : IsSet r 0 (last r x) (bits c.last)
-    pub rows_is : (m n : ℕ) → IsTrue (on (slice_index (map bits c.follow.items) m) n) ↔ IsTrue (rows r 0 (follow r x) m n)
+    pub rows_is : (m n : ℕ) → IsTrue (on (slice_index (map bits c.follow.items) m) n) ↔ IsTrue
+        (rows r 0 (follow r x) m n)
 
   abbrev pub AreContexts : Tree → Contexts S → Type 0
   AreContexts r all = (x : Here) → IsContext r x (context_at all x)

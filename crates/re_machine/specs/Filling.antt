@@ -17,7 +17,8 @@ pub record IsPart (r : Tree) (base : ℕ) (x : Here) (is_null : Bool) (firsts la
 
 -- each row of a letter has what it had and the letters that may follow it
 abbrev pub AreFilled : Tree → ℕ → Here → List ℕ → List ℕ → Type 0
-AreFilled r base x old new = (m n : ℕ) → IsTrue (on (slice_index new m) n) ↔ (IsTrue (on (slice_index old m) n) ⊎ IsTrue (rows r base (follow r x) m n))
+AreFilled r base x old new = (m n : ℕ) → IsTrue (on (slice_index new m) n) ↔
+    (IsTrue (on (slice_index old m) n) ⊎ IsTrue (rows r base (follow r x) m n))
 
 -- a leaf that takes a rune
 abbrev pub IsLeaf : Tree → Type 0
@@ -37,7 +38,8 @@ module _ {S : Type 0} (bits : S → ℕ) (x : Here) where
   AreParts old [] [] new = old ≡ new
   AreParts old [] (p ∷ ps) new = ⊥
   AreParts old (r ∷ rs) [] new = ⊥
-  AreParts old (r ∷ rs) (p ∷ ps) new = (some : List ℕ) × AreParts old rs ps some × IsPart r (count rs) x p.null (bits p.first) (bits p.last) × AreFilled r (count rs) x some new
+  AreParts old (r ∷ rs) (p ∷ ps) new = (some : List ℕ) × AreParts old rs ps some
+      × IsPart r (count rs) x p.null (bits p.first) (bits p.last) × AreFilled r (count rs) x some new
 
   -- the nodes that are left make the tree of those of which these are the parts
   pub record IsFilling (old : List ℕ) (r : Tree) (left : List Node) (f : Filling S) (new : List ℕ) : Type 0 where
@@ -49,4 +51,5 @@ module _ {S : Type 0} (bits : S → ℕ) (x : Here) where
 
   -- what is filled goes on by a node
   abbrev pub GoesOn : Node → Filling S → List ℕ → Filling S → List ℕ → Type 0
-  GoesOn node f rows g new = (old : List ℕ) (r : Tree) (left : List Node) → IsFilling old r (node ∷ left) f rows → IsFilling old r left g new
+  GoesOn node f rows g new = (old : List ℕ) (r : Tree) (left : List Node) → IsFilling old r (node ∷ left) f rows
+      → IsFilling old r left g new

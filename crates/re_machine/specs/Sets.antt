@@ -13,4 +13,5 @@ pub record IsWithout (word n left : ℕ) : Type 0 where
 
 -- the rows of the members of one set have the members of the other too
 abbrev pub AreAdded : List ℕ → List ℕ → ℕ → ℕ → Type 0
-AreAdded old new from to = (m n : ℕ) → IsTrue (on (slice_index new m) n) ↔ (IsTrue (on (slice_index old m) n) ⊎ (IsTrue (on from m) × IsTrue (on to n)))
+AreAdded old new from to = (m n : ℕ) → IsTrue (on (slice_index new m) n) ↔
+    (IsTrue (on (slice_index old m) n) ⊎ (IsTrue (on from m) × IsTrue (on to n)))

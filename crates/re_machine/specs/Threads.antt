@@ -1,5 +1,6 @@
 -- The rows of a search.
-use Rattle.std.specs.Prelude.{◌≡◌, ◌<◌, ℕ, Bool, true, false, List, [], ◌∷◌, length, map, slice_index, bit_and, Option, Some, None}
+use Rattle.std.specs.Prelude.{◌≡◌, ◌<◌, ℕ, Bool, true, false, List, [], ◌∷◌, length, map, slice_index, bit_and, Option}
+use Rattle.std.specs.Prelude.{Some, None}
 use Rattle.re_sets.specs.Rows.{Row, Seen}
 use Rattle.re_sets.specs.Tables.{join_rows, meet, take_away}
 use Rattle.re_machine.specs.declared.contexts.Context.{Context}
@@ -37,7 +38,8 @@ module _ {S : Type 0} (bits : S → ℕ) where
   -- the number of the first row that passes, or that none does
   abbrev pub EndsAt : (ℕ → Bool) → List (Thread S) → Option ℕ → Type 0
   EndsAt passes rows None = (m : ℕ) → m < length rows → passes (slice_index (sets_of rows) m) ≡ false
-  EndsAt passes rows (Some n) = (n < length rows) × (passes (slice_index (sets_of rows) n) ≡ true) × ((m : ℕ) → m < n → passes (slice_index (sets_of rows) m) ≡ false)
+  EndsAt passes rows (Some n) = (n < length rows) × (passes (slice_index (sets_of rows) n) ≡ true)
+      × ((m : ℕ) → m < n → passes (slice_index (sets_of rows) m) ≡ false)
 
   -- the one row comes over a rune from a set to the next, and nothing ends or begins there
   pub record IsAlone (size : ℕ) (c : Context S) (takes set : ℕ) (is_idle : Bool) (next : ℕ) : Type 0 where

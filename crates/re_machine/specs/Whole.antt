@@ -27,7 +27,8 @@ module _ {S : Type 0} (bits : S → ℕ) (size : ℕ) where
   pub record IsWhole (t : Tables S) : Type 0 where
     pub few : length t.leaves.items ≤ size
     pub ascii_len : length t.ascii.items ≡ ascii_count
-    pub ascii_is : (d : ℕ) → d < ascii_count → slice_index (map bits t.ascii.items) d ≡ taken_word (map tree t.leaves.items) d
+    pub ascii_is : (d : ℕ) → d < ascii_count → slice_index (map bits t.ascii.items)
+        d ≡ taken_word (map tree t.leaves.items) d
     pub firsts_is : (x : Here) → HasFirsts (bits (context_at t.contexts x).first) (bits t.firsts)
     pub begins_len : length t.begins.items ≡ ascii_count
     pub begins_is : BeginsAre (bits t.firsts) (map bits t.ascii.items) t.begins.items

@@ -42,7 +42,8 @@ fn begins<S: LetterSet>(context: &Context<S>, takes: S, next: S, is_idle: bool) 
 
 // The letters to which the row comes over a rune, where nothing ends or begins here and it comes to some.
 fn alone<S: LetterSet>(context: &Context<S>, takes: S, lone: Lone<S>) -> Option<S>
-    ensures { IfSome result (λ next. IsAlone S.bits S.SIZE context.now (S.bits takes) (S.bits lone.set) lone.is_idle (S.bits next)) }
+    ensures { IfSome result (λ next. IsAlone S.bits S.SIZE context.now (S.bits takes) (S.bits lone.set) lone.is_idle
+        (S.bits next)) }
 {
     if ends(context, lone) {
         return None;
@@ -70,7 +71,10 @@ fn stay_alone<T: Letters, S: LetterSet>(
     requires within { range.q1 ≤ length (T.letters text.now) }
     ensures above { range.q0 ≤ result.0 }
     ensures below { result.0 ≤ range.q1 }
-    ensures known { (r : Tree) (no_null : Option ℕ) (low start : ℕ) (best : Option Range) → IsTable r (table_of S.bits S.SIZE tables.now) → low ≤ range.q0 → lone.is_idle ≡ is_none best → Known r (reading way (T.letters text.now)) no_null low range.q0 (one_row start (S.bits lone.set)) best → Known r (reading way (T.letters text.now)) no_null low result.0 (one_row start (S.bits result.1)) best }
+    ensures known { (r : Tree) (no_null : Option ℕ) (low start : ℕ) (best : Option Range)
+        → IsTable r (table_of S.bits S.SIZE tables.now) → low ≤ range.q0 → lone.is_idle ≡ is_none best
+        → Known r (reading way (T.letters text.now)) no_null low range.q0 (one_row start (S.bits lone.set)) best
+        → Known r (reading way (T.letters text.now)) no_null low result.0 (one_row start (S.bits result.1)) best }
 {
     let is_idle = lone.is_idle;
     let mut set = lone.set;
@@ -99,7 +103,10 @@ pub fn glide<T: Letters, S: LetterSet>(
     requires within { bounds.high ≤ length (T.letters text.now) }
     ensures above { cursor.at ≤ result }
     ensures below { result ≤ bounds.high }
-    ensures known { (r : Tree) → IsTable r (table_of S.bits S.SIZE tables.now) → Known r (reading cursor.way (T.letters text.now)) bounds.no_null bounds.low cursor.at (rows_of S.bits threads.old.rows.items) threads.old.best → Known r (reading cursor.way (T.letters text.now)) bounds.no_null bounds.low result (rows_of S.bits threads.new.rows.items) threads.new.best }
+    ensures known { (r : Tree) → IsTable r (table_of S.bits S.SIZE tables.now)
+        → Known r (reading cursor.way (T.letters text.now)) bounds.no_null bounds.low cursor.at
+        (rows_of S.bits threads.old.rows.items) threads.old.best → Known r (reading cursor.way (T.letters text.now))
+        bounds.no_null bounds.low result (rows_of S.bits threads.new.rows.items) threads.new.best }
 {
     if threads.rows.len() != 1 {
         return cursor.at;
@@ -132,8 +139,12 @@ fn follow_alone<T: Letters, S: LetterSet>(
     requires within { range.q1 ≤ length (T.letters text.now) }
     ensures above { range.q0 ≤ result.0 }
     ensures below { result.0 ≤ range.q1 }
-    ensures ends { IfSome result.1 (λ set. meet S.SIZE (S.bits set) ((table_of S.bits S.SIZE tables.now).last ((reading way (T.letters text.now)).here result.0)) ≡ true) }
-    ensures known { IfSome result.1 (λ set. (r : Tree) (no_null : Option ℕ) (low start : ℕ) → IsTable r (table_of S.bits S.SIZE tables.now) → Followed r (reading way (T.letters text.now)) no_null low range.q0 start (S.bits first) → Followed r (reading way (T.letters text.now)) no_null low result.0 start (S.bits set)) }
+    ensures ends { IfSome result.1 (λ set. meet S.SIZE (S.bits set)
+        ((table_of S.bits S.SIZE tables.now).last ((reading way (T.letters text.now)).here result.0)) ≡ true) }
+    ensures known { IfSome result.1 (λ set. (r : Tree) (no_null : Option ℕ) (low start : ℕ)
+        → IsTable r (table_of S.bits S.SIZE tables.now) → Followed r (reading way (T.letters text.now)) no_null low
+        range.q0 start (S.bits first) → Followed r (reading way (T.letters text.now)) no_null low result.0 start
+        (S.bits set)) }
 {
     let mut set = first;
     for at in range.q0..range.q1 {
@@ -176,7 +187,11 @@ pub fn lead<T: Letters, S: LetterSet>(
     requires within { bounds.high ≤ length (T.letters text.now) }
     ensures above { cursor.at ≤ result }
     ensures below { result ≤ bounds.high }
-    ensures reached { (r : Tree) → IsTable r (table_of S.bits S.SIZE tables.now) → Known r (reading cursor.way (T.letters text.now)) bounds.no_null bounds.low cursor.at (rows_of S.bits threads.old.rows.items) threads.old.best → Reached r (table_of S.bits S.SIZE tables.now) (reading cursor.way (T.letters text.now)) bounds.no_null bounds.low result (rows_of S.bits threads.new.rows.items) threads.new.best }
+    ensures reached { (r : Tree) → IsTable r (table_of S.bits S.SIZE tables.now)
+        → Known r (reading cursor.way (T.letters text.now)) bounds.no_null bounds.low cursor.at
+        (rows_of S.bits threads.old.rows.items) threads.old.best → Reached r (table_of S.bits S.SIZE tables.now)
+        (reading cursor.way (T.letters text.now)) bounds.no_null bounds.low result
+        (rows_of S.bits threads.new.rows.items) threads.new.best }
 {
     if cursor.at == bounds.high {
         return cursor.at;

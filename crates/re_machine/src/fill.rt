@@ -1,6 +1,7 @@
 //! Which letters may begin and end a match, and which may follow one another.
 
-ghost use Rattle.std.specs.Prelude.{◌≡◌, ◌<◌, ◌≤◌, ◌+◌, [], ◌∷◌, List, ℕ, length, map, slice_index, slice_set, bit_or, IsTrue, ◌&&◌, ◌||◌, ◌^◌, true, false, IfOk, OnOk, if◌then◌else◌};
+ghost use Rattle.std.specs.Prelude.{◌≡◌, ◌<◌, ◌≤◌, ◌+◌, [], ◌∷◌, List, ℕ, length, map, slice_index, slice_set, bit_or};
+ghost use Rattle.std.specs.Prelude.{IsTrue, ◌&&◌, ◌||◌, ◌^◌, true, false, IfOk, OnOk, if◌then◌else◌};
 ghost use Rattle.re_syntax.specs.Tree.{Tree, tree, LineStart, LineEnd};
 ghost use Rattle.re_nodes.specs.Nodes.{node_of, Alone, Joined, Chosen, Often, Repeated, Optional};
 ghost use Rattle.re_spans.specs.declared.leaf.Here.{Here};
@@ -47,7 +48,8 @@ pub fn join<S: LetterSet>(rows: &[S], set: S) -> S
 // A row gets the members of a set. One that isn't there gets nothing.
 fn put_row<S: LetterSet>(rows: &mut [S], n: usize, to: S)
     ensures len { length rows.new ≡ length rows.old }
-    ensures row { n < length rows.old → map S.bits rows.new ≡ slice_set (map S.bits rows.old) n (bit_or (slice_index (map S.bits rows.old) n) (S.bits to)) }
+    ensures row { n < length rows.old → map S.bits rows.new ≡ slice_set (map S.bits rows.old) n
+        (bit_or (slice_index (map S.bits rows.old) n) (S.bits to)) }
 {
     if n < rows.len() {
         rows[n] = rows[n].union(to);
@@ -57,7 +59,8 @@ fn put_row<S: LetterSet>(rows: &mut [S], n: usize, to: S)
 // Each row of a member of the one set gets the members of the other. A row that isn't there gets nothing.
 fn add<S: LetterSet>(rows: &mut [S], from: S, to: S)
     ensures len { length rows.new ≡ length rows.old }
-    ensures added { ((m : ℕ) → IsTrue (on (S.bits from) m) → m < length rows.old) → AreAdded (map S.bits rows.old) (map S.bits rows.new) (S.bits from) (S.bits to) }
+    ensures added { ((m : ℕ) → IsTrue (on (S.bits from) m) → m < length rows.old)
+        → AreAdded (map S.bits rows.old) (map S.bits rows.new) (S.bits from) (S.bits to) }
 {
     let mut left = from;
     'letters: while let Some(n) = left.lowest() {
@@ -113,7 +116,8 @@ fn anchor<S: LetterSet>(null: bool) -> Part<S>
 // One part after the other.
 fn after<S: LetterSet>(x: Part<S>, y: Part<S>) -> Part<S>
     ensures null { result.null ≡ (x.null && y.null) }
-    ensures first { S.bits result.first ≡ (if x.null then bit_or (S.bits x.first) (S.bits y.first) else S.bits x.first) }
+    ensures first { S.bits result.first ≡ (if x.null then bit_or (S.bits x.first) (S.bits y.first) else S.bits
+        x.first) }
     ensures last { S.bits result.last ≡ (if y.null then bit_or (S.bits y.last) (S.bits x.last) else S.bits y.last) }
 {
     Part {
@@ -167,7 +171,8 @@ fn take<S: LetterSet>(parts: &mut VecDeque<Part<S>>) -> Part<S>
 // A letter more, which has a row.
 fn put_letter<S: LetterSet>(filling: &mut Filling<S>, rows: &[S]) -> Result<(), NoMemory>
     requires { length rows.now ≤ S.SIZE }
-    ensures { OnOk result ((x : Here) (r : Tree) → IsLeaf r → GoesOn S.bits x (Alone r) filling.old (map S.bits rows.now) filling.new (map S.bits rows.now)) }
+    ensures { OnOk result ((x : Here) (r : Tree) → IsLeaf r → GoesOn S.bits x (Alone r) filling.old
+        (map S.bits rows.now) filling.new (map S.bits rows.now)) }
 {
     let n = filling.next;
     if n < rows.len() {
@@ -179,8 +184,10 @@ fn put_letter<S: LetterSet>(filling: &mut Filling<S>, rows: &[S]) -> Result<(), 
 
 // The start or the end of a line more.
 fn put_anchor<S: LetterSet>(filling: &mut Filling<S>, null: bool) -> Result<(), NoMemory>
-    ensures start { OnOk result ((x : Here) (rows : List ℕ) → null ≡ x.starts → GoesOn S.bits x (Alone LineStart) filling.old rows filling.new rows) }
-    ensures end { OnOk result ((x : Here) (rows : List ℕ) → null ≡ x.ends → GoesOn S.bits x (Alone LineEnd) filling.old rows filling.new rows) }
+    ensures start { OnOk result ((x : Here) (rows : List ℕ) → null ≡ x.starts → GoesOn S.bits x (Alone LineStart)
+        filling.old rows filling.new rows) }
+    ensures end { OnOk result ((x : Here) (rows : List ℕ) → null ≡ x.ends → GoesOn S.bits x (Alone LineEnd) filling.old
+        rows filling.new rows) }
 {
     filling.parts.push_front(anchor(null))?;
     Ok(())
@@ -189,7 +196,8 @@ fn put_anchor<S: LetterSet>(filling: &mut Filling<S>, null: bool) -> Result<(), 
 // The last two parts, one after the other.
 fn join_parts<S: LetterSet>(filling: &mut Filling<S>, rows: &mut [S]) -> Result<(), NoMemory>
     ensures len { length rows.new ≡ length rows.old }
-    ensures filled { OnOk result ((x : Here) → GoesOn S.bits x Joined filling.old (map S.bits rows.old) filling.new (map S.bits rows.new)) }
+    ensures filled { OnOk result ((x : Here) → GoesOn S.bits x Joined filling.old (map S.bits rows.old) filling.new
+        (map S.bits rows.new)) }
 {
     let parts = &mut filling.parts;
     let y = take(parts);
@@ -217,8 +225,10 @@ fn repeat_part<S: LetterSet>(
     optional: bool,
 ) -> Result<(), NoMemory>
     ensures len { length rows.new ≡ length rows.old }
-    ensures often { OnOk result ((x : Here) → optional ≡ true → GoesOn S.bits x Often filling.old (map S.bits rows.old) filling.new (map S.bits rows.new)) }
-    ensures repeated { OnOk result ((x : Here) → optional ≡ false → GoesOn S.bits x Repeated filling.old (map S.bits rows.old) filling.new (map S.bits rows.new)) }
+    ensures often { OnOk result ((x : Here) → optional ≡ true → GoesOn S.bits x Often filling.old (map S.bits rows.old)
+        filling.new (map S.bits rows.new)) }
+    ensures repeated { OnOk result ((x : Here) → optional ≡ false → GoesOn S.bits x Repeated filling.old
+        (map S.bits rows.old) filling.new (map S.bits rows.new)) }
 {
     let parts = &mut filling.parts;
     let x = take(parts);
@@ -246,7 +256,8 @@ fn fill_node<S: LetterSet>(
 ) -> Result<(), NoMemory>
     requires { length rows.old ≤ S.SIZE }
     ensures len { length rows.new ≡ length rows.old }
-    ensures filled { OnOk result (GoesOn S.bits here (node_of (tree re.now)) filling.old (map S.bits rows.old) filling.new (map S.bits rows.new)) }
+    ensures filled { OnOk result (GoesOn S.bits here (node_of (tree re.now)) filling.old (map S.bits rows.old)
+        filling.new (map S.bits rows.new)) }
 {
     match re {
         Re::Lit(_) => put_letter(filling, rows),
@@ -274,7 +285,8 @@ pub fn fill<S: LetterSet>(
     requires few { letters (tree_of nodes.now) ≤ length rows.old }
     requires size { length rows.old ≤ S.SIZE }
     ensures len { length rows.new ≡ length rows.old }
-    ensures part { IfOk result (λ part. IsPart (tree_of nodes.now) 0 here part.null (S.bits part.first) (S.bits part.last)) }
+    ensures part { IfOk result (λ part. IsPart (tree_of nodes.now) 0 here part.null (S.bits part.first)
+        (S.bits part.last)) }
     ensures rows { OnOk result (AreFilled (tree_of nodes.now) 0 here (map S.bits rows.old) (map S.bits rows.new)) }
 {
     let mut filling = Filling {

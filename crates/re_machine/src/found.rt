@@ -51,7 +51,8 @@ pub fn search_on<T: Letters, S: LetterSet>(
     requires whole { IsWhole S.bits S.SIZE tables.now }
     requires order { from ≤ end }
     requires within { end ≤ length (T.letters text.now) }
-    ensures { IfOk result (λ answer. (r : Tree) → IsTable r (table_of S.bits S.SIZE tables.now) → FindsFirst r (T.letters text.now) from end no_null answer) }
+    ensures { IfOk result (λ answer. (r : Tree) → IsTable r (table_of S.bits S.SIZE tables.now)
+        → FindsFirst r (T.letters text.now) from end no_null answer) }
 {
     let bounds = Bounds {
         low: from,
@@ -74,7 +75,8 @@ pub fn search_back<T: Letters, S: LetterSet>(
     requires whole { IsWhole S.bits S.SIZE tables.now }
     requires order { start ≤ to }
     requires within { to ≤ length (T.letters text.now) }
-    ensures { IfOk result (λ answer. (r : Tree) → IsTable (mirrored r) (table_of S.bits S.SIZE tables.now) → FindsLast r (T.letters text.now) start to no_null answer) }
+    ensures { IfOk result (λ answer. (r : Tree) → IsTable (mirrored r) (table_of S.bits S.SIZE tables.now)
+        → FindsLast r (T.letters text.now) start to no_null answer) }
 {
     let count = text.len();
     let bounds = Bounds {

@@ -121,9 +121,12 @@ impl Machine {
     ) -> Result<Option<Range>, NoMemory>
         requires order { from ≤ end }
         requires within { end ≤ length (T.letters text.now) }
-        ensures found { IfOk result (λ answer. IfSome answer (IsFirst (tree self.now) (T.letters text.now) from end no_null)) }
-        ensures none { IfOk result (λ answer. IfNone answer (HasNoSpan (tree self.now) (T.letters text.now) from end no_null)) }
-        ensures value { IfOk result (λ answer. answer ≡ first_span (tree self.now) (T.letters text.now) from end no_null) }
+        ensures found { IfOk result (λ answer. IfSome answer (IsFirst (tree self.now) (T.letters text.now) from end
+            no_null)) }
+        ensures none { IfOk result (λ answer. IfNone answer (HasNoSpan (tree self.now) (T.letters text.now) from end
+            no_null)) }
+        ensures value { IfOk result (λ answer. answer ≡ first_span (tree self.now) (T.letters text.now) from end
+            no_null) }
         ensures inside { IfOk result (λ answer. IfSome answer (IsBetween from end)) }
     {
         match &*self.form {
@@ -146,9 +149,12 @@ impl Machine {
     ) -> Result<Option<Range>, NoMemory>
         requires order { start ≤ to }
         requires within { to ≤ length (T.letters text.now) }
-        ensures found { IfOk result (λ answer. IfSome answer (IsLast (tree self.now) (T.letters text.now) start to no_null)) }
-        ensures none { IfOk result (λ answer. IfNone answer (HasNoSpan (tree self.now) (T.letters text.now) start to no_null)) }
-        ensures value { IfOk result (λ answer. answer ≡ last_span (tree self.now) (T.letters text.now) start to no_null) }
+        ensures found { IfOk result (λ answer. IfSome answer (IsLast (tree self.now) (T.letters text.now) start to
+            no_null)) }
+        ensures none { IfOk result (λ answer. IfNone answer (HasNoSpan (tree self.now) (T.letters text.now) start to
+            no_null)) }
+        ensures value { IfOk result (λ answer. answer ≡ last_span (tree self.now) (T.letters text.now) start to
+            no_null) }
         ensures inside { IfOk result (λ answer. IfSome answer (IsBetween start to)) }
     {
         match &*self.form {

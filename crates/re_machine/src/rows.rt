@@ -1,6 +1,7 @@
 //! The rows of a search, and how they go over a rune.
 
-ghost use Rattle.std.specs.Prelude.{◌≡◌, ◌++◌, [], List, length, map, bit_and, bit_or, slice_index, true, IfOk, OnOk, IsSome};
+ghost use Rattle.std.specs.Prelude.{◌≡◌, ◌++◌, [], List, length, map, bit_and, bit_or, slice_index, true, IfOk, OnOk};
+ghost use Rattle.std.specs.Prelude.{IsSome};
 ghost use Rattle.re_sets.specs.Rows.{Row, seen_at, ended, solid, parted, move_rows, new_row};
 ghost use Rattle.re_sets.specs.Tables.{meet, join_rows, take_away};
 ghost use Rattle.re_machine.specs.Threads.{EndsAt, rows_of, one_row, seen_of, move_by, begin_by};
@@ -42,7 +43,8 @@ fn ended<S: LetterSet>(rows: &[Thread<S>], last: S) -> Option<usize>
 
 // Puts a row at the end where it has a letter.
 fn put<S: LetterSet>(rows: &mut Vec<Thread<S>>, start: usize, set: S) -> Result<(), NoMemory>
-    ensures { OnOk result (rows_of S.bits rows.new.items ≡ rows_of S.bits rows.old.items ++ solid (one_row start (S.bits set))) }
+    ensures { OnOk result (rows_of S.bits rows.new.items ≡ rows_of S.bits rows.old.items
+        ++ solid (one_row start (S.bits set))) }
 {
     if !set.is_none() {
         rows.push(Thread { start, set })?;
@@ -58,7 +60,10 @@ fn advance<S: LetterSet>(
     next: &mut Vec<Thread<S>>,
 ) -> Result<S, NoMemory>
     requires { next.old.items ≡ [] }
-    ensures { IfOk result (λ seen. (more : List Row) → rows_of S.bits next.new.items ++ solid (parted take_away bit_or more (S.bits seen)) ≡ solid (parted take_away bit_or (move_rows (move_by S.bits S.SIZE context.now (S.bits takes)) (rows_of S.bits rows.now) ++ more) 0)) }
+    ensures { IfOk result (λ seen. (more : List Row) → rows_of S.bits next.new.items
+        ++ solid (parted take_away bit_or more (S.bits seen)) ≡ solid
+        (parted take_away bit_or (move_rows (move_by S.bits S.SIZE context.now (S.bits takes)) (rows_of S.bits rows.now)
+        ++ more) 0)) }
 {
     let mut seen = S::none();
     for row in rows {
@@ -86,7 +91,8 @@ impl<S: LetterSet> Threads<S> {
     /// Takes the matches that end at a place into account, also the null one where it counts. Answers whether a row
     /// may begin there.
     pub fn see(&mut self, k: usize, null: bool, last: S) -> bool
-        ensures { seen_of S.bits self.new result ≡ seen_at k null (rows_of S.bits self.old.rows.items) self.old.best (ended (λ x. meet S.SIZE x (S.bits last)) (rows_of S.bits self.old.rows.items)) }
+        ensures { seen_of S.bits self.new result ≡ seen_at k null (rows_of S.bits self.old.rows.items) self.old.best
+            (ended (λ x. meet S.SIZE x (S.bits last)) (rows_of S.bits self.old.rows.items)) }
     {
         if let Some(n) = ended(self.rows.as_slice(), last) {
             self.best = Some(Range {
@@ -113,7 +119,9 @@ impl<S: LetterSet> Threads<S> {
         k: usize,
         enters: bool,
     ) -> Result<(), NoMemory>
-        ensures rows { OnOk result (rows_of S.bits self.new.rows.items ≡ solid (parted take_away bit_or (move_rows (move_by S.bits S.SIZE context.now (S.bits takes)) (rows_of S.bits self.old.rows.items) ++ new_row enters k (begin_by S.bits context.now (S.bits takes))) 0)) }
+        ensures rows { OnOk result (rows_of S.bits self.new.rows.items
+            ≡ solid (parted take_away bit_or (move_rows (move_by S.bits S.SIZE context.now (S.bits takes))
+            (rows_of S.bits self.old.rows.items) ++ new_row enters k (begin_by S.bits context.now (S.bits takes))) 0)) }
         ensures best { OnOk result (self.new.best ≡ self.old.best) }
     {
         self.spare.clear();

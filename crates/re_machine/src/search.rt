@@ -49,7 +49,8 @@ fn next_begin<T: Letters, S: LetterSet>(
     requires within { high ≤ length (T.letters text.now) }
     ensures above { k ≤ result }
     ensures below { result ≤ high }
-    ensures over { (m : ℕ) → k ≤ m → m < result → NoneBegins (table_of S.bits S.SIZE tables.now) ((reading way (T.letters text.now)).rune m) }
+    ensures over { (m : ℕ) → k ≤ m → m < result → NoneBegins (table_of S.bits S.SIZE tables.now)
+        ((reading way (T.letters text.now)).rune m) }
 {
     for at in k..high {
         if tables.may_begin(rune_at(text, way, at)) {
@@ -73,7 +74,10 @@ fn skip<T: Letters, S: LetterSet>(
     requires within { bounds.high ≤ length (T.letters text.now) }
     ensures above { cursor.at ≤ result }
     ensures below { result ≤ bounds.high }
-    ensures known { (r : Tree) → IsTable r (table_of S.bits S.SIZE tables.now) → Known r (reading cursor.way (T.letters text.now)) bounds.no_null bounds.low cursor.at (rows_of S.bits threads.now.rows.items) threads.now.best → Known r (reading cursor.way (T.letters text.now)) bounds.no_null bounds.low result (rows_of S.bits threads.now.rows.items) threads.now.best }
+    ensures known { (r : Tree) → IsTable r (table_of S.bits S.SIZE tables.now)
+        → Known r (reading cursor.way (T.letters text.now)) bounds.no_null bounds.low cursor.at
+        (rows_of S.bits threads.now.rows.items) threads.now.best → Known r (reading cursor.way (T.letters text.now))
+        bounds.no_null bounds.low result (rows_of S.bits threads.now.rows.items) threads.now.best }
 {
     if threads.is_idle() && !tables.is_ever_null() {
         return next_begin(tables, text, cursor.way, cursor.at, bounds.high);
@@ -93,7 +97,8 @@ pub fn search<T: Letters, S: LetterSet>(
     requires whole { IsWhole S.bits S.SIZE tables.now }
     requires order { bounds.low ≤ bounds.high }
     requires within { bounds.high ≤ length (T.letters text.now) }
-    ensures { IfOk result (λ found. (r : Tree) → IsTable r (table_of S.bits S.SIZE tables.now) → FindsIn r (reading way (T.letters text.now)) bounds.no_null bounds.low bounds.high found) }
+    ensures { IfOk result (λ found. (r : Tree) → IsTable r (table_of S.bits S.SIZE tables.now)
+        → FindsIn r (reading way (T.letters text.now)) bounds.no_null bounds.low bounds.high found) }
 {
     let mut threads = Threads::new(alloc);
     let mut from = bounds.low;

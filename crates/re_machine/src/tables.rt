@@ -37,7 +37,8 @@ pub struct Tables<S> {
 fn ascii_of<S: LetterSet>(alloc: Global, leaves: &[Re]) -> Result<Vec<S>, NoMemory>
     requires { length leaves.now ≤ S.SIZE }
     ensures len { IfOk result (λ all. length all.items ≡ ascii_count) }
-    ensures sets { IfOk result (λ all. (d : ℕ) → d < ascii_count → slice_index (map S.bits all.items) d ≡ taken_word (map tree leaves.now) d) }
+    ensures sets { IfOk result (λ all. (d : ℕ) → d < ascii_count → slice_index (map S.bits all.items)
+        d ≡ taken_word (map tree leaves.now) d) }
 {
     let mut all = Vec::new(alloc);
     for rune in 0..ASCII {
@@ -85,7 +86,8 @@ impl<S: LetterSet> Tables<S> {
     /// What may begin, follow and end a match at a place.
     pub fn context<T: Letters>(&self, text: &T, way: Way, k: usize) -> &Context<S>
         requires { k ≤ length (T.letters text.now) }
-        ensures { IsContextOf S.bits (table_of S.bits S.SIZE self.now) ((reading way (T.letters text.now)).here k) result.now }
+        ensures { IsContextOf S.bits (table_of S.bits S.SIZE self.now) ((reading way (T.letters text.now)).here k)
+            result.now }
     {
         self.contexts.of_place(text, way, k)
     }

@@ -66,7 +66,8 @@ fn word_at(words: &[u64; 16], k: usize) -> u64
 // The first word that has a letter.
 fn first_word(words: &[u64; 16]) -> Option<usize>
     ensures len { length words.now ≡ 16 }
-    ensures some { IfSome result (λ k. (k < 16) × (slice_index words.now k < 2 ^ 64) × ¬ (slice_index words.now k ≡ 0)) }
+    ensures some { IfSome result (λ k. (k < 16) × (slice_index words.now k < 2 ^ 64)
+        × ¬ (slice_index words.now k ≡ 0)) }
     ensures none { IfNone result ((k : ℕ) → k < 16 → slice_index words.now k ≡ 0) }
 {
     for k in 0..16 {

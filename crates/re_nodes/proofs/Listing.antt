@@ -1,6 +1,8 @@
 -- The nodes of trees are listed one after another.
-use Rattle.std.proofs.Common.{◌≡◌, ℕ, ◌+◌, ◌<◌, Bool, true, false, List, [], ◌∷◌, ◌++◌, refl, sym, ap, ◌∙◌, append_assoc, arith}
-use Rattle.re_syntax.specs.Tree.{Tree, Letter, AnyLetter, OneOf, LineStart, LineEnd, Then, Either, Many, Several, Maybe, Group, nodes}
+use Rattle.std.proofs.Common.{◌≡◌, ℕ, ◌+◌, ◌<◌, Bool, true, false, List, [], ◌∷◌, ◌++◌, refl, sym, ap, ◌∙◌}
+use Rattle.std.proofs.Common.{append_assoc, arith}
+use Rattle.re_syntax.specs.Tree.{Tree, Letter, AnyLetter, OneOf, LineStart, LineEnd, Then, Either, Many, Several, Maybe}
+use Rattle.re_syntax.specs.Tree.{Group, nodes}
 use Rattle.re_nodes.specs.Nodes.{Node, node_of, nodes_of, nodes_of_all, parts_before}
 
 -- how many nodes trees have
@@ -12,16 +14,22 @@ behind_none : (xs : List Node) (x : Node) (ys : List Node) → (xs ++ x ∷ []) 
 behind_none xs x ys = append_assoc xs (x ∷ []) ys
 
 behind_one : (xs p : List Node) (x : Node) (ys : List Node) → (xs ++ (p ++ x ∷ [])) ++ ys ≡ (xs ++ p) ++ x ∷ ys
-behind_one xs p x ys = ap (λ (z : List Node). z ++ ys) (sym (append_assoc xs p (x ∷ []))) ∙ append_assoc (xs ++ p) (x ∷ []) ys
+behind_one xs p x ys = ap (λ (z : List Node). z ++ ys) (sym (append_assoc xs p (x ∷ [])))
+    ∙ append_assoc (xs ++ p) (x ∷ []) ys
 
-behind_two : (xs p q : List Node) (x : Node) (ys : List Node) → (xs ++ ((p ++ q) ++ x ∷ [])) ++ ys ≡ ((xs ++ p) ++ q) ++ x ∷ ys
+behind_two : (xs p q : List Node) (x : Node) (ys : List Node) → (xs ++ ((p ++ q) ++ x ∷ [])) ++ ys ≡ ((xs ++ p) ++ q)
+    ++ x ∷ ys
 behind_two xs p q x ys = behind_one xs (p ++ q) x ys ∙ ap (λ (z : List Node). z ++ x ∷ ys) (sym (append_assoc xs p q))
 
 -- a node more is listed, and its parts are to be
-pub listed_more : (back : Bool) (r : Tree) (rs : List Tree) (ys : List Node) → nodes_of_all back (r ∷ rs) ++ ys ≡ nodes_of_all back (parts_before back r rs) ++ node_of r ∷ ys
-listed_more true (Then a b) rs ys = behind_two (nodes_of_all true rs) (nodes_of true b) (nodes_of true a) (node_of (Then a b)) ys
-listed_more false (Then a b) rs ys = behind_two (nodes_of_all false rs) (nodes_of false a) (nodes_of false b) (node_of (Then a b)) ys
-listed_more back (Either a b) rs ys = behind_two (nodes_of_all back rs) (nodes_of back a) (nodes_of back b) (node_of (Either a b)) ys
+pub listed_more : (back : Bool) (r : Tree) (rs : List Tree) (ys : List Node) → nodes_of_all back (r ∷ rs)
+    ++ ys ≡ nodes_of_all back (parts_before back r rs) ++ node_of r ∷ ys
+listed_more true (Then a b) rs ys = behind_two (nodes_of_all true rs) (nodes_of true b) (nodes_of true a)
+    (node_of (Then a b)) ys
+listed_more false (Then a b) rs ys = behind_two (nodes_of_all false rs) (nodes_of false a) (nodes_of false b)
+    (node_of (Then a b)) ys
+listed_more back (Either a b) rs ys = behind_two (nodes_of_all back rs) (nodes_of back a) (nodes_of back b)
+    (node_of (Either a b)) ys
 listed_more back (Many a) rs ys = behind_one (nodes_of_all back rs) (nodes_of back a) (node_of (Many a)) ys
 listed_more back (Several a) rs ys = behind_one (nodes_of_all back rs) (nodes_of back a) (node_of (Several a)) ys
 listed_more back (Maybe a) rs ys = behind_one (nodes_of_all back rs) (nodes_of back a) (node_of (Maybe a)) ys

@@ -1,6 +1,7 @@
 -- The nodes of a tree as a list, and the tree that such a list builds.
 use Rattle.std.specs.Prelude.{◌≡◌, ℕ, Bool, List, [], ◌∷◌, ◌++◌, if◌then◌else◌}
-use Rattle.re_syntax.specs.Tree.{Tree, Letter, AnyLetter, OneOf, LineStart, LineEnd, Then, Either, Many, Several, Maybe, Group}
+use Rattle.re_syntax.specs.Tree.{Tree, Letter, AnyLetter, OneOf, LineStart, LineEnd, Then, Either, Many, Several, Maybe}
+use Rattle.re_syntax.specs.Tree.{Group}
 
 -- a node without its parts: a tree that has none, or what joins or wraps its parts
 pub data Node : Type 0 where
@@ -28,7 +29,8 @@ node_of LineEnd = Alone LineEnd
 
 -- the nodes of a tree, each behind those of its parts; backward the parts of a concatenation change places
 abbrev pub nodes_of : Bool → Tree → List Node
-nodes_of back (Then a b) = (if back then nodes_of back b ++ nodes_of back a else nodes_of back a ++ nodes_of back b) ++ Joined ∷ []
+nodes_of back (Then a b) = (if back then nodes_of back b ++ nodes_of back a else nodes_of back a ++ nodes_of back b)
+    ++ Joined ∷ []
 nodes_of back (Either a b) = (nodes_of back a ++ nodes_of back b) ++ Chosen ∷ []
 nodes_of back (Many a) = nodes_of back a ++ Often ∷ []
 nodes_of back (Several a) = nodes_of back a ++ Repeated ∷ []

@@ -11,7 +11,8 @@ use std::collections::VecDeque;
 
 // Puts the parts of a tree before others, the last one first.
 fn put_parts<'a>(re: &'a Re, back: bool, rest: &mut VecDeque<&'a Re>) -> Result<(), NoMemory>
-    ensures { OnOk result (map (λ r. tree r.now) rest.new.items ≡ parts_before back (tree re.now) (map (λ r. tree r.now) rest.old.items)) }
+    ensures { OnOk result (map (λ r. tree r.now) rest.new.items ≡ parts_before back (tree re.now)
+        (map (λ r. tree r.now) rest.old.items)) }
 {
     match re {
         Re::Lit(_) => Ok(()),

@@ -1,5 +1,6 @@
 -- A search backward by tables finds the match that is chosen.
-use Rattle.std.proofs.Common.{◌≡◌, ℕ, ◌+◌, ◌-◌, ◌<◌, ◌≤◌, ◌⊎◌, Bool, true, false, List, [], length, Option, Some, None, refl, sym, subst, inl, inr, arith}
+use Rattle.std.proofs.Common.{◌≡◌, ℕ, ◌+◌, ◌-◌, ◌<◌, ◌≤◌, ◌⊎◌, Bool, true, false, List, [], length, Option, Some, None}
+use Rattle.std.proofs.Common.{refl, sym, subst, inl, inr, arith}
 use Rattle.std.specs.Prelude.{IsTrue, ◌↔◌, IfSome, IfNone, nat_le, if◌then◌else◌}
 use Rattle.std.proofs.lemmas.Bool.Decides.{nat_tests}
 use Rattle.re_syntax.specs.Tree.{Tree}
@@ -44,52 +45,66 @@ out_here count (Some p) i l e = go (nat_le p count) refl
     go true h = subst (λ (z : ℕ). Some (count - p) ≡ Some (count - z)) same refl
     go false h = absurd (grind (arith, nat_tests, h, l, same))
 
-module _ (r : Tree) (text : List ℕ) (no_null : Option ℕ) (start to : ℕ) (order : start ≤ to) (within : to ≤ length text) where
-  abbrev pub count : ℕ
-  count = length text
+module _ (r : Tree) (text : List ℕ) (no_null : Option ℕ) (start to : ℕ) (order : start ≤ to) (within : to ≤ length text)
+  where
+    abbrev pub count : ℕ
+    count = length text
 
-  abbrev pub Found : Option Range → Type 0
-  Found o = Finds (Spans (mirrored r) (backward text)) (LeftOut (from_end count no_null)) (λ x k j. Leads (mirrored r) (backward text) (on x) k j) (count - to) (count - start) o
+    abbrev pub Found : Option Range → Type 0
+    Found o = Finds (Spans (mirrored r) (backward text)) (LeftOut (from_end count no_null))
+        (λ x k j. Leads (mirrored r) (backward text) (on x) k j) (count - to) (count - start) o
 
-  -- a span, counted from the end
-  there : (i j : ℕ) → IsSpan r text start to no_null i j → (i ≤ j) × (count - to ≤ count - j) × (count - i ≤ count - start) × Spans (mirrored r) (backward text) (count - j) (count - i) × (LeftOut (from_end count no_null) (count - j) (count - i) → ⊥)
-  there i j s =
-      let on : i ≤ j = Matches-on r text i j s.matches in (
-        on,
-        omega (arith, s.below),
-        omega (arith, s.above),
-        (backward_is r text i j (omega (arith, on, s.below, within)) (omega (arith, s.below, within))).0 s.matches,
-        λ a.
-            let e : i ≡ j = omega (arith, a.0, on, s.below, within) in
-            s.allowed e (out_there count no_null i (omega (arith, on, s.below, within)) (subst (λ (z : ℕ). from_end count no_null ≡ Some (count - z)) (sym e) a.1)),
-      )
+    -- a span, counted from the end
+    there : (i j : ℕ) → IsSpan r text start to no_null i j → (i ≤ j) × (count - to ≤ count - j)
+        × (count - i ≤ count - start) × Spans (mirrored r) (backward text) (count - j) (count - i)
+        × (LeftOut (from_end count no_null) (count - j) (count - i) → ⊥)
+    there i j s =
+        let on : i ≤ j = Matches-on r text i j s.matches in (
+          on,
+          omega (arith, s.below),
+          omega (arith, s.above),
+          (backward_is r text i j (omega (arith, on, s.below, within)) (omega (arith, s.below, within))).0 s.matches,
+          λ a.
+              let e : i ≡ j = omega (arith, a.0, on, s.below, within) in
+              s.allowed e (out_there count no_null i (omega (arith, on, s.below, within))
+              (subst (λ (z : ℕ). from_end count no_null ≡ Some (count - z)) (sym e) a.1)),
+        )
 
-  pub some_is : (o : Option Range) → Found o → IfSome (found_from_end count o) (IsLast r text start to no_null)
-  some_is None f = tt
-  some_is (Some b) f =
-      let on : b.q0 ≤ b.q1 = Spans-on (mirrored r) (backward text) b.q0 b.q1 f.span in
-      let a : count - (count - b.q0) ≡ b.q0 = omega (arith, on, f.below) in
-      let c : count - (count - b.q1) ≡ b.q1 = omega (arith, f.below) in
-      record {
-        span = record {
-          above = omega (arith, f.below, order, within);
-          below = omega (arith, f.above, within);
-          matches = (backward_is r text (count - b.q1) (count - b.q0) (omega arith) (omega arith)).1 (subst (λ (z : ℕ). Spans (mirrored r) (backward text) z (count - (count - b.q1))) (sym a) (subst (λ (z : ℕ). Spans (mirrored r) (backward text) b.q0 z) (sym c) f.span));
-          allowed = λ e n.
-              let same : b.q0 ≡ b.q1 = omega (arith, e, a, c) in
-              f.allowed (same, subst (λ (z : ℕ). from_end count no_null ≡ Some z) (let s : count - (count - b.q1) ≡ b.q0 = omega (arith, c, same) in s) (out_here count no_null (count - b.q1) (omega arith) n));
-        };
-        greatest = λ i j s.
-            let x = there i j s in
-            elim (f.least (count - j) (count - i) x.1 x.2 x.3 x.4) [ inl y ↦ omega (arith, y) | inr y ↦ omega (arith, y.0, s.below, within) ];
-        longest = λ i s.
-            let x = there i (count - b.q0) s in
-            elim (f.least (count - (count - b.q0)) (count - i) x.1 x.2 x.3 x.4) [ inl y ↦ absurd (omega (arith, y, a)) | inr y ↦ omega (arith, y.1, x.0) ];
-      }
+    pub some_is : (o : Option Range) → Found o → IfSome (found_from_end count o) (IsLast r text start to no_null)
+    some_is None f = tt
+    some_is (Some b) f =
+        let on : b.q0 ≤ b.q1 = Spans-on (mirrored r) (backward text) b.q0 b.q1 f.span in
+        let a : count - (count - b.q0) ≡ b.q0 = omega (arith, on, f.below) in
+        let c : count - (count - b.q1) ≡ b.q1 = omega (arith, f.below) in
+        record {
+          span = record {
+            above = omega (arith, f.below, order, within);
+            below = omega (arith, f.above, within);
+            matches = (backward_is r text (count - b.q1) (count - b.q0) (omega arith) (omega arith)).1
+                (subst (λ (z : ℕ). Spans (mirrored r) (backward text) z (count - (count - b.q1))) (sym a)
+                (subst (λ (z : ℕ). Spans (mirrored r) (backward text) b.q0 z) (sym c) f.span));
+            allowed = λ e n.
+                let same : b.q0 ≡ b.q1 = omega (arith, e, a, c) in
+                f.allowed (
+                  same,
+                  subst (λ (z : ℕ). from_end count no_null ≡ Some z)
+                      (let s : count - (count - b.q1) ≡ b.q0 = omega (arith, c, same) in s)
+                      (out_here count no_null (count - b.q1) (omega arith) n),
+                );
+          };
+          greatest = λ i j s.
+              let x = there i j s in
+              elim (f.least (count - j) (count - i) x.1 x.2 x.3 x.4)
+              [ inl y ↦ omega (arith, y) | inr y ↦ omega (arith, y.0, s.below, within) ];
+          longest = λ i s.
+              let x = there i (count - b.q0) s in
+              elim (f.least (count - (count - b.q0)) (count - i) x.1 x.2 x.3 x.4)
+              [ inl y ↦ absurd (omega (arith, y, a)) | inr y ↦ omega (arith, y.1, x.0) ];
+        }
 
-  pub none_is : (o : Option Range) → Found o → IfNone (found_from_end count o) (HasNoSpan r text start to no_null)
-  none_is None f = λ i j s. let x = there i j s in f (count - j) (count - i) x.1 x.2 x.3 x.4
-  none_is (Some b) f = tt
+    pub none_is : (o : Option Range) → Found o → IfNone (found_from_end count o) (HasNoSpan r text start to no_null)
+    none_is None f = λ i j s. let x = there i j s in f (count - j) (count - i) x.1 x.2 x.3 x.4
+    none_is (Some b) f = tt
 
 pub back_finds : BackFinds
 back_finds r t text no_null start to order within is =
@@ -97,5 +112,9 @@ back_finds r t text no_null start to order within is =
     let out = from_end count no_null in
     let found = search (text_of t (backward text) out) (to - start) (count - to) [] None in
     let e : count - to + (to - start) ≡ count - start = omega (arith, order, within) in
-    let f = subst (λ (z : ℕ). Finds (Spans (mirrored r) (backward text)) (LeftOut out) (λ x k j. Leads (mirrored r) (backward text) (on x) k j) (count - to) z found) e (search_is (Spans (mirrored r) (backward text)) (LeftOut out) (λ x k j. Leads (mirrored r) (backward text) (on x) k j) (count - to) (text_of t (backward text) out) (tells (mirrored r) t (backward text) out (count - to) is) (to - start)) in
+    let f = subst (λ (z : ℕ). Finds (Spans (mirrored r) (backward text)) (LeftOut out)
+    (λ x k j. Leads (mirrored r) (backward text) (on x) k j) (count - to) z found) e
+    (search_is (Spans (mirrored r) (backward text)) (LeftOut out)
+    (λ x k j. Leads (mirrored r) (backward text) (on x) k j) (count - to) (text_of t (backward text) out)
+    (tells (mirrored r) t (backward text) out (count - to) is) (to - start)) in
     (some_is r text no_null start to order within found f, none_is r text no_null start to order within found f)

@@ -1,11 +1,14 @@
 -- How a match of a part goes on, and how one of the whole does then.
-use Rattle.std.proofs.Common.{◌≡◌, ℕ, zero, suc, ◌+◌, ◌<◌, ◌≤◌, ◌⊎◌, ◌&&◌, ◌||◌, Bool, true, false, refl, sym, subst, inl, inr, arith}
+use Rattle.std.proofs.Common.{◌≡◌, ℕ, zero, suc, ◌+◌, ◌<◌, ◌≤◌, ◌⊎◌, ◌&&◌, ◌||◌, Bool, true, false, refl, sym, subst}
+use Rattle.std.proofs.Common.{inl, inr, arith}
 use Rattle.std.specs.Prelude.{IsTrue, ◌↔◌}
 use Rattle.std.proofs.lemmas.Bool.{or_cases, or_left, or_right}
-use Rattle.re_syntax.specs.Tree.{Tree, Letter, AnyLetter, OneOf, LineStart, LineEnd, Then, Either, Many, Several, Maybe, Group}
+use Rattle.re_syntax.specs.Tree.{Tree, Letter, AnyLetter, OneOf, LineStart, LineEnd, Then, Either, Many, Several, Maybe}
+use Rattle.re_syntax.specs.Tree.{Group}
 use Rattle.re_syntax.specs.Match.{Repeats, Pieces, Joins}
 use Rattle.re_sets.specs.Readings.{Reading, Spans, Rune, Null}
-use Rattle.re_sets.specs.Spots.{Spot, Only, InLeft, InRight, only, sides, none, takes_at, null, first, last, follow, Only', Sides, After, Enters, Goes}
+use Rattle.re_sets.specs.Spots.{Spot, Only, InLeft, InRight, only, sides, none, takes_at, null, first, last, follow}
+use Rattle.re_sets.specs.Spots.{Only', Sides, After, Enters, Goes}
 
 pub both : (a b : Bool) → IsTrue (a && b) → IsTrue a × IsTrue b
 both true b e = (refl, e)
@@ -33,7 +36,11 @@ Spans-on LineEnd w i j m = omega (arith, m.0)
 Spans-on (Then a b) w i j m = omega (arith, Spans-on a w i m.0 m.1, Spans-on b w m.0 j m.2)
 Spans-on (Either a b) w i j m = elim m [ inl x ↦ Spans-on a w i j x | inr y ↦ Spans-on b w i j y ]
 Spans-on (Many a) w i j m = Pieces-on (Spans a w) (Spans-on a w) m.0 i j m.1
-Spans-on (Several a) w i j m = omega (arith, Spans-on a w i m.0 m.1, Pieces-on (Spans a w) (Spans-on a w) m.2.0 m.0 j m.2.1)
+Spans-on (Several a) w i j m = omega (
+  arith,
+  Spans-on a w i m.0 m.1,
+  Pieces-on (Spans a w) (Spans-on a w) m.2.0 m.0 j m.2.1,
+)
 Spans-on (Maybe a) w i j m = elim m [ inl x ↦ Spans-on a w i j x | inr e ↦ omega (arith, e) ]
 Spans-on (Group n a) w i j m = Spans-on a w i j m
 
@@ -54,22 +61,34 @@ After-on (Then a b) w (InRight p) k j x = After-on b w p k j x
 After-on (Either a b) w Only k j x = absurd x
 After-on (Either a b) w (InLeft p) k j x = After-on a w p k j x
 After-on (Either a b) w (InRight p) k j x = After-on b w p k j x
-After-on (Many a) w p k j x = omega (arith, After-on a w p k x.0 x.1, Pieces-on (Spans a w) (Spans-on a w) x.2.0 x.0 j x.2.1)
-After-on (Several a) w p k j x = omega (arith, After-on a w p k x.0 x.1, Pieces-on (Spans a w) (Spans-on a w) x.2.0 x.0 j x.2.1)
+After-on (Many a) w p k j x = omega (
+  arith,
+  After-on a w p k x.0 x.1,
+  Pieces-on (Spans a w) (Spans-on a w) x.2.0 x.0 j x.2.1,
+)
+After-on (Several a) w p k j x = omega (
+  arith,
+  After-on a w p k x.0 x.1,
+  Pieces-on (Spans a w) (Spans-on a w) x.2.0 x.0 j x.2.1,
+)
 After-on (Maybe a) w p k j x = After-on a w p k j x
 After-on (Group n a) w p k j x = After-on a w p k j x
 
 -- ---- one letter
 
-pub rune_to : (f : ℕ → Bool) (w : Reading) (i j : ℕ) → Rune f w i j → Null false i j ⊎ ((q : Spot) × IsTrue (only true q) × (i < w.count) × IsTrue (only (f (w.rune i)) q) × Only' (j ≡ i + 1) q)
+pub rune_to : (f : ℕ → Bool) (w : Reading) (i j : ℕ) → Rune f w i j → Null false i j
+    ⊎ ((q : Spot) × IsTrue (only true q) × (i < w.count) × IsTrue (only (f (w.rune i)) q) × Only' (j ≡ i + 1) q)
 rune_to f w i j s = inr (Only, refl, s.1, s.2, s.0)
 
-rune_enters : (f : ℕ → Bool) (w : Reading) (i j : ℕ) (q : Spot) → i < w.count → IsTrue (only (f (w.rune i)) q) → Only' (j ≡ i + 1) q → Rune f w i j
+rune_enters : (f : ℕ → Bool) (w : Reading) (i j : ℕ) (q : Spot) → i < w.count → IsTrue (only (f (w.rune i)) q)
+    → Only' (j ≡ i + 1) q → Rune f w i j
 rune_enters f w i j Only l t x = (x, l, t)
 rune_enters f w i j (InLeft q) l t x = absurd x
 rune_enters f w i j (InRight q) l t x = absurd x
 
-pub rune_from : (f : ℕ → Bool) (w : Reading) (i j : ℕ) → Null false i j ⊎ ((q : Spot) × IsTrue (only true q) × (i < w.count) × IsTrue (only (f (w.rune i)) q) × Only' (j ≡ i + 1) q) → Rune f w i j
+pub rune_from : (f : ℕ → Bool) (w : Reading) (i j : ℕ) → Null false i j
+    ⊎ ((q : Spot) × IsTrue (only true q) × (i < w.count) × IsTrue (only (f (w.rune i)) q) × Only' (j ≡ i + 1) q)
+    → Rune f w i j
 rune_from f w i j g = elim g [ inl z ↦ absurd (cc (z.1)) | inr e ↦ rune_enters f w i j e.0 e.2 e.3 e.4 ]
 
 -- after the one letter
@@ -98,7 +117,9 @@ module _ (a b : Tree) (w : Reading) (n : Bool) (E : Spot → Bool) (k j : ℕ) (
     | inr e ↦ inr (InLeft e.0, e.1, e.2, e.3, (m, e.4, s))
   ]
 
-  then_enters : (q : Spot) → IsTrue (sides E (λ s. n && first b (w.here k) s) q) → k < w.count → IsTrue (takes_at (Then a b) (w.rune k) q) → After (Then a b) w q (k + 1) j → (m : ℕ) × Goes a w n E k m × Spans b w m j
+  then_enters : (q : Spot) → IsTrue (sides E (λ s. n && first b (w.here k) s) q) → k < w.count
+      → IsTrue (takes_at (Then a b) (w.rune k) q) → After (Then a b) w q (k + 1) j → (m : ℕ) × Goes a w n E k m
+      × Spans b w m j
   then_enters Only e l t x = absurd x
   then_enters (InLeft q) e l t x = (x.0, inr (q, e, l, t, x.1), x.2)
   then_enters (InRight q) e l t x =
@@ -116,7 +137,8 @@ module _ (a b : Tree) (w : Reading) (n : Bool) (E : Spot → Bool) (k j : ℕ) w
   pub later_to : Goes b w n E k j → Goes (Then a b) w n (sides none E) k j
   later_to g = elim g [ inl z ↦ inl z | inr e ↦ inr (InRight e.0, e.1, e.2, e.3, e.4) ]
 
-  later_enters : (q : Spot) → IsTrue (sides none E q) → k < w.count → IsTrue (takes_at (Then a b) (w.rune k) q) → After (Then a b) w q (k + 1) j → Goes b w n E k j
+  later_enters : (q : Spot) → IsTrue (sides none E q) → k < w.count → IsTrue (takes_at (Then a b) (w.rune k) q)
+      → After (Then a b) w q (k + 1) j → Goes b w n E k j
   later_enters Only e l t x = absurd x
   later_enters (InLeft q) e l t x = absurd cc
   later_enters (InRight q) e l t x = inr (q, e, l, t, x)
@@ -131,7 +153,8 @@ module _ (a b : Tree) (w : Reading) (n m : Bool) (E F : Spot → Bool) (k j : �
     | inr g ↦ elim g [ inl z ↦ inl (z.0, or_right n m z.1) | inr e ↦ inr (InRight e.0, e.1, e.2, e.3, e.4) ]
   ]
 
-  either_enters : (q : Spot) → IsTrue (sides E F q) → k < w.count → IsTrue (takes_at (Either a b) (w.rune k) q) → After (Either a b) w q (k + 1) j → Goes a w n E k j ⊎ Goes b w m F k j
+  either_enters : (q : Spot) → IsTrue (sides E F q) → k < w.count → IsTrue (takes_at (Either a b) (w.rune k) q)
+      → After (Either a b) w q (k + 1) j → Goes a w n E k j ⊎ Goes b w m F k j
   either_enters Only e l t x = absurd x
   either_enters (InLeft q) e l t x = inl (inr (q, e, l, t, x))
   either_enters (InRight q) e l t x = inr (inr (q, e, l, t, x))
@@ -146,7 +169,8 @@ module _ (a b : Tree) (w : Reading) (n : Bool) (E : Spot → Bool) (k j : ℕ) w
   pub left_to : Goes a w n E k j → Goes (Either a b) w n (sides E none) k j
   left_to g = elim g [ inl z ↦ inl z | inr e ↦ inr (InLeft e.0, e.1, e.2, e.3, e.4) ]
 
-  left_enters : (q : Spot) → IsTrue (sides E none q) → k < w.count → IsTrue (takes_at (Either a b) (w.rune k) q) → After (Either a b) w q (k + 1) j → Goes a w n E k j
+  left_enters : (q : Spot) → IsTrue (sides E none q) → k < w.count → IsTrue (takes_at (Either a b) (w.rune k) q)
+      → After (Either a b) w q (k + 1) j → Goes a w n E k j
   left_enters Only e l t x = absurd x
   left_enters (InLeft q) e l t x = inr (q, e, l, t, x)
   left_enters (InRight q) e l t x = absurd cc
@@ -157,7 +181,8 @@ module _ (a b : Tree) (w : Reading) (n : Bool) (E : Spot → Bool) (k j : ℕ) w
   pub right_to : Goes b w n E k j → Goes (Either a b) w n (sides none E) k j
   right_to g = elim g [ inl z ↦ inl z | inr e ↦ inr (InRight e.0, e.1, e.2, e.3, e.4) ]
 
-  right_enters : (q : Spot) → IsTrue (sides none E q) → k < w.count → IsTrue (takes_at (Either a b) (w.rune k) q) → After (Either a b) w q (k + 1) j → Goes b w n E k j
+  right_enters : (q : Spot) → IsTrue (sides none E q) → k < w.count → IsTrue (takes_at (Either a b) (w.rune k) q)
+      → After (Either a b) w q (k + 1) j → Goes b w n E k j
   right_enters Only e l t x = absurd x
   right_enters (InLeft q) e l t x = absurd cc
   right_enters (InRight q) e l t x = inr (q, e, l, t, x)
@@ -185,8 +210,15 @@ module _ (a : Tree) (w : Reading) (begin : (i j : ℕ) → Begin a w i j) (k j :
   repeats_from g = elim g [
     | inl z ↦ (zero, z.0)
     | inr e ↦
-        let x = e.4 in
-        (suc x.2.0, (x.0, omega (arith, After-on a w e.0 (k + 1) x.0 x.1), (begin k x.0).1 (inr (e.0, e.1, e.2, e.3, x.1)), x.2.1))
+        let x = e.4 in (
+          suc x.2.0,
+          (
+            x.0,
+            omega (arith, After-on a w e.0 (k + 1) x.0 x.1),
+            (begin k x.0).1 (inr (e.0, e.1, e.2, e.3, x.1)),
+            x.2.1,
+          ),
+        )
   ]
 
 module _ (a : Tree) (w : Reading) (begin : (i j : ℕ) → Begin a w i j) (n : Bool) (E : Spot → Bool) (k j : ℕ) where
@@ -197,7 +229,13 @@ module _ (a : Tree) (w : Reading) (begin : (i j : ℕ) → Begin a w i j) (n : B
   again_to m g r = elim g [
     | inl z ↦ elim (repeats_to a w begin k j (subst (λ (x : ℕ). Repeats (Spans a w) x j) z.0 r)) [
       | inl y ↦ inl (y.0, z.1)
-      | inr e ↦ inr (e.0, or_right (E e.0) (n && first a (w.here k) e.0) (and_true n (first a (w.here k) e.0) z.1 e.1), e.2, e.3, e.4)
+      | inr e ↦ inr (
+        e.0,
+        or_right (E e.0) (n && first a (w.here k) e.0) (and_true n (first a (w.here k) e.0) z.1 e.1),
+        e.2,
+        e.3,
+        e.4,
+      )
     ]
     | inr e ↦ inr (e.0, or_left (E e.0) (n && first a (w.here k) e.0) e.1, e.2, e.3, (m, e.4, r))
   ]
@@ -214,13 +252,21 @@ module _ (a : Tree) (w : Reading) (begin : (i j : ℕ) → Begin a w i j) (n : B
   ]
 
 -- what the null text and the first letters say of one part again, the same letters say
-pub absorb_to : (a : Tree) (w : Reading) (n : Bool) (E : Spot → Bool) (k j : ℕ) → Goes (Many a) w n (λ q. E q || (n && E q)) k j → Goes (Many a) w n E k j
+pub absorb_to : (a : Tree) (w : Reading) (n : Bool) (E : Spot → Bool) (k j : ℕ)
+    → Goes (Many a) w n (λ q. E q || (n && E q)) k j → Goes (Many a) w n E k j
 absorb_to a w n E k j g = elim g [
   | inl z ↦ inl z
-  | inr e ↦ inr (e.0, elim (or_cases (E e.0) (n && E e.0) e.1) [ inl l ↦ l | inr y ↦ (both n (E e.0) y).1 ], e.2, e.3, e.4)
+  | inr e ↦ inr (
+    e.0,
+    elim (or_cases (E e.0) (n && E e.0) e.1) [ inl l ↦ l | inr y ↦ (both n (E e.0) y).1 ],
+    e.2,
+    e.3,
+    e.4,
+  )
 ]
 
-pub absorb_from : (a : Tree) (w : Reading) (n : Bool) (E : Spot → Bool) (k j : ℕ) → Goes (Many a) w n E k j → Goes (Many a) w n (λ q. E q || (n && E q)) k j
+pub absorb_from : (a : Tree) (w : Reading) (n : Bool) (E : Spot → Bool) (k j : ℕ) → Goes (Many a) w n E k j
+    → Goes (Many a) w n (λ q. E q || (n && E q)) k j
 absorb_from a w n E k j g = elim g [
   | inl z ↦ inl z
   | inr e ↦ inr (e.0, or_left (E e.0) (n && E e.0) e.1, e.2, e.3, e.4)

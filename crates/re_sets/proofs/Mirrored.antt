@@ -1,9 +1,11 @@
 -- A text read forward is the text; read backward it is the mirror of it.
-use Rattle.std.proofs.Common.{◌≡◌, ℕ, zero, suc, ◌+◌, ◌-◌, ◌<◌, ◌≤◌, ◌⊎◌, ◌==◌, ◌&&◌, ◌||◌, Bool, true, false, not, List, length, refl, sym, subst, inl, inr, arith}
+use Rattle.std.proofs.Common.{◌≡◌, ℕ, zero, suc, ◌+◌, ◌-◌, ◌<◌, ◌≤◌, ◌⊎◌, ◌==◌, ◌&&◌, ◌||◌, Bool, true, false, not}
+use Rattle.std.proofs.Common.{List, length, refl, sym, subst, inl, inr, arith}
 use Rattle.std.specs.Prelude.{IsTrue, ◌↔◌, slice_index, nat_lt}
 use Rattle.std.proofs.lemmas.Bool.{cases_lt}
 use Rattle.std.proofs.lemmas.Bool.Decides.{nat_tests}
-use Rattle.re_syntax.specs.Tree.{Tree, Letter, AnyLetter, OneOf, LineStart, LineEnd, Then, Either, Many, Several, Maybe, Group}
+use Rattle.re_syntax.specs.Tree.{Tree, Letter, AnyLetter, OneOf, LineStart, LineEnd, Then, Either, Many, Several, Maybe}
+use Rattle.re_syntax.specs.Tree.{Group}
 use Rattle.re_syntax.specs.Match.{Matches, Repeats, Pieces, Joins, one_rune, line_start, line_end}
 use Rattle.re_spans.specs.Leaves.{takes, is_null, here_at}
 use Rattle.re_sets.specs.Readings.{Reading, Spans, Rune, Null, forward, backward, mirrored, read_as}
@@ -55,7 +57,8 @@ rune_is f t i j = (
       let x = both (nat_lt i (length t) && (j == i + 1)) (f (slice_index t i)) h in
       let y = both (nat_lt i (length t)) (j == i + 1) x.0 in
       (grind (arith, nat_tests, y.1), grind (arith, nat_tests, y.0), x.1),
-  λ s. and_true (nat_lt i (length t) && (j == i + 1)) (f (slice_index t i)) (and_true (nat_lt i (length t)) (j == i + 1) (grind (arith, nat_tests, s.1)) (grind (arith, nat_tests, s.0))) s.2,
+  λ s. and_true (nat_lt i (length t) && (j == i + 1)) (f (slice_index t i))
+      (and_true (nat_lt i (length t)) (j == i + 1) (grind (arith, nat_tests, s.1)) (grind (arith, nat_tests, s.0))) s.2,
 )
 
 start_is : (b c : Bool) (i j : ℕ) → IsTrue ((j == i) && b && c) ↔ Null (b && c) i j
@@ -94,8 +97,24 @@ forward_is (Many a) t i j = (
   λ p. (p.0, pieces_same (Spans a (forward t)) (Matches a t) (λ x y. (forward_is a t x y).1) p.0 i j p.1),
 )
 forward_is (Several a) t i j = (
-  λ p. (p.0, (forward_is a t i p.0).0 p.1, (p.2.0, pieces_same (Matches a t) (Spans a (forward t)) (λ x y. (forward_is a t x y).0) p.2.0 p.0 j p.2.1)),
-  λ p. (p.0, (forward_is a t i p.0).1 p.1, (p.2.0, pieces_same (Spans a (forward t)) (Matches a t) (λ x y. (forward_is a t x y).1) p.2.0 p.0 j p.2.1)),
+  λ p. (
+    p.0,
+    (forward_is a t i p.0).0 p.1,
+    (
+      p.2.0,
+      pieces_same (Matches a t) (Spans a (forward t))
+          (λ x y. (forward_is a t x y).0) p.2.0 p.0 j p.2.1,
+    ),
+  ),
+  λ p. (
+    p.0,
+    (forward_is a t i p.0).1 p.1,
+    (
+      p.2.0,
+      pieces_same (Spans a (forward t)) (Matches a t)
+          (λ x y. (forward_is a t x y).1) p.2.0 p.0 j p.2.1,
+    ),
+  ),
 )
 forward_is (Maybe a) t i j = (
   λ h. elim h [ inl x ↦ inl ((forward_is a t i j).0 x) | inr y ↦ inr y ],
@@ -113,26 +132,32 @@ mirror_back : (n : ℕ) (R S : ℕ → ℕ → Type 0) → Mirrors n R S → Mir
 mirror_back n R S m i j x y e f =
     let p = m y x j i (omega (arith, f)) (omega (arith, e)) in (p.1, p.0)
 
-joins_to : (n : ℕ) (A B C D : ℕ → ℕ → Type 0) → LeadsOn A → LeadsOn B → Mirrors n A C → Mirrors n B D → (i j x y : ℕ) → i + x ≡ n → j + y ≡ n → Joins A B i j → Joins D C y x
+joins_to : (n : ℕ) (A B C D : ℕ → ℕ → Type 0) → LeadsOn A → LeadsOn B → Mirrors n A C → Mirrors n B D → (i j x y : ℕ)
+    → i + x ≡ n → j + y ≡ n → Joins A B i j → Joins D C y x
 joins_to n A B C D on_a on_b a b i j x y e f p =
     let inside : p.0 ≤ j = on_b p.0 j p.2 in
     let sum : p.0 + (n - p.0) ≡ n = omega (arith, inside, f) in
     (n - p.0, (b p.0 j (n - p.0) y sum f).0 p.2, (a i p.0 x (n - p.0) e sum).0 p.1)
 
-joins_mirror : (n : ℕ) (A B C D : ℕ → ℕ → Type 0) → LeadsOn A → LeadsOn B → LeadsOn C → LeadsOn D → Mirrors n A C → Mirrors n B D → Mirrors n (Joins A B) (Joins D C)
+joins_mirror : (n : ℕ) (A B C D : ℕ → ℕ → Type 0) → LeadsOn A → LeadsOn B → LeadsOn C → LeadsOn D → Mirrors n A C
+    → Mirrors n B D → Mirrors n (Joins A B) (Joins D C)
 joins_mirror n A B C D on_a on_b on_c on_d a b i j x y e f = (
   joins_to n A B C D on_a on_b a b i j x y e f,
-  joins_to n D C B A on_d on_c (mirror_back n B D b) (mirror_back n A C a) y x j i (omega (arith, f)) (omega (arith, e)),
+  joins_to n D C B A on_d on_c (mirror_back n B D b) (mirror_back n A C a) y x j i (omega (arith, f))
+      (omega (arith, e)),
 )
 
-pieces_mirror : (n : ℕ) (A C : ℕ → ℕ → Type 0) → LeadsOn A → LeadsOn C → Mirrors n A C → (m i j x y : ℕ) → i + x ≡ n → j + y ≡ n → Pieces A m i j → Repeats C y x
+pieces_mirror : (n : ℕ) (A C : ℕ → ℕ → Type 0) → LeadsOn A → LeadsOn C → Mirrors n A C → (m i j x y : ℕ)
+    → i + x ≡ n → j + y ≡ n → Pieces A m i j → Repeats C y x
 pieces_mirror n A C on_a on_c a zero i j x y e f p = (zero, omega (arith, e, f, p))
 pieces_mirror n A C on_a on_c a (suc m) i j x y e f p =
     let inside : p.0 ≤ j = Pieces-on A on_a m p.0 j p.3 in
     let sum : p.0 + (n - p.0) ≡ n = omega (arith, inside, f) in
-    repeats_then C on_c y (n - p.0) x (pieces_mirror n A C on_a on_c a m p.0 j (n - p.0) y sum f p.3) ((a i p.0 x (n - p.0) e sum).0 p.2)
+    repeats_then C on_c y (n - p.0) x (pieces_mirror n A C on_a on_c a m p.0 j (n - p.0) y sum f p.3)
+    ((a i p.0 x (n - p.0) e sum).0 p.2)
 
-repeats_mirror : (n : ℕ) (A C : ℕ → ℕ → Type 0) → LeadsOn A → LeadsOn C → Mirrors n A C → Mirrors n (Repeats A) (Repeats C)
+repeats_mirror : (n : ℕ) (A C : ℕ → ℕ → Type 0) → LeadsOn A → LeadsOn C → Mirrors n A C
+    → Mirrors n (Repeats A) (Repeats C)
 repeats_mirror n A C on_a on_c a i j x y e f = (
   λ p. pieces_mirror n A C on_a on_c a p.0 i j x y e f p.1,
   λ p. pieces_mirror n C A on_c on_a (mirror_back n A C a) p.0 y x j i (omega (arith, f)) (omega (arith, e)) p.1,
@@ -148,7 +173,8 @@ rune_mirror f t i j x y e g = (
       (omega (arith, e, g, s.0), omega (arith, e, g, s.0), subst (λ (z : ℕ). IsTrue (f (slice_index t z))) same s.2),
 )
 
-null_mirror : (r : Tree) (t : List ℕ) → Mirrors (length t) (λ i j. Null (is_null r (here_at t i)) i j) (λ y x. Null (is_null r (here_at t (length t - y))) y x)
+null_mirror : (r : Tree) (t : List ℕ) → Mirrors (length t) (λ i j. Null (is_null r (here_at t i)) i j)
+    (λ y x. Null (is_null r (here_at t (length t - y))) y x)
 null_mirror r t i j x y e g = (
   λ s.
       let same : length t - y ≡ i = omega (arith, e, g, s.0) in
@@ -168,19 +194,24 @@ mirror_is (OneOf negated spans) t i j x y e f = rune_mirror (takes (OneOf negate
 mirror_is LineStart t i j x y e f = null_mirror LineStart t i j x y e f
 mirror_is LineEnd t i j x y e f = null_mirror LineEnd t i j x y e f
 mirror_is (Then a b) t i j x y e f =
-    joins_mirror (length t) (Spans a (forward t)) (Spans b (forward t)) (Spans (mirrored a) (backward t)) (Spans (mirrored b) (backward t)) (Spans-on a (forward t)) (Spans-on b (forward t)) (Spans-on (mirrored a) (backward t)) (Spans-on (mirrored b) (backward t)) (mirror_is a t) (mirror_is b t) i j x y e f
+    joins_mirror (length t) (Spans a (forward t)) (Spans b (forward t)) (Spans (mirrored a) (backward t))
+    (Spans (mirrored b) (backward t)) (Spans-on a (forward t)) (Spans-on b (forward t))
+    (Spans-on (mirrored a) (backward t)) (Spans-on (mirrored b) (backward t)) (mirror_is a t) (mirror_is b t) i j x
+    y e f
 mirror_is (Either a b) t i j x y e f = (
   λ h. elim h [ inl p ↦ inl ((mirror_is a t i j x y e f).0 p) | inr q ↦ inr ((mirror_is b t i j x y e f).0 q) ],
   λ h. elim h [ inl p ↦ inl ((mirror_is a t i j x y e f).1 p) | inr q ↦ inr ((mirror_is b t i j x y e f).1 q) ],
 )
 mirror_is (Many a) t i j x y e f =
-    repeats_mirror (length t) (Spans a (forward t)) (Spans (mirrored a) (backward t)) (Spans-on a (forward t)) (Spans-on (mirrored a) (backward t)) (mirror_is a t) i j x y e f
+    repeats_mirror (length t) (Spans a (forward t)) (Spans (mirrored a) (backward t)) (Spans-on a (forward t))
+    (Spans-on (mirrored a) (backward t)) (mirror_is a t) i j x y e f
 mirror_is (Several a) t i j x y e f =
     let A = Spans a (forward t) in
     let C = Spans (mirrored a) (backward t) in
     let on_a : LeadsOn (Spans a (forward t)) = Spans-on a (forward t) in
     let on_c : LeadsOn (Spans (mirrored a) (backward t)) = Spans-on (mirrored a) (backward t) in
-    let m = joins_mirror (length t) A (Repeats A) C (Repeats C) on_a (Repeats-on A on_a) on_c (Repeats-on C on_c) (mirror_is a t) (repeats_mirror (length t) A C on_a on_c (mirror_is a t)) i j x y e f in (
+    let m = joins_mirror (length t) A (Repeats A) C (Repeats C) on_a (Repeats-on A on_a) on_c (Repeats-on C on_c)
+    (mirror_is a t) (repeats_mirror (length t) A C on_a on_c (mirror_is a t)) i j x y e f in (
       λ p. first_again C on_c y x (m.0 p),
       λ p. m.1 (again_first C on_c p.2.0 y p.0 x p.1 p.2.1),
     )
@@ -190,7 +221,8 @@ mirror_is (Maybe a) t i j x y e f = (
 )
 mirror_is (Group n a) t i j x y e f = mirror_is a t i j x y e f
 
-pub backward_is : (r : Tree) (t : List ℕ) (i j : ℕ) → i ≤ length t → j ≤ length t → Matches r t i j ↔ Spans (mirrored r) (backward t) (length t - j) (length t - i)
+pub backward_is : (r : Tree) (t : List ℕ) (i j : ℕ) → i ≤ length t → j ≤ length t
+    → Matches r t i j ↔ Spans (mirrored r) (backward t) (length t - j) (length t - i)
 backward_is r t i j a b =
     let m = mirror_is r t i j (length t - i) (length t - j) (omega (arith, a)) (omega (arith, b)) in (
       λ p. m.0 ((forward_is r t i j).0 p),

@@ -26,20 +26,29 @@ module _ (r : Tree) (t : Table) (w : Reading) (no_null : Option ℕ) (low : ℕ)
   pub known_start : Known r w no_null low low [] None
   known_start = start_is (Spans r w) (LeftOut no_null) L low (text_of t w no_null) (tells r t w no_null low is)
 
-  pub known_step : (k : ℕ) (rows : List Row) (best : Option Range) → low ≤ k → Reached r t w no_null low k rows best → Known r w no_null low (k + 1) (solid (onward (text_of t w no_null) k (seen (text_of t w no_null) k rows best))) (seen (text_of t w no_null) k rows best).best
+  pub known_step : (k : ℕ) (rows : List Row) (best : Option Range) → low ≤ k → Reached r t w no_null low k rows best
+      → Known r w no_null low (k + 1) (solid (onward (text_of t w no_null) k (seen (text_of t w no_null) k rows best)))
+      (seen (text_of t w no_null) k rows best).best
   known_step = step_from (Spans r w) (LeftOut no_null) L low (text_of t w no_null) (tells r t w no_null low is)
 
-  pub known_end : (k : ℕ) (rows : List Row) (best : Option Range) → low ≤ k → Reached r t w no_null low k rows best → FindsIn r w no_null low k (seen (text_of t w no_null) k rows best).best
+  pub known_end : (k : ℕ) (rows : List Row) (best : Option Range) → low ≤ k → Reached r t w no_null low k rows best
+      → FindsIn r w no_null low k (seen (text_of t w no_null) k rows best).best
   known_end = end_from (Spans r w) (LeftOut no_null) L low (text_of t w no_null) (tells r t w no_null low is)
 
-  pub known_skip : (k : ℕ) → low ≤ k → (text_of t w no_null).null k ≡ false → ((n : ℕ) → IsTrue (on ((text_of t w no_null).begin k) n) → ⊥) → Known r w no_null low k [] None → Known r w no_null low (k + 1) [] None
-  known_skip k above n dead = skip_is (Spans r w) (LeftOut no_null) L low (text_of t w no_null) (tells r t w no_null low is) k above n (λ j l. dead (number r 0 l.0) l.1)
+  pub known_skip : (k : ℕ) → low ≤ k → (text_of t w no_null).null k ≡ false →
+      ((n : ℕ) → IsTrue (on ((text_of t w no_null).begin k) n) → ⊥) → Known r w no_null low k [] None
+      → Known r w no_null low (k + 1) [] None
+  known_skip k above n dead = skip_is (Spans r w) (LeftOut no_null) L low (text_of t w no_null)
+      (tells r t w no_null low is) k above n (λ j l. dead (number r 0 l.0) l.1)
 
-  pub known_stops : (k high : ℕ) (best : Range) → Known r w no_null low k [] (Some best) → k ≤ high + 1 → FindsIn r w no_null low high (Some best)
+  pub known_stops : (k high : ℕ) (best : Range) → Known r w no_null low k [] (Some best) → k ≤ high + 1
+      → FindsIn r w no_null low high (Some best)
   known_stops = stops (Spans r w) (LeftOut no_null) L low (text_of t w no_null) (tells r t w no_null low is)
 
-  pub known_alone : (k start set : ℕ) → Known r w no_null low k (record { start = start; set = set } ∷ []) None → Followed r w no_null low k start set
+  pub known_alone : (k start set : ℕ) → Known r w no_null low k (record { start = start; set = set } ∷ []) None
+      → Followed r w no_null low k start set
   known_alone = follow_is (Spans r w) (LeftOut no_null) L low (text_of t w no_null) (tells r t w no_null low is)
 
-  pub followed_step : (k start set : ℕ) → (text_of t w no_null).ends k set ≡ false → Followed r w no_null low k start set → Followed r w no_null low (k + 1) start ((text_of t w no_null).move k set)
+  pub followed_step : (k start set : ℕ) → (text_of t w no_null).ends k set ≡ false → Followed r w no_null low k start
+      set → Followed r w no_null low (k + 1) start ((text_of t w no_null).move k set)
   followed_step = follow_step (Spans r w) (LeftOut no_null) L low (text_of t w no_null) (tells r t w no_null low is)

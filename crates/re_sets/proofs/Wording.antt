@@ -1,9 +1,11 @@
 -- Bits of words.
-use Rattle.std.proofs.Common.{◌≡◌, ℕ, ◌+◌, ◌*◌, ◌/◌, ◌%◌, ◌^◌, ◌<◌, ◌≤◌, ◌==◌, ◌||◌, ◌&&◌, ◌⊎◌, Bool, true, false, List, refl, ap, inl, inr, sym, subst, arith, w64}
+use Rattle.std.proofs.Common.{◌≡◌, ℕ, ◌+◌, ◌*◌, ◌/◌, ◌%◌, ◌^◌, ◌<◌, ◌≤◌, ◌==◌, ◌||◌, ◌&&◌, ◌⊎◌, Bool, true, false, List}
+use Rattle.std.proofs.Common.{refl, ap, inl, inr, sym, subst, arith, w64}
 use Rattle.std.proofs.lemmas.Bool.{cases_eq, cases_Bool}
 use Rattle.std.proofs.lemmas.Bool.Decides.{nat_tests}
 use Rattle.std.proofs.lemmas.Nat.{and_le_l}
-use Rattle.std.proofs.lemmas.Nat.Bits.{bit_at_or, bit_at_and, bit_at-zero, bit_at-lt, bit_at_clear_same, bit_at_clear_other, bit_at-trailing_zeros}
+use Rattle.std.proofs.lemmas.Nat.Bits.{bit_at_or, bit_at_and, bit_at-zero, bit_at-lt, bit_at_clear_same}
+use Rattle.std.proofs.lemmas.Nat.Bits.{bit_at_clear_other, bit_at-trailing_zeros}
 use Rattle.std.specs.Prelude.{IsTrue, bit_and, bit_or, ◌↔◌}
 use Rattle.std.specs.Int.{bit_at, bit_not, trailing_zeros}
 use Rattle.re_sets.specs.Words.{on}
@@ -20,7 +22,14 @@ on_or_right a b n h = (on_is (bit_or a b) n).1 (omega (arith, bit_at_or a b n, b
 pub on_or_cases : (a b n : ℕ) → IsTrue (on (bit_or a b) n) → IsTrue (on a n) ⊎ IsTrue (on b n)
 on_or_cases a b n h = elim (cases_eq (bit_at a n) 1) [
   | inl e ↦ inl ((on_is a n).1 e)
-  | inr o ↦ inr ((on_is b n).1 (omega (arith, bit_at_or a b n, bit_at-lt a n, bit_at-lt b n, o, (on_is (bit_or a b) n).0 h)))
+  | inr o ↦ inr ((on_is b n).1 (omega (
+    arith,
+    bit_at_or a b n,
+    bit_at-lt a n,
+    bit_at-lt b n,
+    o,
+    (on_is (bit_or a b) n).0 h,
+  )))
 ]
 
 pub on_zero : (n : ℕ) → IsTrue (on 0 n) → ⊥

@@ -1,6 +1,7 @@
 -- The letters of a tree by number, and sets of them as bits.
 use Rattle.std.specs.Prelude.{◌≡◌, ◌<◌, ◌+◌, ◌==◌, ◌&&◌, ◌||◌, ◌⊎◌, ℕ, zero, suc, Bool, true, false, IsTrue}
-use Rattle.re_syntax.specs.Tree.{Tree, Letter, AnyLetter, OneOf, LineStart, LineEnd, Then, Either, Many, Several, Maybe, Group}
+use Rattle.re_syntax.specs.Tree.{Tree, Letter, AnyLetter, OneOf, LineStart, LineEnd, Then, Either, Many, Several, Maybe}
+use Rattle.re_syntax.specs.Tree.{Group}
 use Rattle.re_spans.specs.declared.leaf.Here.{Here}
 use Rattle.re_sets.specs.Readings.{Reading, Spans, Null}
 use Rattle.re_sets.specs.Spots.{Spot, Only, InLeft, InRight, only, sides, takes_at, null, first, last, follow, After}
@@ -94,8 +95,10 @@ Leads r w s k j = (p : Spot) × IsTrue (s (number r 0 p)) × After r w p k j
 
 -- a match that begins at i has come by this letter over so many runes more than one
 pub data Came (r : Tree) (w : Reading) (i : ℕ) : ℕ → Spot → Type 0 where
-  begun : (q : Spot) → IsTrue (is_letter r q) → IsTrue (first r (w.here i) q) → IsTrue (takes_at r (w.rune i) q) → Came r w i 0 q
-  gone : (n : ℕ) (p q : Spot) → Came r w i n p → IsTrue (is_letter r q) → IsTrue (follow r (w.here (i + 1 + n)) p q) → IsTrue (takes_at r (w.rune (i + 1 + n)) q) → Came r w i (n + 1) q
+  begun : (q : Spot) → IsTrue (is_letter r q) → IsTrue (first r (w.here i) q) → IsTrue (takes_at r (w.rune i) q)
+      → Came r w i 0 q
+  gone : (n : ℕ) (p q : Spot) → Came r w i n p → IsTrue (is_letter r q) → IsTrue (follow r (w.here (i + 1 + n)) p q)
+      → IsTrue (takes_at r (w.rune (i + 1 + n)) q) → Came r w i (n + 1) q
 
 -- the letters of the matches that begin at i, over k runes more than one
 abbrev pub run : Tree → Reading → ℕ → ℕ → ℕ → Bool

@@ -1,5 +1,6 @@
 -- A search by rows, each a start and the set of letters to which matches from it came.
-use Rattle.std.specs.Prelude.{◌≡◌, ◌<◌, ◌≤◌, ◌+◌, ◌-◌, ◌==◌, ◌⊎◌, ℕ, zero, suc, Bool, true, false, List, [], ◌∷◌, ◌++◌, map, Option, Some, None, IsTrue, if◌then◌else◌}
+use Rattle.std.specs.Prelude.{◌≡◌, ◌<◌, ◌≤◌, ◌+◌, ◌-◌, ◌==◌, ◌⊎◌, ℕ, zero, suc, Bool, true, false, List, [], ◌∷◌, ◌++◌}
+use Rattle.std.specs.Prelude.{map, Option, Some, None, IsTrue, if◌then◌else◌}
 use Rattle.am_text.specs.declared.range.Range.{Range}
 
 -- where matches begin, and the letters by which they came here
@@ -35,7 +36,8 @@ ended e (x ∷ xs) = if e x.set then Some (x.start, x ∷ []) else with_row x (e
 -- each letter stays in the first row alone that has it
 abbrev pub parted : (ℕ → ℕ → ℕ) → (ℕ → ℕ → ℕ) → List Row → ℕ → List Row
 parted minus union [] seen = []
-parted minus union (x ∷ xs) seen = record { start = x.start; set = minus x.set seen } ∷ parted minus union xs (union seen x.set)
+parted minus union (x ∷ xs) seen = record { start = x.start; set = minus x.set seen } ∷ parted minus union xs
+    (union seen x.set)
 
 -- what is known at a place once the matches that end there are seen, and whether a row may begin there
 pub record Seen : Type 0 where
@@ -47,7 +49,11 @@ pub record Seen : Type 0 where
 abbrev pub seen_at : ℕ → Bool → List Row → Option Range → Option (ℕ × List Row) → Seen
 seen_at k null rows best (Some p) = record { rows = p.1; best = Some (record { q0 = p.0; q1 = k }); enters = false }
 seen_at k null rows (Some b) None = record { rows = rows; best = Some b; enters = false }
-seen_at k null rows None None = record { rows = rows; best = if null then Some (record { q0 = k; q1 = k }) else None; enters = true }
+seen_at k null rows None None = record {
+  rows = rows;
+  best = if null then Some (record { q0 = k; q1 = k }) else None;
+  enters = true;
+}
 
 -- the row that begins at the place k with these letters, where one may
 abbrev pub new_row : Bool → ℕ → ℕ → List Row
@@ -58,7 +64,8 @@ abbrev pub move_rows : (ℕ → ℕ) → List Row → List Row
 move_rows f [] = []
 move_rows f (x ∷ xs) = record { start = x.start; set = f x.set } ∷ move_rows f xs
 
--- what a search needs to know of the text: which sets end here, whether the null text counts, the step of a set, and the set that begins here
+-- what a search needs to know of the text: which sets end here, whether the null text counts, the step of a set, and
+-- the set that begins here
 pub record Text : Type 0 where
   pub ends : ℕ → ℕ → Bool
   pub null : ℕ → Bool
@@ -109,7 +116,8 @@ module _ (S A : ℕ → ℕ → Type 0) (L : ℕ → ℕ → ℕ → Type 0) (lo
     pub sound : AllRows (λ x. (low ≤ x.start) × (x.start < k) × ((j : ℕ) → L x.set k j → S x.start j)) rows
     pub before : OnBest (λ b. AllRows (λ x. x.start ≤ b.q0) rows) best
     pub is_span : OnBest (λ b. (low ≤ b.q0) × (b.q0 ≤ b.q1) × (b.q1 < closed) × S b.q0 b.q1 × (A b.q0 b.q1 → ⊥)) best
-    pub opened : (i j : ℕ) → low ≤ i → i < k → k ≤ j → S i j → Beats best i ⊎ AnyRow (λ x. (x.start ≤ i) × L x.set k j) rows
+    pub opened : (i j : ℕ) → low ≤ i → i < k → k ≤ j → S i j → Beats best i
+        ⊎ AnyRow (λ x. (x.start ≤ i) × L x.set k j) rows
     pub done : (i j : ℕ) → low ≤ i → j < closed → S i j → (A i j → ⊥) → Covers best i j
 
   -- the text tells of the spans
@@ -139,7 +147,8 @@ module _ (S A : ℕ → ℕ → Type 0) (L : ℕ → ℕ → ℕ → Type 0) (lo
 
   -- these rows and this match are all that is known, or the one row was followed alone to a place where it ends
   abbrev pub Reaches : Text → ℕ → List Row → Option Range → Type 0
-  Reaches t k rows best = Knows k k rows best ⊎ ((x : Row) × (rows ≡ x ∷ []) × Follows k x.start x.set × (t.ends k x.set ≡ true))
+  Reaches t k rows best = Knows k k rows best ⊎ ((x : Row) × (rows ≡ x ∷ []) × Follows k x.start x.set
+      × (t.ends k x.set ≡ true))
 
   -- it begins first, and of those it is the longest
   pub record IsBest (high : ℕ) (b : Range) : Type 0 where

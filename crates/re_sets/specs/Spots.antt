@@ -1,6 +1,7 @@
 -- The letters of a tree, and which of them may follow one another at a place.
 use Rattle.std.specs.Prelude.{◌≡◌, ◌<◌, ◌+◌, ◌&&◌, ◌||◌, ◌⊎◌, ℕ, Bool, true, false, IsTrue}
-use Rattle.re_syntax.specs.Tree.{Tree, Letter, AnyLetter, OneOf, LineStart, LineEnd, Then, Either, Many, Several, Maybe, Group}
+use Rattle.re_syntax.specs.Tree.{Tree, Letter, AnyLetter, OneOf, LineStart, LineEnd, Then, Either, Many, Several, Maybe}
+use Rattle.re_syntax.specs.Tree.{Group}
 use Rattle.re_syntax.specs.Match.{Repeats, Joins}
 use Rattle.re_spans.specs.Leaves.{takes, is_null}
 use Rattle.re_spans.specs.declared.leaf.Here.{Here}
@@ -141,4 +142,5 @@ Goes r w ends E k j = Null ends k j ⊎ Enters r w E k j
 -- the letters of a path, from the place k up to the end at j
 pub data Path (r : Tree) (w : Reading) : Spot → ℕ → ℕ → Type 0 where
   ends : (p : Spot) (k : ℕ) → IsTrue (last r (w.here k) p) → Path r w p k k
-  takes_one : (p q : Spot) (k j : ℕ) → IsTrue (follow r (w.here k) p q) → k < w.count → IsTrue (takes_at r (w.rune k) q) → Path r w q (k + 1) j → Path r w p k j
+  takes_one : (p q : Spot) (k j : ℕ) → IsTrue (follow r (w.here k) p q) → k < w.count → IsTrue (takes_at r (w.rune k) q)
+      → Path r w q (k + 1) j → Path r w p k j

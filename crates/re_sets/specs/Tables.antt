@@ -1,5 +1,6 @@
 -- The tables of a machine, and the search over a text by them.
-use Rattle.std.specs.Prelude.{◌≡◌, ◌<◌, ◌≤◌, ◌+◌, ◌==◌, ◌&&◌, ◌||◌, ◌↔◌, ℕ, zero, suc, Bool, not, Option, IsTrue, nat_lt, bit_and, bit_or, if◌then◌else◌}
+use Rattle.std.specs.Prelude.{◌≡◌, ◌<◌, ◌≤◌, ◌+◌, ◌==◌, ◌&&◌, ◌||◌, ◌↔◌, ℕ, zero, suc, Bool, not, Option, IsTrue}
+use Rattle.std.specs.Prelude.{nat_lt, bit_and, bit_or, if◌then◌else◌}
 use Rattle.std.specs.Int.Bits.{bit_xor}
 use Rattle.re_syntax.specs.Tree.{Tree}
 use Rattle.re_spans.specs.declared.leaf.Here.{Here}

@@ -1,6 +1,7 @@
 //! What holds of all paths.
 
-ghost use Rattle.re_sets.specs.Laws.{SpansArePaths, MatchesArePaths, MatchesAreMirroredPaths, TreesAreRead, SetsAreEntered, SetsAreStepped, SetsAreReached};
+ghost use Rattle.re_sets.specs.Laws.{SpansArePaths, MatchesArePaths, MatchesAreMirroredPaths, TreesAreRead};
+ghost use Rattle.re_sets.specs.Laws.{SetsAreEntered, SetsAreStepped, SetsAreReached};
 ghost use Rattle.re_sets.specs.Searches.{SearchFinds, BackFinds, SearchIsValue};
 
 /// A span is a path through the letters of a tree, and backward through those of the mirrored tree.

@@ -1,5 +1,6 @@
 -- The marks of leaves.
-use Rattle.std.proofs.Common.{◌≡◌, ℕ, ◌<◌, ◌+◌, ◌-◌, ◌==◌, ◌&&◌, ◌||◌, Bool, true, false, List, length, get_or, refl, sym, subst, ◌∙◌, arith}
+use Rattle.std.proofs.Common.{◌≡◌, ℕ, ◌<◌, ◌+◌, ◌-◌, ◌==◌, ◌&&◌, ◌||◌, Bool, true, false, List, length, get_or, refl}
+use Rattle.std.proofs.Common.{sym, subst, ◌∙◌, arith}
 use Rattle.std.specs.Prelude.{IsTrue, ◌↔◌, nat_lt, slice_index}
 use Rattle.std.proofs.lemmas.Bool.{eqb-true, eq-eqb}
 use Rattle.std.proofs.lemmas.Bool.Decides.{nat_tests}
@@ -25,18 +26,21 @@ module _ (t : List ℕ) (test : ℕ → Bool) where
 
   one_there : (i : ℕ) → i < length t → IsTrue (test (slice_index t i)) → Runes i (i + 1)
   one_there i l h =
-      and_true (nat_lt i (length t) && (i + 1 == i + 1)) (test (slice_index t i)) (and_true (nat_lt i (length t)) (i + 1 == i + 1) (lt_true i (length t) l) (eq-eqb (i + 1) (i + 1) refl)) h
+      and_true (nat_lt i (length t) && (i + 1 == i + 1)) (test (slice_index t i))
+      (and_true (nat_lt i (length t)) (i + 1 == i + 1) (lt_true i (length t) l) (eq-eqb (i + 1) (i + 1) refl)) h
 
   one_here : (i j : ℕ) → Runes i j → (j ≡ i + 1) × IsTrue (test (slice_index t i))
   one_here i j h =
       let x = both (nat_lt i (length t) && (j == i + 1)) (test (slice_index t i)) h in
       (eqb-true j (i + 1) (both (nat_lt i (length t)) (j == i + 1) x.0).1, x.1)
 
-  rune_step : (way : Way) (i n : ℕ) → Next way i n → lower way i n < length t → IsTrue (test (slice_index t (lower way i n))) → Along way Runes i n
+  rune_step : (way : Way) (i n : ℕ) → Next way i n → lower way i n < length t
+      → IsTrue (test (slice_index t (lower way i n))) → Along way Runes i n
   rune_step On i n e l h = subst (λ (x : ℕ). Runes i x) (sym e) (one_there i l h)
   rune_step Back i n e l h = subst (λ (x : ℕ). Runes n x) (sym e) (one_there n l h)
 
-  rune_from : (way : Way) (k i n : ℕ) → Next way i n → Along way Runes k n → (k ≡ i) × IsTrue (test (slice_index t (lower way i n)))
+  rune_from : (way : Way) (k i n : ℕ) → Next way i n → Along way Runes k n → (k ≡ i)
+      × IsTrue (test (slice_index t (lower way i n)))
   rune_from On k i n e p =
       let x = one_here k n p in
       let same : k ≡ i = omega (arith, x.0) in
@@ -47,10 +51,15 @@ module _ (t : List ℕ) (test : ℕ → Bool) where
   no_null On n p = absurd (omega (arith, (one_here n n p).0))
   no_null Back n p = absurd (omega (arith, (one_here n n p).0))
 
-  pub rune_is : (way : Way) (E : ℕ → Type 0) (i n : ℕ) (m : Bool) → Next way i n → lower way i n < length t → IsTrue m ↔ E i → MarkIs way (Along way Runes) E n (record { led = m && test (slice_index t (lower way i n)); null = false })
+  pub rune_is : (way : Way) (E : ℕ → Type 0) (i n : ℕ) (m : Bool) → Next way i n → lower way i n < length t
+      → IsTrue m ↔ E i → MarkIs way (Along way Runes) E n (record {
+        led = m && test (slice_index t (lower way i n));
+        null = false;
+      })
   rune_is way E i n m next l e = record {
     is_led = (
-      λ h. let x = both m (test (slice_index t (lower way i n))) h in (i, next_before way i n next, e.0 x.0, rune_step way i n next l x.1),
+      λ h. let x = both m (test (slice_index t (lower way i n))) h in
+          (i, next_before way i n next, e.0 x.0, rune_step way i n next l x.1),
       λ p.
           let x = rune_from way p.0 i n next p.3 in
           and_true m (test (slice_index t (lower way i n))) (e.1 (subst E x.0 p.2)) x.1,
@@ -58,7 +67,8 @@ module _ (t : List ℕ) (test : ℕ → Bool) where
     is_null = (λ h. absurd cc, λ p. absurd (no_null way n p));
   }
 
-  pub rune_fresh : (way : Way) (E : ℕ → Type 0) (n : ℕ) → ((k : ℕ) → Before way k n → E k → ⊥) → MarkIs way (Along way Runes) E n (record { led = false; null = false })
+  pub rune_fresh : (way : Way) (E : ℕ → Type 0) (n : ℕ) → ((k : ℕ) → Before way k n → E k → ⊥)
+      → MarkIs way (Along way Runes) E n (record { led = false; null = false })
   rune_fresh way E n none = record {
     is_led = (λ h. absurd cc, λ p. absurd (none p.0 p.1 p.2));
     is_null = (λ h. absurd cc, λ p. absurd (no_null way n p));
@@ -66,7 +76,8 @@ module _ (t : List ℕ) (test : ℕ → Bool) where
 
 -- ---- null texts
 
-module _ (null : ℕ → ℕ → Bool) (here : ℕ → Bool) (only : (i j : ℕ) → IsTrue (null i j) → j ≡ i) (at_n : (i : ℕ) → IsTrue (here i) ↔ IsTrue (null i i)) where
+module _ (null : ℕ → ℕ → Bool) (here : ℕ → Bool) (only : (i j : ℕ) → IsTrue (null i j) → j ≡ i)
+    (at_n : (i : ℕ) → IsTrue (here i) ↔ IsTrue (null i i)) where
   abbrev pub Nulls : ℕ → ℕ → Type 0
   Nulls i j = IsTrue (null i j)
 
@@ -78,13 +89,19 @@ module _ (null : ℕ → ℕ → Bool) (here : ℕ → Bool) (only : (i j : ℕ)
   here_is On n = at_n n
   here_is Back n = at_n n
 
-  pub null_is : (way : Way) (E : ℕ → Type 0) (n : ℕ) (m : Bool) → MarkIs way (Along way Nulls) E n (record { led = m && false; null = here n })
+  pub null_is : (way : Way) (E : ℕ → Type 0) (n : ℕ) (m : Bool) → MarkIs way (Along way Nulls) E n
+      (record { led = m && false; null = here n })
   null_is way E n m = record {
-    is_led = (λ h. absurd (cc ((both m false h).1)), λ p. absurd (no_led way (Along way Nulls) E n (λ k a. stays way k n a) p));
+    is_led = (
+      λ h. absurd (cc ((both m false h).1)),
+      λ p. absurd (no_led way (Along way Nulls) E n
+          (λ k a. stays way k n a) p),
+    );
     is_null = here_is way n;
   }
 
-  pub null_fresh : (way : Way) (E : ℕ → Type 0) (n : ℕ) → MarkIs way (Along way Nulls) E n (record { led = false; null = here n })
+  pub null_fresh : (way : Way) (E : ℕ → Type 0) (n : ℕ) → MarkIs way (Along way Nulls) E n
+      (record { led = false; null = here n })
   null_fresh way E n = record {
     is_led = (λ h. absurd cc, λ p. absurd (no_led way (Along way Nulls) E n (λ k a. stays way k n a) p));
     is_null = here_is way n;

@@ -1,5 +1,6 @@
 -- The least and the greatest of the places that pass.
-use Rattle.std.proofs.Common.{◌≡◌, ℕ, zero, suc, ◌+◌, ◌-◌, ◌<◌, ◌≤◌, Bool, true, false, Option, Some, None, refl, sym, subst, inl, inr, arith, is_some}
+use Rattle.std.proofs.Common.{◌≡◌, ℕ, zero, suc, ◌+◌, ◌-◌, ◌<◌, ◌≤◌, Bool, true, false, Option, Some, None, refl, sym}
+use Rattle.std.proofs.Common.{subst, inl, inr, arith, is_some}
 use Rattle.std.specs.Prelude.{IfSome}
 use Rattle.std.proofs.lemmas.Bool.{cases_Bool, cases_eq, both_ways}
 use Rattle.std.proofs.lemmas.Option.{IfSome_then}
@@ -20,7 +21,12 @@ pub record IsGreatest (p : ℕ → Bool) (low n k : ℕ) : Type 0 where
 pub least_is : (p : ℕ → Bool) (low n : ℕ) → IfSome (least p low n) (IsLeast p low n)
 least_is p low zero = tt
 least_is p low (suc n) = elim (cases_Bool (p low)) [
-  | inl e ↦ rw e (record { above = omega arith; below = omega arith; passes = e; before = λ m a b. absurd (omega arith) })
+  | inl e ↦ rw e (record {
+    above = omega arith;
+    below = omega arith;
+    passes = e;
+    before = λ m a b. absurd (omega arith);
+  })
   | inr e ↦ rw e (IfSome_then (least p (low + 1) n) (least_is p (low + 1) n) (λ k h. record {
     above = omega (arith, h.above);
     below = omega (arith, h.below);
@@ -45,7 +51,12 @@ least_finds p low (suc n) m a b e = elim (cases_Bool (p low)) [
 pub greatest_is : (p : ℕ → Bool) (low n : ℕ) → IfSome (greatest p low n) (IsGreatest p low n)
 greatest_is p low zero = tt
 greatest_is p low (suc n) = elim (cases_Bool (p (low + n))) [
-  | inl e ↦ rw e (record { above = omega arith; below = omega arith; passes = e; behind = λ m a b. absurd (omega arith) })
+  | inl e ↦ rw e (record {
+    above = omega arith;
+    below = omega arith;
+    passes = e;
+    behind = λ m a b. absurd (omega arith);
+  })
   | inr e ↦ rw e (IfSome_then (greatest p low n) (greatest_is p low n) (λ k h. record {
     above = h.above;
     below = omega (arith, h.below);
@@ -57,7 +68,8 @@ greatest_is p low (suc n) = elim (cases_Bool (p (low + n))) [
   }))
 ]
 
-pub greatest_finds : (p : ℕ → Bool) (low n m : ℕ) → low ≤ m → m < low + n → p m ≡ true → is_some (greatest p low n) ≡ true
+pub greatest_finds : (p : ℕ → Bool) (low n m : ℕ) → low ≤ m → m < low + n
+    → p m ≡ true → is_some (greatest p low n) ≡ true
 greatest_finds p low zero m a b e = absurd (omega arith)
 greatest_finds p low (suc n) m a b e = elim (cases_Bool (p (low + n))) [
   | inl f ↦ rw f refl

@@ -63,11 +63,13 @@ before_next Back k i n e l = elim (cases_lt i k) [ inl x ↦ inl x | inr y ↦ i
 
 -- ---- turns
 
-pub turns_next : (way : Way) (at n count : ℕ) → StaysInside way at (n + 1) count → Next way (place_at way at n) (place_at way at (n + 1))
+pub turns_next : (way : Way) (at n count : ℕ) → StaysInside way at (n + 1) count
+    → Next way (place_at way at n) (place_at way at (n + 1))
 turns_next On at n count f = omega arith
 turns_next Back at n count f = omega (arith, f.0)
 
-pub turns_lower : (way : Way) (at n count : ℕ) → StaysInside way at (n + 1) count → lower way (place_at way at n) (place_at way at (n + 1)) < count
+pub turns_lower : (way : Way) (at n count : ℕ) → StaysInside way at (n + 1) count
+    → lower way (place_at way at n) (place_at way at (n + 1)) < count
 turns_lower On at n count f = omega (arith, f)
 turns_lower Back at n count f = omega (arith, f.0, f.1)
 
@@ -79,7 +81,8 @@ pub fewer_turns : (way : Way) (at m n count : ℕ) → m ≤ n → StaysInside w
 fewer_turns On at m n count l f = omega (arith, l, f)
 fewer_turns Back at m n count l f = (omega (arith, l, f.0), f.1)
 
-pub longer_text : (way : Way) (at n count more : ℕ) → count ≤ more → StaysInside way at n count → StaysInside way at n more
+pub longer_text : (way : Way) (at n count more : ℕ) → count ≤ more → StaysInside way at n count
+    → StaysInside way at n more
 longer_text On at n count more l f = omega (arith, l, f)
 longer_text Back at n count more l f = (f.0, omega (arith, l, f.1))
 
@@ -93,23 +96,28 @@ turns_before Back at n count l f = omega (arith, l, f.0)
 
 -- ---- the turns of a search through a set
 
-pub first_fits : (way : Way) (s : Cells) (n count : ℕ) → n < length s.cells → past s ≤ count + 1 → StaysInside way (first way s) n count
+pub first_fits : (way : Way) (s : Cells) (n count : ℕ) → n < length s.cells → past s ≤ count + 1
+    → StaysInside way (first way s) n count
 first_fits On s n count l p = omega (arith, l, p)
 first_fits Back s n count l p = (omega (arith, l), omega (arith, l, p))
 
-pub spot_inside : (way : Way) (s : Cells) (n : ℕ) → n < length s.cells → (s.low ≤ place_at way (first way s) n) × (place_at way (first way s) n < past s)
+pub spot_inside : (way : Way) (s : Cells) (n : ℕ) → n < length s.cells → (s.low ≤ place_at way (first way s) n)
+    × (place_at way (first way s) n < past s)
 spot_inside On s n l = (omega (arith, l), omega (arith, l))
 spot_inside Back s n l = (omega (arith, l), omega (arith, l))
 
-pub spot_other : (way : Way) (s : Cells) (m n : ℕ) → m < length s.cells → n < length s.cells → place_at way (first way s) m ≡ place_at way (first way s) n → m ≡ n
+pub spot_other : (way : Way) (s : Cells) (m n : ℕ) → m < length s.cells → n < length s.cells
+    → place_at way (first way s) m ≡ place_at way (first way s) n → m ≡ n
 spot_other On s m n l k e = omega (arith, l, k, e)
 spot_other Back s m n l k e = omega (arith, l, k, e)
 
 -- each place of the set has its turn
-pub turn_of : (way : Way) (s : Cells) (j : ℕ) → s.low ≤ j → j < past s → (n : ℕ) × (n < length s.cells) × (place_at way (first way s) n ≡ j)
+pub turn_of : (way : Way) (s : Cells) (j : ℕ) → s.low ≤ j → j < past s → (n : ℕ) × (n < length s.cells)
+    × (place_at way (first way s) n ≡ j)
 turn_of On s j l p = (j - s.low, omega (arith, l, p), omega (arith, l, p))
 turn_of Back s j l p = (past s - 1 - j, omega (arith, l, p), omega (arith, l, p))
 
-pub first_is_first : (way : Way) (s : Cells) (k : ℕ) → s.low ≤ k → k < past s → Before way k (place_at way (first way s) 0) → ⊥
+pub first_is_first : (way : Way) (s : Cells) (k : ℕ) → s.low ≤ k → k < past s
+    → Before way k (place_at way (first way s) 0) → ⊥
 first_is_first On s k l p b = omega (arith, l, p, b)
 first_is_first Back s k l p b = omega (arith, l, p, b)

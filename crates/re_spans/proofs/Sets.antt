@@ -1,5 +1,6 @@
 -- Sets of places.
-use Rattle.std.proofs.Common.{◌≡◌, ◌≢◌, ℕ, zero, suc, ◌+◌, ◌-◌, ◌<◌, ◌≤◌, ◌&&◌, Bool, true, false, length, replicate, refl, subst, ◌∙◌, inl, inr, arith, get_or, get_or-set_same, get_or-set_other}
+use Rattle.std.proofs.Common.{◌≡◌, ◌≢◌, ℕ, zero, suc, ◌+◌, ◌-◌, ◌<◌, ◌≤◌, ◌&&◌, Bool, true, false, length, replicate}
+use Rattle.std.proofs.Common.{refl, subst, ◌∙◌, inl, inr, arith, get_or, get_or-set_same, get_or-set_other}
 use Rattle.std.specs.Prelude.{IsTrue, ◌↔◌, nat_le}
 use Rattle.std.proofs.lemmas.Bool.{cases_lt, cases_eq, and_parts, and_from, le-leb, lt-leb, leb-true, both_ways}
 use Rattle.std.proofs.lemmas.List.{length-set, length-replicate, get_or_past}
@@ -43,7 +44,8 @@ put_same s i false l p e = e
 pub put_other : (s : Cells) (i j : ℕ) (on : Bool) → s.low ≤ i → j ≢ i → has (put_if s i on) j ≡ has s j
 put_other s i j true l ne = elim (cases_lt j s.low) [
   | inl below ↦ rw (lt-leb s.low j below) refl
-  | inr above ↦ let other : j - s.low ≢ i - s.low = λ e. ne (omega (arith, e, l, above)) in rw (get_or-set_other s.cells (i - s.low) (j - s.low) true false other) refl
+  | inr above ↦ let other : j - s.low ≢ i - s.low = λ e. ne (omega (arith, e, l, above)) in
+      rw (get_or-set_other s.cells (i - s.low) (j - s.low) true false other) refl
 ]
 put_other s i j false l ne = refl
 
@@ -66,7 +68,8 @@ abbrev pub all_from : ℕ → ℕ → Cells
 all_from low high = record { low = low; cells = replicate (high + 1 - low) true }
 
 pub all_has : (low high k : ℕ) → low ≤ k → k ≤ high → IsTrue (has (all_from low high) k)
-all_has low high k l p = and_from (nat_le low k) (get_or (replicate (high + 1 - low) true) (k - low) false) (le-leb low k l) (all_at (high + 1 - low) (k - low) (omega (arith, l, p)))
+all_has low high k l p = and_from (nat_le low k) (get_or (replicate (high + 1 - low) true) (k - low) false)
+    (le-leb low k l) (all_at (high + 1 - low) (k - low) (omega (arith, l, p)))
 
 pub all_past : (low high : ℕ) → low ≤ high → past (all_from low high) ≡ high + 1
 all_past low high l = omega (arith, l, length-replicate (high + 1 - low) true)
@@ -77,19 +80,27 @@ abbrev pub one_of : ℕ → ℕ → ℕ → Cells
 one_of low high i = put (none_from low (high + 1 - low)) i
 
 pub one_past : (low high i : ℕ) → low ≤ high → past (one_of low high i) ≡ high + 1
-one_past low high i l = omega (arith, l, length-set (replicate (high + 1 - low) false) (i - low) true, none_long (high + 1 - low))
+one_past low high i l = omega (
+  arith,
+  l,
+  length-set (replicate (high + 1 - low) false) (i - low) true,
+  none_long (high + 1 - low),
+)
 
 one_has : (low high i : ℕ) → low ≤ i → i ≤ high → IsTrue (has (one_of low high i) i)
-one_has low high i l p = put_same (none_from low (high + 1 - low)) i true l (omega (arith, l, p, none_long (high + 1 - low))) (none_has low (high + 1 - low) i)
+one_has low high i l p = put_same (none_from low (high + 1 - low)) i true l
+    (omega (arith, l, p, none_long (high + 1 - low))) (none_has low (high + 1 - low) i)
 
 one_only : (low high i k : ℕ) → low ≤ i → IsTrue (has (one_of low high i) k) → k ≡ i
 one_only low high i k l h = elim (cases_eq k i) [
   | inl e ↦ e
-  | inr ne ↦ absurd (both_ways (has (one_of low high i) k) (put_other (none_from low (high + 1 - low)) i k true l ne ∙ none_has low (high + 1 - low) k) h)
+  | inr ne ↦ absurd (both_ways (has (one_of low high i) k) (put_other (none_from low (high + 1 - low)) i k true l ne
+      ∙ none_has low (high + 1 - low) k) h)
 ]
 
 -- from where spans lead to the one place
-pub one_back : (R : ℕ → ℕ → Type 0) (low high i : ℕ) (out : Cells) → low ≤ i → i ≤ high → AreReached Back R (one_of low high i) out → (j : ℕ) → low ≤ j → j ≤ high → IsTrue (has out j) ↔ R j i
+pub one_back : (R : ℕ → ℕ → Type 0) (low high i : ℕ) (out : Cells) → low ≤ i → i ≤ high
+    → AreReached Back R (one_of low high i) out → (j : ℕ) → low ≤ j → j ≤ high → IsTrue (has out j) ↔ R j i
 one_back R low high i out l p reached j lj pj =
     let at = reached j lj (omega (arith, pj, one_past low high i (omega (arith, l, p)))) in (
       λ h. let x = at.0 h in subst (λ (x : ℕ). R j x) (one_only low high i x.0 l x.1) x.2,

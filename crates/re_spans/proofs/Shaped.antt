@@ -1,9 +1,11 @@
 -- Where the matches of parts end of which a look tells it.
-use Rattle.std.proofs.Common.{◌≡◌, ℕ, zero, suc, ◌+◌, ◌-◌, ◌<◌, ◌≤◌, ◌⊎◌, ◌==◌, Bool, true, false, not, List, Some, None, refl, subst, inl, inr, arith}
+use Rattle.std.proofs.Common.{◌≡◌, ℕ, zero, suc, ◌+◌, ◌-◌, ◌<◌, ◌≤◌, ◌⊎◌, ◌==◌, Bool, true, false, not, List, Some}
+use Rattle.std.proofs.Common.{None, refl, subst, inl, inr, arith}
 use Rattle.std.specs.Prelude.{IsTrue}
 use Rattle.std.proofs.lemmas.Bool.{both_ways}
 use Rattle.std.proofs.lemmas.Bool.Decides.{nat_tests}
-use Rattle.re_syntax.specs.Tree.{Tree, Letter, AnyLetter, OneOf, LineStart, LineEnd, Then, Either, Many, Several, Maybe, Group}
+use Rattle.re_syntax.specs.Tree.{Tree, Letter, AnyLetter, OneOf, LineStart, LineEnd, Then, Either, Many, Several, Maybe}
+use Rattle.re_syntax.specs.Tree.{Group}
 use Rattle.re_syntax.specs.Match.{Matches, Pieces, Repeats, Joins, one_rune, line_start, line_end, is_in_class}
 use Rattle.re_syntax.specs.Groups.{IsLongest, AheadBy, Walk, PlusWalk}
 use Rattle.re_spans.specs.Shapes.{HasLength, is_repeated}
@@ -36,18 +38,34 @@ pub end_long : HasLength LineEnd 0
 end_long t i j m = line_end_null t i j m
 
 -- the seam of two parts, of which the first or the second is so long
-pub first_long : (R S : ℕ → ℕ → Type 0) (i j n : ℕ) → LeadsOn S → ((k : ℕ) → R i k → k ≡ i + n) → Joins R S i j → (i ≤ i + n) × (i + n ≤ j) × IsLongest (AheadBy 0 R) S i j (i + n)
+pub first_long : (R S : ℕ → ℕ → Type 0) (i j n : ℕ) → LeadsOn S → ((k : ℕ) → R i k → k ≡ i + n) → Joins R S i j
+    → (i ≤ i + n) × (i + n ≤ j) × IsLongest (AheadBy 0 R) S i j (i + n)
 first_long R S i j n on_s long p =
     let e = long p.0 p.1 in
-    let s = subst (λ (x : ℕ). S x j) e p.2 in
-    (omega arith, on_s (i + n) j s, ((omega arith, subst (λ (x : ℕ). R i x) e p.1), s, λ m q z. omega (arith, long m q.1)))
+    let s = subst (λ (x : ℕ). S x j) e p.2 in (
+      omega arith,
+      on_s (i + n) j s,
+      (
+        (omega arith, subst (λ (x : ℕ). R i x) e p.1),
+        s,
+        λ m q z. omega (arith, long m q.1),
+      ),
+    )
 
-pub second_long : (R S : ℕ → ℕ → Type 0) (i j n : ℕ) → LeadsOn R → ((k : ℕ) → S k j → j ≡ k + n) → Joins R S i j → (i ≤ j - n) × (j - n ≤ j) × IsLongest (AheadBy 0 R) S i j (j - n)
+pub second_long : (R S : ℕ → ℕ → Type 0) (i j n : ℕ) → LeadsOn R → ((k : ℕ) → S k j → j ≡ k + n) → Joins R S i j
+    → (i ≤ j - n) × (j - n ≤ j) × IsLongest (AheadBy 0 R) S i j (j - n)
 second_long R S i j n on_r long p =
     let l = long p.0 p.2 in
     let e : p.0 ≡ j - n = omega (arith, l) in
-    let r = subst (λ (x : ℕ). R i x) e p.1 in
-    (on_r i (j - n) r, omega arith, ((omega (arith, on_r i (j - n) r), r), subst (λ (x : ℕ). S x j) e p.2, λ m q z. omega (arith, long m z)))
+    let r = subst (λ (x : ℕ). R i x) e p.1 in (
+      on_r i (j - n) r,
+      omega arith,
+      (
+        (omega (arith, on_r i (j - n) r), r),
+        subst (λ (x : ℕ). S x j) e p.2,
+        λ m q z. omega (arith, long m z),
+      ),
+    )
 
 -- ---- repetitions of repetitions
 
@@ -69,7 +87,8 @@ maybe_again R (suc n) i j p =
       | inr e ↦ absurd (omega (arith, p.1, e))
     ]
 
-pub again : (r : Tree) (t : List ℕ) (i j : ℕ) → is_repeated r ≡ true → i < j → Repeats (Matches r t) i j → Matches r t i j
+pub again : (r : Tree) (t : List ℕ) (i j : ℕ) → is_repeated r ≡ true → i < j → Repeats (Matches r t) i j
+    → Matches r t i j
 again (Letter c) t i j e l h = absurd (both_ways false refl e)
 again AnyLetter t i j e l h = absurd (both_ways false refl e)
 again (OneOf negated spans) t i j e l h = absurd (both_ways false refl e)
@@ -78,7 +97,8 @@ again LineEnd t i j e l h = absurd (both_ways false refl e)
 again (Then a b) t i j e l h = absurd (both_ways false refl e)
 again (Either a b) t i j e l h = absurd (both_ways false refl e)
 again (Many a) t i j e l h = many_again (Matches a t) h.0 i j h.1
-again (Several a) t i j e l h = repeats_joined (Matches a t) i j l (several_again (Matches a t) (Matches-on a t) h.0 i j h.1)
+again (Several a) t i j e l h = repeats_joined (Matches a t) i j l
+    (several_again (Matches a t) (Matches-on a t) h.0 i j h.1)
 again (Maybe a) t i j e l h = inl (again a t i j e l (h.0, maybe_again (Matches a t) h.0 i j h.1))
 again (Group n a) t i j e l h = again a t i j e l h
 

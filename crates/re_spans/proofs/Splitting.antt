@@ -10,16 +10,26 @@ use Rattle.re_spans.specs.Choice.{LeadsTo, AmongThose, IsGreatestOf, HasNone}
 use Rattle.re_spans.specs.declared.way.Way.TheVariants.{On}
 use Rattle.re_spans.proofs.Ways.{LeadsOn}
 
-module _ (R S : ℕ → ℕ → Type 0) (i j low : ℕ) (starts : Cells) (on_r : LeadsOn R) (on_s : LeadsOn S) (order : i ≤ j) (tells : AreStartsOf S i j starts) where
+module _ (R S : ℕ → ℕ → Type 0) (i j low : ℕ) (starts : Cells) (on_r : LeadsOn R) (on_s : LeadsOn S) (order : i ≤ j)
+    (tells : AreStartsOf S i j starts) where
   -- a first part is as many places long
   parted : (m : ℕ) → Past low R i m → S m j → (m - i ≤ j - i) × LeadsTo On R i (AmongThose starts low i) (m - i)
   parted m p s =
       let after : i ≤ m = on_r i m p.1 in
       let same : m ≡ i + (m - i) = omega (arith, after) in
-      let inside : m ≤ j = on_s m j s in
-      (omega (arith, inside), (subst (λ (x : ℕ). R i x) same p.1, (omega (arith, p.0, after), subst (λ (x : ℕ). IsTrue (has starts x)) same ((tells m after inside).1 s))))
+      let inside : m ≤ j = on_s m j s in (
+        omega (arith, inside),
+        (
+          subst (λ (x : ℕ). R i x) same p.1,
+          (
+            omega (arith, p.0, after),
+            subst (λ (x : ℕ). IsTrue (has starts x)) same ((tells m after inside).1 s),
+          ),
+        ),
+      )
 
-  pub split_some : (d : ℕ) → IsGreatestOf (LeadsTo On R i (AmongThose starts low i)) (j - i) d → (i ≤ i + d) × (i + d ≤ j) × IsLongest (Past low R) S i j (i + d)
+  pub split_some : (d : ℕ) → IsGreatestOf (LeadsTo On R i (AmongThose starts low i)) (j - i) d → (i ≤ i + d)
+      × (i + d ≤ j) × IsLongest (Past low R) S i j (i + d)
   split_some d g =
       let inside : i + d ≤ j = omega (arith, g.inside, order) in (
         omega arith,
@@ -54,6 +64,7 @@ first_of_pieces R i j r l = go r.0 r.1
     go (suc n) p = (p.0, (omega (arith, p.1), p.2), (n, p.3))
 
 -- a walk that has a piece before it ends with a piece
-pub walk_some : (R : ℕ → ℕ → Type 0) (n i j : ℕ) (p : Range) (out : Option Range) → Walk R n i j (Some p) out → out ≡ None → ⊥
+pub walk_some : (R : ℕ → ℕ → Type 0) (n i j : ℕ) (p : Range) (out : Option Range) → Walk R n i j (Some p) out
+    → out ≡ None → ⊥
 walk_some R zero i j p out w e = cc (w.1, e)
 walk_some R (suc n) i j p out w e = walk_some R n w.0 j (record { q0 = i; q1 = w.0 }) out w.2 e

@@ -1,9 +1,11 @@
 -- No match ends before it begins; pieces one after another.
-use Rattle.std.proofs.Common.{◌≡◌, ℕ, zero, suc, ◌<◌, ◌≤◌, ◌⊎◌, ◌==◌, Bool, not, List, refl, sym, subst, inl, inr, arith}
+use Rattle.std.proofs.Common.{◌≡◌, ℕ, zero, suc, ◌<◌, ◌≤◌, ◌⊎◌, ◌==◌, Bool, not, List, refl, sym, subst, inl, inr}
+use Rattle.std.proofs.Common.{arith}
 use Rattle.std.specs.Prelude.{IsTrue}
 use Rattle.std.proofs.lemmas.Bool.{cases_lt}
 use Rattle.std.proofs.lemmas.Bool.Decides.{nat_tests}
-use Rattle.re_syntax.specs.Tree.{Tree, Letter, AnyLetter, OneOf, LineStart, LineEnd, Then, Either, Many, Several, Maybe, Group}
+use Rattle.re_syntax.specs.Tree.{Tree, Letter, AnyLetter, OneOf, LineStart, LineEnd, Then, Either, Many, Several, Maybe}
+use Rattle.re_syntax.specs.Tree.{Group}
 use Rattle.re_syntax.specs.Match.{Matches, Pieces, Repeats, Joins, one_rune, line_start, line_end, is_in_class}
 
 -- ---- no match ends before it begins
@@ -81,10 +83,12 @@ pieces_last R (suc n) i j p =
       | inr q ↦ inr (q.0, (suc q.1.0, (p.0, p.1, p.2, q.1.1)), q.2, q.3)
     ]
 
-pub repeats_last : (R : ℕ → ℕ → Type 0) (i j : ℕ) → Repeats R i j → (i ≡ j) ⊎ ((k : ℕ) × Repeats R i k × (k < j) × R k j)
+pub repeats_last : (R : ℕ → ℕ → Type 0) (i j : ℕ) → Repeats R i j → (i ≡ j)
+    ⊎ ((k : ℕ) × Repeats R i k × (k < j) × R k j)
 repeats_last R i j r = pieces_last R r.0 i j r.1
 
-pub repeats_first : (R : ℕ → ℕ → Type 0) (i j : ℕ) → Repeats R i j → (j ≡ i) ⊎ ((k : ℕ) × (i < k) × R i k × Repeats R k j)
+pub repeats_first : (R : ℕ → ℕ → Type 0) (i j : ℕ) → Repeats R i j → (j ≡ i)
+    ⊎ ((k : ℕ) × (i < k) × R i k × Repeats R k j)
 repeats_first R i j r = go r.0 r.1
   where
     go : (n : ℕ) → Pieces R n i j → (j ≡ i) ⊎ ((k : ℕ) × (i < k) × R i k × Repeats R k j)

@@ -90,7 +90,8 @@ fresh way (Maybe a) here = with_part (fresh way a here) true
 fresh way (Group n a) here = with_part (fresh way a here) false
 fresh way r here = OfLeaf (leaf_mark r here false)
 
--- one place further on, of a tree with one part that does as f: it is entered again where its matches end, if again holds
+-- one place further on, of a tree with one part that does as f: it is entered again where its matches end, if again
+-- holds
 abbrev pub step_one : (Bool → Marking → Marking) → Bool → Bool → Bool → Marking → Marking
 step_one f entered again optional (OfOne k s) = with_part (f (entered || (again && (mark_of s).led)) s) optional
 step_one f entered again optional s = s

@@ -1,5 +1,6 @@
 -- Sets of places.
-use Rattle.std.specs.Prelude.{◌+◌, ◌-◌, ◌&&◌, ℕ, Bool, true, false, List, length, replicate, slice_index_or, slice_set, nat_le, if◌then◌else◌}
+use Rattle.std.specs.Prelude.{◌+◌, ◌-◌, ◌&&◌, ℕ, Bool, true, false, List, length, replicate, slice_index_or, slice_set}
+use Rattle.std.specs.Prelude.{nat_le, if◌then◌else◌}
 
 -- the places from a lowest one on, each in the set or not
 pub record Cells : Type 0 where

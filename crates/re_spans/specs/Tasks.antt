@@ -16,7 +16,8 @@ pub record IsMatchIn (r : Tree) (t : List ℕ) (s : Range) : Type 0 where
 -- the tasks make these groups of those
 abbrev pub AreSet : List ℕ → List Task → List (Option Range) → List (Option Range) → Type 0
 AreSet t [] old new = new ≡ old
-AreSet t (Part r s ∷ rest) old new = (mid : List (Option Range)) × Sets (tree r.now) t s.q0 s.q1 old mid × AreSet t rest mid new
+AreSet t (Part r s ∷ rest) old new = (mid : List (Option Range)) × Sets (tree r.now) t s.q0 s.q1 old mid
+    × AreSet t rest mid new
 AreSet t (Own n s ∷ rest) old new = AreSet t rest (slice_set old n (Some s)) new
 
 -- each part matches its range

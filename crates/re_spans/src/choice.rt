@@ -43,8 +43,10 @@ pub fn longest_from<T: Letters>(
 ) -> Result<Option<usize>, NoMemory>
     requires order { i ≤ high }
     requires within { high ≤ length (T.letters text.now) }
-    ensures some { IfOk result (λ answer. IfSome answer (IsLongestFrom (Matches (tree re.now) (T.letters text.now)) i high no_null)) }
-    ensures none { IfOk result (λ answer. IfNone answer ((j : ℕ) → j ≤ high → Matches (tree re.now) (T.letters text.now) i j → IsAllowed no_null i j → ⊥)) }
+    ensures some { IfOk result (λ answer. IfSome answer (IsLongestFrom (Matches (tree re.now) (T.letters text.now)) i
+        high no_null)) }
+    ensures none { IfOk result (λ answer. IfNone answer ((j : ℕ) → j ≤ high
+        → Matches (tree re.now) (T.letters text.now) i j → IsAllowed no_null i j → ⊥)) }
 {
     let stretch = Stretch {
         way: Way::On,
@@ -69,8 +71,10 @@ fn longest_to<T: Letters>(
 ) -> Result<Option<usize>, NoMemory>
     requires order { low ≤ j }
     requires within { j ≤ length (T.letters text.now) }
-    ensures some { IfOk result (λ answer. IfSome answer (IsLongestTo (Matches (tree re.now) (T.letters text.now)) low j no_null)) }
-    ensures none { IfOk result (λ answer. IfNone answer ((i : ℕ) → low ≤ i → Matches (tree re.now) (T.letters text.now) i j → IsAllowed no_null i j → ⊥)) }
+    ensures some { IfOk result (λ answer. IfSome answer (IsLongestTo (Matches (tree re.now) (T.letters text.now)) low j
+        no_null)) }
+    ensures none { IfOk result (λ answer. IfNone answer ((i : ℕ) → low ≤ i
+        → Matches (tree re.now) (T.letters text.now) i j → IsAllowed no_null i j → ⊥)) }
 {
     let stretch = Stretch {
         way: Way::Back,
@@ -154,8 +158,10 @@ fn earliest<T: Letters>(
     requires low { starts.now.low ≤ bounds.low }
     requires past { past starts.now ≡ bounds.high + 1 }
     requires starts { HasStarts (Matches (tree re.now) (T.letters text.now)) bounds.low bounds.high starts.now }
-    ensures found { IfOk result (λ answer. IfSome answer (IsFirst (tree re.now) (T.letters text.now) bounds.low bounds.high bounds.no_null)) }
-    ensures none { IfOk result (λ answer. IfNone answer (HasNoSpan (tree re.now) (T.letters text.now) bounds.low bounds.high bounds.no_null)) }
+    ensures found { IfOk result (λ answer. IfSome answer (IsFirst (tree re.now) (T.letters text.now) bounds.low
+        bounds.high bounds.no_null)) }
+    ensures none { IfOk result (λ answer. IfNone answer (HasNoSpan (tree re.now) (T.letters text.now) bounds.low
+        bounds.high bounds.no_null)) }
 {
     let count = count_of(bounds.low, bounds.high)?;
     for n in 0..count {
@@ -178,8 +184,10 @@ fn latest<T: Letters>(
 ) -> Result<Option<Range>, NoMemory>
     requires order { bounds.low ≤ bounds.high }
     requires within { bounds.high ≤ length (T.letters text.now) }
-    ensures found { IfOk result (λ answer. IfSome answer (IsLast (tree re.now) (T.letters text.now) bounds.low bounds.high bounds.no_null)) }
-    ensures none { IfOk result (λ answer. IfNone answer (HasNoSpan (tree re.now) (T.letters text.now) bounds.low bounds.high bounds.no_null)) }
+    ensures found { IfOk result (λ answer. IfSome answer (IsLast (tree re.now) (T.letters text.now) bounds.low
+        bounds.high bounds.no_null)) }
+    ensures none { IfOk result (λ answer. IfNone answer (HasNoSpan (tree re.now) (T.letters text.now) bounds.low
+        bounds.high bounds.no_null)) }
 {
     let ends = ends(alloc, re, text, bounds.low, bounds.high)?;
     let count = count_of(bounds.low, bounds.high)?;
@@ -207,9 +215,12 @@ pub fn first_among<T: Letters>(
     requires low { starts.now.low ≤ bounds.low }
     requires past { past starts.now ≡ bounds.high + 1 }
     requires starts { HasStarts (Matches (tree re.now) (T.letters text.now)) bounds.low bounds.high starts.now }
-    ensures found { IfOk result (λ answer. IfSome answer (IsFirst (tree re.now) (T.letters text.now) bounds.low bounds.high bounds.no_null)) }
-    ensures none { IfOk result (λ answer. IfNone answer (HasNoSpan (tree re.now) (T.letters text.now) bounds.low bounds.high bounds.no_null)) }
-    ensures value { IfOk result (λ answer. answer ≡ first_span (tree re.now) (T.letters text.now) bounds.low bounds.high bounds.no_null) }
+    ensures found { IfOk result (λ answer. IfSome answer (IsFirst (tree re.now) (T.letters text.now) bounds.low
+        bounds.high bounds.no_null)) }
+    ensures none { IfOk result (λ answer. IfNone answer (HasNoSpan (tree re.now) (T.letters text.now) bounds.low
+        bounds.high bounds.no_null)) }
+    ensures value { IfOk result (λ answer. answer ≡ first_span (tree re.now) (T.letters text.now) bounds.low bounds.high
+        bounds.no_null) }
     ensures inside { IfOk result (λ answer. IfSome answer (IsBetween bounds.low bounds.high)) }
 {
     let found = earliest(alloc, re, text, starts, bounds)?;

@@ -1,6 +1,7 @@
 //! The groups of a match.
 
-ghost use Rattle.std.specs.Prelude.{◌≡◌, ◌<◌, ◌≤◌, ◌+◌, ◌*◌, ◌⊎◌, ◌∷◌, ℕ, [], length, IfOk, OnOk, IfSome, IfNone, None, Some, List, Option, slice_set, IsTrue};
+ghost use Rattle.std.specs.Prelude.{◌≡◌, ◌<◌, ◌≤◌, ◌+◌, ◌*◌, ◌⊎◌, ◌∷◌, ℕ, [], length, IfOk, OnOk, IfSome, IfNone, None};
+ghost use Rattle.std.specs.Prelude.{Some, List, Option, slice_set, IsTrue};
 ghost use Rattle.re_syntax.specs.Tree.{tree, nodes};
 ghost use Rattle.re_syntax.specs.Match.{Matches, Repeats, Joins};
 ghost use Rattle.re_syntax.specs.Groups.{Sets, AreGroups, IsLongest, AheadBy, Walk, PlusWalk};
@@ -37,7 +38,8 @@ fn first_part<T: Letters>(
     requires order { i ≤ j }
     requires within { j ≤ length (T.letters text.now) }
     requires joins { Joins (Matches (tree a.now) (T.letters text.now)) (Matches (tree b.now) (T.letters text.now)) i j }
-    ensures { IfOk result (λ k. (i ≤ k) × (k ≤ j) × IsLongest (AheadBy 0 (Matches (tree a.now) (T.letters text.now))) (Matches (tree b.now) (T.letters text.now)) i j k) }
+    ensures { IfOk result (λ k. (i ≤ k) × (k ≤ j) × IsLongest (AheadBy 0 (Matches (tree a.now) (T.letters text.now)))
+        (Matches (tree b.now) (T.letters text.now)) i j k) }
 {
     let end = Places::one(alloc, i, j, j)?;
     let starts = reach(alloc, b, text, Way::Back, &end)?;
@@ -60,7 +62,8 @@ fn seam<T: Letters>(
     requires order { i ≤ j }
     requires within { j ≤ length (T.letters text.now) }
     requires joins { Joins (Matches (tree a.now) (T.letters text.now)) (Matches (tree b.now) (T.letters text.now)) i j }
-    ensures { IfOk result (λ k. (i ≤ k) × (k ≤ j) × IsLongest (AheadBy 0 (Matches (tree a.now) (T.letters text.now))) (Matches (tree b.now) (T.letters text.now)) i j k) }
+    ensures { IfOk result (λ k. (i ≤ k) × (k ≤ j) × IsLongest (AheadBy 0 (Matches (tree a.now) (T.letters text.now)))
+        (Matches (tree b.now) (T.letters text.now)) i j k) }
 {
     if let Some(count) = leaf_length(a) {
         return Ok(i + count);
@@ -105,8 +108,10 @@ fn first_piece<T: Letters>(
     requires low { rests.now.low ≤ i }
     requires past { j < past rests.now }
     requires rests { AreStartsOf (Repeats (Matches (tree a.now) (T.letters text.now))) i j rests.now }
-    requires joins { Joins (Past low (Matches (tree a.now) (T.letters text.now))) (Repeats (Matches (tree a.now) (T.letters text.now))) i j }
-    ensures { IfOk result (λ k. (i ≤ k) × (k ≤ j) × IsLongest (Past low (Matches (tree a.now) (T.letters text.now))) (Repeats (Matches (tree a.now) (T.letters text.now))) i j k) }
+    requires joins { Joins (Past low (Matches (tree a.now) (T.letters text.now)))
+        (Repeats (Matches (tree a.now) (T.letters text.now))) i j }
+    ensures { IfOk result (λ k. (i ≤ k) × (k ≤ j) × IsLongest (Past low (Matches (tree a.now) (T.letters text.now)))
+        (Repeats (Matches (tree a.now) (T.letters text.now))) i j k) }
 {
     let found = farthest_among(alloc, a, text, i, j, rests, low)?;
     match found {
@@ -132,7 +137,8 @@ fn last_piece<T: Letters>(
     requires rests { AreStartsOf (Repeats (Matches (tree a.now) (T.letters text.now))) i j rests.now }
     requires repeats { Repeats (Matches (tree a.now) (T.letters text.now)) i j }
     ensures walk { IfOk result (λ last. (n : ℕ) × Walk (Matches (tree a.now) (T.letters text.now)) n i j before last) }
-    ensures piece { IfOk result (λ last. (last ≡ before) ⊎ IfSome last (IsPiece (Matches (tree a.now) (T.letters text.now)) j)) }
+    ensures piece { IfOk result (λ last. (last ≡ before) ⊎ IfSome last
+        (IsPiece (Matches (tree a.now) (T.letters text.now)) j)) }
 {
     let mut last = before;
     let mut at = i;
@@ -175,7 +181,8 @@ fn plus_piece<T: Letters>(
 ) -> Result<Range, NoMemory>
     requires order { i ≤ j }
     requires within { j ≤ length (T.letters text.now) }
-    requires joins { Joins (Matches (tree a.now) (T.letters text.now)) (Repeats (Matches (tree a.now) (T.letters text.now))) i j }
+    requires joins { Joins (Matches (tree a.now) (T.letters text.now))
+        (Repeats (Matches (tree a.now) (T.letters text.now))) i j }
     ensures walk { IfOk result (λ last. PlusWalk (Matches (tree a.now) (T.letters text.now)) i j last) }
     ensures piece { IfOk result (IsPiece (Matches (tree a.now) (T.letters text.now)) j) }
 {
@@ -222,8 +229,10 @@ fn put_parts<'a, T: Letters>(
     rest: &mut VecDeque<Task<'a>>,
 ) -> Result<(), NoMemory>
     requires { IsMatchIn (tree re.now) (T.letters text.now) found }
-    ensures sets { OnOk result ((old new : List (Option Range)) → AreSet (T.letters text.now) rest.new.items old new → AreSet (T.letters text.now) (Part re.entry found ∷ rest.old.items) old new) }
-    ensures matches { OnOk result (AreMatches (T.letters text.now) rest.old.items → AreMatches (T.letters text.now) rest.new.items) }
+    ensures sets { OnOk result ((old new : List (Option Range)) → AreSet (T.letters text.now) rest.new.items old new
+        → AreSet (T.letters text.now) (Part re.entry found ∷ rest.old.items) old new) }
+    ensures matches { OnOk result (AreMatches (T.letters text.now) rest.old.items
+        → AreMatches (T.letters text.now) rest.new.items) }
     ensures fewer { OnOk result (weight rest.new.items < weight rest.old.items + 2 * nodes (tree re.now)) }
 {
     let (i, j) = (found.q0, found.q1);
@@ -287,7 +296,8 @@ fn do_task<'a, T: Letters>(
     groups: &mut [Option<Range>],
 ) -> Result<(), NoMemory>
     requires { AreMatches (T.letters text.now) (task ∷ rest.old.items) }
-    ensures sets { OnOk result ((new : List (Option Range)) → AreSet (T.letters text.now) rest.new.items groups.new new → AreSet (T.letters text.now) (task.entry ∷ rest.old.items) groups.old new) }
+    ensures sets { OnOk result ((new : List (Option Range)) → AreSet (T.letters text.now) rest.new.items groups.new new
+        → AreSet (T.letters text.now) (task.entry ∷ rest.old.items) groups.old new) }
     ensures matches { OnOk result (AreMatches (T.letters text.now) rest.new.items) }
     ensures fewer { OnOk result (weight rest.new.items < weight (task.entry ∷ rest.old.items)) }
 {

@@ -1,6 +1,7 @@
 //! What holds of all searches.
 
-ghost use Rattle.re_spans.specs.Laws.{TestTells, FindsTheFirst, FindsTheLast, FindsTheMatchOver, SuccessiveMatchesFollow, SuccessiveMatchesAreInOrder};
+ghost use Rattle.re_spans.specs.Laws.{TestTells, FindsTheFirst, FindsTheLast, FindsTheMatchOver};
+ghost use Rattle.re_spans.specs.Laws.{SuccessiveMatchesFollow, SuccessiveMatchesAreInOrder};
 
 /// The searches that values speak of choose a match: the one that begins first, or ends last, or begins first of
 /// those that have a place, and of those the longest. They find none only where there is none.

@@ -81,7 +81,8 @@ pub fn is_null(re: &Re, here: Here) -> bool
 }
 
 fn is_line_start<T: Letters>(text: &T, i: usize) -> bool
-    ensures { result ≡ (nat_lt i (length (T.letters text.now)) && ((i == 0) || (slice_index (T.letters text.now) (i - 1) == newline))) }
+    ensures { result ≡ (nat_lt i (length (T.letters text.now)) && ((i == 0)
+        || (slice_index (T.letters text.now) (i - 1) == newline))) }
 {
     i < text.len() && (i == 0 || text.at(i - 1) == NEWLINE)
 }

@@ -4,7 +4,9 @@ ghost use Rattle.std.specs.Prelude.{◌≡◌, ◌&&◌, ◌∷◌, false, map, 
 ghost use Rattle.re_syntax.specs.Tree.{tree};
 ghost use Rattle.re_spans.specs.Leaves.{takes};
 ghost use Rattle.re_nodes.specs.Nodes.{node_of};
-ghost use Rattle.re_spans.specs.Marks.{marks_of, mark_of, is_alive, with_mark, passes, left_enters, right_enters, join, pair, either, wrap, leaf_mark, fresh, step, step_one, step_cat, step_alt, OfLeaf};
+ghost use Rattle.re_spans.specs.Marks.{marks_of, mark_of, is_alive, with_mark, passes, left_enters, right_enters, join};
+ghost use Rattle.re_spans.specs.Marks.{pair, either, wrap, leaf_mark, fresh, step, step_one, step_cat, step_alt};
+ghost use Rattle.re_spans.specs.Marks.{OfLeaf};
 ghost use Rattle.re_spans.specs.Fresh.{both, with_last, with_last_two, with_node};
 
 use crate::leaf::{Here, Read, is_null, takes};
@@ -149,7 +151,8 @@ fn leaf_mark(re: &Re, here: Here, led: bool) -> Mark
 
 // Puts the marks of a leaf.
 fn put_leaf(re: &Re, here: Here, made: &mut VecDeque<Marks>) -> Result<(), NoMemory>
-    ensures { OnOk result (map marks_of made.new.items ≡ OfLeaf (leaf_mark (tree re.now) here false) ∷ map marks_of made.old.items) }
+    ensures { OnOk result (map marks_of made.new.items ≡ OfLeaf (leaf_mark (tree re.now) here false) ∷ map marks_of
+        made.old.items) }
 {
     made.push_front(Marks::Leaf(leaf_mark(re, here, false)))?;
     Ok(())
@@ -200,7 +203,8 @@ fn put_node(
     here: Here,
     made: &mut VecDeque<Marks>,
 ) -> Result<(), NoMemory>
-    ensures { OnOk result (map marks_of made.new.items ≡ with_node way here (node_of (tree re.now)) (map marks_of made.old.items)) }
+    ensures { OnOk result (map marks_of made.new.items ≡ with_node way here (node_of (tree re.now))
+        (map marks_of made.old.items)) }
 {
     match re {
         Re::Lit(_) => put_leaf(re, here, made),
@@ -244,7 +248,8 @@ impl Marks {
         again: bool,
         optional: bool,
     )
-        ensures { marks_of self.new ≡ step_one (step way (tree part.now) read) entered again optional (marks_of self.old) }
+        ensures { marks_of self.new ≡ step_one (step way (tree part.now) read) entered again
+            optional (marks_of self.old) }
     {
         match self {
             Marks::Leaf(_) => {}
@@ -260,7 +265,8 @@ impl Marks {
     // The marks of two parts one after the other.
     #[cycle(step)]
     fn step_cat(&mut self, a: &Re, b: &Re, way: Way, read: Read, entered: bool)
-        ensures { marks_of self.new ≡ step_cat way (step way (tree a.now) read) (step way (tree b.now) read) entered (marks_of self.old) }
+        ensures { marks_of self.new ≡ step_cat way (step way (tree a.now) read) (step way (tree b.now) read) entered
+            (marks_of self.old) }
     {
         match self {
             Marks::Leaf(_) => {}
@@ -278,7 +284,8 @@ impl Marks {
     // The marks of two parts of which either is taken.
     #[cycle(step)]
     fn step_alt(&mut self, a: &Re, b: &Re, way: Way, read: Read, entered: bool)
-        ensures { marks_of self.new ≡ step_alt (step way (tree a.now) read) (step way (tree b.now) read) entered (marks_of self.old) }
+        ensures { marks_of self.new ≡ step_alt (step way (tree a.now) read) (step way (tree b.now) read) entered
+            (marks_of self.old) }
     {
         match self {
             Marks::Leaf(_) => {}
@@ -292,7 +299,8 @@ impl Marks {
     }
 
     fn step_leaf(&mut self, re: &Re, read: Read, entered: bool)
-        ensures { marks_of self.new ≡ with_mark (leaf_mark (tree re.now) read.here (entered && takes (tree re.now) read.rune)) (marks_of self.old) }
+        ensures { marks_of self.new ≡ with_mark (leaf_mark (tree re.now) read.here
+            (entered && takes (tree re.now) read.rune)) (marks_of self.old) }
     {
         self.set(leaf_mark(re, read.here, entered && takes(re, read.rune)));
     }

@@ -23,8 +23,10 @@ fn longest_over<T: Letters>(
 ) -> Result<Option<usize>, NoMemory>
     requires before { i ≤ at }
     requires within { at ≤ length (T.letters text.now) }
-    ensures some { IfOk result (λ answer. IfSome answer (λ j. IsOver (tree re.now) (T.letters text.now) at i j × ((k : ℕ) → IsOver (tree re.now) (T.letters text.now) at i k → k ≤ j))) }
-    ensures none { IfOk result (λ answer. IfNone answer ((k : ℕ) → IsOver (tree re.now) (T.letters text.now) at i k → ⊥)) }
+    ensures some { IfOk result (λ answer. IfSome answer (λ j. IsOver (tree re.now) (T.letters text.now) at i j
+        × ((k : ℕ) → IsOver (tree re.now) (T.letters text.now) at i k → k ≤ j))) }
+    ensures none { IfOk result (λ answer. IfNone answer ((k : ℕ) → IsOver (tree re.now) (T.letters text.now) at i k
+        → ⊥)) }
 {
     let found = longest_from(alloc, re, text, i, text.len(), Some(i))?;
     match found {

@@ -1,6 +1,7 @@
 //! Sets of places of a text.
 
-ghost use Rattle.std.specs.Prelude.{◌≡◌, ◌<◌, ◌≤◌, ◌+◌, ◌-◌, ◌^◌, ◌↔◌, ◌⊎◌, ℕ, length, IfOk, IsTrue, true, false, replicate, slice_index_or};
+ghost use Rattle.std.specs.Prelude.{◌≡◌, ◌<◌, ◌≤◌, ◌+◌, ◌-◌, ◌^◌, ◌↔◌, ◌⊎◌, ℕ, length, IfOk, IsTrue, true, false};
+ghost use Rattle.std.specs.Prelude.{replicate, slice_index_or};
 ghost use Rattle.re_spans.specs.Places.{has, past, put, put_if, none_from};
 ghost use Rattle.re_spans.specs.Turns.{first};
 
@@ -37,7 +38,8 @@ pub fn count_of(low: usize, high: usize) -> Result<usize, NoMemory>
 
 // Puts all places from one on.
 fn put_from(tests: &mut [bool], first: usize)
-    ensures { (k : ℕ) → k < length tests.old → IsTrue (slice_index_or tests.new k false) ↔ (IsTrue (slice_index_or tests.old k false) ⊎ (first ≤ k)) }
+    ensures { (k : ℕ) → k < length tests.old → IsTrue (slice_index_or tests.new k false) ↔
+        (IsTrue (slice_index_or tests.old k false) ⊎ (first ≤ k)) }
 {
     for k in first..tests.len() {
         tests[k] = true;

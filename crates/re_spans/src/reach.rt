@@ -57,7 +57,9 @@ fn go_on<T: Letters>(
 )
     requires turn { turn < length from.now.cells }
     requires within { past from.now ≤ length (T.letters text.now) + 1 }
-    ensures { turn + 1 < length from.now.cells → marks_of marks.new ≡ step way (tree re.now) (read_at way (T.letters text.now) (place_at way (first way from.now) turn) (place_at way (first way from.now) (turn + 1))) entered (marks_of marks.old) }
+    ensures { turn + 1 < length from.now.cells → marks_of marks.new ≡ step way (tree re.now)
+        (read_at way (T.letters text.now) (place_at way (first way from.now) turn)
+        (place_at way (first way from.now) (turn + 1))) entered (marks_of marks.old) }
 {
     let _len = text.len();
     let count = from.count();
@@ -85,7 +87,8 @@ fn search<T: Letters>(
     requires within { past from.now ≤ length (T.letters text.now) + 1 }
     ensures low { IfOk result (λ out. out.low ≡ from.now.low) }
     ensures count { IfOk result (λ out. length out.cells ≡ length from.now.cells) }
-    ensures places { IfOk result (λ out. AreReached way (so_many times (Matches (tree re.now) (T.letters text.now))) from.now out) }
+    ensures places { IfOk result (λ out. AreReached way (so_many times (Matches (tree re.now) (T.letters text.now)))
+        from.now out) }
 {
     let _len = text.len();
     let first = from.first(way);
@@ -129,7 +132,8 @@ pub fn many<T: Letters>(
     requires within { past from.now ≤ length (T.letters text.now) + 1 }
     ensures low { IfOk result (λ out. out.low ≡ from.now.low) }
     ensures count { IfOk result (λ out. length out.cells ≡ length from.now.cells) }
-    ensures places { IfOk result (λ out. AreReached way (Repeats (Matches (tree re.now) (T.letters text.now))) from.now out) }
+    ensures places { IfOk result (λ out. AreReached way (Repeats (Matches (tree re.now) (T.letters text.now))) from.now
+        out) }
 {
     search(alloc, re, text, way, Times::Often, from)
 }

@@ -30,7 +30,9 @@ pub struct Stretch {
 pub fn advance<T: Letters>(re: &Re, marks: &mut Marks, text: &T, so_far: Stretch, entered: bool)
     requires turn { so_far.turns + 1 < 2 ^ 64 }
     requires within { StaysInside so_far.way so_far.at (so_far.turns + 1) (length (T.letters text.now)) }
-    ensures { marks_of marks.new ≡ step so_far.way (tree re.now) (read_at so_far.way (T.letters text.now) (place_at so_far.way so_far.at so_far.turns) (place_at so_far.way so_far.at (so_far.turns + 1))) entered (marks_of marks.old) }
+    ensures { marks_of marks.new ≡ step so_far.way (tree re.now) (read_at so_far.way (T.letters text.now)
+        (place_at so_far.way so_far.at so_far.turns) (place_at so_far.way so_far.at (so_far.turns + 1))) entered
+        (marks_of marks.old) }
 {
     let _len = text.len();
     let here = place_at(so_far.way, so_far.at, so_far.turns);
@@ -82,8 +84,10 @@ pub fn farthest<T: Letters>(
 ) -> Result<Option<usize>, NoMemory>
     requires place { stretch.at ≤ length (T.letters text.now) }
     requires within { StaysInside stretch.way stretch.at stretch.turns (length (T.letters text.now)) }
-    ensures some { IfOk result (λ found. IfSome found (IsGreatestOf (LeadsTo stretch.way (Matches (tree re.now) (T.letters text.now)) stretch.at (UnlessNull skip)) stretch.turns)) }
-    ensures none { IfOk result (λ found. IfNone found (HasNone (LeadsTo stretch.way (Matches (tree re.now) (T.letters text.now)) stretch.at (UnlessNull skip)) stretch.turns)) }
+    ensures some { IfOk result (λ found. IfSome found (IsGreatestOf
+        (LeadsTo stretch.way (Matches (tree re.now) (T.letters text.now)) stretch.at (UnlessNull skip)) stretch.turns)) }
+    ensures none { IfOk result (λ found. IfNone found (HasNone (LeadsTo stretch.way
+        (Matches (tree re.now) (T.letters text.now)) stretch.at (UnlessNull skip)) stretch.turns)) }
 {
     let mut marks = fresh(alloc, re, stretch.way, here_at(text, stretch.at))?;
     let mut best = null_match(marks.mark(), !skip);
@@ -115,8 +119,10 @@ pub fn farthest_among<T: Letters>(
     requires within { high ≤ length (T.letters text.now) }
     requires above { set.now.low ≤ at }
     requires below { high < past set.now }
-    ensures some { IfOk result (λ found. IfSome found (IsGreatestOf (LeadsTo On (Matches (tree re.now) (T.letters text.now)) at (AmongThose set.now low at)) (high - at))) }
-    ensures none { IfOk result (λ found. IfNone found (HasNone (LeadsTo On (Matches (tree re.now) (T.letters text.now)) at (AmongThose set.now low at)) (high - at))) }
+    ensures some { IfOk result (λ found. IfSome found (IsGreatestOf
+        (LeadsTo On (Matches (tree re.now) (T.letters text.now)) at (AmongThose set.now low at)) (high - at))) }
+    ensures none { IfOk result (λ found. IfNone found (HasNone (LeadsTo On (Matches (tree re.now) (T.letters text.now))
+        at (AmongThose set.now low at)) (high - at))) }
 {
     let mut marks = fresh(alloc, re, Way::On, here_at(text, at))?;
     let mut best = null_match(marks.mark(), is_among(set, low, at));

@@ -1,5 +1,6 @@
 -- What reading answers.
-use Rattle.std.proofs.Common.{◌≡◌, ℕ, ◌+◌, ◌-◌, ◌<◌, ◌≤◌, ◌==◌, ◌&&◌, ◌||◌, Bool, true, false, not, List, [], ◌∷◌, ◌++◌, length, get_or, drop, Option, Some, None, refl, sym, ap, subst, ◌∙◌, inl, inr, arith}
+use Rattle.std.proofs.Common.{◌≡◌, ℕ, ◌+◌, ◌-◌, ◌<◌, ◌≤◌, ◌==◌, ◌&&◌, ◌||◌, Bool, true, false, not, List, [], ◌∷◌, ◌++◌}
+use Rattle.std.proofs.Common.{length, get_or, drop, Option, Some, None, refl, sym, ap, subst, ◌∙◌, inl, inr, arith}
 use Rattle.std.specs.Prelude.{IfSome, nat_lt, slice_range}
 use Rattle.std.proofs.lemmas.List.{take_more, get_or-drop, length-drop}
 use Rattle.re_syntax.specs.Tree.{Tree, tree, nodes}
@@ -8,16 +9,19 @@ use Rattle.re_syntax.specs.Grammar.{IsExpression, GoesOn, MayEnd}
 use Rattle.re_syntax.specs.Answer.{IsRead, IsBad, Refuses}
 use Rattle.re_syntax.specs.Scan.{Scanned, outside, in_class, after_bracket, after_low, after_dash, high, scan_in, scan}
 use Rattle.re_syntax.specs.Build.{Stack, level_tree}
-use Rattle.re_syntax.specs.Read.{Reading, begin, after_scan, read, reads, is_outside, is_escaped, is_complete, Follows, Finishes, FinishFails}
+use Rattle.re_syntax.specs.Read.{Reading, begin, after_scan, read, reads, is_outside, is_escaped, is_complete, Follows}
+use Rattle.re_syntax.specs.Read.{Finishes, FinishFails}
 use Rattle.re_syntax.specs.declared.re.Re.{Re}
 use Rattle.re_syntax.specs.declared.re.ReFault.{ReFault}
 use Rattle.re_syntax.specs.declared.re.ReFault.TheVariants.{Bad, Nodes, NoMemory}
 use Rattle.re_syntax.specs.declared.sign.Sign.{Sign}
-use Rattle.re_syntax.specs.declared.sign.Sign.TheVariants.{Stop, Lone, Escape, Bar, Repeats, Open, Close, Dot, Caret, Dollar, OpenClass, Plain}
+use Rattle.re_syntax.specs.declared.sign.Sign.TheVariants.{Stop, Lone, Escape, Bar, Repeats, Open, Close, Dot, Caret}
+use Rattle.re_syntax.specs.declared.sign.Sign.TheVariants.{Dollar, OpenClass, Plain}
 use Rattle.re_syntax.specs.declared.sign.ClassSign.{ClassSign}
 use Rattle.re_syntax.specs.declared.sign.ClassSign.TheVariants.{Ends, Escapes, Dash, Closes, Hat, Member}
 use Rattle.re_syntax.specs.declared.scanner.Mode.{Mode}
-use Rattle.re_syntax.specs.declared.scanner.Mode.TheVariants.{Outside, Escaped, Opened, Next, NextEscaped, Low, Upto, UptoEscaped}
+use Rattle.re_syntax.specs.declared.scanner.Mode.TheVariants.{Outside, Escaped, Opened, Next, NextEscaped, Low, Upto}
+use Rattle.re_syntax.specs.declared.scanner.Mode.TheVariants.{UptoEscaped}
 use Rattle.re_syntax.specs.declared.scanner.Scanner.{Scanner}
 use Rattle.re_syntax.specs.declared.parser.Parser.{Parser}
 use Rattle.re_syntax.proofs.Sound.{reads_none, built_from, whole}
@@ -29,7 +33,8 @@ use Rattle.re_syntax.proofs.Live.{reads_append, goes_on}
 pub slice_none : (xs : List ℕ) (i : ℕ) → slice_range xs i i ≡ []
 slice_none xs i = let e : i - i ≡ 0 = omega arith in rw e refl
 
-pub slice_more : (xs : List ℕ) (i j : ℕ) → i ≤ j → j < length xs → slice_range xs i (j + 1) ≡ slice_range xs i j ++ get_or xs j 0 ∷ []
+pub slice_more : (xs : List ℕ) (i j : ℕ) → i ≤ j → j < length xs → slice_range xs i (j + 1) ≡ slice_range xs i j
+    ++ get_or xs j 0 ∷ []
 slice_more xs i j l m =
     let e : (j + 1) - i ≡ (j - i) + 1 = omega arith in
     let f : i + (j - i) ≡ j = omega arith in
@@ -119,7 +124,8 @@ scan_near (Low a) s c = low_near s a (class_sign_of s.stop c) c
 scan_near (Upto a) s c = dash_near s a (class_sign_of s.stop c) c
 scan_near (UptoEscaped a) s c = high_near s a _
 
-taken_near : (m : Reading) (o : Scanned) → Near m.scanner.depth o → IfSome (after_scan m o) (λ n. n.scanner.depth ≤ m.scanner.depth + 1)
+taken_near : (m : Reading) (o : Scanned) → Near m.scanner.depth o → IfSome (after_scan m o)
+    (λ n. n.scanner.depth ≤ m.scanner.depth + 1)
 taken_near m None h = tt
 taken_near m (Some (s, None)) h = h
 taken_near m (Some (s, Some t)) h = h
@@ -147,7 +153,8 @@ stop_in (Low a) s c f e = ap (λ (k : ClassSign). after_low s a k c) (ends_none 
 stop_in (Upto a) s c f e = ap (λ (k : ClassSign). after_dash s a k c) (ends_none s.stop c e)
 stop_in (UptoEscaped a) s c f e = absurd cc
 
-pub stop_read : (m : Reading) (c : ℕ) → is_escaped m.scanner.mode ≡ false → is_stop m.scanner.stop c ≡ true → read m c ≡ None
+pub stop_read : (m : Reading) (c : ℕ) → is_escaped m.scanner.mode ≡ false → is_stop m.scanner.stop c ≡ true → read m
+    c ≡ None
 stop_read m c f e = ap (after_scan m) (stop_in m.scanner.mode m.scanner c f e)
 
 both : (a b : Bool) → (a && b) ≡ true → (a ≡ true) × (b ≡ true)
@@ -159,32 +166,42 @@ outside_not_escaped Outside h = refl
 outside_not_escaped _ h = absurd cc
 
 not_escaped : (s : Scanner) → is_complete s ≡ true → is_escaped s.mode ≡ false
-not_escaped s h = outside_not_escaped s.mode (both (is_outside s.mode) (not s.expects) (both (is_outside s.mode && not s.expects) (s.depth == 0) h).0).0
+not_escaped s h = outside_not_escaped s.mode (both (is_outside s.mode) (not s.expects)
+    (both (is_outside s.mode && not s.expects) (s.depth == 0) h).0).0
 
 -- ---- the answers
 
-module _ (stop : Option ℕ) (text : List ℕ) (from here : ℕ) (m : Reading) (order : from ≤ here) (within : here ≤ length text) (e : reads (Some (begin stop)) (slice_range text from here) ≡ Some m) where
+module _ (stop : Option ℕ) (text : List ℕ) (from here : ℕ) (m : Reading) (order : from ≤ here)
+    (within : here ≤ length text) (e : reads (Some (begin stop)) (slice_range text from here) ≡ Some m) where
   -- an expression that ends here was read whole
-  known : (r : Tree) → IsExpression stop (slice_range text from here) r → (is_complete m.scanner ≡ true) × (level_tree m.stack.top ≡ Some r)
+  known : (r : Tree) → IsExpression stop (slice_range text from here) r → (is_complete m.scanner ≡ true)
+      × (level_tree m.stack.top ≡ Some r)
   known r x =
       let c = complete_read stop (slice_range text from here) r x in
-      let same : c.reading ≡ m = cc (c.reads_to, e) in
-      (subst (λ (n : Reading). is_complete n.scanner ≡ true) same c.complete, subst (λ (n : Reading). level_tree n.stack.top ≡ Some r) same c.finished_is)
+      let same : c.reading ≡ m = cc (c.reads_to, e) in (
+        subst (λ (n : Reading). is_complete n.scanner ≡ true) same c.complete,
+        subst (λ (n : Reading). level_tree n.stack.top ≡ Some r) same c.finished_is,
+      )
 
   -- no expression goes on by a rune that is refused
-  none_goes_on : here < length text → read m (get_or text here 0) ≡ None → GoesOn stop (slice_range text from (here + 1)) → ⊥
+  none_goes_on : here < length text → read m (get_or text here 0) ≡ None → GoesOn stop
+      (slice_range text from (here + 1)) → ⊥
   none_goes_on l none x =
       let c = complete_read stop (slice_range text from (here + 1) ++ x.0) x.1 x.2 in
       let refused : reads (Some (begin stop)) (slice_range text from (here + 1)) ≡ None =
-      ap (reads (Some (begin stop))) (slice_more text from here order l) ∙ (reads_append (slice_range text from here) (get_or text here 0 ∷ []) (Some (begin stop)) ∙ (ap (λ (o : Option Reading). reads o (get_or text here 0 ∷ [])) e ∙ none))
+      ap (reads (Some (begin stop))) (slice_more text from here order l)
+      ∙ (reads_append (slice_range text from here) (get_or text here 0 ∷ []) (Some (begin stop))
+      ∙ (ap (λ (o : Option Reading). reads o (get_or text here 0 ∷ [])) e ∙ none))
       in
       let all : reads (Some (begin stop)) (slice_range text from (here + 1) ++ x.0) ≡ None =
-      reads_append (slice_range text from (here + 1)) x.0 (Some (begin stop)) ∙ (ap (λ (o : Option Reading). reads o x.0) refused ∙ reads_none x.0)
+      reads_append (slice_range text from (here + 1)) x.0 (Some (begin stop))
+      ∙ (ap (λ (o : Option Reading). reads o x.0) refused ∙ reads_none x.0)
       in
       let both_are : Some c.reading ≡ None = sym c.reads_to ∙ all in
       absurd cc
 
-  pub refused_here : here < length text → read m (get_or text here 0) ≡ None → (is_stop stop (get_or text here 0) ≡ true → is_escaped m.scanner.mode ≡ true) → IsBad stop text from here
+  pub refused_here : here < length text → read m (get_or text here 0) ≡ None →
+      (is_stop stop (get_or text here 0) ≡ true → is_escaped m.scanner.mode ≡ true) → IsBad stop text from here
   refused_here l none f = record {
     order = order;
     within = within;
@@ -199,22 +216,27 @@ module _ (stop : Option ℕ) (text : List ℕ) (from here : ℕ) (m : Reading) (
     ];
   }
 
-  pub stop_here : (p : Parser) → Follows p m → false ≡ is_escaped p.scanner.mode → true ≡ is_stop stop (get_or text here 0) → read m (get_or text here 0) ≡ None
+  pub stop_here : (p : Parser) → Follows p m → false ≡ is_escaped p.scanner.mode
+      → true ≡ is_stop stop (get_or text here 0) → read m (get_or text here 0) ≡ None
   stop_here p follows f s =
       let same : m.scanner.stop ≡ stop = (built_from stop (slice_range text from here) m e).1.same in
-      stop_read m (get_or text here 0) (subst (λ (x : Scanner). is_escaped x.mode ≡ false) follows.scanner (sym f)) (subst (λ (x : Option ℕ). is_stop x (get_or text here 0) ≡ true) (sym same) (sym s))
+      stop_read m (get_or text here 0) (subst (λ (x : Scanner). is_escaped x.mode ≡ false) follows.scanner (sym f))
+      (subst (λ (x : Option ℕ). is_stop x (get_or text here 0) ≡ true) (sym same) (sym s))
 
   -- an escaped delimiter
   pub behind_here : (p : Parser) → Follows p m → true ≡ is_escaped p.scanner.mode → is_escaped m.scanner.mode ≡ true
   behind_here p follows f = subst (λ (x : Scanner). is_escaped x.mode ≡ true) follows.scanner (sym f)
 
   module _ (may : MayEnd stop text here) (p : Parser) (follows : Follows p m) where
-    pub finished_here : (re : Re) (end : ℕ) → Finishes p here re end → IsRead stop text from end (tree re) × (nodes (tree re) ≤ 2048)
+    pub finished_here : (re : Re) (end : ℕ) → Finishes p here re end → IsRead stop text from end (tree re)
+        × (nodes (tree re) ≤ 2048)
     finished_here re end f =
-        let complete : is_complete m.scanner ≡ true = subst (λ (s : Scanner). is_complete s ≡ true) follows.scanner f.complete in
+        let complete : is_complete m.scanner ≡ true = subst (λ (s : Scanner). is_complete s ≡ true) follows.scanner
+        f.complete in
         let w = whole stop (slice_range text from here) m e complete in
         let small = follows.small f.small in
-        let built : level_tree m.stack.top ≡ Some (tree re) = subst (λ (z : Stack). level_tree z.top ≡ Some (tree re)) small.1 f.tree_is in
+        let built : level_tree m.stack.top ≡ Some (tree re) = subst (λ (z : Stack). level_tree z.top ≡ Some (tree re))
+        small.1 f.tree_is in
         let same : Some w.result ≡ Some (tree re) = sym w.finished_is ∙ built in
         let is : w.result ≡ tree re = cc same in (
           subst (λ (k : ℕ). IsRead stop text from k (tree re)) (sym f.here) (record {
@@ -225,7 +247,8 @@ module _ (stop : Option ℕ) (text : List ℕ) (from here : ℕ) (m : Reading) (
           subst (λ (r : Tree). nodes r ≤ 2048) is (omega (arith, w.nodes_are, small.0, f.small)),
         )
 
-    pub fails_here : (here < length text → read m (get_or text here 0) ≡ None) → (fault : ReFault) → FinishFails p here fault → Refuses stop text from fault
+    pub fails_here : (here < length text → read m (get_or text here 0) ≡ None) → (fault : ReFault)
+        → FinishFails p here fault → Refuses stop text from fault
     fails_here none (Bad place) f =
         let bad : IsBad stop text from here = record {
           order = order;
@@ -236,22 +259,33 @@ module _ (stop : Option ℕ) (text : List ℕ) (from here : ℕ) (m : Reading) (
               let k = known r x in
               elim f.1 [
                 | inl incomplete ↦
-                    let there : is_complete m.scanner ≡ false = subst (λ (s : Scanner). is_complete s ≡ false) follows.scanner incomplete in
+                    let there : is_complete m.scanner ≡ false = subst (λ (s : Scanner). is_complete s ≡ false)
+                    follows.scanner incomplete in
                     absurd (cc (there, k.0))
                 | inr nothing ↦
-                    let there : level_tree m.stack.top ≡ None = subst (λ (z : Stack). level_tree z.top ≡ None) (follows.small nothing.0).1 nothing.1 in
+                    let there : level_tree m.stack.top ≡ None = subst (λ (z : Stack). level_tree z.top ≡ None)
+                    (follows.small nothing.0).1 nothing.1 in
                     let clash : Some r ≡ None = sym k.1 ∙ there in
                     absurd cc
               ];
         } in
         subst (λ (k : ℕ). IsBad stop text from k) (sym f.0) bad
     fails_here none Nodes f =
-        let complete : is_complete m.scanner ≡ true = subst (λ (s : Scanner). is_complete s ≡ true) follows.scanner f.0 in
-        let w = whole stop (slice_range text from here) m e complete in
-        (here, w.result, record { order = order; written = w.written; ends = may }, omega (arith, w.nodes_are, follows.large f.1))
+        let complete : is_complete m.scanner ≡ true = subst (λ (s : Scanner). is_complete s ≡ true) follows.scanner
+        f.0 in
+        let w = whole stop (slice_range text from here) m e complete in (
+          here,
+          w.result,
+          record { order = order; written = w.written; ends = may },
+          omega (arith, w.nodes_are, follows.large f.1),
+        )
     fails_here none NoMemory f = tt
 
 -- the reading after a rune that was read
-pub more_here : (stop : Option ℕ) (text : List ℕ) (from here : ℕ) (m n : Reading) → from ≤ here → here < length text → reads (Some (begin stop)) (slice_range text from here) ≡ Some m → read m (get_or text here 0) ≡ Some n → reads (Some (begin stop)) (slice_range text from (here + 1)) ≡ Some n
+pub more_here : (stop : Option ℕ) (text : List ℕ) (from here : ℕ) (m n : Reading) → from ≤ here → here < length text
+    → reads (Some (begin stop)) (slice_range text from here) ≡ Some m → read m (get_or text here 0) ≡ Some n
+    → reads (Some (begin stop)) (slice_range text from (here + 1)) ≡ Some n
 more_here stop text from here m n order l e f =
-    ap (reads (Some (begin stop))) (slice_more text from here order l) ∙ (reads_append (slice_range text from here) (get_or text here 0 ∷ []) (Some (begin stop)) ∙ (ap (λ (o : Option Reading). reads o (get_or text here 0 ∷ [])) e ∙ f))
+    ap (reads (Some (begin stop))) (slice_more text from here order l)
+    ∙ (reads_append (slice_range text from here) (get_or text here 0 ∷ []) (Some (begin stop))
+    ∙ (ap (λ (o : Option Reading). reads o (get_or text here 0 ∷ [])) e ∙ f))

@@ -1,5 +1,6 @@
 -- What is read so far can always become an expression.
-use Rattle.std.proofs.Common.{◌≡◌, ℕ, zero, suc, ◌+◌, ◌-◌, ◌<◌, ◌≤◌, ◌==◌, Bool, true, false, cond, List, [], ◌∷◌, ◌++◌, length, Option, Some, None, refl, sym, ap, subst, ◌∙◌, arith}
+use Rattle.std.proofs.Common.{◌≡◌, ℕ, zero, suc, ◌+◌, ◌-◌, ◌<◌, ◌≤◌, ◌==◌, Bool, true, false, cond, List, [], ◌∷◌, ◌++◌}
+use Rattle.std.proofs.Common.{length, Option, Some, None, refl, sym, ap, subst, ◌∙◌, arith}
 use Rattle.std.proofs.lemmas.Bool.{le-ltb, eqb-true}
 use Rattle.std.proofs.lemmas.Bool.Decides.{nat_tests}
 use Rattle.re_syntax.specs.Signs.{is_stop, bracket, sign_of, class_sign_of, escaped}
@@ -9,11 +10,13 @@ use Rattle.re_syntax.specs.Build.{Level, Stack, after_token}
 use Rattle.re_syntax.specs.Read.{Reading, begin, after_scan, read, read_on, reads, is_complete}
 use Rattle.re_syntax.specs.declared.sign.Repeat.TheVariants.{Star, Plus, Opt}
 use Rattle.re_syntax.specs.declared.sign.Sign.{Sign}
-use Rattle.re_syntax.specs.declared.sign.Sign.TheVariants.{Stop, Escape, Bar, Repeats, Open, Close, Dot, Caret, Dollar, OpenClass, Plain}
+use Rattle.re_syntax.specs.declared.sign.Sign.TheVariants.{Stop, Escape, Bar, Repeats, Open, Close, Dot, Caret, Dollar}
+use Rattle.re_syntax.specs.declared.sign.Sign.TheVariants.{OpenClass, Plain}
 use Rattle.re_syntax.specs.declared.sign.ClassSign.{ClassSign}
 use Rattle.re_syntax.specs.declared.sign.ClassSign.TheVariants.{Closes, Member}
 use Rattle.re_syntax.specs.declared.scanner.Mode.{Mode}
-use Rattle.re_syntax.specs.declared.scanner.Mode.TheVariants.{Outside, Escaped, Opened, Next, NextEscaped, Low, Upto, UptoEscaped}
+use Rattle.re_syntax.specs.declared.scanner.Mode.TheVariants.{Outside, Escaped, Opened, Next, NextEscaped, Low, Upto}
+use Rattle.re_syntax.specs.declared.scanner.Mode.TheVariants.{UptoEscaped}
 use Rattle.re_syntax.specs.declared.scanner.Scanner.{Scanner}
 use Rattle.re_syntax.specs.declared.scanner.Token.TheVariants.{Leave}
 use Rattle.re_syntax.proofs.Written.{Levels}
@@ -27,7 +30,20 @@ other c k l = grind (arith, nat_tests)
 plain_above : (stop : Option ℕ) (c : ℕ) → 125 ≤ c → is_stop stop c ≡ false → sign_of stop c ≡ Plain
 unfolding sign_of
 plain_above stop c l e =
-    rw (e, other c 92 (omega arith), other c 124 (omega arith), other c 42 (omega arith), other c 43 (omega arith), other c 63 (omega arith), other c 40 (omega arith), other c 41 (omega arith), other c 46 (omega arith), other c 94 (omega arith), other c 36 (omega arith), other c 91 (omega arith)) refl
+    rw (
+      e,
+      other c 92 (omega arith),
+      other c 124 (omega arith),
+      other c 42 (omega arith),
+      other c 43 (omega arith),
+      other c 63 (omega arith),
+      other c 40 (omega arith),
+      other c 41 (omega arith),
+      other c 46 (omega arith),
+      other c 94 (omega arith),
+      other c 36 (omega arith),
+      other c 91 (omega arith),
+    ) refl
 
 member_above : (stop : Option ℕ) (c : ℕ) → 125 ≤ c → is_stop stop c ≡ false → class_sign_of stop c ≡ Member
 unfolding class_sign_of
@@ -72,7 +88,9 @@ close_is stop e = rw e refl
 
 abbrev pick : Bool → Bool → Bool → Bool → Bool → Bool → Bool → Bool → Bool → Bool → Bool → Bool → Bool → Bool → Sign
 pick a b c d e f g h i j k l lone alone =
-    cond a Stop (cond b Escape (cond c Bar (cond d (Repeats Star) (cond e (Repeats Plus) (cond f (Repeats Opt) (cond g (bracket Open lone) (cond h Close (cond i Dot (cond j Caret (cond k Dollar (cond l (bracket OpenClass alone) Plain)))))))))))
+    cond a Stop (cond b Escape (cond c Bar (cond d (Repeats Star) (cond e (Repeats Plus)
+    (cond f (Repeats Opt) (cond g (bracket Open lone) (cond h Close
+    (cond i Dot (cond j Caret (cond k Dollar (cond l (bracket OpenClass alone) Plain)))))))))))
 
 open_pick : (a b c d e f g h i j k l lone alone : Bool) → pick a b c d e f g h i j k l lone alone ≡ Open → lone ≡ false
 open_pick true b c d e f g h i j k l lone alone x = absurd cc
@@ -91,7 +109,8 @@ open_pick false false false false false false false false false false false true
 open_pick false false false false false false false false false false false true lone false x = absurd cc
 open_pick false false false false false false false false false false false false lone alone x = absurd cc
 
-class_pick : (a b c d e f g h i j k l lone alone : Bool) → pick a b c d e f g h i j k l lone alone ≡ OpenClass → alone ≡ false
+class_pick : (a b c d e f g h i j k l lone alone : Bool) → pick a b c d e f g h i j k l lone alone ≡ OpenClass →
+    alone ≡ false
 class_pick true b c d e f g h i j k l lone alone x = absurd cc
 class_pick false true c d e f g h i j k l lone alone x = absurd cc
 class_pick false false true d e f g h i j k l lone alone x = absurd cc
@@ -110,11 +129,13 @@ class_pick false false false false false false false false false false false fal
 
 open_free : (stop : Option ℕ) (c : ℕ) → sign_of stop c ≡ Open → is_stop stop 41 ≡ false
 unfolding sign_of
-open_free stop c x = open_pick (is_stop stop c) (c == 92) (c == 124) (c == 42) (c == 43) (c == 63) (c == 40) (c == 41) (c == 46) (c == 94) (c == 36) (c == 91) (is_stop stop 41) (is_stop stop 93) x
+open_free stop c x = open_pick (is_stop stop c) (c == 92) (c == 124) (c == 42) (c == 43) (c == 63) (c == 40) (c == 41)
+    (c == 46) (c == 94) (c == 36) (c == 91) (is_stop stop 41) (is_stop stop 93) x
 
 class_free : (stop : Option ℕ) (c : ℕ) → sign_of stop c ≡ OpenClass → is_stop stop 93 ≡ false
 unfolding sign_of
-class_free stop c x = class_pick (is_stop stop c) (c == 92) (c == 124) (c == 42) (c == 43) (c == 63) (c == 40) (c == 41) (c == 46) (c == 94) (c == 36) (c == 91) (is_stop stop 41) (is_stop stop 93) x
+class_free stop c x = class_pick (is_stop stop c) (c == 92) (c == 124) (c == 42) (c == 43) (c == 63) (c == 40) (c == 41)
+    (c == 46) (c == 94) (c == 36) (c == 91) (is_stop stop 41) (is_stop stop 93) x
 
 -- ---- to the end of what is open
 
@@ -158,7 +179,8 @@ module _ (stop : Option ℕ) (b : Bool) (d : ℕ) (e : Bool) (z : Stack) (n : �
     spans = [];
     stack = _;
     size = _;
-    leads = ap (λ (s : ClassSign). after_scan (inside (Low a) []) (after_low (scanner_of stop (Low a) b [] d e) a s 93)) (closes_is stop f);
+    leads = ap (λ (s : ClassSign). after_scan (inside (Low a) []) (after_low (scanner_of stop (Low a) b [] d e) a s 93))
+        (closes_is stop f);
   }
   low_ends f (r ∷ rs) a = record {
     text = 93 ∷ [];
@@ -166,35 +188,43 @@ module _ (stop : Option ℕ) (b : Bool) (d : ℕ) (e : Bool) (z : Stack) (n : �
     spans = [];
     stack = _;
     size = _;
-    leads = ap (λ (s : ClassSign). after_scan (inside (Low a) (r ∷ rs)) (after_low (scanner_of stop (Low a) b (r ∷ rs) d e) a s 93)) (closes_is stop f);
+    leads = ap (λ (s : ClassSign). after_scan (inside (Low a) (r ∷ rs))
+        (after_low (scanner_of stop (Low a) b (r ∷ rs) d e) a s 93)) (closes_is stop f);
   }
 
   next_ends : is_stop stop 93 ≡ false → (rs : List (ℕ × ℕ)) → Arrives stop (inside Next rs) d
   next_ends f rs =
       let c = free stop 0 in
-      then_arrives stop (inside Next rs) (inside (Low c.rune) rs) d c.rune (ap (λ (s : ClassSign). after_scan (inside Next rs) (in_class (scanner_of stop Next b rs d e) s c.rune)) c.member) (low_ends f rs c.rune)
+      then_arrives stop (inside Next rs) (inside (Low c.rune) rs) d c.rune
+      (ap (λ (s : ClassSign). after_scan (inside Next rs) (in_class (scanner_of stop Next b rs d e) s c.rune))
+      c.member) (low_ends f rs c.rune)
 
-  high_is : (md : Mode) (rs : List (ℕ × ℕ)) (a x : ℕ) → a ≤ x → high (scanner_of stop md b rs d e) a x ≡ Some (scanner_of stop Next b (rs ++ (a, x) ∷ []) d e, None)
+  high_is : (md : Mode) (rs : List (ℕ × ℕ)) (a x : ℕ) → a ≤ x → high (scanner_of stop md b rs d e) a
+      x ≡ Some (scanner_of stop Next b (rs ++ (a, x) ∷ []) d e, None)
   high_is md rs a x le = rw (le-ltb x a le) refl
 
   upto_ends : is_stop stop 93 ≡ false → (rs : List (ℕ × ℕ)) (a : ℕ) → Arrives stop (inside (Upto a) rs) d
   upto_ends f rs a =
       let c = free stop a in
       then_arrives stop (inside (Upto a) rs) (inside Next (rs ++ (a, c.rune) ∷ [])) d c.rune
-      (ap (λ (s : ClassSign). after_scan (inside (Upto a) rs) (after_dash (scanner_of stop (Upto a) b rs d e) a s c.rune)) c.member ∙ ap (after_scan (inside (Upto a) rs)) (high_is (Upto a) rs a c.rune c.above))
+      (ap (λ (s : ClassSign). after_scan (inside (Upto a) rs) (after_dash (scanner_of stop (Upto a) b rs d e) a s
+      c.rune)) c.member ∙ ap (after_scan (inside (Upto a) rs)) (high_is (Upto a) rs a c.rune c.above))
       (next_ends f (rs ++ (a, c.rune) ∷ []))
 
   upto_escaped_ends : is_stop stop 93 ≡ false → (rs : List (ℕ × ℕ)) (a : ℕ) → Arrives stop (inside (UptoEscaped a) rs) d
   upto_escaped_ends f rs a =
       let c = free stop a in
       then_arrives stop (inside (UptoEscaped a) rs) (inside Next (rs ++ (a, c.rune) ∷ [])) d c.rune
-      (ap (λ (x : ℕ). after_scan (inside (UptoEscaped a) rs) (high (scanner_of stop (UptoEscaped a) b rs d e) a x)) c.itself ∙ ap (after_scan (inside (UptoEscaped a) rs)) (high_is (UptoEscaped a) rs a c.rune c.above))
+      (ap (λ (x : ℕ). after_scan (inside (UptoEscaped a) rs) (high (scanner_of stop (UptoEscaped a) b rs d e) a x))
+      c.itself ∙ ap (after_scan (inside (UptoEscaped a) rs)) (high_is (UptoEscaped a) rs a c.rune c.above))
       (next_ends f (rs ++ (a, c.rune) ∷ []))
 
   opened_ends : is_stop stop 93 ≡ false → (rs : List (ℕ × ℕ)) → Arrives stop (inside Opened rs) d
   opened_ends f rs =
       let c = free stop 0 in
-      then_arrives stop (inside Opened rs) (inside (Low c.rune) rs) d c.rune (ap (λ (s : ClassSign). after_scan (inside Opened rs) (after_bracket (scanner_of stop Opened b rs d e) s c.rune)) c.member) (low_ends f rs c.rune)
+      then_arrives stop (inside Opened rs) (inside (Low c.rune) rs) d c.rune
+      (ap (λ (s : ClassSign). after_scan (inside Opened rs) (after_bracket (scanner_of stop Opened b rs d e) s
+      c.rune)) c.member) (low_ends f rs c.rune)
 
   escaped_ends : (rs : List (ℕ × ℕ)) → Arrives stop (inside Escaped rs) d
   escaped_ends rs = record { text = 97 ∷ []; negated = b; spans = rs; stack = _; size = _; leads = refl }
@@ -202,7 +232,8 @@ module _ (stop : Option ℕ) (b : Bool) (d : ℕ) (e : Bool) (z : Stack) (n : �
   next_escaped_ends : is_stop stop 93 ≡ false → (rs : List (ℕ × ℕ)) → Arrives stop (inside NextEscaped rs) d
   next_escaped_ends f rs = then_arrives stop (inside NextEscaped rs) (inside (Low 97) rs) d 97 refl (low_ends f rs 97)
 
-outside_ends : (stop : Option ℕ) (b : Bool) (rs : List (ℕ × ℕ)) (d : ℕ) (e : Bool) (z : Stack) (n : ℕ) → Arrives stop (with_scanner z n (scanner_of stop Outside b rs d e)) d
+outside_ends : (stop : Option ℕ) (b : Bool) (rs : List (ℕ × ℕ)) (d : ℕ) (e : Bool) (z : Stack) (n : ℕ)
+    → Arrives stop (with_scanner z n (scanner_of stop Outside b rs d e)) d
 outside_ends stop b rs d false z n = record { text = []; negated = b; spans = rs; stack = z; size = n; leads = refl }
 outside_ends stop b rs d true z n =
     let c = free stop 0 in
@@ -212,17 +243,20 @@ outside_ends stop b rs d true z n =
       spans = rs;
       stack = _;
       size = _;
-      leads = ap (λ (s : Sign). after_scan (with_scanner z n (scanner_of stop Outside b rs d true)) (outside (scanner_of stop Outside b rs d true) s c.rune)) c.plain;
+      leads = ap (λ (s : Sign). after_scan (with_scanner z n (scanner_of stop Outside b rs d true))
+          (outside (scanner_of stop Outside b rs d true) s c.rune)) c.plain;
     }
 
 opens_free : (stop : Option ℕ) (b : Bool) (k m : List ℕ) → OpensClass stop b k m → is_stop stop 93 ≡ false
 opens_free stop false k m x = class_free stop x.0 x.2
 opens_free stop true k m x = class_free stop x.1.0 x.1.2
 
-inside_free : (stop : Option ℕ) (b : Bool) (rs : List (ℕ × ℕ)) (k m : List ℕ) → Inside stop b rs k m → is_stop stop 93 ≡ false
+inside_free : (stop : Option ℕ) (b : Bool) (rs : List (ℕ × ℕ)) (k m : List ℕ) → Inside stop b rs k m
+    → is_stop stop 93 ≡ false
 inside_free stop b rs k m x = opens_free stop b k x.0 x.1
 
-mode_ends : (stop : Option ℕ) (md : Mode) (b : Bool) (rs : List (ℕ × ℕ)) (d : ℕ) (e : Bool) (z : Stack) (n : ℕ) (k rest : List ℕ) → InMode stop md b rs k rest → Arrives stop (with_scanner z n (scanner_of stop md b rs d e)) d
+mode_ends : (stop : Option ℕ) (md : Mode) (b : Bool) (rs : List (ℕ × ℕ)) (d : ℕ) (e : Bool) (z : Stack) (n : ℕ)
+    (k rest : List ℕ) → InMode stop md b rs k rest → Arrives stop (with_scanner z n (scanner_of stop md b rs d e)) d
 mode_ends stop Outside b rs d e z n k rest x = outside_ends stop b rs d e z n
 mode_ends stop Escaped b rs d e z n k rest x = escaped_ends stop b d e z n rs
 mode_ends stop Opened b rs d e z n k rest x = opened_ends stop b d e z n (class_free stop x.2.0 x.2.2) rs
@@ -230,7 +264,8 @@ mode_ends stop Next b rs d e z n k rest x = next_ends stop b d e z n (inside_fre
 mode_ends stop NextEscaped b rs d e z n k rest x = next_escaped_ends stop b d e z n (inside_free stop b rs k x.0 x.1) rs
 mode_ends stop (Low a) b rs d e z n k rest x = low_ends stop b d e z n (inside_free stop b rs k x.0 x.1) rs a
 mode_ends stop (Upto a) b rs d e z n k rest x = upto_ends stop b d e z n (inside_free stop b rs k x.0 x.2) rs a
-mode_ends stop (UptoEscaped a) b rs d e z n k rest x = upto_escaped_ends stop b d e z n (inside_free stop b rs k x.0 x.3) rs a
+mode_ends stop (UptoEscaped a) b rs d e z n k rest x = upto_escaped_ends stop b d e z n
+    (inside_free stop b rs k x.0 x.3) rs a
 
 -- ---- the groups
 
@@ -241,15 +276,23 @@ record Closing (m : Reading) : Type 0 where
   complete : is_complete last.scanner ≡ true
 
 then_ends : (m n : Reading) (c : ℕ) → read m c ≡ Some n → Closing n → Closing m
-then_ends m n c e x = record { text = c ∷ x.text; last = x.last; leads = ap (λ (o : Option Reading). reads o x.text) e ∙ x.leads; complete = x.complete }
+then_ends m n c e x = record {
+  text = c ∷ x.text;
+  last = x.last;
+  leads = ap (λ (o : Option Reading). reads o x.text) e
+      ∙ x.leads;
+  complete = x.complete;
+}
 
-groups_end : (stop : Option ℕ) (d : ℕ) (b : Bool) (rs : List (ℕ × ℕ)) (z : Stack) (n : ℕ) → (0 < d → is_stop stop 41 ≡ false) → Closing (at stop b rs d z n)
+groups_end : (stop : Option ℕ) (d : ℕ) (b : Bool) (rs : List (ℕ × ℕ)) (z : Stack) (n : ℕ)
+    → (0 < d → is_stop stop 41 ≡ false) → Closing (at stop b rs d z n)
 groups_end stop zero b rs z n f = record { text = []; last = at stop b rs 0 z n; leads = refl; complete = refl }
 groups_end stop (suc d) b rs z n f =
     let s = scanner_of stop Outside b rs (suc d) false in
     let m = at stop b rs (suc d) z n in
     let back : suc d - 1 ≡ d = omega arith in
-    let e : after_scan m (outside s Close 41) ≡ Some (at stop b rs d (after_token z Leave) (n + 0)) = rw (suc_not_zero d, back) refl in
+    let e : after_scan m (outside s Close 41) ≡ Some (at stop b rs d (after_token z Leave) (n + 0)) =
+    rw (suc_not_zero d, back) refl in
     then_ends m (at stop b rs d (after_token z Leave) (n + 0)) 41
     (ap (λ (x : Sign). after_scan m (outside s x 41)) (close_is stop (f (omega arith))) ∙ e)
     (groups_end stop d b rs (after_token z Leave) (n + 0) (λ l. f (omega arith)))
@@ -258,15 +301,19 @@ pub reads_append : (u v : List ℕ) (m : Option Reading) → reads m (u ++ v) �
 reads_append [] v m = refl
 reads_append (c ∷ u) v m = reads_append u v (read_on m c)
 
-levels_free : (stop : Option ℕ) (outer : List Level) (top : Level) (w : List ℕ) (h : ℕ) (k : List ℕ) → Levels stop outer top w h k → 0 < length outer → is_stop stop 41 ≡ false
+levels_free : (stop : Option ℕ) (outer : List Level) (top : Level) (w : List ℕ) (h : ℕ) (k : List ℕ)
+    → Levels stop outer top w h k → 0 < length outer → is_stop stop 41 ≡ false
 levels_free stop [] top w h k x l = absurd (omega arith)
 levels_free stop (o ∷ os) top w h k x l = open_free stop x.4.0 x.4.2
 
 all_ends : (stop : Option ℕ) (m : Reading) (w rest : List ℕ) → Built stop m w rest → m.scanner.stop ≡ stop → Closing m
 all_ends stop m w rest x same =
     let s = m.scanner in
-    let a : Arrives s.stop m s.depth = mode_ends s.stop s.mode s.negated s.spans s.depth s.expects m.stack m.size x.0 rest (subst (λ (o : Option ℕ). InMode o s.mode s.negated s.spans x.0 rest) (sym same) x.2) in
-    let g = groups_end s.stop s.depth a.negated a.spans a.stack a.size (λ l. subst (λ (o : Option ℕ). is_stop o 41 ≡ false) (sym same) (levels_free stop m.stack.outer m.stack.top w m.stack.groups x.0 x.1.tokens (omega (arith, x.1.depth)))) in
+    let a : Arrives s.stop m s.depth = mode_ends s.stop s.mode s.negated s.spans s.depth s.expects m.stack m.size x.0
+    rest (subst (λ (o : Option ℕ). InMode o s.mode s.negated s.spans x.0 rest) (sym same) x.2) in
+    let g = groups_end s.stop s.depth a.negated a.spans a.stack a.size
+    (λ l. subst (λ (o : Option ℕ). is_stop o 41 ≡ false) (sym same)
+    (levels_free stop m.stack.outer m.stack.top w m.stack.groups x.0 x.1.tokens (omega (arith, x.1.depth)))) in
     record {
       text = a.text ++ g.text;
       last = g.last;

@@ -70,7 +70,11 @@ abbrev pub after_token : Stack → Token → Stack
 after_token z (Leaf r) = record z { top = with_part z.top (tree r) }
 after_token z (Often k) = record z { top = repeat_last z.top z.top.parts (repetition k) }
 after_token z Or = record z { top = end_side z.top z.top.parts }
-after_token z Enter = record { outer = z.top ∷ z.outer; top = record { number = z.groups + 1; sides = []; parts = [] }; groups = z.groups + 1 }
+after_token z Enter = record {
+  outer = z.top ∷ z.outer;
+  top = record { number = z.groups + 1; sides = []; parts = [] };
+  groups = z.groups + 1;
+}
 after_token z Leave = with_group z z.outer (level_tree z.top)
 
 -- before the first token

@@ -1,10 +1,13 @@
 -- How expressions are written.
-use Rattle.std.specs.Prelude.{◌≡◌, ◌≤◌, ◌<◌, ◌+◌, ◌⊎◌, ℕ, Bool, true, false, not, List, [], ◌∷◌, ◌++◌, length, slice_index, Option, IsTrue}
-use Rattle.re_syntax.specs.Tree.{Tree, Letter, AnyLetter, OneOf, LineStart, LineEnd, Then, Either, Many, Several, Maybe, Group, is_either, is_part}
+use Rattle.std.specs.Prelude.{◌≡◌, ◌≤◌, ◌<◌, ◌+◌, ◌⊎◌, ℕ, Bool, true, false, not, List, [], ◌∷◌, ◌++◌, length}
+use Rattle.std.specs.Prelude.{slice_index, Option, IsTrue}
+use Rattle.re_syntax.specs.Tree.{Tree, Letter, AnyLetter, OneOf, LineStart, LineEnd, Then, Either, Many, Several, Maybe}
+use Rattle.re_syntax.specs.Tree.{Group, is_either, is_part}
 use Rattle.re_syntax.specs.Signs.{is_stop, sign_of, class_sign_of, escaped}
 use Rattle.re_syntax.specs.declared.sign.Repeat.TheVariants.{Star, Plus, Opt}
 use Rattle.re_syntax.specs.declared.sign.Sign.{Sign}
-use Rattle.re_syntax.specs.declared.sign.Sign.TheVariants.{Escape, Bar, Repeats, Open, Close, Dot, Caret, Dollar, OpenClass, Plain}
+use Rattle.re_syntax.specs.declared.sign.Sign.TheVariants.{Escape, Bar, Repeats, Open, Close, Dot, Caret, Dollar}
+use Rattle.re_syntax.specs.declared.sign.Sign.TheVariants.{OpenClass, Plain}
 use Rattle.re_syntax.specs.declared.sign.ClassSign.{ClassSign}
 use Rattle.re_syntax.specs.declared.sign.ClassSign.TheVariants.{Ends, Escapes, Dash, Closes, Hat, Member}
 
@@ -35,17 +38,20 @@ is_member first Closes = false
 -- the rune c in a class
 abbrev pub WritesMember : Option ℕ → Bool → ℕ → List ℕ → List ℕ → Type 0
 WritesMember stop first c text rest =
-    ((text ≡ c ∷ rest) × IsTrue (is_member first (class_sign_of stop c))) ⊎ ((d : ℕ) × ClassHas stop Escapes text (d ∷ rest) × (c ≡ escaped d))
+    ((text ≡ c ∷ rest) × IsTrue (is_member first (class_sign_of stop c)))
+    ⊎ ((d : ℕ) × ClassHas stop Escapes text (d ∷ rest) × (c ≡ escaped d))
 
 -- a range of a class: one rune, or two in order with a dash between
 abbrev pub WritesRange : Option ℕ → Bool → ℕ × ℕ → List ℕ → List ℕ → Type 0
 WritesRange stop first r text rest =
-    (WritesMember stop first r.0 text rest × (r.1 ≡ r.0)) ⊎ ((m n : List ℕ) × WritesMember stop first r.0 text m × ClassHas stop Dash m n × WritesMember stop false r.1 n rest × (r.0 ≤ r.1))
+    (WritesMember stop first r.0 text rest × (r.1 ≡ r.0)) ⊎ ((m n : List ℕ) × WritesMember stop first r.0 text m
+    × ClassHas stop Dash m n × WritesMember stop false r.1 n rest × (r.0 ≤ r.1))
 
 -- ranges one after another; only the first can be at the beginning of the class
 abbrev pub WritesRanges : Option ℕ → Bool → List (ℕ × ℕ) → List ℕ → List ℕ → Type 0
 WritesRanges stop first [] text rest = text ≡ rest
-WritesRanges stop first (r ∷ rs) text rest = (m : List ℕ) × WritesRange stop first r text m × WritesRanges stop false rs m rest
+WritesRanges stop first (r ∷ rs) text rest = (m : List ℕ) × WritesRange stop first r text m
+    × WritesRanges stop false rs m rest
 
 -- the beginning of a class
 abbrev pub OpensClass : Option ℕ → Bool → List ℕ → List ℕ → Type 0
@@ -56,7 +62,8 @@ OpensClass stop true text rest = (m : List ℕ) × Has stop OpenClass text m × 
 abbrev pub WritesClass : Option ℕ → Bool → List (ℕ × ℕ) → List ℕ → List ℕ → Type 0
 WritesClass stop negated [] text rest = ⊥
 WritesClass stop negated (r ∷ rs) text rest =
-    (m n : List ℕ) × OpensClass stop negated text m × WritesRanges stop (not negated) (r ∷ rs) m n × ClassHas stop Closes n rest
+    (m n : List ℕ) × OpensClass stop negated text m × WritesRanges stop (not negated) (r ∷ rs) m n
+    × ClassHas stop Closes n rest
 
 -- An expression with this tree; before it g groups have been opened, after it h.
 abbrev pub Writes : Option ℕ → Tree → ℕ → List ℕ → ℕ → List ℕ → Type 0
@@ -66,9 +73,11 @@ Writes stop (OneOf negated spans) g text h rest = (h ≡ g) × WritesClass stop 
 Writes stop LineStart g text h rest = (h ≡ g) × Has stop Caret text rest
 Writes stop LineEnd g text h rest = (h ≡ g) × Has stop Dollar text rest
 Writes stop (Then a b) g text h rest =
-    IsTrue (is_part a) × (is_either b ≡ false) × (i : ℕ) × (m : List ℕ) × Writes stop a g text i m × Writes stop b i m h rest
+    IsTrue (is_part a) × (is_either b ≡ false) × (i : ℕ) × (m : List ℕ) × Writes stop a g text i m
+    × Writes stop b i m h rest
 Writes stop (Either a b) g text h rest =
-    (is_either a ≡ false) × (i : ℕ) × (m n : List ℕ) × Writes stop a g text i m × Has stop Bar m n × Writes stop b i n h rest
+    (is_either a ≡ false) × (i : ℕ) × (m n : List ℕ) × Writes stop a g text i m × Has stop Bar m n
+    × Writes stop b i n h rest
 Writes stop (Many a) g text h rest =
     IsTrue (is_part a) × (m : List ℕ) × Writes stop a g text h m × Has stop (Repeats Star) m rest
 Writes stop (Several a) g text h rest =

@@ -1,7 +1,8 @@
 -- The groups of a match.
 use Rattle.std.specs.Prelude.{◌≡◌, ◌+◌, ◌≤◌, ◌⊎◌, ℕ, zero, suc, List, slice_set, Option, Some, None, replicate}
 use Rattle.re_syntax.specs.Match.{Matches, Repeats}
-use Rattle.re_syntax.specs.Tree.{Tree, Letter, AnyLetter, OneOf, LineStart, LineEnd, Then, Either, Many, Several, Maybe, Group}
+use Rattle.re_syntax.specs.Tree.{Tree, Letter, AnyLetter, OneOf, LineStart, LineEnd, Then, Either, Many, Several, Maybe}
+use Rattle.re_syntax.specs.Tree.{Group}
 use Rattle.am_text.specs.declared.range.Range.{Range}
 
 -- how many ranges a match has: its own, and those of nine groups
@@ -25,10 +26,12 @@ Walk R (suc n) i j last out =
 -- a first piece and the pieces after it; last is the last of them
 abbrev pub PlusWalk : (ℕ → ℕ → Type 0) → ℕ → ℕ → Range → Type 0
 PlusWalk R i j last =
-    (k : ℕ) × (n : ℕ) × IsLongest (AheadBy 0 R) (Repeats R) i j k × Walk R n k j (Some (record { q0 = i; q1 = k })) (Some last)
+    (k : ℕ) × (n : ℕ) × IsLongest (AheadBy 0 R) (Repeats R) i j k × Walk R n k j (Some (record { q0 = i; q1 = k }))
+    (Some last)
 
 -- what a piece sets, where there is one
-abbrev pub OfPiece : (ℕ → ℕ → List (Option Range) → List (Option Range) → Type 0) → Option Range → List (Option Range) → List (Option Range) → Type 0
+abbrev pub OfPiece : (ℕ → ℕ → List (Option Range) → List (Option Range) → Type 0) → Option Range → List (Option Range)
+    → List (Option Range) → Type 0
 OfPiece G None old new = new ≡ old
 OfPiece G (Some p) old new = G p.q0 p.q1 old new
 
@@ -40,7 +43,8 @@ Sets (OneOf negated spans) t i j old new = new ≡ old
 Sets LineStart t i j old new = new ≡ old
 Sets LineEnd t i j old new = new ≡ old
 Sets (Then a b) t i j old new =
-    (k : ℕ) × (mid : List (Option Range)) × IsLongest (AheadBy 0 (Matches a t)) (Matches b t) i j k × Sets a t i k old mid × Sets b t k j mid new
+    (k : ℕ) × (mid : List (Option Range)) × IsLongest (AheadBy 0 (Matches a t)) (Matches b t) i j k
+    × Sets a t i k old mid × Sets b t k j mid new
 Sets (Either a b) t i j old new =
     (Matches a t i j × Sets a t i j old new) ⊎ ((Matches a t i j → ⊥) × Sets b t i j old new)
 Sets (Many a) t i j old new =
@@ -55,4 +59,5 @@ Sets (Group n a) t i j old new =
 -- The ten ranges of a match: the whole span, and then those that its groups set. A group past the ninth has no place.
 abbrev pub AreGroups : Tree → List ℕ → Range → List (Option Range) → Type 0
 AreGroups r t span all =
-    (set : List (Option Range)) × Sets r t span.q0 span.q1 (replicate ranges None) set × (all ≡ slice_set set 0 (Some span))
+    (set : List (Option Range)) × Sets r t span.q0 span.q1 (replicate ranges None) set
+    × (all ≡ slice_set set 0 (Some span))

@@ -1,8 +1,10 @@
 -- Which spans of a text an expression matches, and which of them is chosen.
-use Rattle.std.specs.Prelude.{◌≡◌, ◌==◌, ◌&&◌, ◌||◌, ◌<◌, ◌≤◌, ◌+◌, ◌-◌, ◌⊎◌, ℕ, zero, suc, Bool, not, List, length, slice_index, nat_lt, nat_le, Option, Some, IsTrue, if◌then◌else◌}
+use Rattle.std.specs.Prelude.{◌≡◌, ◌==◌, ◌&&◌, ◌||◌, ◌<◌, ◌≤◌, ◌+◌, ◌-◌, ◌⊎◌, ℕ, zero, suc, Bool, not, List, length}
+use Rattle.std.specs.Prelude.{slice_index, nat_lt, nat_le, Option, Some, IsTrue, if◌then◌else◌}
 use Rattle.std.specs.List.{list_any}
 use Rattle.am_text.specs.Ascii.{newline}
-use Rattle.re_syntax.specs.Tree.{Tree, Letter, AnyLetter, OneOf, LineStart, LineEnd, Then, Either, Many, Several, Maybe, Group}
+use Rattle.re_syntax.specs.Tree.{Tree, Letter, AnyLetter, OneOf, LineStart, LineEnd, Then, Either, Many, Several, Maybe}
+use Rattle.re_syntax.specs.Tree.{Group}
 use Rattle.am_text.specs.declared.range.Range.{Range}
 
 -- a range of the class has the rune

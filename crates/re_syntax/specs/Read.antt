@@ -1,5 +1,6 @@
 -- An expression read from left to right, with no limit on its nodes.
-use Rattle.std.specs.Prelude.{◌≡◌, ◌≤◌, ◌<◌, ◌+◌, ◌==◌, ◌&&◌, ◌⊎◌, not, ℕ, Bool, true, false, List, [], ◌∷◌, Option, Some, None}
+use Rattle.std.specs.Prelude.{◌≡◌, ◌≤◌, ◌<◌, ◌+◌, ◌==◌, ◌&&◌, ◌⊎◌, not, ℕ, Bool, true, false, List, [], ◌∷◌, Option}
+use Rattle.std.specs.Prelude.{Some, None}
 use Rattle.re_syntax.specs.Scan.{Scanned, scan, start}
 use Rattle.re_syntax.specs.Build.{Stack, stack_of, level_tree, after_token, nothing, weight}
 use Rattle.re_syntax.specs.declared.scanner.Mode.{Mode}
@@ -73,6 +74,7 @@ pub record Finishes (p : Parser) (at : ℕ) (re : Re) (end : ℕ) : Type 0 where
 
 -- why reading fails where the text ends
 abbrev pub FinishFails : Parser → ℕ → ReFault → Type 0
-FinishFails p at (Bad place) = (place ≡ at) × ((is_complete p.scanner ≡ false) ⊎ ((p.size ≤ most_nodes + 1) × (level_tree (stack_of p.builder).top ≡ None)))
+FinishFails p at (Bad place) = (place ≡ at) × ((is_complete p.scanner ≡ false)
+    ⊎ ((p.size ≤ most_nodes + 1) × (level_tree (stack_of p.builder).top ≡ None)))
 FinishFails p at Nodes = (is_complete p.scanner ≡ true) × (most_nodes + 1 < p.size)
 FinishFails p at NoMemory = Unit {0}

@@ -1,9 +1,11 @@
 -- What the runes of an expression mean.
 use Rattle.std.specs.Prelude.{ℕ, ◌==◌, Bool, false, Option, Some, None, if◌then◌else◌}
-use Rattle.am_text.specs.Ascii.{newline, dollar, left_parenthesis, right_parenthesis, star, plus, minus, dot, question, left_bracket, backslash, right_bracket, caret, bar, letter_n}
+use Rattle.am_text.specs.Ascii.{newline, dollar, left_parenthesis, right_parenthesis, star, plus, minus, dot, question}
+use Rattle.am_text.specs.Ascii.{left_bracket, backslash, right_bracket, caret, bar, letter_n}
 use Rattle.re_syntax.specs.declared.sign.Repeat.TheVariants.{Star, Plus, Opt}
 use Rattle.re_syntax.specs.declared.sign.Sign.{Sign}
-use Rattle.re_syntax.specs.declared.sign.Sign.TheVariants.{Stop, Lone, Escape, Bar, Repeats, Open, Close, Dot, Caret, Dollar, OpenClass, Plain}
+use Rattle.re_syntax.specs.declared.sign.Sign.TheVariants.{Stop, Lone, Escape, Bar, Repeats, Open, Close, Dot, Caret}
+use Rattle.re_syntax.specs.declared.sign.Sign.TheVariants.{Dollar, OpenClass, Plain}
 use Rattle.re_syntax.specs.declared.sign.ClassSign.{ClassSign}
 use Rattle.re_syntax.specs.declared.sign.ClassSign.TheVariants.{Ends, Escapes, Dash, Closes, Hat, Member}
 

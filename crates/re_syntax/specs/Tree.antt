@@ -4,7 +4,8 @@ use Rattle.re_syntax.specs.declared.re.Re.{Re, Lit, Any, Class, Start, End, Cat'
 use Rattle.re_syntax.specs.declared.sign.Repeat.{Repeat}
 use Rattle.re_syntax.specs.declared.sign.Repeat.TheVariants.{Star, Plus, Opt}
 
--- The tree of an expression. A concatenation (`Then`) or an alternation (`Either`) of more than two parts nests to the right;
+-- The tree of an expression. A concatenation (`Then`) or an alternation (`Either`) of more than two parts nests to the
+-- right;
 -- `Many`, `Several` and `Maybe` are `*`, `+` and `?`.
 pub data Tree : Type 0 where
   -- one rune: this one, any but newline, or one of a class

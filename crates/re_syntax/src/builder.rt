@@ -2,7 +2,8 @@
 
 ghost use Rattle.std.specs.Prelude.{◌≡◌, ◌<◌, ◌+◌, ◌^◌, [], ◌∷◌, map, IfOk, IfSome, IfNone, None, Some};
 ghost use Rattle.re_syntax.specs.Tree.{tree, repetition};
-ghost use Rattle.re_syntax.specs.Build.{level_of, stack_of, chain, choice, level_tree, with_part, repeat_last, end_side, with_group, after_token, nothing, weight};
+ghost use Rattle.re_syntax.specs.Build.{level_of, stack_of, chain, choice, level_tree, with_part, repeat_last};
+ghost use Rattle.re_syntax.specs.Build.{end_side, with_group, after_token, nothing, weight};
 
 use crate::re::Re;
 use crate::scanner::Token;
@@ -95,7 +96,8 @@ fn with_part(mut frame: Frame, part: Re) -> Result<Frame, NoMemory>
 }
 
 fn repeat_last(alloc: Global, mut frame: Frame, repeat: Repeat) -> Result<Frame, NoMemory>
-    ensures { IfOk result (λ new. level_of new ≡ repeat_last (level_of frame) (level_of frame).parts (repetition repeat)) }
+    ensures { IfOk result (λ new. level_of new ≡ repeat_last (level_of frame) (level_of frame).parts
+        (repetition repeat)) }
 {
     let Some(piece) = frame.parts.pop_front() else {
         return Ok(frame);

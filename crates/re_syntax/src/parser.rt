@@ -1,12 +1,14 @@
 //! Reads the tree of an expression.
 
-ghost use Rattle.std.specs.Prelude.{◌≡◌, ◌≤◌, ◌<◌, ◌+◌, ◌^◌, ◌⊎◌, ℕ, List, Option, length, true, false, IfOk, IfErr, IfSome, IfNone, Some, None, slice_index};
+ghost use Rattle.std.specs.Prelude.{◌≡◌, ◌≤◌, ◌<◌, ◌+◌, ◌^◌, ◌⊎◌, ℕ, List, Option, length, true, false, IfOk, IfErr};
+ghost use Rattle.std.specs.Prelude.{IfSome, IfNone, Some, None, slice_index};
 ghost use Rattle.re_syntax.specs.Tree.{tree, nodes, most_nodes};
 ghost use Rattle.re_syntax.specs.Answer.{IsRead, Refuses};
 ghost use Rattle.re_syntax.specs.Signs.{is_stop};
 ghost use Rattle.re_syntax.specs.Scan.{scan, start};
 ghost use Rattle.re_syntax.specs.Build.{stack_of, level_tree, after_token, weight};
-ghost use Rattle.re_syntax.specs.Read.{Reading, begin, read, is_outside, is_escaped, is_complete, Follows, Finishes, FinishFails};
+ghost use Rattle.re_syntax.specs.Read.{Reading, begin, read, is_outside, is_escaped, is_complete, Follows, Finishes};
+ghost use Rattle.re_syntax.specs.Read.{FinishFails};
 
 use crate::builder::{self, Builder};
 use crate::re::{Re, ReFault};
@@ -48,7 +50,8 @@ fn take(
     token: Token,
 ) -> Result<Parser, NoMemory>
     requires { builder.groups ≤ size }
-    ensures { IfOk result (λ new. (m : Reading) → Follows (record { scanner = scanner; builder = builder; size = size }) m → Follows new (record { scanner = scanner; stack = after_token m.stack token; size = m.size + weight token })) }
+    ensures { IfOk result (λ new. (m : Reading) → Follows (record { scanner = scanner; builder = builder; size = size })
+        m → Follows new (record { scanner = scanner; stack = after_token m.stack token; size = m.size + weight token })) }
 {
     if size > MOST {
         return Ok(Parser {
@@ -77,7 +80,8 @@ fn read(alloc: Global, parser: Parser, c: Rune) -> Result<Option<Parser>, NoMemo
     requires depth { parser.scanner.depth + 1 < 2 ^ 64 }
     requires few { parser.builder.groups ≤ parser.size }
     ensures none { IfOk result (λ answer. IfNone answer ((m : Reading) → Follows parser m → read m c ≡ None)) }
-    ensures some { IfOk result (λ answer. IfSome answer (λ new. (m : Reading) → Follows parser m → (next : Reading) × (read m c ≡ Some next) × Follows new next)) }
+    ensures some { IfOk result (λ answer. IfSome answer (λ new. (m : Reading) → Follows parser m → (next : Reading)
+        × (read m c ≡ Some next) × Follows new next)) }
 {
     let Parser {
         scanner,

@@ -41,8 +41,8 @@ pub enum Re {
     Group(u32, Box<Re>),
 }
 
-// By a loop, so that a tree is let go by a stack that is as deep as its left sides are nested, and no deeper for a chain
-// of repetitions or of parts that nest to the right.
+// By a loop, so that a tree is let go by a stack that is as deep as its left sides are nested, and no deeper for a
+// chain of repetitions or of parts that nest to the right.
 impl Drop for Re {
     fn drop(mut self) {
         'nodes: loop {

@@ -2,7 +2,8 @@
 
 ghost use Rattle.std.specs.Prelude.{◌≡◌, ◌<◌, ◌+◌, ◌^◌, IfOk};
 ghost use Rattle.re_syntax.specs.Signs.{sign_of, class_sign_of, escaped};
-ghost use Rattle.re_syntax.specs.Scan.{within, leaf, often, or, enter, leave, open_class, outside, close_class, in_class, after_bracket, with_range, after_low, high, after_dash, scan, start};
+ghost use Rattle.re_syntax.specs.Scan.{within, leaf, often, or, enter, leave, open_class, outside, close_class};
+ghost use Rattle.re_syntax.specs.Scan.{in_class, after_bracket, with_range, after_low, high, after_dash, scan, start};
 
 use crate::re::{Re, RuneSpans};
 use crate::sign::{ClassSign, Repeat, Sign, class_sign_of, escaped, sign_of};

@@ -1,5 +1,6 @@
 -- The laws.
-use Rattle.std.proofs.Common.{◌≡◌, ℕ, zero, suc, ◌+◌, ◌-◌, ◌<◌, ◌≤◌, ◌&&◌, Bool, true, false, cond, eqb, leb, List, [], ◌∷◌, length, get_or, refl, sym, ap, ◌∙◌, inl, inr, arith, rules}
+use Rattle.std.proofs.Common.{◌≡◌, ℕ, zero, suc, ◌+◌, ◌-◌, ◌<◌, ◌≤◌, ◌&&◌, Bool, true, false, cond, eqb, leb, List, []}
+use Rattle.std.proofs.Common.{◌∷◌, length, get_or, refl, sym, ap, ◌∙◌, inl, inr, arith, rules}
 use Rattle.std.specs.Prelude.{◌==◌}
 use Rattle.std.specs.List.{list_any, All, AllPairs}
 use Rattle.std.proofs.lemmas.Bool.{le-leb, lt-leb, eq-eqb, ne_eqb, cases_eq, cases_lt}
@@ -21,18 +22,21 @@ none_below at p (c ∷ cs) l =
       | false ↦ none
     ]
 
-has_newline : (m at p : ℕ) (cs : List ℕ) → p ≡ at + m + 1 → has (after_newlines at cs) p ≡ (leb (m + 1) (length cs) && eqb (get_or cs m 0) 10)
+has_newline : (m at p : ℕ) (cs : List ℕ) → p ≡ at + m + 1 → has (after_newlines at cs)
+    p ≡ (leb (m + 1) (length cs) && eqb (get_or cs m 0) 10)
 has_newline m at p [] e = rw (lt-leb (m + 1) 0 (omega arith)) refl
 has_newline zero at p (c ∷ cs) e =
     let more = after_newlines (at + 1) cs in
     let none : has more p ≡ false = none_below (at + 1) p cs (omega arith) in
-    rw (le-leb (0 + 1) (length (c ∷ cs)) (omega arith)) (elim (eqb c 10) as (λ b. has (cond b ((at + 1) ∷ more) more) p ≡ b) [
+    rw (le-leb (0 + 1) (length (c ∷ cs)) (omega arith)) (elim (eqb c 10) as
+    (λ b. has (cond b ((at + 1) ∷ more) more) p ≡ b) [
       | true ↦ rw (eq-eqb (at + 1) p (omega arith)) refl
       | false ↦ none
     ])
 has_newline (suc m) at p (c ∷ cs) e =
     let more = after_newlines (at + 1) cs in
-    let later : has more p ≡ (leb (m + 1) (length cs) && eqb (get_or cs m 0) 10) = has_newline m (at + 1) p cs (omega arith) in
+    let later : has more p ≡ (leb (m + 1) (length cs) && eqb (get_or cs m 0) 10) = has_newline m (at + 1) p cs
+    (omega arith) in
     let same : leb (m + 1) (length cs) ≡ leb (suc m + 1) (length (c ∷ cs)) = both_tests m (length cs) in
     (elim (eqb c 10) as (λ b. has (cond b ((at + 1) ∷ more) more) p ≡ has more p) [
       | true ↦ rw (ne_eqb (at + 1) p (omega arith)) refl
@@ -50,7 +54,8 @@ line_starts_are_those t p = elim (cases_eq p 0) [
   | inl e ↦ rw (eq-eqb p 0 e, eq-eqb 0 p (sym e)) refl
   | inr ne ↦
       let one : p - 1 + 1 ≡ p = omega arith in
-      rw (ne_eqb p 0 ne, ne_eqb 0 p (λ e. ne (sym e))) (has_newline (p - 1) 0 p t (omega arith) ∙ ap (λ x. leb x (length t) && eqb (get_or t (p - 1) 0) 10) one)
+      rw (ne_eqb p 0 ne, ne_eqb 0 p (λ e. ne (sym e))) (has_newline (p - 1) 0 p t (omega arith)
+      ∙ ap (λ x. leb x (length t) && eqb (get_or t (p - 1) 0) 10) one)
 ]
 
 all_above : (k at : ℕ) (cs : List ℕ) → k ≤ at → All (λ s. k < s) (after_newlines at cs)

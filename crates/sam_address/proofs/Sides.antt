@@ -1,8 +1,10 @@
 -- The sides of a tree.
 use Rattle.std.proofs.Common.{◌≡◌, ℕ, List, Ok, refl}
 use Rattle.am_text.specs.declared.range.Range.{Range}
-use Rattle.addr_syntax.specs.Tree.{Tree, Missing, Dot, Front, End, RuneAt, LineAt, Forward, Backward, Sum, Difference, Span, MovingSpan, tree}
-use Rattle.addr_syntax.specs.declared.address.Addr.{Addr, Here, Zero, Last, Char, Line, Fore, Back, Plus', Minus', Comma', Semi'}
+use Rattle.addr_syntax.specs.Tree.{Tree, Missing, Dot, Front, End, RuneAt, LineAt, Forward, Backward, Sum, Difference}
+use Rattle.addr_syntax.specs.Tree.{Span, MovingSpan, tree}
+use Rattle.addr_syntax.specs.declared.address.Addr.{Addr, Here, Zero, Last, Char, Line, Fore, Back, Plus', Minus'}
+use Rattle.addr_syntax.specs.declared.address.Addr.{Comma', Semi'}
 use Rattle.sam_address.specs.Value.{Outcome, value, written_or}
 
 -- the tree of an address is written
@@ -20,7 +22,8 @@ written_tree (Comma' a b) missing own = refl
 written_tree (Semi' a b) missing own = refl
 
 -- dot stands for a side of a sum or a difference that isn't written
-pub written_dot : (a : Tree) (text : List ℕ) (limit dot : Range) → written_or a (Ok dot) (value a text limit dot) ≡ value a text limit dot
+pub written_dot : (a : Tree) (text : List ℕ) (limit dot : Range) → written_or a (Ok dot)
+    (value a text limit dot) ≡ value a text limit dot
 written_dot Missing text limit dot = refl
 written_dot Dot text limit dot = refl
 written_dot Front text limit dot = refl

@@ -9,7 +9,8 @@ use Rattle.sam_syntax.specs.Joined.{commands_of}
 
 pub row_commands : (n : _) (k : Row_of-Cmd n) → commands k ≡ commands_of (map command (items-the_row-Cmd n k))
 row_commands n end_of-Cmd = refl
-row_commands n (more_of-Cmd {n = m} addr x rest) = ap (λ (l : Commands). Then (address.tree_of addr) (action x) l) (row_commands m rest)
+row_commands n (more_of-Cmd {n = m} addr x rest) = ap (λ (l : Commands). Then (address.tree_of addr) (action x) l)
+    (row_commands m rest)
 
 pub block_commands : (v : Vec Cmd Global) → action (act.Block v) ≡ Block (commands_of (map command v.items))
 block_commands v = search (rules, the_lemmas, row_commands)

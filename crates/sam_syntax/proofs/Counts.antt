@@ -1,16 +1,20 @@
 -- How large the whole is with one piece more.
-use Rattle.std.proofs.Common.{◌≡◌, ℕ, ◌+◌, ◌≤◌, ◌||◌, Bool, true, false, List, [], ◌∷◌, ◌++◌, length, Option, Some, None, refl, sym, ap, subst, ◌∙◌, arith}
+use Rattle.std.proofs.Common.{◌≡◌, ℕ, ◌+◌, ◌≤◌, ◌||◌, Bool, true, false, List, [], ◌∷◌, ◌++◌, length, Option, Some}
+use Rattle.std.proofs.Common.{None, refl, sym, ap, subst, ◌∙◌, arith}
 use Rattle.std.specs.Prelude.{max}
 use Rattle.re_syntax.specs.Tree as expression
 use Rattle.addr_syntax.specs.Tree as address
 use Rattle.addr_syntax.specs.Tree.{Missing}
-use Rattle.edit_parts.specs.Tree.{Action, Commands, Command, Nothing, Append, Change, Insert, Delete, Substitute, Move, Copy, Print, LineNumber, RuneNumber, Loops, Block, Asks, Done, Then}
+use Rattle.edit_parts.specs.Tree.{Action, Commands, Command, Nothing, Append, Change, Insert, Delete, Substitute, Move}
+use Rattle.edit_parts.specs.Tree.{Copy, Print, LineNumber, RuneNumber, Loops, Block, Asks, Done, Then}
 use Rattle.edit_parts.specs.Limits as part
 use Rattle.edit_parts.specs.Limits.{is_large_expression, is_long_address}
 use Rattle.edit_parts.specs.Pieces as piece
 use Rattle.edit_parts.specs.Pieces.{Piece, Blank, EndsLine, At, Opens, Closes, Does}
 use Rattle.sam_syntax.specs.Limits.{levels, most_levels, is_large, is_long}
-use Rattle.sam_syntax.specs.Joined.{Head, OpenBlock, Line, Opened, Looping, Addressed, Ended, Reading, in_loops, commands_of, command_of, with_command, with_line, block_of, after_piece, close_all, whole}
+use Rattle.sam_syntax.specs.Joined.{Head, OpenBlock, Line, Opened, Looping, Addressed, Ended, Reading, in_loops}
+use Rattle.sam_syntax.specs.Joined.{commands_of, command_of, with_command, with_line, block_of, after_piece, close_all}
+use Rattle.sam_syntax.specs.Joined.{whole}
 use Rattle.sam_syntax.specs.Read.{piece_large, piece_long}
 use Rattle.sam_syntax.specs.Depth.{heads_of, round, depth, level_of}
 
@@ -66,46 +70,59 @@ abbrev blocks_have : (expression.Tree → Bool) → (address.Tree → Bool) → 
 blocks_have f g [] = false
 blocks_have f g (b ∷ bs) = block_has f g b || blocks_have f g bs
 
-commands_have : (f : expression.Tree → Bool) (g : address.Tree → Bool) (cs : List Command) (c : Command) → some_of f g (commands_of (cs ++ c ∷ [])) ≡ (some_of f g (commands_of cs) || has f g c)
+commands_have : (f : expression.Tree → Bool) (g : address.Tree → Bool) (cs : List Command) (c : Command)
+    → some_of f g (commands_of (cs ++ c ∷ [])) ≡ (some_of f g (commands_of cs) || has f g c)
 commands_have f g [] c = or_false (has f g c)
-commands_have f g (d ∷ cs) c = ap (λ x. has f g d || x) (commands_have f g cs c) ∙ sym (or_assoc (has f g d) (some_of f g (commands_of cs)) (has f g c))
+commands_have f g (d ∷ cs) c = ap (λ x. has f g d || x) (commands_have f g cs c)
+    ∙ sym (or_assoc (has f g d) (some_of f g (commands_of cs)) (has f g c))
 
 round_loop : (h a e c : Bool) → (h || (a || (e || c))) ≡ (((a || e) || h) || c)
 round_loop h a e c = grind arith
 
-in_loops_has : (f : expression.Tree → Bool) (g : address.Tree → Bool) (hs : List Head) (c : Command) → has f g (in_loops hs c) ≡ (heads_have f g hs || has f g c)
+in_loops_has : (f : expression.Tree → Bool) (g : address.Tree → Bool) (hs : List Head) (c : Command)
+    → has f g (in_loops hs c) ≡ (heads_have f g hs || has f g c)
 in_loops_has f g [] c = refl
 in_loops_has f g (h ∷ hs) c =
-    in_loops_has f g hs (h.addr, Loops h.kind h.re c.0 c.1) ∙ round_loop (heads_have f g hs) (g h.addr) (f h.re) (has f g c)
+    in_loops_has f g hs (h.addr, Loops h.kind h.re c.0 c.1) ∙ round_loop (heads_have f g hs) (g h.addr) (f h.re)
+    (has f g c)
 
 none_missing : (m h : Bool) → m ≡ false → (h || (m || false)) ≡ h
 none_missing m h e = grind arith
 
-line_command_has : (f : expression.Tree → Bool) (g : address.Tree → Bool) (line : Line) → g Missing ≡ false → has f g (command_of line) ≡ line_has f g line
+line_command_has : (f : expression.Tree → Bool) (g : address.Tree → Bool) (line : Line)
+    → g Missing ≡ false → has f g (command_of line) ≡ line_has f g line
 line_command_has f g Opened e = none_missing (g Missing) false e
 line_command_has f g (Looping []) e = none_missing (g Missing) false e
-line_command_has f g (Looping (h ∷ hs)) e = in_loops_has f g (h ∷ hs) (Missing, Print) ∙ none_missing (g Missing) (heads_have f g (h ∷ hs)) e
-line_command_has f g (Addressed hs a) e = in_loops_has f g hs (a, Nothing) ∙ ap (λ x. heads_have f g hs || x) (or_false (g a))
+line_command_has f g (Looping (h ∷ hs)) e = in_loops_has f g (h ∷ hs) (Missing, Print)
+    ∙ none_missing (g Missing) (heads_have f g (h ∷ hs)) e
+line_command_has f g (Addressed hs a) e = in_loops_has f g hs (a, Nothing)
+    ∙ ap (λ x. heads_have f g hs || x) (or_false (g a))
 line_command_has f g (Ended c) e = refl
 
 with_one : (h a s l : Bool) → (h || (a || (s || l))) ≡ (l || (h || (a || s)))
 with_one h a s l = grind arith
 
-with_command_has : (f : expression.Tree → Bool) (g : address.Tree → Bool) (b : OpenBlock) (c : Command) → block_has f g (with_command b c) ≡ (has f g c || block_has f g b)
+with_command_has : (f : expression.Tree → Bool) (g : address.Tree → Bool) (b : OpenBlock) (c : Command)
+    → block_has f g (with_command b c) ≡ (has f g c || block_has f g b)
 with_command_has f g b c =
     ap (λ x. heads_have f g b.heads || (g b.addr || x)) (commands_have f g b.commands c)
     ∙ with_one (heads_have f g b.heads) (g b.addr) (some_of f g (commands_of b.commands)) (has f g c)
 
-with_line_has : (f : expression.Tree → Bool) (g : address.Tree → Bool) (b : OpenBlock) (line : Line) → g Missing ≡ false → block_has f g (with_line b line) ≡ (line_has f g line || block_has f g b)
+with_line_has : (f : expression.Tree → Bool) (g : address.Tree → Bool) (b : OpenBlock) (line : Line)
+    → g Missing ≡ false → block_has f g (with_line b line) ≡ (line_has f g line || block_has f g b)
 with_line_has f g b Opened e = refl
-with_line_has f g b (Looping hs) e = with_command_has f g b (command_of (Looping hs)) ∙ ap (λ x. x || block_has f g b) (line_command_has f g (Looping hs) e)
-with_line_has f g b (Addressed hs a) e = with_command_has f g b (command_of (Addressed hs a)) ∙ ap (λ x. x || block_has f g b) (line_command_has f g (Addressed hs a) e)
+with_line_has f g b (Looping hs) e = with_command_has f g b (command_of (Looping hs))
+    ∙ ap (λ x. x || block_has f g b) (line_command_has f g (Looping hs) e)
+with_line_has f g b (Addressed hs a) e = with_command_has f g b (command_of (Addressed hs a))
+    ∙ ap (λ x. x || block_has f g b) (line_command_has f g (Addressed hs a) e)
 with_line_has f g b (Ended c) e = with_command_has f g b c
 
-block_command_has : (f : expression.Tree → Bool) (g : address.Tree → Bool) (b : OpenBlock) → has f g (block_of b) ≡ block_has f g b
+block_command_has : (f : expression.Tree → Bool) (g : address.Tree → Bool) (b : OpenBlock)
+    → has f g (block_of b) ≡ block_has f g b
 block_command_has f g b = in_loops_has f g b.heads (b.addr, Block (commands_of b.commands))
 
-whole_has : (f : expression.Tree → Bool) (g : address.Tree → Bool) (bs : List OpenBlock) (line : Line) → g Missing ≡ false → has f g (close_all bs line) ≡ (line_has f g line || blocks_have f g bs)
+whole_has : (f : expression.Tree → Bool) (g : address.Tree → Bool) (bs : List OpenBlock) (line : Line)
+    → g Missing ≡ false → has f g (close_all bs line) ≡ (line_has f g line || blocks_have f g bs)
 whole_has f g [] line e = line_command_has f g line e ∙ sym (or_false (line_has f g line))
 whole_has f g (b ∷ bs) line e =
     whole_has f g bs (Ended (block_of (with_line b line))) e
@@ -142,11 +159,14 @@ action_more m x h b q = grind arith
 action_at_more : (a x h b : Bool) → ((h || (a || x)) || b) ≡ (((h || a) || b) || x)
 action_at_more a x h b = grind arith
 
-abbrev HasMore : (expression.Tree → Bool) → (address.Tree → Bool) → List OpenBlock → Line → Piece → Option Reading → Type 0
+abbrev HasMore : (expression.Tree → Bool) → (address.Tree → Bool) → List OpenBlock → Line → Piece → Option Reading
+    → Type 0
 HasMore f g bs line p None = Unit {0}
-HasMore f g bs line p (Some s) = (line_has f g s.line || blocks_have f g s.blocks) ≡ ((line_has f g line || blocks_have f g bs) || piece_has f g p)
+HasMore f g bs line p (Some s) = (line_has f g s.line || blocks_have f g s.blocks)
+    ≡ ((line_has f g line || blocks_have f g bs) || piece_has f g p)
 
-has_more : (f : expression.Tree → Bool) (g : address.Tree → Bool) (bs : List OpenBlock) (line : Line) (p : Piece) → g Missing ≡ false → HasMore f g bs line p (after_piece (record { blocks = bs; line = line }) p)
+has_more : (f : expression.Tree → Bool) (g : address.Tree → Bool) (bs : List OpenBlock) (line : Line) (p : Piece)
+    → g Missing ≡ false → HasMore f g bs line p (after_piece (record { blocks = bs; line = line }) p)
 has_more f g bs line Blank e = sym (or_false (line_has f g line || blocks_have f g bs))
 has_more f g [] line EndsLine e = tt
 has_more f g (b ∷ bs) line EndsLine e =
@@ -158,8 +178,10 @@ has_more f g bs (Looping hs) (At a) e = address_more (heads_have f g hs) (g a) (
 has_more f g bs (Addressed hs b) (At a) e = tt
 has_more f g bs (Ended c) (At a) e = tt
 has_more f g bs Opened (piece.Loops kind re) e = tt
-has_more f g bs (Looping hs) (piece.Loops kind re) e = loop_more (g Missing) (f re) (heads_have f g hs) (blocks_have f g bs) e
-has_more f g bs (Addressed hs a) (piece.Loops kind re) e = loop_at_more (g a) (f re) (heads_have f g hs) (blocks_have f g bs)
+has_more f g bs (Looping hs) (piece.Loops kind re) e = loop_more (g Missing) (f re) (heads_have f g hs)
+    (blocks_have f g bs) e
+has_more f g bs (Addressed hs a) (piece.Loops kind re) e = loop_at_more (g a) (f re) (heads_have f g hs)
+    (blocks_have f g bs)
 has_more f g bs (Ended c) (piece.Loops kind re) e = tt
 has_more f g bs Opened Opens e = tt
 has_more f g bs (Looping hs) Opens e = block_more (g Missing) (heads_have f g hs) (blocks_have f g bs) e
@@ -174,14 +196,18 @@ has_more f g (b ∷ bs) (Addressed hs a) Closes e = tt
 has_more f g (b ∷ bs) (Ended c) Closes e = tt
 has_more f g bs Opened (Does act) e = tt
 has_more f g bs (Looping hs) (Does act) e =
-    ap (λ x. x || blocks_have f g bs) (in_loops_has f g hs (Missing, act)) ∙ action_more (g Missing) (some f g act) (heads_have f g hs) (blocks_have f g bs) e
+    ap (λ x. x || blocks_have f g bs) (in_loops_has f g hs (Missing, act))
+    ∙ action_more (g Missing) (some f g act) (heads_have f g hs) (blocks_have f g bs) e
 has_more f g bs (Addressed hs a) (Does act) e =
-    ap (λ x. x || blocks_have f g bs) (in_loops_has f g hs (a, act)) ∙ action_at_more (g a) (some f g act) (heads_have f g hs) (blocks_have f g bs)
+    ap (λ x. x || blocks_have f g bs) (in_loops_has f g hs (a, act))
+    ∙ action_at_more (g a) (some f g act) (heads_have f g hs) (blocks_have f g bs)
 has_more f g bs (Ended c) (Does act) e = tt
 
-joined_has : (f : expression.Tree → Bool) (g : address.Tree → Bool) (r : Reading) (p : Piece) (s : Reading) → g Missing ≡ false → after_piece r p ≡ Some s → has f g (whole s) ≡ (has f g (whole r) || piece_has f g p)
+joined_has : (f : expression.Tree → Bool) (g : address.Tree → Bool) (r : Reading) (p : Piece) (s : Reading)
+    → g Missing ≡ false → after_piece r p ≡ Some s → has f g (whole s) ≡ (has f g (whole r) || piece_has f g p)
 joined_has f g r p s m e =
-    let more : HasMore f g r.blocks r.line p (Some s) = subst (λ (o : Option Reading). HasMore f g r.blocks r.line p o) e (has_more f g r.blocks r.line p m) in
+    let more : HasMore f g r.blocks r.line p (Some s) = subst (λ (o : Option Reading). HasMore f g r.blocks r.line p o)
+    e (has_more f g r.blocks r.line p m) in
     whole_has f g s.blocks s.line m ∙ more ∙ ap (λ x. x || piece_has f g p) (sym (whole_has f g r.blocks r.line m))
 
 -- ---- levels
@@ -199,7 +225,8 @@ abbrev deepest : List OpenBlock → ℕ
 deepest [] = 0
 deepest (b ∷ bs) = max (deepest bs) (block_levels b + round bs)
 
-commands_levels : (cs : List Command) (c : Command) → most_levels (commands_of (cs ++ c ∷ [])) ≡ max (most_levels (commands_of cs)) (levels c.1)
+commands_levels : (cs : List Command) (c : Command) → most_levels (commands_of (cs ++ c ∷ []))
+    ≡ max (most_levels (commands_of cs)) (levels c.1)
 commands_levels [] c = omega arith
 commands_levels (d ∷ cs) c = omega (arith, commands_levels cs c)
 
@@ -214,26 +241,43 @@ line_command_levels (Looping (h ∷ hs)) = omega (arith, in_loops_levels (h ∷ 
 line_command_levels (Addressed hs a) = omega (arith, in_loops_levels hs (a, Nothing))
 line_command_levels (Ended c) = refl
 
-with_command_levels : (b : OpenBlock) (c : Command) → block_levels (with_command b c) ≡ max (block_levels b) (levels c.1 + 1 + length b.heads)
+with_command_levels : (b : OpenBlock) (c : Command) → block_levels (with_command b c) ≡ max (block_levels b)
+    (levels c.1 + 1 + length b.heads)
 with_command_levels b c = omega (arith, commands_levels b.commands c)
 
-with_line_levels : (b : OpenBlock) (line : Line) → block_levels (with_line b line) ≡ max (block_levels b) (line_levels line + 1 + length b.heads)
+with_line_levels : (b : OpenBlock) (line : Line) → block_levels (with_line b line) ≡ max (block_levels b)
+    (line_levels line + 1 + length b.heads)
 with_line_levels b Opened = omega arith
-with_line_levels b (Looping hs) = omega (arith, with_command_levels b (command_of (Looping hs)), line_command_levels (Looping hs))
-with_line_levels b (Addressed hs a) = omega (arith, with_command_levels b (command_of (Addressed hs a)), line_command_levels (Addressed hs a))
+with_line_levels b (Looping hs) = omega (
+  arith,
+  with_command_levels b (command_of (Looping hs)),
+  line_command_levels (Looping hs),
+)
+with_line_levels b (Addressed hs a) = omega (
+  arith,
+  with_command_levels b (command_of (Addressed hs a)),
+  line_command_levels (Addressed hs a),
+)
 with_line_levels b (Ended c) = with_command_levels b c
 
 block_command_levels : (b : OpenBlock) → levels (block_of b).1 ≡ block_levels b
 block_command_levels b = omega (arith, in_loops_levels b.heads (b.addr, Block (commands_of b.commands)))
 
-whole_levels : (bs : List OpenBlock) (line : Line) → levels (close_all bs line).1 ≡ max (deepest bs) (line_levels line + round bs)
+whole_levels : (bs : List OpenBlock) (line : Line) → levels (close_all bs line).1 ≡ max (deepest bs)
+    (line_levels line + round bs)
 whole_levels [] line = omega (arith, line_command_levels line)
 whole_levels (b ∷ bs) line =
-    omega (arith, whole_levels bs (Ended (block_of (with_line b line))), block_command_levels (with_line b line), with_line_levels b line)
+    omega (
+      arith,
+      whole_levels bs (Ended (block_of (with_line b line))),
+      block_command_levels (with_line b line),
+      with_line_levels b line,
+    )
 
 abbrev LevelsMore : List OpenBlock → Line → Piece → Option Reading → Type 0
 LevelsMore bs line p None = Unit {0}
-LevelsMore bs line p (Some s) = max (deepest s.blocks) (line_levels s.line + round s.blocks) ≡ max (max (deepest bs) (line_levels line + round bs)) (level_of (record { blocks = bs; line = line }) p)
+LevelsMore bs line p (Some s) = max (deepest s.blocks) (line_levels s.line + round s.blocks)
+    ≡ max (max (deepest bs) (line_levels line + round bs)) (level_of (record { blocks = bs; line = line }) p)
 
 with_line_round : (b : OpenBlock) (line : Line) (bs : List OpenBlock) → round (with_line b line ∷ bs) ≡ round (b ∷ bs)
 with_line_round b Opened bs = refl
@@ -241,7 +285,8 @@ with_line_round b (Looping hs) bs = refl
 with_line_round b (Addressed hs a) bs = refl
 with_line_round b (Ended c) bs = refl
 
-levels_more : (bs : List OpenBlock) (line : Line) (p : Piece) → LevelsMore bs line p (after_piece (record { blocks = bs; line = line }) p)
+levels_more : (bs : List OpenBlock) (line : Line) (p : Piece) → LevelsMore bs line p
+    (after_piece (record { blocks = bs; line = line }) p)
 levels_more bs line Blank = omega arith
 levels_more [] line EndsLine = tt
 levels_more (b ∷ bs) line EndsLine = omega (arith, with_line_levels b line, with_line_round b line bs)
@@ -268,9 +313,11 @@ levels_more bs (Looping hs) (Does act) = omega (arith, in_loops_levels hs (Missi
 levels_more bs (Addressed hs a) (Does act) = omega (arith, in_loops_levels hs (a, act))
 levels_more bs (Ended c) (Does act) = tt
 
-pub joined_levels : (r : Reading) (p : Piece) (s : Reading) → after_piece r p ≡ Some s → levels (whole s).1 ≡ max (levels (whole r).1) (level_of r p)
+pub joined_levels : (r : Reading) (p : Piece) (s : Reading) → after_piece r p ≡ Some s
+    → levels (whole s).1 ≡ max (levels (whole r).1) (level_of r p)
 joined_levels r p s e =
-    let more : LevelsMore r.blocks r.line p (Some s) = subst (λ (o : Option Reading). LevelsMore r.blocks r.line p o) e (levels_more r.blocks r.line p) in
+    let more : LevelsMore r.blocks r.line p (Some s) = subst (λ (o : Option Reading). LevelsMore r.blocks r.line p o) e
+    (levels_more r.blocks r.line p) in
     omega (arith, more, whole_levels s.blocks s.line, whole_levels r.blocks r.line)
 
 pub depth_levels : (r : Reading) → depth r ≤ levels (whole r).1
@@ -300,13 +347,15 @@ mutual
   large_is Print = refl
   large_is LineNumber = refl
   large_is RuneNumber = refl
-  large_is (Loops kind re addr act) = or_assoc (is_large_expression re) (address.is_large addr) (part.is_large act) ∙ ap (λ x. is_large_expression re || (address.is_large addr || x)) (large_is act)
+  large_is (Loops kind re addr act) = or_assoc (is_large_expression re) (address.is_large addr) (part.is_large act)
+      ∙ ap (λ x. is_large_expression re || (address.is_large addr || x)) (large_is act)
   large_is (Block all) = all_large_is all
   large_is (Asks kind command) = refl
 
   all_large_is : (all : Commands) → part.some_large all ≡ some_of is_large_expression address.is_large all
   all_large_is Done = refl
-  all_large_is (Then addr act rest) = ap (λ x. (address.is_large addr || x) || part.some_large rest) (large_is act) ∙ ap (λ x. (address.is_large addr || some is_large_expression address.is_large act) || x) (all_large_is rest)
+  all_large_is (Then addr act rest) = ap (λ x. (address.is_large addr || x) || part.some_large rest) (large_is act)
+      ∙ ap (λ x. (address.is_large addr || some is_large_expression address.is_large act) || x) (all_large_is rest)
 
 mutual
   long_is : (act : Action) → part.is_long act ≡ some never is_long_address act
@@ -327,7 +376,8 @@ mutual
 
   all_long_is : (all : Commands) → part.some_long all ≡ some_of never is_long_address all
   all_long_is Done = refl
-  all_long_is (Then addr act rest) = ap (λ x. (is_long_address addr || x) || part.some_long rest) (long_is act) ∙ ap (λ x. (is_long_address addr || some never is_long_address act) || x) (all_long_is rest)
+  all_long_is (Then addr act rest) = ap (λ x. (is_long_address addr || x) || part.some_long rest) (long_is act)
+      ∙ ap (λ x. (is_long_address addr || some never is_long_address act) || x) (all_long_is rest)
 
 piece_large_is : (p : Piece) → piece_large p ≡ piece_has is_large_expression address.is_large p
 piece_large_is Blank = refl
@@ -347,14 +397,16 @@ piece_long_is Opens = refl
 piece_long_is Closes = refl
 piece_long_is (Does act) = long_is act
 
-pub joined_large : (r : Reading) (p : Piece) (s : Reading) → after_piece r p ≡ Some s → is_large (whole s) ≡ (is_large (whole r) || piece_large p)
+pub joined_large : (r : Reading) (p : Piece) (s : Reading) → after_piece r p ≡ Some s
+    → is_large (whole s) ≡ (is_large (whole r) || piece_large p)
 joined_large r p s e =
     ap (λ x. address.is_large (whole s).0 || x) (large_is (whole s).1)
     ∙ joined_has is_large_expression address.is_large r p s refl e
     ∙ ap (λ x. has is_large_expression address.is_large (whole r) || x) (sym (piece_large_is p))
     ∙ ap (λ x. (address.is_large (whole r).0 || x) || piece_large p) (sym (large_is (whole r).1))
 
-pub joined_long : (r : Reading) (p : Piece) (s : Reading) → after_piece r p ≡ Some s → is_long (whole s) ≡ (is_long (whole r) || piece_long p)
+pub joined_long : (r : Reading) (p : Piece) (s : Reading) → after_piece r p ≡ Some s
+    → is_long (whole s) ≡ (is_long (whole r) || piece_long p)
 joined_long r p s e =
     ap (λ x. is_long_address (whole s).0 || x) (long_is (whole s).1)
     ∙ joined_has never is_long_address r p s refl e

@@ -19,7 +19,8 @@ none_cut x a e = cc
 abbrev pub CutAs : {X Y : Type 0} → (X → Y) → Cut X → Y → List ℕ → Type 0
 CutAs {X} {Y} f o y r = (x : X) × ◌≡◌ {A = Cut X} o (Some (x, r)) × (f x ≡ y)
 
-pub as_only : {X Y : Type 0} (f : X → Y) (o : Cut X) (y : Y) (r : List ℕ) → ◌≡◌ {A = Cut Y} (cut_as f o) (Some (y, r)) → CutAs f o y r
+pub as_only : {X Y : Type 0} (f : X → Y) (o : Cut X) (y : Y) (r : List ℕ) → ◌≡◌ {A = Cut Y} (cut_as f o) (Some (y, r))
+    → CutAs f o y r
 as_only f None y r e = absurd (none_cut y r e)
 as_only f (Some (x, m)) y r e =
     let s = cut_same (f x) y m r e in
@@ -29,11 +30,13 @@ as_only f (Some (x, m)) y r e =
 abbrev pub CutOn : {X Y : Type 0} → Cut X → (X → List ℕ → Cut Y) → Y → List ℕ → Type 0
 CutOn {X} {Y} o f y r = (x : X) × (m : List ℕ) × ◌≡◌ {A = Cut X} o (Some (x, m)) × ◌≡◌ {A = Cut Y} (f x m) (Some (y, r))
 
-pub on_only : {X Y : Type 0} (o : Cut X) (f : X → List ℕ → Cut Y) (y : Y) (r : List ℕ) → ◌≡◌ {A = Cut Y} (cut_on o f) (Some (y, r)) → CutOn o f y r
+pub on_only : {X Y : Type 0} (o : Cut X) (f : X → List ℕ → Cut Y) (y : Y) (r : List ℕ)
+    → ◌≡◌ {A = Cut Y} (cut_on o f) (Some (y, r)) → CutOn o f y r
 on_only None f y r e = absurd (none_cut y r e)
 on_only (Some (x, m)) f y r e = (x, m, refl, e)
 
-pub before_only : {X : Type 0} (o : Option X) (m : List ℕ) (x : X) (r : List ℕ) → ◌≡◌ {A = Cut X} (before o m) (Some (x, r)) → (o ≡ Some x) × (m ≡ r)
+pub before_only : {X : Type 0} (o : Option X) (m : List ℕ) (x : X) (r : List ℕ)
+    → ◌≡◌ {A = Cut X} (before o m) (Some (x, r)) → (o ≡ Some x) × (m ≡ r)
 before_only None m x r e = absurd (none_cut x r e)
 before_only (Some y) m x r e =
     let s = cut_same y x m r e in

@@ -1,5 +1,6 @@
 -- Texts and their commands: the function gives the command that the grammar has, and nothing else.
-use Rattle.std.proofs.Common.{◌≡◌, ℕ, zero, suc, ◌+◌, ◌-◌, ◌≤◌, Bool, true, false, List, [], ◌∷◌, ◌++◌, length, drop, Option, Some, None, refl, sym, ap, subst, ◌∙◌, inl, inr, arith}
+use Rattle.std.proofs.Common.{◌≡◌, ℕ, zero, suc, ◌+◌, ◌-◌, ◌≤◌, Bool, true, false, List, [], ◌∷◌, ◌++◌, length, drop}
+use Rattle.std.proofs.Common.{Option, Some, None, refl, sym, ap, subst, ◌∙◌, inl, inr, arith}
 use Rattle.std.specs.Prelude.{slice_range, if◌then◌else◌}
 use Rattle.std.specs.Option.{option_map}
 use Rattle.std.proofs.lemmas.Bool.{cases_lt}
@@ -15,7 +16,8 @@ use Rattle.sam_syntax.specs.Grammar.{BeginsWith, IsEdit, GoesOn}
 use Rattle.sam_syntax.specs.Answer.{IsBad, IsInLimits, Refuses}
 use Rattle.sam_syntax.specs.Cuts.{Cut}
 use Rattle.sam_syntax.specs.Pieces.{first_piece}
-use Rattle.sam_syntax.specs.Edits.{with_piece, pieces_within, pieces_of, whole_command, command_of_pieces, edit_of, small_one, small_edit}
+use Rattle.sam_syntax.specs.Edits.{with_piece, pieces_within, pieces_of, whole_command, command_of_pieces, edit_of}
+use Rattle.sam_syntax.specs.Edits.{small_one, small_edit}
 use Rattle.sam_syntax.proofs.Cuts.{some_same}
 use Rattle.sam_syntax.proofs.Pieces.{piece_some, piece_only}
 use Rattle.sam_syntax.proofs.Local.{piece_local}
@@ -30,21 +32,26 @@ within_zero : (c : ℕ) (cs : List ℕ) → pieces_within 0 (c ∷ cs) ≡ None
 unfolding pieces_within
 within_zero c cs = refl
 
-within_more : (n c : ℕ) (cs : List ℕ) → pieces_within (suc n) (c ∷ cs) ≡ with_piece (first_piece (c ∷ cs)) (λ behind. pieces_within n behind)
+within_more : (n c : ℕ) (cs : List ℕ) → pieces_within (suc n) (c ∷ cs) ≡ with_piece (first_piece (c ∷ cs))
+    (λ behind. pieces_within n behind)
 unfolding pieces_within
 within_more n c cs = refl
 
-row_pieces : (ps : List Piece) (text : List ℕ) (n : ℕ) → length text ≤ n → BeginsWith ps text [] → pieces_within n text ≡ Some ps
+row_pieces : (ps : List Piece) (text : List ℕ) (n : ℕ) → length text ≤ n → BeginsWith ps text []
+    → pieces_within n text ≡ Some ps
 row_pieces [] text n l x = ap (pieces_within n) x ∙ within_none n
 row_pieces (p ∷ ps) text n l x = go x.0 x.1 n x.2 x.3 l (λ m k. row_pieces ps x.1 m k x.4)
   where
-    go : (piece behind : List ℕ) (n : ℕ) → text ≡ piece ++ behind → IsPiece p piece (next_of behind) → length text ≤ n → ((m : ℕ) → length behind ≤ m → pieces_within m behind ≡ Some ps) → pieces_within n text ≡ Some (p ∷ ps)
+    go : (piece behind : List ℕ) (n : ℕ) → text ≡ piece ++ behind → IsPiece p piece (next_of behind) → length text ≤ n
+        → ((m : ℕ) → length behind ≤ m → pieces_within m behind ≡ Some ps) → pieces_within n text ≡ Some (p ∷ ps)
     go [] behind n e y l on = absurd y
-    go (c ∷ cs) behind zero e y l on = absurd (let k : length text ≡ suc (length (cs ++ behind)) = ap length e in omega (arith, k, l))
+    go (c ∷ cs) behind zero e y l on = absurd (let k : length text ≡ suc (length (cs ++ behind)) = ap length e in
+        omega (arith, k, l))
     go (c ∷ cs) behind (suc m) e y l on =
         let k : length text ≡ suc (length (cs ++ behind)) = ap length e in
         let small : length behind ≤ m = omega (arith, k, l, length-append cs behind) in
-        let cut : first_piece (c ∷ cs ++ behind) ≡ Some (p, behind) = piece_some p (c ∷ cs ++ behind) behind (begins_with p (c ∷ cs) behind y) in
+        let cut : first_piece (c ∷ cs ++ behind) ≡ Some (p, behind) = piece_some p (c ∷ cs ++ behind) behind
+        (begins_with p (c ∷ cs) behind y) in
         ap (pieces_within (suc m)) e ∙
         within_more m c (cs ++ behind) ∙
         ap (λ (o : Cut Piece). with_piece o (λ behind. pieces_within m behind)) cut ∙
@@ -54,15 +61,20 @@ pieces_row : (n : ℕ) (text : List ℕ) (ps : List Piece) → pieces_within n t
 pieces_row n [] ps e =
     subst (λ (qs : List Piece). BeginsWith qs [] []) (some_same [] ps (sym (within_none n) ∙ e)) refl
 pieces_row zero (c ∷ cs) ps e = let f = within_zero c cs in absurd cc
-pieces_row (suc n) (c ∷ cs) ps e = go (first_piece (c ∷ cs)) refl (λ t qs. pieces_row n t qs) (sym (within_more n c cs) ∙ e)
+pieces_row (suc n) (c ∷ cs) ps e = go (first_piece (c ∷ cs)) refl (λ t qs. pieces_row n t qs)
+    (sym (within_more n c cs) ∙ e)
   where
-    made : (p : Piece) (behind : List ℕ) (o : Option (List Piece)) → first_piece (c ∷ cs) ≡ Some (p, behind) → ((qs : List Piece) → o ≡ Some qs → BeginsWith qs behind []) → option_map (λ (qs : List Piece). p ∷ qs) o ≡ Some ps → BeginsWith ps (c ∷ cs) []
+    made : (p : Piece) (behind : List ℕ) (o : Option (List Piece)) → first_piece (c ∷ cs) ≡ Some (p, behind)
+        → ((qs : List Piece) → o ≡ Some qs → BeginsWith qs behind [])
+        → option_map (λ (qs : List Piece). p ∷ qs) o ≡ Some ps → BeginsWith ps (c ∷ cs) []
     made p behind None f on h = absurd cc
     made p behind (Some qs) f on h =
         let s = piece_local p c cs behind (piece_only p (c ∷ cs) behind f) in
-        subst (λ (rs : List Piece). BeginsWith rs (c ∷ cs) []) (some_same (p ∷ qs) ps h) (c ∷ s.0, behind, ap (λ (l : List ℕ). c ∷ l) s.1, s.2, on qs refl)
+        subst (λ (rs : List Piece). BeginsWith rs (c ∷ cs) []) (some_same (p ∷ qs) ps h)
+        (c ∷ s.0, behind, ap (λ (l : List ℕ). c ∷ l) s.1, s.2, on qs refl)
 
-    go : (o : Cut Piece) → first_piece (c ∷ cs) ≡ o → ((t : List ℕ) (qs : List Piece) → pieces_within n t ≡ Some qs → BeginsWith qs t []) → with_piece o (λ behind. pieces_within n behind) ≡ Some ps → BeginsWith ps (c ∷ cs) []
+    go : (o : Cut Piece) → first_piece (c ∷ cs) ≡ o → ((t : List ℕ) (qs : List Piece) → pieces_within n t ≡ Some qs
+        → BeginsWith qs t []) → with_piece o (λ behind. pieces_within n behind) ≡ Some ps → BeginsWith ps (c ∷ cs) []
     go None f on h = absurd cc
     go (Some (p, behind)) f on h = made p behind (pieces_within n behind) f (on behind) h
 
@@ -80,11 +92,13 @@ pub edit_only : (text : List ℕ) (c : Command) → edit_of text ≡ Some c → 
 unfolding edit_of
 edit_only text c e = go (pieces_of text) refl e
   where
-    ends : (ps : List Piece) (r : Reading) → BeginsWith ps text [] → after_pieces (Some begin) ps ≡ Some r → (b : Bool) → is_done r ≡ b → (if b then Some (whole r) else None) ≡ Some c → IsEdit text c
+    ends : (ps : List Piece) (r : Reading) → BeginsWith ps text [] → after_pieces (Some begin) ps ≡ Some r → (b : Bool)
+        → is_done r ≡ b → (if b then Some (whole r) else None) ≡ Some c → IsEdit text c
     ends ps r x f true d h = (ps, r, x, f, d, sym (some_same (whole r) c h))
     ends ps r x f false d h = absurd cc
 
-    joins : (ps : List Piece) → BeginsWith ps text [] → (o : Option Reading) → after_pieces (Some begin) ps ≡ o → whole_command o ≡ Some c → IsEdit text c
+    joins : (ps : List Piece) → BeginsWith ps text [] → (o : Option Reading)
+        → after_pieces (Some begin) ps ≡ o → whole_command o ≡ Some c → IsEdit text c
     joins ps x None f h = absurd cc
     joins ps x (Some r) f h = ends ps r x f (is_done r) refl h
 

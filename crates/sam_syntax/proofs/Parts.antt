@@ -1,5 +1,6 @@
 -- The parts of pieces at the front of a text: the functions cut them as the relations say.
-use Rattle.std.proofs.Common.{◌≡◌, ℕ, zero, suc, ◌≤◌, ◌==◌, Bool, true, false, List, [], ◌∷◌, ◌++◌, length, Option, Some, None, refl, sym, ap, subst, ◌∙◌, inl, inr, arith}
+use Rattle.std.proofs.Common.{◌≡◌, ℕ, zero, suc, ◌≤◌, ◌==◌, Bool, true, false, List, [], ◌∷◌, ◌++◌, length, Option}
+use Rattle.std.proofs.Common.{Some, None, refl, sym, ap, subst, ◌∙◌, inl, inr, arith}
 use Rattle.std.specs.Option.{option_map}
 use Rattle.std.proofs.lemmas.Bool.{eqb-true}
 use Rattle.std.proofs.lemmas.List.{length-append}
@@ -19,9 +20,11 @@ use Rattle.addr_syntax.proofs.Fronts.{piece_first, not_both}
 use Rattle.edit_parts.specs.Kinds.{is_next}
 use Rattle.edit_parts.specs.Texts.{after_blanks, unescaped, Quoted, Text, Nth, All}
 use Rattle.sam_syntax.specs.Cuts.{Cut, cut_as, cut_on, before}
-use Rattle.sam_syntax.specs.Texts.{up_to_slash, lines, text, quoted_expression, number_from, nth, all, row_within, first_address}
+use Rattle.sam_syntax.specs.Texts.{up_to_slash, lines, text, quoted_expression, number_from, nth, all, row_within}
+use Rattle.sam_syntax.specs.Texts.{first_address}
 use Rattle.sam_syntax.proofs.Cuts.{some_same, cut_same, none_cut, as_only, on_only, before_only}
-use Rattle.sam_syntax.proofs.Texts.{closed_some, closed_only, lines_some, lines_only, number_some, number_only, expression_some, expression_only}
+use Rattle.sam_syntax.proofs.Texts.{closed_some, closed_only, lines_some, lines_only, number_some, number_only}
+use Rattle.sam_syntax.proofs.Texts.{expression_some, expression_only}
 
 -- ---- texts
 
@@ -58,7 +61,8 @@ expression_before body behind = before (expression_of 47 body) behind
 pub quoted_some : (re : expression.Tree) (u rest : List ℕ) → Quoted re u rest → quoted_expression u ≡ Some (re, rest)
 quoted_some re u rest (body, e, x) =
     ap quoted_expression e
-    ∙ ap (λ (o : Cut (List ℕ)). cut_on o expression_before) (closed_some false body rest (whole_expression 47 body re x))
+    ∙ ap (λ (o : Cut (List ℕ)). cut_on o expression_before) (closed_some false body rest
+    (whole_expression 47 body re x))
     ∙ ap (λ (o : Option expression.Tree). before o rest) (expression_some 47 body re x)
 
 pub quoted_only : (re : expression.Tree) (u rest : List ℕ) → quoted_expression u ≡ Some (re, rest) → Quoted re u rest
@@ -70,8 +74,12 @@ quoted_only re (c ∷ cs) rest h = go (c == 47) refl
         let g : cut_on (up_to_slash false cs) expression_before ≡ Some (re, rest) = rw e at h in
         let x = on_only (up_to_slash false cs) expression_before re rest g in
         let b = before_only (expression_of 47 x.0) x.1 re rest x.3 in
-        let o = closed_only false cs x.0 x.1 x.2 in
-        (x.0, ap (λ z. z ∷ cs) (eqb-true c 47 e) ∙ ap (λ (l : List ℕ). 47 ∷ l) (o.0 ∙ ap (λ (l : List ℕ). x.0 ++ 47 ∷ l) b.1), expression_only 47 x.0 re b.0)
+        let o = closed_only false cs x.0 x.1 x.2 in (
+          x.0,
+          ap (λ z. z ∷ cs) (eqb-true c 47 e) ∙ ap (λ (l : List ℕ). 47 ∷ l)
+              (o.0 ∙ ap (λ (l : List ℕ). x.0 ++ 47 ∷ l) b.1),
+          expression_only 47 x.0 re b.0,
+        )
     go false e =
         let g : ◌≡◌ {A = Cut expression.Tree} None (Some (re, rest)) = rw e at h in
         absurd (none_cut re rest g)
@@ -88,7 +96,8 @@ digits_first n (d ∷ ds) m next x = digit_inside [] 0 d ds n x.0
 pub nth_some : (n : ℕ) (u rest : List ℕ) → Nth n u rest → nth u ≡ Some (n, rest)
 nth_some n u rest (inl x) = rw x.0 (ap (λ (z : ℕ). Some (z, u)) (sym x.1) ∙ ap (λ (l : List ℕ). Some (n, l)) (sym x.2))
 nth_some n u rest (inr (digits, m, e, number, i)) =
-    let d : is_digit (next_of u) ≡ true = ap (λ (l : List ℕ). is_digit (next_of l)) e ∙ digits_first n digits m (next_of m) number in
+    let d : is_digit (next_of u) ≡ true = ap (λ (l : List ℕ). is_digit (next_of l)) e
+    ∙ digits_first n digits m (next_of m) number in
     let k = number_of_digits n digits (next_of m) number in
     let f : number_from 0 u ≡ Some (n, m) = ap (number_from 0) e ∙ number_some digits m 0 n k.1 k.2 in
     rw d (ap (λ (o : Cut ℕ). cut_on o behind_blanks) f ∙ ap (λ (l : List ℕ). Some (n, l)) (sym i))
@@ -96,7 +105,8 @@ nth_some n u rest (inr (digits, m, e, number, i)) =
 pub nth_only : (n : ℕ) (u rest : List ℕ) → nth u ≡ Some (n, rest) → Nth n u rest
 nth_only n u rest h = go (is_digit (next_of u)) refl
   where
-    as_number : (k : ℕ) (v m : List ℕ) → is_digit (next_of u) ≡ true → u ≡ v ++ m → number_after 0 v ≡ Some k → is_digit (next_of m) ≡ false → IsNumber k v (next_of m)
+    as_number : (k : ℕ) (v m : List ℕ) → is_digit (next_of u) ≡ true → u ≡ v ++ m → number_after 0 v ≡ Some k
+        → is_digit (next_of m) ≡ false → IsNumber k v (next_of m)
     as_number k [] m d e f g = not_both (is_digit (next_of u)) d (ap (λ (l : List ℕ). is_digit (next_of l)) e ∙ g)
     as_number k (c ∷ cs) m d e f g = (f, g)
 
@@ -106,7 +116,13 @@ nth_only n u rest h = go (is_digit (next_of u)) refl
         let x = on_only (number_from 0 u) behind_blanks n rest g in
         let s = cut_same x.0 n (after_blanks x.1) rest x.3 in
         let o = number_only u 0 x.0 x.1 x.2 in
-        inr (o.0, x.1, o.1, subst (λ (k : ℕ). IsNumber k o.0 (next_of x.1)) s.0 (as_number x.0 o.0 x.1 e o.1 o.2 o.3), sym s.1)
+        inr (
+          o.0,
+          x.1,
+          o.1,
+          subst (λ (k : ℕ). IsNumber k o.0 (next_of x.1)) s.0 (as_number x.0 o.0 x.1 e o.1 o.2 o.3),
+          sym s.1,
+        )
     go false e =
         let g : ◌≡◌ {A = Cut ℕ} (Some (1, u)) (Some (n, rest)) = rw e at h in
         let s = cut_same 1 n u rest g in
@@ -131,7 +147,8 @@ all_only b (c ∷ cs) rest h = go (c == 103) refl
     go true e =
         let g : ◌≡◌ {A = Cut Bool} (Some (true, cs)) (Some (b, rest)) = rw e at h in
         let s = cut_same true b cs rest g in
-        subst (λ (a : Bool). All a (c ∷ cs) rest) s.0 (ap (λ z. z ∷ cs) (eqb-true c 103 e) ∙ ap (λ (l : List ℕ). 103 ∷ l) s.1)
+        subst (λ (a : Bool). All a (c ∷ cs) rest) s.0 (ap (λ z. z ∷ cs) (eqb-true c 103 e)
+        ∙ ap (λ (l : List ℕ). 103 ∷ l) s.1)
     go false e =
         let g : ◌≡◌ {A = Cut Bool} (Some (false, c ∷ cs)) (Some (b, rest)) = rw e at h in
         let s = cut_same false b (c ∷ cs) rest g in
@@ -157,7 +174,8 @@ row_ends : (n c : ℕ) (cs : List ℕ) → begins_piece (Some c) ≡ false → r
 unfolding row_within
 row_ends n c cs e = rw e refl
 
-row_more : (n c : ℕ) (cs : List ℕ) → begins_piece (Some c) ≡ true → row_within (suc n) (c ∷ cs) ≡ cut_on (first_piece (c ∷ cs)) (row_on n)
+row_more : (n c : ℕ) (cs : List ℕ) → begins_piece (Some c) ≡ true → row_within (suc n)
+    (c ∷ cs) ≡ cut_on (first_piece (c ∷ cs)) (row_on n)
 unfolding row_within
 row_more n c cs e = rw e refl
 
@@ -166,14 +184,17 @@ row_stops n [] l e = row_none n
 row_stops zero (c ∷ cs) l e = absurd (omega (arith, l))
 row_stops (suc n) (c ∷ cs) l e = row_ends n c cs e
 
-pub row_some : (ps : Row) (t rest : List ℕ) (n : ℕ) → length t ≤ n → part.BeginsWith ps t rest → begins_piece (next_of rest) ≡ false → row_within n t ≡ Some (ps, rest)
+pub row_some : (ps : Row) (t rest : List ℕ) (n : ℕ) → length t ≤ n → part.BeginsWith ps t rest
+    → begins_piece (next_of rest) ≡ false → row_within n t ≡ Some (ps, rest)
 row_some [] t rest n l x f =
     row_stops n t l (ap (λ (u : List ℕ). begins_piece (next_of u)) x ∙ f) ∙ ap (λ (u : List ℕ). Some ([], u)) x
 row_some (p ∷ ps) t rest n l x f = go x.0 x.1 n x.2 x.3 l (λ m k. row_some ps x.1 rest m k x.4 f)
   where
-    go : (piece behind : List ℕ) (n : ℕ) → t ≡ piece ++ behind → part.IsPiece p piece (next_of behind) → length t ≤ n → ((m : ℕ) → length behind ≤ m → row_within m behind ≡ Some (ps, rest)) → row_within n t ≡ Some (p ∷ ps, rest)
+    go : (piece behind : List ℕ) (n : ℕ) → t ≡ piece ++ behind → part.IsPiece p piece (next_of behind) → length t ≤ n
+        → ((m : ℕ) → length behind ≤ m → row_within m behind ≡ Some (ps, rest)) → row_within n t ≡ Some (p ∷ ps, rest)
     go [] behind n e y l on = absurd y
-    go (c ∷ cs) behind zero e y l on = absurd (let k : length t ≡ suc (length (cs ++ behind)) = ap length e in omega (arith, k, l))
+    go (c ∷ cs) behind zero e y l on = absurd (let k : length t ≡ suc (length (cs ++ behind)) = ap length e in
+        omega (arith, k, l))
     go (c ∷ cs) behind (suc m) e y l on =
         let k : length t ≡ suc (length (cs ++ behind)) = ap length e in
         let small : length behind ≤ m = omega (arith, k, l, length-append cs behind) in
@@ -186,7 +207,8 @@ row_some (p ∷ ps) t rest n l x f = go x.0 x.1 n x.2 x.3 l (λ m k. row_some ps
 abbrev IsRow : List part.Piece → List ℕ → List ℕ → Type 0
 IsRow ps t rest = part.BeginsWith ps t rest × (begins_piece (next_of rest) ≡ false)
 
-no_row : (ps : Row) (t rest : List ℕ) → ◌≡◌ {A = Cut Row} (Some ([], t)) (Some (ps, rest)) → begins_piece (next_of t) ≡ false → IsRow ps t rest
+no_row : (ps : Row) (t rest : List ℕ) → ◌≡◌ {A = Cut Row} (Some ([], t)) (Some (ps, rest))
+    → begins_piece (next_of t) ≡ false → IsRow ps t rest
 no_row ps t rest e f =
     let s = cut_same [] ps t rest e in
     subst (λ (qs : Row). IsRow qs t rest) s.0 (s.1, ap (λ (u : List ℕ). begins_piece (next_of u)) (sym s.1) ∙ f)
@@ -196,7 +218,8 @@ row_only n [] ps rest h = no_row ps [] rest (sym (row_none n) ∙ h) refl
 row_only zero (c ∷ cs) ps rest h = absurd (none_cut ps rest (sym (row_zero c cs) ∙ h))
 row_only (suc n) (c ∷ cs) ps rest h = go (begins_piece (Some c)) refl (λ t qs e. row_only n t qs rest e)
   where
-    go : (b : Bool) → begins_piece (Some c) ≡ b → ((t : List ℕ) (qs : Row) → row_within n t ≡ Some (qs, rest) → IsRow qs t rest) → IsRow ps (c ∷ cs) rest
+    go : (b : Bool) → begins_piece (Some c) ≡ b → ((t : List ℕ) (qs : Row) → row_within n t ≡ Some (qs, rest)
+        → IsRow qs t rest) → IsRow ps (c ∷ cs) rest
     go false e on = no_row ps (c ∷ cs) rest (sym (row_ends n c cs e) ∙ h) e
     go true e on =
         let x = on_only (first_piece (c ∷ cs)) (row_on n) ps rest (sym (row_more n c cs e) ∙ h) in
@@ -221,12 +244,15 @@ address_only a u rest h =
     let b = before_only (tree_of_pieces (Some x.0)) x.1 a rest x.3 in
     go x.0 x.1 x.2 b.0 b.1
   where
-    joins : (p : part.Piece) (ps : Row) (m : List ℕ) → IsRow (p ∷ ps) u m → m ≡ rest → (o : Option Reading) → after_pieces (Some begin) (p ∷ ps) ≡ o → option_map whole o ≡ Some a → Begins a u rest
+    joins : (p : part.Piece) (ps : Row) (m : List ℕ) → IsRow (p ∷ ps) u m → m ≡ rest → (o : Option Reading)
+        → after_pieces (Some begin) (p ∷ ps) ≡ o → option_map whole o ≡ Some a → Begins a u rest
     joins p ps m y same None f g = absurd cc
     joins p ps m y same (Some r) f g =
         let z = subst (λ (l : List ℕ). IsRow (p ∷ ps) u l) same y in
         (p, ps, r, z.0, f, sym (some_same (whole r) a g), z.1)
 
-    go : (ps : Row) (m : List ℕ) → row_within (length u) u ≡ Some (ps, m) → tree_of_pieces (Some ps) ≡ Some a → m ≡ rest → Begins a u rest
+    go : (ps : Row) (m : List ℕ) → row_within (length u) u ≡ Some (ps, m) → tree_of_pieces (Some ps) ≡ Some a
+        → m ≡ rest → Begins a u rest
     go [] m e f same = absurd cc
-    go (p ∷ ps) m e f same = joins p ps m (row_only (length u) u (p ∷ ps) m e) same (after_pieces (Some begin) (p ∷ ps)) refl f
+    go (p ∷ ps) m e f same = joins p ps m (row_only (length u) u (p ∷ ps) m e) same (after_pieces (Some begin) (p ∷ ps))
+        refl f

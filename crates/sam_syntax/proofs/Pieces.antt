@@ -7,7 +7,8 @@ use Rattle.edit_parts.specs.Tree as tree
 use Rattle.edit_parts.specs.Tree.{Action}
 use Rattle.edit_parts.specs.Kinds.{kind_of, loop_of, puts, sends, request_of, is_next}
 use Rattle.edit_parts.specs.Texts.{after_blanks, RestOfLine}
-use Rattle.edit_parts.specs.Pieces.{Piece, Blank, EndsLine, At, Loops, Opens, Closes, Does, LoopsOver, SubstitutesAs, ActsAs, GoesOnAs, BeginsAs, whole_lines}
+use Rattle.edit_parts.specs.Pieces.{Piece, Blank, EndsLine, At, Loops, Opens, Closes, Does, LoopsOver, SubstitutesAs}
+use Rattle.edit_parts.specs.Pieces.{ActsAs, GoesOnAs, BeginsAs, whole_lines}
 use Rattle.edit_parts.specs.declared.kind.Letter.{Letter}
 use Rattle.edit_parts.specs.declared.kind.Letter.TheVariants as letter
 use Rattle.edit_parts.specs.declared.kind.Loop.{Loop}
@@ -19,11 +20,13 @@ use Rattle.sam_syntax.specs.Texts.{up_to_slash, rest_of_line, text, quoted_expre
 use Rattle.sam_syntax.specs.Pieces.{loop_expression, substitution, place, action, piece_by, first_piece}
 use Rattle.sam_syntax.proofs.Cuts.{cut_same, none_cut, as_only, on_only}
 use Rattle.sam_syntax.proofs.Texts.{closed_some, closed_only, rest_some, rest_only}
-use Rattle.sam_syntax.proofs.Parts.{text_some, text_only, quoted_some, quoted_only, nth_some, nth_only, all_some, all_only, address_some, address_only}
+use Rattle.sam_syntax.proofs.Parts.{text_some, text_only, quoted_some, quoted_only, nth_some, nth_only, all_some}
+use Rattle.sam_syntax.proofs.Parts.{all_only, address_some, address_only}
 
 -- ---- loops
 
-loop_some : (k : Loop) (re : expression.Tree) (u rest : List ℕ) → LoopsOver k re u rest → loop_expression k u ≡ Some (re, rest)
+loop_some : (k : Loop) (re : expression.Tree) (u rest : List ℕ) → LoopsOver k re u rest
+    → loop_expression k u ≡ Some (re, rest)
 loop_some ForEach re u rest (inl x) = rw (ap (λ (l : List ℕ). is_next 47 (next_of l)) x.1) (quoted_some re u rest x)
 loop_some ForEach re u rest (inr x) =
     let e : is_next 47 (next_of u) ≡ false = ap (λ (l : List ℕ). is_next 47 (next_of l)) x.1 ∙ x.2 in
@@ -32,7 +35,8 @@ loop_some ForBetween re u rest x = quoted_some re u rest x
 loop_some Where re u rest x = quoted_some re u rest x
 loop_some WhereNot re u rest x = quoted_some re u rest x
 
-loop_only : (k : Loop) (re : expression.Tree) (u rest : List ℕ) → loop_expression k u ≡ Some (re, rest) → LoopsOver k re u rest
+loop_only : (k : Loop) (re : expression.Tree) (u rest : List ℕ) → loop_expression k u ≡ Some (re, rest)
+    → LoopsOver k re u rest
 loop_only ForEach re u rest h = go (is_next 47 (next_of u)) refl
   where
     go : (b : Bool) → is_next 47 (next_of u) ≡ b → LoopsOver ForEach re u rest
@@ -64,9 +68,25 @@ substitution_some act u rest (n, re, with, global, e, (l, m, k, a, q, c, g)) =
     ∙ ap (cut_as (tree.Substitute n re with)) (all_some global (after_blanks k) rest g)
     ∙ ap (λ (x : Action). Some (x, rest)) (sym e)
 
-substituted : (act : Action) (u l m k rest : List ℕ) (n : ℕ) (re : expression.Tree) (with : List ℕ) (global : Bool) → nth u ≡ Some (n, l) → quoted_expression l ≡ Some (re, m) → up_to_slash false m ≡ Some (with, k) → all (after_blanks k) ≡ Some (global, rest) → tree.Substitute n re with global ≡ act → SubstitutesAs act u rest
-substituted act u l m k rest n re with global a q c g e =
-    (n, re, with, global, sym e, (l, m, k, nth_only n u l a, quoted_only re l m q, closed_only false m with k c, all_only global (after_blanks k) rest g))
+substituted : (act : Action) (u l m k rest : List ℕ) (n : ℕ) (re : expression.Tree) (with : List ℕ) (global : Bool)
+    → nth u ≡ Some (n, l) → quoted_expression l ≡ Some (re, m) → up_to_slash false m ≡ Some (with, k)
+    → all (after_blanks k) ≡ Some (global, rest) → tree.Substitute n re with global ≡ act → SubstitutesAs act u rest
+substituted act u l m k rest n re with global a q c g e = (
+  n,
+  re,
+  with,
+  global,
+  sym e,
+  (
+    l,
+    m,
+    k,
+    nth_only n u l a,
+    quoted_only re l m q,
+    closed_only false m with k c,
+    all_only global (after_blanks k) rest g,
+  ),
+)
 
 substitution_only : (act : Action) (u rest : List ℕ) → substitution u ≡ Some (act, rest) → SubstitutesAs act u rest
 substitution_only act u rest h =
@@ -85,7 +105,8 @@ place_some act (c ∷ cs) rest (inr x) =
     let e : (c == 35) ≡ false = ap (λ (l : List ℕ). is_next 35 (next_of l)) x.1 ∙ x.2 in
     rw e (ap (λ (a : Action). Some (a, c ∷ cs)) (sym x.0) ∙ ap (λ (l : List ℕ). Some (act, l)) x.1)
 
-line_place : (act : Action) (u rest : List ℕ) → ◌≡◌ {A = Cut Action} (Some (tree.LineNumber, u)) (Some (act, rest)) → is_next 35 (next_of u) ≡ false → ActsAs letter.Equals act u rest
+line_place : (act : Action) (u rest : List ℕ) → ◌≡◌ {A = Cut Action} (Some (tree.LineNumber, u)) (Some (act, rest))
+    → is_next 35 (next_of u) ≡ false → ActsAs letter.Equals act u rest
 line_place act u rest h e =
     let s = cut_same tree.LineNumber act u rest h in
     inr (sym s.0, s.1, ap (λ (l : List ℕ). is_next 35 (next_of l)) (sym s.1) ∙ e)
@@ -109,10 +130,12 @@ line_some t u rest x = ap rest_of_line x.0 ∙ rest_some t rest x.1 x.2
 abbrev seen : List ℕ → Action → Cut Action
 seen rest act = Some (act, rest)
 
-alone_some : (a act : Action) (u rest : List ℕ) → act ≡ a → u ≡ rest → ◌≡◌ {A = Cut Action} (Some (a, u)) (Some (act, rest))
+alone_some : (a act : Action) (u rest : List ℕ) → act ≡ a → u ≡ rest → ◌≡◌ {A = Cut Action} (Some (a, u))
+    (Some (act, rest))
 alone_some a act u rest e f = ap (seen u) (sym e) ∙ ap (λ (l : List ℕ). Some (act, l)) f
 
-alone_only : (a act : Action) (u rest : List ℕ) → ◌≡◌ {A = Cut Action} (Some (a, u)) (Some (act, rest)) → (act ≡ a) × (u ≡ rest)
+alone_only : (a act : Action) (u rest : List ℕ) → ◌≡◌ {A = Cut Action} (Some (a, u)) (Some (act, rest)) → (act ≡ a)
+    × (u ≡ rest)
 alone_only a act u rest h = let s = cut_same a act u rest h in (sym s.0, s.1)
 
 action_some : (l : Letter) (act : Action) (u rest : List ℕ) → ActsAs l act u rest → action l u ≡ Some (act, rest)

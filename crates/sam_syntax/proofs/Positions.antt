@@ -4,7 +4,8 @@ use Rattle.edit_parts.specs.Pieces.{Piece, Blank, EndsLine, At, Loops, Opens, Cl
 use Rattle.edit_parts.specs.declared.kind.Kind.{Kind}
 use Rattle.edit_parts.specs.declared.kind.Kind.TheVariants as kind
 use Rattle.sam_syntax.specs.Joined.{Reading, OpenBlock, Line, Opened, Looping, Addressed, Ended, after_piece}
-use Rattle.sam_syntax.specs.Position.{place_of, position_of, position_if, behind_start, behind_address, behind_block, behind_line, after_kind}
+use Rattle.sam_syntax.specs.Position.{place_of, position_of, position_if, behind_start, behind_address, behind_block}
+use Rattle.sam_syntax.specs.Position.{behind_line, after_kind}
 use Rattle.sam_syntax.specs.declared.position.Place.TheVariants as place
 use Rattle.sam_syntax.specs.declared.position.Position.{Position}
 
@@ -21,7 +22,9 @@ passes at (Does act) = behind_start at.place at.blocks place.Ended
 piece_passes : (r : Reading) (p : Piece) → position_if (after_piece r p) ≡ passes (position_of r) p
 piece_passes r p = go r.blocks r.line p
   where
-    go : (bs : List OpenBlock) (line : Line) (p : Piece) → position_if (after_piece (record { blocks = bs; line = line }) p) ≡ passes (record { blocks = length bs; place = place_of line }) p
+    go : (bs : List OpenBlock) (line : Line) (p : Piece) → position_if
+        (after_piece (record { blocks = bs; line = line }) p) ≡ passes
+        (record { blocks = length bs; place = place_of line }) p
     go bs line Blank = refl
     go [] line EndsLine = refl
     go (b ∷ bs) line EndsLine = refl
@@ -52,7 +55,8 @@ piece_passes r p = go r.blocks r.line p
     go bs (Addressed hs b) (Does act) = refl
     go bs (Ended c) (Does act) = refl
 
-kind_passes : (k : Kind) (at : Position) (p : Piece) (c : ℕ) (text rest : List ℕ) → GoesOnAs k p c text rest → passes at p ≡ after_kind at k
+kind_passes : (k : Kind) (at : Position) (p : Piece) (c : ℕ) (text rest : List ℕ) → GoesOnAs k p c text rest
+    → passes at p ≡ after_kind at k
 kind_passes kind.Blank at p c text rest x = ap (passes at) x.0
 kind_passes kind.EndsLine at p c text rest x = ap (passes at) x.0
 kind_passes kind.Address at p c text rest x = ap (passes at) x.1
@@ -63,5 +67,6 @@ kind_passes (kind.Acts l) at p c text rest x = ap (passes at) x.1
 kind_passes kind.Other at p c text rest x = absurd x
 
 -- what comes next is known by its first rune
-pub position_passes : (r : Reading) (k : Kind) (p : Piece) (c : ℕ) (text rest : List ℕ) → GoesOnAs k p c text rest → position_if (after_piece r p) ≡ after_kind (position_of r) k
+pub position_passes : (r : Reading) (k : Kind) (p : Piece) (c : ℕ) (text rest : List ℕ) → GoesOnAs k p c text rest
+    → position_if (after_piece r p) ≡ after_kind (position_of r) k
 position_passes r k p c text rest x = piece_passes r p ∙ kind_passes k (position_of r) p c text rest x

@@ -1,5 +1,6 @@
 -- Texts, lines and numbers at the front of a text: the functions cut them as the relations say.
-use Rattle.std.proofs.Common.{◌≡◌, ℕ, ◌+◌, ◌-◌, ◌*◌, ◌^◌, ◌==◌, ◌&&◌, Bool, true, false, cond, List, [], ◌∷◌, ◌++◌, Option, Some, None, refl, sym, ap, subst, ◌∙◌}
+use Rattle.std.proofs.Common.{◌≡◌, ℕ, ◌+◌, ◌-◌, ◌*◌, ◌^◌, ◌==◌, ◌&&◌, Bool, true, false, cond, List, [], ◌∷◌, ◌++◌}
+use Rattle.std.proofs.Common.{Option, Some, None, refl, sym, ap, subst, ◌∙◌}
 use Rattle.std.specs.Prelude.{nat_lt}
 use Rattle.std.specs.Char.{is_ascii_digit}
 use Rattle.std.proofs.lemmas.Bool.{eqb-true}
@@ -18,20 +19,23 @@ use Rattle.edit_parts.specs.Kinds.{ends_line}
 use Rattle.edit_parts.specs.Texts.{are_lines, has_newline}
 use Rattle.sam_syntax.specs.Cuts.{Cut, with_rune}
 use Rattle.sam_syntax.specs.Texts.{up_to_slash, lines, rest_of_line, number_from}
-use Rattle.sam_syntax.proofs.Cuts.{some_same, cut_same, none_cut, as_only, and_three, and_last, and_middle, and_both, not_and, or_neither}
+use Rattle.sam_syntax.proofs.Cuts.{some_same, cut_same, none_cut, as_only, and_three, and_last, and_middle, and_both}
+use Rattle.sam_syntax.proofs.Cuts.{not_and, or_neither}
 
 abbrev with : (c : ℕ) → List ℕ → List ℕ
 with c t = c ∷ t
 
 -- ---- up to a `/`
 
-pub closed_some : (e : Bool) (t rest : List ℕ) → is_whole 47 e t ≡ true → up_to_slash e (t ++ 47 ∷ rest) ≡ Some (t, rest)
+pub closed_some : (e : Bool) (t rest : List ℕ) → is_whole 47 e t ≡ true → up_to_slash e
+    (t ++ 47 ∷ rest) ≡ Some (t, rest)
 closed_some true [] rest w = absurd cc
 closed_some false [] rest w = refl
 closed_some true (c ∷ cs) rest w = ap (with_rune c) (closed_some false cs rest w)
 closed_some false (c ∷ cs) rest w = go (47 == c) refl (λ x. closed_some (c == 92) cs rest x)
   where
-    go : (b : Bool) → (47 == c) ≡ b → (is_whole 47 (c == 92) cs ≡ true → up_to_slash (c == 92) (cs ++ 47 ∷ rest) ≡ Some (cs, rest)) → up_to_slash false (c ∷ cs ++ 47 ∷ rest) ≡ Some (c ∷ cs, rest)
+    go : (b : Bool) → (47 == c) ≡ b → (is_whole 47 (c == 92) cs ≡ true → up_to_slash (c == 92)
+        (cs ++ 47 ∷ rest) ≡ Some (cs, rest)) → up_to_slash false (c ∷ cs ++ 47 ∷ rest) ≡ Some (c ∷ cs, rest)
     go true e on = let f : false ≡ true = rw e at w in absurd cc
     go false e on =
         let f : is_whole 47 (c == 92) cs ≡ true = rw e at w in
@@ -49,7 +53,8 @@ closed_only true (c ∷ cs) t rest h =
     subst (λ (u : List ℕ). Closes true (c ∷ cs) u rest) x.2 (ap (with c) on.0, on.1)
 closed_only false (c ∷ cs) t rest h = go (47 == c) refl (λ u f. closed_only (c == 92) cs u rest f)
   where
-    go : (b : Bool) → (47 == c) ≡ b → ((u : List ℕ) → up_to_slash (c == 92) cs ≡ Some (u, rest) → Closes (c == 92) cs u rest) → Closes false (c ∷ cs) t rest
+    go : (b : Bool) → (47 == c) ≡ b → ((u : List ℕ) → up_to_slash (c == 92) cs ≡ Some (u, rest)
+        → Closes (c == 92) cs u rest) → Closes false (c ∷ cs) t rest
     go true e on =
         let f : ◌≡◌ {A = Cut (List ℕ)} (Some ([], cs)) (Some (t, rest)) = rw e at h in
         let s = cut_same [] t cs rest f in
@@ -70,7 +75,8 @@ dot_before : (s : Bool) (c : ℕ) (cs rest : List ℕ) → is_dot s c cs ≡ fal
 dot_before s c [] rest e = and_last s (c == 46)
 dot_before s c (d ∷ ds) rest e = e
 
-pub lines_some : (s : Bool) (t rest : List ℕ) → are_lines s t ≡ true → ends_line (next_of rest) ≡ true → lines s (t ++ 46 ∷ rest) ≡ Some (t, rest)
+pub lines_some : (s : Bool) (t rest : List ℕ) → are_lines s t ≡ true → ends_line (next_of rest) ≡ true → lines s
+    (t ++ 46 ∷ rest) ≡ Some (t, rest)
 lines_some s [] rest w n = rw (w, n) refl
 lines_some s (c ∷ cs) rest w n =
     let f = not_and (is_dot s c cs) (are_lines (c == 10) cs) w in
@@ -82,7 +88,8 @@ EndsLines s text t rest = (text ≡ t ++ 46 ∷ rest) × (are_lines s t ≡ true
 ten_no_dot : (c : ℕ) → (c == 10) ≡ true → (c == 46) ≡ false
 ten_no_dot c e = ap (λ z. z == 46) (eqb-true c 10 e)
 
-dot_within : (s : Bool) (c : ℕ) (cs t rest : List ℕ) → cs ≡ t ++ 46 ∷ rest → are_lines (c == 10) t ≡ true → is_dot s c cs ≡ false → is_dot s c t ≡ false
+dot_within : (s : Bool) (c : ℕ) (cs t rest : List ℕ) → cs ≡ t ++ 46 ∷ rest
+    → are_lines (c == 10) t ≡ true → is_dot s c cs ≡ false → is_dot s c t ≡ false
 dot_within s c cs [] rest e w f = ap (λ (b : Bool). s && b && true) (ten_no_dot c w) ∙ and_middle s true
 dot_within s c cs (d ∷ ds) rest e w f = ap (λ (l : List ℕ). is_dot s c l) (sym e) ∙ f
 
@@ -90,21 +97,32 @@ pub lines_only : (s : Bool) (text t rest : List ℕ) → lines s text ≡ Some (
 lines_only s [] t rest h = absurd (none_cut t rest h)
 lines_only s (c ∷ cs) t rest h = go (is_dot s c cs) refl (λ u f. lines_only (c == 10) cs u rest f)
   where
-    go : (b : Bool) → is_dot s c cs ≡ b → ((u : List ℕ) → lines (c == 10) cs ≡ Some (u, rest) → EndsLines (c == 10) cs u rest) → EndsLines s (c ∷ cs) t rest
+    go : (b : Bool) → is_dot s c cs ≡ b → ((u : List ℕ) → lines (c == 10) cs ≡ Some (u, rest)
+        → EndsLines (c == 10) cs u rest) → EndsLines s (c ∷ cs) t rest
     go true e on =
         let f : ◌≡◌ {A = Cut (List ℕ)} (Some ([], cs)) (Some (t, rest)) = rw e at h in
         let p = cut_same [] t cs rest f in
         let d = and_three s (c == 46) (ends_line (next_of cs)) e in
-        subst (λ (u : List ℕ). EndsLines s (c ∷ cs) u rest) p.0 (ap (λ z. z ∷ cs) (eqb-true c 46 d.1) ∙ ap (with 46) p.1, d.0, ap (λ (l : List ℕ). ends_line (next_of l)) (sym p.1) ∙ d.2)
+        subst (λ (u : List ℕ). EndsLines s (c ∷ cs) u rest) p.0 (
+          ap (λ z. z ∷ cs) (eqb-true c 46 d.1)
+              ∙ ap (with 46) p.1,
+          d.0,
+          ap (λ (l : List ℕ). ends_line (next_of l)) (sym p.1) ∙ d.2,
+        )
     go false e on =
         let f : with_rune c (lines (c == 10) cs) ≡ Some (t, rest) = rw e at h in
         let x = as_only (with c) (lines (c == 10) cs) t rest f in
         let o = on x.0 x.1 in
-        subst (λ (u : List ℕ). EndsLines s (c ∷ cs) u rest) x.2 (ap (with c) o.0, rw (dot_within s c cs x.0 rest o.0 o.1 e) o.1, o.2)
+        subst (λ (u : List ℕ). EndsLines s (c ∷ cs) u rest) x.2 (
+          ap (with c) o.0,
+          rw (dot_within s c cs x.0 rest o.0 o.1 e) o.1,
+          o.2,
+        )
 
 -- ---- up to the line's end
 
-pub rest_some : (t rest : List ℕ) → has_newline t ≡ false → ends_line (next_of rest) ≡ true → rest_of_line (t ++ rest) ≡ Some (t, rest)
+pub rest_some : (t rest : List ℕ) → has_newline t ≡ false → ends_line (next_of rest) ≡ true →
+    rest_of_line (t ++ rest) ≡ Some (t, rest)
 rest_some [] [] w n = refl
 rest_some [] (c ∷ cs) w n = rw n refl
 rest_some (c ∷ cs) rest w n =
@@ -120,11 +138,16 @@ rest_only [] t rest h =
     subst (λ (u : List ℕ). IsRest [] u rest) p.0 (p.1, refl, ap (λ (l : List ℕ). ends_line (next_of l)) (sym p.1))
 rest_only (c ∷ cs) t rest h = go (c == 10) refl (λ u f. rest_only cs u rest f)
   where
-    go : (b : Bool) → (c == 10) ≡ b → ((u : List ℕ) → rest_of_line cs ≡ Some (u, rest) → IsRest cs u rest) → IsRest (c ∷ cs) t rest
+    go : (b : Bool) → (c == 10) ≡ b → ((u : List ℕ) → rest_of_line cs ≡ Some (u, rest) → IsRest cs u rest)
+        → IsRest (c ∷ cs) t rest
     go true e on =
         let f : ◌≡◌ {A = Cut (List ℕ)} (Some ([], c ∷ cs)) (Some (t, rest)) = rw e at h in
         let p = cut_same [] t (c ∷ cs) rest f in
-        subst (λ (u : List ℕ). IsRest (c ∷ cs) u rest) p.0 (p.1, refl, ap (λ (l : List ℕ). ends_line (next_of l)) (sym p.1) ∙ e)
+        subst (λ (u : List ℕ). IsRest (c ∷ cs) u rest) p.0 (
+          p.1,
+          refl,
+          ap (λ (l : List ℕ). ends_line (next_of l)) (sym p.1) ∙ e,
+        )
     go false e on =
         let f : with_rune c (rest_of_line cs) ≡ Some (t, rest) = rw e at h in
         let x = as_only (with c) (rest_of_line cs) t rest f in
@@ -141,7 +164,8 @@ from_other : (n c : ℕ) (cs : List ℕ) → is_ascii_digit c ≡ false → numb
 unfolding number_from
 from_other n c cs e = rw e refl
 
-from_large : (n c : ℕ) (cs : List ℕ) → is_ascii_digit c ≡ true → nat_lt (n * 10 + (c - 48)) (2 ^ 64) ≡ false → number_from n (c ∷ cs) ≡ None
+from_large : (n c : ℕ) (cs : List ℕ) → is_ascii_digit c ≡ true → nat_lt (n * 10 + (c - 48)) (2 ^ 64) ≡ false →
+    number_from n (c ∷ cs) ≡ None
 unfolding number_from
 from_large n c cs e f = rw (e, f) refl
 
@@ -154,30 +178,35 @@ from_digit n c cs e =
 number_is : (k n : ℕ) → Some k ≡ Some n → k ≡ n
 number_is k n e = some_same k n e
 
-pub number_some : (v m : List ℕ) (k n : ℕ) → number_after k v ≡ Some n → is_digit (next_of m) ≡ false → number_from k (v ++ m) ≡ Some (n, m)
+pub number_some : (v m : List ℕ) (k n : ℕ) → number_after k v ≡ Some n
+    → is_digit (next_of m) ≡ false → number_from k (v ++ m) ≡ Some (n, m)
 number_some [] [] k n e f =
     from_none k ∙ ap (λ (z : ℕ). Some (z, [])) (number_is k n (sym (number_none k) ∙ e))
 number_some [] (c ∷ cs) k n e f =
     from_other k c cs f ∙ ap (λ (z : ℕ). Some (z, c ∷ cs)) (number_is k n (sym (number_none k) ∙ e))
 number_some (d ∷ ds) m k n e f = go (goes k d) refl (λ j g. number_some ds m j n g f)
   where
-    go : (b : Bool) → goes k d ≡ b → ((j : ℕ) → number_after j ds ≡ Some n → number_from j (ds ++ m) ≡ Some (n, m)) → number_from k (d ∷ ds ++ m) ≡ Some (n, m)
+    go : (b : Bool) → goes k d ≡ b → ((j : ℕ) → number_after j ds ≡ Some n → number_from j (ds ++ m) ≡ Some (n, m))
+        → number_from k (d ∷ ds ++ m) ≡ Some (n, m)
     go true t on = from_digit k d (ds ++ m) t ∙ on (k * 10 + (d - 48)) (sym (step_true k d ds t) ∙ e)
     go false t on = let g = step_false k d ds t in absurd cc
 
 abbrev pub IsNumberFrom : ℕ → List ℕ → ℕ → List ℕ → Type 0
 IsNumberFrom k text n m = (v : List ℕ) × (text ≡ v ++ m) × (number_after k v ≡ Some n) × (is_digit (next_of m) ≡ false)
 
-no_digits : (k n : ℕ) (text m : List ℕ) → ◌≡◌ {A = Cut ℕ} (Some (k, text)) (Some (n, m)) → is_digit (next_of text) ≡ false → IsNumberFrom k text n m
+no_digits : (k n : ℕ) (text m : List ℕ) → ◌≡◌ {A = Cut ℕ} (Some (k, text)) (Some (n, m))
+    → is_digit (next_of text) ≡ false → IsNumberFrom k text n m
 no_digits k n text m e f =
     let s = cut_same k n text m e in
     ([], s.1, number_none k ∙ ap Some s.0, ap (λ (l : List ℕ). is_digit (next_of l)) (sym s.1) ∙ f)
 
 pub number_only : (text : List ℕ) (k n : ℕ) (m : List ℕ) → number_from k text ≡ Some (n, m) → IsNumberFrom k text n m
 number_only [] k n m h = no_digits k n [] m (sym (from_none k) ∙ h) refl
-number_only (c ∷ cs) k n m h = go (is_ascii_digit c) refl (nat_lt (k * 10 + (c - 48)) (2 ^ 64)) refl (λ j f. number_only cs j n m f)
+number_only (c ∷ cs) k n m h = go (is_ascii_digit c) refl (nat_lt (k * 10 + (c - 48)) (2 ^ 64)) refl
+    (λ j f. number_only cs j n m f)
   where
-    go : (b : Bool) → is_ascii_digit c ≡ b → (s : Bool) → nat_lt (k * 10 + (c - 48)) (2 ^ 64) ≡ s → ((j : ℕ) → number_from j cs ≡ Some (n, m) → IsNumberFrom j cs n m) → IsNumberFrom k (c ∷ cs) n m
+    go : (b : Bool) → is_ascii_digit c ≡ b → (s : Bool) → nat_lt (k * 10 + (c - 48)) (2 ^ 64) ≡ s →
+        ((j : ℕ) → number_from j cs ≡ Some (n, m) → IsNumberFrom j cs n m) → IsNumberFrom k (c ∷ cs) n m
     go false e s f on = no_digits k n (c ∷ cs) m (sym (from_other k c cs e) ∙ h) e
     go true e false f on = absurd (none_cut n m (sym (from_large k c cs e f) ∙ h))
     go true e true f on =
@@ -187,20 +216,26 @@ number_only (c ∷ cs) k n m h = go (is_ascii_digit c) refl (nat_lt (k * 10 + (c
 
 -- ---- expressions
 
-pub expression_some : (d : ℕ) (text : List ℕ) (r : expression.Tree) → IsExpression (Some d) text r → expression_of d text ≡ Some r
+pub expression_some : (d : ℕ) (text : List ℕ) (r : expression.Tree) → IsExpression (Some d) text r
+    → expression_of d text ≡ Some r
 unfolding expression_of
 expression_some d text r is =
     let c = complete_read (Some d) text r is in
     ap tree_read c.reads_to ∙ ap (λ (t : Bool). cond t (level_tree c.reading.stack.top) None) c.complete ∙ c.finished_is
 
-pub expression_only : (d : ℕ) (text : List ℕ) (r : expression.Tree) → expression_of d text ≡ Some r → IsExpression (Some d) text r
+pub expression_only : (d : ℕ) (text : List ℕ) (r : expression.Tree) → expression_of d text ≡ Some r
+    → IsExpression (Some d) text r
 unfolding expression_of
 expression_only d text r e = of (re.reads (Some (re.begin (Some d))) text) refl e
   where
-    of : (o : Option re.Reading) → re.reads (Some (re.begin (Some d))) text ≡ o → tree_read o ≡ Some r → IsExpression (Some d) text r
+    of : (o : Option re.Reading) → re.reads (Some (re.begin (Some d))) text ≡ o → tree_read o ≡ Some r
+        → IsExpression (Some d) text r
     of None is = λ h. absurd cc
     of (Some m) is =
-        elim (re.is_complete m.scanner) as (λ t. re.is_complete m.scanner ≡ t → cond t (level_tree m.stack.top) None ≡ Some r → IsExpression (Some d) text r) [
-          | true ↦ λ t h. let w = whole (Some d) text m is t in subst (λ (s : expression.Tree). IsExpression (Some d) text s) (some_same w.result r (sym w.finished_is ∙ h)) w.written
+        elim (re.is_complete m.scanner) as (λ t. re.is_complete m.scanner ≡ t → cond t (level_tree m.stack.top)
+        None ≡ Some r → IsExpression (Some d) text r) [
+          | true ↦ λ t h. let w = whole (Some d) text m is t in subst
+              (λ (s : expression.Tree). IsExpression (Some d) text s) (some_same w.result r (sym w.finished_is ∙ h))
+              w.written
           | false ↦ λ t h. absurd cc
         ] refl

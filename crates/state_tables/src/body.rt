@@ -13,8 +13,10 @@
 //! | `slice` | the range | | its text |
 //! | `ranges` | | | dot, addr and the limit, `-` where there is none |
 //! | `groups` | | | `undo` and `redo`, where they are possible |
-//! | `numbers` | | | the number of the last group that is past and of the first that was undone, `-` where there is none |
-//! | `splice` | the runes of a text | changes over it, as EDITS | the EDITS that make them; `sequence` or `range` and the number of the change at fault |
+//! | `numbers` | | | the number of the last group that is past and of the first that was undone, `-` where there is
+//! none |
+//! | `splice` | the runes of a text | changes over it, as EDITS | the EDITS that make them; `sequence` or `range` and
+//! the number of the change at fault |
 
 ghost use Rattle.std.specs.Prelude.{◌≡◌, IsTrue, IfOk};
 ghost use Rattle.win_text.specs.Bodies.{IsInside, IsLimitInside, IsPlanFor};

@@ -10,7 +10,8 @@
 //! | `ask` | ASKER, AT | | `gets "`PIECE`"` or `waits` |
 //! | `serve` | AT | | ASKER `gets "`PIECE`"`, or `none` |
 //! | `find` | the window | a message that is written back | the number of the item, `already` or `no such` |
-//! | `item`, `taken` | the window and a number | | whether there is such an item; whether it was taken and not written back |
+//! | `item`, `taken` | the window and a number | | whether there is such an item; whether it was taken and not written
+//! back |
 //! | `open`, `living` | a window; an opening | | `yes` or `no` |
 //! | `openings`, `latest` | | | the number |
 //! | `ledger`, `kept` | | | a field for each item: its window, its number, its life and its messages; or `none` |

@@ -1,5 +1,5 @@
-//! The tables. A line is a table's word, a call and its fields, with one tab before each: first the numbers, with a comma
-//! between them, and then the texts. What is missing at the end is empty. Texts are escaped: a newline as `\n`, a
+//! The tables. A line is a table's word, a call and its fields, with one tab before each: first the numbers, with a
+//! comma between them, and then the texts. What is missing at the end is empty. Texts are escaped: a newline as `\n`, a
 //! backslash as `\\`. What a table's calls change lives on from line to line, until a line `new`, with which all tables
 //! begin afresh. The modules of the tables say which calls there are.
 //!

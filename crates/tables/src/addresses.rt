@@ -5,9 +5,10 @@
 //! | `addr` TEXT DOT LIMIT ADDRESS | `Q0 Q1`, the value of the address, or `range`, `no match` or `order` |
 //! | `address` PLACE TEXT | where the address ends that begins at the place, and what it is |
 //!
-//! Dot and the limit are two places with a comma between them; a limit `-` is the whole text. An address is `plus`, `minus`,
-//! `comma` or `semi` by the operator that joins its sides, `zero`, or another `part`; `deep` and `nodes` tell the limit that it
-//! passes. A text that is no address is answered `bad PLACE`, and by `addr` with `nodes` or `deep` too.
+//! Dot and the limit are two places with a comma between them; a limit `-` is the whole text. An address is `plus`,
+//! `minus`,
+//! `comma` or `semi` by the operator that joins its sides, `zero`, or another `part`; `deep` and `nodes` tell the limit
+//! that it passes. A text that is no address is answered `bad PLACE`, and by `addr` with `nodes` or `deep` too.
 
 ghost use Rattle.std.specs.Prelude.{IfOk};
 ghost use Rattle.sam_address.specs.Value.{IsInside};

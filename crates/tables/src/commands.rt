@@ -1,7 +1,7 @@
 //! Commands of Edit: what they do to a text.
 //!
-//! A line is `edit`, the number and the name of a window, its text, dot and a command. Dot is two places with a comma between
-//! them. A line with `command` in place of `edit` is read by `read_edit`.
+//! A line is `edit`, the number and the name of a window, its text, dot and a command. Dot is two places with a comma
+//! between them. A line with `command` in place of `edit` is read by `read_edit`.
 //!
 //! | answer | is |
 //! |---|---|

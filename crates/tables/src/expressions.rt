@@ -3,7 +3,8 @@
 //! | line | answer |
 //! |---|---|
 //! | `parse` EXPRESSION STOP | `ends PLACE`: the expression before the delimiter STOP (`-`: up to the end) ends there |
-//! | `spans` EXPRESSION TEXT BOUNDS NO_NULL | `first SPAN last SPAN`: the matches that begin first and end last between BOUNDS, but not the null one at NO_NULL (`-`: none is left out) |
+//! | `spans` EXPRESSION TEXT BOUNDS NO_NULL | `first SPAN last SPAN`: the matches that begin first and end last between
+//! BOUNDS, but not the null one at NO_NULL (`-`: none is left out) |
 //! | `each` EXPRESSION TEXT BOUNDS | `each SPAN..`: the matches one after another |
 //! | `over` EXPRESSION TEXT PLACE | `over SPAN`: the match that has the place |
 //! | `groups` EXPRESSION TEXT SPAN | `groups SPAN..`: the ranges of the groups from 0 to 9, or `no match` |

@@ -1,5 +1,6 @@
-//! Machines against sets of places, on random expressions and texts. A line has how many, and the number from which they
-//! are drawn; its answer is `agree COUNT`, or `differ NUMBER`, the first for which a search of a machine isn't the same.
+//! Machines against sets of places, on random expressions and texts. A line has how many, and the number from which
+//! they are drawn; its answer is `agree COUNT`, or `differ NUMBER`, the first for which a search of a machine isn't the
+//! same.
 
 ghost use Rattle.std.specs.Prelude.{◌≤◌, ◌<◌, length, IfOk};
 

@@ -3,8 +3,10 @@
 //! | word | answer |
 //! |---|---|
 //! | `whole` DIR NAME | the name made whole, escaped |
-//! | `classify` TEXT | the built-in command and the range of its argument; `pipe`, `from` or `to` and the range of the command; or `external` |
-//! | `exec` AT Q0 Q1 TEXT, `look` likewise | the range of a click at AT where dot is Q0,Q1 (no dot, where Q0 is `-`), or `none` |
+//! | `classify` TEXT | the built-in command and the range of its argument; `pipe`, `from` or `to` and the range of the
+//! command; or `external` |
+//! | `exec` AT Q0 Q1 TEXT, `look` likewise | the range of a click at AT where dot is Q0,Q1 (no dot, where Q0 is `-`),
+//! or `none` |
 //! | `file` PATH TEXT, `dir` PATH | `ok` or `clash` |
 //! | `get` PATH | `file` TEXT, `dir` TEXT, or `none` |
 //! | `kind` PATH | `file`, `directory` or `none` |

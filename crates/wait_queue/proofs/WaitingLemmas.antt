@@ -1,11 +1,13 @@
 -- Which reads wait after each call.
-use Rattle.std.proofs.Common.{◌≡◌, ◌==◌, ◌⊎◌, inl, inr, ℕ, Bool, true, false, cond, not, List, [], ◌∷◌, ◌++◌, filter, find, Option, Some, None, refl, sym, ap, subst, arith}
+use Rattle.std.proofs.Common.{◌≡◌, ◌==◌, ◌⊎◌, inl, inr, ℕ, Bool, true, false, cond, not, List, [], ◌∷◌, ◌++◌, filter}
+use Rattle.std.proofs.Common.{find, Option, Some, None, refl, sym, ap, subst, arith}
 use Rattle.std.specs.Prelude.{option_map}
 use Rattle.std.specs.List.{Contains, list_any}
 use Rattle.std.proofs.lemmas.List.Elements.{Contains-append_right, Contains-append_cases, Contains-push_cases}
 use Rattle.wait_queue.specs.Carry.{carry_of}
 use Rattle.wait_queue.specs.Reads.{is_read, is_on, can_answer, without_first, without_read}
-use Rattle.wait_queue.specs.WaitState.{WaitState, any_item, must_wait, piece_of, after_from, after_piece, after_ask, next_of, without_next, after_answer}
+use Rattle.wait_queue.specs.WaitState.{WaitState, any_item, must_wait, piece_of, after_from, after_piece, after_ask}
+use Rattle.wait_queue.specs.WaitState.{next_of, without_next, after_answer}
 use Rattle.wait_queue.specs.Laws.{CancelledIsGone, AddsNone, AddsOnly, OnlyAskWaits, ServedWaited}
 use Rattle.wait_queue.specs.declared.pending.Pending.{Pending}
 use Rattle.wait_queue.specs.declared.types.Asker.{Asker}
@@ -19,7 +21,10 @@ nothing_there r h = let below = h.1 in absurd (omega (arith, below))
 first_or_later : (x : Asker) (xs : List Asker) (r : Asker) → Contains (x ∷ xs) r → (x ≡ r) ⊎ Contains xs r
 first_or_later x xs r h =
     elim (Contains-append_cases (x ∷ []) xs r h) [
-      | inl one ↦ elim (Contains-push_cases [] x r one) [ inl none ↦ absurd (nothing_there r none) | inr same ↦ inl same ]
+      | inl one ↦ elim (Contains-push_cases [] x r one) [
+        | inl none ↦ absurd (nothing_there r none)
+        | inr same ↦ inl same
+      ]
       | inr later ↦ inr later
     ]
 
@@ -64,7 +69,8 @@ found-there p (x ∷ xs) r h =
 pub none_left : (rs : List Asker) (conn tag : ℕ) → list_any (is_read conn tag) (without_read rs conn tag) ≡ false
 none_left [] conn tag = refl
 none_left (x ∷ xs) conn tag =
-    (elim (is_read conn tag x) as (λ b. is_read conn tag x ≡ b → list_any (is_read conn tag) (cond (not b) (x ∷ without_read xs conn tag) (without_read xs conn tag)) ≡ false) [
+    (elim (is_read conn tag x) as (λ b. is_read conn tag x ≡ b → list_any (is_read conn tag)
+    (cond (not b) (x ∷ without_read xs conn tag) (without_read xs conn tag)) ≡ false) [
       | true ↦ λ e. none_left xs conn tag
       | false ↦ λ e. rw e (none_left xs conn tag)
     ]) refl
@@ -74,7 +80,8 @@ none_left (x ∷ xs) conn tag =
 pub cancelled_gone : CancelledIsGone
 cancelled_gone w conn tag = none_left w.reads conn tag
 
-from-reads : (carry : List ℕ) (items : List Pending) (w : WaitState) (r : Asker) → (after_from carry items w r).reads ≡ w.reads
+from-reads : (carry : List ℕ) (items : List Pending) (w : WaitState) (r : Asker)
+    → (after_from carry items w r).reads ≡ w.reads
 from-reads (b ∷ bs) items w r = refl
 from-reads [] (item ∷ items) w r = refl
 from-reads [] [] w r = refl
@@ -89,14 +96,16 @@ piece-adds w r rs h = subst (AddsNone rs) (sym (piece-reads w r)) h
 
 ask-adds : (w : WaitState) (r : Asker) → AddsOnly r w.reads (after_ask w r).reads
 ask-adds w r =
-    elim (must_wait w r) as (λ b. AddsOnly r w.reads (cond b (record w { reads = w.reads ++ r ∷ [] }) (after_piece w r)).reads) [
+    elim (must_wait w r) as (λ b. AddsOnly r w.reads (cond b (record w { reads = w.reads ++ r ∷ [] })
+    (after_piece w r)).reads) [
       | true ↦ λ x c. Contains-push_cases w.reads r x c
       | false ↦ λ x c. inl (piece-adds w r w.reads (λ x c. c) x c)
     ]
 
 serve-adds : (next : Option Asker) (w : WaitState) → AddsNone w.reads (after_answer next w).reads
 serve-adds None w = λ x c. c
-serve-adds (Some r) w = piece-adds (without_next w) r w.reads (without_first-adds (can_answer (any_item w) w.openings) w.reads)
+serve-adds (Some r) w = piece-adds (without_next w) r w.reads (without_first-adds (can_answer (any_item w) w.openings)
+    w.reads)
 
 pub only_ask_adds : OnlyAskWaits
 only_ask_adds w = record {
@@ -109,9 +118,11 @@ only_ask_adds w = record {
   close = λ x c. absurd (nothing_there x c);
 }
 
-served_is : (next : Option Asker) (piece : Asker → Piece) (r : Asker) (p : Piece) → option_map {U = Asker × Piece} (λ r. (r, piece r)) next ≡ Some (r, p) → next ≡ Some r
+served_is : (next : Option Asker) (piece : Asker → Piece) (r : Asker) (p : Piece)
+    → option_map {U = Asker × Piece} (λ r. (r, piece r)) next ≡ Some (r, p) → next ≡ Some r
 served_is None piece r p h = cc
-served_is (Some x) piece r p h = let same : ◌≡◌ {A = Asker × Piece} (x, piece x) (r, p) = cc in ap (λ (t : Asker × Piece). Some t.0) same
+served_is (Some x) piece r p h = let same : ◌≡◌ {A = Asker × Piece} (x, piece x) (r, p) = cc in
+    ap (λ (t : Asker × Piece). Some t.0) same
 
 pub served_waited : ServedWaited
 served_waited w r piece h =

@@ -2,7 +2,8 @@
 use Rattle.std.specs.Prelude.{◌≡◌, ◌==◌, ◌≢◌, ◌⊎◌, ℕ, false, List, [], ◌∷◌, ◌++◌, Some, if◌then◌else◌}
 use Rattle.std.specs.List.{Contains, list_any}
 use Rattle.wait_queue.specs.Carry.{carry_of}
-use Rattle.wait_queue.specs.WaitState.{WaitState, IsEnlisted, after_enlist, after_put, piece_of, after_piece, after_ask, next_of, served_of, after_serve, after_cancel, after_leave, after_close}
+use Rattle.wait_queue.specs.WaitState.{WaitState, IsEnlisted, after_enlist, after_put, piece_of, after_piece, after_ask}
+use Rattle.wait_queue.specs.WaitState.{next_of, served_of, after_serve, after_cancel, after_leave, after_close}
 use Rattle.wait_queue.specs.Reads.{is_read}
 use Rattle.wait_queue.specs.declared.pending.Pending.{Pending}
 use Rattle.wait_queue.specs.declared.types.Asker.{Asker}
@@ -22,7 +23,8 @@ taken_by w r = if r.count == 0 then [] else taken_from (carry_of w.openings r.op
 abbrev pub LosesNothing : Type 0
 LosesNothing =
     (w : WaitState) (r : Asker) → IsEnlisted w r.opening →
-    (piece_of w r).bytes ++ carry_of (after_piece w r).openings r.opening ≡ carry_of w.openings r.opening ++ taken_by w r
+    (piece_of w r).bytes ++ carry_of (after_piece w r).openings r.opening ≡ carry_of w.openings r.opening
+    ++ taken_by w r
 
 -- and the carries of the others stay
 abbrev pub LeavesOthers : Type 0

@@ -1,5 +1,6 @@
 -- A queue's items, openings and waiting reads, and what each call does to them.
-use Rattle.std.specs.Prelude.{◌==◌, ◌&&◌, ℕ, Bool, List, [], ◌∷◌, ◌++◌, not, nat_lt, length, take, drop, find, map, Option, Some, None, option_map, IsTrue, if◌then◌else◌}
+use Rattle.std.specs.Prelude.{◌==◌, ◌&&◌, ℕ, Bool, List, [], ◌∷◌, ◌++◌, not, nat_lt, length, take, drop, find, map}
+use Rattle.std.specs.Prelude.{Option, Some, None, option_map, IsTrue, if◌then◌else◌}
 use Rattle.std.specs.List.{list_any}
 use Rattle.wait_queue.specs.Carry.{OpenCarry, carry_of, set_carry, without_opening, is_of, emptied}
 use Rattle.wait_queue.specs.Reads.{can_answer, without_first, without_read, without_reads_on}
@@ -52,7 +53,8 @@ piece_from [] [] count = record { bytes = []; taken = None }
 -- what a read gets now
 abbrev pub piece_of : WaitState → Asker → Piece
 piece_of w r =
-    if r.count == 0 then record { bytes = []; taken = None } else piece_from (carry_of w.openings r.opening) w.items r.count
+    if r.count == 0 then record { bytes = []; taken = None } else piece_from (carry_of w.openings r.opening) w.items
+    r.count
 
 -- what a piece of a carry, else of the first item, leaves
 abbrev pub after_from : List ℕ → List Pending → WaitState → Asker → WaitState
@@ -100,7 +102,11 @@ after_cancel w conn tag = record w { reads = without_read w.reads conn tag }
 
 -- an opening goes, with its reads
 abbrev pub after_leave : WaitState → ℕ → WaitState
-after_leave w opening = record w { openings = without_opening w.openings opening; reads = without_reads_on w.reads opening }
+after_leave w opening = record w {
+  openings = without_opening w.openings opening;
+  reads = without_reads_on w.reads
+      opening;
+}
 
 -- the openings stay, with nothing left
 abbrev pub after_close : WaitState → WaitState

@@ -1,6 +1,7 @@
 //! What each opening has left of its last item.
 
-ghost use Rattle.std.specs.Prelude.{◌≡◌, ◌≢◌, ◌<◌, ◌==◌, [], ◌∷◌, ◌++◌, map, filter, not, IfOk, IfSome, position, unwrap_or, OnOk, OnErr, drop, take, length, IsTrue, ◌↔◌};
+ghost use Rattle.std.specs.Prelude.{◌≡◌, ◌≢◌, ◌<◌, ◌==◌, [], ◌∷◌, ◌++◌, map, filter, not, IfOk, IfSome, position};
+ghost use Rattle.std.specs.Prelude.{unwrap_or, OnOk, OnErr, drop, take, length, IsTrue, ◌↔◌};
 ghost use Rattle.std.specs.List.{list_any};
 ghost use Rattle.am_text.specs.Twice.{Twice, both, IsSteady};
 ghost use Rattle.wait_queue.specs.Carry.{carry_of, set_carry, without_opening, emptied, is_of};

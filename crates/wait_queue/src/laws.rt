@@ -1,8 +1,10 @@
 //! What holds of all that a queue gives.
 
-ghost use Rattle.wait_queue.specs.Laws.{LosesNothing, LeavesOthers, CancelledIsGone, CancelledIsNotNext, OnlyAskWaits, ServedWaited};
+ghost use Rattle.wait_queue.specs.Laws.{LosesNothing, LeavesOthers, CancelledIsGone, CancelledIsNotNext, OnlyAskWaits};
+ghost use Rattle.wait_queue.specs.Laws.{ServedWaited};
 
-/// What an answer gives, with what it leaves to its opening, is what the opening had left and the item that the answer takes.
+/// What an answer gives, with what it leaves to its opening, is what the opening had left and the item that the answer
+/// takes.
 pub fn loses_nothing()
     ensures { LosesNothing }
 {}

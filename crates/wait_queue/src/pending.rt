@@ -1,6 +1,7 @@
 //! Items that nobody has taken.
 
-ghost use Rattle.std.specs.Prelude.{◌≡◌, ◌≢◌, [], ◌∷◌, ◌++◌, IfOk, OnOk, OnErr, drop, slice_get, option_copied, IsTrue, ◌↔◌};
+ghost use Rattle.std.specs.Prelude.{◌≡◌, ◌≢◌, [], ◌∷◌, ◌++◌, IfOk, OnOk, OnErr, drop, slice_get, option_copied, IsTrue};
+ghost use Rattle.std.specs.Prelude.{◌↔◌};
 ghost use Rattle.am_text.specs.Twice.{Twice, both, IsSteady};
 
 use am_text::{Bytes, NoMemory};

@@ -5,7 +5,9 @@ ghost use Rattle.std.specs.List.{list_any};
 ghost use Rattle.am_text.specs.Twice.{Twice, both, IsSteady};
 ghost use Rattle.wait_queue.specs.Reads.{is_read};
 ghost use Rattle.wait_queue.specs.Carry.{is_of};
-ghost use Rattle.wait_queue.specs.WaitState.{nothing, has_openings, must_wait, IsEnlisted, after_enlist, after_put, piece_of, after_piece, asked_of, after_ask, next_of, served_of, after_serve, after_cancel, after_leave, after_close};
+ghost use Rattle.wait_queue.specs.WaitState.{nothing, has_openings, must_wait, IsEnlisted, after_enlist, after_put};
+ghost use Rattle.wait_queue.specs.WaitState.{piece_of, after_piece, asked_of, after_ask, next_of, served_of};
+ghost use Rattle.wait_queue.specs.WaitState.{after_serve, after_cancel, after_leave, after_close};
 
 use crate::carries::Carries;
 use crate::pending::{Pending, PendingItems};
@@ -68,7 +70,8 @@ impl Model for WaitQueue {
 
     ghost use Rattle.std.specs.Prelude.{◌≡◌, false};
 
-    ghost invariant = { λ q. q.changed ≡ false → (q.items.present ≡ q.items.kept) × (q.carries.present ≡ q.carries.kept) × (q.reads.present ≡ q.reads.kept) };
+    ghost invariant = { λ q. q.changed ≡ false → (q.items.present ≡ q.items.kept) × (q.carries.present ≡ q.carries.kept)
+        × (q.reads.present ≡ q.reads.kept) };
 }
 
 impl WaitQueue {

@@ -1,6 +1,7 @@
 //! Reads that wait, in the order of asking.
 
-ghost use Rattle.std.specs.Prelude.{◌≡◌, ◌<◌, ◌&&◌, ◌||◌, ◌==◌, [], ◌∷◌, ◌++◌, map, filter, not, IfOk, IfSome, OnOk, OnErr, find, position, length};
+ghost use Rattle.std.specs.Prelude.{◌≡◌, ◌<◌, ◌&&◌, ◌||◌, ◌==◌, [], ◌∷◌, ◌++◌, map, filter, not, IfOk, IfSome, OnOk};
+ghost use Rattle.std.specs.Prelude.{OnErr, find, position, length};
 ghost use Rattle.std.specs.List.{list_any};
 ghost use Rattle.am_text.specs.Twice.{Twice, both, IsSteady};
 ghost use Rattle.wait_queue.specs.Reads.{without_first, without_read, without_reads_on, is_read, is_on};
@@ -130,7 +131,11 @@ impl Model for Reads {
 
     ghost use Rattle.wait_queue.specs.Waiting.{asker_of, is_here};
 
-    ghost view = { λ r. record { present = map asker_of (filter is_here r.all); kept = map asker_of (take r.kept r.all) } };
+    ghost view = { λ r. record {
+      present = map asker_of (filter is_here r.all);
+      kept = map asker_of
+          (take r.kept r.all);
+    } };
 
     ghost invariant = { λ r. r.kept ≤ length r.all };
 }

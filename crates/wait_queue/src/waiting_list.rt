@@ -1,6 +1,7 @@
 //! A list of reads whose members are held in a slab.
 
-ghost use Rattle.std.specs.Prelude.{false, ◌≡◌, ◌<◌, [], ◌∷◌, ◌++◌, filter, take, length, OnOk, OnErr, slice_index_or, slice_set};
+ghost use Rattle.std.specs.Prelude.{false, ◌≡◌, ◌<◌, [], ◌∷◌, ◌++◌, filter, take, length, OnOk, OnErr, slice_index_or};
+ghost use Rattle.std.specs.Prelude.{slice_set};
 ghost use Rattle.slab.specs.Slab.{Slab as Slots};
 ghost use Rattle.wait_queue.specs.Waiting.{is_here};
 ghost use Rattle.wait_queue.specs.Held.{AreHeld, SameOn, is_kept, no_waiting};
@@ -114,7 +115,11 @@ impl WaitingList {
 
     pub fn set_gone(&mut self, i: usize, gone: bool)
         requires { i < length self.old }
-        ensures { self.new ≡ slice_set self.old i (record { asker = (slice_index_or self.old i no_waiting).asker; gone = gone }) }
+        ensures { self.new ≡ slice_set self.old i (record {
+          asker = (slice_index_or self.old i no_waiting).asker;
+          gone =
+              gone;
+        }) }
     {
         let place = &mut self.order[i];
         place.gone = gone;

@@ -2,19 +2,21 @@
 //!
 //! `client` PIECE READS WRITES ROOM CALLS BYTES
 //!
-//! The client's source gives the bytes that BYTES spells in hexadecimal digits, in pieces of at most PIECE; its sink has ROOM. READS and
-//! WRITES are the numbers of their calls that fail. CALLS, with commas between them, are done in order:
+//! The client's source gives the bytes that BYTES spells in hexadecimal digits, in pieces of at most PIECE; its sink
+//! has ROOM. READS and WRITES are the numbers of their calls that fail. CALLS, with commas between them, are done in
+//! order:
 //!
 //! | call | what is done | answer |
 //! |---|---|---|
-//! | `version` | a Tversion is sent and its reply waited for, where no tag is asked | the reply's name, or why there is none |
+//! | `version` | a Tversion is sent and its reply waited for, where no tag is asked | the reply's name, or why there is
+//! none |
 //! | `call` | the same with a Tclunk | the same |
 //! | `send` | a Tclunk is sent | its tag, or why it isn't |
 //! | `write` | a Twrite of 300 bytes is sent | the same |
 //! | a number | the reply to this tag is waited for, where it is asked | the reply's name, or why there is none |
 //!
-//! The answers have a blank between them; `-` is that of a call that may not be made. Behind them stands what the sink holds, in
-//! hexadecimal digits.
+//! The answers have a blank between them; `-` is that of a call that may not be made. Behind them stands what the sink
+//! holds, in hexadecimal digits.
 
 ghost use Rattle.std.specs.Prelude.{◌≡◌, ◌<◌, IfOk};
 

@@ -2,7 +2,8 @@
 //!
 //! | line | answer |
 //! |---|---|
-//! | `spell` CLICK | the messages of an action of the mouse, escaped; CLICK is `word`, `inside` (a word) or `argument` |
+//! | `spell` CLICK | the messages of an action of the mouse, escaped; CLICK is `word`, `inside` (a word) or `argument`
+//! |
 //! | `back` BYTES | the event message that is written back so |
 
 use crate::fault::Fault;

@@ -1,10 +1,11 @@
 // Tables of cases for bytes and lines, and for the trees: each line of standard input is a case, and its answer is
 // written in a line. A line that is no case is answered `?`. The heads of the modules have the cases: `texts` those of
 // am_text, `messages` of ninep_wire, `records` of ninep_frame, `streams` of ninep_cut, `journal` of am_journal, `words`
-// of ninep_trace, `events` of win_events, `plumbing` of plumb_msg, `trees` of acme_tree, `windows` of win_ctl, `outside`
-// of the objects in memory that am_base has, `client` of ninep_client and `talk` of am_do over them.
+// of ninep_trace, `events` of win_events, `plumbing` of plumb_msg, `trees` of acme_tree, `windows` of win_ctl,
+// `outside` of the objects in memory that am_base has, `client` of ninep_client and `talk` of am_do over them.
 //
-// A line is a word, a tab and fields, with a tab between two. BYTES are a colon and a text in which a newline is written
+// A line is a word, a tab and fields, with a tab between two. BYTES are a colon and a text in which a newline is
+// written
 // `\n` and a backslash `\\`, or they are in hexadecimal.
 //
 // It is a test program. Its stored input and output are compared when it is run; no contract says what it

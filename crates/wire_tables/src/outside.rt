@@ -7,14 +7,17 @@
 //! | `whole` PIECE LIMIT FAILS TEXT | the text is read to its end | the text, `too long`, or `failed` |
 //! | `sure` PIECE LIMIT TEXT | the same, of a source that never fails | the same |
 //! | `reads` PIECE FAILS TIMES TEXT | so often four bytes are asked for | for each read what it gave, or `failed` |
-//! | `writes` PIECE FAILS ROOM TIMES TEXT | the text is written so often | for each time `done` or `failed`, and what the sink holds then |
+//! | `writes` PIECE FAILS ROOM TIMES TEXT | the text is written so often | for each time `done` or `failed`, and what
+//! the sink holds then |
 //! | `link` HOW | both halves are asked for twice | for each time `done` or `failed` |
 //! | `gate` HOW | two connections are taken | the same |
-//! | `host` FAILS PATH SLOTS | a host with a gate for slot 1 of `/tmp/acme` is asked for those of these slots of a path | the same |
-//! | `dial` FAILS PATH TIMES | a host whose gates of `/tmp/acme` give, fail and give is so often dialled at a path | the same |
+//! | `host` FAILS PATH SLOTS | a host with a gate for slot 1 of `/tmp/acme` is asked for those of these slots of a path
+//! | the same |
+//! | `dial` FAILS PATH TIMES | a host whose gates of `/tmp/acme` give, fail and give is so often dialled at a path |
+//! the same |
 //!
-//! A link or a gate whose HOW is `gives` hands out, and one whose HOW is `fails` never does. SLOTS are numbers with commas
-//! between them. The answers of several calls have a blank between them.
+//! A link or a gate whose HOW is `gives` hands out, and one whose HOW is `fails` never does. SLOTS are numbers with
+//! commas between them. The answers of several calls have a blank between them.
 
 ghost use Rattle.std.specs.Prelude.{◌≡◌, IfOk};
 

@@ -4,7 +4,8 @@
 //! |---|---|
 //! | `plumb` BYTES | `More`, `Bad`, or how many bytes the message in front takes, and how it is written, escaped |
 //! | `attr` BYTES | the name and the value of the one attribute that they spell, or `none` |
-//! | `pair` A B | whether a message can have an attribute A, which is `it's`, and one B, which is empty, and how they are spelled |
+//! | `pair` A B | whether a message can have an attribute A, which is `it's`, and one B, which is empty, and how they
+//! are spelled |
 
 use crate::fault::Fault;
 use crate::fields::{in_one_line, line};

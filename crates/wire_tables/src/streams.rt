@@ -3,7 +3,8 @@
 //! | line | answer |
 //! |---|---|
 //! | `stream` | a new stream, and a message `old` |
-//! | `cut` COUNT BYTES | so many such pieces come: how many bytes are left then, what stands in front, how many are left once a message was given, and the message |
+//! | `cut` COUNT BYTES | so many such pieces come: how many bytes are left then, what stands in front, how many are
+//! left once a message was given, and the message |
 //!
 //! Of a message the answer has the length and the last bytes, at most 16 of them.
 

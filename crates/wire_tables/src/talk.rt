@@ -2,11 +2,13 @@
 //!
 //! `do` READS WRITES OUTPUT TREE LINES BYTES
 //!
-//! The client's source gives the bytes that BYTES spells in hexadecimal digits. READS and WRITES are the numbers of the calls of its source
-//! and its sink that fail, and OUTPUT of those of the output. TREE is `acme` or `plumb`. LINES are the lines, with `;` in the place of a newline.
+//! The client's source gives the bytes that BYTES spells in hexadecimal digits. READS and WRITES are the numbers of the
+//! calls of its source and its sink that fail, and OUTPUT of those of the output. TREE is `acme` or `plumb`. LINES are
+//! the lines, with `;` in the place of a newline.
 //!
-//! The answer is how the talk ended, with `cut` behind it where the output has failed, then what the output holds, with `;` in the place of a
-//! newline, and what the sink holds, in hexadecimal digits. Lines that are refused are answered `line` and the number of the first.
+//! The answer is how the talk ended, with `cut` behind it where the output has failed, then what the output holds, with
+//! `;` in the place of a newline, and what the sink holds, in hexadecimal digits. Lines that are refused are answered
+//! `line` and the number of the first.
 
 ghost use Rattle.std.specs.Prelude.{IfOk, ◌≡◌};
 ghost use Rattle.ninep_types.specs.Spelling.{IsString};

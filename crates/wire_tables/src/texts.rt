@@ -5,7 +5,8 @@
 //! | `text` BYTES | their text, escaped |
 //! | `lines` BYTES | the ranges of their lines |
 //! | `surrogate` | the bytes of `a`, a rune of three bytes and a surrogate, and three of them from the third on |
-//! | `room` | a list with room: its length once three members are put, and once one is set; its members, the one taken from its second place, whether it is empty then, and what is left |
+//! | `room` | a list with room: its length once three members are put, and once one is set; its members, the one taken
+//! from its second place, whether it is empty then, and what is left |
 
 use crate::fault::Fault;
 use crate::fields::line;

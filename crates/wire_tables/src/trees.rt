@@ -1,5 +1,5 @@
-//! Cases of acme_tree: the trees, with window 1 and the port `edit`. PATH is `acme`, `plumb` or a window's number, and names with
-//! a slash before each. NEXT is the number that the next window gets.
+//! Cases of acme_tree: the trees, with window 1 and the port `edit`. PATH is `acme`, `plumb` or a window's number, and
+//! names with a slash before each. NEXT is the number that the next window gets.
 //!
 //! | line | answer |
 //! |---|---|

@@ -1,8 +1,10 @@
-//! Cases of win_ctl: the texts of a window. Texts are escaped: a newline as `\n`, a backslash as `\\`. FLAGS are letters.
+//! Cases of win_ctl: the texts of a window. Texts are escaped: a newline as `\n`, a backslash as `\\`. FLAGS are
+//! letters.
 //!
 //! | line | answer |
 //! |---|---|
-//! | `tag` FLAGS NAME RIGHT | the tag of a window; `u`: something can be undone, `r`: redone, `m`: it is modified, `d`: it is a directory |
+//! | `tag` FLAGS NAME RIGHT | the tag of a window; `u`: something can be undone, `r`: redone, `m`: it is modified, `d`:
+//! it is a directory |
 //! | `index` NUMBER BODY FLAGS TAG | its line in `index`, where its body has so many runes; `d` and `m` as above |
 
 use crate::fault::Fault;

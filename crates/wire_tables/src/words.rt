@@ -2,7 +2,8 @@
 //!
 //! | line | answer |
 //! |---|---|
-//! | `words` BYTES | what the line in words says, escaped: the event's line in a transcript, or `reply C HEX`; or `none` |
+//! | `words` BYTES | what the line in words says, escaped: the event's line in a transcript, or `reply C HEX`; or
+//! `none` |
 //! | `words-t` BYTES | the message to the server that they are, from connection 7, in words, escaped; or the fault |
 //! | `words-r` BYTES | the message from the server that they are, to connection 7, in words, escaped; or the fault |
 

@@ -6,7 +6,8 @@ use Rattle.acme_cmd.proofs.expansion.run_end.Given as goal
 abbrev pub invariant-loop-end : goal.invariant-loop-end
 invariant-loop-end g l = record {
   inside : l.end ≤ l.length;
-  told : l.at + prefix_len (is_over l.click) (drop l.at (g.T.Letters.letters l.text)) ≡ l.end + prefix_len (is_over l.click) (drop l.end (g.T.Letters.letters l.text));
+  told : l.at + prefix_len (is_over l.click) (drop l.at (g.T.Letters.letters l.text)) ≡ l.end + prefix_len
+      (is_over l.click) (drop l.end (g.T.Letters.letters l.text));
 }
 
 abbrev pub decreases-loop-end : goal.decreases-loop-end

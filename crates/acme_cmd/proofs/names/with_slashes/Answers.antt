@@ -7,4 +7,5 @@ pub loop-part-init : goal.loop-part-init
 loop-part-init c =
     let copied : c.in_ok-text.text ≡ c.as_slice.result.now = c.in_ok-text.ensures in
     let front = join_with_byte-front c.args.parts.now c.first-item.result c.in-len1-up.len_at_least c.first-item.is in
-    ap (λ (l : List ℕ). l ++ flat_map after_slash (take (length c.args.parts.now - 1) (drop 1 c.args.parts.now))) (copied ∙ c.as_slice.ensures) ∙ sym front
+    ap (λ (l : List ℕ). l ++ flat_map after_slash (take (length c.args.parts.now - 1) (drop 1 c.args.parts.now)))
+    (copied ∙ c.as_slice.ensures) ∙ sym front

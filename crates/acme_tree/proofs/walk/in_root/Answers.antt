@@ -3,4 +3,5 @@ use Rattle.acme_tree.proofs.Named.{in_root_rest}
 use Rattle.acme_tree.proofs.walk.in_root.Goals as goal
 
 pub returns-else-eq-5 : goal.returns-else-eq-5
-returns-else-eq-5 c = in_root_rest c.args.world.now c.args.name.now c.to_window.result (search rules) (search rules) (search rules) (search rules) (search rules) (search rules)
+returns-else-eq-5 c = in_root_rest c.args.world.now c.args.name.now c.to_window.result (search rules) (search rules)
+    (search rules) (search rules) (search rules) (search rules)

@@ -2,7 +2,8 @@ use Rattle.std.proofs.Common.{◌≡◌, ◌∙◌, false, drop, sym, arith}
 use Rattle.std.proofs.lemmas.Result.{err_from_is_err_and}
 use Rattle.addr_syntax.specs.Joined.{whole}
 use Rattle.addr_syntax.specs.Marks.{next_of, begins_piece}
-use Rattle.addr_syntax.proofs.Fronts.{step_from, addr_read, step_fails_from, limited_fails_from, stops_at_end, stops_there}
+use Rattle.addr_syntax.proofs.Fronts.{step_from, addr_read, step_fails_from, limited_fails_from, stops_at_end}
+use Rattle.addr_syntax.proofs.Fronts.{stops_there}
 use Rattle.addr_syntax.proofs.parser.addr_at.Goals as goal
 use Rattle.addr_syntax.proofs.parser.addr_at.Goals.{then-loop-at-test+else-begins_piece, else-loop-at-test}
 
@@ -16,7 +17,9 @@ pub returns-in_err-next-clause-refused : goal.returns-in_err-next-clause-refused
 returns-in_err-next-clause-refused c =
     let i = c.loop-at.invariant in
     let p = err_from_is_err_and c.from_residual.result c.from_residual.ensures.1 in
-    rw (p.1, p.2) (step_fails_from c.args.text.now c.args.from c.loop-at.at i.0 i.1 c.loop-at-test.true (sym c.begins_piece.ensures ∙ c.if-begins_piece.true) c.in_err-next.field-0.0 (c.in_err-next.ensures.err i.0 i.2))
+    rw (p.1, p.2) (step_fails_from c.args.text.now c.args.from c.loop-at.at i.0 i.1 c.loop-at-test.true
+    (sym c.begins_piece.ensures ∙ c.if-begins_piece.true) c.in_err-next.field-0.0
+    (c.in_err-next.ensures.err i.0 i.2))
 
 pub returns-in_err-in_limits-clause-refused : goal.returns-in_err-in_limits-clause-refused
 returns-in_err-in_limits-clause-refused c =
@@ -24,11 +27,13 @@ returns-in_err-in_limits-clause-refused c =
     let text = c.args.text.now in
     let at = c.loop-at.at in
     let stop : begins_piece (next_of (drop at text)) ≡ false = elim c.loop-at-test.branch [
-      | then-loop-at-test+else-begins_piece w ↦ stops_there text at w.loop-at-test.true (sym w.begins_piece.ensures ∙ w.if-begins_piece.false)
+      | then-loop-at-test+else-begins_piece w ↦ stops_there text at w.loop-at-test.true
+          (sym w.begins_piece.ensures ∙ w.if-begins_piece.false)
       | else-loop-at-test w ↦ stops_at_end text at (omega (arith, w.loop-at-test.false, i.1.within))
     ] in
     let p = err_from_is_err_and c.from_residual-in_err-in_limits.result c.from_residual-in_err-in_limits.ensures.1 in
-    rw (p.1, p.2) (limited_fails_from text c.args.from at i.0 i.1 stop c.in_err-in_limits.field-0.0 (c.in_err-in_limits.ensures.err i.0 i.2))
+    rw (p.1, p.2) (limited_fails_from text c.args.from at i.0 i.1 stop c.in_err-in_limits.field-0.0
+    (c.in_err-in_limits.ensures.err i.0 i.2))
 
 pub returns-clause-read : goal.returns-clause-read
 returns-clause-read c =
@@ -36,7 +41,8 @@ returns-clause-read c =
     let text = c.args.text.now in
     let at = c.loop-at.at in
     let stop : begins_piece (next_of (drop at text)) ≡ false = elim c.loop-at-test.branch [
-      | then-loop-at-test+else-begins_piece w ↦ stops_there text at w.loop-at-test.true (sym w.begins_piece.ensures ∙ w.if-begins_piece.false)
+      | then-loop-at-test+else-begins_piece w ↦ stops_there text at w.loop-at-test.true
+          (sym w.begins_piece.ensures ∙ w.if-begins_piece.false)
       | else-loop-at-test w ↦ stops_at_end text at (omega (arith, w.loop-at-test.false, i.1.within))
     ] in
     let built = c.in_ok-in_limits.ensures.ok i.0 i.2 in

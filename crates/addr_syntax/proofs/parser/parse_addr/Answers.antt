@@ -9,15 +9,18 @@ pub returns-clause-read : goal.returns-clause-read
 returns-clause-read c =
     let i = c.loop-at.invariant in
     let e : c.loop-at.at ≡ length c.args.text.now = omega (arith, c.loop-at-test.false, i.1.within) in
-    let all : Reaches c.args.text.now (length c.args.text.now) i.0 = subst (λ (k : ℕ). Reaches c.args.text.now k i.0) e i.1 in
+    let all : Reaches c.args.text.now (length c.args.text.now) i.0 = subst (λ (k : ℕ). Reaches c.args.text.now k i.0) e
+    i.1 in
     IfOk-weaker c.finish.result _ _ (λ a f. finish_reads c.args.text.now i.0 all a (f i.0 i.2).0) c.finish.ensures.ok
 
 pub returns-clause-refused : goal.returns-clause-refused
 returns-clause-refused c =
     let i = c.loop-at.invariant in
     let e : c.loop-at.at ≡ length c.args.text.now = omega (arith, c.loop-at-test.false, i.1.within) in
-    let all : Reaches c.args.text.now (length c.args.text.now) i.0 = subst (λ (k : ℕ). Reaches c.args.text.now k i.0) e i.1 in
-    IfErr-weaker c.finish.result _ _ (λ fault f. finish_refuses c.args.text.now i.0 all fault (subst (λ (k : ℕ). FinishFails k i.0 fault) e (f i.0 i.2))) c.finish.ensures.err
+    let all : Reaches c.args.text.now (length c.args.text.now) i.0 = subst (λ (k : ℕ). Reaches c.args.text.now k i.0) e
+    i.1 in
+    IfErr-weaker c.finish.result _ _ (λ fault f. finish_refuses c.args.text.now i.0 all fault
+    (subst (λ (k : ℕ). FinishFails k i.0 fault) e (f i.0 i.2))) c.finish.ensures.err
 
 pub loop-at-preserved : goal.loop-at-preserved
 loop-at-preserved c =
@@ -29,4 +32,5 @@ pub returns-in_err-next-clause-refused : goal.returns-in_err-next-clause-refused
 returns-in_err-next-clause-refused c =
     let i = c.loop-at.invariant in
     let p = err_from_is_err_and c.from_residual.result c.from_residual.ensures.1 in
-    rw (p.1, p.2) (step_refuses c.args.text.now c.loop-at.at i.0 i.1 c.loop-at-test.true c.in_err-next.field-0.0 (c.in_err-next.ensures.err i.0 i.2))
+    rw (p.1, p.2) (step_refuses c.args.text.now c.loop-at.at i.0 i.1 c.loop-at-test.true c.in_err-next.field-0.0
+    (c.in_err-next.ensures.err i.0 i.2))

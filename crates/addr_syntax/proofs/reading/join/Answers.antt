@@ -6,8 +6,11 @@ use Rattle.addr_syntax.proofs.reading.join.Goals as goal
 
 pub returns-in_ok-with_stands-in-Stands-clause-some : goal.returns-in_ok-with_stands-in-Stands-clause-some
 returns-in_ok-with_stands-in-Stands-clause-some c = λ r p f t.
-    let token = rw c.in-Stands.is at t in
-    (join_part r token.0, ap (after_piece r) token.1 ∙ stands_joins r token.0 token.3, c.in_ok-with_stands-in-Stands.ensures r token.0 f token.2)
+    let token = rw c.in-Stands.is at t in (
+      join_part r token.0,
+      ap (after_piece r) token.1 ∙ stands_joins r token.0 token.3,
+      c.in_ok-with_stands-in-Stands.ensures r token.0 f token.2,
+    )
 
 pub returns-in-Begins-clause-some : goal.returns-in-Begins-clause-some
 returns-in-Begins-clause-some c =

@@ -10,7 +10,8 @@ loop-rest-preserved c =
     let P : Did → Type 0 = λ d. DidLine d c.loop-rest.journal c.split_line.result.0.now c.put_line.new.journal in
     record {
       count = omega (arith, c.loop-rest.invariant.count, c.split_line.ensures.shorter);
-      read = goes_on c.loop-rest.journal c.put_line.new.journal c.loop-rest.k c.split_line.result.0.now c.loop-rest.rest.now c.split_line.result.1.now _
+      read = goes_on c.loop-rest.journal c.put_line.new.journal c.loop-rest.k c.split_line.result.0.now
+          c.loop-rest.rest.now c.split_line.result.1.now _
           c.split_line.ensures.lines (subst P c.in-Read.is c.in_ok-put_line.ensures.did) c.loop-rest.invariant.read;
       lawful = c.in_ok-put_line.ensures.lawful;
       in_range = c.in_ok-put_line.ensures.in_range;
@@ -21,7 +22,8 @@ returns-in-Report-clause-exact c =
     let P : Did → Type 0 = λ d. DidLine d c.loop-rest.journal c.split_line.result.0.now c.put_line.new.journal in
     let did = subst P c.in-Report.is c.in_ok-put_line.ensures.did in
     c.at_end.ensures
-    ∙ stops_at c.loop-rest.journal c.loop-rest.k c.split_line.result.0.now c.loop-rest.rest.now c.split_line.result.1.now _ _ c.split_line.ensures.lines
+    ∙ stops_at c.loop-rest.journal c.loop-rest.k c.split_line.result.0.now c.loop-rest.rest.now
+    c.split_line.result.1.now _ _ c.split_line.ensures.lines
     (λ go. did c.loop-rest.k go) c.loop-rest.invariant.read
 
 pub returns-in-Nothing-clause-exact : goal.returns-in-Nothing-clause-exact
@@ -29,10 +31,12 @@ returns-in-Nothing-clause-exact c =
     let P : Did → Type 0 = λ d. DidLine d c.loop-rest.journal c.split_line.result.0.now c.put_line.new.journal in
     let did = subst P c.in-Nothing.is c.in_ok-put_line.ensures.did in
     c.refused_at.ensures
-    ∙ stops_at c.loop-rest.journal c.loop-rest.k c.split_line.result.0.now c.loop-rest.rest.now c.split_line.result.1.now _ _ c.split_line.ensures.lines
+    ∙ stops_at c.loop-rest.journal c.loop-rest.k c.split_line.result.0.now c.loop-rest.rest.now
+    c.split_line.result.1.now _ _ c.split_line.ensures.lines
     (λ go. did c.loop-rest.k go) c.loop-rest.invariant.read
 
 pub returns-clause-exact : goal.returns-clause-exact
 returns-clause-exact c =
     let nothing : length c.loop-rest.rest.now ≡ 0 = grind (arith, common_steps) in
-    c.at_end-2.ensures ∙ ends_at c.loop-rest.journal c.loop-rest.k c.loop-rest.rest.now _ nothing c.loop-rest.invariant.read
+    c.at_end-2.ensures ∙ ends_at c.loop-rest.journal c.loop-rest.k c.loop-rest.rest.now _ nothing
+    c.loop-rest.invariant.read

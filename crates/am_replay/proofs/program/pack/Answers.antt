@@ -7,6 +7,7 @@ use Rattle.am_replay.proofs.program.pack.Goals as goal
 
 pub returns-in-Err-TooLong-clause-says : goal.returns-in-Err-TooLong-clause-says
 returns-in-Err-TooLong-clause-says g c =
-    let P : ReadStop → Type 0 = λ x. StopsFor x (g.I.Source.told c.args.input.now) (g.I.Source.told c.read_to_end.new.source) pack_limit in
+    let P : ReadStop → Type 0 = λ x. StopsFor x (g.I.Source.told c.args.input.now)
+    (g.I.Source.told c.read_to_end.new.source) pack_limit in
     let stopped = subst P c.in-Err-TooLong.field-0-is c.in-Err-TooLong.ensures.err in
     says_long c.refuse_input.result.end (g.I.Source.told c.args.input.now) _ _ _ stopped.0 c.refuse_input.ensures.packs

@@ -7,15 +7,19 @@ use Rattle.am_replay.proofs.replaying.refuse_input.Goals as goal
 pub returns-in-Ok-clause-ran : goal.returns-in-Ok-clause-ran
 returns-in-Ok-clause-ran g c =
     rw (c.no_events.ensures.end, c.no_events.ensures.journal)
-    (ran_refused c.put-failed.result _ c.as_slice.result.now (c.as_slice.ensures ∙ c.in-Ok.ensures) c.put-failed.ensures)
+    (ran_refused c.put-failed.result _ c.as_slice.result.now (c.as_slice.ensures ∙ c.in-Ok.ensures)
+    c.put-failed.ensures)
 
 pub returns-in-Err-clause-ran : goal.returns-in-Err-clause-ran
-returns-in-Err-clause-ran g c = rw (c.no_events-in-Err.ensures.end, c.no_events-in-Err.ensures.journal) (ran_none _ (g.O.Sink.told c.args.output.now))
+returns-in-Err-clause-ran g c = rw (c.no_events-in-Err.ensures.end, c.no_events-in-Err.ensures.journal)
+    (ran_none _ (g.O.Sink.told c.args.output.now))
 
 pub returns-in-Ok-clause-traces : goal.returns-in-Ok-clause-traces
 returns-in-Ok-clause-traces g c =
     rw (c.no_events.ensures.end, c.no_events.ensures.journal)
-    (traces_refused c.put-failed.result _ c.as_slice.result.now (c.as_slice.ensures ∙ c.in-Ok.ensures) c.put-failed.ensures)
+    (traces_refused c.put-failed.result _ c.as_slice.result.now (c.as_slice.ensures ∙ c.in-Ok.ensures)
+    c.put-failed.ensures)
 
 pub returns-in-Err-clause-traces : goal.returns-in-Err-clause-traces
-returns-in-Err-clause-traces g c = rw (c.no_events-in-Err.ensures.end, c.no_events-in-Err.ensures.journal) (traces_none (refused_at [] 0 (codes "input")) (g.O.Sink.told c.args.output.now))
+returns-in-Err-clause-traces g c = rw (c.no_events-in-Err.ensures.end, c.no_events-in-Err.ensures.journal)
+    (traces_none (refused_at [] 0 (codes "input")) (g.O.Sink.told c.args.output.now))

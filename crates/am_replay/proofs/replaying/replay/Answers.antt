@@ -16,11 +16,13 @@ returns-in-Ok-clause-says g c =
 
 pub returns-in-Err-TooLong-clause-says : goal.returns-in-Err-TooLong-clause-says
 returns-in-Err-TooLong-clause-says g c =
-    let P : ReadStop → Type 0 = λ x. StopsFor x (g.I.Source.told c.args.input.now) (g.I.Source.told c.read_to_end.new.source) input_limit in
+    let P : ReadStop → Type 0 = λ x. StopsFor x (g.I.Source.told c.args.input.now)
+    (g.I.Source.told c.read_to_end.new.source) input_limit in
     let stopped = subst P c.in-Err-TooLong.field-0-is c.in-Err-TooLong.ensures.err in
     says_long c.refuse_input.result.end (g.I.Source.told c.args.input.now) _ _ _ stopped.0 c.refuse_input.ensures.ran
 
 pub returns-in-Err-NoMemory-clause-says : goal.returns-in-Err-NoMemory-clause-says
 returns-in-Err-NoMemory-clause-says g c =
     rw (c.no_events-in-Err-NoMemory.ensures.end, c.no_events-in-Err-NoMemory.ensures.journal)
-    (says_none (g.I.Source.told c.args.input.now) (g.I.Source.told c.read_to_end.new.source) (g.O.Sink.told c.args.output.now))
+    (says_none (g.I.Source.told c.args.input.now) (g.I.Source.told c.read_to_end.new.source)
+    (g.O.Sink.told c.args.output.now))

@@ -22,32 +22,38 @@ pub loop-rest-preserved : goal.loop-rest-preserved
 loop-rest-preserved g c = record {
   count = omega (arith, c.loop-rest.invariant.count, c.split_line.ensures.shorter);
   settled = c.do_line.ensures.settled;
-  script = goes_on c.loop-rest.core.journal c.do_line.new.core.journal c.loop-rest.k c.split_line.result.0.now c.loop-rest.rest.now c.split_line.result.1.now _
+  script = goes_on c.loop-rest.core.journal c.do_line.new.core.journal c.loop-rest.k c.split_line.result.0.now
+      c.loop-rest.rest.now c.split_line.result.1.now _
       c.split_line.ensures.lines c.in-Event.ensures.did c.loop-rest.invariant.script;
-  wrote = wrote_event c.loop-rest.failed c.put-failed.result _ _ _ c.loop-rest.core.journal c.do_line.new.core.journal c.as_slice.result.now
+  wrote = wrote_event c.loop-rest.failed c.put-failed.result _ _ _ c.loop-rest.core.journal c.do_line.new.core.journal
+      c.as_slice.result.now
       c.in-Event.ensures.did.1 (c.as_slice.ensures ∙ c.in-Ok.ensures) c.loop-rest.invariant.wrote c.put-failed.ensures;
 }
 
 pub returns-in-Err-clause-stops : goal.returns-in-Err-clause-stops
 returns-in-Err-clause-stops g c =
     front_of c.do_line.new.core.journal (c.loop-rest.k + 1) c.split_line.result.1.now _
-    (goes_on c.loop-rest.core.journal c.do_line.new.core.journal c.loop-rest.k c.split_line.result.0.now c.loop-rest.rest.now c.split_line.result.1.now _
+    (goes_on c.loop-rest.core.journal c.do_line.new.core.journal c.loop-rest.k c.split_line.result.0.now
+    c.loop-rest.rest.now c.split_line.result.1.now _
     c.split_line.ensures.lines c.in-Event.ensures.did c.loop-rest.invariant.script)
 
 pub returns-in-Report-clause-stops : goal.returns-in-Report-clause-stops
 returns-in-Report-clause-stops g c =
-    stops_at c.loop-rest.core.journal c.do_line.new.core.journal c.loop-rest.k c.split_line.result.0.now c.loop-rest.rest.now c.split_line.result.1.now _ _
+    stops_at c.loop-rest.core.journal c.do_line.new.core.journal c.loop-rest.k c.split_line.result.0.now
+    c.loop-rest.rest.now c.split_line.result.1.now _ _
     c.split_line.ensures.lines c.in-Report.ensures.did.0 c.loop-rest.invariant.script
 
 pub returns-in-Refused-clause-stops : goal.returns-in-Refused-clause-stops
 returns-in-Refused-clause-stops g c =
-    stops_at c.loop-rest.core.journal c.do_line.new.core.journal c.loop-rest.k c.split_line.result.0.now c.loop-rest.rest.now c.split_line.result.1.now _ _
+    stops_at c.loop-rest.core.journal c.do_line.new.core.journal c.loop-rest.k c.split_line.result.0.now
+    c.loop-rest.rest.now c.split_line.result.1.now _ _
     c.split_line.ensures.lines c.in-Refused.ensures.did.0 c.loop-rest.invariant.script
 
 pub returns-in-NoMemory-clause-stops : goal.returns-in-NoMemory-clause-stops
 returns-in-NoMemory-clause-stops g c =
     let P : List Event → Type 0 = λ x. IsFront x (play [] 1 (lines_of c.args.input.now)).events in
-    subst P (sym c.in-NoMemory.ensures.did) (front_of c.loop-rest.core.journal c.loop-rest.k c.loop-rest.rest.now _ c.loop-rest.invariant.script)
+    subst P (sym c.in-NoMemory.ensures.did) (front_of c.loop-rest.core.journal c.loop-rest.k c.loop-rest.rest.now _
+    c.loop-rest.invariant.script)
 
 pub returns-clause-stops : goal.returns-clause-stops
 returns-clause-stops g c =

@@ -10,4 +10,5 @@ pub words_of-requires : goal.words_of-requires
 words_of-requires c =
     let P : List Event → Type 0 = λ l. IsPlayed enabled l in
     subst IsLawful (sym c.index-entries-last.is)
-    (played_lawful [] _ _ c.index-entries-last.result (subst P (sym c.journal-entries.ensures) c.events_were_enabled.ensures) (omega (arith, ap length c.journal-entries.ensures)))
+    (played_lawful [] _ _ c.index-entries-last.result (subst P (sym c.journal-entries.ensures)
+    c.events_were_enabled.ensures) (omega (arith, ap length c.journal-entries.ensures)))

@@ -27,39 +27,49 @@ pub loop-rest-preserved : goal.loop-rest-preserved
 loop-rest-preserved g c = record {
   count = omega (arith, c.loop-rest.invariant.count, c.split_line.ensures.shorter);
   settled = c.do_line.ensures.settled;
-  script = goes_on c.loop-rest.core.journal c.do_line.new.core.journal c.loop-rest.k c.split_line.result.0.now c.loop-rest.rest.now c.split_line.result.1.now _
+  script = goes_on c.loop-rest.core.journal c.do_line.new.core.journal c.loop-rest.k c.split_line.result.0.now
+      c.loop-rest.rest.now c.split_line.result.1.now _
       c.split_line.ensures.lines c.in-Event.ensures.did c.loop-rest.invariant.script;
-  wrote = wrote_entry c.loop-rest.failed c.put-failed.result _ _ _ c.loop-rest.core.journal c.do_line.new.core.journal c.as_slice.result.now
-      c.in-Event.ensures.did.1 (λ b e is. c.as_slice.ensures ∙ c.in-Ok.ensures.text b e is) c.loop-rest.invariant.wrote c.put-failed.ensures;
-  worded = words_entry c.loop-rest.core.journal c.do_line.new.core.journal c.in-Event.ensures.did.1 c.loop-rest.invariant.worded c.in-Ok.ensures.worded;
+  wrote = wrote_entry c.loop-rest.failed c.put-failed.result _ _ _ c.loop-rest.core.journal c.do_line.new.core.journal
+      c.as_slice.result.now
+      c.in-Event.ensures.did.1 (λ b e is. c.as_slice.ensures ∙ c.in-Ok.ensures.text b e is) c.loop-rest.invariant.wrote
+      c.put-failed.ensures;
+  worded = words_entry c.loop-rest.core.journal c.do_line.new.core.journal c.in-Event.ensures.did.1
+      c.loop-rest.invariant.worded c.in-Ok.ensures.worded;
 }
 
 pub returns-in-Err-clause-stops : goal.returns-in-Err-clause-stops
 returns-in-Err-clause-stops g c =
     front_of c.do_line.new.core.journal (c.loop-rest.k + 1) c.split_line.result.1.now _
-    (goes_on c.loop-rest.core.journal c.do_line.new.core.journal c.loop-rest.k c.split_line.result.0.now c.loop-rest.rest.now c.split_line.result.1.now _
+    (goes_on c.loop-rest.core.journal c.do_line.new.core.journal c.loop-rest.k c.split_line.result.0.now
+    c.loop-rest.rest.now c.split_line.result.1.now _
     c.split_line.ensures.lines c.in-Event.ensures.did c.loop-rest.invariant.script)
 
 pub returns-in-Err-clause-shown : goal.returns-in-Err-clause-shown
-returns-in-Err-clause-shown g c = short_of c.loop-rest.core.journal c.do_line.new.core.journal _ _ c.in-Event.ensures.did.1 c.loop-rest.invariant.wrote
+returns-in-Err-clause-shown g c = short_of c.loop-rest.core.journal c.do_line.new.core.journal _ _
+    c.in-Event.ensures.did.1 c.loop-rest.invariant.wrote
 
 pub returns-in-Report-clause-stops : goal.returns-in-Report-clause-stops
 returns-in-Report-clause-stops g c =
-    stops_at c.loop-rest.core.journal c.do_line.new.core.journal c.loop-rest.k c.split_line.result.0.now c.loop-rest.rest.now c.split_line.result.1.now _ _
+    stops_at c.loop-rest.core.journal c.do_line.new.core.journal c.loop-rest.k c.split_line.result.0.now
+    c.loop-rest.rest.now c.split_line.result.1.now _ _
     c.split_line.ensures.lines c.in-Report.ensures.did.0 c.loop-rest.invariant.script
 
 pub returns-in-Refused-clause-stops : goal.returns-in-Refused-clause-stops
 returns-in-Refused-clause-stops g c =
-    stops_at c.loop-rest.core.journal c.do_line.new.core.journal c.loop-rest.k c.split_line.result.0.now c.loop-rest.rest.now c.split_line.result.1.now _ _
+    stops_at c.loop-rest.core.journal c.do_line.new.core.journal c.loop-rest.k c.split_line.result.0.now
+    c.loop-rest.rest.now c.split_line.result.1.now _ _
     c.split_line.ensures.lines c.in-Refused.ensures.did.0 c.loop-rest.invariant.script
 
 pub returns-in-NoMemory-clause-stops : goal.returns-in-NoMemory-clause-stops
 returns-in-NoMemory-clause-stops g c =
     let P : List Event → Type 0 = λ x. IsFront x (play [] 1 (lines_of c.args.input.now)).events in
-    subst P (sym c.in-NoMemory.ensures.did) (front_of c.loop-rest.core.journal c.loop-rest.k c.loop-rest.rest.now _ c.loop-rest.invariant.script)
+    subst P (sym c.in-NoMemory.ensures.did) (front_of c.loop-rest.core.journal c.loop-rest.k c.loop-rest.rest.now _
+    c.loop-rest.invariant.script)
 
 pub returns-in-NoMemory-clause-shown : goal.returns-in-NoMemory-clause-shown
-returns-in-NoMemory-clause-shown g c = none_done c.loop-rest.core.journal c.do_line.new.core.journal _ _ c.in-NoMemory.ensures.did c.loop-rest.invariant.wrote
+returns-in-NoMemory-clause-shown g c = none_done c.loop-rest.core.journal c.do_line.new.core.journal _ _
+    c.in-NoMemory.ensures.did c.loop-rest.invariant.wrote
 
 pub returns-clause-stops : goal.returns-clause-stops
 returns-clause-stops g c =

@@ -10,7 +10,8 @@ use Rattle.am_words.proofs.commands.parse_drill.Goals as goal
 abbrev texts : List (Bor (List ℕ)) → List (List ℕ)
 texts = map (λ word. word.now)
 
-rows_are : (rows : List Row) (a : App) (words : List (List ℕ)) → rows ≡ matches_of a words → a ≡ drill → rows ≡ matches_of drill words
+rows_are : (rows : List Row) (a : App) (words : List (List ℕ)) → rows ≡ matches_of a words
+    → a ≡ drill → rows ≡ matches_of drill words
 rows_are rows a words is e = is ∙ ap (λ (b : App). matches_of b words) e
 
 pub matches_of-requires : goal.matches_of-requires
@@ -27,12 +28,14 @@ value_of-requires c =
 pub unreachable-requires : goal.unreachable-requires
 unreachable-requires c =
     let is = drill_number (texts c.args.words.now) _ c.value_of.result.now c.as_bytes.result.now c.requires
-    (rows_are _ _ _ c.in_ok-matches.ensures c.in_ok-drill_command.ensures) c.value_of.ensures c.as_bytes.ensures.value in
+    (rows_are _ _ _ c.in_ok-matches.ensures c.in_ok-drill_command.ensures) c.value_of.ensures
+    c.as_bytes.ensures.value in
     let none = ap is_some (sym (is ∙ (sym c.rounds_of.ensures ∙ c.in-None.is))) ∙ c.requires in
     cc
 
 pub returns : goal.returns
 returns c =
     let is = drill_number (texts c.args.words.now) _ c.value_of.result.now c.as_bytes.result.now c.requires
-    (rows_are _ _ _ c.in_ok-matches.ensures c.in_ok-drill_command.ensures) c.value_of.ensures c.as_bytes.ensures.value in
+    (rows_are _ _ _ c.in_ok-matches.ensures c.in_ok-drill_command.ensures) c.value_of.ensures
+    c.as_bytes.ensures.value in
     is ∙ (sym c.rounds_of.ensures ∙ c.in-Some.is)

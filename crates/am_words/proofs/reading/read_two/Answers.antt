@@ -23,7 +23,8 @@ pub returns-in_ok-parse_serve-in-Some-clause-some : goal.returns-in_ok-parse_ser
 returns-in_ok-parse_serve-in-Some-clause-some c =
     let asks : is_some (in_two c.args.first.now c.args.second.now) ≡ true = sym c.if-not-asks_in_two.ensures in
     let texts = c.in-Some.ensures.some in
-    sym (two_read _ _ asks).read ∙ ((λ i. serve_reads (sym texts.0 i ∷ sym texts.1 i ∷ [])) ∙ c.in_ok-parse_serve-in-Some.ensures)
+    sym (two_read _ _ asks).read ∙ ((λ i. serve_reads (sym texts.0 i ∷ sym texts.1 i ∷ []))
+    ∙ c.in_ok-parse_serve-in-Some.ensures)
 
 pub returns-in-None-clause-none : goal.returns-in-None-clause-none
 returns-in-None-clause-none c =

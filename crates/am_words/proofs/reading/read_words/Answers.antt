@@ -10,10 +10,16 @@ returns-in_err-path-clause-known c =
     search rules
 
 pub returns-in-Some-2-clause-asked : goal.returns-in-Some-2-clause-asked
-returns-in-Some-2-clause-asked c = (rw c.in-Some-2.is at c.in_ok-path.ensures.some, IsUtf8-string_bytes c.in-Some-2.field-0.path)
+returns-in-Some-2-clause-asked c = (
+  rw c.in-Some-2.is at c.in_ok-path.ensures.some,
+  IsUtf8-string_bytes c.in-Some-2.field-0.path,
+)
 
 pub returns-in-Some-2-clause-limits : goal.returns-in-Some-2-clause-limits
 returns-in-Some-2-clause-limits c = serve_within c.args.words.now _ _ (rw c.in-Some-2.is at c.in_ok-path.ensures.some)
 
 pub returns-in-Some-3-clause-asked : goal.returns-in-Some-3-clause-asked
-returns-in-Some-3-clause-asked c = (rw c.in-Some-3.is at c.in_ok-path-2.ensures.some, IsUtf8-string_bytes c.in-Some-3.field-0.path)
+returns-in-Some-3-clause-asked c = (
+  rw c.in-Some-3.is at c.in_ok-path-2.ensures.some,
+  IsUtf8-string_bytes c.in-Some-3.field-0.path,
+)

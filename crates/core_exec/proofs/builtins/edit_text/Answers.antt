@@ -5,4 +5,5 @@ use Rattle.core_exec.proofs.builtins.edit_text.Goals as goal
 
 pub returns-clause-ok : goal.returns-clause-ok
 returns-clause-ok c =
-    on_ok_weaker c.edit.result (λ did. edited_too c.args.entry (scene_of c.args.scene.now) (scene_of c.edit.new.scene) c.args.window _ _ c.as_slice.ensures did) c.edit.ensures.ok
+    on_ok_weaker c.edit.result (λ did. edited_too c.args.entry (scene_of c.args.scene.now) (scene_of c.edit.new.scene)
+    c.args.window _ _ c.as_slice.ensures did) c.edit.ensures.ok

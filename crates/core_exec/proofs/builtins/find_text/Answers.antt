@@ -5,4 +5,5 @@ use Rattle.core_exec.proofs.builtins.find_text.Goals as goal
 
 pub returns-clause-ok : goal.returns-clause-ok
 returns-clause-ok c =
-    on_ok_weaker c.find.result (λ did. found_too c.args.entry (scene_of c.args.scene.now) (scene_of c.find.new.scene) c.args.window _ _ c.as_slice.ensures did) c.find.ensures.ok
+    on_ok_weaker c.find.result (λ did. found_too c.args.entry (scene_of c.args.scene.now) (scene_of c.find.new.scene)
+    c.args.window _ _ c.as_slice.ensures did) c.find.ensures.ok

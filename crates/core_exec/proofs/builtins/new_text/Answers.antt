@@ -5,4 +5,5 @@ use Rattle.core_exec.proofs.builtins.new_text.Goals as goal
 
 pub returns-clause-ok : goal.returns-clause-ok
 returns-clause-ok c =
-    on_ok_weaker c.new_window.result (λ did. new_too c.args.entry (scene_of c.args.scene.now) (scene_of c.new_window.new.scene) c.args.window _ _ c.as_slice.ensures did) c.new_window.ensures.ok
+    on_ok_weaker c.new_window.result (λ did. new_too c.args.entry (scene_of c.args.scene.now)
+    (scene_of c.new_window.new.scene) c.args.window _ _ c.as_slice.ensures did) c.new_window.ensures.ok

@@ -11,4 +11,7 @@ pub returns-clause-ok : goal.returns-clause-ok
 returns-clause-ok c =
     let before = scene_of c.args.scene.now in
     let o = paste_outcome c.args.window before in
-    on_ok_weaker c.say.result (λ did. said_of c.args.entry before (scene_of c.paste.new.scene) (scene_of c.say.new.scene) o o c.in_ok-dir.dir (dir_of (window_at before.windows c.args.window)) (codes "Paste") c.in_ok-fault.fault refl c.in_ok-fault.ensures.ok c.in_ok-dir.ensures c.in_ok-fault.ensures.fault did) c.say.ensures.ok
+    on_ok_weaker c.say.result (λ did. said_of c.args.entry before (scene_of c.paste.new.scene)
+    (scene_of c.say.new.scene) o o c.in_ok-dir.dir (dir_of (window_at before.windows c.args.window)) (codes "Paste")
+    c.in_ok-fault.fault refl c.in_ok-fault.ensures.ok c.in_ok-dir.ensures c.in_ok-fault.ensures.fault did)
+    c.say.ensures.ok

@@ -6,4 +6,5 @@ use Rattle.core_plumb.proofs.editing.open_if_any.Goals as goal
 
 pub returns-in-Some-clause-ok : goal.returns-in-Some-clause-ok
 returns-in-Some-clause-ok c =
-    on_ok_weaker c.open.result (λ did. shown_too c.args.entry (scene_of c.args.scene.now) (scene_of c.open.new.scene) (Some c.in-Some.target) c.args.target _ _ (sym c.in-Some.is) c.slice_if_any.ensures did) c.open.ensures.ok
+    on_ok_weaker c.open.result (λ did. shown_too c.args.entry (scene_of c.args.scene.now) (scene_of c.open.new.scene)
+    (Some c.in-Some.target) c.args.target _ _ (sym c.in-Some.is) c.slice_if_any.ensures did) c.open.ensures.ok

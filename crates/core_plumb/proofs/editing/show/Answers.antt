@@ -5,4 +5,6 @@ use Rattle.core_plumb.proofs.editing.show.Goals as goal
 
 pub returns-clause-ok : goal.returns-clause-ok
 returns-clause-ok c =
-    on_ok_weaker c.open_if_any.result (λ did. shown_too c.args.entry (scene_of c.args.scene.now) (scene_of c.open_if_any.new.scene) c.in_ok-target.target _ c.in_ok-address.address _ c.in_ok-target.ensures.exact c.in_ok-address.ensures did) c.open_if_any.ensures.ok
+    on_ok_weaker c.open_if_any.result (λ did. shown_too c.args.entry (scene_of c.args.scene.now)
+    (scene_of c.open_if_any.new.scene) c.in_ok-target.target _ c.in_ok-address.address _
+    c.in_ok-target.ensures.exact c.in_ok-address.ensures did) c.open_if_any.ensures.ok

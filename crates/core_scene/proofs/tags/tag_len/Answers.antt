@@ -7,4 +7,5 @@ use Rattle.core_scene.proofs.tags.tag_len.Goals as goal
 
 pub returns : goal.returns
 returns c =
-    IfOk-weaker c.whole.result _ _ (λ runes h. h ∙ (ap whole_size c.of.ensures ∙ sym (sized_whole (window_of c.args.pane.now)))) c.whole.ensures
+    IfOk-weaker c.whole.result _ _ (λ runes h. h ∙ (ap whole_size c.of.ensures
+    ∙ sym (sized_whole (window_of c.args.pane.now)))) c.whole.ensures

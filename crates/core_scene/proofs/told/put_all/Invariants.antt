@@ -7,4 +7,5 @@ abbrev pub invariant-loop-item : goal.invariant-loop-item
 invariant-loop-item l =
     (goal.iterator-loop-item).can_next l.item-iterator ×
     (goal.iterator-loop-item).is_finite l.item-iterator ×
-    (l.items ++ map (of_window l.window) l.item-iterator.rest.items ≡ l.initial.items ++ map (of_window l.window) l.initial.item-iterator.rest.items)
+    (l.items ++ map (of_window l.window) l.item-iterator.rest.items ≡ l.initial.items ++ map (of_window l.window)
+    l.initial.item-iterator.rest.items)

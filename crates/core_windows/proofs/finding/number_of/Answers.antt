@@ -9,8 +9,10 @@ use Rattle.core_windows.proofs.finding.number_of.Goals as goal
 
 pub returns-clause-number : goal.returns-clause-number
 returns-clause-number c =
-    c.number_at.ensures ∙ ap (λ (o : Option ℕ). option_map (λ (k : ℕ). k + 1) o) c.named_place.ensures.exact ∙ sym (named_is c.args.panes.now c.args.name.now)
+    c.number_at.ensures ∙ ap (λ (o : Option ℕ). option_map (λ (k : ℕ). k + 1) o) c.named_place.ensures.exact
+    ∙ sym (named_is c.args.panes.now c.args.name.now)
 
 pub returns-clause-lives : goal.returns-clause-lives
 returns-clause-lives c =
-    subst (λ (o : Option ℕ). IfSome o (λ w. IsSome (window_at (windows_of c.args.panes.now) w))) (sym c.number_at.ensures) (lives_at c.args.panes.now c.named_place.result c.named_place.ensures.lives)
+    subst (λ (o : Option ℕ). IfSome o (λ w. IsSome (window_at (windows_of c.args.panes.now) w)))
+    (sym c.number_at.ensures) (lives_at c.args.panes.now c.named_place.result c.named_place.ensures.lives)

@@ -6,7 +6,8 @@ use Rattle.core_windows.proofs.places.undo_all.Given as goal
 abbrev pub invariant-loop-step : goal.invariant-loop-step
 invariant-loop-step l = record {
   can : CanGoBack l.trail.items (shapes_of l.panes.items);
-  shapes : all_undone l.trail.items (shapes_of l.panes.items) ≡ all_undone l.initial.trail.items (shapes_of l.initial.panes.items);
+  shapes : all_undone l.trail.items (shapes_of l.panes.items) ≡ all_undone l.initial.trail.items
+      (shapes_of l.initial.panes.items);
 }
 
 abbrev pub decreases-loop-step : goal.decreases-loop-step

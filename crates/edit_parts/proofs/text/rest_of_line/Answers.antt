@@ -6,5 +6,7 @@ use Rattle.edit_parts.proofs.text.rest_of_line.Goals as goal
 
 pub returns : goal.returns
 returns c =
-    subst (λ (t : List ℕ). IsReadBy (RestOfLine t) c.args.text.now c.args.from c.line_end-end.result) (sym c.in_ok-copied.ensures)
-    (line_read c.args.text.now c.args.from c.line_end-end.result c.requires c.line_end-end.ensures.exact c.line_end-end.ensures.within)
+    subst (λ (t : List ℕ). IsReadBy (RestOfLine t) c.args.text.now c.args.from c.line_end-end.result)
+    (sym c.in_ok-copied.ensures)
+    (line_read c.args.text.now c.args.from c.line_end-end.result c.requires c.line_end-end.ensures.exact
+    c.line_end-end.ensures.within)

@@ -14,5 +14,6 @@ returns-clause-dot g c =
     let edits = c.in_ok-edits.edits in
     let ranged = c.in_ok-edits.ensures.in_range t (sym c.len.ensures) in
     let inside = dot_inside t last edits c.in_ok-run.ensures.within.last ranged in
-    let same : c.in_ok-dot.dot ≡ dot_after last edits = c.in_ok-dot.ensures ∙ ap (λ (x : List Edit). dot_after last x) c.as_slice.ensures in
+    let same : c.in_ok-dot.dot ≡ dot_after last edits = c.in_ok-dot.ensures ∙ ap (λ (x : List Edit). dot_after last x)
+    c.as_slice.ensures in
     subst (λ (x : Range). IsInside (text_after t edits) x) (sym same) inside

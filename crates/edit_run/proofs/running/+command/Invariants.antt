@@ -14,7 +14,8 @@ invariant-run_all-loop-cmd g l =
       kept : AreOf l.rest (drop l.cmd-index l.commands);
       cursor : IsCursorOf t l.doing.cursor;
       within : IsWithin t l.doing.effects;
-      same : do_list (drop l.cmd-index l.commands) t l.over.site.now l.dot l.doing.effects ≡ do_list l.commands t l.over.site.now l.dot l.fn.doing.effects;
+      same : do_list (drop l.cmd-index l.commands) t l.over.site.now l.dot l.doing.effects ≡ do_list l.commands t
+          l.over.site.now l.dot l.fn.doing.effects;
     }
 
 abbrev pub invariant-run_each-loop-rest : goal.invariant-run_each-loop-rest

@@ -5,4 +5,5 @@ use Rattle.event_book.proofs.file_table.append_kept_ledger.Given as goal
 
 abbrev pub invariant-loop-at : goal.invariant-loop-at
 invariant-loop-at l =
-    l.views ++ ledger_of (files_in kept_of (drop l.at-index l.all)) ≡ l.initial.views ++ ledger_of (files_in kept_of l.all)
+    l.views ++ ledger_of (files_in kept_of (drop l.at-index l.all))
+    ≡ l.initial.views ++ ledger_of (files_in kept_of l.all)

@@ -5,4 +5,5 @@ use Rattle.event_book.proofs.file_table.append_ledger.Given as goal
 
 abbrev pub invariant-loop-at : goal.invariant-loop-at
 invariant-loop-at l =
-    l.views ++ ledger_of (files_in present_of (drop l.at-index l.all)) ≡ l.initial.views ++ ledger_of (files_in present_of l.all)
+    l.views ++ ledger_of (files_in present_of (drop l.at-index l.all))
+    ≡ l.initial.views ++ ledger_of (files_in present_of l.all)

@@ -12,18 +12,25 @@ place_or_insert-requires c =
 
 pub returns-clause-table : goal.returns-clause-table
 returns-clause-table c =
-    let table = subst (λ ws. IsTable ws c.place_or_insert.new.all.items) c.as_slice.ensures.value c.place_or_insert.ensures.table in
-    let touched = subst (λ ws. is_touched ws c.args.window ≡ true) (sym c.in_ok-push.ensures.items) (touched-last c.args.touched.now.items c.args.window) in
-    grown_table _ c.args.window c.in_ok-place.place c.place_or_insert.new.all.items c.index_mut-at.result.now _ table touched c.index_mut-at.ensures.value refl c.in_ok-place.ensures.place refl
+    let table = subst (λ ws. IsTable ws c.place_or_insert.new.all.items) c.as_slice.ensures.value
+    c.place_or_insert.ensures.table in
+    let touched = subst (λ ws. is_touched ws c.args.window ≡ true) (sym c.in_ok-push.ensures.items)
+    (touched-last c.args.touched.now.items c.args.window) in
+    grown_table _ c.args.window c.in_ok-place.place c.place_or_insert.new.all.items c.index_mut-at.result.now _ table
+    touched c.index_mut-at.ensures.value refl c.in_ok-place.ensures.place refl
 
 pub returns-clause-ok : goal.returns-clause-ok
 returns-clause-ok c =
     on_ok_weaker c.enlist.result
-    (λ e. grown_from (λ f. enlisted f c.args.opening) c.args.window c.in_ok-place.place c.place_or_insert.new.all.items (files_in present_of c.args.all.now.items) c.index_mut-at.result.now _ c.place_or_insert.ensures.present c.place_or_insert.ensures.table.rises c.in_ok-place.ensures.place c.index_mut-at.ensures.value refl e)
+    (λ e. grown_from (λ f. enlisted f c.args.opening) c.args.window c.in_ok-place.place c.place_or_insert.new.all.items
+    (files_in present_of c.args.all.now.items) c.index_mut-at.result.now _ c.place_or_insert.ensures.present
+    c.place_or_insert.ensures.table.rises c.in_ok-place.ensures.place c.index_mut-at.ensures.value refl e)
     c.enlist.ensures.ok
 
 pub returns-clause-kept : goal.returns-clause-kept
 returns-clause-kept c =
-    grown_kept c.in_ok-place.place c.place_or_insert.new.all.items c.index_mut-at.result.now _ c.index_mut-at.ensures.value refl
-    (kept_either c.enlist.result c.index_mut-at.result.now.file c.enlist.new.self _ c.enlist.ensures.ok c.enlist.ensures.err)
+    grown_kept c.in_ok-place.place c.place_or_insert.new.all.items c.index_mut-at.result.now _
+    c.index_mut-at.ensures.value refl
+    (kept_either c.enlist.result c.index_mut-at.result.now.file c.enlist.new.self _ c.enlist.ensures.ok
+    c.enlist.ensures.err)
     ∙ c.place_or_insert.ensures.kept

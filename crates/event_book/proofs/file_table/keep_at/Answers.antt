@@ -5,8 +5,10 @@ use Rattle.event_book.proofs.file_table.keep_at.Goals as goal
 
 pub returns-in-Some : goal.returns-in-Some
 returns-in-Some c =
-    let at = subst (λ rs. is_at c.args.window c.in-Some.place rs ≡ true) c.as_slice.ensures.value c.in-Some.ensures.some in
-    kept_one c.args.window c.in-Some.place c.args.all.now.items c.index_mut-at.result.now _ c.requires at c.index_mut-at.ensures.value refl refl c.keep.ensures
+    let at = subst (λ rs. is_at c.args.window c.in-Some.place rs ≡ true) c.as_slice.ensures.value
+    c.in-Some.ensures.some in
+    kept_one c.args.window c.in-Some.place c.args.all.now.items c.index_mut-at.result.now _ c.requires at
+    c.index_mut-at.ensures.value refl refl c.keep.ensures
 
 pub returns-in_default : goal.returns-in_default
 returns-in_default c =

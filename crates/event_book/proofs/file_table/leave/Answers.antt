@@ -6,15 +6,21 @@ use Rattle.event_book.proofs.file_table.leave.Goals as goal
 
 pub returns-in-Some : goal.returns-in-Some
 returns-in-Some c =
-    let at = subst (λ rs. is_at c.args.window c.in-Some.place rs ≡ true) c.as_slice.ensures.value c.in-Some.ensures.some in
-    replaced_as (λ f. left f c.args.opening c.args.at) c.args.window c.in-Some.place c.args.all.now.items c.index_mut-found.result.now _ c.requires.rises at c.index_mut-found.ensures.value (omega (arith, c.in-Some.ensures.within)) c.requires.steady refl refl c.leave.ensures
+    let at = subst (λ rs. is_at c.args.window c.in-Some.place rs ≡ true) c.as_slice.ensures.value
+    c.in-Some.ensures.some in
+    replaced_as (λ f. left f c.args.opening c.args.at) c.args.window c.in-Some.place c.args.all.now.items
+    c.index_mut-found.result.now _ c.requires.rises at c.index_mut-found.ensures.value
+    (omega (arith, c.in-Some.ensures.within)) c.requires.steady refl refl c.leave.ensures
 
 pub returns-in_default : goal.returns-in_default
 returns-in_default c =
     let none = subst (λ rs. has_window c.args.window rs ≡ false) c.as_slice.ensures.value c.in_default.ensures.none in
-    replaced_absent (λ f. left f c.args.opening c.args.at) c.args.window c.args.all.now.items c.requires.rises none c.requires.steady refl
+    replaced_absent (λ f. left f c.args.opening c.args.at) c.args.window c.args.all.now.items c.requires.rises none
+    c.requires.steady refl
 
 pub leave-requires : goal.leave-requires
 leave-requires c =
-    let at = subst (λ rs. is_at c.args.window c.in-Some.place rs ≡ true) c.as_slice.ensures.value c.in-Some.ensures.some in
-    steady_at c.args.window c.in-Some.place c.args.all.now.items c.index_mut-found.result.now c.requires.rises at c.index_mut-found.ensures.value c.requires.steady
+    let at = subst (λ rs. is_at c.args.window c.in-Some.place rs ≡ true) c.as_slice.ensures.value
+    c.in-Some.ensures.some in
+    steady_at c.args.window c.in-Some.place c.args.all.now.items c.index_mut-found.result.now c.requires.rises at
+    c.index_mut-found.ensures.value c.requires.steady

@@ -7,7 +7,8 @@ halving-init c = record { above = omega arith; below = place-within c.args.windo
 
 pub halving-preserved-then-all-middle : goal.halving-preserved-then-all-middle
 halving-preserved-then-all-middle c =
-    let here = place-above 0 c.args.window _ c.args.all.now c.index-all-middle.result c.requires (omega arith) c.if-all-middle.true in
+    let here = place-above 0 c.args.window _ c.args.all.now c.index-all-middle.result c.requires (omega arith)
+    c.if-all-middle.true in
     record { above = omega (arith, here); below = c.halving.invariant.below; within = c.halving.invariant.within }
 
 pub halving-preserved : goal.halving-preserved

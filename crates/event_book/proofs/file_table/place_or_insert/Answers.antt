@@ -23,12 +23,14 @@ returns-clause-table c =
 pub returns-clause-present : goal.returns-clause-present
 returns-clause-present c =
     rw c.in_ok-insert.ensures.items
-    (inserted present_of c.place_of-place.result c.args.all.now.items (at_of c.args.window false c.new.result) (ap (λ (t : Twice EventFile). t.present) c.new.ensures))
+    (inserted present_of c.place_of-place.result c.args.all.now.items (at_of c.args.window false c.new.result)
+    (ap (λ (t : Twice EventFile). t.present) c.new.ensures))
 
 pub returns-clause-kept : goal.returns-clause-kept
 returns-clause-kept c =
     rw c.in_ok-insert.ensures.items
-    (inserted kept_of c.place_of-place.result c.args.all.now.items (at_of c.args.window false c.new.result) (ap (λ (t : Twice EventFile). t.kept) c.new.ensures))
+    (inserted kept_of c.place_of-place.result c.args.all.now.items (at_of c.args.window false c.new.result)
+    (ap (λ (t : Twice EventFile). t.kept) c.new.ensures))
 
 pub returns-clause-within : goal.returns-clause-within
 returns-clause-within c =
@@ -36,11 +38,13 @@ returns-clause-within c =
     let new = at_of c.args.window false c.new.result in
     rw c.in_ok-insert.ensures.items
     (within-at c.args.window c.place_of-place.result (insert c.args.all.now.items c.place_of-place.result new)
-    (subst (λ k. is_at c.args.window k (insert c.args.all.now.items k new) ≡ true) (sym place) (at-insert c.args.window c.args.all.now.items new refl)))
+    (subst (λ k. is_at c.args.window k (insert c.args.all.now.items k new) ≡ true) (sym place)
+    (at-insert c.args.window c.args.all.now.items new refl)))
 
 pub returns-clause-place : goal.returns-clause-place
 returns-clause-place c =
     let place = c.place_of-place.ensures ∙ ap (place_of c.args.window) c.as_slice-2.ensures.value in
     let new = at_of c.args.window false c.new.result in
     rw c.in_ok-insert.ensures.items
-    (subst (λ k. is_at c.args.window k (insert c.args.all.now.items k new) ≡ true) (sym place) (at-insert c.args.window c.args.all.now.items new refl))
+    (subst (λ k. is_at c.args.window k (insert c.args.all.now.items k new) ≡ true) (sym place)
+    (at-insert c.args.window c.args.all.now.items new refl))

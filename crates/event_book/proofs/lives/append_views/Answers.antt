@@ -9,12 +9,16 @@ use Rattle.event_book.proofs.lives.append_views.Goals as goal
 
 pub loop-i-preserved : goal.loop-i-preserved
 loop-i-preserved c =
-    ap (λ vs. vs ++ views_from c.args.window (suc (c.loop-i.i + 1)) (drop (c.loop-i.i + 1) (shown c.args.settled c.args.all.now))) c.in_ok-push.ensures.ok
-    ∙ views_step_as c.args.window c.loop-i.i c.args.settled c.args.all.now c.index-all-i.result c.loop-i.views c.shown_life-life.result c.in_ok-spelled.spelled c.loop-i-test.true c.shown_life-life.ensures (c.in_ok-spelled.ensures ∙ ap (λ (e : Recorded). spelling e.item) (sym c.index-all-i.is)) c.index-all-i.is
+    ap (λ vs. vs ++ views_from c.args.window (suc (c.loop-i.i + 1))
+    (drop (c.loop-i.i + 1) (shown c.args.settled c.args.all.now))) c.in_ok-push.ensures.ok
+    ∙ views_step_as c.args.window c.loop-i.i c.args.settled c.args.all.now c.index-all-i.result c.loop-i.views
+    c.shown_life-life.result c.in_ok-spelled.spelled c.loop-i-test.true c.shown_life-life.ensures
+    (c.in_ok-spelled.ensures ∙ ap (λ (e : Recorded). spelling e.item) (sym c.index-all-i.is)) c.index-all-i.is
     ∙ c.loop-i.invariant
 
 pub returns : goal.returns
 returns c =
     sym (append-nil c.loop-i.views)
-    ∙ ap (λ t. c.loop-i.views ++ t) (sym (views-end c.args.window c.loop-i.i c.args.settled c.args.all.now c.loop-i-test.false))
+    ∙ ap (λ t. c.loop-i.views ++ t) (sym (views-end c.args.window c.loop-i.i c.args.settled c.args.all.now
+    c.loop-i-test.false))
     ∙ c.loop-i.invariant

@@ -6,13 +6,16 @@ use Rattle.event_book.proofs.lives.drop_after.Goals as goal
 
 pub loop-i-preserved : goal.loop-i-preserved
 loop-i-preserved c =
-    let step : dropped_after c.args.at (c.loop-i.i + 1) (with_life_at (Dropped c.args.at) c.loop-i.i c.loop-i.all.items) ≡ dropped_after c.args.at c.loop-i.i c.loop-i.all.items =
+    let step : dropped_after c.args.at (c.loop-i.i + 1) (with_life_at (Dropped c.args.at) c.loop-i.i c.loop-i.all.items)
+    ≡ dropped_after c.args.at c.loop-i.i c.loop-i.all.items =
     rw add-one (dropped-step c.args.at c.loop-i.i c.loop-i.all.items)
     in
     record {
       same = ap (dropped_after c.args.at (c.loop-i.i + 1)) c.set_life.ensures ∙ step ∙ c.loop-i.invariant.same;
-      len = ap length c.set_life.ensures ∙ length-with_life_at (Dropped c.args.at) c.loop-i.i c.loop-i.all.items ∙ c.loop-i.invariant.len;
+      len = ap length c.set_life.ensures ∙ length-with_life_at (Dropped c.args.at) c.loop-i.i c.loop-i.all.items
+          ∙ c.loop-i.invariant.len;
     }
 
 pub returns : goal.returns
-returns c = sym (dropped-end c.args.at c.loop-i.i c.loop-i.all.items (omega (arith, c.loop-i.invariant.len, c.loop-i-test.false))) ∙ c.loop-i.invariant.same
+returns c = sym (dropped-end c.args.at c.loop-i.i c.loop-i.all.items
+    (omega (arith, c.loop-i.invariant.len, c.loop-i-test.false))) ∙ c.loop-i.invariant.same

@@ -3,4 +3,5 @@ use Rattle.event_book.proofs.lives.set_life.Goals as goal
 
 pub returns : goal.returns
 returns c =
-    life_at-read c.args.life c.args.place c.args.all.now.items c.index_mut-recorded.result.now c.index_mut-recorded.ensures.value c.requires
+    life_at-read c.args.life c.args.place c.args.all.now.items c.index_mut-recorded.result.now
+    c.index_mut-recorded.ensures.value c.requires

@@ -2,4 +2,11 @@ use Rattle.ninep_cut.proofs.Fronts.{whole_where, more_where, broken_where, stays
 use Rattle.ninep_cut.proofs.laws.answers_are_exact.Goals as goal
 
 pub returns : goal.returns
-returns c = record { whole = whole_where; more = more_where; broken = broken_where; stays = stays_broken; front = front_is }
+returns c = record {
+  whole = whole_where;
+  more = more_where;
+  broken = broken_where;
+  stays = stays_broken;
+  front =
+      front_is;
+}

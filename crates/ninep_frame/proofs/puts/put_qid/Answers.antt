@@ -4,4 +4,6 @@ use Rattle.ninep_frame.proofs.Joins.{three}
 use Rattle.ninep_frame.proofs.puts.put_qid.Goals as goal
 
 pub returns : goal.returns
-returns c = three c.args.out.now (c.args.qid.kind ∷ []) (to_le_bytes w32 c.args.qid.vers) (to_le_bytes w64 c.args.qid.path) c.push.new.self c.put_u32.new.out c.put_u64.new.out c.in_ok-push.ensures.ok c.in_ok-put_u32.ensures c.in_ok-put_u64.ensures
+returns c = three c.args.out.now (c.args.qid.kind ∷ []) (to_le_bytes w32 c.args.qid.vers)
+    (to_le_bytes w64 c.args.qid.path) c.push.new.self c.put_u32.new.out c.put_u64.new.out c.in_ok-push.ensures.ok
+    c.in_ok-put_u32.ensures c.in_ok-put_u64.ensures

@@ -13,5 +13,6 @@ returns-in-Ok-clause-only c = λ l w e. sym c.in-Ok.ensures ∙ ap line_of e ∙
 
 pub returns-in-Err-NotWords-clause-only : goal.returns-in-Err-NotWords-clause-only
 returns-in-Err-NotWords-clause-only c = λ l w e.
-    let none : line_of c.args.line.now ≡ None = subst (λ (u : Unread). Fails u (line_of c.args.line.now)) c.in-Err-NotWords.field-0-is c.in-Err-NotWords.ensures in
+    let none : line_of c.args.line.now ≡ None = subst (λ (u : Unread). Fails u (line_of c.args.line.now))
+    c.in-Err-NotWords.field-0-is c.in-Err-NotWords.ensures in
     absurd (let k = sym none ∙ ap line_of e ∙ words-again l w in cc)

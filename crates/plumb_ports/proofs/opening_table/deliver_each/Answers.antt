@@ -9,6 +9,7 @@ returns-in_err-deliver-clause-kept c =
 
 pub loop-queue-preserved : goal.loop-queue-preserved
 loop-queue-preserved c = record {
-  all = each_changed (with_delivered c.args.port c.args.message.now) _ _ _ c.queue-item.result _ c.loop-queue.invariant.all (omega arith) c.in_ok-deliver.ensures.ok;
+  all = each_changed (with_delivered c.args.port c.args.message.now) _ _ _ c.queue-item.result _
+      c.loop-queue.invariant.all (omega arith) c.in_ok-deliver.ensures.ok;
   kept = map-set kept_of _ _ c.queue-item.result _ (cc) ∙ c.loop-queue.invariant.kept;
 }

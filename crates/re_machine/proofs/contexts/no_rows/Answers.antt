@@ -10,5 +10,6 @@ loop-n-preserved g c =
     let one = c.none.result ∷ [] in
     record {
       count = rw e (omega (arith, length-append c.loop-n.rows.items one, c.loop-n.invariant.count));
-      none = rw (e, map-append bits c.loop-n.rows.items one) (nothing_more (map bits c.loop-n.rows.items) (bits c.none.result) c.none.ensures c.loop-n.invariant.none);
+      none = rw (e, map-append bits c.loop-n.rows.items one) (nothing_more (map bits c.loop-n.rows.items)
+          (bits c.none.result) c.none.ensures c.loop-n.invariant.none);
     }

@@ -4,4 +4,5 @@ use Rattle.re_nodes.specs.Nodes.{node_of, Builds}
 use Rattle.re_machine.proofs.copy.copy.Given as goal
 
 abbrev pub invariant-loop-k : goal.invariant-loop-k
-invariant-loop-k l = Builds (drop l.k (map (λ r. node_of (tree r.now)) l.nodes.items)) (map tree l.copies.items) (tree l.re)
+invariant-loop-k l = Builds (drop l.k (map (λ r. node_of (tree r.now)) l.nodes.items)) (map tree l.copies.items)
+    (tree l.re)

@@ -10,4 +10,6 @@ returns g c = λ x rows old r left i.
     let y = c.take-y.ensures.part w.q (w.p ∷ w.more) w.items_are in
     let z = c.take-x.ensures.part w.p w.more (c.take-y.ensures.rest w.q (w.p ∷ w.more) w.items_are) in
     let more = c.take-x.ensures.rest w.p w.more (c.take-y.ensures.rest w.q (w.p ∷ w.more) w.items_are) in
-    chosen_more bits x old r left f (record { parts = c.push_front.new.self; next = f.next }) rows w c.either.result (rw (z, y) at c.either.ensures.null) (rw (z, y) at c.either.ensures.first) (rw (z, y) at c.either.ensures.last) (c.in_ok-push_front.ensures.items ∙ ap (λ t. c.either.result ∷ t) more) refl
+    chosen_more bits x old r left f (record { parts = c.push_front.new.self; next = f.next }) rows w c.either.result
+    (rw (z, y) at c.either.ensures.null) (rw (z, y) at c.either.ensures.first) (rw (z, y) at c.either.ensures.last)
+    (c.in_ok-push_front.ensures.items ∙ ap (λ t. c.either.result ∷ t) more) refl

@@ -15,5 +15,7 @@ loop-n-preserved g c = λ m l.
       | inl y ↦ c.loop-n.invariant m y
       | inr y ↦
           let s : m ≡ c.loop-n.n = omega (arith, l, y) in
-          subst (λ (z : ℕ). P (slice_index (sets_of bits c.args.rows.now) z)) (sym s) (subst P (sym (set_there bits c.args.rows.now c.loop-n.n c.index-rows-n.result inside)) (sym c.meets.ensures.is ∙ c.if-meets.false))
+          subst (λ (z : ℕ). P (slice_index (sets_of bits c.args.rows.now) z)) (sym s)
+          (subst P (sym (set_there bits c.args.rows.now c.loop-n.n c.index-rows-n.result inside))
+          (sym c.meets.ensures.is ∙ c.if-meets.false))
     ]

@@ -11,7 +11,9 @@ abbrev pub invariant-places : goal.invariant-places
 invariant-places g l = record {
   low : l.bounds.low ≤ l.from;
   high : l.from ≤ l.bounds.high;
-  known : (r : Tree) → IsTable r (table_of g.S.LetterSet.bits g.S.LetterSet.SIZE l.tables) → Known r (reading l.way (g.T.Letters.letters l.text)) l.bounds.no_null l.bounds.low l.from (rows_of g.S.LetterSet.bits l.threads.rows.items) l.threads.best;
+  known : (r : Tree) → IsTable r (table_of g.S.LetterSet.bits g.S.LetterSet.SIZE l.tables)
+      → Known r (reading l.way (g.T.Letters.letters l.text)) l.bounds.no_null l.bounds.low l.from
+      (rows_of g.S.LetterSet.bits l.threads.rows.items) l.threads.best;
 }
 
 abbrev pub decreases-places : goal.decreases-places

@@ -5,7 +5,8 @@ use Rattle.re_nodes.proofs.Listing.{total}
 use Rattle.re_nodes.proofs.nodes.nodes_of.Given as goal
 
 abbrev pub invariant-nodes : goal.invariant-nodes
-invariant-nodes l = nodes_of_all l.back (map (λ r. tree r.now) l.rest.items) ++ map (λ r. node_of (tree r.now)) l.all.items ≡ nodes_of l.back (tree l.re)
+invariant-nodes l = nodes_of_all l.back (map (λ r. tree r.now) l.rest.items)
+    ++ map (λ r. node_of (tree r.now)) l.all.items ≡ nodes_of l.back (tree l.re)
 
 abbrev pub decreases-nodes : goal.decreases-nodes
 decreases-nodes l = total (map (λ r. tree r.now) l.rest.items)

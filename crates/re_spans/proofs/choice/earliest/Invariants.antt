@@ -4,4 +4,5 @@ use Rattle.re_syntax.specs.Match.{IsSpan}
 use Rattle.re_spans.proofs.choice.earliest.Given as goal
 
 abbrev pub invariant-loop-n : goal.invariant-loop-n
-invariant-loop-n g l = (k m : ℕ) → k < l.bounds.low + l.n → IsSpan (tree l.re) (g.T.Letters.letters l.text) l.bounds.low l.bounds.high l.bounds.no_null k m → ⊥
+invariant-loop-n g l = (k m : ℕ) → k < l.bounds.low + l.n → IsSpan (tree l.re) (g.T.Letters.letters l.text) l.bounds.low
+    l.bounds.high l.bounds.no_null k m → ⊥

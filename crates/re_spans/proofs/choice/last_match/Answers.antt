@@ -4,8 +4,10 @@ use Rattle.re_spans.proofs.choice.last_match.Goals as goal
 
 pub returns-clause-value : goal.returns-clause-value
 returns-clause-value g c =
-    found_last (tree c.args.re.now) (g.T.Letters.letters c.args.text.now) c.args.start c.args.to c.args.no_null c.in_ok-found.found c.in_ok-found.ensures.found c.in_ok-found.ensures.none
+    found_last (tree c.args.re.now) (g.T.Letters.letters c.args.text.now) c.args.start c.args.to c.args.no_null
+    c.in_ok-found.found c.in_ok-found.ensures.found c.in_ok-found.ensures.none
 
 pub returns-clause-inside : goal.returns-clause-inside
 returns-clause-inside g c =
-    lasts_between (tree c.args.re.now) (g.T.Letters.letters c.args.text.now) c.args.start c.args.to c.args.no_null c.in_ok-found.found c.in_ok-found.ensures.found
+    lasts_between (tree c.args.re.now) (g.T.Letters.letters c.args.text.now) c.args.start c.args.to c.args.no_null
+    c.in_ok-found.found c.in_ok-found.ensures.found

@@ -10,7 +10,8 @@ invariant-tasks g l =
     let t = g.T.Letters.letters l.text in
     record {
       matches : AreMatches t l.rest.items;
-      sets : (new : List (Option Range)) → AreSet t l.rest.items l.groups new → Sets (tree l.fn.re) t l.fn.found.q0 l.fn.found.q1 l.fn.groups new;
+      sets : (new : List (Option Range)) → AreSet t l.rest.items l.groups new
+          → Sets (tree l.fn.re) t l.fn.found.q0 l.fn.found.q1 l.fn.groups new;
     }
 
 abbrev pub decreases-tasks : goal.decreases-tasks

@@ -6,11 +6,13 @@ use Rattle.re_spans.proofs.filling.last_piece.Goals as goal
 
 pub first_piece-requires-clause-joins : goal.first_piece-requires-clause-joins
 first_piece-requires-clause-joins g c =
-    first_of_pieces (Matches (tree c.args.a.now) (g.T.Letters.letters c.args.text.now)) c.loop-at.at c.args.j c.loop-at.invariant.repeats (omega arith)
+    first_of_pieces (Matches (tree c.args.a.now) (g.T.Letters.letters c.args.text.now)) c.loop-at.at c.args.j
+    c.loop-at.invariant.repeats (omega arith)
 
 pub first_piece-requires-clause-rests : goal.first_piece-requires-clause-rests
 first_piece-requires-clause-rests g c =
-    later_starts (Repeats (Matches (tree c.args.a.now) (g.T.Letters.letters c.args.text.now))) c.args.i c.loop-at.at c.args.j c.args.rests.now c.loop-at.invariant.above c.requires.rests
+    later_starts (Repeats (Matches (tree c.args.a.now) (g.T.Letters.letters c.args.text.now))) c.args.i c.loop-at.at
+    c.args.j c.args.rests.now c.loop-at.invariant.above c.requires.rests
 
 pub loop-at-preserved : goal.loop-at-preserved
 loop-at-preserved g c =

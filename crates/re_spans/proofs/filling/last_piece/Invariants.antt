@@ -15,7 +15,8 @@ invariant-loop-at g l =
       above : l.fn.i ≤ l.at;
       inside : l.at ≤ l.j;
       repeats : Repeats R l.at l.j;
-      walk : (n : ℕ) (out : Option Range) → Walk R n l.at l.j l.last out → (m : ℕ) × Walk R m l.fn.i l.j l.fn.before out;
+      walk : (n : ℕ) (out : Option Range) → Walk R n l.at l.j l.last out → (m : ℕ)
+          × Walk R m l.fn.i l.j l.fn.before out;
       piece : (l.last ≡ l.fn.before) ⊎ IfSome l.last (IsPiece R l.j);
     }
 

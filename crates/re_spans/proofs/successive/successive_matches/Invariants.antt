@@ -10,5 +10,6 @@ invariant-loop-turn g l =
     record {
       above : l.from ≤ l.at;
       below : l.at ≤ l.end;
-      told : l.all ++ successive_from r t l.end l.no_null l.at (l.end + 1 - l.from - l.turn) ≡ successive r t l.from l.end;
+      told : l.all ++ successive_from r t l.end l.no_null l.at (l.end + 1 - l.from - l.turn) ≡ successive r t l.from
+          l.end;
     }

@@ -7,4 +7,5 @@ use Rattle.re_spans.proofs.walk.farthest_among.Given as goal
 
 abbrev pub invariant-loop-turn : goal.invariant-loop-turn
 invariant-loop-turn g l =
-    Walked On (tree l.re) (g.T.Letters.letters l.text) l.at (AmongThose l.set l.low l.at) l.turn (marks_of l.marks) l.best
+    Walked On (tree l.re) (g.T.Letters.letters l.text) l.at (AmongThose l.set l.low l.at) l.turn (marks_of l.marks)
+    l.best

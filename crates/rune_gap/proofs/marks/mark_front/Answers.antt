@@ -11,7 +11,14 @@ overflow_add-marks c =
     let text = c.args.text.now in
     let k = c.loop-k.k in
     let so_far = c.noted.ensures ∙ c.loop-k.invariant.marked k (omega arith) (omega (arith, c.loop-k-test.true)) in
-    omega (arith, so_far, size_take (k * 256) text, c.stride_size-more.ensures.small, length-take (k * 256 + 256 - k * 256) (drop (k * 256) text), c.requires.small)
+    omega (
+      arith,
+      so_far,
+      size_take (k * 256) text,
+      c.stride_size-more.ensures.small,
+      length-take (k * 256 + 256 - k * 256) (drop (k * 256) text),
+      c.requires.small,
+    )
 
 pub loop-k-preserved : goal.loop-k-preserved
 loop-k-preserved c =
@@ -20,6 +27,8 @@ loop-k-preserved c =
     let so_far = c.noted.ensures ∙ c.loop-k.invariant.marked k (omega arith) (omega (arith, c.loop-k-test.true)) in
     record {
       len = search rules;
-      marked = one_more (λ (m : ℕ). size (take (m * stride) text)) c.loop-k.marks k _ _ (omega (arith, c.loop-k-test.true, c.requires.room, c.loop-k.invariant.len))
-          (omega (arith, so_far, c.stride_size-more.ensures.exact, front_more text k (k * 256) refl)) c.loop-k.invariant.marked;
+      marked = one_more (λ (m : ℕ). size (take (m * stride) text)) c.loop-k.marks k _ _
+          (omega (arith, c.loop-k-test.true, c.requires.room, c.loop-k.invariant.len))
+          (omega (arith, so_far, c.stride_size-more.ensures.exact, front_more text k (k * 256) refl))
+          c.loop-k.invariant.marked;
     }

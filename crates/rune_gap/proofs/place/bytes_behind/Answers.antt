@@ -7,7 +7,14 @@ overflow_add-result c =
     let side = c.args.side.now in
     let strides = length side / 256 in
     let marked = c.noted.ensures ∙ c.requires.marked strides (omega arith) in
-    omega (arith, marked, c.size.ensures.exact, size_split side (length side - strides * 256), size_few side, c.requires.small)
+    omega (
+      arith,
+      marked,
+      c.size.ensures.exact,
+      size_split side (length side - strides * 256),
+      size_few side,
+      c.requires.small,
+    )
 
 pub returns : goal.returns
 returns c =

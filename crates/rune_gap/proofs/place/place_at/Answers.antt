@@ -10,9 +10,11 @@ place_behind-place-requires-clause-marked c =
     let side = drop c.args.gap.q1 buffer in
     let marks = c.as_slice-2.result.now in
     let n = length buffer - c.args.gap.q1 in
-    let behind = subst (λ (m : List ℕ). IsMarkedBack m (around c.args.gap buffer) n) (sym c.as_slice-2.ensures.value) c.requires.behind_gap in
+    let behind = subst (λ (m : List ℕ). IsMarkedBack m (around c.args.gap buffer) n) (sym c.as_slice-2.ensures.value)
+    c.requires.behind_gap in
     let marked = to_side c.args.gap buffer c.requires.placed marks n (omega arith) behind in
-    subst (λ (s : List ℕ). IsMarkedBack marks s (length s)) (sym (whole_side c.args.gap buffer c.requires.placed (length buffer) refl))
+    subst (λ (s : List ℕ). IsMarkedBack marks s (length s)) (sym (whole_side c.args.gap buffer c.requires.placed
+    (length buffer) refl))
     (fewer_back marks side n (length side) (omega (arith, length-drop c.args.gap.q1 buffer)) marked)
 
 pub returns-clause-exact : goal.returns-clause-exact

@@ -9,7 +9,8 @@ invariant-loop-at g l = record {
   order : l.at ≤ l.end;
   within : l.end ≤ length (g.T.Letters.letters l.text);
   fewer : l.left ≤ l.n;
-  same : back_along (g.T.Letters.letters l.text) (starts_back (g.T.Letters.letters l.text) l.at) l.left ≡ back_along (g.T.Letters.letters l.text) (starts_back (g.T.Letters.letters l.text) l.place) l.n;
+  same : back_along (g.T.Letters.letters l.text) (starts_back (g.T.Letters.letters l.text) l.at)
+      l.left ≡ back_along (g.T.Letters.letters l.text) (starts_back (g.T.Letters.letters l.text) l.place) l.n;
   ends : l.left < l.n → l.end ≡ (line_at (g.T.Letters.letters l.text) l.at).q1;
 }
 

@@ -6,7 +6,8 @@ pub returns-in-Ok : goal.returns-in-Ok
 returns-in-Ok c = edit_ok c.args.text.now (command c.in-Ok.cmd) c.in-Ok.ensures.read c.in-Ok.ensures.small
 
 pub returns-in-Err-Bad : goal.returns-in-Err-Bad
-returns-in-Err-Bad c = edit_bad c.args.text.now c.in-Err-Bad.field-0-0 (rw c.in-Err-Bad.field-0-is at c.in-Err-Bad.ensures.refused)
+returns-in-Err-Bad c = edit_bad c.args.text.now c.in-Err-Bad.field-0-0
+    (rw c.in-Err-Bad.field-0-is at c.in-Err-Bad.ensures.refused)
 
 pub returns-in-Err-Nodes : goal.returns-in-Err-Nodes
 returns-in-Err-Nodes c = edit_large c.args.text.now (rw c.in-Err-Nodes.field-0-is at c.in-Err-Nodes.ensures.refused)

@@ -10,4 +10,5 @@ use Rattle.sam_syntax.proofs.reading.block_of.Goals as goal
 pub returns : goal.returns
 returns c =
     let b = c.args.block in
-    IfOk-weaker c.in_loops.result _ _ (λ new h. h ∙ ap (λ (a : Action). in_loops (map head_of b.heads.items) (address.tree_of b.addr, a)) (block_commands b.commands)) c.in_loops.ensures
+    IfOk-weaker c.in_loops.result _ _ (λ new h. h ∙ ap (λ (a : Action). in_loops (map head_of b.heads.items)
+    (address.tree_of b.addr, a)) (block_commands b.commands)) c.in_loops.ensures

@@ -8,8 +8,15 @@ use Rattle.wait_queue.proofs.reads.mark_answered.Goals as goal
 pub loop-i-preserved : goal.loop-i-preserved
 loop-i-preserved g c =
     let within : c.loop-i.i < length c.loop-i.all =
-    omega (arith, ap length c.loop-i.invariant, length-partly (mark (g.A.Answers.answers c.args.by.now)) c.args.all.now c.loop-i.i)
+    omega (
+      arith,
+      ap length c.loop-i.invariant,
+      length-partly (mark (g.A.Answers.answers c.args.by.now)) c.args.all.now
+          c.loop-i.i,
+    )
     in
     rw c.set_gone.ensures
-    (each_changed (mark (g.A.Answers.answers c.args.by.now)) c.args.all.now c.loop-i.all c.loop-i.i no_waiting _ c.loop-i.invariant (omega arith)
-    (marked (g.A.Answers.answers c.args.by.now) c.loop-i.all c.loop-i.i c.get-waiting.result no_waiting _ within c.get-waiting.ensures c.gone_or_answered.ensures))
+    (each_changed (mark (g.A.Answers.answers c.args.by.now)) c.args.all.now c.loop-i.all c.loop-i.i no_waiting _
+    c.loop-i.invariant (omega arith)
+    (marked (g.A.Answers.answers c.args.by.now) c.loop-i.all c.loop-i.i c.get-waiting.result no_waiting _ within
+    c.get-waiting.ensures c.gone_or_answered.ensures))

@@ -12,5 +12,7 @@ loop-i-preserved c =
     omega (arith, ap length c.loop-i.invariant, length-partly (mark (is_on c.args.opening)) c.args.all.now c.loop-i.i)
     in
     rw c.set_gone.ensures
-    (each_changed (mark (is_on c.args.opening)) c.args.all.now c.loop-i.all c.loop-i.i no_waiting _ c.loop-i.invariant (omega arith)
-    (marked (is_on c.args.opening) c.loop-i.all c.loop-i.i c.get-waiting.result no_waiting _ within c.get-waiting.ensures c.gone_or_on.ensures))
+    (each_changed (mark (is_on c.args.opening)) c.args.all.now c.loop-i.all c.loop-i.i no_waiting _ c.loop-i.invariant
+    (omega arith)
+    (marked (is_on c.args.opening) c.loop-i.all c.loop-i.i c.get-waiting.result no_waiting _ within
+    c.get-waiting.ensures c.gone_or_on.ensures))

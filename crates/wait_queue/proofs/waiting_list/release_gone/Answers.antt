@@ -13,7 +13,8 @@ loop-place-preserved c =
       | then-place w ↦
           rw w.held-is
           (SameOn-removed c.loop-place.held w.try_remove.new.self c.args.held.now _ _ _ w.try_remove.ensures.updates
-          (gone_apart c.args.held.now c.args.order.now c.loop-place.place-index _ (omega arith) c.requires w.if-place.true)
+          (gone_apart c.args.held.now c.args.order.now c.loop-place.place-index _ (omega arith) c.requires
+          w.if-place.true)
           c.loop-place.invariant)
       | else-place w ↦ rw w.held-is c.loop-place.invariant
     ]

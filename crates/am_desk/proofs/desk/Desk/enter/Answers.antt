@@ -8,7 +8,8 @@ use Rattle.am_desk.proofs.Turns.{no_turn, kept_turn, kept_seen, has_number}
 use Rattle.am_desk.proofs.desk.Desk.enter.Goals as goal
 
 pub enter-requires-clause-idle : goal.enter-requires-clause-idle
-enter-requires-clause-idle g c = no_turn c.args.stay.now (view_of c.args.place.now) c.requires.stays (sym c.take.ensures.value ∙ c.in-None.is)
+enter-requires-clause-idle g c = no_turn c.args.stay.now (view_of c.args.place.now) c.requires.stays
+    (sym c.take.ensures.value ∙ c.in-None.is)
 
 pub returns-in-Some-clause-view : goal.returns-in-Some-clause-view
 returns-in-Some-clause-view g c =
@@ -19,9 +20,11 @@ returns-in-Some-clause-view g c =
 pub returns-in-Some-clause-seen : goal.returns-in-Some-clause-seen
 returns-in-Some-clause-seen g c =
     subst (λ (s : Settled). IsPrefix (view_of c.args.place.now).seen (journal_of s)) (sym c.resume.ensures)
-    (kept_seen c.args.stay.now c.in-Some.stay (view_of c.args.place.now) c.requires.stays (sym c.take.ensures.value ∙ c.in-Some.is))
+    (kept_seen c.args.stay.now c.in-Some.stay (view_of c.args.place.now) c.requires.stays
+    (sym c.take.ensures.value ∙ c.in-Some.is))
 
 pub returns-in-Some-clause-number : goal.returns-in-Some-clause-number
 returns-in-Some-clause-number g c =
     ap number_of c.resume.ensures
-    ∙ has_number c.args.stay.now c.in-Some.stay (view_of c.args.place.now) c.requires.stays (sym c.take.ensures.value ∙ c.in-Some.is)
+    ∙ has_number c.args.stay.now c.in-Some.stay (view_of c.args.place.now) c.requires.stays
+    (sym c.take.ensures.value ∙ c.in-Some.is)

@@ -9,23 +9,30 @@ use Rattle.am_desk.proofs.desk.Desk.submit.Goals as goal
 
 pub note-requires-clause-entry : goal.note-requires-clause-entry
 note-requires-clause-entry g c =
-    let was : journal_of c.value.result.now ≡ journal_of c.enter-held.result.value = ap journal_of c.value.ensures.value in
-    let seen : journal_of c.value.result.now ≡ (view_of c.enter-held.new.place).seen = was ∙ sym (ap (λ (v : View Event). v.seen) c.enter-held.ensures.view) in
+    let was : journal_of c.value.result.now ≡ journal_of c.enter-held.result.value = ap journal_of
+    c.value.ensures.value in
+    let seen : journal_of c.value.result.now ≡ (view_of c.enter-held.new.place).seen =
+    was ∙ sym (ap (λ (v : View Event). v.seen) c.enter-held.ensures.view) in
     (c.args.event, c.in-Ok.ensures.done ∙ ap (λ (l : List Event). l ++ c.args.event ∷ []) seen)
 
 pub returns-in-Ok-clause-ok : goal.returns-in-Ok-clause-ok
 returns-in-Ok-clause-ok g c =
     let now : List Event = journal_of c.enter-held.result.value in
     let was : journal_of c.value.result.now ≡ now = ap journal_of c.value.ensures.value in
-    let seen : journal_of c.value.result.now ≡ (view_of c.enter-held.new.place).seen = was ∙ sym (ap (λ (v : View Event). v.seen) c.enter-held.ensures.view) in (
+    let seen : journal_of c.value.result.now ≡ (view_of c.enter-held.new.place).seen =
+    was ∙ sym (ap (λ (v : View Event). v.seen) c.enter-held.ensures.view) in (
       now,
       c.enter-held.ensures.seen,
       subst (λ (l : List Event). enabled l c.args.event ≡ None) was c.in-Ok.ensures.ok.0,
       c.in-Ok.ensures.ok.1 ∙ ap (λ (l : List Event). length l + 1) was,
-      entered_event (view_of c.args.seat.now.seat) (view_of c.enter-held.new.place) (view_of c.note.new.seat) (view_of c.end.new.place) now c.args.event c.enter-held.ensures.view
-          (c.note.ensures.view c.args.event (c.in-Ok.ensures.done ∙ ap (λ (l : List Event). l ++ c.args.event ∷ []) seen)) c.end.ensures.known,
+      entered_event (view_of c.args.seat.now.seat) (view_of c.enter-held.new.place) (view_of c.note.new.seat)
+          (view_of c.end.new.place) now c.args.event c.enter-held.ensures.view
+          (c.note.ensures.view c.args.event (c.in-Ok.ensures.done ∙ ap (λ (l : List Event). l ++ c.args.event ∷ [])
+          seen)) c.end.ensures.known,
     )
 
 pub returns-in-Err-clause-err : goal.returns-in-Err-clause-err
 returns-in-Err-clause-err g c =
-    looked (view_of c.args.seat.now.seat) (view_of c.enter-held.new.place) (view_of c.end-in-Err.new.place) (journal_of c.enter-held.result.value) c.enter-held.ensures.view c.enter-held.ensures.seen c.end-in-Err.ensures.known
+    looked (view_of c.args.seat.now.seat) (view_of c.enter-held.new.place) (view_of c.end-in-Err.new.place)
+    (journal_of c.enter-held.result.value) c.enter-held.ensures.view c.enter-held.ensures.seen
+    c.end-in-Err.ensures.known

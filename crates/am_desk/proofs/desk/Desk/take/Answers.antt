@@ -14,15 +14,18 @@ pub returns-in-Ok-Bytes-clause-bytes : goal.returns-in-Ok-Bytes-clause-bytes
 returns-in-Ok-Bytes-clause-bytes g c = λ _.
     let now : List Event = journal_of c.enter-held.result.value in
     let was : journal_of c.value.result.now ≡ now = ap journal_of c.value.ensures.value in
-    let seen : journal_of c.value.result.now ≡ (view_of c.enter-held.new.place).seen = was ∙ sym (ap (λ (v : View Event). v.seen) c.enter-held.ensures.view) in
+    let seen : journal_of c.value.result.now ≡ (view_of c.enter-held.new.place).seen =
+    was ∙ sym (ap (λ (v : View Event). v.seen) c.enter-held.ensures.view) in
     let did = c.in-Ok-Bytes.ensures.bytes (cc c.in-Ok-Bytes.field-0-is) in (
       now,
       c.enter-held.ensures.seen,
       subst (λ (l : List Event). enabled l (Took c.args.conn) ≡ None) was did.1,
       did.2 ∙ ap (λ (l : List Event). output_at l c.args.conn) was,
       λ none. did.3 (sym did.2 ∙ none),
-      entered_event (view_of c.args.seat.now.seat) (view_of c.enter-held.new.place) (view_of c.note.new.seat) (view_of c.end.new.place) now (Took c.args.conn) c.enter-held.ensures.view
-          (c.note.ensures.view (Took c.args.conn) (did.0 ∙ ap (λ (l : List Event). l ++ Took c.args.conn ∷ []) seen)) c.end.ensures.known,
+      entered_event (view_of c.args.seat.now.seat) (view_of c.enter-held.new.place) (view_of c.note.new.seat)
+          (view_of c.end.new.place) now (Took c.args.conn) c.enter-held.ensures.view
+          (c.note.ensures.view (Took c.args.conn) (did.0 ∙ ap (λ (l : List Event). l ++ Took c.args.conn ∷ []) seen))
+          c.end.ensures.known,
     )
 
 pub returns-in-Ok-NothingYet-clause-nothing_yet : goal.returns-in-Ok-NothingYet-clause-nothing_yet
@@ -30,10 +33,12 @@ returns-in-Ok-NothingYet-clause-nothing_yet g c = λ _.
     let now : List Event = journal_of c.enter-held.result.value in
     let was : journal_of c.value.result.now ≡ now = ap journal_of c.value.ensures.value in
     let seen : journal_of c.value.result.now ≡ (view_of c.end-in-Ok-NothingYet.new.place).seen =
-    was ∙ sym (seen_then (view_of c.args.seat.now.seat) (view_of c.enter-held.new.place) (view_of c.end-in-Ok-NothingYet.new.place) now c.enter-held.ensures.view c.end-in-Ok-NothingYet.ensures.known)
+    was ∙ sym (seen_then (view_of c.args.seat.now.seat) (view_of c.enter-held.new.place)
+    (view_of c.end-in-Ok-NothingYet.new.place) now c.enter-held.ensures.view c.end-in-Ok-NothingYet.ensures.known)
     in
     let did = c.in-Ok-NothingYet.ensures.nothing_yet (cc c.in-Ok-NothingYet.field-0-is) in (
-      looked (view_of c.args.seat.now.seat) (view_of c.enter-held.new.place) (view_of c.end-in-Ok-NothingYet.new.place) now c.enter-held.ensures.view c.enter-held.ensures.seen c.end-in-Ok-NothingYet.ensures.known,
+      looked (view_of c.args.seat.now.seat) (view_of c.enter-held.new.place) (view_of c.end-in-Ok-NothingYet.new.place)
+          now c.enter-held.ensures.view c.enter-held.ensures.seen c.end-in-Ok-NothingYet.ensures.known,
       did.1,
       subst (λ (l : List Event). answer_at l (ask.Ended c.args.conn) ≡ false) seen did.2,
       subst (λ (l : List Event). output_at l c.args.conn ≡ []) seen did.3,
@@ -44,10 +49,12 @@ returns-in-Ok-Ended-clause-ended g c = λ _.
     let now : List Event = journal_of c.enter-held.result.value in
     let was : journal_of c.value.result.now ≡ now = ap journal_of c.value.ensures.value in
     let seen : journal_of c.value.result.now ≡ (view_of c.end-in-Ok-Ended.new.place).seen =
-    was ∙ sym (seen_then (view_of c.args.seat.now.seat) (view_of c.enter-held.new.place) (view_of c.end-in-Ok-Ended.new.place) now c.enter-held.ensures.view c.end-in-Ok-Ended.ensures.known)
+    was ∙ sym (seen_then (view_of c.args.seat.now.seat) (view_of c.enter-held.new.place)
+    (view_of c.end-in-Ok-Ended.new.place) now c.enter-held.ensures.view c.end-in-Ok-Ended.ensures.known)
     in
     let did = c.in-Ok-Ended.ensures.ended (cc c.in-Ok-Ended.field-0-is) in (
-      looked (view_of c.args.seat.now.seat) (view_of c.enter-held.new.place) (view_of c.end-in-Ok-Ended.new.place) now c.enter-held.ensures.view c.enter-held.ensures.seen c.end-in-Ok-Ended.ensures.known,
+      looked (view_of c.args.seat.now.seat) (view_of c.enter-held.new.place) (view_of c.end-in-Ok-Ended.new.place) now
+          c.enter-held.ensures.view c.enter-held.ensures.seen c.end-in-Ok-Ended.ensures.known,
       did.1,
       subst (λ (l : List Event). answer_at l (ask.Ended c.args.conn) ≡ true) seen did.2,
       subst (λ (l : List Event). output_at l c.args.conn ≡ []) seen did.3,
@@ -55,6 +62,8 @@ returns-in-Ok-Ended-clause-ended g c = λ _.
 
 pub returns-in-Err-clause-err : goal.returns-in-Err-clause-err
 returns-in-Err-clause-err g c = (
-  looked (view_of c.args.seat.now.seat) (view_of c.enter-held.new.place) (view_of c.end-in-Err.new.place) (journal_of c.enter-held.result.value) c.enter-held.ensures.view c.enter-held.ensures.seen c.end-in-Err.ensures.known,
+  looked (view_of c.args.seat.now.seat) (view_of c.enter-held.new.place) (view_of c.end-in-Err.new.place)
+      (journal_of c.enter-held.result.value) c.enter-held.ensures.view c.enter-held.ensures.seen
+      c.end-in-Err.ensures.known,
   c.in-Err.ensures.err.1,
 )

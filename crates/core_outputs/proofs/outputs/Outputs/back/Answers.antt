@@ -15,4 +15,5 @@ pub invariant_of-self : goal.invariant_of-self
 invariant_of-self c =
     let same : length c.back_touched.new.all ≡ c.self.inside.all.len = omega arith in
     rw (with_items_is c.self.inside.all c.back_touched.new.all same)
-    (touched_nowhere c.nowhere-self-inside.result c.back_touched.new.all c.nowhere-self-inside.ensures (c.back_touched.ensures.present ∙ sym c.back_touched.ensures.kept))
+    (touched_nowhere c.nowhere-self-inside.result c.back_touched.new.all c.nowhere-self-inside.ensures
+    (c.back_touched.ensures.present ∙ sym c.back_touched.ensures.kept))

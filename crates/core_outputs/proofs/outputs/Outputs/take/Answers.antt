@@ -10,12 +10,15 @@ pub returns : goal.returns
 returns c =
     let same : length c.empty_at.new.all ≡ c.self.inside.all.len = omega arith in
     let each : c.empty_at.new.all ≡ slice_set c.self.inside.all.items c.args.conn (both nothing_unsent) = cc in
-    let steady : map present_of c.self.inside.all.items ≡ map kept_of c.self.inside.all.items = subst (λ (t : Twice (List Unsent)). t.present ≡ t.kept) (sym c.self.view_is) c.requires in
+    let steady : map present_of c.self.inside.all.items ≡ map kept_of c.self.inside.all.items =
+    subst (λ (t : Twice (List Unsent)). t.present ≡ t.kept) (sym c.self.view_is) c.requires in
     rw (← c.self.view_is, with_items_is c.self.inside.all c.empty_at.new.all same) (emptied _ _ _ steady each)
 
 pub invariant_of-self : goal.invariant_of-self
 invariant_of-self c =
     let same : length c.empty_at.new.all ≡ c.self.inside.all.len = omega arith in
     let each : c.empty_at.new.all ≡ slice_set c.self.inside.all.items c.args.conn (both nothing_unsent) = cc in
-    let steady : map present_of c.self.inside.all.items ≡ map kept_of c.self.inside.all.items = subst (λ (t : Twice (List Unsent)). t.present ≡ t.kept) (sym c.self.view_is) c.requires in
-    rw (with_items_is c.self.inside.all c.empty_at.new.all same) (touched_nowhere c.nowhere-self-inside.result c.empty_at.new.all c.nowhere-self-inside.ensures (emptied_alike _ _ c.args.conn steady each))
+    let steady : map present_of c.self.inside.all.items ≡ map kept_of c.self.inside.all.items =
+    subst (λ (t : Twice (List Unsent)). t.present ≡ t.kept) (sym c.self.view_is) c.requires in
+    rw (with_items_is c.self.inside.all c.empty_at.new.all same) (touched_nowhere c.nowhere-self-inside.result
+    c.empty_at.new.all c.nowhere-self-inside.ensures (emptied_alike _ _ c.args.conn steady each))

@@ -7,7 +7,8 @@ pub loop-deed-preserved : goal.loop-deed-preserved
 loop-deed-preserved c =
     let inv = c.loop-deed.invariant in
     let act = c.in_ok-act.ensures in
-    let can : CanDoAll c.args.entry (scene_of c.loop-deed.self) (c.in-Some.deed ∷ c.next.new.self.rest.items) = search rules in
+    let can : CanDoAll c.args.entry (scene_of c.loop-deed.self) (c.in-Some.deed ∷ c.next.new.self.rest.items) =
+    search rules in
     record {
       next = tt;
       ends = tt;

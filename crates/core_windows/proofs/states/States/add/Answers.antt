@@ -10,12 +10,18 @@ use Rattle.core_windows.proofs.states.States.add.Goals as goal
 
 pub invariant_of-self-2 : goal.invariant_of-self-2
 invariant_of-self-2 c =
-    let steps : c.push_reserved.new.self.items ≡ c.self.inside.trail.items ++ c.in_ok-undo.undo ∷ [] = c.push_reserved.ensures.items ∙ ap (λ (us : List Undo). us ++ c.in_ok-undo.undo ∷ []) c.reserve.ensures.items in
-    subst (λ us. CanGoBack us (shapes_of c.add_at.new.panes.items)) (sym steps) (rooms.grown_can c.self.inside.trail.items c.in_ok-undo.undo (shapes_of c.self.inside.panes.items) (shapes_of c.add_at.new.panes.items) c.in_ok-undo.ensures.back c.in_ok-undo.ensures.can c.self.invariant)
+    let steps : c.push_reserved.new.self.items ≡ c.self.inside.trail.items ++ c.in_ok-undo.undo ∷ [] =
+    c.push_reserved.ensures.items ∙ ap (λ (us : List Undo). us ++ c.in_ok-undo.undo ∷ []) c.reserve.ensures.items in
+    subst (λ us. CanGoBack us (shapes_of c.add_at.new.panes.items)) (sym steps)
+    (rooms.grown_can c.self.inside.trail.items c.in_ok-undo.undo (shapes_of c.self.inside.panes.items)
+    (shapes_of c.add_at.new.panes.items) c.in_ok-undo.ensures.back c.in_ok-undo.ensures.can c.self.invariant)
 
 pub returns-clause-ok : goal.returns-clause-ok
 returns-clause-ok c =
-    let steps : c.push_reserved.new.self.items ≡ c.self.inside.trail.items ++ c.in_ok-undo.undo ∷ [] = c.push_reserved.ensures.items ∙ ap (λ (us : List Undo). us ++ c.in_ok-undo.undo ∷ []) c.reserve.ensures.items in
+    let steps : c.push_reserved.new.self.items ≡ c.self.inside.trail.items ++ c.in_ok-undo.undo ∷ [] =
+    c.push_reserved.ensures.items ∙ ap (λ (us : List Undo). us ++ c.in_ok-undo.undo ∷ []) c.reserve.ensures.items in
     rw (← c.self.view_is)
     (ap (λ (us : List Undo). rooms.seen us (shapes_of c.add_at.new.panes.items)) steps
-    ∙ rooms.seen_grown c.self.inside.trail.items c.in_ok-undo.undo (shapes_of c.self.inside.panes.items) (shapes_of c.add_at.new.panes.items) (at_place (option_map (added c.args.text.now)) c.args.at) c.in_ok-undo.ensures.back c.in_ok-undo.ensures.windows)
+    ∙ rooms.seen_grown c.self.inside.trail.items c.in_ok-undo.undo (shapes_of c.self.inside.panes.items)
+    (shapes_of c.add_at.new.panes.items) (at_place (option_map (added c.args.text.now)) c.args.at)
+    c.in_ok-undo.ensures.back c.in_ok-undo.ensures.windows)

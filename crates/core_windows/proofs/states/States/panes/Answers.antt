@@ -7,4 +7,5 @@ use Rattle.core_windows.proofs.PlaceLemmas.{panes_seen}
 use Rattle.core_windows.proofs.states.States.panes.Goals as goal
 
 pub returns : goal.returns
-returns c = ap windows_of c.as_slice.ensures.value ∙ panes_seen c.self.inside.panes.items ∙ ap (λ (t : Twice (List (Option Window))). t.present) c.self.view_is
+returns c = ap windows_of c.as_slice.ensures.value ∙ panes_seen c.self.inside.panes.items
+    ∙ ap (λ (t : Twice (List (Option Window))). t.present) c.self.view_is

@@ -6,4 +6,5 @@ use Rattle.edit_run.proofs.kept.Kept.of_commands.Goals as goal
 
 pub returns : goal.returns
 returns c =
-    subst (λ (x : List Kept). AreOf x c.args.commands.now.items) (sym c.inner.ensures) (block_kept c.args.commands.now c.args.self.now c.requires)
+    subst (λ (x : List Kept). AreOf x c.args.commands.now.items) (sym c.inner.ensures)
+    (block_kept c.args.commands.now c.args.self.now c.requires)

@@ -6,7 +6,8 @@ use Rattle.event_book.proofs.event_file.EventFile.leave.Goals as goal
 
 pub leave_both-requires-clause-items : goal.leave_both-requires-clause-items
 leave_both-requires-clause-items c =
-    let steady = subst IsSteady (sym c.self.view_is) c.requires in steady_items c.self.inside.items c.self.inside.queue steady
+    let steady = subst IsSteady (sym c.self.view_is) c.requires in
+    steady_items c.self.inside.items c.self.inside.queue steady
 
 pub leave_both-requires-clause-queue : goal.leave_both-requires-clause-queue
 leave_both-requires-clause-queue c =
@@ -18,4 +19,5 @@ leave_both-requires-clause-agrees c = c.self.invariant
 
 pub invariant_of-self : goal.invariant_of-self
 invariant_of-self c =
-    agree-both c.leave_both.new.items c.leave_both.new.queue (left (file_in c.self.inside.items c.self.inside.queue) c.args.opening c.args.at) c.leave_both.ensures.items c.leave_both.ensures.queue
+    agree-both c.leave_both.new.items c.leave_both.new.queue (left (file_in c.self.inside.items c.self.inside.queue)
+    c.args.opening c.args.at) c.leave_both.ensures.items c.leave_both.ensures.queue

@@ -5,9 +5,11 @@ use Rattle.event_book.proofs.file_table.FileTable.file.Goals as goal
 
 pub returns-in-Some : goal.returns-in-Some
 returns-in-Some c =
-    let at = subst (λ rs. is_at c.args.window c.in-Some.place rs ≡ true) c.as_slice.ensures.value c.in-Some.ensures.some in
+    let at = subst (λ rs. is_at c.args.window c.in-Some.place rs ≡ true) c.as_slice.ensures.value
+    c.in-Some.ensures.some in
     rw (← c.self.view_is)
-    (sym (present_at c.args.window c.in-Some.place c.self.inside.all.items c.index.result.now c.self.invariant.rises at c.index.ensures))
+    (sym (present_at c.args.window c.in-Some.place c.self.inside.all.items c.index.result.now c.self.invariant.rises at
+    c.index.ensures))
 
 pub returns-in-None : goal.returns-in-None
 returns-in-None c =

@@ -11,7 +11,8 @@ returns-in-Some c =
     let within = subst (λ (es : List Recorded). c.args.number - 1 < length es) c.deref.ensures.value look.3.0 in
     rw (← c.self.view_is)
     (ap (λ (e : Recorded). Some e.item) one
-    ∙ ap (option_map (λ (e : Recorded). e.item)) (sym (get_some c.self.inside.all.items (c.args.number - 1) c.in-Some.recorded.now within))
+    ∙ ap (option_map (λ (e : Recorded). e.item)) (sym (get_some c.self.inside.all.items (c.args.number - 1)
+    c.in-Some.recorded.now within))
     ∙ sym (item_at c.self.inside.settled c.args.number c.self.inside.all.items (omega (arith, c.if-number-eq0.false))))
 
 pub returns-in-None : goal.returns-in-None

@@ -6,4 +6,5 @@ invariant_of-self-2 c = rw c.in_ok-push.ensures.items (split-push _ _ _ _ _ c.se
 
 pub returns-clause-ok : goal.returns-clause-ok
 returns-clause-ok c =
-    rw (← c.self.view_is, c.in_ok-push.ensures.items) (pushed _ _ _ _ _ c.self.invariant.within c.self.invariant.kept_within)
+    rw (← c.self.view_is, c.in_ok-push.ensures.items) (pushed _ _ _ _ _ c.self.invariant.within
+    c.self.invariant.kept_within)

@@ -8,13 +8,16 @@ use Rattle.name_tree.proofs.growing.Growing.child.Goals as goal
 pub returns-clause-grown : goal.returns-clause-grown
 returns-clause-grown c =
     let o : Origin = record { above = c.args.parent; name = c.args.name.now } in
-    let steps : c.push_reserved.new.self.items ≡ c.args.self.now.trail.items ++ Unmake ∷ [] = rw (c.push_reserved.ensures.items, c.reserve.ensures.items) refl in
+    let steps : c.push_reserved.new.self.items ≡ c.args.self.now.trail.items ++ Unmake ∷ [] =
+    rw (c.push_reserved.ensures.items, c.reserve.ensures.items) refl in
     rw (steps, c.in_ok-place.ensures.ok)
-    (growth_child c.args.self.now.trail.items c.args.self.now.places c.requires.trie o c.requires.parent c.requires.name (sym c.in_default.ensures))
+    (growth_child c.args.self.now.trail.items c.args.self.now.places c.requires.trie o c.requires.parent c.requires.name
+    (sym c.in_default.ensures))
 
 pub returns-clause-entries : goal.returns-clause-entries
 returns-clause-entries c =
-    let o : Origin = record { above = c.args.parent; name = c.args.name.now } in rw c.in_ok-place.ensures.ok (grown_entries c.args.self.now.places c.requires.trie o)
+    let o : Origin = record { above = c.args.parent; name = c.args.name.now } in
+    rw c.in_ok-place.ensures.ok (grown_entries c.args.self.now.places c.requires.trie o)
 
 pub returns-clause-place : goal.returns-clause-place
 returns-clause-place c = λ key h.

@@ -11,5 +11,7 @@ use Rattle.name_tree.proofs.growing.Growing.reach.Given as goal
 abbrev pub invariant-loop-k : goal.invariant-loop-k
 invariant-loop-k l =
     IsGrowth l.initial.self.trail.items l.initial.self.places l.self.trail.items l.self.places
-    × (with_directories (entries_of l.self.places) (above_at l.path l.k) ≡ with_directories (entries_of l.initial.self.places) (above l.initial.path))
-    × (l.start ≤ l.k) × (is_name (slice_range l.path l.start l.k) ≡ true) × HangsAt (keys l.self.places.origins) l.place l.path l.start l.k
+    × (with_directories (entries_of l.self.places) (above_at l.path l.k)
+    ≡ with_directories (entries_of l.initial.self.places) (above l.initial.path))
+    × (l.start ≤ l.k) × (is_name (slice_range l.path l.start l.k) ≡ true)
+    × HangsAt (keys l.self.places.origins) l.place l.path l.start l.k

@@ -7,4 +7,5 @@ use Rattle.name_tree.proofs.names.Names.get.Goals as goal
 pub returns : goal.returns
 returns c =
     rw (← c.self.view_is)
-    (c.copied.ensures ∙ c.get.ensures.value ∙ lookup_shown (λ v. v.items) (is_at (byte_order c.args.name.now)) c.self.inside.by_name.entries)
+    (c.copied.ensures ∙ c.get.ensures.value ∙ lookup_shown (λ v. v.items) (is_at (byte_order c.args.name.now))
+    c.self.inside.by_name.entries)

@@ -5,4 +5,5 @@ use Rattle.name_tree.proofs.names.Names.lines.Given as goal
 
 abbrev pub invariant-loop-name : goal.invariant-loop-name
 invariant-loop-name l =
-    l.text ++ lines_in l.nodes (shown (λ v. v.items) l.name-iterator) ≡ lines_in l.initial.nodes (shown (λ v. v.items) l.initial.name-iterator)
+    l.text ++ lines_in l.nodes (shown (λ v. v.items) l.name-iterator)
+    ≡ lines_in l.initial.nodes (shown (λ v. v.items) l.initial.name-iterator)

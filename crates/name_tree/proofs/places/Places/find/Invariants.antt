@@ -6,4 +6,5 @@ use Rattle.name_tree.proofs.places.Places.find.Given as goal
 abbrev pub invariant-loop-k : goal.invariant-loop-k
 invariant-loop-k l =
     (l.start ≤ l.k)
-    × (walk l.self.names l.place (slice_range l.path l.start l.k) (drop l.k l.path) ≡ place_at l.initial.self.names l.initial.path)
+    × (walk l.self.names l.place (slice_range l.path l.start l.k) (drop l.k l.path) ≡ place_at l.initial.self.names
+    l.initial.path)

@@ -11,7 +11,8 @@ returns-clause-ok c =
     let kept : map kept_of c.deliver_each.new.all ≡ map kept_of c.self.inside.all.items = cc in
     rw (← c.self.view_is, with_items_is c.self.inside.all c.deliver_each.new.all same)
     (on_ok_weaker c.deliver_each.result (λ e.
-    let each : c.deliver_each.new.all ≡ map (with_delivered c.args.port c.args.message.now) c.self.inside.all.items = cc in
+    let each : c.deliver_each.new.all ≡ map (with_delivered c.args.port c.args.message.now) c.self.inside.all.items =
+    cc in
     all_delivered c.args.port c.args.message.now _ _ c.self.inside.kept each kept) c.deliver_each.ensures.ok)
 
 pub returns-clause-kept : goal.returns-clause-kept

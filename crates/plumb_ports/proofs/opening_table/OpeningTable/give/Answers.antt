@@ -15,19 +15,25 @@ returns-in_default-clause-ok c = rw (← c.self.view_is) (read-none _ _ _ c.args
 
 pub give-requires : goal.give-requires
 give-requires c =
-    sym (ap (λ o. must_wait o c.args.count) (inbox-some c.self.inside.all.items c.args.opening c.in-Some.place c.index_mut-queue.result.now (cc) (cc)))
+    sym (ap (λ o. must_wait o c.args.count) (inbox-some c.self.inside.all.items c.args.opening c.in-Some.place
+    c.index_mut-queue.result.now (cc) (cc)))
     ∙ ap (λ (t : Twice (List Inbox)). must_wait (inbox_of t.present c.args.opening) c.args.count) c.self.view_is
     ∙ c.requires
 
 pub returns-clause-piece : goal.returns-clause-piece
 returns-clause-piece c =
-    rw (← c.self.view_is, inbox-some c.self.inside.all.items c.args.opening c.in-Some.place c.index_mut-queue.result.now (cc) (cc))
+    rw (
+      ← c.self.view_is,
+      inbox-some c.self.inside.all.items c.args.opening c.in-Some.place c.index_mut-queue.result.now
+          (cc) (cc),
+    )
     c.give.ensures.piece
 
 pub returns-clause-ok : goal.returns-clause-ok
 returns-clause-ok c =
     rw (← c.self.view_is)
-    (on_ok_weaker c.give.result (λ e. read-some _ _ _ _ _ c.index_mut-queue.result.now _ (cc) (cc) (cc)) c.give.ensures.ok)
+    (on_ok_weaker c.give.result (λ e. read-some _ _ _ _ _ c.index_mut-queue.result.now _ (cc) (cc) (cc))
+    c.give.ensures.ok)
 
 pub returns-clause-kept : goal.returns-clause-kept
 returns-clause-kept c =

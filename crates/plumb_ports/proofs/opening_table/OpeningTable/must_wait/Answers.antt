@@ -7,4 +7,8 @@ returns-in_default c = rw (← c.self.view_is, inbox-none c.self.inside.all.item
 
 pub returns : goal.returns
 returns c =
-    rw (← c.self.view_is, inbox-some c.self.inside.all.items c.args.opening c.in-Some.place c.index.result.now (cc) (cc)) (cc)
+    rw (
+      ← c.self.view_is,
+      inbox-some c.self.inside.all.items c.args.opening c.in-Some.place c.index.result.now (cc)
+          (cc),
+    ) (cc)

@@ -11,7 +11,8 @@ returns-in_default-clause-ok c =
     rw (← c.self.view_is) (written-none c.self.inside.by_name.entries c.args.port _ (sym c.in_default.ensures.value))
 
 pub invariant_of-self-2 : goal.invariant_of-self-2
-invariant_of-self-2 c = still-named c.self.inside.names.items c.self.inside.by_name.entries c.args.port c.push.new.self c.self.invariant
+invariant_of-self-2 c = still-named c.self.inside.names.items c.self.inside.by_name.entries c.args.port c.push.new.self
+    c.self.invariant
 
 pub returns-clause-ok : goal.returns-clause-ok
 returns-clause-ok c =

@@ -4,7 +4,8 @@ use Rattle.plumb_ports.proofs.port_map.PortMap.kept.Goals as goal
 
 pub returns-in-Some : goal.returns-in-Some
 returns-in-Some c =
-    rw (← c.self.view_is) (c.as_slice.ensures ∙ sym (kept-entry c.self.inside.by_name.entries c.args.port _ (sym c.in-Some.ensures.entry)))
+    rw (← c.self.view_is) (c.as_slice.ensures ∙ sym (kept-entry c.self.inside.by_name.entries c.args.port _
+    (sym c.in-Some.ensures.entry)))
 
 pub returns-in-None : goal.returns-in-None
 returns-in-None c =

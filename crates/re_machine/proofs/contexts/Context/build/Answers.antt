@@ -14,6 +14,15 @@ returns g c =
     let rows = c.fill.new.rows in
     let old = map bits c.as_mut_slice.result.now in
     let follow = c.in_ok-follow.follow in
-    let count : length rows ≡ follow.len = c.in_ok-part.ensures.len ∙ (rw c.as_mut_slice.ensures.value refl) ∙ sym follow.ok.0 in
-    let filled = subst (λ (z : List g.row.S.Denot). AreFilled r 0 c.args.here old (map bits z)) (sym (with_items_is follow rows count)) c.in_ok-part.ensures.rows in
-    context_is bits r c.args.here (record { null = part.null; first = part.first; last = part.last; follow = with_items follow rows }) (bits part.first) (bits part.last) old c.in_ok-part.ensures.part refl refl (rw c.as_mut_slice.ensures.value c.in_ok-follow.ensures.none) filled
+    let count : length rows ≡ follow.len = c.in_ok-part.ensures.len ∙ (rw c.as_mut_slice.ensures.value refl)
+    ∙ sym follow.ok.0 in
+    let filled = subst (λ (z : List g.row.S.Denot). AreFilled r 0 c.args.here old (map bits z))
+    (sym (with_items_is follow rows count)) c.in_ok-part.ensures.rows in
+    context_is bits r c.args.here (record {
+      null = part.null;
+      first = part.first;
+      last = part.last;
+      follow =
+          with_items follow rows;
+    }) (bits part.first) (bits part.last) old c.in_ok-part.ensures.part refl refl
+    (rw c.as_mut_slice.ensures.value c.in_ok-follow.ensures.none) filled

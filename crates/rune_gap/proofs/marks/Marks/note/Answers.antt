@@ -5,7 +5,8 @@ use Rattle.rune_gap.proofs.Marked.{whole_side, to_side, from_side, fewer_back, p
 use Rattle.rune_gap.proofs.marks.Marks.note.Goals as goal
 
 pub mark_front-requires-clause-plain : goal.mark_front-requires-clause-plain
-mark_front-requires-clause-plain c p = plain_left (take c.args.gap.q0 c.args.buffer.now) (drop c.args.gap.q1 c.args.buffer.now) (c.requires.plain p)
+mark_front-requires-clause-plain c p = plain_left (take c.args.gap.q0 c.args.buffer.now)
+    (drop c.args.gap.q1 c.args.buffer.now) (c.requires.plain p)
 
 pub mark_back-requires-clause-plain : goal.mark_back-requires-clause-plain
 mark_back-requires-clause-plain c p =
@@ -17,8 +18,10 @@ pub mark_back-requires-clause-marked : goal.mark_back-requires-clause-marked
 mark_back-requires-clause-marked c =
     let buffer = c.args.buffer.now in
     let n = c.args.unchanged.end in
-    let behind = subst (λ (m : List ℕ). IsMarkedBack m (around c.args.gap buffer) n) (sym c.as_mut_slice-2.ensures.value) c.requires.behind in
-    subst (λ (s : List ℕ). IsMarkedBack c.as_mut_slice-2.result.now s n) (sym (whole_side c.args.gap buffer c.requires.gap (length buffer) refl))
+    let behind = subst (λ (m : List ℕ). IsMarkedBack m (around c.args.gap buffer) n)
+    (sym c.as_mut_slice-2.ensures.value) c.requires.behind in
+    subst (λ (s : List ℕ). IsMarkedBack c.as_mut_slice-2.result.now s n)
+    (sym (whole_side c.args.gap buffer c.requires.gap (length buffer) refl))
     (to_side c.args.gap buffer c.requires.gap c.as_mut_slice-2.result.now n c.requires.end behind)
 
 pub returns-clause-behind : goal.returns-clause-behind
@@ -28,7 +31,12 @@ returns-clause-behind c =
     let n = length buffer - c.args.gap.q1 in
     let whole = whole_side c.args.gap buffer c.requires.gap (length buffer) refl in
     let marked = subst (λ (s : List ℕ). IsMarkedBack new s (length s)) whole c.mark_back.ensures.marked in
-    let few = fewer_back new (drop c.args.gap.q1 buffer) (length (drop c.args.gap.q1 buffer)) n (omega (arith, length-drop c.args.gap.q1 buffer)) marked in
+    let few = fewer_back new (drop c.args.gap.q1 buffer) (length (drop c.args.gap.q1 buffer)) n
+    (omega (arith, length-drop c.args.gap.q1 buffer)) marked in
     subst (λ (m : List ℕ). IsMarkedBack m (around c.args.gap buffer) n)
-    (sym (take_at new _ c.args.self.now.behind.len (omega (arith, c.mark_back.ensures.length, c.as_mut_slice-2.ensures.len))))
+    (sym (take_at new _ c.args.self.now.behind.len (omega (
+      arith,
+      c.mark_back.ensures.length,
+      c.as_mut_slice-2.ensures.len,
+    ))))
     (from_side c.args.gap buffer c.requires.gap new n (omega arith) few)

@@ -18,5 +18,7 @@ returns c =
     let q1 = c.min-q1.result in
     let runes = c.as_slice.ensures ∙ c.in_ok-runes.ensures in
     plain_cut items c.as_slice.result.now _ c.args.offset c.args.count q0 q1 c.requires runes c.in_ok-bytes.ensures
-    (cut_short items c.args.offset c.args.count q0 q1 (omega (arith, c.min-q0.ensures, c.len.ensures)) (omega (arith, c.min-q0.ensures)) (λ h. omega (arith, h, c.min-q0.ensures, c.len.ensures))
-    (omega (arith, c.min-q1.ensures, c.len-2.ensures)) (omega (arith, c.min-q1.ensures, c.saturating_add.ensures)) (λ h. omega (arith, h, c.min-q1.ensures, c.len-2.ensures, c.saturating_add.ensures)))
+    (cut_short items c.args.offset c.args.count q0 q1 (omega (arith, c.min-q0.ensures, c.len.ensures))
+    (omega (arith, c.min-q0.ensures)) (λ h. omega (arith, h, c.min-q0.ensures, c.len.ensures))
+    (omega (arith, c.min-q1.ensures, c.len-2.ensures)) (omega (arith, c.min-q1.ensures, c.saturating_add.ensures))
+    (λ h. omega (arith, h, c.min-q1.ensures, c.len-2.ensures, c.saturating_add.ensures)))

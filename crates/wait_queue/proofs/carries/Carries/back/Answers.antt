@@ -9,4 +9,5 @@ pub returns : goal.returns
 returns c =
     let same : length c.back_each.new.all ≡ c.truncate.new.self.len = omega arith in
     let each : c.back_each.new.all ≡ map with_kept (take c.self.inside.kept c.self.inside.all.items) = cc in
-    rw (← c.self.view_is, with_items_is c.truncate.new.self c.back_each.new.all same) (all_back _ _ _ each (omega (arith, length-take {A = Opening})))
+    rw (← c.self.view_is, with_items_is c.truncate.new.self c.back_each.new.all same)
+    (all_back _ _ _ each (omega (arith, length-take {A = Opening})))

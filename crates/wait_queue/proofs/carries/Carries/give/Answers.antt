@@ -12,10 +12,19 @@ returns-in_default-clause-ok c = rw (← c.self.view_is) (unchanged _ _ _ _ (cc)
 
 pub returns-clause-bytes : goal.returns-clause-bytes
 returns-clause-bytes c =
-    rw (← c.self.view_is, carry_of-read c.self.inside.all.items c.args.id c.in-Some.place c.index_mut-opening.result.now (cc) (cc))
+    rw (
+      ← c.self.view_is,
+      carry_of-read c.self.inside.all.items c.args.id c.in-Some.place c.index_mut-opening.result.now
+          (cc) (cc),
+    )
     c.give.ensures.bytes
 
 pub returns-clause-ok : goal.returns-clause-ok
 returns-clause-ok c =
-    rw (← c.self.view_is, carry_of-read c.self.inside.all.items c.args.id c.in-Some.place c.index_mut-opening.result.now (cc) (cc))
-    (on_ok_weaker c.give.result (λ e. changed _ _ _ _ c.index_mut-opening.result.now _ _ (cc) (cc) (cc)) c.give.ensures.ok)
+    rw (
+      ← c.self.view_is,
+      carry_of-read c.self.inside.all.items c.args.id c.in-Some.place c.index_mut-opening.result.now
+          (cc) (cc),
+    )
+    (on_ok_weaker c.give.result (λ e. changed _ _ _ _ c.index_mut-opening.result.now _ _ (cc) (cc) (cc))
+    c.give.ensures.ok)

@@ -10,4 +10,5 @@ returns-clause-waited c =
 
 pub returns-clause-new : goal.returns-clause-new
 returns-clause-new c =
-    rw (← c.self.view_is) (all_stay (is_read c.args.conn c.args.tag) c.self.inside.all c.mark_read.new.all _ _ (cc) (cc) (omega arith))
+    rw (← c.self.view_is) (all_stay (is_read c.args.conn c.args.tag) c.self.inside.all c.mark_read.new.all _ _ (cc) (cc)
+    (omega arith))

@@ -4,4 +4,5 @@ use Rattle.wait_queue.proofs.reads.Reads.remove_all.Goals as goal
 
 pub returns : goal.returns
 returns g c =
-    rw (← c.self.view_is) (all_stay (g.A.Answers.answers c.args.by.now) c.self.inside.all c.mark_answered.new.all _ _ (cc) (cc) (omega arith))
+    rw (← c.self.view_is) (all_stay (g.A.Answers.answers c.args.by.now) c.self.inside.all c.mark_answered.new.all _ _
+    (cc) (cc) (omega arith))

@@ -5,4 +5,5 @@ use Rattle.wait_queue.proofs.reads.Reads.remove_on.Goals as goal
 
 pub returns : goal.returns
 returns c =
-    rw (← c.self.view_is) (all_stay (is_on c.args.opening) c.self.inside.all c.mark_reads_on.new.all _ _ (cc) (cc) (omega arith))
+    rw (← c.self.view_is) (all_stay (is_on c.args.opening) c.self.inside.all c.mark_reads_on.new.all _ _ (cc) (cc)
+    (omega arith))

@@ -11,5 +11,6 @@ returns-in_default g c =
 pub returns : goal.returns
 returns g c =
     rw (← c.self.view_is, c.set_gone.ensures)
-    (answered (g.A.Answers.answers c.args.by.now) c.self.inside.all c.self.inside.kept c.in-Some.place (get_or c.self.inside.all c.in-Some.place no_waiting) _ (cc)
+    (answered (g.A.Answers.answers c.args.by.now) c.self.inside.all c.self.inside.kept c.in-Some.place
+    (get_or c.self.inside.all c.in-Some.place no_waiting) _ (cc)
     (get_or_default c.self.inside.all c.in-Some.place no_waiting _ c.in-Some.ensures.within) refl)

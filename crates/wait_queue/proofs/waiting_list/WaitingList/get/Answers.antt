@@ -10,5 +10,6 @@ unreachable-requires c =
     let within : c.args.i < length c.self.inside.order.items =
     omega (arith, ap length c.self.view_is, length-map c.self.inside.order.items (waiting_at c.self.inside.held))
     in
-    not_vacant c.self.inside.held c.self.inside.order.items c.args.i c.index-place.result.now within c.self.invariant c.index-place.ensures
+    not_vacant c.self.inside.held c.self.inside.order.items c.args.i c.index-place.result.now within
+    c.self.invariant c.index-place.ensures
     (sym c.get.ensures ∙ ap option_copied c.in-None.is)

@@ -7,7 +7,8 @@ use Rattle.wait_queue.proofs.waiting_list.WaitingList.set_gone.Goals as goal
 
 pub invariant_of-self : goal.invariant_of-self
 invariant_of-self c =
-    AreHeld-set c.self.inside.held c.self.inside.order.items c.args.i c.index_mut-place.result.now _ (ap (λ (p : Place). p.key) c.index_mut-place.ensures.value) c.self.invariant
+    AreHeld-set c.self.inside.held c.self.inside.order.items c.args.i c.index_mut-place.result.now _
+    (ap (λ (p : Place). p.key) c.index_mut-place.ensures.value) c.self.invariant
 
 pub returns : goal.returns
 returns c =
@@ -15,4 +16,5 @@ returns c =
     omega (arith, ap length c.self.view_is, length-map c.self.inside.order.items (waiting_at c.self.inside.held))
     in
     rw (← c.self.view_is)
-    (view-set c.self.inside.held c.self.inside.order.items c.args.i c.index_mut-place.result.now _ _ (ap (λ (p : Place). p.key) c.index_mut-place.ensures.value) within)
+    (view-set c.self.inside.held c.self.inside.order.items c.args.i c.index_mut-place.result.now _ _
+    (ap (λ (p : Place). p.key) c.index_mut-place.ensures.value) within)

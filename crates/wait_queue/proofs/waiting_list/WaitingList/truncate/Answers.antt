@@ -6,12 +6,16 @@ use Rattle.wait_queue.proofs.waiting_list.WaitingList.truncate.Goals as goal
 
 pub invariant_of-self : goal.invariant_of-self
 invariant_of-self c =
-    let same : SameOn c.release_from.new.held c.self.inside.held (take c.args.n c.self.inside.order.items) = rw (← c.as_slice.ensures.value) c.release_from.ensures in
+    let same : SameOn c.release_from.new.held c.self.inside.held (take c.args.n c.self.inside.order.items) =
+    rw (← c.as_slice.ensures.value) c.release_from.ensures in
     rw c.truncate.ensures.items
-    (AreHeld-same c.release_from.new.held c.self.inside.held _ same (AreHeld-take c.self.inside.held c.args.n c.self.inside.order.items c.self.invariant))
+    (AreHeld-same c.release_from.new.held c.self.inside.held _ same
+    (AreHeld-take c.self.inside.held c.args.n c.self.inside.order.items c.self.invariant))
 
 pub returns : goal.returns
 returns c =
-    let same : SameOn c.release_from.new.held c.self.inside.held (take c.args.n c.self.inside.order.items) = rw (← c.as_slice.ensures.value) c.release_from.ensures in
+    let same : SameOn c.release_from.new.held c.self.inside.held (take c.args.n c.self.inside.order.items) =
+    rw (← c.as_slice.ensures.value) c.release_from.ensures in
     rw (← c.self.view_is, c.truncate.ensures.items)
-    (view-same c.release_from.new.held c.self.inside.held _ same ∙ sym (take-map (waiting_at c.self.inside.held) c.args.n c.self.inside.order.items))
+    (view-same c.release_from.new.held c.self.inside.held _ same ∙
+    sym (take-map (waiting_at c.self.inside.held) c.args.n c.self.inside.order.items))
