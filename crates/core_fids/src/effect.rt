@@ -5,7 +5,7 @@ ghost use Rattle.core_fids.specs.Plainly.{demands, does, frees};
 
 use am_text::{Bytes, Items};
 use core_windows::Changes;
-use fid_table::Fid;
+use fid_table::{Fid, Held};
 use ninep_types::RBody;
 use std::alloc::Global;
 
@@ -59,11 +59,11 @@ pub enum Demand {
     /// The rules of the plumber are forgotten.
     ClearsRules,
     /// The sets of rules that are whole in this text are added; the fid that is put holds what is left of it.
-    AddsRules { text: Bytes },
+    AddsRules { text: Held },
     /// This text is added as rules, all of it.
     AddsRest { text: Bytes },
     /// The plumb messages that are whole in this text are sent; the fid that is put holds what is left of it.
-    Sends { text: Bytes },
+    Sends { text: Held },
 }
 
 /// What a message does: to its connection, to event files and ports, and to the windows; what it asks of the scene

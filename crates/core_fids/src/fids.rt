@@ -8,8 +8,8 @@ ghost use Rattle.core_fids.specs.Fids.{is_used, fids_full, fresh, is_open, is_fo
 use crate::directory::DirPart;
 use crate::server::Server;
 use acme_tree::{Node, WinFile};
-use am_text::{Bytes, Items, NoMemory, Part};
-use fid_table::Fid;
+use am_text::{NoMemory, Part};
+use fid_table::{Fid, Held};
 use std::alloc::Global;
 
 /// The bits of a mode that say how a file is used, and what they are for reading alone and for writing alone (open(5)).
@@ -47,7 +47,7 @@ pub(crate) fn fresh(alloc: Global, node: Node) -> Fid
         given: 0,
         skip: 0,
         part: Part::empty(),
-        held: Items::new(alloc),
+        held: Held::new(alloc),
     }
 }
 
@@ -119,7 +119,7 @@ pub fn copy(alloc: Global, fid: &Fid) -> Result<Fid, NoMemory>
         given: fid.given,
         skip: fid.skip,
         part: fid.part,
-        held: Items::copied(alloc, fid.held.as_slice())?,
+        held: fid.held.copy(alloc)?,
     })
 }
 
@@ -150,12 +150,10 @@ pub fn fid_with_part(alloc: Global, fid: &Fid, part: Part) -> Result<Fid, NoMemo
 }
 
 /// What the fid holds, with these bytes behind it.
-pub fn held_with(alloc: Global, fid: &Fid, bytes: &[u8]) -> Result<Bytes, NoMemory>
+pub fn held_with(alloc: Global, fid: &Fid, bytes: &[u8]) -> Result<Held, NoMemory>
     ensures { IfOk result (λ text. text ≡ held_with fid.now bytes.now) }
 {
-    let mut text = Items::copied(alloc, fid.held.as_slice())?;
-    text.append(bytes)?;
-    Ok(text)
+    fid.held.with(alloc, bytes)
 }
 
 /// The fid that holds nothing.
@@ -169,7 +167,7 @@ pub fn emptied_fid(alloc: Global, fid: &Fid) -> Fid
         given: fid.given,
         skip: fid.skip,
         part: fid.part,
-        held: Items::new(alloc),
+        held: Held::new(alloc),
     }
 }
 

@@ -25,7 +25,7 @@ use core_parts::Parts;
 use core_scene::{Change, Changes};
 use core_tasks::Task;
 use event_book::{BackFault, Book};
-use fid_table::Fid;
+use fid_table::{Fid, Held};
 use ninep_types::{RBody, TMsg};
 use std::alloc::Global;
 use win_events::{Origin, read_back};
@@ -93,7 +93,7 @@ pub fn answer_or(
 
 // ---- what a fid holds
 
-fn holding(fid: Fid, held: Option<Bytes>) -> Fid
+fn holding(fid: Fid, held: Option<Held>) -> Fid
     ensures { result ≡ record fid { held = held_or fid.held held } }
 {
     match held {
@@ -103,7 +103,7 @@ fn holding(fid: Fid, held: Option<Bytes>) -> Fid
 }
 
 /// The effect, where the fid that it puts holds this text, if there is one.
-pub fn with_held(effect: Effect, held: Option<Bytes>) -> Effect
+pub fn with_held(effect: Effect, held: Option<Held>) -> Effect
     ensures { result ≡ with_held effect held }
 {
     match effect {

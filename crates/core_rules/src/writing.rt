@@ -8,7 +8,7 @@ use crate::adding::{Written, add};
 use crate::refusal::RulesRefusal;
 use am_text::NoMemory;
 use core_scene::{Deed, Entry, Scene};
-use rule_syntax::sets_end;
+use fid_table::Held;
 use std::alloc::Global;
 
 /// Adds the whole sets of a text: what a fid of `rules` holds, with the bytes that are now written to it. A set ends at a
@@ -21,16 +21,18 @@ pub fn write_rules(
     alloc: Global,
     scene: &mut Scene,
     entry: Entry,
-    text: &[u8],
+    text: &mut Held,
 ) -> Result<Option<RulesRefusal>, NoMemory>
-    ensures refusal { IfOk result (λ refusal. refusal ≡ (rules_outcome text.now (scene_of scene.old)).refusal) }
-    ensures ok { OnOk result (Did entry (scene_of scene.old) (scene_of scene.new) (rules_outcome text.now (scene_of scene.old)).deeds) }
+    ensures refusal { IfOk result (λ refusal. refusal ≡ (rules_outcome text.old (scene_of scene.old)).refusal) }
+    ensures ok { OnOk result (Did entry (scene_of scene.old) (scene_of scene.new) (rules_outcome text.old (scene_of scene.old)).deeds) }
     ensures kept { kept_of scene.new ≡ kept_of scene.old }
+    ensures text { text.new ≡ text.old }
 {
-    let (whole, _) = text.split_at(sets_end(text));
+    let end = text.sets_end();
+    let bytes = text.as_slice();
     let written = Written {
-        text: whole,
-        bytes: text.len(),
+        text: bytes.split_at(end).0,
+        bytes: bytes.len(),
     };
     add(alloc, scene, entry, written)
 }
@@ -67,11 +69,17 @@ pub fn clear_rules(alloc: Global, scene: &mut Scene, entry: Entry) -> Result<(),
 
 /// What a fid of `rules` holds behind a write, with which it had this text: what follows the whole sets, and nothing where
 /// the write was refused.
-pub fn held_after(text: &[u8], refusal: Option<RulesRefusal>) -> &[u8]
-    ensures { result.now ≡ held_after text.now refusal }
+pub fn held_after(
+    alloc: Global,
+    text: Held,
+    refusal: Option<RulesRefusal>,
+) -> Result<Held, NoMemory>
+    ensures { IfOk result (λ held. held ≡ held_after text refusal) }
 {
-    match refusal {
-        None => text.split_at(sets_end(text)).1,
-        Some(_) => &[],
+    if refusal.is_some() {
+        return Ok(Held::new(alloc));
     }
+    let mut text = text;
+    let end = text.sets_end();
+    text.behind(alloc, end)
 }

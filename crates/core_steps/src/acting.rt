@@ -7,11 +7,12 @@ ghost use Rattle.core_events.specs.PortSound.{ArePortsSound};
 ghost use Rattle.core_intents.specs.Doings.{IsAnswerable};
 ghost use Rattle.core_intents.specs.Intents.{answer_or};
 
-use am_text::{Bytes, Ids, NoMemory};
+use am_text::{Ids, NoMemory};
 use core_fids::Answer;
 use core_intents::answer_or;
 use core_scene::{Entry, Scene, WindowItems};
 use core_tasks::{Ended, Task, do_task};
+use fid_table::Held;
 use std::alloc::Global;
 
 /// What a task makes: items, and windows that are deleted; what is held then; and the answer to the message.
@@ -19,7 +20,7 @@ use std::alloc::Global;
 pub(crate) struct Acted {
     pub items: WindowItems,
     pub deleted: Ids,
-    pub held: Option<Bytes>,
+    pub held: Option<Held>,
     pub answer: Option<Answer>,
 }
 

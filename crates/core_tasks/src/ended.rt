@@ -2,8 +2,8 @@
 
 ghost use Rattle.std.specs.Prelude.{◌≡◌, None, Some};
 
-use am_text::Bytes;
 use core_fids::Refusal;
+use fid_table::Held;
 
 /// How a task ended.
 #[derive(Drop)]
@@ -11,7 +11,7 @@ pub struct Ended {
     /// Why it is refused, if it is.
     pub refusal: Option<Refusal>,
     /// What the fid holds now that was written to, where the task says it.
-    pub held: Option<Bytes>,
+    pub held: Option<Held>,
 }
 
 impl Ended {
@@ -33,7 +33,7 @@ impl Ended {
     }
 
     /// The task is refused, if it is, and this is held.
-    pub(crate) fn holding(refusal: Option<Refusal>, held: Bytes) -> Ended
+    pub(crate) fn holding(refusal: Option<Refusal>, held: Held) -> Ended
         ensures { result ≡ record { refusal = refusal; held = Some held } }
     {
         Ended {

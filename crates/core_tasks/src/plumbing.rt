@@ -7,11 +7,12 @@ ghost use Rattle.core_scene.specs.Scenes.{scene_of, kept_of, Did};
 ghost use Rattle.core_tasks.specs.Plumbing.{of_rules, of_plumb, of_send, rules_if_any, send_if_any};
 
 use crate::ended::Ended;
-use am_text::{Bytes, NoMemory};
+use am_text::NoMemory;
 use core_fids::Refusal;
 use core_plumb::PlumbRefusal;
 use core_rules::{RulesRefusal, SendRefusal, Sent, held_after, send, write_rules};
 use core_scene::{Entry, Scene};
+use fid_table::Held;
 use std::alloc::Global;
 
 fn of_rules(refusal: RulesRefusal) -> Refusal
@@ -62,34 +63,37 @@ fn send_if_any(refusal: Option<SendRefusal>) -> Option<Refusal>
 }
 
 // What becomes of a text of rules that is refused, if it is.
-fn rules_held(alloc: Global, text: &[u8], refusal: Option<RulesRefusal>) -> Result<Ended, NoMemory>
+fn rules_held(alloc: Global, text: Held, refusal: Option<RulesRefusal>) -> Result<Ended, NoMemory>
     ensures { IfOk result (λ ended. ended ≡ record {
       refusal = rules_if_any refusal;
-      held = Some (held_after text.now refusal);
+      held =
+          Some (held_after text refusal);
     }) }
 {
-    let held = Bytes::copied(alloc, held_after(text, refusal))?;
+    let held = held_after(alloc, text, refusal)?;
     Ok(Ended::holding(rules_if_any(refusal), held))
 }
 
-/// Adds the whole sets of rules of a text: what a fid of `rules` held, with what is written to it.
-/// What follows them is held.
+/// Adds the whole sets of rules of a text: what a fid of `rules` held, with what is written to it. What follows them is
+/// held.
 pub(crate) fn add_rules(
     alloc: Global,
     scene: &mut Scene,
     entry: Entry,
-    text: &[u8],
+    text: Held,
 ) -> Result<Ended, NoMemory>
     ensures ok { OnOk result (Did entry (scene_of scene.old) (scene_of scene.new)
-        (rules_outcome text.now (scene_of scene.old)).deeds) }
-    ensures ended { IfOk result
-        (λ ended. ended ≡ record {
-          refusal = rules_if_any (rules_outcome text.now (scene_of scene.old)).refusal;
-          held = Some (held_after text.now (rules_outcome text.now (scene_of scene.old)).refusal);
-        }) }
+        (rules_outcome text (scene_of scene.old)).deeds) }
+    ensures ended { IfOk result (λ ended. ended ≡ record {
+      refusal =
+          rules_if_any (rules_outcome text (scene_of scene.old)).refusal;
+      held =
+          Some (held_after text (rules_outcome text (scene_of scene.old)).refusal);
+    }) }
     ensures kept { kept_of scene.new ≡ kept_of scene.old }
 {
-    let refusal = write_rules(alloc, scene, entry, text)?;
+    let mut text = text;
+    let refusal = write_rules(alloc, scene, entry, &mut text)?;
     rules_held(alloc, text, refusal)
 }
 
@@ -102,11 +106,11 @@ pub(crate) fn add_rest(
 ) -> Result<Ended, NoMemory>
     ensures ok { OnOk result (Did entry (scene_of scene.old) (scene_of scene.new)
         (rest_outcome text.now (scene_of scene.old)).deeds) }
-    ensures ended { IfOk result
-        (λ ended. ended ≡ record {
-          refusal = rules_if_any (rest_outcome text.now (scene_of scene.old)).refusal;
-          held = None;
-        }) }
+    ensures ended { IfOk result (λ ended. ended ≡ record {
+      refusal =
+          rules_if_any (rest_outcome text.now (scene_of scene.old)).refusal;
+      held = None;
+    }) }
     ensures kept { kept_of scene.new ≡ kept_of scene.old }
 {
     let refusal = core_rules::add_rest(alloc, scene, entry, text)?;
@@ -114,33 +118,30 @@ pub(crate) fn add_rest(
 }
 
 // What becomes of a text of plumb messages.
-fn sent_held(alloc: Global, sent: Sent<'_>) -> Result<Ended, NoMemory>
-    ensures { IfOk result (λ ended. ended ≡ record {
-      refusal = send_if_any sent.entry.refusal;
-      held = Some sent.entry.held.now;
-    }) }
+fn sent_held(sent: Sent) -> Ended
+    ensures { result ≡ record { refusal = send_if_any sent.refusal; held = Some sent.held } }
 {
-    let held = Bytes::copied(alloc, sent.held)?;
-    Ok(Ended::holding(send_if_any(sent.refusal), held))
+    let Sent { refusal, held } = sent;
+    Ended::holding(send_if_any(refusal), held)
 }
 
-/// Plumbs the whole messages of a text: what a fid of `send` held, with what is written to it. A message that is
-/// begun behind them is held.
+/// Plumbs the whole messages of a text: what a fid of `send` held, with what is written to it. A message that is begun
+/// behind them is held.
 pub(crate) fn plumb_all(
     alloc: Global,
     scene: &mut Scene,
     entry: Entry,
-    text: &[u8],
+    text: Held,
 ) -> Result<Ended, NoMemory>
     ensures ok { OnOk result (Did entry (scene_of scene.old) (scene_of scene.new)
-        (send_outcome entry text.now (scene_of scene.old)).deeds) }
-    ensures ended { IfOk result
-        (λ ended. ended ≡ record {
-          refusal = send_if_any (send_outcome entry text.now (scene_of scene.old)).refusal;
-          held = Some (send_outcome entry text.now (scene_of scene.old)).held;
-        }) }
+        (send_outcome entry text (scene_of scene.old)).deeds) }
+    ensures ended { IfOk result (λ ended. ended ≡ record {
+      refusal =
+          send_if_any (send_outcome entry text (scene_of scene.old)).refusal;
+      held =
+          Some (send_outcome entry text (scene_of scene.old)).held;
+    }) }
     ensures kept { kept_of scene.new ≡ kept_of scene.old }
 {
-    let sent = send(alloc, scene, entry, text)?;
-    sent_held(alloc, sent)
+    Ok(sent_held(send(alloc, scene, entry, text)?))
 }

@@ -13,6 +13,7 @@ use am_text::{Bytes, NoMemory};
 use core_exec::{Spot, act_on, exec_at, look_at};
 use core_rules::clear_rules;
 use core_scene::{Changes, Deed, Entry, Scene, deeds_of};
+use fid_table::Held;
 use std::alloc::Global;
 
 /// What a step does to the scene.
@@ -35,11 +36,11 @@ pub enum Task {
     /// All rules of the plumber are forgotten.
     ClearsRules,
     /// The whole sets of rules of a text are added: what a fid of `rules` held, with what is written to it.
-    AddsRules { text: Bytes },
+    AddsRules { text: Held },
     /// A text of rules is added whole: what a fid of `rules` still holds when it is freed.
     AddsRest { text: Bytes },
     /// The whole plumb messages of a text are plumbed: what a fid of `send` held, with what is written to it.
-    Sends { text: Bytes },
+    Sends { text: Held },
 }
 
 // Makes changes of windows.
@@ -75,9 +76,9 @@ fn run(alloc: Global, scene: &mut Scene, entry: Entry, task: Task) -> Result<End
         Task::Stores { path, bytes } => scene.act(alloc, entry, Deed::Stores { path, bytes })?,
         Task::MakesDir { path } => scene.act(alloc, entry, Deed::MakesDir { path })?,
         Task::ClearsRules => clear_rules(alloc, scene, entry)?,
-        Task::AddsRules { text } => return add_rules(alloc, scene, entry, text.as_slice()),
+        Task::AddsRules { text } => return add_rules(alloc, scene, entry, text),
         Task::AddsRest { text } => return add_rest(alloc, scene, entry, text.as_slice()),
-        Task::Sends { text } => return plumb_all(alloc, scene, entry, text.as_slice()),
+        Task::Sends { text } => return plumb_all(alloc, scene, entry, text),
     }
     Ok(Ended::done())
 }

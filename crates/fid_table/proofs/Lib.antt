@@ -2,3 +2,4 @@ pub mod FidLemmas
 pub mod PlaceLemmas
 pub mod UndoLemmas
 pub mod LawLemmas
+pub mod HeldLemmas

@@ -2,6 +2,7 @@
 #![tactic(auto)]
 
 mod fids;
+mod held;
 mod laws;
 mod session;
 mod sessions;
@@ -9,6 +10,7 @@ mod table;
 mod types;
 mod undo;
 
+pub use held::Held;
 pub use laws::{drops_all_fids, finds_what_was_put, forgets_what_was_taken, leaves_other_fids};
 pub use sessions::Sessions;
 pub use types::Fid;

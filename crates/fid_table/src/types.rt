@@ -1,7 +1,8 @@
 //! What a fid keeps.
 
+use crate::held::Held;
 use acme_tree::Node;
-use am_text::{Bytes, Part};
+use am_text::Part;
 
 /// A fid: the node at which it stands, and what its reads and writes go on with (intro(5)).
 #[derive(Drop)]
@@ -18,5 +19,5 @@ pub struct Fid {
     /// The start of a character whose rest wasn't written yet.
     pub part: Part,
     /// What was written and isn't whole yet.
-    pub held: Bytes,
+    pub held: Held,
 }

@@ -1,8 +1,10 @@
 pub mod Attributes
 pub mod AttrsLines
 pub mod Counts
+pub mod GrowLemmas
 pub mod LineKinds
 pub mod Lines
+pub mod MemoLemmas
 pub mod MessageLaws
 pub mod NameLemmas
 pub mod Readers

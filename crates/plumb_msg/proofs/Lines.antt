@@ -82,3 +82,5 @@ after-is bs rest h = after-joined bs (10 ∷ rest) h
 pub has-is : (bs rest : List ℕ) → has_newline (bs ++ 10 ∷ rest) ≡ true
 has-is [] rest = refl
 has-is (b ∷ bs) rest = elim (eqb b 10) as (λ t. (t || has_newline (bs ++ 10 ∷ rest)) ≡ true) [ true ↦ refl | false ↦ has-is bs rest ]
+
+pub ruleset fewer = after-le

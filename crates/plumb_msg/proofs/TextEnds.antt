@@ -168,7 +168,7 @@ valid_front bs (suc m) =
       | false ↦ λ e. valid_front bs m
     ] refl
 
-valid : (bs : List ℕ) → IsUtf8 (take (utf8_valid_len bs) bs)
+pub valid : (bs : List ℕ) → IsUtf8 (take (utf8_valid_len bs) bs)
 unfolding utf8_valid_len
 valid bs = valid_front bs (length bs)
 

@@ -1,6 +1,7 @@
 pub mod Attributes
 pub mod Fields
 pub mod Grammar
+pub mod Growing
 pub mod Laws
 pub mod Limits
 pub mod Names

@@ -1,8 +1,10 @@
 //! Plumb messages, after plumb(6).
 #![tactic(auto)]
 
+mod begun;
 mod laws;
 mod limits;
+mod memo;
 mod message;
 mod names;
 mod reading;
@@ -11,6 +13,7 @@ mod texts;
 mod unread;
 mod writing;
 
+pub use begun::Begun;
 pub use laws::{
     answers_are_exact, attribute_lines_are_their_grammar, messages_are_read_again, reading_goes_on,
 };

@@ -46,7 +46,8 @@ fn attrs_line(alloc: Global, bytes: &[u8]) -> Result<(Attrs, &[u8]), Stop>
     }
 }
 
-fn count_of(line: &[u8]) -> Option<usize>
+/// The number of bytes of data that a line tells, if it is one.
+pub(crate) fn count_of(line: &[u8]) -> Option<usize>
     ensures { result ≡ count_of line.now }
 {
     match read_decimal(line) {

@@ -177,7 +177,8 @@ fn step(alloc: Global, scan: Scan, b: u8) -> Result<Option<Scan>, NoMemory>
     }
 }
 
-fn start(alloc: Global) -> Scan
+/// Nothing was read.
+pub(crate) fn start(alloc: Global) -> Scan
     ensures { result ≡ start }
 {
     Scan {
@@ -188,12 +189,13 @@ fn start(alloc: Global) -> Scan
     }
 }
 
+/// All these bytes of a line further, where a line goes on so.
 #[tactic(auto, using(crate::proofs::ScanLemmas::scans))]
-fn scanned(alloc: Global, line: &[u8]) -> Result<Option<Scan>, NoMemory>
-    ensures { IfOk result (λ s. s ≡ scan start line.now) }
+pub(crate) fn scanned(alloc: Global, from: Scan, bytes: &[u8]) -> Result<Option<Scan>, NoMemory>
+    ensures { IfOk result (λ s. s ≡ scan from bytes.now) }
 {
-    let mut scan = start(alloc);
-    for b in line {
+    let mut scan = from;
+    for b in bytes {
         let Some(next) = step(alloc, scan, *b)? else {
             return Ok(None);
         };
@@ -227,7 +229,7 @@ pub fn read_attrs(alloc: Global, line: &[u8]) -> Result<Option<Attrs>, NoMemory>
     if !is_utf8(line) {
         return Ok(None);
     }
-    finished(alloc, scanned(alloc, line)?)
+    finished(alloc, scanned(alloc, start(alloc), line)?)
 }
 
 /// Whether more bytes can make the bytes a line of attributes.
@@ -237,5 +239,5 @@ pub(crate) fn is_attrs_front(alloc: Global, bytes: &[u8]) -> Result<bool, NoMemo
     if !is_text_front(bytes) {
         return Ok(false);
     }
-    Ok(scanned(alloc, bytes)?.is_some())
+    Ok(scanned(alloc, start(alloc), bytes)?.is_some())
 }

@@ -5,3 +5,4 @@ pub mod PartLemmas
 pub mod Further
 pub mod Lines
 pub mod PortNames
+pub mod Scans

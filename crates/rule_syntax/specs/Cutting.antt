@@ -1,5 +1,5 @@
 -- Where whole sets end in a text of rules that is still being written.
-use Rattle.std.specs.Prelude.{ℕ, ◌+◌, Bool, false, ◌&&◌, ◌||◌, ◌==◌, not, List, [], ◌∷◌, length, take, drop, Option, Some, None, if◌then◌else◌}
+use Rattle.std.specs.Prelude.{◌≡◌, ℕ, ◌+◌, ◌≤◌, Bool, false, ◌&&◌, ◌||◌, ◌==◌, not, List, [], ◌∷◌, ◌++◌, length, take, drop, Option, Some, None, if◌then◌else◌}
 use Rattle.std.specs.List.{list_any}
 use Rattle.am_text.specs.Ascii.{newline, quote}
 use Rattle.rule_syntax.specs.Words.{is_blank_line, is_comment}
@@ -86,3 +86,11 @@ whole_sets text = take (sets_end text) text
 -- what is left behind the whole sets
 abbrev pub begun_set : List ℕ → List ℕ
 begun_set text = drop (sets_end text) text
+
+-- ---- texts that grow
+
+-- A front of the text was scanned so far: from there on the lines give what all lines give, whatever follows the text.
+pub record IsScanOf (s : Scan) (text : List ℕ) : Type 0 where
+  pub inside : s.at ≤ length text
+  pub ends : s.end ≤ s.at
+  pub same : (more : List ℕ) → after_lines s (ended_lines (drop s.at text ++ more)) ≡ after_lines front (ended_lines (text ++ more))

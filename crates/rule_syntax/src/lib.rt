@@ -16,7 +16,7 @@ mod text_words;
 mod verbs;
 mod words;
 
-pub use cutting::sets_end;
+pub use cutting::{Scan, sets_end};
 pub use fault::RuleFault;
 pub use laws::{arguments_are_read_in_parts, expressions_have_sizes};
 pub use naming::ports_of;

@@ -1,7 +1,7 @@
 use Rattle.std.proofs.Common.{◌≡◌, length}
 use Rattle.core_scene.specs.Scenes.{scene_of, kept_of}
 use Rattle.core_rules.proofs.Rest.{AreLeft}
-use Rattle.core_rules.proofs.sending.send.Given as goal
+use Rattle.core_rules.proofs.sending.send_read.Given as goal
 
 abbrev pub invariant-loop-alloc : goal.invariant-loop-alloc
 invariant-loop-alloc l = record {

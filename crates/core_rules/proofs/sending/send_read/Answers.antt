@@ -3,7 +3,7 @@ use Rattle.std.proofs.lemmas.Bool.Decides.{nat_tests}
 use Rattle.core_scene.specs.Scenes.{scene_of}
 use Rattle.core_rules.proofs.Cutting.{used_inside, fewer, cut_more, cut_bad, cut_none}
 use Rattle.core_rules.proofs.Rest.{AreLeft, left_all, left_behind, refused_did, refused_so, refused_held, ended_did, ended_so, ended_held}
-use Rattle.core_rules.proofs.sending.send.Goals as goal
+use Rattle.core_rules.proofs.sending.send_read.Goals as goal
 
 pub loop-alloc-init : goal.loop-alloc-init
 loop-alloc-init c = record { left = left_all c.args.entry c.args.text.now (scene_of c.args.scene.now); kept = refl }
