@@ -15,7 +15,8 @@ use Rattle.core_intents.specs.Intents.{is_refusal, or_refused, demanded_task, de
 use Rattle.acme_core.specs.Laws.{EachIsAnswered}
 use Rattle.core_intents.specs.Origins.{message_origin}
 
-or_refused_answers : (asked : TBody) (x : Option Refusal) (a : Answer) → IsAnswered asked a → IsAnswered asked (or_refused x a)
+or_refused_answers : (asked : TBody) (x : Option Refusal) (a : Answer) → IsAnswered asked a
+    → IsAnswered asked (or_refused x a)
 or_refused_answers asked None a h = h
 or_refused_answers asked (Some refusal) a h =
     elim (is_refusal a) as (λ b. IsAnswered asked (cond b a (Says (r.Error (refusal_text refusal))))) [
@@ -27,5 +28,6 @@ pub answered : EachReactionAnswers → EachIsAnswered
 answered law s conn msg =
     let d : Reaction = reaction_at s conn msg in
     let x : Option Refusal = demand_refusal s.scene.book d.demand in
-    or_refused_answers msg.body (task_refusal (entry_by s (message_origin s.tables conn msg.body)) (demanded_task s.scene.book d.changes d.demand) s.scene) (or_refused x d.answer)
+    or_refused_answers msg.body (task_refusal (entry_by s (message_origin s.tables conn msg.body))
+    (demanded_task s.scene.book d.changes d.demand) s.scene) (or_refused x d.answer)
     (or_refused_answers msg.body x d.answer (law (server_at s conn) msg.body))

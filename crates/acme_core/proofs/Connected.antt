@@ -1,5 +1,6 @@
 -- What a journal says of connections is what the editor has.
-use Rattle.std.proofs.Common.{◌≡◌, ℕ, zero, suc, ◌<◌, Bool, true, false, cond, eqb, ◌||◌, List, [], ◌∷◌, ◌++◌, length, Option, Some, None, refl, sym, ap, subst, ◌∙◌, arith, append_assoc}
+use Rattle.std.proofs.Common.{◌≡◌, ℕ, zero, suc, ◌<◌, Bool, true, false, cond, eqb, ◌||◌, List, [], ◌∷◌, ◌++◌, length}
+use Rattle.std.proofs.Common.{Option, Some, None, refl, sym, ap, subst, ◌∙◌, arith, append_assoc}
 use Rattle.std.specs.Prelude.{slice_set, replicate, nat_lt, nat_le}
 use Rattle.std.proofs.lemmas.Bool.{eqb-true, eqb-false}
 use Rattle.std.proofs.lemmas.List.{append-nil}
@@ -15,14 +16,16 @@ use Rattle.am_journal.specs.declared.event.Why.TheVariants as why
 use Rattle.am_journal.specs.Lawful.{IsLawful}
 use Rattle.am_counter.specs.declared.ask.Ask.TheVariants as ask
 use Rattle.am_counter.specs.Laws.{TellsConnections}
-use Rattle.am_counter.specs.Played.{ArePlayed, IsPlayed, has_dial, has_hang, is_dial_of, is_hang_of, dial_why, hang_why, IsMessageWhy}
+use Rattle.am_counter.specs.Played.{ArePlayed, IsPlayed, has_dial, has_hang, is_dial_of, is_hang_of, dial_why, hang_why}
+use Rattle.am_counter.specs.Played.{IsMessageWhy}
 use Rattle.core_parts.specs.declared.connection.Connection.{Connection}
 use Rattle.core_parts.specs.declared.connection.Connection.TheVariants.{Undialed, Live, Ended}
 use Rattle.acme_core.specs.Asks.{answer_at}
 use Rattle.core_closing.specs.Asks.{is_ended}
 use Rattle.core_parts.specs.Connections.{connection_at, connections_after}
 use Rattle.core_intents.specs.Doings.{enabled_at, is_tag_used}
-use Rattle.core_intents.specs.Enabled.{dial_refusal, live_refusal, first_why, msg_refusal, size_refusal, most_bytes, tag_refusal, replies_refusal}
+use Rattle.core_intents.specs.Enabled.{dial_refusal, live_refusal, first_why, msg_refusal, size_refusal, most_bytes}
+use Rattle.core_intents.specs.Enabled.{tag_refusal, replies_refusal}
 use Rattle.core_parts.specs.Kinds.{kind_of}
 use Rattle.acme_core.specs.Run.{step, run, enabled, present_after}
 use Rattle.acme_core.proofs.Few.{length-connections}
@@ -47,27 +50,34 @@ or_true true = refl
 or_true false = refl
 
 same : (v : Connection) (d h d2 h2 : Bool) → d2 ≡ d → h2 ≡ h → IsTold v d h → IsTold v d2 h2
-same v d h d2 h2 ed eh told = subst (λ (b : Bool). IsTold v b h2) (sym ed) (subst (λ (b : Bool). IsTold v d b) (sym eh) told)
+same v d h d2 h2 ed eh told = subst (λ (b : Bool). IsTold v b h2) (sym ed)
+    (subst (λ (b : Bool). IsTold v d b) (sym eh) told)
 
 idle : (v : Connection) (d h : Bool) → IsTold v d h → IsTold v (d || (false || false)) (h || (false || false))
 idle v d h told = same v d h _ _ (or_false d) (or_false h) told
 
-dialled : (v w : Connection) (d h : Bool) → dial_refusal v ≡ None → w ≡ Live → IsTold v d h → IsTold w (d || (true || false)) (h || (false || false))
+dialled : (v w : Connection) (d h : Bool) → dial_refusal v ≡ None → w ≡ Live → IsTold v d h
+    → IsTold w (d || (true || false)) (h || (false || false))
 unfolding IsTold
-dialled Undialed w d h e is told = subst (λ (c : Connection). IsTold c (d || (true || false)) (h || (false || false))) (sym is) (or_true d, or_false h ∙ told.1)
+dialled Undialed w d h e is told = subst (λ (c : Connection). IsTold c (d || (true || false)) (h || (false || false)))
+    (sym is) (or_true d, or_false h ∙ told.1)
 dialled Live w d h e is told = absurd cc
 dialled (Ended why) w d h e is told = absurd cc
 
-hung_up : (v w : Connection) (d h : Bool) (reason : Ending) → live_refusal v ≡ None → w ≡ Ended reason → IsTold v d h → IsTold w (d || (false || false)) (h || (true || false))
+hung_up : (v w : Connection) (d h : Bool) (reason : Ending) → live_refusal v ≡ None → w ≡ Ended reason → IsTold v d h
+    → IsTold w (d || (false || false)) (h || (true || false))
 unfolding IsTold
 hung_up Undialed w d h reason e is told = absurd cc
-hung_up Live w d h reason e is told = subst (λ (c : Connection). IsTold c (d || (false || false)) (h || (true || false))) (sym is) (or_false d ∙ told.0, or_true h)
+hung_up Live w d h reason e is told = subst (λ (c : Connection). IsTold c (d || (false || false))
+    (h || (true || false))) (sym is) (or_false d ∙ told.0, or_true h)
 hung_up (Ended why) w d h reason e is told = absurd cc
 
-one_dial : (cs : List Connection) (c x : ℕ) (d h : Bool) → c < length cs → dial_refusal (connection_at cs c) ≡ None → IsTold (connection_at cs x) d h
+one_dial : (cs : List Connection) (c x : ℕ) (d h : Bool) → c < length cs
+    → dial_refusal (connection_at cs c) ≡ None → IsTold (connection_at cs x) d h
     → IsTold (connection_at (slice_set cs c Live) x) (d || (eqb c x || false)) (h || (false || false))
 one_dial cs c x d h inside allowed told =
-    elim (eqb c x) as (λ b. eqb c x ≡ b → IsTold (connection_at (slice_set cs c Live) x) (d || (b || false)) (h || (false || false))) [
+    elim (eqb c x) as (λ b. eqb c x ≡ b → IsTold (connection_at (slice_set cs c Live) x) (d || (b || false))
+    (h || (false || false))) [
       | true ↦ λ e. let at : c ≡ x = eqb-true c x e in
           dialled (connection_at cs x) _ d h (subst (λ (y : ℕ). dial_refusal (connection_at cs y) ≡ None) at allowed)
           (subst (λ (y : ℕ). connection_at (slice_set cs c Live) y ≡ Live) at (here cs c Live inside)) told
@@ -75,21 +85,30 @@ one_dial cs c x d h inside allowed told =
           (sym (elsewhere cs c x Live (λ (s : x ≡ c). eqb-false c x e (sym s)))) (idle (connection_at cs x) d h told)
     ] refl
 
-one_hang : (cs : List Connection) (c x : ℕ) (reason : Ending) (d h : Bool) → c < length cs → live_refusal (connection_at cs c) ≡ None → IsTold (connection_at cs x) d h
+one_hang : (cs : List Connection) (c x : ℕ) (reason : Ending) (d h : Bool) → c < length cs
+    → live_refusal (connection_at cs c) ≡ None → IsTold (connection_at cs x) d h
     → IsTold (connection_at (slice_set cs c (Ended reason)) x) (d || (false || false)) (h || (eqb c x || false))
 one_hang cs c x reason d h inside allowed told =
-    elim (eqb c x) as (λ b. eqb c x ≡ b → IsTold (connection_at (slice_set cs c (Ended reason)) x) (d || (false || false)) (h || (b || false))) [
+    elim (eqb c x) as (λ b. eqb c x ≡ b → IsTold (connection_at (slice_set cs c (Ended reason)) x)
+    (d || (false || false)) (h || (b || false))) [
       | true ↦ λ e. let at : c ≡ x = eqb-true c x e in
-          hung_up (connection_at cs x) _ d h reason (subst (λ (y : ℕ). live_refusal (connection_at cs y) ≡ None) at allowed)
-          (subst (λ (y : ℕ). connection_at (slice_set cs c (Ended reason)) y ≡ Ended reason) at (here cs c (Ended reason) inside)) told
+          hung_up (connection_at cs x) _ d h reason (subst (λ (y : ℕ). live_refusal (connection_at cs y) ≡ None) at
+          allowed)
+          (subst (λ (y : ℕ). connection_at (slice_set cs c (Ended reason)) y ≡ Ended reason) at
+          (here cs c (Ended reason) inside)) told
       | false ↦ λ e. subst (λ (v : Connection). IsTold v (d || (false || false)) (h || (false || false)))
-          (sym (elsewhere cs c x (Ended reason) (λ (s : x ≡ c). eqb-false c x e (sym s)))) (idle (connection_at cs x) d h told)
+          (sym (elsewhere cs c x (Ended reason) (λ (s : x ≡ c). eqb-false c x e (sym s))))
+          (idle (connection_at cs x) d h told)
     ] refl
 
-told_on : (s : Present) (e : Event) (x : ℕ) (d h : Bool) → length s.connections ≡ 64 → IsLawful e → enabled_at s e ≡ None → IsTold (connection_at s.connections x) d h
-    → IsTold (connection_at (connections_after s.connections (kind_of e)) x) (d || (is_dial_of x e || false)) (h || (is_hang_of x e || false))
-told_on s (event.Dial c) x d h n lawful allowed told = one_dial s.connections c x d h (omega (arith, n, lawful)) allowed told
-told_on s (event.Hang c reason) x d h n lawful allowed told = one_hang s.connections c x reason d h (omega (arith, n, lawful)) allowed told
+told_on : (s : Present) (e : Event) (x : ℕ) (d h : Bool) → length s.connections ≡ 64 → IsLawful e
+    → enabled_at s e ≡ None → IsTold (connection_at s.connections x) d h
+    → IsTold (connection_at (connections_after s.connections (kind_of e)) x) (d || (is_dial_of x e || false))
+    (h || (is_hang_of x e || false))
+told_on s (event.Dial c) x d h n lawful allowed told = one_dial s.connections c x d h (omega (arith, n, lawful)) allowed
+    told
+told_on s (event.Hang c reason) x d h n lawful allowed told = one_hang s.connections c x reason d h
+    (omega (arith, n, lawful)) allowed told
 told_on s (event.Msg c msg) x d h n lawful allowed told = idle (connection_at s.connections x) d h told
 told_on s (event.Took c) x d h n lawful allowed told = idle (connection_at s.connections x) d h told
 told_on s event.New x d h n lawful allowed told = idle (connection_at s.connections x) d h told
@@ -106,7 +125,8 @@ told_on s (event.Dir path) x d h n lawful allowed told = idle (connection_at s.c
 -- the connections after a journal are as it tells
 record AreTold (journal : List Event) : Type 0 where
   conns : length (run journal).connections ≡ 64
-  told : (conn : ℕ) → IsTold (connection_at (run journal).connections conn) (has_dial journal conn) (has_hang journal conn)
+  told : (conn : ℕ) → IsTold (connection_at (run journal).connections conn) (has_dial journal conn)
+      (has_hang journal conn)
 
 undialed_at : (n c : ℕ) → connection_at (replicate n Undialed) c ≡ Undialed
 undialed_at zero c = refl
@@ -124,16 +144,21 @@ step-connections : (s : State) (e : Event) → (step s e).connections ≡ connec
 unfolding step
 step-connections s e = refl
 
-pushed : (journal : List Event) (e : Event) → (run (journal ++ e ∷ [])).connections ≡ connections_after (run journal).connections (kind_of e)
+pushed : (journal : List Event) (e : Event) → (run (journal ++ e ∷ [])).connections
+    ≡ connections_after (run journal).connections (kind_of e)
 pushed journal e = ap (λ (s : State). s.connections) (run-push journal e) ∙ step-connections (run journal) e
 
-told_more : (journal : List Event) (e : Event) → IsLawful e → enabled journal e ≡ None → AreTold journal → AreTold (journal ++ e ∷ [])
+told_more : (journal : List Event) (e : Event) → IsLawful e → enabled journal e ≡ None → AreTold journal
+    → AreTold (journal ++ e ∷ [])
 told_more journal e lawful allowed was = record {
-  conns = ap (λ (cs : List Connection). length cs) (pushed journal e) ∙ length-connections (run journal).connections (kind_of e) ∙ was.conns;
+  conns = ap (λ (cs : List Connection). length cs) (pushed journal e)
+      ∙ length-connections (run journal).connections (kind_of e) ∙ was.conns;
   told = λ conn.
       same (connection_at (run (journal ++ e ∷ [])).connections conn) _ _ _ _
       (list_any-append (is_dial_of conn) journal (e ∷ [])) (list_any-append (is_hang_of conn) journal (e ∷ []))
-      (subst (λ (cs : List Connection). IsTold (connection_at cs conn) (has_dial journal conn || (is_dial_of conn e || false)) (has_hang journal conn || (is_hang_of conn e || false)))
+      (subst (λ (cs : List Connection). IsTold (connection_at cs conn)
+      (has_dial journal conn || (is_dial_of conn e || false)) (has_hang journal conn
+      || (is_hang_of conn e || false)))
       (sym (pushed journal e)) (told_on (present_after journal) e conn _ _ was.conns lawful allowed (was.told conn)));
 }
 
@@ -141,7 +166,8 @@ told_all : (before events : List Event) → ArePlayed enabled before events → 
 unfolding ArePlayed
 told_all before [] played was = subst AreTold (sym (append-nil before)) was
 told_all before (e ∷ events) played was =
-    subst AreTold (append_assoc before (e ∷ []) events) (told_all (before ++ e ∷ []) events played.2 (told_more before e played.0 played.1 was))
+    subst AreTold (append_assoc before (e ∷ []) events) (told_all (before ++ e ∷ []) events played.2
+    (told_more before e played.0 played.1 was))
 
 told_by : (journal : List Event) → IsPlayed enabled journal → AreTold journal
 told_by journal played = told_all [] journal played none_told
@@ -154,13 +180,16 @@ dial_told Undialed d h told = sym (ap (λ (b : Bool). cond b (Some why.Dialed) N
 dial_told Live d h told = sym (ap (λ (b : Bool). cond b (Some why.Dialed) None) told.0)
 dial_told (Ended reason) d h told = sym (ap (λ (b : Bool). cond b (Some why.Dialed) None) told.0)
 
-hang_told : (v : Connection) (d h : Bool) → IsTold v d h → live_refusal v ≡ cond d (cond h (Some why.Ended) None) (Some why.Conn)
+hang_told : (v : Connection) (d h : Bool) → IsTold v d h → live_refusal v ≡ cond d (cond h (Some why.Ended) None)
+    (Some why.Conn)
 unfolding IsTold
 hang_told Undialed d h told = sym (ap (λ (b : Bool). cond b (cond h (Some why.Ended) None) (Some why.Conn)) told.0)
 hang_told Live d h told =
-    sym (ap (λ (b : Bool). cond b (cond h (Some why.Ended) None) (Some why.Conn)) told.0 ∙ ap (λ (b : Bool). cond b (Some why.Ended) None) told.1)
+    sym (ap (λ (b : Bool). cond b (cond h (Some why.Ended) None) (Some why.Conn)) told.0
+    ∙ ap (λ (b : Bool). cond b (Some why.Ended) None) told.1)
 hang_told (Ended reason) d h told =
-    sym (ap (λ (b : Bool). cond b (cond h (Some why.Ended) None) (Some why.Conn)) told.0 ∙ ap (λ (b : Bool). cond b (Some why.Ended) None) told.1)
+    sym (ap (λ (b : Bool). cond b (cond h (Some why.Ended) None) (Some why.Conn)) told.0
+    ∙ ap (λ (b : Bool). cond b (Some why.Ended) None) told.1)
 
 ended_told : (v : Connection) (d h : Bool) → IsTold v d h → is_ended v ≡ h
 unfolding IsTold
@@ -172,44 +201,57 @@ room_why : (journal : List Event) (conn : ℕ) (b : Bool) → IsMessageWhy journ
 room_why journal conn true = tt
 room_why journal conn false = tt
 
-tag_why : (journal : List Event) (conn : ℕ) (b : Bool) (later : Option Why) → IsMessageWhy journal conn later → IsMessageWhy journal conn (first_why (cond b (Some why.Tag) None) later)
+tag_why : (journal : List Event) (conn : ℕ) (b : Bool) (later : Option Why) → IsMessageWhy journal conn later
+    → IsMessageWhy journal conn (first_why (cond b (Some why.Tag) None) later)
 tag_why journal conn true later h = tt
 tag_why journal conn false later h = h
 
-size_why : (journal : List Event) (conn : ℕ) (b : Bool) (later : Option Why) → IsMessageWhy journal conn later → IsMessageWhy journal conn (first_why (cond b (Some why.Size) None) later)
+size_why : (journal : List Event) (conn : ℕ) (b : Bool) (later : Option Why) → IsMessageWhy journal conn later
+    → IsMessageWhy journal conn (first_why (cond b (Some why.Size) None) later)
 size_why journal conn true later h = tt
 size_why journal conn false later h = h
 
-message_told : (journal : List Event) (conn : ℕ) (v : Connection) (later : Option Why) → IsTold v (has_dial journal conn) (has_hang journal conn)
+message_told : (journal : List Event) (conn : ℕ) (v : Connection) (later : Option Why)
+    → IsTold v (has_dial journal conn) (has_hang journal conn)
     → IsMessageWhy journal conn later → IsMessageWhy journal conn (first_why (live_refusal v) later)
 unfolding IsTold
 message_told journal conn Undialed later told h = told.0
 message_told journal conn Live later told h = h
 message_told journal conn (Ended reason) later told h = told.1
 
-dial_law : (journal : List Event) (conn : ℕ) → IsPlayed enabled journal → enabled journal (event.Dial conn) ≡ dial_why journal conn
+dial_law : (journal : List Event) (conn : ℕ) → IsPlayed enabled journal
+    → enabled journal (event.Dial conn) ≡ dial_why journal conn
 dial_law journal conn played =
-    dial_told (connection_at (run journal).connections conn) (has_dial journal conn) (has_hang journal conn) ((told_by journal played).told conn)
+    dial_told (connection_at (run journal).connections conn) (has_dial journal conn) (has_hang journal conn)
+    ((told_by journal played).told conn)
 
-hang_law : (journal : List Event) (conn : ℕ) (reason : Ending) → IsPlayed enabled journal → enabled journal (event.Hang conn reason) ≡ hang_why journal conn
+hang_law : (journal : List Event) (conn : ℕ) (reason : Ending) → IsPlayed enabled journal
+    → enabled journal (event.Hang conn reason) ≡ hang_why journal conn
 hang_law journal conn reason played =
-    hang_told (connection_at (run journal).connections conn) (has_dial journal conn) (has_hang journal conn) ((told_by journal played).told conn)
+    hang_told (connection_at (run journal).connections conn) (has_dial journal conn) (has_hang journal conn)
+    ((told_by journal played).told conn)
 
-message_why : (journal : List Event) (conn : ℕ) (v : Connection) (msize : Option ℕ) (used : Bool) (count size : ℕ) → IsTold v (has_dial journal conn) (has_hang journal conn)
+message_why : (journal : List Event) (conn : ℕ) (v : Connection) (msize : Option ℕ) (used : Bool) (count size : ℕ)
+    → IsTold v (has_dial journal conn) (has_hang journal conn)
     → IsMessageWhy journal conn (msg_refusal v msize used count size)
 message_why journal conn v msize used count size told =
-    message_told journal conn v (first_why (size_refusal msize size) (first_why (tag_refusal used) (replies_refusal count))) told
+    message_told journal conn v (first_why (size_refusal msize size)
+    (first_why (tag_refusal used) (replies_refusal count))) told
     (size_why journal conn (nat_lt (most_bytes msize) size) (first_why (tag_refusal used) (replies_refusal count))
     (tag_why journal conn used (replies_refusal count) (room_why journal conn (nat_le 256 count))))
 
-message_law : (journal : List Event) (conn : ℕ) (msg : TMsg) → IsPlayed enabled journal → IsMessageWhy journal conn (enabled journal (event.Msg conn msg))
+message_law : (journal : List Event) (conn : ℕ) (msg : TMsg) → IsPlayed enabled journal
+    → IsMessageWhy journal conn (enabled journal (event.Msg conn msg))
 message_law journal conn msg played =
     let s : Present = present_after journal in
-    message_why journal conn (connection_at s.connections conn) (msize_of s.tables conn) (is_tag_used s.tables conn msg) (unsent_count s conn) (length (spelling_t msg)) ((told_by journal played).told conn)
+    message_why journal conn (connection_at s.connections conn) (msize_of s.tables conn) (is_tag_used s.tables conn msg)
+    (unsent_count s conn) (length (spelling_t msg)) ((told_by journal played).told conn)
 
-ended_law : (journal : List Event) (conn : ℕ) → IsPlayed enabled journal → answer_at journal (ask.Ended conn) ≡ has_hang journal conn
+ended_law : (journal : List Event) (conn : ℕ) → IsPlayed enabled journal
+    → answer_at journal (ask.Ended conn) ≡ has_hang journal conn
 ended_law journal conn played =
-    ended_told (connection_at (run journal).connections conn) (has_dial journal conn) (has_hang journal conn) ((told_by journal played).told conn)
+    ended_told (connection_at (run journal).connections conn) (has_dial journal conn) (has_hang journal conn)
+    ((told_by journal played).told conn)
 
 pub tells_connections : TellsConnections enabled answer_at
 tells_connections = record {

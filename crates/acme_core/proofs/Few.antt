@@ -28,7 +28,8 @@ weight_below : (b : Bool) → cond b 1 0 ≤ 1
 weight_below true = omega arith
 weight_below false = omega arith
 
-count_set : (cs : List Connection) (k : ℕ) (v : Connection) → k < length cs → live_count (slice_set cs k v) + weight (connection_at cs k) ≡ live_count cs + weight v
+count_set : (cs : List Connection) (k : ℕ) (v : Connection) → k < length cs
+    → live_count (slice_set cs k v) + weight (connection_at cs k) ≡ live_count cs + weight v
 unfolding weight
 count_set cs k v h = sum_by-set (λ c. cond (is_live c) 1 0) cs k v Undialed h
 
@@ -43,10 +44,15 @@ unfolding weight
 weight_most v = weight_below (is_live v)
 
 -- one more lives at most
-pub lives_more : (cs : List Connection) (k : Kind) → length cs ≡ 64 → IsNumbered k → live_count (connections_after cs k) ≤ live_count cs + 1
+pub lives_more : (cs : List Connection) (k : Kind) → length cs ≡ 64 → IsNumbered k
+    → live_count (connections_after cs k) ≤ live_count cs + 1
 lives_more cs (kind.Dials conn) n h = omega (arith, count_set cs conn Live (omega (arith, n, h)), weight_most Live)
 lives_more cs (kind.Asks conn tag) n h = omega arith
-lives_more cs (kind.Ends conn why) n h = omega (arith, count_set cs conn (Ended why) (omega (arith, n, h)), weight_most (Ended why))
+lives_more cs (kind.Ends conn why) n h = omega (
+  arith,
+  count_set cs conn (Ended why) (omega (arith, n, h)),
+  weight_most (Ended why),
+)
 lives_more cs (kind.Takes conn) n h = omega arith
 lives_more cs kind.Acts n h = omega arith
 
@@ -60,7 +66,13 @@ unfolding weight
 ended_weight why = refl
 
 -- a hang-up ends one
-pub lives_less : (cs : List Connection) (conn : ℕ) (why : _) → length cs ≡ 64 → conn < 64 → live_refusal (connection_at cs conn) ≡ None
+pub lives_less : (cs : List Connection) (conn : ℕ) (why : _) → length cs ≡ 64 → conn < 64
+    → live_refusal (connection_at cs conn) ≡ None
     → live_count (slice_set cs conn (Ended why)) + 1 ≡ live_count cs
 lives_less cs conn why n h e =
-    omega (arith, count_set cs conn (Ended why) (omega (arith, n, h)), weight_live (connection_at cs conn) e, ended_weight why)
+    omega (
+      arith,
+      count_set cs conn (Ended why) (omega (arith, n, h)),
+      weight_live (connection_at cs conn) e,
+      ended_weight why,
+    )

@@ -1,5 +1,6 @@
 -- A run goes on, and what is kept goes on with it.
-use Rattle.std.proofs.Common.{◌≡◌, ℕ, zero, suc, false, ◌+◌, ◌-◌, List, [], ◌∷◌, ◌++◌, length, Option, Some, None, refl, sym, ap, subst, ◌∙◌, arith, append_assoc}
+use Rattle.std.proofs.Common.{◌≡◌, ℕ, zero, suc, false, ◌+◌, ◌-◌, List, [], ◌∷◌, ◌++◌, length, Option, Some, None, refl}
+use Rattle.std.proofs.Common.{sym, ap, subst, ◌∙◌, arith, append_assoc}
 use Rattle.std.specs.Prelude.{replicate}
 use Rattle.std.specs.List.{fold}
 use Rattle.std.proofs.lemmas.Grind.{fold-append}
@@ -41,12 +42,22 @@ run-push journal e = fold-append step start journal (e ∷ [])
 
 -- ---- the events were enabled
 
-played_more : (allows : List Event → Event → Option Why) (before events : List Event) (e : Event) → ArePlayed allows before events → IsLawful e → allows (before ++ events) e ≡ None
+played_more : (allows : List Event → Event → Option Why) (before events : List Event) (e : Event)
+    → ArePlayed allows before events → IsLawful e → allows (before ++ events) e ≡ None
     → ArePlayed allows before (events ++ e ∷ [])
 unfolding ArePlayed
-played_more allows before [] e all lawful allowed = (lawful, subst (λ (l : List Event). allows l e ≡ None) (append-nil before) allowed, tt)
-played_more allows before (x ∷ events) e all lawful allowed =
-    (all.0, all.1, played_more allows (before ++ x ∷ []) events e all.2 lawful (subst (λ (l : List Event). allows l e ≡ None) (sym (append_assoc before (x ∷ []) events)) allowed))
+played_more allows before [] e all lawful allowed = (
+  lawful,
+  subst (λ (l : List Event). allows l e ≡ None)
+      (append-nil before) allowed,
+  tt,
+)
+played_more allows before (x ∷ events) e all lawful allowed = (
+  all.0,
+  all.1,
+  played_more allows (before ++ x ∷ []) events e all.2 lawful
+      (subst (λ (l : List Event). allows l e ≡ None) (sym (append_assoc before (x ∷ []) events)) allowed),
+)
 
 none_played : (allows : List Event → Event → Option Why) → IsPlayed allows []
 unfolding ArePlayed
@@ -54,12 +65,21 @@ none_played allows = tt
 
 -- ---- and could be done
 
-possible_more : (before events : List Event) (e : Event) → ArePossible before events → CanBeDone (present_after (before ++ events)) (doing_of (present_after (before ++ events)) e)
+possible_more : (before events : List Event) (e : Event) → ArePossible before events
+    → CanBeDone (present_after (before ++ events)) (doing_of (present_after (before ++ events)) e)
     → ArePossible before (events ++ e ∷ [])
 unfolding ArePossible
-possible_more before [] e all can = (subst (λ (l : List Event). CanBeDone (present_after l) (doing_of (present_after l) e)) (append-nil before) can, tt)
-possible_more before (x ∷ events) e all can =
-    (all.0, possible_more (before ++ x ∷ []) events e all.1 (subst (λ (l : List Event). CanBeDone (present_after l) (doing_of (present_after l) e)) (sym (append_assoc before (x ∷ []) events)) can))
+possible_more before [] e all can = (
+  subst (λ (l : List Event). CanBeDone (present_after l)
+      (doing_of (present_after l) e)) (append-nil before) can,
+  tt,
+)
+possible_more before (x ∷ events) e all can = (
+  all.0,
+  possible_more (before ++ x ∷ []) events e all.1 (subst
+      (λ (l : List Event). CanBeDone (present_after l) (doing_of (present_after l) e))
+      (sym (append_assoc before (x ∷ []) events)) can),
+)
 
 pub none_possible : IsPossible []
 unfolding ArePossible
@@ -67,31 +87,38 @@ none_possible = tt
 
 -- what the deeds of a step make of the windows is what their changes make of the story
 shows : DeedsShow → (s : State) (e : Event) → AreLawful s.windows → CanBeDone (present s) (doing_of (present s) e)
-    → AreShown (entry_of (present s) (doing_of (present s) e)) s.windows (present s).scene (doing_of (present s) e).deeds
-shows show s e lawful possible = show (entry_of (present s) (doing_of (present s) e)) s.windows (present s).scene (doing_of (present s) e).deeds refl lawful possible
+    → AreShown (entry_of (present s) (doing_of (present s) e)) s.windows (present s).scene
+    (doing_of (present s) e).deeds
+shows show s e lawful possible = show (entry_of (present s) (doing_of (present s) e)) s.windows (present s).scene
+    (doing_of (present s) e).deeds refl lawful possible
 
 -- what a step makes of the editor as it stands is what it makes of the story
 stands_on : DeedsShow → (s : State) (e : Event) → AreLawful s.windows → CanBeDone (present s) (doing_of (present s) e)
     → present (step s e) ≡ after (present s) e (doing_of (present s) e)
 unfolding step
 stands_on show s e lawful possible =
-    ap (λ (ws : List (Option Window)). record (after (present s) e (doing_of (present s) e)) { scene = record (after (present s) e (doing_of (present s) e)).scene { windows = ws } })
+    ap (λ (ws : List (Option Window)). record (after (present s) e (doing_of (present s) e))
+    { scene = record (after (present s) e (doing_of (present s) e)).scene { windows = ws } })
     (shows show s e lawful possible).shown
 
-pub lawful_on : DeedsShow → (s : State) (e : Event) → AreLawful s.windows → CanBeDone (present s) (doing_of (present s) e) → AreLawful (step s e).windows
+pub lawful_on : DeedsShow → (s : State) (e : Event) → AreLawful s.windows
+    → CanBeDone (present s) (doing_of (present s) e) → AreLawful (step s e).windows
 unfolding step
 lawful_on show s e lawful possible = (shows show s e lawful possible).lawful
 
 -- the tables stay sound
 sound_on : (old new : Parts) (spare : ℕ) (p : Prepared) → AreSound old → IsPrepared (present_of old) spare old p
-    → present_of new ≡ after (present_of old) p.event (doing_of (present_of old) p.event) → IsSound new.entries new.scene.book.kept → IsIdle new.scene.book.kept
+    → present_of new ≡ after (present_of old) p.event (doing_of (present_of old) p.event)
+    → IsSound new.entries new.scene.book.kept → IsIdle new.scene.book.kept
     → ArePortsSound new.scene.ports.kept → ArePortsIdle new.scene.ports.kept → AreSound new
 sound_on old new spare p was ready changed book idle ports ports_idle =
     let s : Present = present_of old in
     record {
-      conns = ap (λ (x : Present). length x.connections) changed ∙ length-connections old.connections.items (kind_of p.event) ∙ was.conns;
+      conns = ap (λ (x : Present). length x.connections) changed ∙ length-connections old.connections.items
+          (kind_of p.event) ∙ was.conns;
       joined = subst (λ (x : Present). AreJoined x.connections x.tables) (sym changed)
-          (joins_on s (kind_of p.event) (doing_of s p.event) was.conns (numbered p.event ready.lawful) (found s p.event ready.allowed) was.joined);
+          (joins_on s (kind_of p.event) (doing_of s p.event) was.conns (numbered p.event ready.lawful)
+          (found s p.event ready.allowed) was.joined);
       book = book;
       idle = idle;
       ports = ports;
@@ -99,9 +126,11 @@ sound_on old new spare p was ready changed book idle ports ports_idle =
     }
 
 -- what is kept goes on with a step
-pub kept_on : DeedsShow → (entries next : Room Event) (old new : Parts) (p : Prepared) (e : Event) (left : Option Prepared)
+pub kept_on : DeedsShow → (entries next : Room Event) (old new : Parts) (p : Prepared) (e : Event)
+    (left : Option Prepared)
     → IsKept entries old (Some p) → e ≡ p.event → next.items ≡ entries.items ++ e ∷ [] → next.spare ≡ entries.spare - 1
-    → present_of new ≡ after (present_of old) p.event (doing_of (present_after entries.items) p.event) → IsSound new.entries new.scene.book.kept → ArePortsSound new.scene.ports.kept → AreSteady new → left ≡ None
+    → present_of new ≡ after (present_of old) p.event (doing_of (present_after entries.items) p.event)
+    → IsSound new.entries new.scene.book.kept → ArePortsSound new.scene.ports.kept → AreSteady new → left ≡ None
     → IsKept next new left
 kept_on show entries next old new p e left was is grown spare changed book ports steady none =
     let s : State = run entries.items in
@@ -110,34 +139,56 @@ kept_on show entries next old new p e left was is grown spare changed book ports
     let stood : present_of new ≡ after (present s) p.event (doing_of (present s) p.event) =
     changed ∙ ap (λ (x : Present). after x p.event (doing_of (present s) p.event)) was.state
     in
-    let stepped : present_of new ≡ present (step s p.event) = stood ∙ sym (stands_on show s p.event was.lawful ready.possible) in
+    let stepped : present_of new ≡ present (step s p.event) = stood
+    ∙ sym (stands_on show s p.event was.lawful ready.possible) in
     let ran : step s p.event ≡ run next.items = sym (run-push entries.items p.event) ∙ ap run (sym pushed) in
-    let readied : IsPrepared (present_of old) entries.spare old p = subst (λ (x : Present). IsPrepared x entries.spare old p) (sym was.state) ready in
+    let readied : IsPrepared (present_of old) entries.spare old p =
+    subst (λ (x : Present). IsPrepared x entries.spare old p) (sym was.state) ready in
     let same : present_of new ≡ after (present_of old) p.event (doing_of (present_of old) p.event) =
     changed ∙ ap (λ (x : Present). after (present_of old) p.event (doing_of x p.event)) (sym was.state)
     in
-    let lives : new.connections.items ≡ connections_after old.connections.items (kind_of p.event) = ap (λ (x : Present). x.connections) changed in
-    let count : live_count new.connections.items ≡ live_count (connections_after old.connections.items (kind_of p.event)) = ap live_count lives in
+    let lives : new.connections.items ≡ connections_after old.connections.items (kind_of p.event) =
+    ap (λ (x : Present). x.connections) changed in
+    let count : live_count new.connections.items ≡ live_count (connections_after old.connections.items
+    (kind_of p.event)) = ap live_count lives in
     let numbered : new.entries ≡ old.entries + 1 = ap (λ (x : Present). x.entries) changed in
     let had : (present s).entries ≡ old.entries = sym (ap (λ (x : Present). x.entries) was.state) in
-    let longer : length next.items ≡ length entries.items + 1 = ap (λ (l : List Event). length l) pushed ∙ length-append entries.items (p.event ∷ []) in
+    let longer : length next.items ≡ length entries.items + 1 = ap (λ (l : List Event). length l) pushed
+    ∙ length-append entries.items (p.event ∷ []) in
     record {
-      played = subst (λ (l : List Event). IsPlayed enabled l) (sym pushed) (played_more enabled [] entries.items p.event was.played ready.lawful ready.allowed);
+      played = subst (λ (l : List Event). IsPlayed enabled l) (sym pushed)
+          (played_more enabled [] entries.items p.event was.played ready.lawful ready.allowed);
       possible = subst IsPossible (sym pushed) (possible_more [] entries.items p.event was.possible ready.possible);
       state = stepped ∙ ap present ran;
       lawful = subst (λ (x : State). AreLawful x.windows) ran (lawful_on show s p.event was.lawful ready.possible);
       counted = omega (arith, numbered, was.counted, longer);
-      sound = sound_on old new entries.spare p was.sound readied same book (subst (λ (x : Present). IsIdle x.scene.book) (sym (stepped ∙ ap present ran)) (idle_after next.items))
-          ports (subst (λ (x : Present). ArePortsIdle x.scene.ports) (sym (stepped ∙ ap present ran)) (ports_idle_after next.items));
-      hangs = record { room = omega (arith, count, spare, ready.entries.room); numbers = omega (arith, count, numbered, had, ready.entries.numbers) };
+      sound = sound_on old new entries.spare p was.sound readied same book
+          (subst (λ (x : Present). IsIdle x.scene.book) (sym (stepped ∙ ap present ran)) (idle_after next.items))
+          ports (subst (λ (x : Present). ArePortsIdle x.scene.ports) (sym (stepped ∙ ap present ran))
+          (ports_idle_after next.items));
+      hangs = record {
+        room = omega (arith, count, spare, ready.entries.room);
+        numbers =
+            omega (arith, count, numbered, had, ready.entries.numbers);
+      };
       ready = subst (λ (x : Option Prepared). IsReady (present_after next.items) next.spare new x) (sym none) steady;
     }
 
 -- a plan that waits is dropped
-pub kept_back : (entries : Room Event) (parts new : Parts) (prepared left : Option Prepared) → IsKept entries parts prepared → left ≡ None
-    → new ≡ record parts { sessions = both parts.sessions.kept; scene = scene_in (kept_of parts.scene); outputs = both parts.outputs.kept } → IsKept entries new left
+pub kept_back : (entries : Room Event) (parts new : Parts) (prepared left : Option Prepared)
+    → IsKept entries parts prepared → left ≡ None
+    → new ≡ record parts {
+      sessions = both parts.sessions.kept;
+      scene = scene_in (kept_of parts.scene);
+      outputs =
+          both parts.outputs.kept;
+    } → IsKept entries new left
 kept_back entries parts new prepared left was none back =
-    let gone : Parts = record parts { sessions = both parts.sessions.kept; scene = scene_in (kept_of parts.scene); outputs = both parts.outputs.kept } in
+    let gone : Parts = record parts {
+      sessions = both parts.sessions.kept;
+      scene = scene_in (kept_of parts.scene);
+      outputs = both parts.outputs.kept;
+    } in
     subst (λ (x : Parts). IsKept entries x left) (sym back)
     (record {
       played = was.played;
@@ -145,9 +196,17 @@ kept_back entries parts new prepared left was none back =
       state = was.state;
       lawful = was.lawful;
       counted = was.counted;
-      sound = record { conns = was.sound.conns; joined = was.sound.joined; book = was.sound.book; idle = was.sound.idle; ports = was.sound.ports; ports_idle = was.sound.ports_idle };
+      sound = record {
+        conns = was.sound.conns;
+        joined = was.sound.joined;
+        book = was.sound.book;
+        idle = was.sound.idle;
+        ports = was.sound.ports;
+        ports_idle = was.sound.ports_idle;
+      };
       hangs = was.hangs;
-      ready = subst (λ (x : Option Prepared). IsReady (present_after entries.items) entries.spare gone x) (sym none) (record { sessions = refl; scene = settled_in (kept_of parts.scene); outputs = refl });
+      ready = subst (λ (x : Option Prepared). IsReady (present_after entries.items) entries.spare gone x) (sym none)
+          (record { sessions = refl; scene = settled_in (kept_of parts.scene); outputs = refl });
     })
 
 -- ---- the empty editor
@@ -161,10 +220,12 @@ none_live : (n : ℕ) → live_count (replicate n Undialed) ≡ 0
 none_live zero = refl
 none_live (suc n) = none_live n
 
-pub kept_start : ChangesAreLawful → (entries : Room Event) (parts : Parts) → entries.items ≡ [] → present_of parts ≡ present start → AreSteady parts → IsKept entries parts None
+pub kept_start : ChangesAreLawful → (entries : Room Event) (parts : Parts) → entries.items ≡ []
+    → present_of parts ≡ present start → AreSteady parts → IsKept entries parts None
 unfolding run
 kept_start laws entries parts empty state steady =
-    let none : live_count parts.connections.items ≡ 0 = ap (λ (x : Present). live_count x.connections) state ∙ none_live 64 in
+    let none : live_count parts.connections.items ≡ 0 = ap (λ (x : Present). live_count x.connections) state
+    ∙ none_live 64 in
     let first : parts.entries ≡ 0 = ap (λ (x : Present). x.entries) state in
     record {
       played = subst (λ (l : List Event). IsPlayed enabled l) (sym empty) (none_played enabled);
@@ -175,7 +236,8 @@ kept_start laws entries parts empty state steady =
       sound = record {
         conns = ap (λ (x : Present). length x.connections) state;
         joined = subst (λ (x : Present). AreJoined x.connections x.tables) (sym state) (undialed_at 64);
-        book = subst (λ (x : Present). IsSound x.entries x.scene.book) (sym state) (record { latest = omega arith; small = refl });
+        book = subst (λ (x : Present). IsSound x.entries x.scene.book) (sym state)
+            (record { latest = omega arith; small = refl });
         idle = subst (λ (x : Present). IsIdle x.scene.book) (sym state) refl;
         ports = subst (λ (x : Present). ArePortsSound x.scene.ports) (sym state) sound_beginning;
         ports_idle = subst (λ (x : Present). ArePortsIdle x.scene.ports) (sym state) refl;
@@ -197,22 +259,27 @@ entries_counted journal = omega (arith, counts start journal)
 
 -- ---- the numbers of groups
 
-numbered_on : NumbersStay → (s : State) (e : Event) → AreNumbered s.entries s.windows → AreNumbered (step s e).entries (step s e).windows
+numbered_on : NumbersStay → (s : State) (e : Event) → AreNumbered s.entries s.windows
+    → AreNumbered (step s e).entries (step s e).windows
 unfolding step
-numbered_on law s e h = law.stays s.entries (s.entries + 1) s.windows (changes_in (doing_of (present s) e).deeds) (omega arith) h
+numbered_on law s e h = law.stays s.entries (s.entries + 1) s.windows (changes_in (doing_of (present s) e).deeds)
+    (omega arith) h
 
-numbered_from : NumbersStay → (s : State) (journal : List Event) → AreNumbered s.entries s.windows → AreNumbered (fold step s journal).entries (fold step s journal).windows
+numbered_from : NumbersStay → (s : State) (journal : List Event) → AreNumbered s.entries s.windows
+    → AreNumbered (fold step s journal).entries (fold step s journal).windows
 numbered_from law s [] h = h
 numbered_from law s (e ∷ journal) h = numbered_from law (step s e) journal (numbered_on law s e h)
 
 pub groups_numbered : NumbersStay → (journal : List Event) → AreNumbered (length journal) (run journal).windows
 unfolding run
 groups_numbered law journal =
-    subst (λ (n : ℕ). AreNumbered n (fold step start journal).windows) (entries_counted journal) (numbered_from law start journal law.begins)
+    subst (λ (n : ℕ). AreNumbered n (fold step start journal).windows) (entries_counted journal)
+    (numbered_from law start journal law.begins)
 
 -- ---- where no plan waits
 
-pub steady_of : (s : Present) (spare : ℕ) (parts : Parts) (prepared : Option Prepared) → planned_of prepared ≡ None → IsReady s spare parts prepared → AreSteady parts
+pub steady_of : (s : Present) (spare : ℕ) (parts : Parts) (prepared : Option Prepared)
+    → planned_of prepared ≡ None → IsReady s spare parts prepared → AreSteady parts
 steady_of s spare parts None none ready = ready
 steady_of s spare parts (Some p) none ready = absurd cc
 

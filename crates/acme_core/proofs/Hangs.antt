@@ -38,29 +38,47 @@ use Rattle.core_parts.specs.States.{Present}
 use Rattle.core_steps.specs.Replies.{replies_of}
 use Rattle.core_outputs.specs.Unsent.{put_replies}
 
-pub hang_ready : (p : Parts) (e : Event) (at : ℕ) (replies : Vec Reply) → is_hang e ≡ true → IsJoinedFor p.sessions.kept (kind_of e) → AreSteady p
-    → IsSound (p.entries + 1) p.scene.book.kept → IsIdle p.scene.book.kept → ArePortsSound p.scene.ports.kept → ArePortsIdle p.scene.ports.kept → at ≡ p.entries + 1 → replies.items ≡ []
-    → HasReady p (record { event = e; at = at; effect = effect.Nothing; events = events.Nothing; deleted = []; back = None; said = []; replies = replies }) (doing_of (present_of p) e)
+pub hang_ready : (p : Parts) (e : Event) (at : ℕ) (replies : Vec Reply)
+    → is_hang e ≡ true → IsJoinedFor p.sessions.kept (kind_of e) → AreSteady p
+    → IsSound (p.entries + 1) p.scene.book.kept → IsIdle p.scene.book.kept → ArePortsSound p.scene.ports.kept
+    → ArePortsIdle p.scene.ports.kept → at ≡ p.entries + 1 → replies.items ≡ []
+    → HasReady p (record {
+      event = e;
+      at = at;
+      effect = effect.Nothing;
+      events = events.Nothing;
+      deleted = [];
+      back =
+          None;
+      user = None;
+      said = [];
+      replies = replies;
+    }) (doing_of (present_of p) e)
 unfolding task_deeds task_held
 hang_ready p (event.Hang conn why) at replies h joined steady sound idle ports ports_idle numbered none =
     let b : BookState = p.scene.book.kept in
     let silent : served_of b ≡ None = none_served b idle in
     let q : PortsState = p.scene.ports.kept in
-    let said : served_all (p.entries + 1) b ++ ports_served q ≡ [] = ap (λ (xs : List Response). xs ++ ports_served q) (all_none (p.entries + 1) b silent) ∙ none_said q ports_idle in
+    let said : served_all (p.entries + 1) b ++ ports_served q ≡ [] = ap (λ (xs : List Response). xs ++ ports_served q)
+    (all_none (p.entries + 1) b silent) ∙ none_said q ports_idle in
     record {
       at = numbered;
       effect = refl;
       events = refl;
       deleted = refl;
       back = refl;
+      user = refl;
       answers = sym said;
       replies = none ∙ ap replies_of (sym said);
       joined = subst (λ (t : Tables). IsOfJoined t (kind_of (event.Hang conn why))) (sym steady.sessions) joined;
       sessions = steady.sessions;
-      scene = settled_is p.scene steady.scene ∙ ap (λ (x : BookState). record (kept_of p.scene) { book = x }) (sym (book_all_none (p.entries + 1) b silent))
-          ∙ ap (λ (x : PortsState). record (kept_of p.scene) { book = book_served_all (p.entries + 1) b; ports = x }) (sym (none_taken q ports_idle));
+      scene = settled_is p.scene steady.scene ∙ ap (λ (x : BookState). record (kept_of p.scene) { book = x })
+          (sym (book_all_none (p.entries + 1) b silent))
+          ∙ ap (λ (x : PortsState). record (kept_of p.scene) { book = book_served_all (p.entries + 1) b; ports = x })
+          (sym (none_taken q ports_idle));
       ports = subst ArePortsSound (sym steady.scene.ports) ports;
-      sound = subst (λ (n : ℕ). IsSound n p.scene.book.present) (sym numbered) (subst (λ (x : BookState). IsSound (p.entries + 1) x) (sym steady.scene.book) sound);
+      sound = subst (λ (n : ℕ). IsSound n p.scene.book.present) (sym numbered)
+          (subst (λ (x : BookState). IsSound (p.entries + 1) x) (sym steady.scene.book) sound);
       outputs = steady.outputs ∙ ap (λ (xs : List Response). put_replies p.outputs.kept (replies_of xs)) (sym said);
     }
 hang_ready p (event.Dial conn) at replies h joined steady sound idle ports ports_idle numbered none = absurd cc
@@ -92,18 +110,23 @@ hang_can s (event.File path text) h = absurd cc
 hang_can s (event.Dir path) h = absurd cc
 
 -- a hang-up that is enabled is prepared where it is ready
-pub hang_prepared : (s : Present) (spare : ℕ) (parts : Parts) (p : Prepared) (e : Event) → is_hang e ≡ true → IsLawful e → enabled_at s e ≡ None → p.event ≡ e → HasReady parts p (doing_of s e)
-    → s.connections ≡ parts.connections.items → length parts.connections.items ≡ 64 → HasEntries s.entries spare (live_count parts.connections.items) → IsPrepared s spare parts p
+pub hang_prepared : (s : Present) (spare : ℕ) (parts : Parts) (p : Prepared) (e : Event) → is_hang e ≡ true → IsLawful e
+    → enabled_at s e ≡ None → p.event ≡ e → HasReady parts p (doing_of s e)
+    → s.connections ≡ parts.connections.items → length parts.connections.items ≡ 64 → HasEntries s.entries spare
+    (live_count parts.connections.items) → IsPrepared s spare parts p
 hang_prepared s spare parts p (event.Hang conn why) h lawful allowed is ready same few entries =
     let cs : List Connection = parts.connections.items in
-    let here : live_refusal (connection_at cs conn) ≡ None = subst (λ (x : List Connection). live_refusal (connection_at x conn) ≡ None) same allowed in
-    let less : live_count (slice_set cs conn (Ended why)) + 1 ≡ live_count cs = lives_less cs conn why few lawful here in
+    let here : live_refusal (connection_at cs conn) ≡ None = subst
+    (λ (x : List Connection). live_refusal (connection_at x conn) ≡ None) same allowed in
+    let less : live_count (slice_set cs conn (Ended why)) + 1 ≡ live_count cs = lives_less cs conn why few lawful
+    here in
     record {
       lawful = subst IsLawful (sym is) lawful;
       allowed = subst (λ (x : Event). enabled_at s x ≡ None) (sym is) allowed;
       possible = subst (λ (x : Event). CanBeDone s (doing_of s x)) (sym is) (hang_can s (event.Hang conn why) h);
       ready = subst (λ (x : Event). HasReady parts p (doing_of s x)) (sym is) ready;
-      entries = subst (λ (x : Event). HasEntries s.entries spare (live_count (connections_after cs (kind_of x)) + 1)) (sym is)
+      entries = subst (λ (x : Event). HasEntries s.entries spare (live_count (connections_after cs (kind_of x)) + 1))
+          (sym is)
           (subst (λ (n : ℕ). HasEntries s.entries spare n) (sym less) entries);
     }
 hang_prepared s spare parts p (event.Dial conn) h lawful allowed is ready same few entries = absurd cc
@@ -121,9 +144,21 @@ hang_prepared s spare parts p (event.Dir path) h lawful allowed is ready same fe
 pub ruleset hung = (hang_prepared)
 
 -- the same, where what is deleted and said is known to be nothing
-pub hanging : (p : Parts) (e : Event) (at : ℕ) (replies : Vec Reply) (deleted : List ℕ) (heard : List Response) → deleted ≡ [] → heard ≡ [] → is_hang e ≡ true
-    → IsJoinedFor p.sessions.kept (kind_of e) → AreSteady p → IsSound (p.entries + 1) p.scene.book.kept → IsIdle p.scene.book.kept → ArePortsSound p.scene.ports.kept
+pub hanging : (p : Parts) (e : Event) (at : ℕ) (replies : Vec Reply) (deleted : List ℕ) (heard : List Response)
+    → deleted ≡ [] → heard ≡ [] → is_hang e ≡ true
+    → IsJoinedFor p.sessions.kept (kind_of e) → AreSteady p → IsSound (p.entries + 1) p.scene.book.kept
+    → IsIdle p.scene.book.kept → ArePortsSound p.scene.ports.kept
     → ArePortsIdle p.scene.ports.kept → at ≡ p.entries + 1 → replies.items ≡ []
-    → HasReady p (record { event = e; at = at; effect = effect.Nothing; events = events.Nothing; deleted = deleted; back = None; said = heard; replies = replies }) (doing_of (present_of p) e)
+    → HasReady p (record {
+      event = e;
+      at = at;
+      effect = effect.Nothing;
+      events = events.Nothing;
+      deleted = deleted;
+      back = None;
+      user = None;
+      said = heard;
+      replies = replies;
+    }) (doing_of (present_of p) e)
 hanging p e at replies deleted heard none silent h joined steady sound idle ports ports_idle numbered empty =
     rw (none, silent) (hang_ready p e at replies h joined steady sound idle ports ports_idle numbered empty)

@@ -11,11 +11,13 @@ use Rattle.core_parts.specs.Kinds.{kind_of}
 use Rattle.acme_core.specs.Run.{step, run}
 use Rattle.core_steps.proofs.Idling.{idle_on, ports_idle_on}
 
-step_idle : (s : State) (e : Event) → AreIdle [] s.entries s.scene.book → AreIdle [] (step s e).entries (step s e).scene.book
+step_idle : (s : State) (e : Event) → AreIdle [] s.entries s.scene.book
+    → AreIdle [] (step s e).entries (step s e).scene.book
 unfolding step
 step_idle s e idle = idle_on (present s) (kind_of e) (doing_of (present s) e) idle
 
-fold_idle : (s : State) (events : List Event) → AreIdle [] s.entries s.scene.book → AreIdle [] (fold step s events).entries (fold step s events).scene.book
+fold_idle : (s : State) (events : List Event) → AreIdle [] s.entries s.scene.book
+    → AreIdle [] (fold step s events).entries (fold step s events).scene.book
 fold_idle s [] idle = idle
 fold_idle s (e ∷ events) idle = fold_idle (step s e) events (step_idle s e idle)
 
@@ -31,7 +33,8 @@ step_ports : (s : State) (e : Event) → ArePortsIdle (step s e).scene.ports
 unfolding step
 step_ports s e = ports_idle_on (present s) (kind_of e) (doing_of (present s) e)
 
-fold_ports : (s : State) (events : List Event) → ArePortsIdle s.scene.ports → ArePortsIdle (fold step s events).scene.ports
+fold_ports : (s : State) (events : List Event) → ArePortsIdle s.scene.ports
+    → ArePortsIdle (fold step s events).scene.ports
 fold_ports s [] idle = idle
 fold_ports s (e ∷ events) idle = fold_ports (step s e) events (step_ports s e)
 

@@ -11,7 +11,9 @@ use Rattle.core_intents.specs.Doings.{enabled_at}
 use Rattle.core_steps.proofs.Joins.{joined_for}
 
 -- what the tables have, where nothing is ready
-pub tables_joined : (p : Parts) (e : Event) → enabled_at (present_of p) e ≡ None → AreSound p → IsJoinedFor p.sessions.kept (kind_of e)
-tables_joined p e allowed sound = joined_for (present_of p).connections (present_of p).tables (kind_of e) (found (present_of p) e allowed) sound.joined
+pub tables_joined : (p : Parts) (e : Event) → enabled_at (present_of p) e ≡ None → AreSound p
+    → IsJoinedFor p.sessions.kept (kind_of e)
+tables_joined p e allowed sound = joined_for (present_of p).connections (present_of p).tables (kind_of e)
+    (found (present_of p) e allowed) sound.joined
 
 pub ruleset joined = (tables_joined)

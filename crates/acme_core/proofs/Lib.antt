@@ -8,3 +8,4 @@ pub mod Viewed
 pub mod Connected
 pub mod Answered
 pub mod Idling
+pub mod Formats

@@ -19,16 +19,21 @@ addr_shown : (o : Option WindowStory) → option_map window_addr (shown_if_live 
 addr_shown None = refl
 addr_shown (Some s) = refl
 
-pub addr_kept : (p : Parts) (journal : List Event) (w : ℕ) (r : Option Range) → present_of p ≡ present_after journal → r ≡ option_map window_addr (window_at p.scene.windows.kept w) → r ≡ addr_at journal w
+pub addr_kept : (p : Parts) (journal : List Event) (w : ℕ) (r : Option Range) → present_of p ≡ present_after journal
+    → r ≡ option_map window_addr (window_at p.scene.windows.kept w) → r ≡ addr_at journal w
 addr_kept p journal w r e h =
-    h ∙ ap (λ (s : Present). option_map window_addr (window_at s.scene.windows w)) e ∙ ap (option_map window_addr) (window_of_story (run journal).windows w) ∙ addr_shown (story_at (run journal).windows w)
+    h ∙ ap (λ (s : Present). option_map window_addr (window_at s.scene.windows w)) e
+    ∙ ap (option_map window_addr) (window_of_story (run journal).windows w)
+    ∙ addr_shown (story_at (run journal).windows w)
 
 lawful_inside : (o : Option WindowStory) → IsLawfulIfLive o → IfSome (addr_of o) (IsInside (body_of o))
 lawful_inside None h = tt
 lawful_inside (Some s) h = (all_inside s.body h.body).addr
 
-pub addr_inside : (journal : List Event) (w : ℕ) (r : Option Range) → AreLawful (run journal).windows → r ≡ addr_at journal w → IfSome r (IsInside (body_at journal w))
+pub addr_inside : (journal : List Event) (w : ℕ) (r : Option Range) → AreLawful (run journal).windows
+    → r ≡ addr_at journal w → IfSome r (IsInside (body_at journal w))
 addr_inside journal w r lawful e =
-    subst (λ (x : Option Range). IfSome x (IsInside (body_at journal w))) (sym e) (lawful_inside (story_at (run journal).windows w) (lawful_at (run journal).windows w lawful))
+    subst (λ (x : Option Range). IfSome x (IsInside (body_at journal w))) (sym e)
+    (lawful_inside (story_at (run journal).windows w) (lawful_at (run journal).windows w lawful))
 
 pub ruleset addresses = (addr_kept, addr_inside)

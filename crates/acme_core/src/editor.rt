@@ -17,7 +17,7 @@ ghost use Rattle.acme_core.specs.Views.{ledger, view_of};
 
 use crate::planning::prepare;
 use am_counter::Ask;
-use am_journal::{Event, ItemViews, Journal, Refused, View};
+use am_journal::{Event, Format, ItemViews, Journal, Refused, View};
 use am_text::{NoMemory, Range, Roomy};
 use core_closing::{Prepared, answer, view_of};
 use core_outputs::reply_at;
@@ -77,7 +77,7 @@ impl Model for Plan {
 }
 
 impl Core {
-    /// The empty editor.
+    /// The empty editor of format 1.
     #[tactic(auto, unfolding(crate::specs::Run::run))]
     pub fn new(alloc: Global) -> Result<Core, NoMemory>
         ensures { IfOk result (λ core. core ≡ settled []) }
@@ -87,7 +87,7 @@ impl Core {
         Ok(Core {
             alloc,
             journal: Roomy::new(alloc),
-            parts: Parts::new(alloc)?,
+            parts: Parts::new(alloc, Format::One)?,
             prepared: None,
         })
     }

@@ -2,7 +2,7 @@
 
 ghost use Rattle.am_counter.specs.Laws.{TellsConnections};
 ghost use Rattle.acme_core.specs.Asks.{answer_at};
-ghost use Rattle.acme_core.specs.Laws.{EachIsAnswered};
+ghost use Rattle.acme_core.specs.Laws.{EachIsAnswered, KeepsFormat};
 ghost use Rattle.acme_core.specs.Run.{enabled};
 
 use core_answers::laws::reactions_are_answered;
@@ -20,3 +20,8 @@ pub fn messages_are_answered()
     // law: each reaction answers its message
     reactions_are_answered();
 }
+
+/// No event changes the format, by which the limits of fids and of waiting reads go.
+pub fn events_keep_the_format()
+    ensures { KeepsFormat }
+{}

@@ -67,6 +67,7 @@ fn hanging(alloc: Global, parts: &Parts, event: Event) -> Prepared
         events: EventChange::Nothing,
         deleted: Items::new(alloc),
         back: None,
+        user: None,
         said: Items::new(alloc),
         replies: Vec::new(alloc),
     }

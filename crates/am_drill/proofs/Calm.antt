@@ -1,5 +1,6 @@
 -- Each event of a drill is lawful and enabled where it stands, and makes few replies.
-use Rattle.std.proofs.Common.{◌≡◌, ℕ, ◌+◌, ◌-◌, ◌<◌, ◌≤◌, Bool, true, false, List, [], ◌∷◌, length, take, refl, ap, arith, Some, None}
+use Rattle.std.proofs.Common.{◌≡◌, ℕ, ◌+◌, ◌-◌, ◌<◌, ◌≤◌, Bool, true, false, List, [], ◌∷◌, length, take, refl, ap}
+use Rattle.std.proofs.Common.{arith, Some, None}
 use Rattle.std.specs.Prelude.{nat_le, ◌==◌, if◌then◌else◌}
 use Rattle.std.proofs.lemmas.Bool.Decides.{nat_tests}
 use Rattle.std.proofs.lemmas.List.{length-take}
@@ -41,7 +42,8 @@ room n h =
     let few : nat_le 256 n ≡ false = grind (arith, nat_tests) in
     ap (λ (b : Bool). if b then Some why.Replies else None) few
 
-pub write_allowed : (f : Facts) (l : ℕ) → f.unsent.count < 256 → enabled_at (present (standing [] [] f)) (write l) ≡ None
+pub write_allowed : (f : Facts) (l : ℕ) → f.unsent.count < 256 → enabled_at (present (standing [] [] f))
+    (write l) ≡ None
 write_allowed f l h = room f.unsent.count h
 
 pub poll_allowed : (f : Facts) → f.unsent.count < 256 → enabled_at (present (standing [] [] f)) poll ≡ None
@@ -50,7 +52,8 @@ poll_allowed f h = room f.unsent.count h
 pub flush_allowed : (f : Facts) → f.unsent.count < 256 → enabled_at (present (standing [] [] f)) flush ≡ None
 flush_allowed f h = room f.unsent.count h
 
-pub flush_waiting_allowed : (f : Facts) → f.unsent.count < 256 → enabled_at (present (standing (reading ∷ []) (reader ∷ []) f)) flush ≡ None
+pub flush_waiting_allowed : (f : Facts) → f.unsent.count < 256 → enabled_at
+    (present (standing (reading ∷ []) (reader ∷ []) f)) flush ≡ None
 flush_waiting_allowed f h = room f.unsent.count h
 
 pub read_allowed : (f : Facts) → f.unsent.count < 256 → enabled_at (present (standing [] [] f)) read ≡ None
@@ -61,9 +64,11 @@ took_allowed f h =
     let some : (f.unsent.count == 0) ≡ false = grind (arith, nat_tests) in
     ap (λ (b : Bool). if b then Some why.Nothing else None) some
 
-pub key_allowed : (f : Facts) (l : ℕ) → length (text_of f) < 16777216 → enabled_at (present (standing [] [] f)) (key l) ≡ None
+pub key_allowed : (f : Facts) (l : ℕ) → length (text_of f) < 16777216
+    → enabled_at (present (standing [] [] f)) (key l) ≡ None
 key_allowed f l h =
-    let fits : nat_le (length (text_of f) - ((dot_of f).q1 - (dot_of f).q0) + 1) 16777216 ≡ true = grind (arith, nat_tests) in
+    let fits : nat_le (length (text_of f) - ((dot_of f).q1 - (dot_of f).q0) + 1) 16777216 ≡ true =
+    grind (arith, nat_tests) in
     ap (λ (b : Bool). if b then None else Some why.Length) fits
 
 -- ---- lawful
@@ -99,7 +104,8 @@ key_lawful l h = grind arith
 pub none_brief : IsBrief []
 none_brief = record { few = omega arith; bytes = omega arith }
 
-pub one_brief : (tag : ℕ) (body : RBody) → length (spelling_r (record { tag = tag; body = body })) ≤ 128 → IsBrief (said_of tag body ∷ [])
+pub one_brief : (tag : ℕ) (body : RBody) → length (spelling_r (record { tag = tag; body = body })) ≤ 128
+    → IsBrief (said_of tag body ∷ [])
 one_brief tag body h = record { few = omega arith; bytes = omega (arith, h) }
 
 pub wrote_brief : IsBrief (said_of 4 (r.Write 1) ∷ [])

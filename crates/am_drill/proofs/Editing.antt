@@ -1,5 +1,6 @@
 -- What a letter that is written or typed makes of the editor.
-use Rattle.std.proofs.Common.{◌≡◌, ℕ, ◌+◌, ◌<◌, Bool, true, false, List, [], ◌∷◌, ◌++◌, length, map, refl, ap, ◌∙◌, arith, Option, Some, None, Ok, Err}
+use Rattle.std.proofs.Common.{◌≡◌, ℕ, ◌+◌, ◌<◌, Bool, true, false, List, [], ◌∷◌, ◌++◌, length, map, refl, ap, ◌∙◌}
+use Rattle.std.proofs.Common.{arith, Option, Some, None, Ok, Err}
 use Rattle.std.specs.Prelude.{nat_lt, ◌==◌, not, replicate, if◌then◌else◌}
 use Rattle.std.specs.Option.{option_to_list}
 use Rattle.std.proofs.lemmas.Bool.Decides.{nat_tests}
@@ -99,16 +100,22 @@ abbrev asked_for : ℕ → Twrite
 asked_for l = record { number = 1; bytes = l ∷ [] }
 
 abbrev pub written_doing : Facts → ℕ → Doing
-written_doing f l = message_doing (present (standing [] [] f)) (change_reaction (asked_for l) (change.Edits 1 (end_edit f l ∷ []) ∷ []) body_fid) E
+written_doing f l = message_doing (present (standing [] [] f)) (change_reaction (asked_for l)
+    (change.Edits 1 (end_edit f l ∷ []) ∷ []) body_fid) E
 
-write_doing : (f : Facts) (l : ℕ) → l < 128 → length (text_of f) < 16777216 → doing_of (present (standing [] [] f)) (write l) ≡ written_doing f l
+write_doing : (f : Facts) (l : ℕ) → l < 128 → length (text_of f) < 16777216
+    → doing_of (present (standing [] [] f)) (write l) ≡ written_doing f l
 write_doing f l ascii room =
     let windows : List (Option Window) = shown_windows (Some f.story ∷ []) in
     let fits : fits_in (text_of f) (l ∷ []) ≡ true = grind (arith, nat_tests) in
-    ap (λ (d : Decoded). message_doing (present (standing [] [] f)) (reaction_or_refusal (append_reaction windows (asked_for l) body_fid 1 d)) E) (letter_decoded l ascii)
-    ∙ ap (λ (b : Bool). message_doing (present (standing [] [] f)) (reaction_or_refusal (if b then Ok (change_reaction (asked_for l) (appends windows 1 (l ∷ [])) (fid_with_part body_fid (part_of []))) else Err refusal.TextTooLong)) E) fits
+    ap (λ (d : Decoded). message_doing (present (standing [] [] f))
+    (reaction_or_refusal (append_reaction windows (asked_for l) body_fid 1 d)) E) (letter_decoded l ascii)
+    ∙ ap (λ (b : Bool). message_doing (present (standing [] [] f))
+    (reaction_or_refusal (if b then Ok (change_reaction (asked_for l) (appends windows 1 (l ∷ []))
+    (fid_with_part body_fid (part_of []))) else Err refusal.TextTooLong)) E) fits
 
-written_so : (f : Facts) (l : ℕ) → after_story (standing [] [] f) (present (standing [] [] f)) (write l) (written_doing f l)
+written_so : (f : Facts) (l : ℕ) → after_story (standing [] [] f) (present (standing [] [] f)) (write l)
+    (written_doing f l)
     ≡ finished f (story_written f l) (response 0 4 (r.Write 1) ∷ []) (told E (end_edit f l))
 unfolding port_served_most after_serving_most task_deeds task_refusal task_held
 written_so f l = refl
@@ -117,12 +124,16 @@ abbrev pub letter_item : Origin → ℕ → ℕ → Item
 letter_item origin at l = plain_item origin BodyIns (record { q0 = at; q1 = at + 1 }) (l ∷ [])
 
 -- an edit that cuts nothing makes one item
-one_item : (origin : Origin) (q0 q1 l : ℕ) → nat_lt q0 q1 ≡ false → told origin (record { q0 = q0; q1 = q1; text = l ∷ [] }) ≡ of_window 1 (letter_item origin q0 l) ∷ []
+one_item : (origin : Origin) (q0 q1 l : ℕ) → nat_lt q0 q1 ≡ false → told origin
+    (record { q0 = q0; q1 = q1; text = l ∷ [] }) ≡ of_window 1 (letter_item origin q0 l) ∷ []
 one_item origin q0 q1 l none =
-    ap (λ (b : Bool). map (of_window 1) ((option_to_list (if b then Some (plain_item origin BodyDel (record { q0 = q0; q1 = q1 }) []) else None) ++ option_to_list (put_item origin BodyIns q0 (l ∷ []))) ++ [])) none
+    ap (λ (b : Bool). map (of_window 1) ((option_to_list (if b then Some
+    (plain_item origin BodyDel (record { q0 = q0; q1 = q1 }) []) else None)
+    ++ option_to_list (put_item origin BodyIns q0 (l ∷ []))) ++ [])) none
 
 -- and the event file then has it
-finished_with : (f : Facts) (story : WindowStory) (first : List Response) (item : Item) → finished f story first (of_window 1 item ∷ [])
+finished_with : (f : Facts) (story : WindowStory) (first : List Response) (item : Item)
+    → finished f story first (of_window 1 item ∷ [])
     ≡ record (standing [] [] (with_item (gone_on f) story item)) {
       tables = ended (tables_with []) (first ++ [] ++ []);
       unsent = put_replies (f.unsent ∷ replicate 63 nothing_unsent) (replies_of (first ++ [] ++ []));
@@ -138,13 +149,16 @@ finished_with f story first item =
     }) (stays_listed (file_with f.items f.carry) (f.items ++ fresh item ∷ []) f.carry)
 
 pub write_step : (f : Facts) (l : ℕ) → l < 128 → length (text_of f) < 16777216
-    → step (standing [] [] f) (write l) ≡ standing [] [] (with_item (answered f 4 (r.Write 1)) (story_written f l) (letter_item E (length (text_of f)) l))
+    → step (standing [] [] f) (write l) ≡ standing [] [] (with_item (answered f 4 (r.Write 1)) (story_written f l)
+    (letter_item E (length (text_of f)) l))
 unfolding step task_deeds task_refusal task_held
 write_step f l ascii room =
     let cut : nat_lt (length (text_of f)) (length (text_of f)) ≡ false = grind (arith, nat_tests) in
-    ap (λ (d : Doing). after_story (standing [] [] f) (present (standing [] [] f)) (write l) d) (write_doing f l ascii room)
+    ap (λ (d : Doing). after_story (standing [] [] f) (present (standing [] [] f)) (write l) d)
+    (write_doing f l ascii room)
     ∙ written_so f l
-    ∙ ap (λ (items : List WindowItem). finished f (story_written f l) (response 0 4 (r.Write 1) ∷ []) items) (one_item E (length (text_of f)) (length (text_of f)) l cut)
+    ∙ ap (λ (items : List WindowItem). finished f (story_written f l) (response 0 4 (r.Write 1) ∷ []) items)
+    (one_item E (length (text_of f)) (length (text_of f)) l cut)
     ∙ finished_with f (story_written f l) (response 0 4 (r.Write 1) ∷ []) (letter_item E (length (text_of f)) l)
 
 -- ---- a letter that is typed
@@ -167,7 +181,8 @@ typed_doing f l = changing f (edits_with_dot 1 (dot_edit f l ∷ []) (dot_after 
 
 key_doing : (f : Facts) (l : ℕ) → doing_of (present (standing [] [] f)) (key l) ≡ typed_doing f l
 key_doing f l =
-    ap (λ (b : Bool). changing f (edits_with_dot 1 (if b then [] else dot_edit f l ∷ []) (dot_after f))) (and_false ((dot_of f).q0 == (dot_of f).q1))
+    ap (λ (b : Bool). changing f (edits_with_dot 1 (if b then [] else dot_edit f l ∷ []) (dot_after f)))
+    (and_false ((dot_of f).q0 == (dot_of f).q1))
 
 typed_so : (f : Facts) (l : ℕ) → after_story (standing [] [] f) (present (standing [] [] f)) (key l) (typed_doing f l)
     ≡ finished f (story_typed f l) [] (told K (dot_edit f l) ++ [])
@@ -175,11 +190,13 @@ unfolding port_served_most after_serving_most task_deeds task_refusal task_held
 typed_so f l = refl
 
 pub key_step : (f : Facts) (l : ℕ) → (dot_of f).q0 ≡ (dot_of f).q1
-    → step (standing [] [] f) (key l) ≡ standing [] [] (with_item (gone_on f) (story_typed f l) (letter_item K (dot_of f).q0 l))
+    → step (standing [] [] f) (key l) ≡ standing [] [] (with_item (gone_on f) (story_typed f l)
+    (letter_item K (dot_of f).q0 l))
 unfolding step task_deeds task_refusal task_held
 key_step f l null =
     let cut : nat_lt (dot_of f).q0 (dot_of f).q1 ≡ false = grind (arith, nat_tests) in
     ap (λ (d : Doing). after_story (standing [] [] f) (present (standing [] [] f)) (key l) d) (key_doing f l)
     ∙ typed_so f l
-    ∙ ap (λ (items : List WindowItem). finished f (story_typed f l) [] (items ++ [])) (one_item K (dot_of f).q0 (dot_of f).q1 l cut)
+    ∙ ap (λ (items : List WindowItem). finished f (story_typed f l) [] (items ++ []))
+    (one_item K (dot_of f).q0 (dot_of f).q1 l cut)
     ∙ finished_with f (story_typed f l) [] (letter_item K (dot_of f).q0 l)

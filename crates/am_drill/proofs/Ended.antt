@@ -11,7 +11,8 @@ use Rattle.am_base.specs.Written.{IsWhole, IsCut}
 use Rattle.am_drill.specs.Ends.{Wrote, DrillSays}
 use Rattle.am_drill.specs.Summary.{line, summary}
 
-pub says : (end : DrillEnd) (rounds : ℕ) (o : Seen) (journal : List Event) (text : List ℕ) → Wrote end o text → journal ≡ events rounds → text ≡ summary (events rounds)
+pub says : (end : DrillEnd) (rounds : ℕ) (o : Seen) (journal : List Event) (text : List ℕ) → Wrote end o text
+    → journal ≡ events rounds → text ≡ summary (events rounds)
     → DrillSays end rounds o journal
 says Done rounds o journal text wrote done is = (done, subst (λ (x : List ℕ). IsWhole o x) is wrote.0, wrote.1)
 says WriteFault rounds o journal text wrote done is = (done, subst (λ (x : List ℕ). IsCut o x) is wrote)
@@ -22,7 +23,8 @@ pub none : (rounds : ℕ) (first : BytesTold) → DrillSays NoMemory rounds (see
 none rounds first = ((events rounds, refl), (refl, refl))
 
 -- a line more
-pub line_put : (out a b c name : List ℕ) (n : ℕ) → a ≡ out ++ name → b ≡ a ++ decimal n → c ≡ b ++ 10 ∷ [] → c ≡ out ++ line name n
+pub line_put : (out a b c name : List ℕ) (n : ℕ) → a ≡ out ++ name → b ≡ a ++ decimal n → c ≡ b ++ 10 ∷ []
+    → c ≡ out ++ line name n
 line_put out a b c name n first second third =
     third ∙ ap (λ (x : List ℕ). x ++ 10 ∷ []) (second ∙ ap (λ (x : List ℕ). x ++ decimal n) first)
     ∙ append_assoc (out ++ name) (decimal n) (10 ∷ []) ∙ append_assoc out name (decimal n ++ 10 ∷ [])

@@ -1,5 +1,6 @@
 -- The events before the rounds, one after another.
-use Rattle.std.proofs.Common.{◌≡◌, ℕ, zero, suc, ◌+◌, ◌^◌, ◌<◌, true, List, [], ◌∷◌, length, refl, ap, ◌∙◌, arith, Option, Some, None}
+use Rattle.std.proofs.Common.{◌≡◌, ℕ, zero, suc, ◌+◌, ◌^◌, ◌<◌, true, List, [], ◌∷◌, length, refl, ap, ◌∙◌, arith}
+use Rattle.std.proofs.Common.{Option, Some, None}
 use Rattle.std.specs.Prelude.{codes, replicate, bytes_eq, if◌then◌else◌, All}
 use Rattle.std.specs.Str.{is_utf8, chars}
 use Rattle.std.specs.Char.{encode_utf8}
@@ -40,6 +41,7 @@ use Rattle.core_steps.specs.Stages.{after_story}
 use Rattle.core_parts.specs.declared.connection.Connection.TheVariants.{Undialed, Live}
 use Rattle.core_outputs.specs.declared.reply.Reply.{Reply}
 use Rattle.acme_core.specs.Run.{step}
+use Rattle.am_journal.specs.declared.event.Format.TheVariants.{One}
 use Rattle.core_parts.specs.States.{State, present, start}
 use Rattle.core_outputs.specs.Unsent.{Unsent, nothing_unsent, with_reply}
 use Rattle.ninep_types.specs.Limits.{no_tag, no_fid}
@@ -61,11 +63,17 @@ told b tag body = record {
   replies = said_of tag body ∷ [];
 }
 
+-- who has fids has attached
+abbrev pub user_with : List (ℕ × Fid) → List ℕ
+user_with [] = []
+user_with (f ∷ fs) = codes "u"
+
 abbrev pub begun : Option ℕ → List (ℕ × Fid) → List (Option WindowStory) → BookState → Begun → State
 begun msize held windows book b = record {
   entries = b.entries;
   connections = Live ∷ replicate 63 Undialed;
-  tables = record { sessions = record { conn = 0; msize = msize; fids = held } ∷ []; waiting = [] };
+  users = user_with held ∷ replicate 63 [];
+  tables = record { format = One; sessions = record { conn = 0; msize = msize; fids = held } ∷ []; waiting = [] };
   windows = windows;
   scene = record no_scene { book = book };
   unsent = b.unsent ∷ replicate 63 nothing_unsent;
@@ -101,14 +109,16 @@ pub dial_step : step start (event.Dial 0) ≡ begun None [] [] empty_book dialed
 unfolding step served_most book_served_most port_served_most after_serving_most task_deeds task_refusal task_held
 dial_step = refl
 
-pub version_step : (b : Begun) → step (begun None [] [] empty_book b) version ≡ begun (Some 8192) [] [] empty_book (told b no_tag (r.Version 8192 (codes "9P2000")))
+pub version_step : (b : Begun) → step (begun None [] [] empty_book b) version ≡ begun (Some 8192) [] [] empty_book
+    (told b no_tag (r.Version 8192 (codes "9P2000")))
 unfolding step served_most book_served_most port_served_most after_serving_most task_deeds task_refusal task_held
 version_step b = refl
 
 abbrev pub root_fids : List (ℕ × Fid)
 root_fids = (0, fresh Root) ∷ []
 
-pub attach_step : (b : Begun) → step (begun (Some 8192) [] [] empty_book b) attach ≡ begun (Some 8192) root_fids [] empty_book (told b 1 (r.Attach (qid_of Root)))
+pub attach_step : (b : Begun) → step (begun (Some 8192) [] [] empty_book b) attach ≡ begun (Some 8192) root_fids []
+    empty_book (told b 1 (r.Attach (qid_of Root)))
 unfolding step served_most book_served_most port_served_most after_serving_most task_deeds task_refusal task_held
 attach_step b = refl
 
@@ -119,8 +129,10 @@ abbrev pub walked_fids : List (ℕ × Fid)
 walked_fids = (0, fresh Root) ∷ (1, fresh (File 1 file.Body)) ∷ []
 
 pub walk_body_step : (b : Begun) → step (begun (Some 8192) root_fids [] empty_book b) walk_body
-    ≡ begun (Some 8192) walked_fids (Some new_story ∷ []) empty_book (told b 2 (r.Walk (qid_of NewDir ∷ qid_of (File 1 file.Body) ∷ [])))
-unfolding step served_most book_served_most port_served_most after_serving_most course walk_one entry_named file_named entries task_deeds task_refusal task_held
+    ≡ begun (Some 8192) walked_fids (Some new_story ∷ []) empty_book
+    (told b 2 (r.Walk (qid_of NewDir ∷ qid_of (File 1 file.Body) ∷ [])))
+unfolding step served_most book_served_most port_served_most after_serving_most course walk_one entry_named file_named
+    entries task_deeds task_refusal task_held
 walk_body_step b = refl
 
 abbrev pub opened_fids : List (ℕ × Fid)
@@ -128,7 +140,8 @@ opened_fids = (0, fresh Root) ∷ (1, body_fid) ∷ []
 
 pub open_body_step : (b : Begun) → step (begun (Some 8192) walked_fids (Some new_story ∷ []) empty_book b) open_body
     ≡ begun (Some 8192) opened_fids (Some new_story ∷ []) empty_book (told b 3 (r.Open (qid_of (File 1 file.Body)) 0))
-unfolding step served_most book_served_most port_served_most after_serving_most may_open task_deeds task_refusal task_held
+unfolding step served_most book_served_most port_served_most after_serving_most may_open task_deeds task_refusal
+    task_held
 open_body_step b = refl
 
 -- ---- the walk to window 1, whose name is a decimal
@@ -142,34 +155,50 @@ ports_one = names_of beginning.ports
 
 named_one : entry_named world_one ports_one Root (codes "1") ≡ Some (Window 1)
 unfolding entry_named entries
-named_one = ap (λ (name : List ℕ). if bytes_eq (codes "1") name then Some (Window 1) else None) (decimal_digit 1 (omega arith))
+named_one = ap (λ (name : List ℕ). if bytes_eq (codes "1") name then Some (Window 1) else None)
+    (decimal_digit 1 (omega arith))
 
-event_course : course world_one ports_one (Window 1) (codes "event" ∷ []) ≡ record { qids = qid_of (File 1 file.Event) ∷ []; end = end.At (File 1 file.Event) }
+event_course : course world_one ports_one (Window 1) (codes "event" ∷ [])
+    ≡ record { qids = qid_of (File 1 file.Event) ∷ []; end = end.At (File 1 file.Event) }
 unfolding course walk_one entry_named entries
 event_course = refl
 
-course_one : course world_one ports_one Root (codes "1" ∷ codes "event" ∷ []) ≡ record { qids = qid_of (Window 1) ∷ qid_of (File 1 file.Event) ∷ []; end = end.At (File 1 file.Event) }
+course_one : course world_one ports_one Root (codes "1" ∷ codes "event" ∷ [])
+    ≡ record { qids = qid_of (Window 1) ∷ qid_of (File 1 file.Event) ∷ []; end = end.At (File 1 file.Event) }
 unfolding course walk_one
 course_one =
-    ap (λ (found : Option Node). onwards world_one (to_entry found) (λ m. course world_one ports_one m (codes "event" ∷ []))) named_one
+    ap (λ (found : Option Node). onwards world_one (to_entry found)
+    (λ m. course world_one ports_one m (codes "event" ∷ []))) named_one
     ∙ ap (λ (rest : Course). then_qid (qid_of (Window 1)) rest) event_course
 
 pub walk_event_step : (b : Begun) → step (begun (Some 8192) opened_fids (Some new_story ∷ []) empty_book b) walk_event
-    ≡ begun (Some 8192) ((0, fresh Root) ∷ (1, body_fid) ∷ (2, fresh (File 1 file.Event)) ∷ []) (Some new_story ∷ []) empty_book
+    ≡ begun (Some 8192) ((0, fresh Root) ∷ (1, body_fid) ∷ (2, fresh (File 1 file.Event)) ∷ []) (Some new_story ∷ [])
+    empty_book
     (told b 2 (r.Walk (qid_of (Window 1) ∷ qid_of (File 1 file.Event) ∷ [])))
 unfolding step served_most book_served_most port_served_most after_serving_most task_deeds task_refusal task_held
 walk_event_step b =
     let s : State = begun (Some 8192) opened_fids (Some new_story ∷ []) empty_book b in
-    ap (λ (rest : Course). after_story s (present s) walk_event (message_doing (present s) (reaction_or_refusal (arrives 2 world_one rest)) F)) course_one
+    ap (λ (rest : Course). after_story s (present s) walk_event (message_doing (present s)
+    (reaction_or_refusal (arrives 2 world_one rest)) F)) course_one
 
 -- ---- and so the rounds begin
 
 abbrev pub facts_of : Begun → Facts
-facts_of b = record { entries = b.entries; story = new_story; items = []; carry = []; latest = 0; unsent = b.unsent; replies = b.replies }
+facts_of b = record {
+  entries = b.entries;
+  story = new_story;
+  items = [];
+  carry = [];
+  latest = 0;
+  unsent = b.unsent;
+  replies = b.replies;
+}
 
-pub open_event_step : (b : Begun) → step (begun (Some 8192) ((0, fresh Root) ∷ (1, body_fid) ∷ (2, fresh (File 1 file.Event)) ∷ []) (Some new_story ∷ []) empty_book b) open_event
+pub open_event_step : (b : Begun) → step (begun (Some 8192) ((0, fresh Root) ∷ (1, body_fid)
+    ∷ (2, fresh (File 1 file.Event)) ∷ []) (Some new_story ∷ []) empty_book b) open_event
     ≡ standing [] [] (facts_of (told b 3 (r.Open (qid_of (File 1 file.Event)) 0)))
-unfolding step served_most book_served_most port_served_most after_serving_most may_open task_deeds task_refusal task_held
+unfolding step served_most book_served_most port_served_most after_serving_most may_open task_deeds task_refusal
+    task_held
 open_event_step b = refl
 
 -- ---- lawful
@@ -194,15 +223,23 @@ version_lawful =
 pub attach_lawful : IsLawful attach
 unfolding is_text is_utf8 chars encode_utf8
 attach_lawful =
-    let e : length (spelling_t (record { tag = 1; body = t.Attach 0 no_fid (codes "u") [] })) ≡ 20 = refl in
-    (omega arith, record { body = (string_of (codes "u") refl (omega arith), string_of [] refl (omega arith)); size = omega arith }, omega (arith, e))
+    let e : length (spelling_t (record { tag = 1; body = t.Attach 0 no_fid (codes "u") [] })) ≡ 20 = refl in (
+      omega arith,
+      record {
+        body = (string_of (codes "u") refl (omega arith), string_of [] refl (omega arith));
+        size =
+            omega arith;
+      },
+      omega (arith, e),
+    )
 
 pub walk_body_lawful : IsLawful walk_body
 unfolding is_text is_utf8 chars encode_utf8
 walk_body_lawful =
     let e : length (spelling_t (record { tag = 2; body = t.Walk 0 1 (codes "new" ∷ codes "body" ∷ []) })) ≡ 28 = refl in
     let names : AreNames (codes "new" ∷ codes "body" ∷ []) =
-    two_names (codes "new") (codes "body") (string_of (codes "new") refl (omega arith)) (string_of (codes "body") refl (omega arith))
+    two_names (codes "new") (codes "body") (string_of (codes "new") refl (omega arith))
+    (string_of (codes "body") refl (omega arith))
     in
     (omega arith, record { body = names; size = omega arith }, omega (arith, e))
 
@@ -211,7 +248,8 @@ unfolding is_text is_utf8 chars encode_utf8
 walk_event_lawful =
     let e : length (spelling_t (record { tag = 2; body = t.Walk 0 2 (codes "1" ∷ codes "event" ∷ []) })) ≡ 27 = refl in
     let names : AreNames (codes "1" ∷ codes "event" ∷ []) =
-    two_names (codes "1") (codes "event") (string_of (codes "1") refl (omega arith)) (string_of (codes "event") refl (omega arith))
+    two_names (codes "1") (codes "event") (string_of (codes "1") refl (omega arith))
+    (string_of (codes "event") refl (omega arith))
     in
     (omega arith, record { body = names; size = omega arith }, omega (arith, e))
 

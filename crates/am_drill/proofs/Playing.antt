@@ -1,5 +1,7 @@
 -- Loops over events.
-use Rattle.std.proofs.Common.{◌≡◌, ℕ, zero, suc, ◌+◌, ◌-◌, ◌<◌, ◌≤◌, List, [], ◌∷◌, ◌++◌, length, take, drop, get_or, map, map-id, refl, sym, ap, subst, ◌∙◌, arith, append_assoc, add-one, take-append-drop, Result, Ok, Err, OnOk, OnErr}
+use Rattle.std.proofs.Common.{◌≡◌, ℕ, zero, suc, ◌+◌, ◌-◌, ◌<◌, ◌≤◌, List, [], ◌∷◌, ◌++◌, length, take, drop, get_or}
+use Rattle.std.proofs.Common.{map, map-id, refl, sym, ap, subst, ◌∙◌, arith, append_assoc, add-one, take-append-drop}
+use Rattle.std.proofs.Common.{Result, Ok, Err, OnOk, OnErr}
 use Rattle.std.specs.Vec.Iter.{into_iter_items, into_iter_len, into_iter_steps}
 use Rattle.std.proofs.lemmas.Iterator.{YieldsList}
 use Rattle.std.proofs.lemmas.Iterator.Adapters.{YieldsList-from_vec}
@@ -10,33 +12,50 @@ use Rattle.am_drill.specs.Drill.{seed_of, next_seed, drawn, opening, round, even
 use Rattle.am_drill.proofs.Rounds.{next_events, no_rounds, next_opening, next_round}
 
 -- the items of a vector come one after another
-pub items_come : {A Z : Type 0} → {s : _} (xs ys : List A) (n : ℕ) → into_iter_items s ≡ ys → into_iter_len s ≡ n → n ≡ length ys → ys ≡ xs → YieldsList (into_iter_steps {X = A} {Z = Z}) (λ y. y) s xs
+pub items_come : {A Z : Type 0} → {s : _} (xs ys : List A) (n : ℕ)
+    → into_iter_items s ≡ ys → into_iter_len s ≡ n → n ≡ length ys
+    → ys ≡ xs → YieldsList (into_iter_steps {X = A} {Z = Z}) (λ y. y) s xs
 items_come xs ys n a b c d = YieldsList-from_vec xs (a ∙ d) (b ∙ c ∙ ap length d)
 
 -- each can be done after those before it
-next_at : (before all : List Event) (n : ℕ) (e : Event) → AreNext before all → n < length all → e ≡ get_or all n e → IsNext (before ++ take n all) e
+next_at : (before all : List Event) (n : ℕ) (e : Event) → AreNext before all → n < length all → e ≡ get_or all n e
+    → IsNext (before ++ take n all) e
 next_at before [] n e next within is = absurd (omega arith)
 next_at before (x ∷ all) zero e next within is =
-    subst (λ (j : List Event). IsNext j e) (sym (append-nil before)) (subst (λ (y : Event). IsNext before y) (sym is) next.0)
+    subst (λ (j : List Event). IsNext j e) (sym (append-nil before))
+    (subst (λ (y : Event). IsNext before y) (sym is) next.0)
 next_at before (x ∷ all) (suc n) e next within is =
-    subst (λ (j : List Event). IsNext j e) (append_assoc before (x ∷ []) (take n all)) (next_at (before ++ x ∷ []) all n e next.1 (omega arith) is)
+    subst (λ (j : List Event). IsNext j e) (append_assoc before (x ∷ []) (take n all))
+    (next_at (before ++ x ∷ []) all n e next.1 (omega arith) is)
 
-pub turn_next : (before all done now : List Event) (e : Event) → AreNext before all → map (λ y. y) done ≡ take (length done) all → now ≡ before ++ done
+pub turn_next : (before all done now : List Event) (e : Event) → AreNext before all
+    → map (λ y. y) done ≡ take (length done) all → now ≡ before ++ done
     → (length done < length all) × (e ≡ get_or all (length done) e) → IsNext now e
 turn_next before all done now e next front is turn =
     let same : take (length done) all ≡ done = sym front ∙ map-id done in
-    subst (λ (j : List Event). IsNext j e) (ap (λ (x : List Event). before ++ x) same ∙ sym is) (next_at before all (length done) e next turn.0 turn.1)
+    subst (λ (j : List Event). IsNext j e) (ap (λ (x : List Event). before ++ x) same ∙ sym is)
+    (next_at before all (length done) e next turn.0 turn.1)
 
-pub stopped_at : (before all done now : List Event) → map (λ y. y) done ≡ take (length done) all → now ≡ before ++ done → Stopped before all now
+pub stopped_at : (before all done now : List Event) → map (λ y. y) done ≡ take (length done) all
+    → now ≡ before ++ done → Stopped before all now
 stopped_at before all done now front is =
-    let same : done ≡ take (length done) all = sym (map-id done) ∙ front in
-    (done, (drop (length done) all, ap (λ (x : List Event). x ++ drop (length done) all) same ∙ take-append-drop (length done) all), is)
+    let same : done ≡ take (length done) all = sym (map-id done) ∙ front in (
+      done,
+      (
+        drop (length done) all,
+        ap (λ (x : List Event). x ++ drop (length done) all) same
+            ∙ take-append-drop (length done) all,
+      ),
+      is,
+    )
 
 pub all_done : (before all done now : List Event) → map (λ y. y) done ≡ all → now ≡ before ++ done → now ≡ before ++ all
 all_done before all done now whole is = is ∙ ap (λ (x : List Event). before ++ x) (sym (map-id done) ∙ whole)
 
-pub done_more : (before done now next : List Event) (e : Event) → now ≡ before ++ done → next ≡ now ++ e ∷ [] → next ≡ before ++ (done ++ e ∷ [])
-done_more before done now next e is more = more ∙ ap (λ (x : List Event). x ++ e ∷ []) is ∙ append_assoc before done (e ∷ [])
+pub done_more : (before done now next : List Event) (e : Event) → now ≡ before ++ done → next ≡ now ++ e ∷ []
+    → next ≡ before ++ (done ++ e ∷ [])
+done_more before done now next e is more = more ∙ ap (λ (x : List Event). x ++ e ∷ []) is
+    ∙ append_assoc before done (e ∷ [])
 
 -- what holds is so where a call failed, too
 pub on_err : {T E : Type 0} (r : Result T E) (P : Type 0) → P → OnErr r P
@@ -64,7 +83,11 @@ front_more k (suc more) now front =
     let n : ℕ = k + more in
     let before : IsFront now (events n) = front_more k more now front in
     let r : List Event = round (n + 1) (drawn (seed_of (n + 1))) in
-    let longer : IsFront now (events (n + 1)) = (before.0 ++ r, sym (append_assoc now before.0 r) ∙ ap (λ (x : List Event). x ++ r) before.1 ∙ sym (next_events n)) in
+    let longer : IsFront now (events (n + 1)) = (
+      before.0 ++ r,
+      sym (append_assoc now before.0 r)
+          ∙ ap (λ (x : List Event). x ++ r) before.1 ∙ sym (next_events n),
+    ) in
     let same : (k + more) + 1 ≡ k + suc more = omega arith in
     subst (λ (m : ℕ). IsFront now (events m)) same longer
 
@@ -78,39 +101,51 @@ front_up k n now within front =
 
 pub opening_next : (before es : List Event) → before ≡ [] → es ≡ opening → AreNext before es
 opening_next before es empty is =
-    subst (λ (b : List Event). AreNext b es) (sym empty) (subst (λ (x : List Event). AreNext [] x) (sym is) next_opening)
+    subst (λ (b : List Event). AreNext b es) (sym empty) (subst (λ (x : List Event). AreNext [] x) (sym is)
+    next_opening)
 
 pub opening_done : (before es now : List Event) → before ≡ [] → es ≡ opening → now ≡ before ++ es → now ≡ events 0
 opening_done before es now empty is done = done ∙ ap (λ (b : List Event). b ++ es) empty ∙ is ∙ sym no_rounds
 
-pub opening_stopped : (before es now : List Event) → before ≡ [] → es ≡ opening → Stopped before es now → IsFront now (events 0)
+pub opening_stopped : (before es now : List Event) → before ≡ [] → es ≡ opening → Stopped before es now
+    → IsFront now (events 0)
 opening_stopped before es now empty is stop =
     let done : List Event = stop.0 in
-    let rest : List Event = stop.1.0 in
-    (rest, ap (λ (x : List Event). x ++ rest) (stop.2 ∙ ap (λ (x : List Event). x ++ done) empty) ∙ stop.1.1 ∙ is ∙ sym no_rounds)
+    let rest : List Event = stop.1.0 in (
+      rest,
+      ap (λ (x : List Event). x ++ rest) (stop.2 ∙ ap (λ (x : List Event). x ++ done) empty)
+          ∙ stop.1.1 ∙ is ∙ sym no_rounds,
+    )
 
 pub nothing_done : (now : List Event) → now ≡ [] → IsFront now (events 0)
 nothing_done now empty = (events 0, ap (λ (x : List Event). x ++ events 0) empty)
 
 -- ---- a round
 
-round_is : (k s : ℕ) (es : List Event) → s ≡ seed_of (k + 1) → es ≡ round (k + 1) (drawn s) → es ≡ round (k + 1) (drawn (seed_of (k + 1)))
+round_is : (k s : ℕ) (es : List Event) → s ≡ seed_of (k + 1) → es ≡ round (k + 1) (drawn s)
+    → es ≡ round (k + 1) (drawn (seed_of (k + 1)))
 round_is k s es seed is = is ∙ ap (λ (x : ℕ). round (k + 1) (drawn x)) seed
 
-pub round_next : (k s : ℕ) (before es : List Event) → k < 100000 → before ≡ events k → s ≡ seed_of (k + 1) → es ≡ round (k + 1) (drawn s) → AreNext before es
+pub round_next : (k s : ℕ) (before es : List Event) → k < 100000 → before ≡ events k → s ≡ seed_of (k + 1)
+    → es ≡ round (k + 1) (drawn s) → AreNext before es
 round_next k s before es few at seed is =
-    subst (λ (b : List Event). AreNext b es) (sym at) (subst (λ (x : List Event). AreNext (events k) x) (sym (round_is k s es seed is)) (next_round k few))
+    subst (λ (b : List Event). AreNext b es) (sym at) (subst (λ (x : List Event). AreNext (events k) x)
+    (sym (round_is k s es seed is)) (next_round k few))
 
-pub round_done : (k s : ℕ) (before es now : List Event) → before ≡ events k → s ≡ seed_of (k + 1) → es ≡ round (k + 1) (drawn s) → now ≡ before ++ es → now ≡ events (k + 1)
+pub round_done : (k s : ℕ) (before es now : List Event) → before ≡ events k → s ≡ seed_of (k + 1)
+    → es ≡ round (k + 1) (drawn s) → now ≡ before ++ es → now ≡ events (k + 1)
 round_done k s before es now at seed is done =
-    done ∙ ap (λ (b : List Event). b ++ es) at ∙ ap (λ (x : List Event). events k ++ x) (round_is k s es seed is) ∙ sym (next_events k)
+    done ∙ ap (λ (b : List Event). b ++ es) at ∙ ap (λ (x : List Event). events k ++ x) (round_is k s es seed is)
+    ∙ sym (next_events k)
 
-pub round_stopped : (k s : ℕ) (before es now : List Event) → before ≡ events k → s ≡ seed_of (k + 1) → es ≡ round (k + 1) (drawn s) → Stopped before es now → IsFront now (events (k + 1))
+pub round_stopped : (k s : ℕ) (before es now : List Event) → before ≡ events k → s ≡ seed_of (k + 1)
+    → es ≡ round (k + 1) (drawn s) → Stopped before es now → IsFront now (events (k + 1))
 round_stopped k s before es now at seed is stop =
     let done : List Event = stop.0 in
     let rest : List Event = stop.1.0 in (
       rest,
-      ap (λ (x : List Event). x ++ rest) (stop.2 ∙ ap (λ (x : List Event). x ++ done) at) ∙ append_assoc (events k) done rest
+      ap (λ (x : List Event). x ++ rest) (stop.2 ∙ ap (λ (x : List Event). x ++ done) at)
+          ∙ append_assoc (events k) done rest
           ∙ ap (λ (x : List Event). events k ++ x) (stop.1.1 ∙ round_is k s es seed is) ∙ sym (next_events k),
     )
 

@@ -1,5 +1,6 @@
 -- Each number of an event of a drill fits its field.
-use Rattle.std.proofs.Common.{◌≡◌, ℕ, zero, suc, ◌+◌, ◌%◌, ◌^◌, ◌<◌, Bool, true, false, List, [], ◌∷◌, ◌++◌, codes, refl, ap, arith, slice_index}
+use Rattle.std.proofs.Common.{◌≡◌, ℕ, zero, suc, ◌+◌, ◌%◌, ◌^◌, ◌<◌, Bool, true, false, List, [], ◌∷◌, ◌++◌, codes}
+use Rattle.std.proofs.Common.{refl, ap, arith, slice_index}
 use Rattle.std.specs.Prelude.{nat_lt, ◌&&◌, ◌==◌, if◌then◌else◌}
 use Rattle.std.proofs.lemmas.Bool.Decides.{nat_tests}
 use Rattle.std.specs.List.{AllByRecursion}
@@ -11,7 +12,8 @@ use Rattle.am_journal.specs.declared.event.Event.TheVariants as event
 use Rattle.am_journal.specs.Lawful.{AreBytes, IsInRange}
 use Rattle.am_drill.specs.declared.numbers.Turn.{Turn}
 use Rattle.am_drill.specs.declared.numbers.Turn.TheVariants as turn
-use Rattle.am_drill.specs.Drill.{seed_of, drawn, letter, turn_of, message, opening, read, played_turn, round, rounds, events}
+use Rattle.am_drill.specs.Drill.{seed_of, drawn, letter, turn_of, message, opening, read, played_turn, round, rounds}
+use Rattle.am_drill.specs.Drill.{events}
 
 -- ---- bytes
 
@@ -34,8 +36,13 @@ bytes_of (b ∷ bs) h (suc i) = bytes_of bs (tail_below (nat_lt b 256) (are_belo
 
 -- ---- events
 
-ranged : (tag : ℕ) (body : TBody) → tag < 2 ^ 16 → BodyInRange_t body → are_below (spelling_t (record { tag = tag; body = body })) ≡ true → IsInRange (message tag body)
-ranged tag body small fits below = (omega arith, record { tag = small; body = fits }, bytes_of (spelling_t (record { tag = tag; body = body })) below)
+ranged : (tag : ℕ) (body : TBody) → tag < 2 ^ 16 → BodyInRange_t body
+    → are_below (spelling_t (record { tag = tag; body = body })) ≡ true → IsInRange (message tag body)
+ranged tag body small fits below = (
+  omega arith,
+  record { tag = small; body = fits },
+  bytes_of (spelling_t (record { tag = tag; body = body })) below,
+)
 
 opening_ranged : AllByRecursion IsInRange opening
 unfolding are_below
@@ -78,13 +85,15 @@ turn_ranged turn.Read l h = (read_ranged, tt)
 letter_small : (r : ℕ) → letter r < 256
 letter_small r = omega arith
 
-round_ranged_as : (b : Bool) (r : ℕ) → AllByRecursion IsInRange (if b then read ∷ event.Took 0 ∷ [] else played_turn (turn_of r) (letter r))
+round_ranged_as : (b : Bool) (r : ℕ) → AllByRecursion IsInRange (if b then read ∷ event.Took 0 ∷ [] else played_turn
+    (turn_of r) (letter r))
 round_ranged_as true r = (read_ranged, (omega arith, tt))
 round_ranged_as false r = turn_ranged (turn_of r) (letter r) (letter_small r)
 
 -- ---- all of them
 
-ranged-append : (a b : List Event) → AllByRecursion IsInRange a → AllByRecursion IsInRange b → AllByRecursion IsInRange (a ++ b)
+ranged-append : (a b : List Event) → AllByRecursion IsInRange a → AllByRecursion IsInRange b
+    → AllByRecursion IsInRange (a ++ b)
 ranged-append [] b first then_all = then_all
 ranged-append (e ∷ a) b first then_all = (first.0, ranged-append a b first.1 then_all)
 

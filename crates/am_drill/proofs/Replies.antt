@@ -1,5 +1,6 @@
 -- Replies, counted event by event.
-use Rattle.std.proofs.Common.{◌≡◌, ℕ, zero, suc, ◌+◌, ◌^◌, ◌<◌, ◌≤◌, List, [], ◌∷◌, ◌++◌, length, take, get_or, Some, None, refl, sym, ap, subst, ◌∙◌, arith, append_assoc}
+use Rattle.std.proofs.Common.{◌≡◌, ℕ, zero, suc, ◌+◌, ◌^◌, ◌<◌, ◌≤◌, List, [], ◌∷◌, ◌++◌, length, take, get_or, Some}
+use Rattle.std.proofs.Common.{None, refl, sym, ap, subst, ◌∙◌, arith, append_assoc}
 use Rattle.std.specs.Prelude.{slice_get, sum_by}
 use Rattle.std.specs.List.{fold}
 use Rattle.std.proofs.lemmas.Grind.{fold-append}
@@ -23,11 +24,13 @@ first_more rs k r h =
     take_more rs k r within ∙ ap (λ (x : Reply). take k rs ++ x ∷ []) here
 
 -- one reply more
-pub one_more : (rs : List Reply) (k : ℕ) (r : Reply) → slice_get rs k ≡ Some r → sum_by bytes_in (take (k + 1) rs) ≡ sum_by bytes_in (take k rs) + length r.bytes
+pub one_more : (rs : List Reply) (k : ℕ) (r : Reply) → slice_get rs k ≡ Some r
+    → sum_by bytes_in (take (k + 1) rs) ≡ sum_by bytes_in (take k rs) + length r.bytes
 one_more rs k r h = ap (sum_by bytes_in) (first_more rs k r h) ∙ sum_by_push bytes_in (take k rs) r
 
 -- it is one of them, and its bytes are among theirs
-pub one_within : (rs : List Reply) (k : ℕ) (r : Reply) → slice_get rs k ≡ Some r → (k < length rs) × (sum_by bytes_in (take k rs) + length r.bytes ≤ sum_by bytes_in rs)
+pub one_within : (rs : List Reply) (k : ℕ) (r : Reply) → slice_get rs k ≡ Some r → (k < length rs)
+    × (sum_by bytes_in (take k rs) + length r.bytes ≤ sum_by bytes_in rs)
 one_within rs k r h =
     let within : k < length rs = slice_get_within rs k r h in
     let here : get_or rs k r ≡ r = get_or_from_slice_get rs k r r h in
@@ -37,10 +40,14 @@ none_more : (rs : List Reply) (k : ℕ) → slice_get rs k ≡ None → (length 
 none_more [] zero h = (omega arith, refl)
 none_more [] (suc k) h = (omega arith, refl)
 none_more (r ∷ rs) zero h = absurd cc
-none_more (r ∷ rs) (suc k) h = (omega (arith, (none_more rs k h).0), ap (λ (x : List Reply). r ∷ x) (none_more rs k h).1)
+none_more (r ∷ rs) (suc k) h = (
+  omega (arith, (none_more rs k h).0),
+  ap (λ (x : List Reply). r ∷ x) (none_more rs k h).1,
+)
 
 -- all of them were counted
-pub all_counted : (rs : List Reply) (k bytes : ℕ) → slice_get rs k ≡ None → k ≤ length rs → bytes ≡ sum_by bytes_in (take k rs) → record { replies = k; bytes = bytes } ≡ count_of rs
+pub all_counted : (rs : List Reply) (k bytes : ℕ) → slice_get rs k ≡ None → k ≤ length rs
+    → bytes ≡ sum_by bytes_in (take k rs) → record { replies = k; bytes = bytes } ≡ count_of rs
 all_counted rs k bytes h within is =
     let none = none_more rs k h in
     let same : k ≡ length rs = omega (arith, none.0) in
@@ -49,20 +56,26 @@ all_counted rs k bytes h within is =
 
 -- ---- event by event
 
-replies-append : (s : State) (a b : List Event) → replies_from s (a ++ b) ≡ replies_from s a ++ replies_from (fold step s a) b
+replies-append : (s : State) (a b : List Event) → replies_from s (a ++ b) ≡ replies_from s a
+    ++ replies_from (fold step s a) b
 unfolding replies_from
 replies-append s [] b = refl
-replies-append s (e ∷ a) b = ap (λ (x : List Reply). (step s e).replies ++ x) (replies-append (step s e) a b) ∙ sym (append_assoc (step s e).replies (replies_from (step s e) a) (replies_from (fold step (step s e) a) b))
+replies-append s (e ∷ a) b = ap (λ (x : List Reply). (step s e).replies ++ x) (replies-append (step s e) a b)
+    ∙ sym (append_assoc (step s e).replies (replies_from (step s e) a) (replies_from (fold step (step s e) a) b))
 
 -- the replies of one event more
-pub replies-push : (journal : List Event) (e : Event) → replies_of (journal ++ e ∷ []) ≡ replies_of journal ++ (run (journal ++ e ∷ [])).replies
+pub replies-push : (journal : List Event) (e : Event) → replies_of (journal ++ e ∷ []) ≡ replies_of journal
+    ++ (run (journal ++ e ∷ [])).replies
 unfolding replies_from run
 replies-push journal e =
     replies-append start journal (e ∷ [])
-    ∙ ap (λ (x : List Reply). replies_from start journal ++ x) (append-nil (step (fold step start journal) e).replies ∙ ap (λ (s : State). s.replies) (sym (fold-append step start journal (e ∷ []))))
+    ∙ ap (λ (x : List Reply). replies_from start journal ++ x) (append-nil (step (fold step start journal) e).replies
+    ∙ ap (λ (s : State). s.replies) (sym (fold-append step start journal (e ∷ []))))
 
-pub count_pushed : (count more : Count) (journal : List Event) (e : Event) → IsCounted count journal → IsBrief (run (journal ++ e ∷ [])).replies → more ≡ count_of (run (journal ++ e ∷ [])).replies
-    → IsCounted (record { replies = count.replies + more.replies; bytes = count.bytes + more.bytes }) (journal ++ e ∷ [])
+pub count_pushed : (count more : Count) (journal : List Event) (e : Event) → IsCounted count journal
+    → IsBrief (run (journal ++ e ∷ [])).replies → more ≡ count_of (run (journal ++ e ∷ [])).replies
+    → IsCounted (record { replies = count.replies + more.replies; bytes = count.bytes + more.bytes })
+    (journal ++ e ∷ [])
 count_pushed count more journal e was brief is =
     let rs : List Reply = (run (journal ++ e ∷ [])).replies in
     let old : count ≡ count_at journal = was.exact in
@@ -72,13 +85,26 @@ count_pushed count more journal e was brief is =
     let old_bytes : count.bytes ≡ sum_by bytes_in (replies_of journal) = ap (λ (c : Count). c.bytes) old in
     let longer : length (journal ++ e ∷ []) ≡ length journal + 1 = length-append journal (e ∷ []) in
     let all_replies : count.replies + more.replies ≡ length (replies_of (journal ++ e ∷ [])) =
-    omega (arith, old_replies, more_replies, ap (λ (l : List Reply). length l) (replies-push journal e), length-append (replies_of journal) rs)
+    omega (
+      arith,
+      old_replies,
+      more_replies,
+      ap (λ (l : List Reply). length l) (replies-push journal e),
+      length-append (replies_of journal) rs,
+    )
     in
     let all_bytes : count.bytes + more.bytes ≡ sum_by bytes_in (replies_of (journal ++ e ∷ [])) =
-    omega (arith, old_bytes, more_bytes, ap (sum_by bytes_in) (replies-push journal e), sum_by-append bytes_in (replies_of journal) rs)
+    omega (
+      arith,
+      old_bytes,
+      more_bytes,
+      ap (sum_by bytes_in) (replies-push journal e),
+      sum_by-append bytes_in (replies_of journal) rs,
+    )
     in
     record {
-      exact = ap (λ (n : ℕ). record { replies = n; bytes = count.bytes + more.bytes }) all_replies ∙ ap (λ (n : ℕ). record { replies = length (replies_of (journal ++ e ∷ [])); bytes = n }) all_bytes;
+      exact = ap (λ (n : ℕ). record { replies = n; bytes = count.bytes + more.bytes }) all_replies
+          ∙ ap (λ (n : ℕ). record { replies = length (replies_of (journal ++ e ∷ [])); bytes = n }) all_bytes;
       few = omega (arith, was.few, brief.few, more_replies, longer);
       bytes = omega (arith, was.bytes, brief.bytes, more_bytes, longer);
     }
@@ -86,24 +112,40 @@ count_pushed count more journal e was brief is =
 -- none of none
 pub none_counted : (journal : List Event) → journal ≡ [] → IsCounted (record { replies = 0; bytes = 0 }) journal
 unfolding replies_from
-none_counted journal empty = subst (λ (j : List Event). IsCounted (record { replies = 0; bytes = 0 }) j) (sym empty) (record { exact = refl; few = omega arith; bytes = omega arith })
+none_counted journal empty = subst (λ (j : List Event). IsCounted (record { replies = 0; bytes = 0 }) j) (sym empty)
+    (record { exact = refl; few = omega arith; bytes = omega arith })
 
 -- ---- after a step
 
-pub brief_at : (before now : List Event) (e : Event) → IsNext before e → now ≡ before ++ e ∷ [] → IsBrief (run now).replies
+pub brief_at : (before now : List Event) (e : Event) → IsNext before e → now ≡ before ++ e ∷ []
+    → IsBrief (run now).replies
 brief_at before now e next is = subst (λ (j : List Event). IsBrief (run j).replies) (sym is) next.brief
 
-pub counted_at : (before now : List Event) (e : Event) (count more : Count) → IsNext before e → IsCounted count before → now ≡ before ++ e ∷ [] → more ≡ count_of (run now).replies
+pub counted_at : (before now : List Event) (e : Event) (count more : Count) → IsNext before e → IsCounted count before
+    → now ≡ before ++ e ∷ [] → more ≡ count_of (run now).replies
     → IsCounted (record { replies = count.replies + more.replies; bytes = count.bytes + more.bytes }) now
 counted_at before now e count more next was is said =
-    subst (λ (j : List Event). IsCounted (record { replies = count.replies + more.replies; bytes = count.bytes + more.bytes }) j) (sym is)
+    subst (λ (j : List Event). IsCounted (record {
+      replies = count.replies + more.replies;
+      bytes =
+          count.bytes + more.bytes;
+    }) j) (sym is)
     (count_pushed count more before e was next.brief (said ∙ ap (λ (j : List Event). count_of (run j).replies) is))
 
 -- no count wraps
-pub counts_fit : (before now : List Event) (e : Event) (count more : Count) → IsNext before e → IsCounted count before → now ≡ before ++ e ∷ [] → more ≡ count_of (run now).replies
+pub counts_fit : (before now : List Event) (e : Event) (count more : Count) → IsNext before e → IsCounted count before
+    → now ≡ before ++ e ∷ [] → more ≡ count_of (run now).replies
     → (count.replies + more.replies < 2 ^ 64) × (count.bytes + more.bytes < 2 ^ 64)
 counts_fit before now e count more next was is said =
     let brief : IsBrief (run now).replies = brief_at before now e next is in
     let more_replies : more.replies ≡ length (run now).replies = ap (λ (c : Count). c.replies) said in
-    let more_bytes : more.bytes ≡ sum_by bytes_in (run now).replies = ap (λ (c : Count). c.bytes) said in
-    (omega (arith, more_replies, brief.few, was.few, next.short), omega (arith, more_bytes, brief.bytes, was.bytes, next.short))
+    let more_bytes : more.bytes ≡ sum_by bytes_in (run now).replies = ap (λ (c : Count). c.bytes) said in (
+      omega (arith, more_replies, brief.few, was.few, next.short),
+      omega (
+        arith,
+        more_bytes,
+        brief.bytes,
+        was.bytes,
+        next.short,
+      ),
+    )

@@ -1,5 +1,6 @@
 -- Each event of a drill can be done at its place.
-use Rattle.std.proofs.Common.{◌≡◌, ℕ, zero, suc, ◌+◌, ◌*◌, ◌%◌, ◌^◌, ◌<◌, ◌≤◌, Bool, true, false, List, [], ◌∷◌, ◌++◌, length, sym, ap, subst, ◌∙◌, arith, append_assoc, add-one}
+use Rattle.std.proofs.Common.{◌≡◌, ℕ, zero, suc, ◌+◌, ◌*◌, ◌%◌, ◌^◌, ◌<◌, ◌≤◌, Bool, true, false, List, [], ◌∷◌, ◌++◌}
+use Rattle.std.proofs.Common.{length, sym, ap, subst, ◌∙◌, arith, append_assoc, add-one}
 use Rattle.std.specs.Prelude.{◌==◌, if◌then◌else◌}
 use Rattle.std.specs.List.{fold}
 use Rattle.std.proofs.lemmas.Grind.{fold-append}
@@ -35,7 +36,8 @@ next_from before (e ∷ es) all short = (
     brief = subst (λ (s : State). IsBrief s.replies) (sym (run-push before e)) all.0.brief;
     short = omega arith;
   },
-  next_from (before ++ e ∷ []) es (subst (λ (s : State). CanDoAll s es) (sym (run-push before e)) all.1) (omega (arith, length-append before (e ∷ []))),
+  next_from (before ++ e ∷ []) es (subst (λ (s : State). CanDoAll s es) (sym (run-push before e)) all.1)
+      (omega (arith, length-append before (e ∷ []))),
 )
 
 played_from : (before es : List Event) → AreNext before es → ArePlayed enabled before es
@@ -43,11 +45,17 @@ unfolding ArePlayed
 played_from before [] all = tt
 played_from before (e ∷ es) all = (all.0.lawful, all.0.allowed, played_from (before ++ e ∷ []) es all.1)
 
-played-append : (before a b : List Event) → ArePlayed enabled before a → ArePlayed enabled (before ++ a) b → ArePlayed enabled before (a ++ b)
+played-append : (before a b : List Event) → ArePlayed enabled before a → ArePlayed enabled (before ++ a) b
+    → ArePlayed enabled before (a ++ b)
 unfolding ArePlayed
-played-append before [] b first then_all = subst (λ (j : List Event). ArePlayed enabled j b) (append-nil before) then_all
-played-append before (e ∷ a) b first then_all =
-    (first.0, first.1, played-append (before ++ e ∷ []) a b first.2 (subst (λ (j : List Event). ArePlayed enabled j b) (sym (append_assoc before (e ∷ []) a)) then_all))
+played-append before [] b first then_all = subst (λ (j : List Event). ArePlayed enabled j b) (append-nil before)
+    then_all
+played-append before (e ∷ a) b first then_all = (
+  first.0,
+  first.1,
+  played-append (before ++ e ∷ []) a b first.2
+      (subst (λ (j : List Event). ArePlayed enabled j b) (sym (append_assoc before (e ∷ []) a)) then_all),
+)
 
 -- ---- how many events there are
 
@@ -57,7 +65,8 @@ turn_short turn.Events l = omega arith
 turn_short turn.Key l = omega arith
 turn_short turn.Read l = omega arith
 
-round_short_as : (b : Bool) (r : ℕ) → length (if b then read ∷ event.Took 0 ∷ [] else played_turn (turn_of r) (letter r)) ≤ 2
+round_short_as : (b : Bool) (r : ℕ) → length (if b then read ∷ event.Took 0 ∷ [] else played_turn (turn_of r)
+    (letter r)) ≤ 2
 round_short_as true r = omega arith
 round_short_as false r = turn_short (turn_of r) (letter r)
 
@@ -67,7 +76,12 @@ round_short k r = round_short_as (k % 50 == 0) r
 rounds_short : (n : ℕ) → length (rounds n) ≤ 2 * n
 unfolding rounds
 rounds_short zero = omega arith
-rounds_short (suc k) = omega (arith, rounds_short k, round_short (k + 1) (drawn (seed_of (k + 1))), length-append (rounds k) (round (k + 1) (drawn (seed_of (k + 1)))))
+rounds_short (suc k) = omega (
+  arith,
+  rounds_short k,
+  round_short (k + 1) (drawn (seed_of (k + 1))),
+  length-append (rounds k) (round (k + 1) (drawn (seed_of (k + 1)))),
+)
 
 -- ---- from round to round
 
@@ -84,9 +98,12 @@ unfolding run
 stands_after zero h = subst (λ (j : List Event). Stands 0 6 (fold step start j)) (sym no_rounds) opening_goes.stands
 stands_after (suc k) h =
     let s : State = run (events k) in
-    let goes : Goes (k + 1) (most_unsent (k + 1)) s (round (k + 1) (drawn (seed_of (k + 1)))) = round_goes s k (drawn (seed_of (k + 1))) (omega arith) (stands_after k (omega arith)) in
-    let is : run (events (k + 1)) ≡ fold step s (round (k + 1) (drawn (seed_of (k + 1)))) = ap run (next_events k) ∙ run-append (events k) (round (k + 1) (drawn (seed_of (k + 1)))) in
-    subst (λ (n : ℕ). Stands n (most_unsent n) (run (events n))) (add-one k) (subst (λ (x : State). Stands (k + 1) (most_unsent (k + 1)) x) (sym is) goes.stands)
+    let goes : Goes (k + 1) (most_unsent (k + 1)) s (round (k + 1) (drawn (seed_of (k + 1)))) = round_goes s k
+    (drawn (seed_of (k + 1))) (omega arith) (stands_after k (omega arith)) in
+    let is : run (events (k + 1)) ≡ fold step s (round (k + 1) (drawn (seed_of (k + 1)))) = ap run (next_events k)
+    ∙ run-append (events k) (round (k + 1) (drawn (seed_of (k + 1)))) in
+    subst (λ (n : ℕ). Stands n (most_unsent n) (run (events n))) (add-one k)
+    (subst (λ (x : State). Stands (k + 1) (most_unsent (k + 1)) x) (sym is) goes.stands)
 
 pub next_opening : AreNext [] opening
 unfolding run
@@ -95,15 +112,24 @@ next_opening = next_from [] opening opening_goes.all (omega arith)
 pub next_round : (k : ℕ) → k < 100000 → AreNext (events k) (round (k + 1) (drawn (seed_of (k + 1))))
 next_round k h =
     let r = drawn (seed_of (k + 1)) in
-    let goes : Goes (k + 1) (most_unsent (k + 1)) (run (events k)) (round (k + 1) r) = round_goes (run (events k)) k r h (stands_after k (omega arith)) in
-    next_from (events k) (round (k + 1) r) goes.all (omega (arith, length-append opening (rounds k), rounds_short k, round_short (k + 1) r))
+    let goes : Goes (k + 1) (most_unsent (k + 1)) (run (events k)) (round (k + 1) r) = round_goes (run (events k)) k r h
+    (stands_after k (omega arith)) in
+    next_from (events k) (round (k + 1) r) goes.all (omega (
+      arith,
+      length-append opening (rounds k),
+      rounds_short k,
+      round_short (k + 1) r,
+    ))
 
 -- ---- all of them
 
 pub all_played : (n : ℕ) → n ≤ 100000 → IsPlayed enabled (events n)
-all_played zero h = subst (λ (j : List Event). ArePlayed enabled [] j) (sym no_rounds) (played_from [] opening next_opening)
+all_played zero h = subst (λ (j : List Event). ArePlayed enabled [] j) (sym no_rounds)
+    (played_from [] opening next_opening)
 all_played (suc k) h =
     let r = drawn (seed_of (k + 1)) in
-    let more : ArePlayed enabled (events k) (round (k + 1) r) = played_from (events k) (round (k + 1) r) (next_round k (omega arith)) in
+    let more : ArePlayed enabled (events k) (round (k + 1) r) = played_from (events k) (round (k + 1) r)
+    (next_round k (omega arith)) in
     subst (λ (n : ℕ). IsPlayed enabled (events n)) (add-one k)
-    (subst (λ (j : List Event). ArePlayed enabled [] j) (sym (next_events k)) (played-append [] (events k) (round (k + 1) r) (all_played k (omega arith)) more))
+    (subst (λ (j : List Event). ArePlayed enabled [] j) (sym (next_events k))
+    (played-append [] (events k) (round (k + 1) r) (all_played k (omega arith)) more))

@@ -22,9 +22,11 @@ and_false false = refl
 
 -- an event file with an opening stays listed
 pub stays_listed : (old : EventFile) (items : List Recorded) (carry : List ℕ)
-    → with_file 1 (file_with items carry) (record { window = 1; file = old } ∷ []) ≡ record { window = 1; file = file_with items carry } ∷ []
+    → with_file 1 (file_with items carry) (record { window = 1; file = old } ∷ [])
+    ≡ record { window = 1; file = file_with items carry } ∷ []
 stays_listed old items carry =
-    ap (λ (b : Bool). if b then record { window = 1; file = file_with items carry } ∷ [] else []) (or_true (nat_lt 0 (length items)))
+    ap (λ (b : Bool). if b then record { window = 1; file = file_with items carry } ∷ [] else [])
+    (or_true (nat_lt 0 (length items)))
 
 -- what a read leaves of an opening
 pub left_of : List ℕ → List Pending → List ℕ
@@ -46,10 +48,20 @@ items_left f at = items_after (piece_of (queue_of (file_with f.items f.carry)) r
 abbrev pub carry_left : Facts → List ℕ
 carry_left f = left_of f.carry (pending_from 1 f.items)
 
-given_is : (f : Facts) (at : ℕ) → given (file_with f.items f.carry) reader at ≡ file_with (items_left f at) (carry_left f)
-given_is f at = ap (λ (os : List OpenCarry). record { items = items_left f at; openings = os }) (leaves f.carry (pending_from 1 f.items) (queue_of (file_with f.items f.carry)) refl)
+given_is : (f : Facts) (at : ℕ) → given (file_with f.items f.carry) reader at ≡ file_with (items_left f at)
+    (carry_left f)
+given_is f at = ap (λ (os : List OpenCarry). record { items = items_left f at; openings = os })
+    (leaves f.carry (pending_from 1 f.items) (queue_of (file_with f.items f.carry)) refl)
 
-pub answered_book : (f : Facts) (at : ℕ) → after_answer (book_with [] f) reader at ≡ book_with [] (record f { items = items_left f at; carry = carry_left f; latest = at })
+pub answered_book : (f : Facts) (at : ℕ) → after_answer (book_with [] f) reader at ≡ book_with []
+    (record f { items = items_left f at; carry = carry_left f; latest = at })
 answered_book f at =
-    ap (λ (file : EventFile). record { files = with_file 1 file (record { window = 1; file = file_with f.items f.carry } ∷ []); owners = 1 ∷ []; reads = []; latest = at }) (given_is f at)
-    ∙ ap (λ (files : List WindowFile). record { files = files; owners = 1 ∷ []; reads = []; latest = at }) (stays_listed (file_with f.items f.carry) (items_left f at) (carry_left f))
+    ap (λ (file : EventFile). record {
+      files = with_file 1 file (record { window = 1; file = file_with f.items f.carry }
+          ∷ []);
+      owners = 1 ∷ [];
+      reads = [];
+      latest = at;
+    }) (given_is f at)
+    ∙ ap (λ (files : List WindowFile). record { files = files; owners = 1 ∷ []; reads = []; latest = at })
+    (stays_listed (file_with f.items f.carry) (items_left f at) (carry_left f))

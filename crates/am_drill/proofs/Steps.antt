@@ -1,5 +1,6 @@
 -- What each event of a drill makes of the editor.
-use Rattle.std.proofs.Common.{◌≡◌, ℕ, ◌+◌, Bool, true, false, not, List, [], ◌∷◌, ◌++◌, take, drop, Some, None, option_map, refl, ap, ◌∙◌}
+use Rattle.std.proofs.Common.{◌≡◌, ℕ, ◌+◌, Bool, true, false, not, List, [], ◌∷◌, ◌++◌, take, drop, Some, None}
+use Rattle.std.proofs.Common.{option_map, refl, ap, ◌∙◌}
 use Rattle.std.specs.Prelude.{replicate, if◌then◌else◌}
 use Rattle.ninep_types.specs.declared.message.RBody.{RBody}
 use Rattle.ninep_types.specs.declared.message.RBody.TheVariants as r
@@ -55,7 +56,8 @@ pub flush_step : (f : Facts) → step (standing [] [] f) flush ≡ standing [] [
 unfolding step served_most book_served_most port_served_most after_serving_most task_deeds task_refusal task_held
 flush_step f = refl
 
-pub took_step : (f : Facts) → step (standing [] [] f) (event.Took 0) ≡ standing [] [] (record f { entries = f.entries + 1; unsent = nothing_unsent; replies = [] })
+pub took_step : (f : Facts) → step (standing [] [] f) (event.Took 0) ≡ standing [] []
+    (record f { entries = f.entries + 1; unsent = nothing_unsent; replies = [] })
 unfolding step served_most book_served_most port_served_most after_serving_most task_deeds task_refusal task_held
 took_step f = refl
 
@@ -92,7 +94,8 @@ polled_with w f served book =
     }
 
 abbrev pub polled_as : Bool → Facts → State
-polled_as w f = polled_with w f (served_all (f.entries + 1) (book_asked_as w f)) (book_served_all (f.entries + 1) (book_asked_as w f))
+polled_as w f = polled_with w f (served_all (f.entries + 1) (book_asked_as w f))
+    (book_served_all (f.entries + 1) (book_asked_as w f))
 
 polled : (f : Facts) → step (standing [] [] f) poll ≡ polled_as (waits f) f
 unfolding step port_served_most after_serving_most task_deeds task_refusal task_held
@@ -100,7 +103,8 @@ polled f = refl
 
 -- the event file after the read, by whether it waits
 abbrev pub book_as : Bool → Facts → BookState
-book_as w f = if w then record (book_with [] f) { reads = reader ∷ []; latest = f.entries + 1 } else after_answer (book_with [] f) reader (f.entries + 1)
+book_as w f = if w then record (book_with [] f) { reads = reader ∷ []; latest = f.entries + 1 } else after_answer
+    (book_with [] f) reader (f.entries + 1)
 
 abbrev pub with_book : State → BookState → State
 with_book s book = record s { scene = record no_scene { book = book } }
@@ -118,17 +122,24 @@ flushed_with f served book =
     }
 
 flushed : (f : Facts) → step (standing (reading ∷ []) (reader ∷ []) f) flush
-    ≡ flushed_with f (served_all (f.entries + 1) (book_with (reader ∷ []) f)) (book_served_all (f.entries + 1) (book_with (reader ∷ []) f))
+    ≡ flushed_with f (served_all (f.entries + 1) (book_with (reader ∷ []) f))
+    (book_served_all (f.entries + 1) (book_with (reader ∷ []) f))
 unfolding step port_served_most after_serving_most task_deeds task_refusal task_held
 flushed f = refl
 
 -- a read that has to wait isn't served
-none_next : (f : Facts) (latest : ℕ) → waits f ≡ true → served_of (record (book_with [] f) { reads = reader ∷ []; latest = latest }) ≡ None
+none_next : (f : Facts) (latest : ℕ) → waits f ≡ true → served_of (record (book_with [] f)
+    { reads = reader ∷ []; latest = latest }) ≡ None
 none_next f latest e =
-    ap (λ (w : Bool). option_map {U = Asker × Piece} (λ r. (r, piece_for (record (book_with [] f) { reads = reader ∷ []; latest = latest }) r)) (if not w then Some reader else None)) e
+    ap (λ (w : Bool). option_map {U = Asker × Piece} (λ r. (
+      r,
+      piece_for
+          (record (book_with [] f) { reads = reader ∷ []; latest = latest }) r,
+    )) (if not w then Some reader else None)) e
 
 pub poll_waits_step : (f : Facts) → waits f ≡ true
-    → step (standing [] [] f) poll ≡ standing (reading ∷ []) (reader ∷ []) (record f { entries = f.entries + 1; latest = f.entries + 1; replies = [] })
+    → step (standing [] [] f) poll ≡ standing (reading ∷ []) (reader ∷ [])
+    (record f { entries = f.entries + 1; latest = f.entries + 1; replies = [] })
 poll_waits_step f e =
     let at : ℕ = f.entries + 1 in
     let book : BookState = record (book_with [] f) { reads = reader ∷ []; latest = at } in
@@ -140,7 +151,8 @@ poll_waits_step f e =
     ∙ ap (λ (b : BookState). polled_with true f [] b) (book_all_none at book none)
 
 -- a Tflush while it waits
-pub flush_waiting_step : (f : Facts) → waits f ≡ true → step (standing (reading ∷ []) (reader ∷ []) f) flush ≡ standing [] [] (answered f 11 r.Flush)
+pub flush_waiting_step : (f : Facts) → waits f ≡ true → step (standing (reading ∷ []) (reader ∷ []) f)
+    flush ≡ standing [] [] (answered f 11 r.Flush)
 flush_waiting_step f e =
     let at : ℕ = f.entries + 1 in
     let book : BookState = book_with (reader ∷ []) f in
@@ -151,9 +163,12 @@ flush_waiting_step f e =
 -- where it is answered, with what is left then
 pub poll_now_step : (f : Facts) → waits f ≡ false
     → step (standing [] [] f) poll
-    ≡ with_book (standing [] [] (answered f 10 (r.Read (piece_for (book_with [] f) reader).bytes))) (after_answer (book_with [] f) reader (f.entries + 1))
+    ≡ with_book (standing [] [] (answered f 10 (r.Read (piece_for (book_with [] f) reader).bytes)))
+    (after_answer (book_with [] f) reader (f.entries + 1))
 unfolding served_most book_served_most port_served_most after_serving_most
 poll_now_step f e =
-    let asked : book_asked_as false f ≡ after_answer (book_with [] f) reader (f.entries + 1) = ap (λ (w : Bool). book_as w f) e in
+    let asked : book_asked_as false f ≡ after_answer (book_with [] f) reader (f.entries + 1) =
+    ap (λ (w : Bool). book_as w f) e in
     polled f ∙ ap (λ (w : Bool). polled_as w f) e
-    ∙ ap (λ (b : BookState). polled_with false f (served_all (f.entries + 1) b) (book_served_all (f.entries + 1) b)) asked
+    ∙ ap (λ (b : BookState). polled_with false f (served_all (f.entries + 1) b) (book_served_all (f.entries + 1) b))
+    asked

@@ -33,17 +33,22 @@ AreCauses (r ∷ rs) = (r.0 ≡ cause r.1) × AreCauses rs
 ending_same : (a b : Ending) → Some a ≡ Some b → a ≡ b
 ending_same a b e = cc
 
-looked_up-is : (table : List (List ℕ × Ending)) (word : List ℕ) (e : Ending) → AreCauses table → looked_up table word ≡ Some e → word ≡ cause e
+looked_up-is : (table : List (List ℕ × Ending)) (word : List ℕ) (e : Ending) → AreCauses table
+    → looked_up table word ≡ Some e → word ≡ cause e
 looked_up-is [] word e all = λ h. absurd cc
 looked_up-is (r ∷ rs) word e all =
-    elim (bytes_eq word r.0) as (λ t. bytes_eq word r.0 ≡ t → cond t (Some r.1) (looked_up rs word) ≡ Some e → word ≡ cause e) [
+    elim (bytes_eq word r.0) as (λ t. bytes_eq word r.0 ≡ t → cond t (Some r.1) (looked_up rs word) ≡ Some e
+    → word ≡ cause e) [
       | true ↦ λ t h. (bytes_eq-Decides word r.0).0 t ∙ all.0 ∙ ap cause (ending_same r.1 e h)
       | false ↦ λ t h. looked_up-is rs word e all.1 h
     ] refl
 
-or_broken-is : (o : Option Ending) (word : List ℕ) (e : Ending) → looked_up plain_causes word ≡ o → or_broken o word ≡ Some e → word ≡ cause e
-or_broken-is None word e given h = looked_up-is broken_causes word e (refl, (refl, (refl, (refl, (refl, (refl, (refl, (refl, tt)))))))) h
-or_broken-is (Some x) word e given h = looked_up-is plain_causes word e (refl, (refl, (refl, (refl, (refl, (refl, tt)))))) (given ∙ h)
+or_broken-is : (o : Option Ending) (word : List ℕ) (e : Ending) → looked_up plain_causes word ≡ o → or_broken o
+    word ≡ Some e → word ≡ cause e
+or_broken-is None word e given h = looked_up-is broken_causes word e
+    (refl, (refl, (refl, (refl, (refl, (refl, (refl, (refl, tt)))))))) h
+or_broken-is (Some x) word e given h = looked_up-is plain_causes word e
+    (refl, (refl, (refl, (refl, (refl, (refl, tt)))))) (given ∙ h)
 
 pub ending-is : (word : List ℕ) (e : Ending) → ending_of word ≡ Some e → word ≡ cause e
 unfolding ending_of

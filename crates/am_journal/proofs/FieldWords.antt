@@ -1,5 +1,6 @@
 -- Fields of a line: a decimal is cut off at the first blank, and read again.
-use Rattle.std.proofs.Common.{◌≡◌, ℕ, ◌+◌, ◌%◌, ◌^◌, ◌<◌, true, false, cond, eqb, ltb, List, [], ◌∷◌, ◌++◌, length, Option, Some, None, refl, ap, sym, subst, ◌∙◌, arith}
+use Rattle.std.proofs.Common.{◌≡◌, ℕ, ◌+◌, ◌%◌, ◌^◌, ◌<◌, true, false, cond, eqb, ltb, List, [], ◌∷◌, ◌++◌, length}
+use Rattle.std.proofs.Common.{Option, Some, None, refl, ap, sym, subst, ◌∙◌, arith}
 use Rattle.std.specs.Fmt.{decimal}
 use Rattle.std.proofs.lemmas.Fmt.{decimal_by_steps}
 use Rattle.std.proofs.lemmas.Bool.{lt-ltb, ltb-true, eqb-true}
@@ -21,10 +22,12 @@ visible-more [] b h k = (k, tt)
 visible-more (a ∷ bs) b h k = (h.0, visible-more bs b h.1 k)
 
 pub decimal-visible : (n : ℕ) → n < 2 ^ 64 → AreVisible (decimal n)
-decimal-visible n fits = decimal_by_steps (λ n ds. AreVisible ds) (λ n lt. (omega arith, tt)) (λ n ds ge before. visible-more ds (48 + n % 10) before (omega arith)) n fits
+decimal-visible n fits = decimal_by_steps (λ n ds. AreVisible ds) (λ n lt. (omega arith, tt))
+    (λ n ds ge before. visible-more ds (48 + n % 10) before (omega arith)) n fits
 
 not_blank : (b : ℕ) → 32 < b → eqb b 32 ≡ false
-not_blank b h = elim (eqb b 32) as (λ t. eqb b 32 ≡ t → t ≡ false) [ true ↦ λ e. absurd (omega (arith, eqb-true b 32 e)) | false ↦ λ e. refl ] refl
+not_blank b h = elim (eqb b 32) as (λ t. eqb b 32 ≡ t → t ≡ false)
+    [ true ↦ λ e. absurd (omega (arith, eqb-true b 32 e)) | false ↦ λ e. refl ] refl
 
 pub first-is : (bs rest : List ℕ) → AreVisible bs → first_field (bs ++ 32 ∷ rest) ≡ bs
 first-is [] rest h = refl
@@ -38,14 +41,17 @@ after-is (b ∷ bs) rest h = rw (not_blank b h.0) (after-is bs rest h.1)
 pub field-split : (bs : List ℕ) → 0 < length (after_field bs) → bs ≡ first_field bs ++ 32 ∷ after_field bs
 field-split [] = λ h. absurd (omega arith)
 field-split (b ∷ bs) =
-    elim (eqb b 32) as (λ t. eqb b 32 ≡ t → 0 < length (cond t bs (after_field bs)) → b ∷ bs ≡ cond t [] (b ∷ first_field bs) ++ 32 ∷ cond t bs (after_field bs)) [
+    elim (eqb b 32) as (λ t. eqb b 32 ≡ t → 0 < length (cond t bs (after_field bs))
+    → b ∷ bs ≡ cond t [] (b ∷ first_field bs) ++ 32 ∷ cond t bs (after_field bs)) [
       | true ↦ λ e h. ap (λ (x : ℕ). x ∷ bs) (eqb-true b 32 e)
       | false ↦ λ e h. ap (λ (l : List ℕ). b ∷ l) (field-split bs h)
     ] refl
 
-pub split-is : (bs front rest : List ℕ) → first_field bs ≡ front → after_field bs ≡ rest → 0 < length rest → bs ≡ front ++ 32 ∷ rest
+pub split-is : (bs front rest : List ℕ) → first_field bs ≡ front → after_field bs ≡ rest → 0 < length rest
+    → bs ≡ front ++ 32 ∷ rest
 split-is bs front rest f a h =
-    field-split bs (subst (λ (l : List ℕ). 0 < length l) (sym a) h) ∙ ap (λ (l : List ℕ). l ++ 32 ∷ after_field bs) f ∙ ap (λ (l : List ℕ). front ++ 32 ∷ l) a
+    field-split bs (subst (λ (l : List ℕ). 0 < length l) (sym a) h) ∙ ap (λ (l : List ℕ). l ++ 32 ∷ after_field bs) f
+    ∙ ap (λ (l : List ℕ). front ++ 32 ∷ l) a
 
 -- ---- connections
 

@@ -1,5 +1,7 @@
 -- Hexadecimal: reading, one pair further, and reading undoes writing.
-use Rattle.std.proofs.Common.{◌≡◌, ℕ, ◌+◌, ◌-◌, ◌*◌, ◌/◌, ◌%◌, ◌<◌, ◌≤◌, Bool, true, false, cond, ◌&&◌, leb, ltb, List, [], ◌∷◌, ◌++◌, length, take, get_or, drop, Option, Some, None, refl, ap, sym, ◌∙◌, append_assoc, arith, inl, inr, suc, zero}
+use Rattle.std.proofs.Common.{◌≡◌, ℕ, ◌+◌, ◌-◌, ◌*◌, ◌/◌, ◌%◌, ◌<◌, ◌≤◌, Bool, true, false, cond, ◌&&◌, leb, ltb, List}
+use Rattle.std.proofs.Common.{[], ◌∷◌, ◌++◌, length, take, get_or, drop, Option, Some, None, refl, ap, sym, ◌∙◌}
+use Rattle.std.proofs.Common.{append_assoc, arith, inl, inr, suc, zero}
 use Rattle.std.specs.List.{flat_map}
 use Rattle.std.proofs.lemmas.List.{append-nil}
 use Rattle.am_journal.specs.Hexadecimal.{hex_byte, byte_at, then_bytes, bytes_of_hex}
@@ -31,17 +33,20 @@ start (Some x) = refl
 pub hex-start : (rest : List ℕ) → with_front [] (bytes_of_hex rest) ≡ bytes_of_hex rest
 hex-start rest = start (bytes_of_hex rest)
 
-pub hex-none : (front rest : List ℕ) → 2 ≤ length rest → byte_at (get_or rest 0 0) (get_or rest 1 0) ≡ None → with_front front (bytes_of_hex rest) ≡ None
+pub hex-none : (front rest : List ℕ) → 2 ≤ length rest → byte_at (get_or rest 0 0) (get_or rest 1 0) ≡ None →
+    with_front front (bytes_of_hex rest) ≡ None
 unfolding bytes_of_hex
 hex-none front [] l h = absurd (omega arith)
 hex-none front (a ∷ []) l h = absurd (omega arith)
 hex-none front (a ∷ b ∷ rest) l h = ap (λ (o : Option ℕ). with_front front (then_bytes o (bytes_of_hex rest))) h
 
-more : (front : List ℕ) (byte : ℕ) (o : Option (List ℕ)) → with_front front (then_bytes (Some byte) o) ≡ with_front (front ++ byte ∷ []) o
+more : (front : List ℕ) (byte : ℕ) (o : Option (List ℕ)) → with_front front
+    (then_bytes (Some byte) o) ≡ with_front (front ++ byte ∷ []) o
 more front byte None = refl
 more front byte (Some x) = ap (λ (l : List ℕ). Some l) (sym (append_assoc front (byte ∷ []) x))
 
-pub hex-more : (front rest : List ℕ) (byte : ℕ) → 2 ≤ length rest → byte_at (get_or rest 0 0) (get_or rest 1 0) ≡ Some byte
+pub hex-more : (front rest : List ℕ) (byte : ℕ) → 2 ≤ length rest → byte_at (get_or rest 0 0)
+    (get_or rest 1 0) ≡ Some byte
     → with_front front (bytes_of_hex rest) ≡ with_front (front ++ byte ∷ []) (bytes_of_hex (drop 2 rest))
 unfolding bytes_of_hex
 hex-more front [] byte l h = absurd (omega arith)
@@ -51,7 +56,8 @@ hex-more front (a ∷ b ∷ rest) byte l h =
 
 pub ruleset hexes = (hex-nil, hex-start, hex-none, hex-odd)
 
-pub digits_more : (bs : List ℕ) (i : ℕ) → i < length bs → flat_map hex_byte (take (i + 1) bs) ≡ flat_map hex_byte (take i bs) ++ hex_byte (get_or bs i 0)
+pub digits_more : (bs : List ℕ) (i : ℕ) → i < length bs → flat_map hex_byte (take (i + 1) bs) ≡ flat_map hex_byte
+    (take i bs) ++ hex_byte (get_or bs i 0)
 digits_more bs i h = flat_map-more hex_byte bs i 0 h
 
 pub ruleset hex_more = (digits_more, append_assoc, append-nil)

@@ -1,5 +1,6 @@
 -- Hexadecimal: reading and writing undo each other.
-use Rattle.std.proofs.Common.{◌≡◌, ℕ, ◌+◌, ◌-◌, ◌*◌, ◌/◌, ◌%◌, ◌<◌, ◌≤◌, Bool, true, false, cond, ◌&&◌, leb, List, [], ◌∷◌, Option, Some, None, refl, ap, sym, subst, ◌∙◌, arith, inl, inr, suc, zero}
+use Rattle.std.proofs.Common.{◌≡◌, ℕ, ◌+◌, ◌-◌, ◌*◌, ◌/◌, ◌%◌, ◌<◌, ◌≤◌, Bool, true, false, cond, ◌&&◌, leb, List, []}
+use Rattle.std.proofs.Common.{◌∷◌, Option, Some, None, refl, ap, sym, subst, ◌∙◌, arith, inl, inr, suc, zero}
 use Rattle.std.specs.Int.{is_in_range}
 use Rattle.std.proofs.lemmas.Bool.{cases_lt, lt-ltb, le-ltb, le-leb, lt-leb, leb-true}
 use Rattle.am_journal.specs.Hexadecimal.{hex_digit, hex_of, digit_value, pair_value, byte_at, then_bytes, bytes_of_hex}
@@ -20,12 +21,18 @@ above lo hi b h = rw (lt-leb b hi h) (not_both (leb lo b))
 digit-again : (n : ℕ) → n < 16 → digit_value (hex_digit n) ≡ Some n
 digit-again n h =
     elim (cases_lt n 10) [
-      | inl k ↦ rw (lt-ltb n 10 k, inside 48 57 (48 + n) (omega arith) (omega arith)) (ap (λ (x : ℕ). Some x) (omega arith))
-      | inr k ↦ rw (le-ltb n 10 k, above 48 57 (87 + n) (omega arith), inside 97 102 (87 + n) (omega arith) (omega arith)) (ap (λ (x : ℕ). Some x) (omega arith))
+      | inl k ↦ rw (lt-ltb n 10 k, inside 48 57 (48 + n) (omega arith) (omega arith))
+          (ap (λ (x : ℕ). Some x) (omega arith))
+      | inr k ↦ rw (
+        le-ltb n 10 k,
+        above 48 57 (87 + n) (omega arith),
+        inside 97 102 (87 + n) (omega arith) (omega arith),
+      ) (ap (λ (x : ℕ). Some x) (omega arith))
     ]
 
 byte-again : (b : ℕ) → b < 256 → byte_at (hex_digit (b / 16)) (hex_digit (b % 16)) ≡ Some b
-byte-again b h = rw (digit-again (b / 16) (omega arith), digit-again (b % 16) (omega arith)) (ap (λ (x : ℕ). Some x) (omega arith))
+byte-again b h = rw (digit-again (b / 16) (omega arith), digit-again (b % 16) (omega arith))
+    (ap (λ (x : ℕ). Some x) (omega arith))
 
 pub hex-again : (bs : List ℕ) → AreBytes bs → bytes_of_hex (hex_of bs) ≡ Some bs
 unfolding bytes_of_hex hex_of
@@ -56,12 +63,14 @@ some_is a b e = cc
 
 digit-is : (b n : ℕ) → digit_value b ≡ Some n → Digit b n
 digit-is b n =
-    elim (is_in_range 48 57 b) as (λ t. is_in_range 48 57 b ≡ t → cond t (Some (b - 48)) (cond (is_in_range 97 102 b) (Some (b - 87)) None) ≡ Some n → Digit b n) [
+    elim (is_in_range 48 57 b) as (λ t. is_in_range 48 57 b ≡ t → cond t (Some (b - 48))
+    (cond (is_in_range 97 102 b) (Some (b - 87)) None) ≡ Some n → Digit b n) [
       | true ↦ λ t e. let w = within 48 57 b t in small_digit b n w.0 w.1 (some_is (b - 48) n e)
-      | false ↦ λ t. elim (is_in_range 97 102 b) as (λ u. is_in_range 97 102 b ≡ u → cond u (Some (b - 87)) None ≡ Some n → Digit b n) [
-        | true ↦ λ u e. let w = within 97 102 b u in large_digit b n w.0 w.1 (some_is (b - 87) n e)
-        | false ↦ λ u e. absurd cc
-      ] refl
+      | false ↦ λ t. elim (is_in_range 97 102 b) as (λ u. is_in_range 97 102 b ≡ u → cond u (Some (b - 87))
+          None ≡ Some n → Digit b n) [
+            | true ↦ λ u e. let w = within 97 102 b u in large_digit b n w.0 w.1 (some_is (b - 87) n e)
+            | false ↦ λ u e. absurd cc
+          ] refl
     ] refl
 
 -- the two digits of a byte
@@ -77,7 +86,8 @@ joined a b high low x p q e =
 byte-is : (a b x : ℕ) → byte_at a b ≡ Some x → Pair a b x
 byte-is a b x = pair (digit_value a) (digit_value b) refl refl
   where
-    pair : (high low : Option ℕ) → digit_value a ≡ high → digit_value b ≡ low → pair_value high low ≡ Some x → Pair a b x
+    pair : (high low : Option ℕ) → digit_value a ≡ high → digit_value b ≡ low → pair_value high low ≡ Some x
+        → Pair a b x
     pair None low h l e = absurd cc
     pair (Some n) None h l e = absurd cc
     pair (Some n) (Some m) h l e = joined a b n m x (digit-is a n h) (digit-is b m l) (some_is (n * 16 + m) x e)
@@ -102,11 +112,15 @@ AreBytes-cons b bs h k (suc i) = k i
 abbrev Spelled : List ℕ → List ℕ → Type 0
 Spelled text bs = (text ≡ hex_of bs) × AreBytes bs
 
-spelled_cons : (a b x : ℕ) (rest others bs : List ℕ) → Pair a b x → Spelled rest others → x ∷ others ≡ bs → Spelled (a ∷ b ∷ rest) bs
+spelled_cons : (a b x : ℕ) (rest others bs : List ℕ) → Pair a b x → Spelled rest others
+    → x ∷ others ≡ bs → Spelled (a ∷ b ∷ rest) bs
 unfolding hex_of
 spelled_cons a b x rest others bs p s e =
-    subst (Spelled (a ∷ b ∷ rest)) e
-    (ap (λ (l : List ℕ). a ∷ b ∷ l) s.0 ∙ ap (λ (d : ℕ). a ∷ d ∷ hex_of others) (sym p.2) ∙ ap (λ (d : ℕ). d ∷ hex_digit (x % 16) ∷ hex_of others) (sym p.1), AreBytes-cons x others p.0 s.1)
+    subst (Spelled (a ∷ b ∷ rest)) e (
+      ap (λ (l : List ℕ). a ∷ b ∷ l) s.0 ∙ ap (λ (d : ℕ). a ∷ d ∷ hex_of others) (sym p.2)
+          ∙ ap (λ (d : ℕ). d ∷ hex_digit (x % 16) ∷ hex_of others) (sym p.1),
+      AreBytes-cons x others p.0 s.1,
+    )
 
 list_is : (a b : List ℕ) → Some a ≡ Some b → a ≡ b
 list_is a b e = cc
@@ -120,4 +134,5 @@ hex-is [] bs e = subst (Spelled []) (list_is [] bs e) (refl, no_bytes)
 hex-is (a ∷ []) bs e = absurd cc
 hex-is (a ∷ b ∷ rest) bs e =
     let t = then_some (byte_at a b) (bytes_of_hex rest) bs e in
-    spelled_cons a b t.first rest t.others bs (byte-is a b t.first t.first-is) (hex-is rest t.others t.others-is) t.whole
+    spelled_cons a b t.first rest t.others bs (byte-is a b t.first t.first-is) (hex-is rest t.others t.others-is)
+    t.whole

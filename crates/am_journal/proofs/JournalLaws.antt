@@ -1,5 +1,6 @@
 -- A journal's lines, and a report after them, are read as that journal.
-use Rattle.std.proofs.Common.{◌≡◌, ℕ, ◌+◌, ◌/◌, ◌%◌, ◌^◌, ◌<◌, true, false, cond, eqb, ltb, List, [], ◌∷◌, ◌++◌, map, Some, refl, ap, ◌∙◌, append_assoc, arith, inl, inr}
+use Rattle.std.proofs.Common.{◌≡◌, ℕ, ◌+◌, ◌/◌, ◌%◌, ◌^◌, ◌<◌, true, false, cond, eqb, ltb, List, [], ◌∷◌, ◌++◌, map}
+use Rattle.std.proofs.Common.{Some, refl, ap, ◌∙◌, append_assoc, arith, inl, inr}
 use Rattle.std.specs.Prelude.{codes}
 use Rattle.std.specs.Char.{encode_utf8}
 use Rattle.std.specs.Fmt.{decimal}
@@ -23,7 +24,8 @@ use Rattle.am_journal.specs.Hexadecimal.{hex_digit, hex_of}
 use Rattle.am_journal.specs.declared.event.Spot.{Spot}
 use Rattle.am_journal.specs.Lawful.{IsLawful, IsInRange, IsSpotInRange}
 use Rattle.am_journal.specs.Paths.{is_path_text}
-use Rattle.am_journal.specs.Line.{side_word, dial_line, msg_line, hang_line, took_line, new_line, key_line, sel_line, spot_words, exec_line, arg_line, look_line, file_line, dir_line, line_text}
+use Rattle.am_journal.specs.Line.{side_word, dial_line, msg_line, hang_line, took_line, new_line, key_line, sel_line}
+use Rattle.am_journal.specs.Line.{spot_words, exec_line, arg_line, look_line, file_line, dir_line, line_text}
 use Rattle.am_journal.specs.Parts.{around}
 use Rattle.am_journal.specs.Report.{title, report_text}
 use Rattle.am_journal.specs.Journal.{is_report, events_of, journal_text}
@@ -39,7 +41,8 @@ AreOneLine [] = Unit {0}
 AreOneLine (b ∷ bs) = (eqb b 10 ≡ false) × AreOneLine bs
 
 not_newline : (b : ℕ) → 10 < b → eqb b 10 ≡ false
-not_newline b h = elim (eqb b 10) as (λ t. eqb b 10 ≡ t → t ≡ false) [ true ↦ λ e. absurd (omega (arith, eqb-true b 10 e)) | false ↦ λ e. refl ] refl
+not_newline b h = elim (eqb b 10) as (λ t. eqb b 10 ≡ t → t ≡ false)
+    [ true ↦ λ e. absurd (omega (arith, eqb-true b 10 e)) | false ↦ λ e. refl ] refl
 
 joined-one_line : (xs ys : List ℕ) → AreOneLine xs → AreOneLine ys → AreOneLine (xs ++ ys)
 joined-one_line [] ys h k = k
@@ -58,20 +61,83 @@ digit_above n = elim (ltb n 10) as (λ t. 10 < cond t (48 + n) (87 + n)) [ true 
 hex-one_line : (bytes : List ℕ) → AreOneLine (hex_of bytes)
 unfolding hex_of
 hex-one_line [] = tt
-hex-one_line (b ∷ bs) = (not_newline (hex_digit (b / 16)) (digit_above (b / 16)), (not_newline (hex_digit (b % 16)) (digit_above (b % 16)), hex-one_line bs))
+hex-one_line (b ∷ bs) = (
+  not_newline (hex_digit (b / 16)) (digit_above (b / 16)),
+  (not_newline (hex_digit (b % 16)) (digit_above (b % 16)), hex-one_line bs),
+)
 
 cause-one_line : (why : Ending) → AreOneLine (cause why)
 cause-one_line ending.End = (refl, (refl, (refl, tt)))
 cause-one_line ending.Torn = (refl, (refl, (refl, (refl, tt))))
 cause-one_line ending.ReadFault = (refl, (refl, (refl, (refl, (refl, tt)))))
-cause-one_line (ending.Broken (bad.Wire fault.Size)) = (refl, (refl, (refl, (refl, (refl, (refl, (refl, (refl, (refl, (refl, (refl, tt)))))))))))
-cause-one_line (ending.Broken (bad.Wire fault.Kind)) = (refl, (refl, (refl, (refl, (refl, (refl, (refl, (refl, (refl, (refl, (refl, tt)))))))))))
-cause-one_line (ending.Broken (bad.Wire fault.Short)) = (refl, (refl, (refl, (refl, (refl, (refl, (refl, (refl, (refl, (refl, (refl, (refl, tt))))))))))))
-cause-one_line (ending.Broken (bad.Wire fault.Long)) = (refl, (refl, (refl, (refl, (refl, (refl, (refl, (refl, (refl, (refl, (refl, tt)))))))))))
-cause-one_line (ending.Broken (bad.Wire fault.Text)) = (refl, (refl, (refl, (refl, (refl, (refl, (refl, (refl, (refl, (refl, (refl, tt)))))))))))
-cause-one_line (ending.Broken (bad.Wire fault.Names)) = (refl, (refl, (refl, (refl, (refl, (refl, (refl, (refl, (refl, (refl, (refl, (refl, tt))))))))))))
-cause-one_line (ending.Broken bad.Size) = (refl, (refl, (refl, (refl, (refl, (refl, (refl, (refl, (refl, (refl, (refl, (refl, tt))))))))))))
-cause-one_line (ending.Broken bad.Tag) = (refl, (refl, (refl, (refl, (refl, (refl, (refl, (refl, (refl, (refl, tt))))))))))
+cause-one_line (ending.Broken (bad.Wire fault.Size)) = (
+  refl,
+  (
+    refl,
+    (refl, (refl, (refl, (refl, (refl, (refl, (refl, (refl, (refl, tt))))))))),
+  ),
+)
+cause-one_line (ending.Broken (bad.Wire fault.Kind)) = (
+  refl,
+  (
+    refl,
+    (refl, (refl, (refl, (refl, (refl, (refl, (refl, (refl, (refl, tt))))))))),
+  ),
+)
+cause-one_line (ending.Broken (bad.Wire fault.Short)) = (
+  refl,
+  (
+    refl,
+    (refl, (refl, (refl, (refl, (refl, (refl, (refl, (refl, (refl, (refl, tt)))))))))),
+  ),
+)
+cause-one_line (ending.Broken (bad.Wire fault.Long)) = (
+  refl,
+  (
+    refl,
+    (refl, (refl, (refl, (refl, (refl, (refl, (refl, (refl, (refl, tt))))))))),
+  ),
+)
+cause-one_line (ending.Broken (bad.Wire fault.Text)) = (
+  refl,
+  (
+    refl,
+    (refl, (refl, (refl, (refl, (refl, (refl, (refl, (refl, (refl, tt))))))))),
+  ),
+)
+cause-one_line (ending.Broken (bad.Wire fault.Names)) = (
+  refl,
+  (
+    refl,
+    (refl, (refl, (refl, (refl, (refl, (refl, (refl, (refl, (refl, (refl, tt)))))))))),
+  ),
+)
+cause-one_line (ending.Broken bad.Size) = (
+  refl,
+  (
+    refl,
+    (
+      refl,
+      (
+        refl,
+        (refl, (refl, (refl, (refl, (refl, (refl, (refl, (refl, tt)))))))),
+      ),
+    ),
+  ),
+)
+cause-one_line (ending.Broken bad.Tag) = (
+  refl,
+  (
+    refl,
+    (
+      refl,
+      (
+        refl,
+        (refl, (refl, (refl, (refl, (refl, (refl, tt)))))),
+      ),
+    ),
+  ),
+)
 cause-one_line ending.Spent = (refl, (refl, (refl, (refl, (refl, tt)))))
 cause-one_line ending.Gone = (refl, (refl, (refl, (refl, tt))))
 cause-one_line ending.NoMemory = (refl, (refl, (refl, (refl, (refl, (refl, tt))))))
@@ -82,24 +148,40 @@ encoded-one_line c other =
     elim (cases_lt c 128) [
       | inl h ↦ rw (lt-ltb c 128 h) (other, tt)
       | inr h ↦ elim (cases_lt c 2048) [
-        | inl k ↦ rw (le-ltb c 128 h, lt-ltb c 2048 k) (not_newline (192 + c / 64) (omega arith), (not_newline (128 + c % 64) (omega arith), tt))
+        | inl k ↦ rw (le-ltb c 128 h, lt-ltb c 2048 k) (
+          not_newline (192 + c / 64) (omega arith),
+          (not_newline (128 + c % 64) (omega arith), tt),
+        )
         | inr k ↦ elim (cases_lt c 65536) [
-          | inl m ↦ rw (le-ltb c 128 h, le-ltb c 2048 k, lt-ltb c 65536 m)
-              (not_newline (224 + c / 4096) (omega arith), (not_newline (128 + c / 64 % 64) (omega arith), (not_newline (128 + c % 64) (omega arith), tt)))
-          | inr m ↦ rw (le-ltb c 128 h, le-ltb c 2048 k, le-ltb c 65536 m)
-              (not_newline (240 + c / 262144) (omega arith), (not_newline (128 + c / 4096 % 64) (omega arith), (not_newline (128 + c / 64 % 64) (omega arith), (not_newline (128 + c % 64) (omega arith), tt))))
+          | inl m ↦ rw (le-ltb c 128 h, le-ltb c 2048 k, lt-ltb c 65536 m) (
+            not_newline (224 + c / 4096) (omega arith),
+            (
+              not_newline (128 + c / 64 % 64) (omega arith),
+              (not_newline (128 + c % 64) (omega arith), tt),
+            ),
+          )
+          | inr m ↦ rw (le-ltb c 128 h, le-ltb c 2048 k, le-ltb c 65536 m) (
+            not_newline (240 + c / 262144) (omega arith),
+            (
+              not_newline (128 + c / 4096 % 64) (omega arith),
+              (not_newline (128 + c / 64 % 64) (omega arith), (not_newline (128 + c % 64) (omega arith), tt)),
+            ),
+          )
         ]
       ]
     ]
 
 rune-one_line : (c : ℕ) → eqb c 10 ≡ false → AreOneLine (rune_bytes c)
-rune-one_line c other = elim (scalar c) as (λ t. AreOneLine (cond t (encode_utf8 c) (encode_utf8 0xFFFD))) [ true ↦ encoded-one_line c other | false ↦ encoded-one_line 0xFFFD refl ]
+rune-one_line c other = elim (scalar c) as (λ t. AreOneLine (cond t (encode_utf8 c) (encode_utf8 0xFFFD)))
+    [ true ↦ encoded-one_line c other | false ↦ encoded-one_line 0xFFFD refl ]
 
 mark-one_line : (c : ℕ) → AreOneLine (escaped c)
 mark-one_line c =
-    elim (eqb c 10) as (λ t. eqb c 10 ≡ t → AreOneLine (cond t (92 ∷ 110 ∷ []) (cond (eqb c 92) (92 ∷ 92 ∷ []) (rune_bytes c)))) [
+    elim (eqb c 10) as (λ t. eqb c 10 ≡ t → AreOneLine (cond t (92 ∷ 110 ∷ [])
+    (cond (eqb c 92) (92 ∷ 92 ∷ []) (rune_bytes c)))) [
       | true ↦ λ e. (refl, (refl, tt))
-      | false ↦ λ e. elim (eqb c 92) as (λ t. AreOneLine (cond t (92 ∷ 92 ∷ []) (rune_bytes c))) [ true ↦ (refl, (refl, tt)) | false ↦ rune-one_line c e ]
+      | false ↦ λ e. elim (eqb c 92) as (λ t. AreOneLine (cond t (92 ∷ 92 ∷ []) (rune_bytes c)))
+          [ true ↦ (refl, (refl, tt)) | false ↦ rune-one_line c e ]
     ] refl
 
 escaped-one_line : (text : List ℕ) → AreOneLine (flat_map escaped text)
@@ -113,7 +195,8 @@ side-one_line side.Body = (refl, (refl, (refl, (refl, tt))))
 -- ---- the line of an event
 
 field-one_line : (n : ℕ) (end : List ℕ) → n < 2 ^ 64 → AreOneLine end → AreOneLine ((decimal n ++ 32 ∷ []) ++ end)
-field-one_line n end h k = joined-one_line (decimal n ++ 32 ∷ []) end (joined-one_line (decimal n) (32 ∷ []) (decimal-one_line n h) (refl, tt)) k
+field-one_line n end h k = joined-one_line (decimal n ++ 32 ∷ []) end
+    (joined-one_line (decimal n) (32 ∷ []) (decimal-one_line n h) (refl, tt)) k
 
 spot-one_line : (at : Spot) → IsSpotInRange at → AreOneLine (spot_words at)
 unfolding spot_words
@@ -121,24 +204,54 @@ spot-one_line at k =
     let q1 = decimal at.range.q1 in
     let ends = decimal at.range.q0 ++ 32 ∷ q1 in
     let words = side_word at.side ++ 32 ∷ ends in
-    let ends-one = joined-one_line (decimal at.range.q0) (32 ∷ q1) (decimal-one_line at.range.q0 k.1) (refl, decimal-one_line at.range.q1 k.2) in
+    let ends-one = joined-one_line (decimal at.range.q0) (32 ∷ q1) (decimal-one_line at.range.q0 k.1)
+    (refl, decimal-one_line at.range.q1 k.2) in
     let words-one = joined-one_line (side_word at.side) (32 ∷ ends) (side-one_line at.side) (refl, ends-one) in
     joined-one_line (decimal at.window) (32 ∷ words) (decimal-one_line at.window (omega (arith, k.0))) (refl, words-one)
 
-spots-one_line : (at chord : Spot) → IsSpotInRange at → IsSpotInRange chord → AreOneLine (spot_words at ++ 32 ∷ spot_words chord)
-spots-one_line at chord k m = joined-one_line (spot_words at) (32 ∷ spot_words chord) (spot-one_line at k) (refl, spot-one_line chord m)
+spots-one_line : (at chord : Spot) → IsSpotInRange at → IsSpotInRange chord
+    → AreOneLine (spot_words at ++ 32 ∷ spot_words chord)
+spots-one_line at chord k m = joined-one_line (spot_words at) (32 ∷ spot_words chord) (spot-one_line at k)
+    (refl, spot-one_line chord m)
 
 path-one_line : (path : List ℕ) → is_path_text path ≡ true → AreOneLine path
 path-one_line path h = visible-one_line path (path_text-visible path h)
 
 file-one_line : (path text : List ℕ) → is_path_text path ≡ true → AreOneLine (path ++ 32 ∷ 58 ∷ flat_map escaped text)
-file-one_line path text h = joined-one_line path (32 ∷ 58 ∷ flat_map escaped text) (path-one_line path h) (refl, (refl, escaped-one_line text))
+file-one_line path text h = joined-one_line path (32 ∷ 58 ∷ flat_map escaped text) (path-one_line path h)
+    (refl, (refl, escaped-one_line text))
 
 line-one_line : (e : Event) → IsLawful e → IsInRange e → AreOneLine (line_text e)
-unfolding dial_line msg_line hang_line took_line new_line key_line sel_line exec_line arg_line look_line file_line dir_line around
+unfolding dial_line msg_line hang_line took_line new_line key_line sel_line exec_line arg_line look_line file_line
+    dir_line around
 line-one_line (event.Dial c) h k = (refl, (refl, (refl, (refl, (refl, decimal-one_line c (omega (arith, k)))))))
-line-one_line (event.Msg c m) h k = (refl, (refl, (refl, (refl, field-one_line c (hex_of (spelling_t m)) (omega (arith, k.0)) (hex-one_line (spelling_t m))))))
-line-one_line (event.Hang c why) h k = (refl, (refl, (refl, (refl, (refl, field-one_line c (cause why) (omega (arith, k)) (cause-one_line why))))))
+line-one_line (event.Msg c m) h k = (
+  refl,
+  (
+    refl,
+    (
+      refl,
+      (
+        refl,
+        field-one_line c (hex_of (spelling_t m))
+            (omega (arith, k.0)) (hex-one_line (spelling_t m)),
+      ),
+    ),
+  ),
+)
+line-one_line (event.Hang c why) h k = (
+  refl,
+  (
+    refl,
+    (
+      refl,
+      (
+        refl,
+        (refl, field-one_line c (cause why) (omega (arith, k)) (cause-one_line why)),
+      ),
+    ),
+  ),
+)
 line-one_line (event.Took c) h k = (refl, (refl, (refl, (refl, (refl, decimal-one_line c (omega (arith, k)))))))
 line-one_line event.New h k = (refl, (refl, (refl, tt)))
 line-one_line (event.Key w on text) h k = (
@@ -150,7 +263,8 @@ line-one_line (event.Key w on text) h k = (
       (
         refl,
         field-one_line w (side_word on ++ 32 ∷ 58 ∷ flat_map escaped text) (omega (arith, k))
-            (joined-one_line (side_word on) (32 ∷ 58 ∷ flat_map escaped text) (side-one_line on) (refl, (refl, escaped-one_line text))),
+            (joined-one_line (side_word on) (32 ∷ 58 ∷ flat_map escaped text) (side-one_line on)
+            (refl, (refl, escaped-one_line text))),
       ),
     ),
   ),
@@ -177,7 +291,8 @@ line-one_line (event.Dir path) h k = (refl, (refl, (refl, (refl, path-one_line p
 
 -- the line of an event is no line `report`
 pub line-no_report : (e : Event) → is_report (line_text e) ≡ false
-unfolding dial_line msg_line hang_line took_line new_line key_line sel_line exec_line arg_line look_line file_line dir_line around
+unfolding dial_line msg_line hang_line took_line new_line key_line sel_line exec_line arg_line look_line file_line
+    dir_line around
 line-no_report (event.Dial c) = refl
 line-no_report (event.Msg c m) = refl
 line-no_report (event.Hang c why) = refl
@@ -198,10 +313,13 @@ lines_of-line [] rest h = refl
 lines_of-line (b ∷ bs) rest h = rw (h.0) (ap (onto_first b) (lines_of-line bs rest h.1))
 
 -- the lines of a journal's text are those of its events
-pub lines_of-journal : (journal : List Event) (rest : List ℕ) → AllByRecursion IsLawful journal → AllByRecursion IsInRange journal → lines_of (journal_text journal ++ rest) ≡ map line_text journal ++ lines_of rest
+pub lines_of-journal : (journal : List Event) (rest : List ℕ) → AllByRecursion IsLawful journal
+    → AllByRecursion IsInRange journal → lines_of (journal_text journal ++ rest) ≡ map line_text journal
+    ++ lines_of rest
 lines_of-journal [] rest h k = refl
 lines_of-journal (e ∷ es) rest h k =
-    ap lines_of (append_assoc (line_text e ++ 10 ∷ []) (journal_text es) rest ∙ append_assoc (line_text e) (10 ∷ []) (journal_text es ++ rest))
+    ap lines_of (append_assoc (line_text e ++ 10 ∷ []) (journal_text es) rest
+    ∙ append_assoc (line_text e) (10 ∷ []) (journal_text es ++ rest))
     ∙ lines_of-line (line_text e) (journal_text es ++ rest) (line-one_line e h.0 k.0)
     ∙ ap (λ (l : List (List ℕ)). line_text e ∷ l) (lines_of-journal es rest h.1 k.1)
 
@@ -212,15 +330,21 @@ lines_of-report v = (_, refl)
 
 -- ---- the law
 
-events-line : (e : Event) (lines : List (List ℕ)) (journal : List Event) → IsLawful e → IsInRange e → events_of lines ≡ Some journal → events_of (line_text e ∷ lines) ≡ Some (e ∷ journal)
+events-line : (e : Event) (lines : List (List ℕ)) (journal : List Event) → IsLawful e → IsInRange e
+    → events_of lines ≡ Some journal → events_of (line_text e ∷ lines) ≡ Some (e ∷ journal)
 events-line e lines journal h k rest = rw (line-no_report e, line-again e h k, rest) refl
 
-events-journal : (journal : List Event) (lines : List (List ℕ)) → AllByRecursion IsLawful journal → AllByRecursion IsInRange journal → events_of lines ≡ Some [] → events_of (map line_text journal ++ lines) ≡ Some journal
+events-journal : (journal : List Event) (lines : List (List ℕ)) → AllByRecursion IsLawful journal
+    → AllByRecursion IsInRange journal → events_of lines ≡ Some []
+    → events_of (map line_text journal ++ lines) ≡ Some journal
 events-journal [] lines h k end = end
-events-journal (e ∷ es) lines h k end = events-line e (map line_text es ++ lines) es h.0 k.0 (events-journal es lines h.1 k.1 end)
+events-journal (e ∷ es) lines h k end = events-line e (map line_text es ++ lines) es h.0 k.0
+    (events-journal es lines h.1 k.1 end)
 
-pub reads_journal : (journal : List Event) (v : View) → AllByRecursion IsLawful journal × AllByRecursion IsInRange journal → events_of (lines_of (journal_text journal ++ report_text v)) ≡ Some journal
+pub reads_journal : (journal : List Event) (v : View) → AllByRecursion IsLawful journal
+    × AllByRecursion IsInRange journal → events_of (lines_of (journal_text journal ++ report_text v)) ≡ Some journal
 reads_journal journal v fits =
     let report = lines_of-report v in
-    ap events_of (lines_of-journal journal (report_text v) fits.0 fits.1 ∙ ap (λ (l : List (List ℕ)). map line_text journal ++ l) report.1)
+    ap events_of (lines_of-journal journal (report_text v) fits.0 fits.1
+    ∙ ap (λ (l : List (List ℕ)). map line_text journal ++ l) report.1)
     ∙ events-journal journal (codes "report" ∷ report.0) fits.0 fits.1 refl

@@ -13,10 +13,12 @@ runes_all : (parts : List (List ℕ)) → list_all is_part parts ≡ true → li
 runes_all [] h = refl
 runes_all (part ∷ parts) h =
     let all = and_parts (is_part part) (list_all is_part parts) h in
-    let runes = and_parts (not (eqb (length part) 0) && not (is_here part) && not (is_up part)) (list_all is_path_rune part) all.0 in
+    let runes = and_parts (not (eqb (length part) 0) && not (is_here part) && not (is_up part))
+    (list_all is_path_rune part) all.0 in
     and_from (list_all is_path_rune part) (list_all (list_all is_path_rune) parts) runes.1 (runes_all parts all.1)
 
-front_all : (c : ℕ) (parts : List (List ℕ)) → list_all (list_all is_path_rune) (onto_first c parts) ≡ true → (is_path_rune c ≡ true) × (list_all (list_all is_path_rune) parts ≡ true)
+front_all : (c : ℕ) (parts : List (List ℕ)) → list_all (list_all is_path_rune) (onto_first c parts) ≡ true →
+    (is_path_rune c ≡ true) × (list_all (list_all is_path_rune) parts ≡ true)
 front_all c [] h = ((and_parts (is_path_rune c) true (and_parts (is_path_rune c && true) true h).0).0, refl)
 front_all c (part ∷ parts) h =
     let all = and_parts (is_path_rune c && list_all is_path_rune part) (list_all (list_all is_path_rune) parts) h in
@@ -33,9 +35,11 @@ parts-visible : (bs : List ℕ) → list_all (list_all is_path_rune) (slice_spli
 parts-visible [] = λ h. tt
 parts-visible (b ∷ bs) =
     elim (is_slash b) as (λ t. is_slash b ≡ t
-    → list_all (list_all is_path_rune) (cond t ([] ∷ slice_split is_slash bs) (onto_first b (slice_split is_slash bs))) ≡ true → AreVisible (b ∷ bs)) [
+    → list_all (list_all is_path_rune) (cond t ([] ∷ slice_split is_slash bs) (onto_first b (slice_split is_slash bs)))
+    ≡ true → AreVisible (b ∷ bs)) [
       | true ↦ λ t h. (slash-visible b t, parts-visible bs h)
-      | false ↦ λ t h. let all = front_all b (slice_split is_slash bs) h in (rune-visible b all.0, parts-visible bs all.1)
+      | false ↦ λ t h. let all = front_all b (slice_split is_slash bs) h in
+          (rune-visible b all.0, parts-visible bs all.1)
     ] refl
 
 path-visible : (bs : List ℕ) → is_path bs ≡ true → AreVisible bs

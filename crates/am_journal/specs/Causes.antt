@@ -51,9 +51,16 @@ plain_causes =
 -- the causes that say what was wrong with the bytes of the connection
 abbrev pub broken_causes : List (List ℕ × Ending)
 broken_causes =
-    (codes "broken size", ending.Broken (bad.Wire fault.Size)) ∷ (codes "broken type", ending.Broken (bad.Wire fault.Kind))
-    ∷ (codes "broken short", ending.Broken (bad.Wire fault.Short)) ∷ (codes "broken long", ending.Broken (bad.Wire fault.Long))
-    ∷ (codes "broken text", ending.Broken (bad.Wire fault.Text)) ∷ (codes "broken names", ending.Broken (bad.Wire fault.Names))
+    (codes "broken size", ending.Broken (bad.Wire fault.Size)) ∷ (
+      codes "broken type",
+      ending.Broken (bad.Wire fault.Kind),
+    )
+    ∷ (codes "broken short", ending.Broken (bad.Wire fault.Short))
+    ∷ (codes "broken long", ending.Broken (bad.Wire fault.Long))
+    ∷ (codes "broken text", ending.Broken (bad.Wire fault.Text)) ∷ (
+      codes "broken names",
+      ending.Broken (bad.Wire fault.Names),
+    )
     ∷ (codes "broken msize", ending.Broken bad.Size) ∷ (codes "broken tag", ending.Broken bad.Tag) ∷ []
 
 -- the cause, or that of a size that no message has

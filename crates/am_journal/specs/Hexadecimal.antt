@@ -30,7 +30,8 @@ hex_of bytes = flat_map hex_byte bytes
 
 -- the value of a digit; capitals have none
 abbrev pub digit_value : ℕ → Option ℕ
-digit_value b = if is_in_range digit_0 digit_9 b then Some (b - digit_0) else (if is_in_range letter_a letter_f b then Some (b - below_letters) else None)
+digit_value b = if is_in_range digit_0 digit_9 b then Some (b - digit_0) else
+    (if is_in_range letter_a letter_f b then Some (b - below_letters) else None)
 
 -- the byte of two digits
 abbrev pub pair_value : Option ℕ → Option ℕ → Option ℕ

@@ -39,4 +39,5 @@ AreSpelled journal = AllByRecursion IsLawful journal × AllByRecursion IsInRange
 
 -- A journal's lines and a report after them are read as that journal.
 abbrev pub ReadsJournal : Type 0
-ReadsJournal = (journal : List Event) (view : View) → AreSpelled journal → events_of (lines_of (journal_text journal ++ report_text view)) ≡ Some journal
+ReadsJournal = (journal : List Event) (view : View) → AreSpelled journal
+    → events_of (lines_of (journal_text journal ++ report_text view)) ≡ Some journal

@@ -10,8 +10,8 @@ use Rattle.am_journal.specs.declared.event.Spot.{Spot}
 use Rattle.am_journal.specs.Limits.{connection_count}
 use Rattle.am_journal.specs.Paths.{is_path_text}
 
--- A connection is one of 64, a message has a spelling of at most 65,560 bytes, a text is of Unicode scalar values alone,
--- a range doesn't end before it begins, and a path is one of a file or a directory below `/`.
+-- A connection is one of 64, a message has a spelling of at most 65,560 bytes, a text is of Unicode scalar values
+-- alone, a range doesn't end before it begins, and a path is one of a file or a directory below `/`.
 abbrev pub IsLawful : Event → Type 0
 IsLawful (event.Dial c) = c < connection_count
 IsLawful (event.Msg c m) = (c < connection_count) × Fits_t m × (length (spelling_t m) ≤ max_msize)

@@ -1,5 +1,6 @@
 -- Lines of a transcript: the one spelling of an event, and reading it.
-use Rattle.std.specs.Prelude.{ℕ, List, [], ◌∷◌, ◌++◌, length, Option, Some, None, Result, Ok, Err, nat_lt, ◌^◌, ◌==◌, if◌then◌else◌, codes}
+use Rattle.std.specs.Prelude.{ℕ, List, [], ◌∷◌, ◌++◌, length, Option, Some, None, Result, Ok, Err, nat_lt, ◌^◌, ◌==◌}
+use Rattle.std.specs.Prelude.{if◌then◌else◌, codes}
 use Rattle.std.specs.List.{flat_map}
 use Rattle.std.specs.Str.{bytes_eq}
 use Rattle.std.specs.Fmt.{decimal}
@@ -63,7 +64,8 @@ sel_line w range = around (codes "sel ") w (space ∷ []) ++ (around [] range.q0
 
 -- `W SIDE Q0 Q1`
 unfoldable pub spot_words : Spot → List ℕ
-spot_words at = decimal at.window ++ space ∷ (side_word at.side ++ space ∷ (decimal at.range.q0 ++ space ∷ decimal at.range.q1))
+spot_words at = decimal at.window ++ space ∷ (side_word at.side ++ space ∷ (decimal at.range.q0
+    ++ space ∷ decimal at.range.q1))
 
 -- `exec W SIDE Q0 Q1`
 unfoldable pub exec_line : Spot → List ℕ
@@ -170,7 +172,8 @@ window_at bs = window_from (number_of bs)
 
 -- the text of a window that has this word
 abbrev pub side_of : List ℕ → Option Side
-side_of word = if bytes_eq word (codes "tag") then Some side.Tag else (if bytes_eq word (codes "body") then Some side.Body else None)
+side_of word = if bytes_eq word (codes "tag") then Some side.Tag else
+    (if bytes_eq word (codes "body") then Some side.Body else None)
 
 -- the text after a colon
 abbrev pub text_of : List ℕ → Option (List ℕ)
@@ -186,7 +189,8 @@ key_from (Some w) (Some on) (Some text) = Some (event.Key w on text)
 
 -- that which the bytes spell
 abbrev pub key_at : List ℕ → Option Event
-key_at bs = key_from (window_at (first_field bs)) (side_of (first_field (after_field bs))) (text_of (after_field (after_field bs)))
+key_at bs = key_from (window_at (first_field bs)) (side_of (first_field (after_field bs)))
+    (text_of (after_field (after_field bs)))
 
 -- the range from the first number to the second, which isn't less
 abbrev pub range_from : Option ℕ → Option ℕ → Option Range
@@ -217,7 +221,8 @@ spot_from (Some w) (Some on) (Some range) = Some (record { window = w; side = on
 
 -- the one that the bytes spell
 abbrev pub spot_at : List ℕ → Option Spot
-spot_at bs = spot_from (window_at (first_field bs)) (side_of (first_field (after_field bs))) (range_at (after_field (after_field bs)))
+spot_at bs = spot_from (window_at (first_field bs)) (side_of (first_field (after_field bs)))
+    (range_at (after_field (after_field bs)))
 
 -- the one that the first four fields spell, and the bytes after these
 abbrev pub first_spot : List ℕ → Option Spot
@@ -297,7 +302,8 @@ none_at bs = None
 -- the event of a line that acts on a text of a window, or that stores a file or makes a directory
 unfoldable pub action_of : List ℕ → Option Event
 action_of bs =
-    read_by ((codes "exec ", exec_at) ∷ (codes "arg ", arg_at) ∷ (codes "look ", look_at) ∷ (codes "file ", file_at) ∷ (codes "dir ", dir_at) ∷ []) none_at bs
+    read_by ((codes "exec ", exec_at) ∷ (codes "arg ", arg_at) ∷ (codes "look ", look_at) ∷ (codes "file ", file_at)
+    ∷ (codes "dir ", dir_at) ∷ []) none_at bs
 
 -- the event of a line without its newline, if it is in the grammar
 unfoldable pub event_of : List ℕ → Option Event

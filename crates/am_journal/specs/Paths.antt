@@ -1,4 +1,5 @@
--- Paths of files in a line. The runes that a path's rules name stand in UTF-8 as single bytes, and those bytes are in no other rune.
+-- Paths of files in a line. The runes that a path's rules name stand in UTF-8 as single bytes, and those bytes are in
+-- no other rune.
 use Rattle.std.specs.Prelude.{ℕ, Bool, ◌&&◌, List}
 use Rattle.std.specs.Str.{is_utf8}
 use Rattle.acme_cmd.specs.Paths.{is_path}

@@ -51,7 +51,8 @@ dot_words dot = around [] dot.q0 (space ∷ []) ++ around [] dot.q1 (space ∷ [
 
 -- `window W MODIFIED DOT0 DOT1 :NAME`
 unfoldable pub window_line : WindowView → List ℕ
-window_line w = around (codes "window ") w.id (space ∷ []) ++ modified_word w.modified ++ dot_words w.dot ++ text_end w.name
+window_line w = around (codes "window ") w.id (space ∷ []) ++ modified_word w.modified ++ dot_words w.dot
+    ++ text_end w.name
 
 -- `body :TEXT`
 unfoldable pub body_line : WindowView → List ℕ
@@ -67,12 +68,14 @@ window_lines w = window_line w ++ body_line w
 unfoldable pub life_words : Life → List ℕ
 life_words life.Pending = codes "pending"
 life_words (life.Taken opening at) = around (codes "taken ") opening (space ∷ []) ++ decimal at
-life_words (life.Back opening at back) = around (codes "back ") opening (space ∷ []) ++ (around [] at (space ∷ []) ++ decimal back)
+life_words (life.Back opening at back) = around (codes "back ") opening (space ∷ [])
+    ++ (around [] at (space ∷ []) ++ decimal back)
 life_words (life.Dropped at) = codes "dropped " ++ decimal at
 
 -- `item W K LIFE :SPELLING`
 unfoldable pub item_line : ItemView → List ℕ
-item_line v = around (codes "item ") v.window (space ∷ []) ++ (around [] v.number (space ∷ []) ++ (life_words v.life ++ space ∷ text_end (decode v.spelled)))
+item_line v = around (codes "item ") v.window (space ∷ []) ++ (around [] v.number (space ∷ [])
+    ++ (life_words v.life ++ space ∷ text_end (decode v.spelled)))
 
 -- ---- requests
 
@@ -128,4 +131,5 @@ requests_part v = count_line (codes "requests ") (length v.jobs) ++ requests_fro
 
 -- the report
 abbrev pub report_text : View → List ℕ
-report_text v = title ++ count_line (codes "journal ") v.entries ++ conns_part v ++ windows_part v ++ items_part v ++ requests_part v
+report_text v = title ++ count_line (codes "journal ") v.entries ++ conns_part v ++ windows_part v ++ items_part v
+    ++ requests_part v

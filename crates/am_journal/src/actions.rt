@@ -1,7 +1,8 @@
 //! Lines that act on a text of a window, and lines of files.
 
 ghost use Rattle.std.specs.Prelude.{◌≡◌, IfOk};
-ghost use Rattle.am_journal.specs.Line.{exec_at, exec_line, arg_at, arg_line, look_at, look_line, file_at, file_line, dir_at, dir_line, action_of};
+ghost use Rattle.am_journal.specs.Line.{exec_at, exec_line, arg_at, arg_line, look_at, look_line, file_at, file_line};
+ghost use Rattle.am_journal.specs.Line.{dir_at, dir_line, action_of};
 
 use crate::event::{Event, Spot};
 use crate::fields::text_of;

@@ -1,7 +1,8 @@
 //! Why a connection ended, in words.
 
 ghost use Rattle.std.specs.Prelude.{◌≡◌, ◌++◌, OnOk};
-ghost use Rattle.am_journal.specs.Causes.{fault_word, bad_word, cause, plain_causes, broken_causes, looked_up, ending_of};
+ghost use Rattle.am_journal.specs.Causes.{fault_word, bad_word, cause, plain_causes, broken_causes, looked_up};
+ghost use Rattle.am_journal.specs.Causes.{ending_of};
 
 use crate::ending::{Bad, Ending};
 use am_text::{Bytes, NoMemory};

@@ -1,4 +1,4 @@
-//! Events, and why one is refused.
+//! Events, why one is refused, and the formats of a journal.
 
 ghost use Rattle.std.specs.Prelude.{◌≡◌};
 ghost use Rattle.am_journal.specs.declared.event.Refused.TheVariants.{NoMemory};
@@ -79,6 +79,13 @@ pub enum Event {
     Dir {
         path: Bytes,
     },
+}
+
+/// The format of a journal and of its transcript. The editor's limits of fids and of waiting reads go by it.
+#[derive(Clone, Copy, Debug, PartialEq, Eq)]
+pub enum Format {
+    One,
+    Two,
 }
 
 /// All events that were done, in their order. Entries are numbered from 1.

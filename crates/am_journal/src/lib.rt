@@ -18,7 +18,7 @@ mod view;
 
 pub use am_text::{Bytes, Items, Job, JobKind, Jobs, NoMemory, Range, Runes};
 pub use ending::{Bad, Ending};
-pub use event::{Event, Journal, Refused, Side, Spot, Why};
+pub use event::{Event, Format, Journal, Refused, Side, Spot, Why};
 pub use hexadecimal::{bytes_of_hex, put_hex};
 pub use laws::{journals_are_read_again, lines_are_read_again};
 pub use limits::CONNECTIONS;

@@ -4,7 +4,8 @@ ghost use Rattle.std.specs.Prelude.{◌≡◌, ◌<◌, ◌≤◌, ◌++◌, len
 ghost use Rattle.ninep_types.specs.Spelling.{spelling_t, Fits_t};
 ghost use Rattle.am_journal.specs.declared.event.Event.{Event};
 ghost use Rattle.am_journal.specs.Lawful.{IsLawful, IsInRange};
-ghost use Rattle.am_journal.specs.Line.{dial_at, dial_line, msg_at, msg_line, hang_at, hang_line, took_at, took_line, new_at, new_line, key_at, key_line, sel_at, sel_line, line_text, event_of};
+ghost use Rattle.am_journal.specs.Line.{dial_at, dial_line, msg_at, msg_line, hang_at, hang_line, took_at, took_line};
+ghost use Rattle.am_journal.specs.Line.{new_at, new_line, key_at, key_line, sel_at, sel_line, line_text, event_of};
 
 use crate::actions::{action_in, arg_text, dir_text, exec_text, file_text, look_text};
 use crate::causes::{ending_of, put_cause};
@@ -135,7 +136,8 @@ pub fn read_line(alloc: Global, line: &[u8]) -> Result<Option<Event>, NoMemory>
     // What is read is spelled so.
     ensures found { IfOk result (λ found. IfSome found (λ e. line.now ≡ line_text e)) }
     // What is spelled so is read.
-    ensures only { (e : Event) → IsLawful e → IsInRange e → line.now ≡ line_text e → IfOk result (λ found. found ≡ Some e) }
+    ensures only { (e : Event) → IsLawful e → IsInRange e → line.now ≡ line_text e
+        → IfOk result (λ found. found ≡ Some e) }
 {
     event_in(alloc, line)
 }

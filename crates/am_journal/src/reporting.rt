@@ -3,7 +3,10 @@
 ghost use Rattle.std.specs.Prelude.{◌≡◌, ◌++◌, OnOk, IfOk, length};
 ghost use Rattle.std.specs.List.{flat_map};
 ghost use Rattle.std.specs.Fmt.{decimal};
-ghost use Rattle.am_journal.specs.Report.{conn_state, conn_line, text_end, modified_word, dot_words, window_line, body_line, window_lines, title, conns_part, windows_part, life_words, item_line, items_part, kind_word, request_line, input_line, request_lines, requests_from, requests_part, report_text};
+ghost use Rattle.am_journal.specs.Report.{conn_state, conn_line, text_end, modified_word, dot_words, window_line};
+ghost use Rattle.am_journal.specs.Report.{body_line, window_lines, title, conns_part, windows_part, life_words};
+ghost use Rattle.am_journal.specs.Report.{item_line, items_part, kind_word, request_line, input_line, request_lines};
+ghost use Rattle.am_journal.specs.Report.{requests_from, requests_part, report_text};
 
 use crate::causes::{put_cause, put_two};
 use crate::ending::Ending;

@@ -3,10 +3,11 @@
 ghost use Rattle.std.specs.Prelude.{◌≡◌, slice_set};
 ghost use Rattle.am_text.specs.Twice.{both, IsSteady};
 ghost use Rattle.fid_table.specs.Tables.{HasJoined};
-ghost use Rattle.core_parts.specs.Connections.{connections_after, IsOfJoined, ended_with};
+ghost use Rattle.core_parts.specs.Connections.{connections_after, with_user, users_after, IsOfJoined, ended_with};
 ghost use Rattle.core_closing.specs.Closing.{ended_tables};
 ghost use Rattle.core_parts.specs.Doing.{Doing};
 
+use am_text::Bytes;
 use core_events::{Response, end_reads, forget_cancelled};
 use core_fids::{Effect, EventChange};
 use core_parts::{Connection, Kind};
@@ -30,6 +31,32 @@ pub fn change_connections(connections: &mut [Connection], kind: Kind)
         Kind::Dials { conn } => set_connection(connections, conn, Connection::Live),
         Kind::Ends { conn, why } => set_connection(connections, conn, Connection::Ended(why)),
         Kind::Asks { .. } => {}
+        Kind::Takes { .. } => {}
+        Kind::Acts => {}
+    }
+}
+
+#[tactic(auto, using(crate::proofs::Places::set_past))]
+fn set_user(users: &mut [Bytes], conn: u32, user: Option<Bytes>)
+    ensures { users.new ≡ with_user users.old conn user }
+{
+    let Some(user) = user else {
+        return;
+    };
+    let place = conn as usize;
+    if place < users.len() {
+        users[place] = user;
+    }
+}
+
+/// Gives the connection of a message the user whom it attaches, if there is one. It takes no memory.
+pub fn change_users(users: &mut [Bytes], kind: Kind, user: Option<Bytes>)
+    ensures { users.new ≡ users_after users.old kind user }
+{
+    match kind {
+        Kind::Asks { conn, .. } => set_user(users, conn, user),
+        Kind::Dials { .. } => {}
+        Kind::Ends { .. } => {}
         Kind::Takes { .. } => {}
         Kind::Acts => {}
     }

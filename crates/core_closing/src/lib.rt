@@ -11,7 +11,7 @@ mod view;
 
 pub use asking::answer;
 pub use closing::{change_book, change_ports};
-pub use connections::{change_connections, change_sessions};
+pub use connections::{change_connections, change_sessions, change_users};
 pub use prepared::Prepared;
 pub use replies::take_replies;
 pub use view::view_of;

@@ -1,14 +1,14 @@
 //! What a step will do, made ready beforehand.
 
 use am_journal::Event;
-use am_text::Ids;
+use am_text::{Bytes, Ids};
 use core_events::{BackItem, Responses};
 use core_fids::{Effect, EventChange};
 use core_outputs::Reply;
 
-/// An event with all that its step will do: the number of its entry, what it does to the fids and the session of
-/// its connection, to event files and to ports, the windows that it deletes, the item that it writes back, and
-/// what is said to connections.
+/// An event with all that its step will do: the number of its entry, what it does to the fids and the session of its
+/// connection, to event files and to ports, the windows that it deletes, the item that it writes back, the user whom it
+/// attaches, and what is said to connections.
 #[derive(Drop)]
 pub struct Prepared {
     pub event: Event,
@@ -17,6 +17,7 @@ pub struct Prepared {
     pub events: EventChange,
     pub deleted: Ids,
     pub back: Option<BackItem>,
+    pub user: Option<Bytes>,
     pub said: Responses,
     pub replies: Vec<Reply>,
 }

@@ -1,5 +1,6 @@
 -- Openings of fids that were closed, and one more.
-use Rattle.std.proofs.Common.{◌≡◌, ℕ, zero, suc, ◌+◌, List, [], ◌∷◌, take, slice_get, fold, Option, refl, sym, ap, ap₂, ◌∙◌, subst, arith}
+use Rattle.std.proofs.Common.{◌≡◌, ℕ, zero, suc, ◌+◌, List, [], ◌∷◌, take, slice_get, fold, Option, refl, sym, ap, ap₂}
+use Rattle.std.proofs.Common.{◌∙◌, subst, arith}
 use Rattle.am_text.specs.Twice.{Twice, both, IsSteady}
 use Rattle.fid_table.specs.declared.types.Fid.{Fid}
 use Rattle.plumb_ports.specs.PortsState.{PortsState}
@@ -18,7 +19,8 @@ pub idle_both : (t : Twice PortsState) (s : PortsState) → t ≡ both s → Are
 idle_both t s e idle = subst (λ (u : Twice PortsState). ArePortsIdle u.present) (sym e) idle
 
 more_fids : (s : PortsState) (fids : List (ℕ × Fid)) (k : ℕ)
-    → fold without_fid s (take (suc k) fids) ≡ without_opening (fold without_fid s (take k fids)) (opening_at (slice_get fids k))
+    → fold without_fid s (take (suc k) fids) ≡ without_opening (fold without_fid s (take k fids))
+    (opening_at (slice_get fids k))
 more_fids s [] zero = refl
 more_fids s [] (suc k) = refl
 more_fids s (f ∷ fids) zero = refl
@@ -26,11 +28,13 @@ more_fids s (f ∷ fids) (suc k) = more_fids (without_fid s f) fids k
 
 -- the ports so far, and without the opening of the next one
 pub closed_more : (s : PortsState) (fids : List (ℕ × Fid)) (k : ℕ) (ports after : Twice PortsState) (opening : Option ℕ)
-    → ports ≡ both (fold without_fid s (take k fids)) → opening ≡ opening_at (slice_get fids k) → after ≡ both (without_opening ports.present opening)
+    → ports ≡ both (fold without_fid s (take k fids)) → opening ≡ opening_at (slice_get fids k)
+    → after ≡ both (without_opening ports.present opening)
     → after ≡ both (fold without_fid s (take (k + 1) fids))
 closed_more s fids k ports after opening e o h =
     let present : ports.present ≡ fold without_fid s (take k fids) = ap (λ (t : Twice PortsState). t.present) e in
     let next : k + 1 ≡ suc k = omega arith in
-    h ∙ ap both (ap₂ without_opening present o ∙ sym (ap (λ (n : ℕ). fold without_fid s (take n fids)) next ∙ more_fids s fids k))
+    h ∙ ap both (ap₂ without_opening present o ∙ sym (ap (λ (n : ℕ). fold without_fid s (take n fids)) next
+    ∙ more_fids s fids k))
 
 pub ruleset ending = (steady_both)

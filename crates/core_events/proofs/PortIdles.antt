@@ -1,5 +1,7 @@
 -- Waiting reads of ports that can't be answered, call by call.
-use Rattle.std.proofs.Common.{◌≡◌, ◌≢◌, ℕ, zero, suc, ◌+◌, ◌≤◌, ◌==◌, Bool, true, false, not, cond, List, [], ◌∷◌, ◌++◌, length, find, nat_lt, fold, Option, Some, None, option_map, refl, sym, ap, subst, ◌∙◌, arith}
+use Rattle.std.proofs.Common.{◌≡◌, ◌≢◌, ℕ, zero, suc, ◌+◌, ◌≤◌, ◌==◌, Bool, true, false, not, cond, List, [], ◌∷◌, ◌++◌}
+use Rattle.std.proofs.Common.{length, find, nat_lt, fold, Option, Some, None, option_map, refl, sym, ap, subst, ◌∙◌}
+use Rattle.std.proofs.Common.{arith}
 use Rattle.std.specs.List.{list_all, list_any, filter}
 use Rattle.std.proofs.lemmas.Bool.{eqb-true}
 use Rattle.std.proofs.lemmas.Bool.Decides.{nat_tests}
@@ -9,7 +11,8 @@ use Rattle.wait_queue.specs.Reads.{is_on, is_read}
 use Rattle.wait_queue.specs.declared.types.Asker.{Asker}
 use Rattle.wait_queue.specs.declared.types.Piece.{Piece}
 use Rattle.plumb_ports.specs.Inboxes.{Inbox, is_of, inbox_of, must_wait, after_piece_from, after_piece, after_read}
-use Rattle.plumb_ports.specs.PortsState.{PortsState, is_ready, read_waits, piece_for, next_of, served_of, after_answer, after_ask, after_serve, after_leave}
+use Rattle.plumb_ports.specs.PortsState.{PortsState, is_ready, read_waits, piece_for, next_of, served_of, after_answer}
+use Rattle.plumb_ports.specs.PortsState.{after_ask, after_serve, after_leave}
 use Rattle.plumb_ports.proofs.LawLemmas.{inbox-missing, inbox-read, inbox-read_other, any-read, inbox-left}
 use Rattle.core_fids.specs.Fids.{port_opening}
 use Rattle.core_fids.specs.declared.effect.Effect.{Effect}
@@ -17,9 +20,11 @@ use Rattle.core_fids.specs.declared.effect.Effect.TheVariants as effect
 use Rattle.core_fids.specs.declared.effect.EventChange.{EventChange}
 use Rattle.core_fids.specs.declared.effect.EventChange.TheVariants as events
 use Rattle.core_fids.specs.declared.refusal.Refusal.{Refusal}
-use Rattle.core_events.proofs.Idles.{all_weaker, all_filter, all_push, none_found, find_none, no_length, parts, no_reads}
+use Rattle.core_events.proofs.Idles.{all_weaker, all_filter, all_push, none_found, find_none, no_length, parts}
+use Rattle.core_events.proofs.Idles.{no_reads}
 use Rattle.core_events.specs.PortAsking.{read_refusal, read_unless, ports_read}
-use Rattle.core_events.specs.PortClosing.{without_opening, without_fid, ports_without_fids, opening_in, ports_freed, ports_cancelled}
+use Rattle.core_events.specs.PortClosing.{without_opening, without_fid, ports_without_fids, opening_in, ports_freed}
+use Rattle.core_events.specs.PortClosing.{ports_cancelled}
 use Rattle.core_events.specs.PortServing.{after_serving_most, ports_served, ports_after_serving}
 use Rattle.core_events.specs.PortSound.{ArePortsIdle}
 use Rattle.core_events.proofs.PortTurns.{next_less, idle, after_none_more, all_none, after_all_none}
@@ -34,14 +39,16 @@ not_not true e = refl
 not_not false e = absurd cc
 
 all_wait : (s : PortsState) → ArePortsIdle s → list_all (waits_in s.openings) s.reads ≡ true
-all_wait s h = none_found (is_ready s.openings) (waits_in s.openings) s.reads (λ r e. not_not (waits_in s.openings r) e) h
+all_wait s h = none_found (is_ready s.openings) (waits_in s.openings) s.reads (λ r e. not_not (waits_in s.openings r) e)
+    h
 
 none_ready : (os : List Inbox) (rs : List Asker) → list_all (waits_in os) rs ≡ true → find (is_ready os) rs ≡ None
 none_ready os rs h = find_none (is_ready os) (waits_in os) rs (λ r e. ap not e) h
 
 -- ---- a read
 
-quiet_piece : (carry : List ℕ) (messages : List (List ℕ)) (o : Inbox) (n : ℕ) → carry ≡ [] → messages ≡ [] → after_piece_from carry messages o n ≡ o
+quiet_piece : (carry : List ℕ) (messages : List (List ℕ)) (o : Inbox) (n : ℕ) → carry ≡ [] → messages ≡ []
+    → after_piece_from carry messages o n ≡ o
 quiet_piece [] [] o n c m = refl
 quiet_piece (b ∷ bs) messages o n c m = absurd cc
 quiet_piece [] (x ∷ xs) o n c m = absurd cc
@@ -57,7 +64,8 @@ nothing_left o count n h =
       | false ↦ quiet_piece o.carry o.messages o n (no_length o.carry p.1) (no_length o.messages p.2)
     ]
 
-inbox_stays : (os : List Inbox) (x count n : ℕ) → must_wait (inbox_of os x) count ≡ true → inbox_of (after_read os x n) x ≡ inbox_of os x
+inbox_stays : (os : List Inbox) (x count n : ℕ) → must_wait (inbox_of os x) count ≡ true → inbox_of (after_read os x n)
+    x ≡ inbox_of os x
 inbox_stays os x count n h = by (list_any (is_of x) os) refl
   where
     by : (b : Bool) → list_any (is_of x) os ≡ b → inbox_of (after_read os x n) x ≡ inbox_of os x
@@ -71,7 +79,8 @@ waits_read os x n r h = by (r.opening == x) refl
     by true e =
         let same : r.opening ≡ x = eqb-true r.opening x e in
         ap (λ (o : Inbox). must_wait o r.count)
-        (subst (λ (y : ℕ). inbox_of (after_read os y n) r.opening ≡ inbox_of os r.opening) same (inbox_stays os r.opening r.count n h))
+        (subst (λ (y : ℕ). inbox_of (after_read os y n) r.opening ≡ inbox_of os r.opening) same
+        (inbox_stays os r.opening r.count n h))
         ∙ h
     by false e =
         let other : r.opening ≢ x = grind (arith, nat_tests) in
@@ -81,7 +90,8 @@ idle_answer : (s : PortsState) (r : Asker) → ArePortsIdle s → ArePortsIdle (
 idle_answer s r h =
     let after : List Inbox = after_read s.openings r.opening r.count in
     none_ready after s.reads
-    (all_weaker (waits_in s.openings) (waits_in s.openings) (waits_in after) s.reads (λ x a b. waits_read s.openings r.opening r.count x a) (all_wait s h) (all_wait s h))
+    (all_weaker (waits_in s.openings) (waits_in s.openings) (waits_in after) s.reads
+    (λ x a b. waits_read s.openings r.opening r.count x a) (all_wait s h) (all_wait s h))
 
 idle_ask : (s : PortsState) (r : Asker) → ArePortsIdle s → ArePortsIdle (after_ask s r)
 idle_ask s r h = by (read_waits s r) refl
@@ -122,30 +132,37 @@ idle_fids : (s : PortsState) (fs : List (ℕ × Fid)) → ArePortsIdle s → Are
 idle_fids s [] h = h
 idle_fids s (f ∷ fs) h = idle_fids (without_fid s f) fs (idle_without s (port_opening f.1) h)
 
-pub idle_without_fids : (s : PortsState) (t : Tables) (conn : ℕ) → ArePortsIdle s → ArePortsIdle (ports_without_fids s t conn)
+pub idle_without_fids : (s : PortsState) (t : Tables) (conn : ℕ) → ArePortsIdle s
+    → ArePortsIdle (ports_without_fids s t conn)
 idle_without_fids s t conn h = idle_fids s (fids_of t conn) h
 
-pub idle_freed : (s : PortsState) (t : Tables) (conn : ℕ) (e : Effect) → ArePortsIdle s → ArePortsIdle (ports_freed s t conn e)
+pub idle_freed : (s : PortsState) (t : Tables) (conn : ℕ) (e : Effect) → ArePortsIdle s
+    → ArePortsIdle (ports_freed s t conn e)
 idle_freed s t conn effect.Nothing h = h
 idle_freed s t conn (effect.Begins msize) h = idle_without_fids s t conn h
 idle_freed s t conn (effect.Puts fid value) h = h
 idle_freed s t conn (effect.Frees fid) h = idle_without s (opening_in (fid_of t conn fid)) h
 
-pub idle_cancelled : (s : PortsState) (conn : ℕ) (e : EventChange) → ArePortsIdle s → ArePortsIdle (ports_cancelled s conn e)
+pub idle_cancelled : (s : PortsState) (conn : ℕ) (e : EventChange) → ArePortsIdle s
+    → ArePortsIdle (ports_cancelled s conn e)
 idle_cancelled s conn events.Nothing h = h
 idle_cancelled s conn (events.Opens w) h = h
 idle_cancelled s conn (events.Joins port) h = h
 idle_cancelled s conn (events.Cancels tag) h =
     none_ready s.openings (filter (λ r. not (is_read conn tag r)) s.reads)
-    (all_filter (waits_in s.openings) (waits_in s.openings) (λ r. not (is_read conn tag r)) s.reads (λ r apart waits. waits) (all_wait s h))
+    (all_filter (waits_in s.openings) (waits_in s.openings) (λ r. not (is_read conn tag r)) s.reads
+    (λ r apart waits. waits) (all_wait s h))
 
 -- ---- waiting reads are answered, until none can be
 
 serve_more : (n : ℕ) (s : PortsState) (o : Option Asker) → next_of s ≡ o → length s.reads ≤ suc n
-    → (length (after_serve s).reads ≤ n → ArePortsIdle (after_serving_most n (after_serve s))) → ArePortsIdle (after_serving_most n (after_serve s))
+    → (length (after_serve s).reads ≤ n → ArePortsIdle (after_serving_most n (after_serve s)))
+    → ArePortsIdle (after_serving_most n (after_serve s))
 serve_more n s None e h rest =
-    let none : served_of s ≡ None = ap (λ (o : Option Asker). option_map {U = Asker × Piece} (λ r. (r, piece_for s r)) o) e in
-    subst ArePortsIdle (sym (ap (λ (t : PortsState). after_serving_most n t) (idle s none) ∙ after_none_more n s none)) e
+    let none : served_of s ≡ None = ap (λ (o : Option Asker). option_map {U = Asker × Piece} (λ r. (r, piece_for s r))
+    o) e in
+    subst ArePortsIdle (sym (ap (λ (t : PortsState). after_serving_most n t) (idle s none) ∙ after_none_more n s none))
+    e
 serve_more n s (Some r) e h rest = rest (omega (arith, next_less s r e, h))
 
 serve_most : (n : ℕ) (s : PortsState) → length s.reads ≤ n → ArePortsIdle (after_serving_most n s)

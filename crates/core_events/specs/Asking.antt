@@ -22,11 +22,12 @@ opened book (events.Opens w) = if nat_lt (length book.owners) max_openings then 
 opened book (events.Joins port) = book
 opened book (events.Cancels tag) = book
 
--- a connection has 64 waiting reads at most
+-- a connection can't have more waiting reads
 abbrev pub reads_are_full : Tables → ℕ → Bool
-reads_are_full tables conn = nat_le max_reads (count_by (is_waiting_on conn) tables.waiting)
+reads_are_full tables conn = nat_le (max_reads tables.format) (count_by (is_waiting_on conn) tables.waiting)
 
--- What is said to a read at once; none where it waits. A connection whose reads are 64 can't have another one that waits.
+-- What is said to a read at once; none where it waits. A connection with as many reads as may wait can't have another
+-- one that waits.
 abbrev pub said_to : Bool → Asked → Option RBody
 said_to full (Now piece) = Some (r.Read piece.bytes)
 said_to true Waits = Some (r.Error (refusal_text refusal.TooManyWaitingReads))

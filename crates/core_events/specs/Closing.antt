@@ -3,7 +3,8 @@ use Rattle.std.specs.Prelude.{ℕ, List, [], ◌∷◌, Option, Some, None, if�
 use Rattle.std.specs.List.{fold}
 use Rattle.fid_table.specs.declared.types.Fid.{Fid}
 use Rattle.fid_table.specs.Tables.{Tables, fid_of, fids_of}
-use Rattle.event_book.specs.BookState.{BookState, is_living, is_taken_of, after_leave, after_written, after_cancel, after_delete}
+use Rattle.event_book.specs.BookState.{BookState, is_living, is_taken_of, after_leave, after_written, after_cancel}
+use Rattle.event_book.specs.BookState.{after_delete}
 use Rattle.core_fids.specs.Fids.{event_opening}
 use Rattle.core_fids.specs.declared.effect.Effect.{Effect}
 use Rattle.core_fids.specs.declared.effect.Effect.TheVariants as effect
@@ -14,7 +15,8 @@ use Rattle.core_events.specs.declared.closing.BackItem.{BackItem}
 -- An item that was taken, and not written back before, is written back.
 abbrev pub written_back : ℕ → BookState → Option BackItem → BookState
 written_back at book None = book
-written_back at book (Some b) = if is_taken_of book b.window b.number then after_written book b.window b.number at else book
+written_back at book (Some b) = if is_taken_of book b.window b.number then after_written book b.window b.number at else
+    book
 
 -- An opening closes, unless it did with its window.
 abbrev pub without_opening : ℕ → BookState → Option ℕ → BookState

@@ -23,18 +23,20 @@ next_opening ports = ports.joined + 1
 
 -- the port is there, one opening more can be counted, and none has its number
 abbrev pub can_join : PortsState → ℕ → Bool
-can_join ports port = nat_lt port (length ports.ports) && nat_lt ports.joined max_openings && not (has_joined ports (next_opening ports))
+can_join ports port = nat_lt port (length ports.ports) && nat_lt ports.joined max_openings
+    && not (has_joined ports (next_opening ports))
 
 -- the ports after an opening, if a message opens one
 abbrev pub joined_with : PortsState → EventChange → PortsState
 joined_with ports events.Nothing = ports
 joined_with ports (events.Opens w) = ports
-joined_with ports (events.Joins port) = if can_join ports port then after_join ports port (next_opening ports) else ports
+joined_with ports (events.Joins port) = if can_join ports port then after_join ports port (next_opening ports) else
+    ports
 joined_with ports (events.Cancels tag) = ports
 
 -- ---- a read
 
--- A read is of an opening that is there. A connection whose waiting reads are 64 can't have another one that waits.
+-- A read is of an opening that is there. A connection with as many reads as may wait can't have another one that waits.
 abbrev pub read_refusal : Tables → PortsState → Asker → Option Refusal
 read_refusal tables ports asker = if not (has_joined ports asker.opening) then Some refusal.FidIsNotOpen
     else (if read_waits ports asker && reads_are_full tables asker.conn then Some refusal.TooManyWaitingReads else None)

@@ -9,7 +9,12 @@ use Rattle.core_events.specs.Responses.{port_feed}
 
 -- the answer to a read that waited
 abbrev pub response_to : Asker × Piece → Response
-response_to served = record { conn = served.0.conn; message = record { tag = served.0.tag; body = r.Read served.1.bytes }; feed = Some (port_feed served.0.opening) }
+response_to served = record {
+  conn = served.0.conn;
+  message = record
+      { tag = served.0.tag; body = r.Read served.1.bytes };
+  feed = Some (port_feed served.0.opening);
+}
 
 -- the answer to the next one, and what comes behind it
 abbrev pub then_served : Option (Asker × Piece) → List Response → List Response

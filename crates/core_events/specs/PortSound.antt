@@ -1,5 +1,5 @@
--- What holds of the ports between the steps: the answer to each waiting read will have a spelling, and no opening is numbered beyond those
--- that ever joined.
+-- What holds of the ports between the steps: the answer to each waiting read will have a spelling, and no opening is
+-- numbered beyond those that ever joined.
 use Rattle.std.specs.Prelude.{None, ◌≡◌, true}
 use Rattle.std.specs.List.{list_all}
 use Rattle.plumb_ports.specs.PortsState.{PortsState, next_of}

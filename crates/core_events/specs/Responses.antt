@@ -44,7 +44,12 @@ AreSaid responses = All IsSaid responses
 
 -- a waiting read is refused
 abbrev pub error : Refusal → Option Feed → ℕ → ℕ → Response
-error refusal feed conn tag = record { conn = conn; message = record { tag = tag; body = r.Error (refusal_text refusal) }; feed = feed }
+error refusal feed conn tag = record {
+  conn = conn;
+  message = record
+      { tag = tag; body = r.Error (refusal_text refusal) };
+  feed = feed;
+}
 
 -- the refusal of these waiting reads
 abbrev pub errors : Refusal → Tables → List Waiting → List Response

@@ -1,5 +1,5 @@
--- What holds of the book between the steps: nothing was done later than the last entry, and the answer to each waiting read will have a
--- spelling.
+-- What holds of the book between the steps: nothing was done later than the last entry, and the answer to each waiting
+-- read will have a spelling.
 use Rattle.std.specs.Prelude.{None, ℕ, ◌+◌, ◌≤◌, Bool, ◌≡◌, true, nat_lt, ◌^◌}
 use Rattle.std.specs.List.{list_all}
 use Rattle.wait_queue.specs.declared.types.Asker.{Asker}

@@ -1,5 +1,6 @@
 -- The waiting reads that a clunk and a deletion end, and those that wait no more.
-use Rattle.std.specs.Prelude.{ℕ, Bool, false, ◌==◌, ◌&&◌, List, [], ◌∷◌, ◌++◌, filter, Option, Some, None, if◌then◌else◌}
+use Rattle.std.specs.Prelude.{ℕ, Bool, false, ◌==◌, ◌&&◌, List, [], ◌∷◌, ◌++◌, filter, Option, Some, None}
+use Rattle.std.specs.Prelude.{if◌then◌else◌}
 use Rattle.std.specs.List.{fold}
 use Rattle.acme_tree.specs.declared.node.Node.{Node}
 use Rattle.acme_tree.specs.declared.node.Node.TheVariants.{File}
@@ -50,10 +51,12 @@ reads_event_of w (Some fid) = is_event_of w fid.node
 abbrev pub is_of_window : Tables → ℕ → Waiting → Bool
 is_of_window tables w r = reads_event_of w (fid_of tables r.conn r.fid)
 
--- Deleting a window answers each read that waits on its event file, the oldest first; windows are deleted one after another.
+-- Deleting a window answers each read that waits on its event file, the oldest first; windows are deleted one after
+-- another.
 abbrev pub deletions : Tables → List ℕ → List Response
 deletions tables [] = []
-deletions tables (w ∷ ws) = errors refusal.WindowDeleted tables (filter (is_of_window tables w) tables.waiting) ++ deletions tables ws
+deletions tables (w ∷ ws) = errors refusal.WindowDeleted tables (filter (is_of_window tables w) tables.waiting)
+    ++ deletions tables ws
 
 -- ---- reads that wait no more
 

@@ -5,9 +5,11 @@ ghost use Rattle.am_text.specs.Twice.{IsSteady};
 ghost use Rattle.fid_table.specs.Tables.{HasJoined};
 ghost use Rattle.core_fids.specs.Done.{IsSent};
 ghost use Rattle.ninep_types.specs.Limits.{rread_head};
+ghost use Rattle.core_events.specs.Limits.{max_reads};
 ghost use Rattle.core_events.specs.Asking.{opened, reads_are_full, read_said, book_read, tables_read};
 ghost use Rattle.core_events.specs.Sound.{IsSound};
 
+use am_journal::Format;
 use am_text::NoMemory;
 use core_fids::{EventChange, RBody, Refusal, error};
 use event_book::Book;
@@ -15,10 +17,18 @@ use fid_table::Sessions;
 use std::alloc::Global;
 use wait_queue::{Asked, Asker, MAX_OPENINGS};
 
-/// The most reads of a connection that wait.
-const MAX_READS: usize = 64;
+// The most reads of a connection that wait.
+fn max_reads(format: Format) -> usize
+    ensures { result ≡ max_reads format }
+{
+    match format {
+        Format::One => 64,
+        Format::Two => 256,
+    }
+}
 
-/// A read of an event file at the entry of this number: the fid that is read, and who asks for how much of which opening.
+/// A read of an event file at the entry of this number: the fid that is read, and who asks for how much of which
+/// opening.
 #[derive(Clone, Copy, Debug, PartialEq, Eq)]
 pub struct EventRead {
     pub fid: u32,
@@ -49,7 +59,7 @@ pub fn open_events(book: &mut Book, events: EventChange) -> Result<(), NoMemory>
 pub fn reads_are_full(sessions: &Sessions, conn: u32) -> bool
     ensures { result ≡ reads_are_full sessions.now.present conn }
 {
-    sessions.waiting(conn) >= MAX_READS
+    sessions.waiting(conn) >= max_reads(sessions.format())
 }
 
 /// What is said at once to a read of an event file, None where it waits.
@@ -66,7 +76,8 @@ pub fn read_events(
     ensures said { IfOk result (λ said. said ≡ read_said sessions.old.present book.old.present read.asker) }
     ensures sent { IfOk result (λ said. IfSome said IsSent) }
     ensures book { OnOk result (book.new.present ≡ book_read sessions.old.present book.old.present read.asker read.at) }
-    ensures tables { OnOk result (sessions.new.present ≡ tables_read sessions.old.present book.old.present read.asker read.fid) }
+    ensures tables { OnOk result (sessions.new.present ≡ tables_read sessions.old.present book.old.present read.asker
+        read.fid) }
     ensures kept_book { book.new.kept ≡ book.old.kept }
     ensures kept_tables { sessions.new.kept ≡ sessions.old.kept }
     ensures sound { OnOk result (IsSound read.at book.new.present) }

@@ -3,7 +3,8 @@
 ghost use Rattle.std.specs.Prelude.{◌≡◌, ℕ, slice_get, option_copied};
 ghost use Rattle.am_text.specs.Twice.{both, IsSteady};
 ghost use Rattle.fid_table.specs.Tables.{fids_of};
-ghost use Rattle.core_events.specs.Closing.{written_back, without_opening, opening_at, without_fids, opening_in, freed, cancelled, closed_with};
+ghost use Rattle.core_events.specs.Closing.{written_back, without_opening, opening_at, without_fids, opening_in, freed};
+ghost use Rattle.core_events.specs.Closing.{cancelled, closed_with};
 ghost use Rattle.core_events.specs.Sound.{IsSound};
 
 use core_fids::{Effect, EventChange, event_opening};

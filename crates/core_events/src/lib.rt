@@ -1,4 +1,5 @@
-//! Event files and ports in the editor: how they are opened and read, which items come, and what ends the reads that wait.
+//! Event files and ports in the editor: how they are opened and read, which items come, and what ends the reads that
+//! wait.
 #![tactic(auto)]
 
 mod asking;

@@ -4,7 +4,8 @@ ghost use Rattle.std.specs.Prelude.{◌≡◌, ◌+◌, ◌<◌, ◌^◌, IfOk, 
 ghost use Rattle.fid_table.specs.Tables.{HasJoined};
 ghost use Rattle.core_fids.specs.Done.{IsSent};
 ghost use Rattle.ninep_types.specs.Limits.{rread_head};
-ghost use Rattle.core_events.specs.PortAsking.{can_join, joined_with, read_refusal, port_said, ports_read, tables_read_port};
+ghost use Rattle.core_events.specs.PortAsking.{can_join, joined_with, read_refusal, port_said, ports_read};
+ghost use Rattle.core_events.specs.PortAsking.{tables_read_port};
 ghost use Rattle.core_events.specs.PortSound.{ArePortsSound};
 
 use crate::reads_are_full;
@@ -69,7 +70,8 @@ pub fn read_port(
     ensures said { IfOk result (λ said. said ≡ port_said sessions.old.present ports.old.present asker) }
     ensures sent { IfOk result (λ said. IfSome said IsSent) }
     ensures ports { OnOk result (ports.new.present ≡ ports_read sessions.old.present ports.old.present asker) }
-    ensures tables { OnOk result (sessions.new.present ≡ tables_read_port sessions.old.present ports.old.present asker fid) }
+    ensures tables { OnOk result (sessions.new.present ≡ tables_read_port sessions.old.present ports.old.present asker
+        fid) }
     ensures kept_ports { ports.new.kept ≡ ports.old.kept }
     ensures kept_tables { sessions.new.kept ≡ sessions.old.kept }
     ensures sound { OnOk result (ArePortsSound ports.new.present) }

@@ -3,7 +3,8 @@
 ghost use Rattle.std.specs.Prelude.{◌≡◌, slice_get, option_copied};
 ghost use Rattle.am_text.specs.Twice.{both, IsSteady};
 ghost use Rattle.fid_table.specs.Tables.{fids_of};
-ghost use Rattle.core_events.specs.PortClosing.{without_opening, opening_at, ports_without_fids, opening_in, ports_freed, ports_cancelled};
+ghost use Rattle.core_events.specs.PortClosing.{without_opening, opening_at, ports_without_fids, opening_in};
+ghost use Rattle.core_events.specs.PortClosing.{ports_freed, ports_cancelled};
 ghost use Rattle.core_events.specs.PortSound.{ArePortsSound, ArePortsIdle};
 
 use core_fids::{Effect, EventChange, port_opening};

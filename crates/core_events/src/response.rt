@@ -24,8 +24,8 @@ pub struct Feed {
     pub opening: u32,
 }
 
-/// What is said to a connection in answer to the message that has the same tag; and where that message read an event file or a
-/// port, what it read.
+/// What is said to a connection in answer to the message that has the same tag; and where that message read an event
+/// file or a port, what it read.
 #[derive(Drop)]
 pub struct Response {
     pub conn: u32,

@@ -2,9 +2,11 @@
 
 ghost use Rattle.std.specs.Prelude.{◌≡◌, [], ◌∷◌, ◌++◌, ℕ, slice_get, filter, option_copied, IfOk, OnOk};
 ghost use Rattle.am_text.specs.Twice.{both, IsSteady};
-ghost use Rattle.core_fids.specs.declared.refusal.Refusal.TheVariants.{FidClunked as fid_clunked, WindowDeleted as window_deleted};
+ghost use Rattle.core_fids.specs.declared.refusal.Refusal.TheVariants.{FidClunked as fid_clunked};
+ghost use Rattle.core_fids.specs.declared.refusal.Refusal.TheVariants.{WindowDeleted as window_deleted};
 ghost use Rattle.core_events.specs.Responses.{AreSaid, feed_in, feed_at, error, errors};
-ghost use Rattle.core_events.specs.Waits.{is_of_fid, is_of_window, answer_where, clunked, is_event_of, reads_event_of, deletions, ended, without_cancelled};
+ghost use Rattle.core_events.specs.Waits.{is_of_fid, is_of_window, answer_where, clunked, is_event_of, reads_event_of};
+ghost use Rattle.core_events.specs.Waits.{deletions, ended, without_cancelled};
 
 use crate::response::{Feed, Response, Responses, feed_in, joined};
 use acme_tree::{Node, WinFile};
@@ -60,7 +62,8 @@ fn answer_clunked(
     k: usize,
 ) -> Result<(), NoMemory>
     requires { AreSaid said.old }
-    ensures ok { OnOk result (said.new ≡ said.old ++ answer_where fid_clunked sessions.now.present (is_of_fid of.conn of.fid) (slice_get sessions.now.present.waiting k)) }
+    ensures ok { OnOk result (said.new ≡ said.old ++ answer_where fid_clunked sessions.now.present
+        (is_of_fid of.conn of.fid) (slice_get sessions.now.present.waiting k)) }
     ensures said { OnOk result (AreSaid said.new) }
 {
     let Some((conn, tag, fid)) = sessions.waiter(k) else {
@@ -81,7 +84,8 @@ fn clunked_reads(
     conn: u32,
     fid: u32,
 ) -> Result<Responses, NoMemory>
-    ensures exact { IfOk result (λ said. said ≡ errors fid_clunked sessions.now.present (filter (is_of_fid conn fid) sessions.now.present.waiting)) }
+    ensures exact { IfOk result (λ said. said ≡ errors fid_clunked sessions.now.present
+        (filter (is_of_fid conn fid) sessions.now.present.waiting)) }
     ensures said { IfOk result AreSaid }
 {
     let mut said = Items::new(alloc);
@@ -136,7 +140,8 @@ fn answer_deleted(
     k: usize,
 ) -> Result<(), NoMemory>
     requires { AreSaid said.old }
-    ensures ok { OnOk result (said.new ≡ said.old ++ answer_where window_deleted sessions.now.present (is_of_window sessions.now.present window) (slice_get sessions.now.present.waiting k)) }
+    ensures ok { OnOk result (said.new ≡ said.old ++ answer_where window_deleted sessions.now.present
+        (is_of_window sessions.now.present window) (slice_get sessions.now.present.waiting k)) }
     ensures said { OnOk result (AreSaid said.new) }
 {
     let Some((conn, tag, fid)) = sessions.waiter(k) else {
@@ -158,7 +163,8 @@ fn answer_deleted(
 
 // The answers to the reads that wait on the event file of this window.
 fn deleted_reads(alloc: Global, sessions: &Sessions, window: u32) -> Result<Responses, NoMemory>
-    ensures exact { IfOk result (λ said. said ≡ errors window_deleted sessions.now.present (filter (is_of_window sessions.now.present window) sessions.now.present.waiting)) }
+    ensures exact { IfOk result (λ said. said ≡ errors window_deleted sessions.now.present
+        (filter (is_of_window sessions.now.present window) sessions.now.present.waiting)) }
     ensures said { IfOk result AreSaid }
 {
     let mut said = Items::new(alloc);
@@ -168,7 +174,8 @@ fn deleted_reads(alloc: Global, sessions: &Sessions, window: u32) -> Result<Resp
     Ok(said)
 }
 
-/// The answers to the reads that wait on the event files of windows that are deleted: window by window, and the oldest first.
+/// The answers to the reads that wait on the event files of windows that are deleted: window by window, and the oldest
+/// first.
 #[tactic(auto, using(crate::proofs::Endings::joined, crate::proofs::Saids::saying))]
 pub fn deletions(alloc: Global, sessions: &Sessions, windows: &[u32]) -> Result<Responses, NoMemory>
     ensures exact { IfOk result (λ said. said ≡ deletions sessions.now.present windows.now) }

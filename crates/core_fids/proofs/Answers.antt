@@ -1,5 +1,6 @@
 -- Answers have spellings.
-use Rattle.std.proofs.Common.{[], ◌≡◌, ℕ, ◌+◌, ◌<◌, ◌≤◌, Bool, true, false, cond, List, Option, codes, length, refl, ap, sym, ◌∙◌, subst, arith}
+use Rattle.std.proofs.Common.{[], ◌≡◌, ℕ, ◌+◌, ◌<◌, ◌≤◌, Bool, true, false, cond, List, Option, codes, length, refl, ap}
+use Rattle.std.proofs.Common.{sym, ◌∙◌, subst, arith}
 use Rattle.std.specs.Str.{is_utf8, chars}
 use Rattle.std.specs.Char.{encode_utf8}
 use Rattle.ninep_types.specs.declared.message.RBody.TheVariants as r
@@ -115,22 +116,29 @@ text_fits refusal.BadExpressionSize = omega arith
 text_fits refusal.TooManyRules = omega arith
 
 error_is : (x : Refusal) → IsSent (r.Error (refusal_text x))
-error_is x = record { body = record { text = text_is x; len = omega (arith, text_fits x) }; size = omega (arith, text_fits x) }
+error_is x = record {
+  body = record { text = text_is x; len = omega (arith, text_fits x) };
+  size =
+      omega (arith, text_fits x);
+}
 
 pub error_sent : (x : Refusal) (text : List ℕ) → text ≡ refusal_text x → IsSent (r.Error text)
 error_sent x text e = subst (λ (t : List ℕ). IsSent (r.Error t)) (sym e) (error_is x)
 
 -- ---- what is answered at once
 
-pub plain_done : (windows : List (Option Window)) (f : Effect) (cs : List Change) (body : RBody) (d : Reaction) → d ≡ does f cs body → IsSent body → CanBeMade windows cs
+pub plain_done : (windows : List (Option Window)) (f : Effect) (cs : List Change) (body : RBody) (d : Reaction)
+    → d ≡ does f cs body → IsSent body → CanBeMade windows cs
     → IsDone windows d
-plain_done windows f cs body d e sent possible = subst (λ (x : Reaction). IsDone windows x) (sym e) (record { sent = sent; possible = possible; demand = tt })
+plain_done windows f cs body d e sent possible = subst (λ (x : Reaction). IsDone windows x) (sym e)
+    (record { sent = sent; possible = possible; demand = tt })
 
 -- no change can always be made
 pub nothing_made : (windows : List (Option Window)) (cs : List Change) → cs ≡ [] → CanBeMade windows cs
 nothing_made windows cs e = subst (CanBeMade windows) (sym e) (λ at. tt)
 
-pub plain_still : (f : Effect) (cs : List Change) (body : RBody) (d : Reaction) → d ≡ does f cs body → IsSent body → cs ≡ [] → IsStill d
+pub plain_still : (f : Effect) (cs : List Change) (body : RBody) (d : Reaction) → d ≡ does f cs body → IsSent body
+    → cs ≡ [] → IsStill d
 plain_still f cs body d e sent none = subst IsStill (sym e) (record { sent = sent; changes = none; demand = refl })
 
 -- what changes no window can be done whatever the windows are
@@ -142,7 +150,8 @@ still_done windows d h = record {
 }
 
 -- changes that can be made are done with an answer that has a spelling
-pub made_done : (windows : List (Option Window)) (d : Reaction) (cs : List Change) → HasSpelling d.answer → d.changes ≡ cs → d.demand ≡ demand.Nothing → CanBeMade windows cs → IsDone windows d
+pub made_done : (windows : List (Option Window)) (d : Reaction) (cs : List Change) → HasSpelling d.answer
+    → d.changes ≡ cs → d.demand ≡ demand.Nothing → CanBeMade windows cs → IsDone windows d
 made_done windows d cs sent e none possible = record {
   sent = sent;
   possible = subst (CanBeMade windows) (sym e) possible;
@@ -165,24 +174,30 @@ known_sent msize = record { body = known; size = omega arith }
 unknown_sent : (msize : ℕ) → IsSent (r.Version msize (codes "unknown"))
 unknown_sent msize = record { body = unknown; size = omega arith }
 
-pub known_still : (f : Effect) (msize : ℕ) (text : List ℕ) (cs : List Change) (d : Reaction) → text ≡ codes "9P2000" → cs ≡ []
+pub known_still : (f : Effect) (msize : ℕ) (text : List ℕ) (cs : List Change) (d : Reaction) → text ≡ codes "9P2000"
+    → cs ≡ []
     → d ≡ does f cs (r.Version msize text) → IsStill d
 known_still f msize text cs d e none is =
-    plain_still f cs (r.Version msize text) d is (subst (λ (t : List ℕ). IsSent (r.Version msize t)) (sym e) (known_sent msize)) none
+    plain_still f cs (r.Version msize text) d is (subst (λ (t : List ℕ). IsSent (r.Version msize t)) (sym e)
+    (known_sent msize)) none
 
-pub unknown_still : (f : Effect) (msize : ℕ) (text : List ℕ) (cs : List Change) (d : Reaction) → text ≡ codes "unknown" → cs ≡ []
+pub unknown_still : (f : Effect) (msize : ℕ) (text : List ℕ) (cs : List Change) (d : Reaction) → text ≡ codes "unknown"
+    → cs ≡ []
     → d ≡ does f cs (r.Version msize text) → IsStill d
 unknown_still f msize text cs d e none is =
-    plain_still f cs (r.Version msize text) d is (subst (λ (t : List ℕ). IsSent (r.Version msize t)) (sym e) (unknown_sent msize)) none
+    plain_still f cs (r.Version msize text) d is (subst (λ (t : List ℕ). IsSent (r.Version msize t)) (sym e)
+    (unknown_sent msize)) none
 
 -- ---- fids that are freed
 
 -- what frees a fid asks nothing of a window
-rest_asks : (windows : List (Option Window)) (fid : Fid) (holds : Bool) → IsOfLiving windows (cond holds (demand.AddsRest fid.held) demand.Nothing)
+rest_asks : (windows : List (Option Window)) (fid : Fid) (holds : Bool)
+    → IsOfLiving windows (cond holds (demand.AddsRest fid.held) demand.Nothing)
 rest_asks windows fid true = tt
 rest_asks windows fid false = tt
 
-pub freed_done : (windows : List (Option Window)) (number : ℕ) (fid : Fid) (asked : Demand) (body : RBody) (d : Reaction) → d ≡ frees number asked body → asked ≡ rest_demand fid → IsSent body → IsDone windows d
+pub freed_done : (windows : List (Option Window)) (number : ℕ) (fid : Fid) (asked : Demand) (body : RBody)
+    (d : Reaction) → d ≡ frees number asked body → asked ≡ rest_demand fid → IsSent body → IsDone windows d
 freed_done windows number fid asked body d e is sent = subst (IsDone windows) (sym e) (record {
   sent = sent;
   possible = λ at. tt;
@@ -194,14 +209,17 @@ clunk_sent = record { body = tt; size = omega arith }
 
 -- ---- stats
 
-pub stat_done : (windows : List (Option Window)) (s : Stat) (bytes : List ℕ) (cs : List Change) (d : Reaction) → bytes ≡ record_of s → HasName s → cs ≡ []
+pub stat_done : (windows : List (Option Window)) (s : Stat) (bytes : List ℕ) (cs : List Change) (d : Reaction)
+    → bytes ≡ record_of s → HasName s → cs ≡ []
     → d ≡ does effect.Nothing cs (r.Stat bytes) → IsDone windows d
 stat_done windows s bytes cs d e name none is =
     let size : length bytes ≡ 61 + length s.name = ap (λ (l : List ℕ). length l) e ∙ record_len s in
-    plain_done windows effect.Nothing cs (r.Stat bytes) d is (record { body = omega (arith, size, name.len); size = omega (arith, size, name.len) }) (nothing_made windows cs none)
+    plain_done windows effect.Nothing cs (r.Stat bytes) d is (record
+    { body = omega (arith, size, name.len); size = omega (arith, size, name.len) }) (nothing_made windows cs none)
 
 -- what a directory read gives fits
-pub part_fits : (room : ℕ) (stats : List Stat) (bytes : List ℕ) → bytes ≡ records (fitting room stats) → length bytes ≤ room
+pub part_fits : (room : ℕ) (stats : List Stat) (bytes : List ℕ) → bytes ≡ records (fitting room stats)
+    → length bytes ≤ room
 part_fits room stats bytes e = subst (λ (l : List ℕ). length l ≤ room) (sym e) (longest room stats).fits
 
 pub ruleset sent = (error_sent, known_still, unknown_still, stat_done, part_fits)

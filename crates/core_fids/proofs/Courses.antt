@@ -1,5 +1,6 @@
 -- Courses: qids that were found before, and where a window may be made.
-use Rattle.std.proofs.Common.{◌≡◌, ℕ, Bool, true, false, cond, not, List, [], ◌∷◌, ◌++◌, length, Option, Some, None, refl, ap, sym, ◌∙◌, append_assoc}
+use Rattle.std.proofs.Common.{◌≡◌, ℕ, Bool, true, false, cond, not, List, [], ◌∷◌, ◌++◌, length, Option, Some, None}
+use Rattle.std.proofs.Common.{refl, ap, sym, ◌∙◌, append_assoc}
 use Rattle.std.specs.Prelude.{codes}
 use Rattle.std.specs.Str.{bytes_eq}
 use Rattle.std.proofs.lemmas.List.{append-nil}
@@ -19,7 +20,8 @@ use Rattle.core_fids.specs.Walking.{then_qid}
 abbrev pub then_qids : List Qid → Course → Course
 then_qids qids course = record { qids = qids ++ course.qids; end = course.end }
 
-pub one_more : (qids : List Qid) (qid : Qid) (t : Course) → then_qids (qids ++ qid ∷ []) t ≡ then_qids qids (then_qid qid t)
+pub one_more : (qids : List Qid) (qid : Qid) (t : Course) → then_qids (qids ++ qid ∷ []) t ≡ then_qids qids
+    (then_qid qid t)
 one_more qids qid t = ap (λ (l : List Qid). record { qids = l; end = t.end }) (append_assoc qids (qid ∷ []) t.qids)
 
 pub no_more : (qids : List Qid) → qids ++ [] ≡ qids
@@ -49,7 +51,8 @@ may_new : (world : World) (last : Bool) (o : Option WinFile) → MayStep world (
 may_new world last None = tt
 may_new world last (Some file) = may_if_last world file (world_is_full world) refl last
 
-may_below : (world : World) (ports : List (List ℕ)) (n : Node) (name : List ℕ) (last : Bool) → MayStep world (below world ports n name last)
+may_below : (world : World) (ports : List (List ℕ)) (n : Node) (name : List ℕ) (last : Bool)
+    → MayStep world (below world ports n name last)
 may_below world ports node.Root name last = may_entry world (entry_named world ports node.Root name)
 may_below world ports node.Cons name last = may_entry world (entry_named world ports node.Cons name)
 may_below world ports node.ConsCtl name last = may_entry world (entry_named world ports node.ConsCtl name)
@@ -67,14 +70,16 @@ may_either : (world : World) (t : Bool) (a b : Step) → MayStep world a → May
 may_either world true a b h k = h
 may_either world false a b h k = k
 
-may_walk : (world : World) (ports : List (List ℕ)) (n : Node) (name : List ℕ) (last : Bool) → MayStep world (walk_one world ports n name last)
+may_walk : (world : World) (ports : List (List ℕ)) (n : Node) (name : List ℕ) (last : Bool)
+    → MayStep world (walk_one world ports n name last)
 unfolding walk_one
 may_walk world ports n name last =
     may_either world (not (is_dir n)) step.NotDir _ tt
     (may_either world (not (is_live world ports n)) step.Deleted _ tt
     (may_either world (bytes_eq name (codes "..")) (step.Found (above n)) _ tt (may_below world ports n name last)))
 
-may_made : (world : World) (s : Step) (file : WinFile) → s ≡ step.Make file → MayStep world s → world_is_full world ≡ false
+may_made : (world : World) (s : Step) (file : WinFile) → s ≡ step.Make file → MayStep world s
+    → world_is_full world ≡ false
 may_made world (step.Found n) file e h = absurd cc
 may_made world (step.Make other) file e h = h
 may_made world step.NotFound file e h = absurd cc
@@ -82,7 +87,9 @@ may_made world step.NotDir file e h = absurd cc
 may_made world step.Deleted file e h = absurd cc
 may_made world step.Windows file e h = absurd cc
 
-pub makes_in_room : (world : World) (ports : List (List ℕ)) (n : Node) (name : List ℕ) (last : Bool) (file : WinFile) → walk_one world ports n name last ≡ step.Make file → world_is_full world ≡ false
-makes_in_room world ports n name last file e = may_made world (walk_one world ports n name last) file e (may_walk world ports n name last)
+pub makes_in_room : (world : World) (ports : List (List ℕ)) (n : Node) (name : List ℕ) (last : Bool) (file : WinFile)
+    → walk_one world ports n name last ≡ step.Make file → world_is_full world ≡ false
+makes_in_room world ports n name last file e = may_made world (walk_one world ports n name last) file e
+    (may_walk world ports n name last)
 
 pub ruleset courses = (one_more, no_more, append_assoc, append-nil, makes_in_room)

@@ -1,5 +1,6 @@
 -- The entries of directories, one by one.
-use Rattle.std.proofs.Common.{◌≡◌, ℕ, zero, suc, ◌+◌, ◌-◌, ◌<◌, ◌≤◌, ◌^◌, List, [], ◌∷◌, ◌++◌, length, take, min, Some, None, refl, sym, ap, ◌∙◌, arith}
+use Rattle.std.proofs.Common.{◌≡◌, ℕ, zero, suc, ◌+◌, ◌-◌, ◌<◌, ◌≤◌, ◌^◌, List, [], ◌∷◌, ◌++◌, length, take, min, Some}
+use Rattle.std.proofs.Common.{None, refl, sym, ap, ◌∙◌, arith}
 use Rattle.std.specs.Prelude.{slice_get}
 use Rattle.std.proofs.lemmas.List.{length-take}
 use Rattle.std.proofs.lemmas.Option.{slice_get_past, slice_get-map}
@@ -15,7 +16,8 @@ in_front [] rest k h = absurd (omega (arith, h))
 in_front (n ∷ front) rest zero h = refl
 in_front (n ∷ front) rest (suc k) h = in_front front rest k (omega (arith, h))
 
-behind : (front rest : List Node) (k : ℕ) → length front ≤ k → slice_get rest (k - length front) ≡ slice_get (front ++ rest) k
+behind : (front rest : List Node) (k : ℕ) → length front ≤ k → slice_get rest
+    (k - length front) ≡ slice_get (front ++ rest) k
 behind [] rest k h = ap (slice_get rest) (omega arith)
 behind (n ∷ front) rest zero h = absurd (omega (arith, h))
 behind (n ∷ front) rest (suc k) h =
@@ -36,7 +38,8 @@ plumber_behind rest k h = behind plumber_front rest k (omega (arith, h))
 
 -- ---- ports
 
-port_from : (j i : ℕ) (names : List (List ℕ)) → i < length names → Some (Port (j + i)) ≡ slice_get (ports_from j names) i
+port_from : (j i : ℕ) (names : List (List ℕ)) → i < length names → Some (Port (j + i)) ≡ slice_get (ports_from j names)
+    i
 port_from j i [] h = absurd (omega (arith, h))
 port_from j zero (n ∷ names) h = ap (λ (k : ℕ). Some (Port k)) (omega arith)
 port_from j (suc i) (n ∷ names) h =
@@ -47,13 +50,29 @@ length-ports : (j : ℕ) (names : List (List ℕ)) → length (ports_from j name
 length-ports j [] = refl
 length-ports j (n ∷ names) = omega (arith, length-ports (j + 1) names)
 
-pub is_port : (names : List (List ℕ)) (k : ℕ) → k < min (length names) (2 ^ 32) → Some (Port k) ≡ slice_get (ports_from 0 (take (2 ^ 32) names)) k
+pub is_port : (names : List (List ℕ)) (k : ℕ) → k < min (length names) (2 ^ 32)
+    → Some (Port k) ≡ slice_get (ports_from 0 (take (2 ^ 32) names)) k
 is_port names k h =
     let e : k ≡ 0 + k = omega arith in
     ap (λ (i : ℕ). Some (Port i)) e ∙ port_from 0 k (take (2 ^ 32) names) (omega (arith, h, length-take (2 ^ 32) names))
 
-pub no_port : (names : List (List ℕ)) (k : ℕ) → min (length names) (2 ^ 32) ≤ k → None ≡ slice_get (ports_from 0 (take (2 ^ 32) names)) k
+pub no_port : (names : List (List ℕ)) (k : ℕ) → min (length names) (2 ^ 32) ≤ k
+    → None ≡ slice_get (ports_from 0 (take (2 ^ 32) names)) k
 no_port names k h =
-    sym (slice_get_past (ports_from 0 (take (2 ^ 32) names)) k (omega (arith, h, length-take (2 ^ 32) names, length-ports 0 (take (2 ^ 32) names))))
+    sym (slice_get_past (ports_from 0 (take (2 ^ 32) names)) k (omega (
+      arith,
+      h,
+      length-take (2 ^ 32) names,
+      length-ports 0 (take (2 ^ 32) names),
+    )))
 
-pub ruleset placed = (root_fixed, root_behind, plumber_fixed, plumber_behind, is_port, no_port, slice_get_past, slice_get-map)
+pub ruleset placed = (
+  root_fixed,
+  root_behind,
+  plumber_fixed,
+  plumber_behind,
+  is_port,
+  no_port,
+  slice_get_past,
+  slice_get-map,
+)

@@ -1,5 +1,6 @@
 -- The names of the ports have records.
-use Rattle.std.proofs.Common.{◌≡◌, ℕ, zero, suc, ◌<◌, ◌≤◌, Bool, true, false, cond, eqb, leb, ◌&&◌, ◌||◌, not, List, [], ◌∷◌, length, refl, arith, inl, inr, ◌⊎◌}
+use Rattle.std.proofs.Common.{◌≡◌, ℕ, zero, suc, ◌<◌, ◌≤◌, Bool, true, false, cond, eqb, leb, ◌&&◌, ◌||◌, not, List, []}
+use Rattle.std.proofs.Common.{◌∷◌, length, refl, arith, inl, inr, ◌⊎◌}
 use Rattle.std.specs.Prelude.{All, IsAscii}
 use Rattle.std.specs.List.{list_all, list_any}
 use Rattle.std.specs.Int.{is_in_range}
@@ -34,7 +35,11 @@ in_range lo hi c some small e =
     record { some = omega (arith, some, leb-true lo c h.0); small = omega (arith, small, leb-true c hi h.1) }
 
 same : (n c : ℕ) → 0 < n → n < 128 → eqb c n ≡ true → IsLetter c
-same n c some small e = record { some = omega (arith, some, eqb-true c n e); small = omega (arith, small, eqb-true c n e) }
+same n c some small e = record {
+  some = omega (arith, some, eqb-true c n e);
+  small =
+      omega (arith, small, eqb-true c n e);
+}
 
 name_letter : (c : ℕ) → is_name_rune c ≡ true → IsLetter c
 name_letter c e =
@@ -67,7 +72,8 @@ ascii (c ∷ cs) e zero = omega (arith, (port_letter c (both_hold (is_port_rune 
 ascii (c ∷ cs) e (suc i) = ascii cs (both_hold (is_port_rune c) (list_all is_port_rune cs) e).1 i
 
 not_zero : (c : ℕ) → 0 < c → eqb c 0 ≡ false
-not_zero c some = false_from_ne_true (eqb c 0) (λ e. let none : c ≡ 0 = eqb-true c 0 e in absurd (omega (arith, none, some)))
+not_zero c some = false_from_ne_true (eqb c 0) (λ e. let none : c ≡ 0 = eqb-true c 0 e in
+    absurd (omega (arith, none, some)))
 
 no_nul : (name : List ℕ) → list_all is_port_rune name ≡ true → list_any (λ b. eqb b 0) name ≡ false
 no_nul [] e = refl
@@ -90,9 +96,11 @@ first_of_both false b e = absurd cc
 pub port_named : (name : List ℕ) → is_port_name name ≡ true → IsName name
 unfolding is_port_name
 port_named name e =
-    let h = first_of_both (leb 1 (length name) && leb (length name) 64) (list_all is_port_rune name && not (is_taken name)) e in
+    let h = first_of_both (leb 1 (length name) && leb (length name) 64)
+    (list_all is_port_rune name && not (is_taken name)) e in
     let few = both_hold (leb 1 (length name)) (leb (length name) 64) h.0 in
-    letters_named name (leb-true (length name) 64 few.1) (both_hold (list_all is_port_rune name) (not (is_taken name)) h.1).0
+    letters_named name (leb-true (length name) 64 few.1) (both_hold (list_all is_port_rune name) (not (is_taken name))
+    h.1).0
 
 pub ports_named : (names : List (List ℕ)) → list_all is_port_name names ≡ true → All IsName names
 ports_named [] e = All-nil IsName

@@ -1,5 +1,6 @@
 -- What opening a file changes can be done.
-use Rattle.std.proofs.Common.{◌≡◌, ℕ, Bool, true, false, cond, List, [], ◌∷◌, Option, Some, None, refl, sym, subst, arith}
+use Rattle.std.proofs.Common.{◌≡◌, ℕ, Bool, true, false, cond, List, [], ◌∷◌, Option, Some, None, refl, sym, subst}
+use Rattle.std.proofs.Common.{arith}
 use Rattle.std.specs.Prelude.{not, IsSome}
 use Rattle.acme_tree.specs.Trees.{is_live}
 use Rattle.acme_tree.specs.declared.node.Node.{Node}
@@ -26,18 +27,23 @@ use Rattle.core_fids.specs.declared.effect.Demand.{Demand}
 use Rattle.core_fids.specs.Servers.{ServerState, world_by}
 use Rattle.core_fids.specs.Opening.{sets_first, open_below, opening_changes, opening_demand, open_refusal}
 
-first_can : (windows : List (Option Window)) (w : ℕ) (s : Setting) (b : Bool) → IsSome (window_at windows w) → CanSet (text_in (window_at windows w)) s → CanBeMade windows (cond b [] (change.Sets w s ∷ []))
+first_can : (windows : List (Option Window)) (w : ℕ) (s : Setting) (b : Bool) → IsSome (window_at windows w)
+    → CanSet (text_in (window_at windows w)) s → CanBeMade windows (cond b [] (change.Sets w s ∷ []))
 first_can windows w s true h k at = tt
 first_can windows w s false h k at = (record { lives = h; inside = k }, tt)
 
-sets_possible : (windows : List (Option Window)) (tables : Tables) (w : ℕ) (f : WinFile) (s : Setting) → IsSome (window_at windows w) → CanSet (text_in (window_at windows w)) s → CanBeMade windows (sets_first tables w f s)
+sets_possible : (windows : List (Option Window)) (tables : Tables) (w : ℕ) (f : WinFile) (s : Setting)
+    → IsSome (window_at windows w) → CanSet (text_in (window_at windows w)) s
+    → CanBeMade windows (sets_first tables w f s)
 sets_possible windows tables w f s h k = first_can windows w s (open_below tables w f 64) h k
 
-opens : (windows : List (Option Window)) (tables : Tables) (c : Content) → LivesIn windows c → CanBeMade windows (opening_changes tables c)
+opens : (windows : List (Option Window)) (tables : Tables) (c : Content) → LivesIn windows c
+    → CanBeMade windows (opening_changes tables c)
 opens windows tables content.Directory h at = tt
 opens windows tables (content.BodyText w) h at = tt
 opens windows tables (content.TagText w) h at = tt
-opens windows tables (content.AddrText w) h at = sets_possible windows tables w file.Addr (setting.Addr null_range) h (record { order = omega arith; bounds = omega arith }) at
+opens windows tables (content.AddrText w) h at = sets_possible windows tables w file.Addr (setting.Addr null_range) h
+    (record { order = omega arith; bounds = omega arith }) at
 opens windows tables (content.DataOf w) h at = tt
 opens windows tables (content.XdataOf w) h at = tt
 opens windows tables (content.CtlText w) h at = sets_possible windows tables w file.Ctl setting.NoLimit h tt at
@@ -50,7 +56,8 @@ opens windows tables content.SendText h at = tt
 opens windows tables content.RulesText h at = tt
 opens windows tables (content.PortOf k) h at = tt
 
-file_lives : (windows : List (Option Window)) (w : ℕ) (f : WinFile) → IsSome (window_at windows w) → LivesIn windows (content_of (node.File w f))
+file_lives : (windows : List (Option Window)) (w : ℕ) (f : WinFile) → IsSome (window_at windows w)
+    → LivesIn windows (content_of (node.File w f))
 file_lives windows w file.Addr h = h
 file_lives windows w file.Body h = h
 file_lives windows w file.Ctl h = h
@@ -60,7 +67,8 @@ file_lives windows w file.Event h = h
 file_lives windows w file.Tag h = h
 file_lives windows w file.Xdata h = h
 
-node_lives : (windows : List (Option Window)) (ports : List (List ℕ)) (n : Node) → is_live (world_of windows) ports n ≡ true → LivesIn windows (content_of n)
+node_lives : (windows : List (Option Window)) (ports : List (List ℕ)) (n : Node)
+    → is_live (world_of windows) ports n ≡ true → LivesIn windows (content_of n)
 node_lives windows ports node.Root h = tt
 node_lives windows ports node.Cons h = tt
 node_lives windows ports node.ConsCtl h = tt
@@ -85,10 +93,12 @@ pub opens_possible : (server : ServerState) (mode : ℕ) (fid : Fid) (cs : List 
 opens_possible server mode fid cs h e =
     let live : is_live (world_by server) server.plumber.names fid.node ≡ true = not_dead _ _ h in
     subst (CanBeMade server.windows) (sym e)
-    (opens server.windows server.tables (content_of fid.node) (node_lives server.windows server.plumber.names fid.node live))
+    (opens server.windows server.tables (content_of fid.node) (node_lives server.windows server.plumber.names fid.node
+    live))
 
 -- what it asks of the scene it asks of no window
-asks_none : (windows : List (Option Window)) (empties : Bool) (c : Content) → IsOfLiving windows (opening_demand empties c)
+asks_none : (windows : List (Option Window)) (empties : Bool) (c : Content)
+    → IsOfLiving windows (opening_demand empties c)
 asks_none windows true content.Directory = tt
 asks_none windows true (content.BodyText w) = tt
 asks_none windows true (content.TagText w) = tt
@@ -106,5 +116,6 @@ asks_none windows true content.RulesText = tt
 asks_none windows true (content.PortOf k) = tt
 asks_none windows false c = tt
 
-pub opening_asks : (windows : List (Option Window)) (empties : Bool) (c : Content) (d : Demand) → d ≡ opening_demand empties c → IsOfLiving windows d
+pub opening_asks : (windows : List (Option Window)) (empties : Bool) (c : Content) (d : Demand)
+    → d ≡ opening_demand empties c → IsOfLiving windows d
 opening_asks windows empties c d e = subst (IsOfLiving windows) (sym e) (asks_none windows empties c)

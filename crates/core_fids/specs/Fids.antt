@@ -1,5 +1,6 @@
 -- Fids: which numbers may be given, and what a message makes of a fid.
-use Rattle.std.specs.Prelude.{ℕ, ◌-◌, ◌^◌, Bool, true, false, ◌&&◌, ◌==◌, not, nat_le, min, List, [], ◌++◌, length, Option, Some, None}
+use Rattle.std.specs.Prelude.{ℕ, ◌-◌, ◌^◌, Bool, true, false, ◌&&◌, ◌==◌, not, nat_le, min, List, [], ◌++◌, length}
+use Rattle.std.specs.Prelude.{Option, Some, None}
 use Rattle.am_text.specs.Part.{part_of}
 use Rattle.am_text.specs.declared.part.Part.{Part}
 use Rattle.acme_tree.specs.declared.node.Node.{Node}
@@ -19,9 +20,9 @@ is_there (Some a) = true
 abbrev pub is_used : Tables → ℕ → ℕ → Bool
 is_used tables conn number = is_there (fid_of tables conn number)
 
--- a connection has 1,024 fids at most
+-- a connection can't have more fids
 abbrev pub fids_full : Tables → ℕ → Bool
-fids_full tables conn = nat_le max_fids (length (fids_of tables conn))
+fids_full tables conn = nat_le (max_fids tables.format) (length (fids_of tables conn))
 
 -- a fid of a node, not opened
 abbrev pub fresh : Node → Fid

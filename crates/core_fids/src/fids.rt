@@ -2,12 +2,16 @@
 
 ghost use Rattle.std.specs.Prelude.{◌≡◌, ◌+◌, ◌≤◌, IfOk, length};
 ghost use Rattle.am_text.specs.Part.{part_bytes};
+ghost use Rattle.core_fids.specs.Limits.{max_fids};
 ghost use Rattle.core_fids.specs.Servers.{tables_in};
-ghost use Rattle.core_fids.specs.Fids.{is_used, fids_full, fresh, is_open, is_for_reading, is_for_writing, event_opening, port_opening, opened_fid, fid_with_part, held_with, emptied_fid, is_rules, holds_rules, placed_fid};
+ghost use Rattle.core_fids.specs.Fids.{is_used, fids_full, fresh, is_open, is_for_reading, is_for_writing};
+ghost use Rattle.core_fids.specs.Fids.{event_opening, port_opening, opened_fid, fid_with_part, held_with, emptied_fid};
+ghost use Rattle.core_fids.specs.Fids.{is_rules, holds_rules, placed_fid};
 
 use crate::directory::DirPart;
 use crate::server::Server;
 use acme_tree::{Node, WinFile};
+use am_journal::Format;
 use am_text::{NoMemory, Part};
 use fid_table::{Fid, Held};
 use std::alloc::Global;
@@ -19,8 +23,15 @@ const FOR_READING: u8 = 0;
 
 const FOR_WRITING: u8 = 1;
 
-/// The most fids that a connection may have.
-const MAX_FIDS: usize = 1024;
+// The most fids that a connection may have.
+fn max_fids(format: Format) -> usize
+    ensures { result ≡ max_fids format }
+{
+    match format {
+        Format::One => 1024,
+        Format::Two => 16_384,
+    }
+}
 
 /// Whether the number is in use.
 pub(crate) fn is_used(server: &Server, number: u32) -> bool
@@ -33,7 +44,7 @@ pub(crate) fn is_used(server: &Server, number: u32) -> bool
 pub(crate) fn fids_full(server: &Server) -> bool
     ensures { result ≡ fids_full (tables_in server.now) server.now.conn }
 {
-    server.sessions.count(server.conn) >= MAX_FIDS
+    server.sessions.count(server.conn) >= max_fids(server.sessions.format())
 }
 
 /// A fid of a node, not opened.

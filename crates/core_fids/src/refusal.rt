@@ -23,7 +23,7 @@ pub enum Refusal {
     BadFid,
     /// The number is in use.
     FidInUse,
-    /// The connection has 1,024 fids.
+    /// The connection has 1,024 fids, in format 2 16,384.
     TooManyFids,
     /// No tree has this name.
     NoSuchTree,
@@ -47,7 +47,7 @@ pub enum Refusal {
     BadOpenMode,
     /// The file isn't for this.
     PermissionDenied,
-    /// The connection has 64 reads that wait.
+    /// The connection has 64 reads that wait, in format 2 256.
     TooManyWaitingReads,
     /// The fid of a waiting read was freed.
     FidClunked,

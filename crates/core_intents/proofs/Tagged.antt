@@ -11,7 +11,8 @@ word_len : (b : Bool) (word : List ℕ) (n : ℕ) → length word ≡ n → leng
 word_len true word n e = e
 word_len false word n e = refl
 
-pub tag_len : (name right : List ℕ) (s : Shown) → length (tag_text (record { name = name; right = right }) s) ≡ length name + words_len name s + length right
+pub tag_len : (name right : List ℕ) (s : Shown) → length (tag_text (record { name = name; right = right }) s)
+    ≡ length name + words_len name s + length right
 unfolding tag_text
 tag_len name right s =
     let t : Tag = record { name = name; right = right } in
@@ -41,8 +42,10 @@ tag_len name right s =
     )
 
 -- a place in the tag, by its length
-pub tag_place : (b : Bool) (place first words last : ℕ) (name right : List ℕ) (s : Shown) → b ≡ nat_le place (first + words + last) → first ≡ length name → words ≡ words_len name s → last ≡ length right
+pub tag_place : (b : Bool) (place first words last : ℕ) (name right : List ℕ) (s : Shown)
+    → b ≡ nat_le place (first + words + last) → first ≡ length name → words ≡ words_len name s → last ≡ length right
     → b ≡ nat_le place (length (tag_text (record { name = name; right = right }) s))
 tag_place b place first words last name right s is f w l =
-    is ∙ ap (λ (n : ℕ). nat_le place (n + words + last)) f ∙ ap (λ (n : ℕ). nat_le place (length name + n + last)) w ∙ ap (λ (n : ℕ). nat_le place (length name + words_len name s + n)) l
+    is ∙ ap (λ (n : ℕ). nat_le place (n + words + last)) f ∙ ap (λ (n : ℕ). nat_le place (length name + n + last)) w
+    ∙ ap (λ (n : ℕ). nat_le place (length name + words_len name s + n)) l
     ∙ ap (nat_le place) (sym (tag_len name right s))

@@ -4,3 +4,4 @@ pub mod Origins
 pub mod Spots
 pub mod Intents
 pub mod Doings
+pub mod Users

@@ -7,6 +7,8 @@ mod may_come;
 mod origin;
 mod spot;
 mod typing;
+mod users;
 
 pub use intent::{Intent, answer_or, intent_of, with_held};
 pub use may_come::why_not;
+pub use users::user_of;

@@ -1,5 +1,7 @@
 -- Each message is answered in its step, or is a read that waits.
-use Rattle.std.proofs.Common.{◌≡◌, ◌⊎◌, inl, inr, ℕ, ◌+◌, Bool, true, false, cond, eqb, ◌&&◌, ◌||◌, List, [], ◌∷◌, ◌++◌, slice_index_or, Option, Some, None, All, refl, sym, ap, subst, ◌∙◌, append_assoc, append-nil, arith}
+use Rattle.std.proofs.Common.{◌≡◌, ◌⊎◌, inl, inr, ℕ, ◌+◌, Bool, true, false, cond, eqb, ◌&&◌, ◌||◌, List, [], ◌∷◌, ◌++◌}
+use Rattle.std.proofs.Common.{slice_index_or, Option, Some, None, All, refl, sym, ap, subst, ◌∙◌, append_assoc}
+use Rattle.std.proofs.Common.{append-nil, arith}
 use Rattle.std.specs.List.{list_any}
 use Rattle.std.proofs.lemmas.Bool.{both_ways, false_from_ne_true, true_from_ne_false, or_from}
 use Rattle.std.proofs.lemmas.Bool.Decides.{nat_tests}
@@ -56,12 +58,14 @@ use Rattle.acme_core.specs.Laws.{HasAnswer, EachIsAnswered}
 use Rattle.core_intents.specs.Origins.{message_origin}
 use Rattle.acme_core.specs.Run.{step, run, present_after, enabled}
 use Rattle.core_steps.specs.PortReads.{port_read_in, if_port_said, asked_said, asked_ports}
-use Rattle.core_steps.specs.Stages.{response, asker_of, if_said, answer_said, answer_book, acted, with_fid, read_tables, read_book, put_book, open_ports, said, tables_after}
+use Rattle.core_steps.specs.Stages.{response, asker_of, if_said, answer_said, answer_book, acted, with_fid, read_tables}
+use Rattle.core_steps.specs.Stages.{read_book, put_book, open_ports, said, tables_after}
 use Rattle.core_parts.specs.States.{Present, State, present, next_entry}
 use Rattle.acme_core.proofs.Goes.{run-push}
 use Rattle.acme_core.proofs.Idling.{run_idle, ports_idle_after}
 use Rattle.core_steps.proofs.Idling.{silent}
-use Rattle.core_laws.specs.Answered.{IsAnswerTo, TellsAWait, SaysOnce, ReadsOnce, event_read, port_read, IsAnsweredBy, MessagesAreAnswered}
+use Rattle.core_laws.specs.Answered.{IsAnswerTo, TellsAWait, SaysOnce, ReadsOnce, event_read, port_read, IsAnsweredBy}
+use Rattle.core_laws.specs.Answered.{MessagesAreAnswered}
 use Rattle.core_laws.specs.Saying.{said_after, is_told}
 use Rattle.core_laws.specs.Waits.{WaitsAreTied}
 use Rattle.core_laws.proofs.Answering.{message_reads, message_reads_port}
@@ -89,7 +93,8 @@ or_first false b h = absurd cc
 
 -- a read with this tag waits on this connection, in one of the three lists
 abbrev waits_with : State → ℕ → ℕ → Bool
-waits_with s conn tag = list_any (is_waiting conn tag) s.tables.waiting || (list_any (is_read conn tag) s.scene.book.reads || list_any (is_read conn tag) s.scene.ports.reads)
+waits_with s conn tag = list_any (is_waiting conn tag) s.tables.waiting
+    || (list_any (is_read conn tag) s.scene.book.reads || list_any (is_read conn tag) s.scene.ports.reads)
 
 abbrev Waited : State → ℕ → ℕ → Type 0
 Waited s conn tag = waits_with s conn tag ≡ true
@@ -97,44 +102,55 @@ Waited s conn tag = waits_with s conn tag ≡ true
 waiting_waits : (s : State) → All (λ (w : Waiting). Waited s w.conn w.tag) s.tables.waiting
 waiting_waits s k d h =
     let w : Waiting = slice_index_or s.tables.waiting k d in
-    or_first (list_any (is_waiting w.conn w.tag) s.tables.waiting) (list_any (is_read w.conn w.tag) s.scene.book.reads || list_any (is_read w.conn w.tag) s.scene.ports.reads)
+    or_first (list_any (is_waiting w.conn w.tag) s.tables.waiting)
+    (list_any (is_read w.conn w.tag) s.scene.book.reads || list_any (is_read w.conn w.tag) s.scene.ports.reads)
     (list_any_at (is_waiting w.conn w.tag) s.tables.waiting k d h (same_key w.conn w.tag))
 
 reading_waits : (s : State) → All (λ (x : Asker). Waited s x.conn x.tag) s.scene.book.reads
 reading_waits s k d h =
     let x : Asker = slice_index_or s.scene.book.reads k d in
-    or_second (list_any (is_waiting x.conn x.tag) s.tables.waiting) (list_any (is_read x.conn x.tag) s.scene.book.reads || list_any (is_read x.conn x.tag) s.scene.ports.reads)
+    or_second (list_any (is_waiting x.conn x.tag) s.tables.waiting)
+    (list_any (is_read x.conn x.tag) s.scene.book.reads || list_any (is_read x.conn x.tag) s.scene.ports.reads)
     (or_first (list_any (is_read x.conn x.tag) s.scene.book.reads) (list_any (is_read x.conn x.tag) s.scene.ports.reads)
     (list_any_at (is_read x.conn x.tag) s.scene.book.reads k d h (same_key x.conn x.tag)))
 
 porting_waits : (s : State) → All (λ (x : Asker). Waited s x.conn x.tag) s.scene.ports.reads
 porting_waits s k d h =
     let x : Asker = slice_index_or s.scene.ports.reads k d in
-    or_second (list_any (is_waiting x.conn x.tag) s.tables.waiting) (list_any (is_read x.conn x.tag) s.scene.book.reads || list_any (is_read x.conn x.tag) s.scene.ports.reads)
-    (or_second (list_any (is_read x.conn x.tag) s.scene.book.reads) (list_any (is_read x.conn x.tag) s.scene.ports.reads)
+    or_second (list_any (is_waiting x.conn x.tag) s.tables.waiting)
+    (list_any (is_read x.conn x.tag) s.scene.book.reads || list_any (is_read x.conn x.tag) s.scene.ports.reads)
+    (or_second (list_any (is_read x.conn x.tag) s.scene.book.reads)
+    (list_any (is_read x.conn x.tag) s.scene.ports.reads)
     (list_any_at (is_read x.conn x.tag) s.scene.ports.reads k d h (same_key x.conn x.tag)))
 
 -- ---- what is said besides the answer
 
-waited_book : (s : State) → AreIdle [] s.entries s.scene.book → IsBook (Reading (Waited s)) (next_entry (present s)) s.scene.book
+waited_book : (s : State) → AreIdle [] s.entries s.scene.book → IsBook (Reading (Waited s)) (next_entry (present s))
+    s.scene.book
 waited_book s idle = record { lawful = idle.lawful; latest = omega (arith, idle.latest); reads = reading_waits s }
 
-waited_put : (s : State) (conn tag : ℕ) (d : Doing) (body : RBody) → d.answer ≡ Some (Says body) → AreIdle [] s.entries s.scene.book
+waited_put : (s : State) (conn tag : ℕ) (d : Doing) (body : RBody) → d.answer ≡ Some (Says body)
+    → AreIdle [] s.entries s.scene.book
     → IsBook (Reading (Waited s)) (next_entry (present s)) (put_book (present s) (kind.Asks conn tag) d)
 waited_put s conn tag d body is idle =
     let p : Present = present s in
     let read : BookState = read_book p (kind.Asks conn tag) d in
-    let same : read ≡ s.scene.book = ap (λ (a : Option Answer). answer_book (with_fid p (kind.Asks conn tag) d) s.scene.book conn tag a (next_entry p)) is in
-    let book : IsBook (Reading (Waited s)) (next_entry p) read = subst (IsBook (Reading (Waited s)) (next_entry p)) (sym same) (waited_book s idle) in
-    book_put_living (Reading (Waited s)) (next_entry p) (deleted_by d.deeds) (opened read d.events) (acted p d).items (book_opened (Reading (Waited s)) (next_entry p) read d.events book)
+    let same : read ≡ s.scene.book = ap (λ (a : Option Answer). answer_book (with_fid p (kind.Asks conn tag) d)
+    s.scene.book conn tag a (next_entry p)) is in
+    let book : IsBook (Reading (Waited s)) (next_entry p) read = subst (IsBook (Reading (Waited s)) (next_entry p))
+    (sym same) (waited_book s idle) in
+    book_put_living (Reading (Waited s)) (next_entry p) (deleted_by d.deeds) (opened read d.events) (acted p d).items
+    (book_opened (Reading (Waited s)) (next_entry p) read d.events book)
 
-waited_open : (s : State) (conn tag : ℕ) (d : Doing) (body : RBody) → d.answer ≡ Some (Says body) → All (Reading (Waited s)) (open_ports (present s) (kind.Asks conn tag) d).reads
+waited_open : (s : State) (conn tag : ℕ) (d : Doing) (body : RBody) → d.answer ≡ Some (Says body)
+    → All (Reading (Waited s)) (open_ports (present s) (kind.Asks conn tag) d).reads
 waited_open s conn tag d body is =
     let p : Present = present s in
     let k = kind.Asks conn tag in
     let own : Asker → Type 0 = Reading (Waited s) in
     joined_reads own (asked_ports (read_tables p k d) (acted p d).ports (port_read_in conn tag d.answer)) d.events
-    (subst (λ (a : Option Answer). All own (asked_ports (read_tables p k d) (acted p d).ports (port_read_in conn tag a)).reads) (sym is)
+    (subst (λ (a : Option Answer). All own (asked_ports (read_tables p k d) (acted p d).ports
+    (port_read_in conn tag a)).reads) (sym is)
     (acted_reads own (entry_of p d) p.scene d.deeds (porting_waits s)))
 
 -- what is said before the answer, and behind it
@@ -142,13 +158,16 @@ abbrev front_of : Present → ℕ → Doing → List Response
 front_of s conn d = clunked s.tables conn d.effect
 
 abbrev rest_of : Present → ℕ → ℕ → Doing → List Response
-rest_of s conn tag d = deletions s.tables (deleted_by d.deeds) ++ served_all (next_entry s) (put_book s (kind.Asks conn tag) d) ++ ports_served (open_ports s (kind.Asks conn tag) d)
+rest_of s conn tag d = deletions s.tables (deleted_by d.deeds) ++ served_all (next_entry s)
+    (put_book s (kind.Asks conn tag) d) ++ ports_served (open_ports s (kind.Asks conn tag) d)
 
 -- the event files and the ports have no others than the sessions
-waited_there : (s : State) (conn tag : ℕ) → WaitsAreTied s → Waited s conn tag → list_any (is_waiting conn tag) s.tables.waiting ≡ true
+waited_there : (s : State) (conn tag : ℕ) → WaitsAreTied s → Waited s conn tag
+    → list_any (is_waiting conn tag) s.tables.waiting ≡ true
 waited_there s conn tag tied waits =
     true_from_ne_false (list_any (is_waiting conn tag) s.tables.waiting) (λ none. both_ways (waits_with s conn tag)
-    (or_from (list_any (is_waiting conn tag) s.tables.waiting) (list_any (is_read conn tag) s.scene.book.reads || list_any (is_read conn tag) s.scene.ports.reads) none
+    (or_from (list_any (is_waiting conn tag) s.tables.waiting) (list_any (is_read conn tag) s.scene.book.reads
+    || list_any (is_read conn tag) s.scene.ports.reads) none
     (or_from (list_any (is_read conn tag) s.scene.book.reads) (list_any (is_read conn tag) s.scene.ports.reads)
     (none_asks event_opening s.tables conn tag s.tables.waiting s.scene.book.reads tied.events none)
     (none_asks port_opening s.tables conn tag s.tables.waiting s.scene.ports.reads tied.ports none)))
@@ -159,20 +178,28 @@ TellsAny s x = Waited s x.conn x.message.tag
 
 -- with a tag that no read has which waits, or where nothing else is said
 abbrev IsAlone : State → ℕ → ℕ → Doing → Type 0
-IsAlone s conn tag d = (list_any (is_waiting conn tag) s.tables.waiting ≡ false) ⊎ (front_of (present s) conn d ++ rest_of (present s) conn tag d ≡ [])
+IsAlone s conn tag d = (list_any (is_waiting conn tag) s.tables.waiting ≡ false)
+    ⊎ (front_of (present s) conn d ++ rest_of (present s) conn tag d ≡ [])
 
-not_told : (s : State) (conn tag : ℕ) → list_any (is_waiting conn tag) s.tables.waiting ≡ false → (x : Response) → TellsAWait s x → is_told conn tag x ≡ false
+not_told : (s : State) (conn tag : ℕ) → list_any (is_waiting conn tag) s.tables.waiting ≡ false → (x : Response)
+    → TellsAWait s x → is_told conn tag x ≡ false
 not_told s conn tag none x tells =
-    false_from_ne_true (is_told conn tag x) (λ is. let key : (x.conn ≡ conn) × (x.message.tag ≡ tag) = key_parts x.conn x.message.tag conn tag is in
+    false_from_ne_true (is_told conn tag x) (λ is. let key : (x.conn ≡ conn)
+    × (x.message.tag ≡ tag) = key_parts x.conn x.message.tag conn tag is in
     both_ways (list_any (is_waiting conn tag) s.tables.waiting) none
-    (subst (λ (g : ℕ). list_any (is_waiting conn g) s.tables.waiting ≡ true) key.1 (subst (λ (c : ℕ). list_any (is_waiting c x.message.tag) s.tables.waiting ≡ true) key.0 tells)))
+    (subst (λ (g : ℕ). list_any (is_waiting conn g) s.tables.waiting ≡ true) key.1
+    (subst (λ (c : ℕ). list_any (is_waiting c x.message.tag) s.tables.waiting ≡ true) key.0 tells)))
 
-none_told : (s : State) (conn tag : ℕ) (d : Doing) → IsAlone s conn tag d → All (TellsAWait s) (front_of (present s) conn d ++ rest_of (present s) conn tag d)
+none_told : (s : State) (conn tag : ℕ) (d : Doing) → IsAlone s conn tag d
+    → All (TellsAWait s) (front_of (present s) conn d ++ rest_of (present s) conn tag d)
     → All (λ x. is_told conn tag x ≡ false) (front_of (present s) conn d ++ rest_of (present s) conn tag d)
-none_told s conn tag d (inl none) others = All-weaker (TellsAWait s) (λ x. is_told conn tag x ≡ false) (not_told s conn tag none) (front_of (present s) conn d ++ rest_of (present s) conn tag d) others
-none_told s conn tag d (inr empty) others = subst (All (λ (x : Response). is_told conn tag x ≡ false)) (sym empty) (All-nil (λ (x : Response). is_told conn tag x ≡ false))
+none_told s conn tag d (inl none) others = All-weaker (TellsAWait s) (λ x. is_told conn tag x ≡ false)
+    (not_told s conn tag none) (front_of (present s) conn d ++ rest_of (present s) conn tag d) others
+none_told s conn tag d (inr empty) others = subst (All (λ (x : Response). is_told conn tag x ≡ false)) (sym empty)
+    (All-nil (λ (x : Response). is_told conn tag x ≡ false))
 
-says_once : (s : State) (conn tag : ℕ) (d : Doing) (body : RBody) → WaitsAreTied s → d.answer ≡ Some (Says body) → AreIdle [] s.entries s.scene.book → IsAlone s conn tag d
+says_once : (s : State) (conn tag : ℕ) (d : Doing) (body : RBody) → WaitsAreTied s → d.answer ≡ Some (Says body)
+    → AreIdle [] s.entries s.scene.book → IsAlone s conn tag d
     → SaysOnce s conn tag body (said (present s) (kind.Asks conn tag) d)
 says_once s conn tag d body tied is idle alone =
     let p : Present = present s in
@@ -183,19 +210,25 @@ says_once s conn tag d body tied is idle alone =
     let later : List Response = ports_served (open_ports p k d) in
     let one : List Response = front ++ response conn tag body ∷ [] in
     let told_gone : All (TellsAny s) gone = tell_deletions (Waited s) s.tables (deleted_by d.deeds) (waiting_waits s) in
-    let told_served : All (TellsAny s) served = tell_served (Waited s) (next_entry p) (put_book p k d) (waited_put s conn tag d body is idle) in
-    let told_later : All (TellsAny s) later = tell_ports (Waited s) (open_ports p k d) (waited_open s conn tag d body is) in
+    let told_served : All (TellsAny s) served = tell_served (Waited s) (next_entry p) (put_book p k d)
+    (waited_put s conn tag d body is idle) in
+    let told_later : All (TellsAny s) later = tell_ports (Waited s) (open_ports p k d)
+    (waited_open s conn tag d body is) in
     let any : All (TellsAny s) (front ++ (gone ++ served ++ later)) =
-    All-append (TellsAny s) front (gone ++ served ++ later) (tell_clunked (Waited s) s.tables conn d.effect (waiting_waits s))
-    (All-append (TellsAny s) (gone ++ served) later (All-append (TellsAny s) gone served told_gone told_served) told_later)
+    All-append (TellsAny s) front (gone ++ served ++ later) (tell_clunked (Waited s) s.tables conn d.effect
+    (waiting_waits s))
+    (All-append (TellsAny s) (gone ++ served) later (All-append (TellsAny s) gone served told_gone told_served)
+    told_later)
     in
     let others : All (TellsAWait s) (front ++ (gone ++ served ++ later)) =
-    All-weaker (TellsAny s) (TellsAWait s) (λ x waits. waited_there s x.conn x.message.tag tied waits) (front ++ (gone ++ served ++ later)) any
+    All-weaker (TellsAny s) (TellsAWait s) (λ x waits. waited_there s x.conn x.message.tag tied waits)
+    (front ++ (gone ++ served ++ later)) any
     in
     record {
       front = front;
       rest = gone ++ served ++ later;
-      is = ap (λ (a : Option Answer). front ++ answer_said (with_fid p k d) s.scene.book conn tag a ++ asked_said (read_tables p k d) (acted p d).ports (port_read_in conn tag a) ++ gone ++ served ++ later) is
+      is = ap (λ (a : Option Answer). front ++ answer_said (with_fid p k d) s.scene.book conn tag a
+          ++ asked_said (read_tables p k d) (acted p d).ports (port_read_in conn tag a) ++ gone ++ served ++ later) is
           ∙ ap (λ (xs : List Response). xs ++ gone ++ served ++ later) (append-nil one)
           ∙ ap (λ (xs : List Response). xs ++ later) (append_assoc one gone served)
           ∙ append_assoc one (gone ++ served) later
@@ -206,11 +239,15 @@ says_once s conn tag d body tied is idle alone =
 
 -- a Tversion is answered alone
 version_alone : (before : List Event) (conn tag : ℕ) (o : Origin) (msize : Option ℕ) (body : RBody)
-    → front_of (present_after before) conn (message_doing (present_after before) (does (effect.Begins msize) [] body) o) ++ rest_of (present_after before) conn tag (message_doing (present_after before) (does (effect.Begins msize) [] body) o) ≡ []
+    → front_of (present_after before) conn (message_doing (present_after before) (does (effect.Begins msize) [] body) o)
+    ++ rest_of (present_after before) conn tag (message_doing (present_after before)
+    (does (effect.Begins msize) [] body) o) ≡ []
 unfolding task_deeds task_refusal
 version_alone before conn tag o msize body = silent_after before (next_entry (present_after before))
 
-alone_by : (before : List Event) (conn : ℕ) (msg : TMsg) → IsPlayed enabled before → enabled before (event.Msg conn msg) ≡ None → IsAlone (run before) conn msg.tag (doing_of (present_after before) (event.Msg conn msg))
+alone_by : (before : List Event) (conn : ℕ) (msg : TMsg) → IsPlayed enabled before
+    → enabled before (event.Msg conn msg) ≡ None → IsAlone (run before) conn msg.tag
+    (doing_of (present_after before) (event.Msg conn msg))
 alone_by before conn msg played allowed =
     let s : State = run before in
     let p : Present = present s in
@@ -218,7 +255,9 @@ alone_by before conn msg played allowed =
     elim (tag_or_version p conn msg allowed) as (λ z. IsAlone s conn msg.tag (doing_of p (event.Msg conn msg))) [
       | inl none ↦ inl none
       | inr version ↦
-          inr (on_version p conn (λ d. front_of p conn (message_doing p d o) ++ rest_of p conn msg.tag (message_doing p d o) ≡ []) (λ msize body. version_alone before conn msg.tag o msize body) msg.body version)
+          inr (on_version p conn (λ d. front_of p conn (message_doing p d o)
+          ++ rest_of p conn msg.tag (message_doing p d o) ≡ [])
+          (λ msize body. version_alone before conn msg.tag o msize body) msg.body version)
     ]
 
 -- ---- a read of an event file
@@ -227,112 +266,183 @@ alone_by before conn msg played allowed =
 reading : (s : Present) (o : Origin) (e : Effect) (v : EventChange) (cs : List Change) (m : Demand) (a read : Answer)
     → e ≡ effect.Nothing → v ≡ events.Nothing → cs ≡ [] → m ≡ demand.Nothing → a ≡ read
     → message_doing s (record { effect = e; events = v; changes = cs; demand = m; answer = a }) o
-    ≡ message_doing s (record { effect = effect.Nothing; events = events.Nothing; changes = []; demand = demand.Nothing; answer = read }) o
+    ≡ message_doing s (record {
+      effect = effect.Nothing;
+      events = events.Nothing;
+      changes = [];
+      demand = demand.Nothing;
+      answer = read;
+    }) o
 reading s o e v cs m a read fe fv fc fm fa =
     ap (λ (x : Effect). message_doing s (record { effect = x; events = v; changes = cs; demand = m; answer = a }) o) fe
-    ∙ ap (λ (x : EventChange). message_doing s (record { effect = effect.Nothing; events = x; changes = cs; demand = m; answer = a }) o) fv
-    ∙ ap (λ (x : List Change). message_doing s (record { effect = effect.Nothing; events = events.Nothing; changes = x; demand = m; answer = a }) o) fc
-    ∙ ap (λ (x : Demand). message_doing s (record { effect = effect.Nothing; events = events.Nothing; changes = []; demand = x; answer = a }) o) fm
-    ∙ ap (λ (x : Answer). message_doing s (record { effect = effect.Nothing; events = events.Nothing; changes = []; demand = demand.Nothing; answer = x }) o) fa
+    ∙ ap (λ (x : EventChange). message_doing s (record {
+      effect = effect.Nothing;
+      events = x;
+      changes = cs;
+      demand = m;
+      answer = a;
+    }) o) fv
+    ∙ ap (λ (x : List Change). message_doing s (record {
+      effect = effect.Nothing;
+      events = events.Nothing;
+      changes = x;
+      demand = m;
+      answer = a;
+    }) o) fc
+    ∙ ap (λ (x : Demand). message_doing s (record {
+      effect = effect.Nothing;
+      events = events.Nothing;
+      changes = [];
+      demand = x;
+      answer = a;
+    }) o) fm
+    ∙ ap (λ (x : Answer). message_doing s (record {
+      effect = effect.Nothing;
+      events = events.Nothing;
+      changes = [];
+      demand = demand.Nothing;
+      answer = x;
+    }) o) fa
 
 -- what such a reaction does
 abbrev plainly : Present → Origin → Answer → Doing
-plainly s o read = message_doing s (record { effect = effect.Nothing; events = events.Nothing; changes = []; demand = demand.Nothing; answer = read }) o
+plainly s o read = message_doing s (record {
+  effect = effect.Nothing;
+  events = events.Nothing;
+  changes = [];
+  demand =
+      demand.Nothing;
+  answer = read;
+}) o
 
 abbrev plain_read : Present → Origin → ℕ → ℕ → ℕ → Doing
 plain_read s o fid opening count = plainly s o (Reads fid opening count)
 
 read_served : (s : State) (t : Tables) (x : Asker) → AreIdle [] s.entries s.scene.book → s.scene.items ≡ []
-    → served_all (next_entry (present s)) (put_living [] (book_read t s.scene.book x (next_entry (present s))) s.scene.items) ≡ []
+    → served_all (next_entry (present s)) (put_living [] (book_read t s.scene.book x (next_entry (present s)))
+    s.scene.items) ≡ []
 read_served s t x idle none =
     let at : ℕ = next_entry (present s) in
-    let read : AreIdle [] at (book_read t s.scene.book x at) = read_idle [] at t s.scene.book x (idle_for [] s.entries at s.scene.book (omega arith) idle) in
+    let read : AreIdle [] at (book_read t s.scene.book x at) = read_idle [] at t s.scene.book x
+    (idle_for [] s.entries at s.scene.book (omega arith) idle) in
     silent at [] (book_read t s.scene.book x at) s.scene.items (idle_end at (book_read t s.scene.book x at) read) none
 
-plain_said : (s : State) (o : Origin) (conn tag fid opening count : ℕ) → AreIdle [] s.entries s.scene.book → ArePortsIdle s.scene.ports → s.scene.items ≡ []
-    → said (present s) (kind.Asks conn tag) (plain_read (present s) o fid opening count) ≡ if_said conn tag opening (read_said s.tables s.scene.book (asker_of conn tag opening count))
+plain_said : (s : State) (o : Origin) (conn tag fid opening count : ℕ) → AreIdle [] s.entries s.scene.book
+    → ArePortsIdle s.scene.ports → s.scene.items ≡ []
+    → said (present s) (kind.Asks conn tag) (plain_read (present s) o fid opening count) ≡ if_said conn tag opening
+    (read_said s.tables s.scene.book (asker_of conn tag opening count))
 unfolding task_deeds task_refusal
 plain_said s o conn tag fid opening count idle ports none =
-    let own : List Response = if_said conn tag opening (read_said s.tables s.scene.book (asker_of conn tag opening count)) in
-    ap (λ (xs : List Response). own ++ [] ++ [] ++ xs ++ ports_served s.scene.ports) (read_served s s.tables (asker_of conn tag opening count) idle none)
+    let own : List Response = if_said conn tag opening (read_said s.tables s.scene.book
+    (asker_of conn tag opening count)) in
+    ap (λ (xs : List Response). own ++ [] ++ [] ++ xs ++ ports_served s.scene.ports)
+    (read_served s s.tables (asker_of conn tag opening count) idle none)
     ∙ ap (λ (xs : List Response). own ++ [] ++ [] ++ [] ++ xs) (none_said s.scene.ports ports)
     ∙ append-nil (own ++ [] ++ [] ++ []) ∙ append-nil (own ++ [] ++ []) ∙ append-nil (own ++ []) ∙ append-nil own
 
 -- one that waits is among those that do
-one_waits : (t : Tables) (conn tag fid : ℕ) → list_any (is_waiting conn tag) (waits_unless None t conn tag fid).waiting ≡ true
+one_waits : (t : Tables) (conn tag fid : ℕ) → list_any (is_waiting conn tag)
+    (waits_unless None t conn tag fid).waiting ≡ true
 one_waits t conn tag fid =
     list_any-append (is_waiting conn tag) t.waiting (record { conn = conn; tag = tag; fid = fid } ∷ [])
-    ∙ or_second (list_any (is_waiting conn tag) t.waiting) ((eqb conn conn && eqb tag tag) || false) (or_first (eqb conn conn && eqb tag tag) false (same_key conn tag))
+    ∙ or_second (list_any (is_waiting conn tag) t.waiting) ((eqb conn conn && eqb tag tag) || false)
+    (or_first (eqb conn conn && eqb tag tag) false (same_key conn tag))
 
 -- nothing is said to one that must wait
-waits_for : (b : BookState) (x : Asker) (full waits : Bool) → said_to full (cond waits Waits (Now (piece_for b x))) ≡ None → waits ≡ true
+waits_for : (b : BookState) (x : Asker) (full waits : Bool) → said_to full
+    (cond waits Waits (Now (piece_for b x))) ≡ None → waits ≡ true
 waits_for b x full true h = refl
 waits_for b x true false h = absurd cc
 waits_for b x false false h = absurd cc
 
 must_wait_for : (t : Tables) (b : BookState) (x : Asker) (living : Bool)
-    → cond living (said_to (reads_are_full t x.conn) (asked_of b x)) (Some (r.Error (refusal_text refusal.WindowDeleted))) ≡ None → read_waits b x ≡ true
+    → cond living (said_to (reads_are_full t x.conn) (asked_of b x))
+    (Some (r.Error (refusal_text refusal.WindowDeleted))) ≡ None → read_waits b x ≡ true
 must_wait_for t b x true h = waits_for b x (reads_are_full t x.conn) (read_waits b x) h
 must_wait_for t b x false h = absurd cc
 
-plain_waits : (s : State) (o : Origin) (conn tag fid opening count : ℕ) → AreIdle [] s.entries s.scene.book → ArePortsIdle s.scene.ports → s.scene.items ≡ []
+plain_waits : (s : State) (o : Origin) (conn tag fid opening count : ℕ) → AreIdle [] s.entries s.scene.book
+    → ArePortsIdle s.scene.ports → s.scene.items ≡ []
     → read_said s.tables s.scene.book (asker_of conn tag opening count) ≡ None
-    → list_any (is_waiting conn tag) (tables_after (present s) (kind.Asks conn tag) (plain_read (present s) o fid opening count)).waiting ≡ true
+    → list_any (is_waiting conn tag) (tables_after (present s) (kind.Asks conn tag)
+    (plain_read (present s) o fid opening count)).waiting ≡ true
 unfolding task_deeds task_refusal
 plain_waits s o conn tag fid opening count idle ports none waits =
     let x : Asker = asker_of conn tag opening count in
     let d : Doing = plain_read (present s) o fid opening count in
-    let quiet : said (present s) (kind.Asks conn tag) d ≡ [] = plain_said s o conn tag fid opening count idle ports none ∙ ap (if_said conn tag opening) waits in
+    let quiet : said (present s) (kind.Asks conn tag) d ≡ [] = plain_said s o conn tag fid opening count idle ports none
+    ∙ ap (if_said conn tag opening) waits in
     let has : Tables → Type 0 = λ t. list_any (is_waiting conn tag) t.waiting ≡ true in
     let there : has (waits_unless None s.tables conn tag fid) = one_waits s.tables conn tag fid in
-    subst (λ (xs : List Response). has (ended (waits_unless (read_said s.tables s.scene.book x) s.tables conn tag fid) xs)) (sym quiet)
+    subst (λ (xs : List Response). has (ended (waits_unless (read_said s.tables s.scene.book x) s.tables conn tag fid)
+    xs)) (sym quiet)
     (subst (λ (o : Option RBody). has (waits_unless o s.tables conn tag fid)) (sym waits) there)
 
 -- what is said to one at once
 said_answers : (asked : TBody) (b : BookState) (x : Asker) (full waits : Bool) (body : RBody) → kind_t asked ≡ 116
     → said_to full (cond waits Waits (Now (piece_for b x))) ≡ Some body → IsAnswerTo asked body
-said_answers asked b x true true body tread is = let same : r.Error (refusal_text refusal.TooManyWaitingReads) ≡ body = cc in inr (refusal.TooManyWaitingReads, sym same)
+said_answers asked b x true true body tread is = let same : r.Error (refusal_text refusal.TooManyWaitingReads) ≡ body =
+    cc in inr (refusal.TooManyWaitingReads, sym same)
 said_answers asked b x false true body tread is = absurd cc
 said_answers asked b x true false body tread is =
-    let same : r.Read (piece_for b x).bytes ≡ body = cc in subst (IsAnswerTo asked) same (inl (ap (λ (n : ℕ). n + 1) (sym tread)))
+    let same : r.Read (piece_for b x).bytes ≡ body = cc in subst (IsAnswerTo asked) same
+    (inl (ap (λ (n : ℕ). n + 1) (sym tread)))
 said_answers asked b x false false body tread is =
-    let same : r.Read (piece_for b x).bytes ≡ body = cc in subst (IsAnswerTo asked) same (inl (ap (λ (n : ℕ). n + 1) (sym tread)))
+    let same : r.Read (piece_for b x).bytes ≡ body = cc in subst (IsAnswerTo asked) same
+    (inl (ap (λ (n : ℕ). n + 1) (sym tread)))
 
-read_answers : (asked : TBody) (t : Tables) (b : BookState) (x : Asker) (living : Bool) (body : RBody) → kind_t asked ≡ 116
-    → cond living (said_to (reads_are_full t x.conn) (asked_of b x)) (Some (r.Error (refusal_text refusal.WindowDeleted))) ≡ Some body → IsAnswerTo asked body
-read_answers asked t b x true body tread is = said_answers asked b x (reads_are_full t x.conn) (read_waits b x) body tread is
-read_answers asked t b x false body tread is = let same : r.Error (refusal_text refusal.WindowDeleted) ≡ body = cc in inr (refusal.WindowDeleted, sym same)
+read_answers : (asked : TBody) (t : Tables) (b : BookState) (x : Asker) (living : Bool) (body : RBody)
+    → kind_t asked ≡ 116
+    → cond living (said_to (reads_are_full t x.conn) (asked_of b x))
+    (Some (r.Error (refusal_text refusal.WindowDeleted))) ≡ Some body → IsAnswerTo asked body
+read_answers asked t b x true body tread is = said_answers asked b x (reads_are_full t x.conn) (read_waits b x) body
+    tread is
+read_answers asked t b x false body tread is = let same : r.Error (refusal_text refusal.WindowDeleted) ≡ body = cc in
+    inr (refusal.WindowDeleted, sym same)
 
 -- ---- each message
 
-stepped_tables : (s : State) (conn : ℕ) (msg : TMsg) → (step s (event.Msg conn msg)).tables ≡ tables_after (present s) (kind.Asks conn msg.tag) (doing_of (present s) (event.Msg conn msg))
+stepped_tables : (s : State) (conn : ℕ) (msg : TMsg) → (step s (event.Msg conn msg)).tables ≡ tables_after (present s)
+    (kind.Asks conn msg.tag) (doing_of (present s) (event.Msg conn msg))
 unfolding step
 stepped_tables s conn msg = refl
 
-read_by : (before : List Event) (conn : ℕ) (msg : TMsg) (o : Origin) (fid opening count : ℕ) (said_now : Option RBody) → kind_t msg.body ≡ 116
+read_by : (before : List Event) (conn : ℕ) (msg : TMsg) (o : Origin) (fid opening count : ℕ) (said_now : Option RBody)
+    → kind_t msg.body ≡ 116
     → doing_of (present_after before) (event.Msg conn msg) ≡ plain_read (present_after before) o fid opening count
     → read_said (run before).tables (run before).scene.book (asker_of conn msg.tag opening count) ≡ said_now
     → ReadsOnce before conn msg (event_read (run before) (asker_of conn msg.tag opening count)) said_now
 read_by before conn msg o fid opening count (Some body) asks does is =
     let s : State = run before in
     let all : said_after before (event.Msg conn msg) ≡ if_said conn msg.tag opening (Some body) =
-    ap (said (present s) (kind.Asks conn msg.tag)) does ∙ plain_said s o conn msg.tag fid opening count (run_idle before) (ports_idle_after before) (no_items before) ∙ ap (if_said conn msg.tag opening) is
-    in
-    (read_answers msg.body s.tables s.scene.book (asker_of conn msg.tag opening count) (is_living s.scene.book opening) body asks is, all)
+    ap (said (present s) (kind.Asks conn msg.tag)) does ∙ plain_said s o conn msg.tag fid opening count
+    (run_idle before) (ports_idle_after before) (no_items before) ∙ ap (if_said conn msg.tag opening) is
+    in (
+      read_answers msg.body s.tables s.scene.book (asker_of conn msg.tag opening count) (is_living s.scene.book opening)
+          body asks is,
+      all,
+    )
 read_by before conn msg o fid opening count None asks does is =
     let s : State = run before in
     let e : Event = event.Msg conn msg in
     let has : Tables → Type 0 = λ t. list_any (is_waiting conn msg.tag) t.waiting ≡ true in
     let left : has (tables_after (present s) (kind.Asks conn msg.tag) (doing_of (present s) e)) =
-    subst (λ (d : Doing). has (tables_after (present s) (kind.Asks conn msg.tag) d)) (sym does) (plain_waits s o conn msg.tag fid opening count (run_idle before) (ports_idle_after before) (no_items before) is)
+    subst (λ (d : Doing). has (tables_after (present s) (kind.Asks conn msg.tag) d)) (sym does)
+    (plain_waits s o conn msg.tag fid opening count (run_idle before) (ports_idle_after before) (no_items before)
+    is)
     in
     record {
-      silent = ap (said (present s) (kind.Asks conn msg.tag)) does ∙ plain_said s o conn msg.tag fid opening count (run_idle before) (ports_idle_after before) (no_items before) ∙ ap (if_said conn msg.tag opening) is;
-      waits = subst (λ (t : State). has t.tables) (sym (run-push before e)) (subst has (sym (stepped_tables s conn msg)) left);
-      must = must_wait_for s.tables s.scene.book (asker_of conn msg.tag opening count) (is_living s.scene.book opening) is;
+      silent = ap (said (present s) (kind.Asks conn msg.tag)) does
+          ∙ plain_said s o conn msg.tag fid opening count (run_idle before) (ports_idle_after before) (no_items before)
+          ∙ ap (if_said conn msg.tag opening) is;
+      waits = subst (λ (t : State). has t.tables) (sym (run-push before e))
+          (subst has (sym (stepped_tables s conn msg)) left);
+      must = must_wait_for s.tables s.scene.book (asker_of conn msg.tag opening count) (is_living s.scene.book opening)
+          is;
     }
 
-reads_by : (before : List Event) (conn : ℕ) (msg : TMsg) (fid opening count : ℕ) → IsWell (run before) → kind_t msg.body ≡ 116
+reads_by : (before : List Event) (conn : ℕ) (msg : TMsg) (fid opening count : ℕ) → IsWell (run before)
+    → kind_t msg.body ≡ 116
     → (doing_of (present_after before) (event.Msg conn msg)).answer ≡ Some (Reads fid opening count)
     → ReadsOnce before conn msg (event_read (run before) (asker_of conn msg.tag opening count))
     (read_said (run before).tables (run before).scene.book (asker_of conn msg.tag opening count))
@@ -344,17 +454,21 @@ reads_by before conn msg fid opening count well asks is =
     let same : d.answer ≡ Reads fid opening count = message_reads p d o fid opening count is in
     let sane : IsSane (opens_in p) s.tables conn d = sane_in s conn msg well in
     let reads : ReadsSane s.tables conn d (Reads fid opening count) = subst (ReadsSane s.tables conn d) same sane.1 in
-    read_by before conn msg o fid opening count (read_said s.tables s.scene.book (asker_of conn msg.tag opening count)) asks
-    (reading p o d.effect d.events d.changes d.demand d.answer (Reads fid opening count) reads.0 reads.2 reads.3 reads.4 same) refl
+    read_by before conn msg o fid opening count (read_said s.tables s.scene.book (asker_of conn msg.tag opening count))
+    asks
+    (reading p o d.effect d.events d.changes d.demand d.answer (Reads fid opening count) reads.0 reads.2 reads.3 reads.4
+    same) refl
 
 -- ---- a read of a port
 
 abbrev plain_port : Present → Origin → ℕ → ℕ → ℕ → Doing
 plain_port s o fid opening count = plainly s o (ReadsPort fid opening count)
 
-port_said_now : (s : State) (o : Origin) (conn tag fid opening count : ℕ) → AreIdle [] s.entries s.scene.book → ArePortsIdle s.scene.ports → s.scene.items ≡ []
+port_said_now : (s : State) (o : Origin) (conn tag fid opening count : ℕ) → AreIdle [] s.entries s.scene.book
+    → ArePortsIdle s.scene.ports → s.scene.items ≡ []
     → said (present s) (kind.Asks conn tag) (plain_port (present s) o fid opening count)
-    ≡ if_port_said (asker_of conn tag opening count) (port_said s.tables s.scene.ports (asker_of conn tag opening count))
+    ≡ if_port_said (asker_of conn tag opening count) (port_said s.tables s.scene.ports
+    (asker_of conn tag opening count))
 unfolding task_deeds task_refusal
 port_said_now s o conn tag fid opening count idle ports none =
     let x : Asker = asker_of conn tag opening count in
@@ -367,31 +481,41 @@ port_said_now s o conn tag fid opening count idle ports none =
     ∙ append-nil (own ++ [] ++ []) ∙ append-nil (own ++ []) ∙ append-nil own
 
 -- one to which nothing is said must wait
-port_must : (s : PortsState) (x : Asker) (refusal : Option Refusal) (waits : Bool) → said_unless refusal (cond waits Waits (Now (port_piece s x))) ≡ None → waits ≡ true
+port_must : (s : PortsState) (x : Asker) (refusal : Option Refusal) (waits : Bool)
+    → said_unless refusal (cond waits Waits (Now (port_piece s x))) ≡ None → waits ≡ true
 port_must s x (Some refusal) waits h = absurd cc
 port_must s x None true h = refl
 port_must s x None false h = absurd cc
 
-port_waits_on : (s : State) (o : Origin) (conn tag fid opening count : ℕ) → AreIdle [] s.entries s.scene.book → ArePortsIdle s.scene.ports → s.scene.items ≡ []
+port_waits_on : (s : State) (o : Origin) (conn tag fid opening count : ℕ) → AreIdle [] s.entries s.scene.book
+    → ArePortsIdle s.scene.ports → s.scene.items ≡ []
     → port_said s.tables s.scene.ports (asker_of conn tag opening count) ≡ None
-    → list_any (is_waiting conn tag) (tables_after (present s) (kind.Asks conn tag) (plain_port (present s) o fid opening count)).waiting ≡ true
+    → list_any (is_waiting conn tag) (tables_after (present s) (kind.Asks conn tag)
+    (plain_port (present s) o fid opening count)).waiting ≡ true
 unfolding task_deeds task_refusal
 port_waits_on s o conn tag fid opening count idle ports none waits =
     let x : Asker = asker_of conn tag opening count in
     let d : Doing = plain_port (present s) o fid opening count in
-    let quiet : said (present s) (kind.Asks conn tag) d ≡ [] = port_said_now s o conn tag fid opening count idle ports none ∙ ap (if_port_said x) waits in
+    let quiet : said (present s) (kind.Asks conn tag) d ≡ [] = port_said_now s o conn tag fid opening count idle ports
+    none ∙ ap (if_port_said x) waits in
     let has : Tables → Type 0 = λ t. list_any (is_waiting conn tag) t.waiting ≡ true in
-    subst (λ (xs : List Response). has (ended (waits_unless (port_said s.tables s.scene.ports x) s.tables conn tag fid) xs)) (sym quiet)
-    (subst (λ (o : Option RBody). has (waits_unless o s.tables conn tag fid)) (sym waits) (one_waits s.tables conn tag fid))
+    subst (λ (xs : List Response). has (ended (waits_unless (port_said s.tables s.scene.ports x) s.tables conn tag fid)
+    xs)) (sym quiet)
+    (subst (λ (o : Option RBody). has (waits_unless o s.tables conn tag fid)) (sym waits)
+    (one_waits s.tables conn tag fid))
 
-port_answers : (asked : TBody) (s : PortsState) (x : Asker) (refusal : Option Refusal) (waits : Bool) (body : RBody) → kind_t asked ≡ 116
+port_answers : (asked : TBody) (s : PortsState) (x : Asker) (refusal : Option Refusal) (waits : Bool) (body : RBody)
+    → kind_t asked ≡ 116
     → said_unless refusal (cond waits Waits (Now (port_piece s x))) ≡ Some body → IsAnswerTo asked body
-port_answers asked s x (Some refusal) waits body tread is = let same : r.Error (refusal_text refusal) ≡ body = cc in inr (refusal, sym same)
+port_answers asked s x (Some refusal) waits body tread is = let same : r.Error (refusal_text refusal) ≡ body = cc in
+    inr (refusal, sym same)
 port_answers asked s x None true body tread is = absurd cc
 port_answers asked s x None false body tread is =
-    let same : r.Read (port_piece s x).bytes ≡ body = cc in subst (IsAnswerTo asked) same (inl (ap (λ (n : ℕ). n + 1) (sym tread)))
+    let same : r.Read (port_piece s x).bytes ≡ body = cc in subst (IsAnswerTo asked) same
+    (inl (ap (λ (n : ℕ). n + 1) (sym tread)))
 
-port_by : (before : List Event) (conn : ℕ) (msg : TMsg) (o : Origin) (fid opening count : ℕ) (said_now : Option RBody) → kind_t msg.body ≡ 116
+port_by : (before : List Event) (conn : ℕ) (msg : TMsg) (o : Origin) (fid opening count : ℕ) (said_now : Option RBody)
+    → kind_t msg.body ≡ 116
     → doing_of (present_after before) (event.Msg conn msg) ≡ plain_port (present_after before) o fid opening count
     → port_said (run before).tables (run before).scene.ports (asker_of conn msg.tag opening count) ≡ said_now
     → ReadsOnce before conn msg (port_read (run before) (asker_of conn msg.tag opening count)) said_now
@@ -399,9 +523,13 @@ port_by before conn msg o fid opening count (Some body) asks does is =
     let s : State = run before in
     let x : Asker = asker_of conn msg.tag opening count in
     let all : said_after before (event.Msg conn msg) ≡ if_port_said x (Some body) =
-    ap (said (present s) (kind.Asks conn msg.tag)) does ∙ port_said_now s o conn msg.tag fid opening count (run_idle before) (ports_idle_after before) (no_items before) ∙ ap (if_port_said x) is
-    in
-    (port_answers msg.body s.scene.ports x (read_refusal s.tables s.scene.ports x) (port_waits s.scene.ports x) body asks is, all)
+    ap (said (present s) (kind.Asks conn msg.tag)) does ∙ port_said_now s o conn msg.tag fid opening count
+    (run_idle before) (ports_idle_after before) (no_items before) ∙ ap (if_port_said x) is
+    in (
+      port_answers msg.body s.scene.ports x (read_refusal s.tables s.scene.ports x) (port_waits s.scene.ports x) body
+          asks is,
+      all,
+    )
 port_by before conn msg o fid opening count None asks does is =
     let s : State = run before in
     let e : Event = event.Msg conn msg in
@@ -412,12 +540,16 @@ port_by before conn msg o fid opening count None asks does is =
     (port_waits_on s o conn msg.tag fid opening count (run_idle before) (ports_idle_after before) (no_items before) is)
     in
     record {
-      silent = ap (said (present s) (kind.Asks conn msg.tag)) does ∙ port_said_now s o conn msg.tag fid opening count (run_idle before) (ports_idle_after before) (no_items before) ∙ ap (if_port_said x) is;
-      waits = subst (λ (t : State). has t.tables) (sym (run-push before e)) (subst has (sym (stepped_tables s conn msg)) left);
+      silent = ap (said (present s) (kind.Asks conn msg.tag)) does
+          ∙ port_said_now s o conn msg.tag fid opening count (run_idle before) (ports_idle_after before)
+          (no_items before) ∙ ap (if_port_said x) is;
+      waits = subst (λ (t : State). has t.tables) (sym (run-push before e))
+          (subst has (sym (stepped_tables s conn msg)) left);
       must = port_must s.scene.ports x (read_refusal s.tables s.scene.ports x) (port_waits s.scene.ports x) is;
     }
 
-reads_port_by : (before : List Event) (conn : ℕ) (msg : TMsg) (fid opening count : ℕ) → IsWell (run before) → kind_t msg.body ≡ 116
+reads_port_by : (before : List Event) (conn : ℕ) (msg : TMsg) (fid opening count : ℕ) → IsWell (run before)
+    → kind_t msg.body ≡ 116
     → (doing_of (present_after before) (event.Msg conn msg)).answer ≡ Some (ReadsPort fid opening count)
     → ReadsOnce before conn msg (port_read (run before) (asker_of conn msg.tag opening count))
     (port_said (run before).tables (run before).scene.ports (asker_of conn msg.tag opening count))
@@ -428,22 +560,36 @@ reads_port_by before conn msg fid opening count well asks is =
     let o : Origin = message_origin s.tables conn msg.body in
     let same : d.answer ≡ ReadsPort fid opening count = message_reads_port p d o fid opening count is in
     let sane : IsSane (opens_in p) s.tables conn d = sane_in s conn msg well in
-    let reads : ReadsSane s.tables conn d (ReadsPort fid opening count) = subst (ReadsSane s.tables conn d) same sane.1 in
-    port_by before conn msg o fid opening count (port_said s.tables s.scene.ports (asker_of conn msg.tag opening count)) asks
-    (reading p o d.effect d.events d.changes d.demand d.answer (ReadsPort fid opening count) reads.0 reads.2 reads.3 reads.4 same) refl
+    let reads : ReadsSane s.tables conn d (ReadsPort fid opening count) = subst (ReadsSane s.tables conn d) same
+    sane.1 in
+    port_by before conn msg o fid opening count (port_said s.tables s.scene.ports (asker_of conn msg.tag opening count))
+    asks
+    (reading p o d.effect d.events d.changes d.demand d.answer (ReadsPort fid opening count) reads.0 reads.2 reads.3
+    reads.4 same) refl
 
 -- ---- all messages
 
-answered_by : (before : List Event) (conn : ℕ) (msg : TMsg) (a : Option Answer) → IsWell (run before) → WaitsAreTied (run before) → IsAlone (run before) conn msg.tag (doing_of (present_after before) (event.Msg conn msg)) → (doing_of (present_after before) (event.Msg conn msg)).answer ≡ a
+answered_by : (before : List Event) (conn : ℕ) (msg : TMsg) (a : Option Answer) → IsWell (run before)
+    → WaitsAreTied (run before) → IsAlone (run before) conn msg.tag
+    (doing_of (present_after before) (event.Msg conn msg)) → (doing_of (present_after before)
+    (event.Msg conn msg)).answer ≡ a
     → HasAnswer msg.body a → IsAnsweredBy before conn msg a
 answered_by before conn msg None well tied alone is has = has
-answered_by before conn msg (Some (Says body)) well tied alone is has =
-    (has, says_once (run before) conn msg.tag (doing_of (present_after before) (event.Msg conn msg)) body tied is (run_idle before) alone)
-answered_by before conn msg (Some (Reads fid opening count)) well tied alone is has = reads_by before conn msg fid opening count well has is
-answered_by before conn msg (Some (ReadsPort fid opening count)) well tied alone is has = reads_port_by before conn msg fid opening count well has is
+answered_by before conn msg (Some (Says body)) well tied alone is has = (
+  has,
+  says_once (run before) conn msg.tag (doing_of (present_after before) (event.Msg conn msg)) body tied is
+      (run_idle before) alone,
+)
+answered_by before conn msg (Some (Reads fid opening count)) well tied alone is has = reads_by before conn msg fid
+    opening count well has is
+answered_by before conn msg (Some (ReadsPort fid opening count)) well tied alone is has = reads_port_by before conn msg
+    fid opening count well has is
 
 pub messages_answered : EachIsAnswered → (journal : List Event) → IsPlayed enabled journal → MessagesAreAnswered journal
 messages_answered law journal played before behind conn msg is =
     let e : Event = event.Msg conn msg in
-    let parts : ArePlayed enabled [] before × ArePlayed enabled ([] ++ before) (e ∷ behind) = played_parts [] before (e ∷ behind) (subst (IsPlayed enabled) (sym is) played) in
-    answered_by before conn msg (doing_of (present_after before) e).answer (well_after before parts.0) (waits_tied before parts.0) (alone_by before conn msg parts.0 (played_first before behind e parts.1).0) refl (law (present_after before) conn msg)
+    let parts : ArePlayed enabled [] before × ArePlayed enabled ([] ++ before) (e ∷ behind) = played_parts [] before
+    (e ∷ behind) (subst (IsPlayed enabled) (sym is) played) in
+    answered_by before conn msg (doing_of (present_after before) e).answer (well_after before parts.0)
+    (waits_tied before parts.0) (alone_by before conn msg parts.0 (played_first before behind e parts.1).0) refl
+    (law (present_after before) conn msg)

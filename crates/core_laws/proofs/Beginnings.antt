@@ -1,5 +1,6 @@
 -- Where the groups of edits begin, over journals.
-use Rattle.std.proofs.Common.{◌≡◌, ℕ, zero, suc, ◌+◌, ◌-◌, eqb, Bool, true, false, cond, List, [], ◌∷◌, ◌++◌, length, Option, Some, None, refl, sym, ap, subst, ◌∙◌, arith, append_assoc, append-nil}
+use Rattle.std.proofs.Common.{◌≡◌, ℕ, zero, suc, ◌+◌, ◌-◌, eqb, Bool, true, false, cond, List, [], ◌∷◌, ◌++◌, length}
+use Rattle.std.proofs.Common.{Option, Some, None, refl, sym, ap, subst, ◌∙◌, arith, append_assoc, append-nil}
 use Rattle.std.specs.List.{AllByRecursion}
 use Rattle.am_journal.specs.declared.event.Event.{Event}
 use Rattle.edit_log.specs.Groups.{DoneGroup}
@@ -14,7 +15,8 @@ use Rattle.core_parts.specs.States.{State, present}
 use Rattle.acme_core.specs.Run.{step, run}
 use Rattle.acme_core.proofs.Goes.{run-push, entries_counted}
 use Rattle.core_laws.specs.Groups.{edits_if, edits_of, IsMade, IsMadeAt, IsBegun, GroupsAreBegun}
-use Rattle.core_laws.proofs.Begun.{IsKnown, KnownIfLive, AllKnown, AllStand, Makes, MakesAll, begins, changes_stand, ends}
+use Rattle.core_laws.proofs.Begun.{IsKnown, KnownIfLive, AllKnown, AllStand, Makes, MakesAll, begins, changes_stand}
+use Rattle.core_laws.proofs.Begun.{ends}
 
 -- ---- windows by their places
 
@@ -31,7 +33,8 @@ record IsPlaced (journal : List Event) (k number : ℕ) (done : Done) : Type 0 w
   makes : IsMade (edits_at before k) (edits_at (before ++ entry ∷ []) k) done
 
 -- it stays so, whatever comes
-still_placed : (journal : List Event) (e : Event) (k number : ℕ) (d : Done) → IsPlaced journal k number d → IsPlaced (journal ++ e ∷ []) k number d
+still_placed : (journal : List Event) (e : Event) (k number : ℕ) (d : Done) → IsPlaced journal k number d
+    → IsPlaced (journal ++ e ∷ []) k number d
 still_placed journal e k number d h = record {
   before = h.before;
   entry = h.entry;
@@ -51,60 +54,77 @@ module _ (journal : List Event) (e : Event) (at : ℕ) (is : length journal + 1 
   abbrev Now : ℕ → List (Option WindowStory) → Type 0
   Now k ss = (i : ℕ) → edits_if (live_at ss i) ≡ edits_at (journal ++ e ∷ []) (k + i)
 
-  moved_on : (other : List Event) (l : List Edit) (k i : ℕ) → l ≡ edits_at other (k + suc i) → l ≡ edits_at other ((k + 1) + i)
-  moved_on other l k i h = let same : k + suc i ≡ (k + 1) + i = omega arith in subst (λ (n : ℕ). l ≡ edits_at other n) same h
+  moved_on : (other : List Event) (l : List Edit) (k i : ℕ) → l ≡ edits_at other (k + suc i)
+      → l ≡ edits_at other ((k + 1) + i)
+  moved_on other l k i h = let same : k + suc i ≡ (k + 1) + i = omega arith in
+      subst (λ (n : ℕ). l ≡ edits_at other n) same h
 
   first_at : (other : List Event) (l : List Edit) (k : ℕ) → l ≡ edits_at other (k + 0) → l ≡ edits_at other k
   first_at other l k h = let same : k + 0 ≡ k = omega arith in subst (λ (n : ℕ). l ≡ edits_at other n) same h
 
-  made_here : (k : ℕ) (old now : List Edit) → old ≡ edits_at journal k → now ≡ edits_at (journal ++ e ∷ []) k → Makes at (IsPlaced journal) (IsPlaced (journal ++ e ∷ [])) (still_placed journal e) k old now
+  made_here : (k : ℕ) (old now : List Edit) → old ≡ edits_at journal k → now ≡ edits_at (journal ++ e ∷ []) k
+      → Makes at (IsPlaced journal) (IsPlaced (journal ++ e ∷ [])) (still_placed journal e) k old now
   made_here k old now was become d m = record {
     before = journal;
     entry = e;
     behind = [];
     is = refl;
     at = is;
-    makes = subst (λ (l : List Edit). IsMade l (edits_at (journal ++ e ∷ []) k) d) was (subst (λ (l : List Edit). IsMade old l d) become m);
+    makes = subst (λ (l : List Edit). IsMade l (edits_at (journal ++ e ∷ []) k) d) was
+        (subst (λ (l : List Edit). IsMade old l d) become m);
   }
 
-  made_all : (k : ℕ) (old ss : List (Option WindowStory)) → Was k old → Now k ss → MakesAll at (IsPlaced journal) (IsPlaced (journal ++ e ∷ [])) (still_placed journal e) k old ss
+  made_all : (k : ℕ) (old ss : List (Option WindowStory)) → Was k old → Now k ss
+      → MakesAll at (IsPlaced journal) (IsPlaced (journal ++ e ∷ [])) (still_placed journal e) k old ss
   made_all k old [] was become = tt
   made_all k [] (o ∷ ss) was become = (
-    made_here k [] (edits_if o) (first_at journal [] k (was 0)) (first_at (journal ++ e ∷ []) (edits_if o) k (become 0)),
-    made_all (k + 1) [] ss (λ i. moved_on journal [] k i (was (suc i))) (λ i. moved_on (journal ++ e ∷ []) (edits_if (live_at ss i)) k i (become (suc i))),
+    made_here k [] (edits_if o) (first_at journal [] k (was 0)) (first_at (journal ++ e ∷ []) (edits_if o) k
+        (become 0)),
+    made_all (k + 1) [] ss (λ i. moved_on journal [] k i (was (suc i)))
+        (λ i. moved_on (journal ++ e ∷ []) (edits_if (live_at ss i)) k i (become (suc i))),
   )
   made_all k (x ∷ old) (o ∷ ss) was become = (
-    made_here k (edits_if x) (edits_if o) (first_at journal (edits_if x) k (was 0)) (first_at (journal ++ e ∷ []) (edits_if o) k (become 0)),
-    made_all (k + 1) old ss (λ i. moved_on journal (edits_if (live_at old i)) k i (was (suc i))) (λ i. moved_on (journal ++ e ∷ []) (edits_if (live_at ss i)) k i (become (suc i))),
+    made_here k (edits_if x) (edits_if o) (first_at journal (edits_if x) k (was 0))
+        (first_at (journal ++ e ∷ []) (edits_if o) k (become 0)),
+    made_all (k + 1) old ss (λ i. moved_on journal (edits_if (live_at old i)) k i (was (suc i)))
+        (λ i. moved_on (journal ++ e ∷ []) (edits_if (live_at ss i)) k i (become (suc i))),
   )
 
 -- from the front on
 at_front : (journal : List Event) (i : ℕ) → edits_at journal i ≡ edits_at journal (0 + i)
 at_front journal i = let same : i ≡ 0 + i = omega arith in ap (λ (n : ℕ). edits_at journal n) same
 
-step_windows : (s : State) (e : Event) → (step s e).windows ≡ all_changed_stories (s.entries + 1) s.windows (changes_in (doing_of (present s) e).deeds)
+step_windows : (s : State) (e : Event) → (step s e).windows ≡ all_changed_stories (s.entries + 1) s.windows
+    (changes_in (doing_of (present s) e).deeds)
 unfolding step
 step_windows s e = refl
 
-step_known : (journal : List Event) (e : Event) → AllKnown (IsPlaced journal) 0 (run journal).windows → AllKnown (IsPlaced (journal ++ e ∷ [])) 0 (run (journal ++ e ∷ [])).windows
+step_known : (journal : List Event) (e : Event) → AllKnown (IsPlaced journal) 0 (run journal).windows
+    → AllKnown (IsPlaced (journal ++ e ∷ [])) 0 (run (journal ++ e ∷ [])).windows
 step_known journal e known =
     let s : State = run journal in
     let at : ℕ = s.entries + 1 in
     let cs : List Change = changes_in (doing_of (present s) e).deeds in
-    let next : (run (journal ++ e ∷ [])).windows ≡ all_changed_stories at s.windows cs = ap (λ (x : State). x.windows) (run-push journal e) ∙ step_windows s e in
+    let next : (run (journal ++ e ∷ [])).windows ≡ all_changed_stories at s.windows cs = ap (λ (x : State). x.windows)
+    (run-push journal e) ∙ step_windows s e in
     let stand : AllStand at (IsPlaced journal) 0 s.windows (run (journal ++ e ∷ [])).windows =
-    subst (AllStand at (IsPlaced journal) 0 s.windows) (sym next) (changes_stand at (IsPlaced journal) 0 s.windows s.windows cs (begins at (IsPlaced journal) 0 s.windows known))
+    subst (AllStand at (IsPlaced journal) 0 s.windows) (sym next) (changes_stand at (IsPlaced journal) 0 s.windows
+    s.windows cs (begins at (IsPlaced journal) 0 s.windows known))
     in
-    ends at (IsPlaced journal) (IsPlaced (journal ++ e ∷ [])) (still_placed journal e) 0 s.windows (run (journal ++ e ∷ [])).windows
-    (made_all journal e at (ap (λ (n : ℕ). n + 1) (sym (entries_counted journal))) 0 s.windows (run (journal ++ e ∷ [])).windows (at_front journal) (at_front (journal ++ e ∷ [])))
+    ends at (IsPlaced journal) (IsPlaced (journal ++ e ∷ [])) (still_placed journal e) 0 s.windows
+    (run (journal ++ e ∷ [])).windows
+    (made_all journal e at (ap (λ (n : ℕ). n + 1) (sym (entries_counted journal))) 0 s.windows
+    (run (journal ++ e ∷ [])).windows (at_front journal) (at_front (journal ++ e ∷ [])))
     stand
 
 -- ---- every journal
 
-known_more : (before events : List Event) → AllKnown (IsPlaced before) 0 (run before).windows → AllKnown (IsPlaced (before ++ events)) 0 (run (before ++ events)).windows
+known_more : (before events : List Event) → AllKnown (IsPlaced before) 0 (run before).windows
+    → AllKnown (IsPlaced (before ++ events)) 0 (run (before ++ events)).windows
 known_more before [] h = subst (λ (l : List Event). AllKnown (IsPlaced l) 0 (run l).windows) (sym (append-nil before)) h
 known_more before (e ∷ events) h =
-    subst (λ (l : List Event). AllKnown (IsPlaced l) 0 (run l).windows) (append_assoc before (e ∷ []) events) (known_more (before ++ e ∷ []) events (step_known before e h))
+    subst (λ (l : List Event). AllKnown (IsPlaced l) 0 (run l).windows) (append_assoc before (e ∷ []) events)
+    (known_more (before ++ e ∷ []) events (step_known before e h))
 
 none_known : AllKnown (IsPlaced []) 0 (run []).windows
 unfolding run
@@ -115,16 +135,19 @@ known journal = known_more [] journal none_known
 
 -- ---- one window of them, by its number
 
-known_at : (P : ℕ → ℕ → Done → Type 0) (k i n : ℕ) (ss : List (Option WindowStory)) → k + i ≡ n → AllKnown P k ss → KnownIfLive (P n) (live_at ss i)
+known_at : (P : ℕ → ℕ → Done → Type 0) (k i n : ℕ) (ss : List (Option WindowStory)) → k + i ≡ n → AllKnown P k ss
+    → KnownIfLive (P n) (live_at ss i)
 known_at P k zero n [] e h = tt
 known_at P k (suc i) n [] e h = tt
-known_at P k zero n (o ∷ ss) e h = let same : k ≡ n = omega (arith, e) in subst (λ (m : ℕ). KnownIfLive (P m) o) same h.0
+known_at P k zero n (o ∷ ss) e h = let same : k ≡ n = omega (arith, e) in
+    subst (λ (m : ℕ). KnownIfLive (P m) o) same h.0
 known_at P k (suc i) n (o ∷ ss) e h = known_at P (k + 1) i n ss (omega (arith, e)) h.1
 
 by_number : (before : List Event) (w : ℕ) → eqb w 0 ≡ false → edits_at before (w - 1) ≡ edits_of before w
 by_number before w e = sym (ap (λ (b : Bool). edits_if (cond b None (live_at (run before).windows (w - 1)))) e)
 
-of_number : (journal : List Event) (w number : ℕ) (d : Done) → eqb w 0 ≡ false → IsPlaced journal (w - 1) number d → IsMadeAt journal w number d
+of_number : (journal : List Event) (w number : ℕ) (d : Done) → eqb w 0 ≡ false → IsPlaced journal (w - 1) number d
+    → IsMadeAt journal w number d
 of_number journal w number d e h = record {
   before = h.before;
   entry = h.entry;
@@ -132,19 +155,25 @@ of_number journal w number d e h = record {
   is = h.is;
   at = h.at;
   makes = subst (λ (l : List Edit). IsMade l (edits_of (h.before ++ h.entry ∷ []) w) d) (by_number h.before w e)
-      (subst (λ (l : List Edit). IsMade (edits_at h.before (w - 1)) l d) (by_number (h.before ++ h.entry ∷ []) w e) h.makes);
+      (subst (λ (l : List Edit). IsMade (edits_at h.before (w - 1)) l d) (by_number (h.before ++ h.entry ∷ []) w e)
+      h.makes);
 }
 
-all_begun : (journal : List Event) (w : ℕ) (gs : List DoneGroup) → eqb w 0 ≡ false → AllByRecursion (IsKnown (IsPlaced journal (w - 1))) gs → AllByRecursion (IsBegun journal w) gs
+all_begun : (journal : List Event) (w : ℕ) (gs : List DoneGroup) → eqb w 0 ≡ false →
+    AllByRecursion (IsKnown (IsPlaced journal (w - 1))) gs → AllByRecursion (IsBegun journal w) gs
 all_begun journal w [] e h = tt
-all_begun journal w (g ∷ gs) e h =
-    (record { first = h.0.first; there = h.0.there; begun = of_number journal w g.number h.0.first e h.0.known }, all_begun journal w gs e h.1)
+all_begun journal w (g ∷ gs) e h = (
+  record { first = h.0.first; there = h.0.there; begun = of_number journal w g.number h.0.first e h.0.known },
+  all_begun journal w gs e h.1,
+)
 
 pub groups_begun : (journal : List Event) → GroupsAreBegun journal
 groups_begun journal w s is =
-    elim (eqb w 0) as (λ b. eqb w 0 ≡ b → cond b None (live_at (run journal).windows (w - 1)) ≡ Some s → AllByRecursion (IsBegun journal w) (s.body.history.past ++ s.body.history.future)) [
+    elim (eqb w 0) as (λ b. eqb w 0 ≡ b → cond b None (live_at (run journal).windows (w - 1)) ≡ Some s
+    → AllByRecursion (IsBegun journal w) (s.body.history.past ++ s.body.history.future)) [
       | true ↦ λ e k. absurd cc
       | false ↦ λ e k. let same : 0 + (w - 1) ≡ w - 1 = omega arith in
           all_begun journal w (s.body.history.past ++ s.body.history.future) e
-          (subst (KnownIfLive (IsPlaced journal (w - 1))) k (known_at (IsPlaced journal) 0 (w - 1) (w - 1) (run journal).windows same (known journal)))
+          (subst (KnownIfLive (IsPlaced journal (w - 1))) k (known_at (IsPlaced journal) 0 (w - 1) (w - 1)
+          (run journal).windows same (known journal)))
     ] refl is

@@ -1,5 +1,6 @@
 -- An Exec or a Look in a window whose event file is open does nothing but to make an item.
-use Rattle.std.proofs.Common.{◌≡◌, ℕ, ◌+◌, Bool, true, cond, List, [], ◌∷◌, ◌++◌, Option, Some, None, refl, sym, ap, subst, ◌∙◌, append-nil}
+use Rattle.std.proofs.Common.{◌≡◌, ℕ, ◌+◌, Bool, true, cond, List, [], ◌∷◌, ◌++◌, Option, Some, None, refl, sym, ap}
+use Rattle.std.proofs.Common.{subst, ◌∙◌, append-nil}
 use Rattle.std.specs.List.{fold}
 use Rattle.std.specs.Option.{option_map}
 use Rattle.win_events.specs.declared.item.Item.{Item}
@@ -52,7 +53,8 @@ use Rattle.core_laws.proofs.Wells.{done_sessions}
 abbrev tidy : SceneState → SceneState
 tidy x = record x { windows = []; items = []; deleted = [] }
 
-fold_tidy : (s : State) (events : List Event) → s.scene ≡ tidy s.scene → (fold step s events).scene ≡ tidy (fold step s events).scene
+fold_tidy : (s : State) (events : List Event) → s.scene ≡ tidy s.scene
+    → (fold step s events).scene ≡ tidy (fold step s events).scene
 unfolding step
 fold_tidy s [] h = h
 fold_tidy s (e ∷ events) h = fold_tidy (step s e) events refl
@@ -69,13 +71,21 @@ item_deeds w (Some item) = deed.Item w item ∷ []
 
 -- what does these deeds alone
 abbrev telling : List Deed → Doing
-telling deeds = record { effect = effect.Nothing; events = events.Nothing; deeds = deeds; origin = M; answer = None; back = None }
+telling deeds = record {
+  effect = effect.Nothing;
+  events = events.Nothing;
+  deeds = deeds;
+  origin = M;
+  answer = None;
+  back = None;
+}
 
 -- the story behind an event of this kind
 abbrev after_kind : State → Kind → Doing → State
 after_kind s k d = record {
   entries = next_entry (present s);
   connections = connections_after s.connections k;
+  users = s.users;
   tables = tables_after (present s) k d;
   windows = all_changed_stories (next_entry (present s)) s.windows (changes_in d.deeds);
   scene = record (scene_after (present s) k d) { windows = [] };
@@ -95,10 +105,12 @@ stays : (x : SceneState) → ArePortsIdle x.ports → record x { ports = ports_a
 stays x idle = ap (λ (p : PortsState). record x { ports = p }) (none_taken x.ports idle)
 
 -- an item comes where the event file is open
-put_is : (b : BookState) (w : ℕ) (item : Item) → is_open_window b w ≡ true → put_one b (record { window = w; item = item }) ≡ after_put b w item
+put_is : (b : BookState) (w : ℕ) (item : Item) → is_open_window b w ≡ true → put_one b
+    (record { window = w; item = item }) ≡ after_put b w item
 put_is b w item opened = subst (λ (t : Bool). cond t (after_put b w item) b ≡ after_put b w item) (sym opened) refl
 
-tells : (s : State) (x : SceneState) (w : ℕ) (o : Option Item) → ArePortsIdle x.ports → is_open_window x.book w ≡ true → Told (record s { scene = tidy x }) kind.Acts w (telling (item_deeds w o)) o
+tells : (s : State) (x : SceneState) (w : ℕ) (o : Option Item) → ArePortsIdle x.ports
+    → is_open_window x.book w ≡ true → Told (record s { scene = tidy x }) kind.Acts w (telling (item_deeds w o)) o
 tells s x w None idle opened = record {
   book = refl;
   says = quiet x (served_all (s.entries + 1) x.book) idle;
@@ -112,16 +124,19 @@ tells s x w (Some item) idle opened = record {
   says = rw opened (quiet x (served_all (s.entries + 1) (put_one x.book (record { window = w; item = item }))) idle
       ∙ ap (λ (b : BookState). served_all (s.entries + 1) b) (put_is x.book w item opened));
   connections = refl;
-  sessions = done_sessions s.tables (said (present (record s { scene = tidy x })) kind.Acts (telling (deed.Item w item ∷ [])));
+  sessions = done_sessions s.tables (said (present (record s { scene = tidy x })) kind.Acts
+      (telling (deed.Item w item ∷ [])));
   windows = refl;
   scene = stays (tidy x) idle;
 }
 
 -- the same of a story that is tidy, with deeds that are such
-told : (s : State) (w : ℕ) (o : Option Item) (deeds : List Deed) → s.scene ≡ tidy s.scene → ArePortsIdle s.scene.ports → is_open_window s.scene.book w ≡ true → deeds ≡ item_deeds w o → Told s kind.Acts w (telling deeds) o
+told : (s : State) (w : ℕ) (o : Option Item) (deeds : List Deed) → s.scene ≡ tidy s.scene → ArePortsIdle s.scene.ports
+    → is_open_window s.scene.book w ≡ true → deeds ≡ item_deeds w o → Told s kind.Acts w (telling deeds) o
 told s w o deeds h idle opened is =
     subst (λ (ds : List Deed). Told s kind.Acts w (telling ds) o) (sym is)
-    (subst (λ (x : SceneState). Told (record s { scene = x }) kind.Acts w (telling (item_deeds w o)) o) (sym h) (tells s s.scene w o idle opened))
+    (subst (λ (x : SceneState). Told (record s { scene = x }) kind.Acts w (telling (item_deeds w o)) o) (sym h)
+    (tells s s.scene w o idle opened))
 
 -- ---- what a click does
 
@@ -132,57 +147,76 @@ of_exec at argument c = option_map (λ x. exec_item at x argument) c
 abbrev of_look : Spot → SceneState → Option Clicked → Option Item
 of_look at s c = option_map (λ x. look_item at x (look_step at.window (own_text x.text x.expanded) s)) c
 
-exec_one : (e : Entry) (at : Spot) (argument : Option (List ℕ × List ℕ)) (c : Option Clicked) (s : SceneState) → is_open_window s.book at.window ≡ true
+exec_one : (e : Entry) (at : Spot) (argument : Option (List ℕ × List ℕ)) (c : Option Clicked) (s : SceneState)
+    → is_open_window s.book at.window ≡ true
     → exec_clicked e at argument c s ≡ item_deeds at.window (of_exec at argument c)
 unfolding exec_click
 exec_one e at argument None s opened = refl
 exec_one e at argument (Some c) s opened = rw opened refl
 
-look_one : (e : Entry) (at : Spot) (c : Option Clicked) (s : SceneState) → is_open_window s.book at.window ≡ true → look_clicked e at c s ≡ item_deeds at.window (of_look at s c)
+look_one : (e : Entry) (at : Spot) (c : Option Clicked) (s : SceneState)
+    → is_open_window s.book at.window ≡ true → look_clicked e at c s ≡ item_deeds at.window (of_look at s c)
 unfolding look_click
 look_one e at None s opened = refl
 look_one e at (Some c) s opened = rw opened refl
 
-told_exec : (s : State) (at : Spot) (chord : Option Spot) → s.scene ≡ tidy s.scene → ArePortsIdle s.scene.ports → is_open_window s.scene.book at.window ≡ true
+told_exec : (s : State) (at : Spot) (chord : Option Spot) → s.scene ≡ tidy s.scene → ArePortsIdle s.scene.ports
+    → is_open_window s.scene.book at.window ≡ true
     → Told s kind.Acts at.window (telling (exec_at_deeds (entry_by (present s) M) at chord (present s).scene))
     (of_exec at (argument_if_any (present s).scene.windows chord) (clicked_at (present s).scene.windows at click.Exec))
 told_exec s at chord h idle opened =
     let x : SceneState = (present s).scene in
     let argument : Option (List ℕ × List ℕ) = argument_if_any x.windows chord in
     let c : Option Clicked = clicked_at x.windows at click.Exec in
-    told s at.window (of_exec at argument c) (exec_at_deeds (entry_by (present s) M) at chord x) h idle opened (exec_one (entry_by (present s) M) at argument c x opened)
+    told s at.window (of_exec at argument c) (exec_at_deeds (entry_by (present s) M) at chord x) h idle opened
+    (exec_one (entry_by (present s) M) at argument c x opened)
 
-told_look : (s : State) (at : Spot) → s.scene ≡ tidy s.scene → ArePortsIdle s.scene.ports → is_open_window s.scene.book at.window ≡ true
-    → Told s kind.Acts at.window (telling (look_at_deeds (entry_by (present s) M) at (present s).scene)) (of_look at (present s).scene (clicked_at (present s).scene.windows at click.Look))
+told_look : (s : State) (at : Spot) → s.scene ≡ tidy s.scene → ArePortsIdle s.scene.ports
+    → is_open_window s.scene.book at.window ≡ true
+    → Told s kind.Acts at.window (telling (look_at_deeds (entry_by (present s) M) at (present s).scene))
+    (of_look at (present s).scene (clicked_at (present s).scene.windows at click.Look))
 told_look s at h idle opened =
     let x : SceneState = (present s).scene in
     let c : Option Clicked = clicked_at x.windows at click.Look in
-    told s at.window (of_look at x c) (look_at_deeds (entry_by (present s) M) at x) h idle opened (look_one (entry_by (present s) M) at c x opened)
+    told s at.window (of_look at x c) (look_at_deeds (entry_by (present s) M) at x) h idle opened
+    (look_one (entry_by (present s) M) at c x opened)
 
 -- ---- every journal
 
-behind : (before : List Event) (e : Event) (w : ℕ) (o : Option Item) → Told (run before) (kind_of e) w (doing_of (present (run before)) e) o
+behind : (before : List Event) (e : Event) (w : ℕ) (o : Option Item)
+    → Told (run before) (kind_of e) w (doing_of (present (run before)) e) o
     → OnlyTells (run before) (run (before ++ e ∷ [])) (said_after before e) w o
 unfolding step
-behind before e w o h = subst (λ (s : State). OnlyTells (run before) s (said_after before e) w o) (sym (run-push before e)) h
+behind before e w o h = subst (λ (s : State). OnlyTells (run before) s (said_after before e) w o)
+    (sym (run-push before e)) h
 
 pub clicks : ClicksAreTold
 unfolding task_deeds
 clicks before (event.Exec at) w is opened =
     let same : at.window ≡ w = cc in
-    let mine : is_open_window (run before).scene.book at.window ≡ true = subst (λ (v : ℕ). is_open_window (run before).scene.book v ≡ true) (sym same) opened in
-    subst (λ (v : ℕ). OnlyTells (run before) (run (before ++ event.Exec at ∷ [])) (said_after before (event.Exec at)) v (item_of_click (present_after before).scene (event.Exec at))) same
-    (behind before (event.Exec at) at.window (item_of_click (present_after before).scene (event.Exec at)) (told_exec (run before) at None (run_tidy before) (ports_idle_after before) mine))
+    let mine : is_open_window (run before).scene.book at.window ≡ true =
+    subst (λ (v : ℕ). is_open_window (run before).scene.book v ≡ true) (sym same) opened in
+    subst (λ (v : ℕ). OnlyTells (run before) (run (before ++ event.Exec at ∷ [])) (said_after before (event.Exec at)) v
+    (item_of_click (present_after before).scene (event.Exec at))) same
+    (behind before (event.Exec at) at.window (item_of_click (present_after before).scene (event.Exec at))
+    (told_exec (run before) at None (run_tidy before) (ports_idle_after before) mine))
 clicks before (event.Arg at chord) w is opened =
     let same : at.window ≡ w = cc in
-    let mine : is_open_window (run before).scene.book at.window ≡ true = subst (λ (v : ℕ). is_open_window (run before).scene.book v ≡ true) (sym same) opened in
-    subst (λ (v : ℕ). OnlyTells (run before) (run (before ++ event.Arg at chord ∷ [])) (said_after before (event.Arg at chord)) v (item_of_click (present_after before).scene (event.Arg at chord))) same
-    (behind before (event.Arg at chord) at.window (item_of_click (present_after before).scene (event.Arg at chord)) (told_exec (run before) at (Some chord) (run_tidy before) (ports_idle_after before) mine))
+    let mine : is_open_window (run before).scene.book at.window ≡ true =
+    subst (λ (v : ℕ). is_open_window (run before).scene.book v ≡ true) (sym same) opened in
+    subst (λ (v : ℕ). OnlyTells (run before) (run (before ++ event.Arg at chord ∷ []))
+    (said_after before (event.Arg at chord)) v (item_of_click (present_after before).scene (event.Arg at chord)))
+    same
+    (behind before (event.Arg at chord) at.window (item_of_click (present_after before).scene (event.Arg at chord))
+    (told_exec (run before) at (Some chord) (run_tidy before) (ports_idle_after before) mine))
 clicks before (event.Look at) w is opened =
     let same : at.window ≡ w = cc in
-    let mine : is_open_window (run before).scene.book at.window ≡ true = subst (λ (v : ℕ). is_open_window (run before).scene.book v ≡ true) (sym same) opened in
-    subst (λ (v : ℕ). OnlyTells (run before) (run (before ++ event.Look at ∷ [])) (said_after before (event.Look at)) v (item_of_click (present_after before).scene (event.Look at))) same
-    (behind before (event.Look at) at.window (item_of_click (present_after before).scene (event.Look at)) (told_look (run before) at (run_tidy before) (ports_idle_after before) mine))
+    let mine : is_open_window (run before).scene.book at.window ≡ true =
+    subst (λ (v : ℕ). is_open_window (run before).scene.book v ≡ true) (sym same) opened in
+    subst (λ (v : ℕ). OnlyTells (run before) (run (before ++ event.Look at ∷ [])) (said_after before (event.Look at)) v
+    (item_of_click (present_after before).scene (event.Look at))) same
+    (behind before (event.Look at) at.window (item_of_click (present_after before).scene (event.Look at))
+    (told_look (run before) at (run_tidy before) (ports_idle_after before) mine))
 clicks before (event.Dial conn) w is opened = absurd cc
 clicks before (event.Msg conn msg) w is opened = absurd cc
 clicks before (event.Hang conn why) w is opened = absurd cc

@@ -1,6 +1,7 @@
--- What messages do that aren't refused: each is answered by its own R message, and a Twrite of a fid of an event file, and no other, writes an item
--- back.
-use Rattle.std.proofs.Common.{◌≡◌, ◌⊎◌, inl, inr, ℕ, Bool, true, false, cond, List, [], length, Option, Some, None, Result, Ok, Err, min, nat_lt, codes, ◌==◌, ◌+◌, refl, sym, ap, subst}
+-- What messages do that aren't refused: each is answered by its own R message, and a Twrite of a fid of an event file,
+-- and no other, writes an item back.
+use Rattle.std.proofs.Common.{◌≡◌, ◌⊎◌, inl, inr, ℕ, Bool, true, false, cond, List, [], length, Option, Some, None}
+use Rattle.std.proofs.Common.{Result, Ok, Err, min, nat_lt, codes, ◌==◌, ◌+◌, refl, sym, ap, subst}
 use Rattle.am_text.specs.Pieces.{Decoded}
 use Rattle.am_text.specs.declared.range.Range.{Range}
 use Rattle.ninep_types.specs.declared.message.Qid.{Qid}
@@ -34,7 +35,8 @@ use Rattle.core_fids.specs.declared.refusal.Refusal.{Refusal}
 use Rattle.core_fids.specs.declared.refusal.Refusal.TheVariants as refusal
 use Rattle.core_fids.specs.declared.walking.WalkEnd.{WalkEnd}
 use Rattle.core_fids.specs.declared.walking.WalkEnd.TheVariants as end
-use Rattle.core_answers.specs.Addressing.{data_reaction, xdata_reaction, addr_or_refusal, addr_reaction, data_or_refusal, taking_reaction}
+use Rattle.core_answers.specs.Addressing.{data_reaction, xdata_reaction, addr_or_refusal, addr_reaction}
+use Rattle.core_answers.specs.Addressing.{data_or_refusal, taking_reaction}
 use Rattle.core_fids.specs.Attaching.{is_version, agreement, root_of, attach_refusal, attach_to, or_attaches}
 use Rattle.core_fids.specs.Contents.{content_of}
 use Rattle.core_answers.specs.Reactions.{session_reaction, comes_first, reaction}
@@ -50,7 +52,8 @@ use Rattle.core_intents.specs.Intents.{is_refusal}
 use Rattle.core_laws.specs.Refusals.{refused, remove_refusal, session_refusal}
 use Rattle.core_answers.specs.Texts.{text_at, right_of}
 use Rattle.core_fids.specs.Walking.{course, walk_refusal, arrives_at, or_walks, walk_from}
-use Rattle.core_answers.specs.Writing.{Twrite, whole_runes, if_lives, append_reaction, add_reaction, or_errors, errors_reaction, write_content, write_fid}
+use Rattle.core_answers.specs.Writing.{Twrite, whole_runes, if_lives, append_reaction, add_reaction, or_errors}
+use Rattle.core_answers.specs.Writing.{errors_reaction, write_content, write_fid}
 
 -- whether an item is written back
 abbrev pub is_back : Demand → Bool
@@ -97,9 +100,11 @@ attaches fid aname (Some x) = tt
 arrives : (newfid : ℕ) (world : World) (qids : List Qid) (e : WalkEnd) → Plainly rwalk (arrives_at newfid world qids e)
 arrives newfid world qids (end.At n) = (refl, (refl, refl))
 arrives newfid world qids (end.Makes f) = (refl, (refl, refl))
-arrives newfid world qids (end.Stops x) = or_done rwalk (length qids == 0) x (does effect.Nothing [] (r.Walk qids)) (refl, (refl, refl))
+arrives newfid world qids (end.Stops x) = or_done rwalk (length qids == 0) x (does effect.Nothing [] (r.Walk qids))
+    (refl, (refl, refl))
 
-or_walks_plain : (kind : ℕ) (o : Option Refusal) (x : Result Reaction Refusal) → Plainly kind x → Plainly kind (or_walks o x)
+or_walks_plain : (kind : ℕ) (o : Option Refusal) (x : Result Reaction Refusal) → Plainly kind x
+    → Plainly kind (or_walks o x)
 or_walks_plain kind None x h = h
 or_walks_plain kind (Some y) x h = tt
 
@@ -128,11 +133,13 @@ denied : (kind : ℕ) (o : Option Fid) → Plainly kind (denial o)
 denied kind None = tt
 denied kind (Some f) = tt
 
-or_reads_plain : (kind : ℕ) (o : Option Refusal) (x : Result Reaction Refusal) → Plainly kind x → Plainly kind (or_reads o x)
+or_reads_plain : (kind : ℕ) (o : Option Refusal) (x : Result Reaction Refusal) → Plainly kind x
+    → Plainly kind (or_reads o x)
 or_reads_plain kind None x h = h
 or_reads_plain kind (Some y) x h = tt
 
-read_dir_plain : (server : ServerState) (asked : Tread) (f : Fid) (o : Option ℕ) → Plainly rread (read_dir server asked f o)
+read_dir_plain : (server : ServerState) (asked : Tread) (f : Fid) (o : Option ℕ)
+    → Plainly rread (read_dir server asked f o)
 read_dir_plain server asked f None = tt
 read_dir_plain server asked f (Some skip) = (refl, (refl, refl))
 
@@ -152,7 +159,8 @@ xdata_plain : (w count : ℕ) (o : Option Window) → Plain rread (xdata_reactio
 xdata_plain w count None = (refl, (refl, refl))
 xdata_plain w count (Some window) = (refl, (refl, refl))
 
-read_content_plain : (server : ServerState) (asked : Tread) (f : Fid) (c : Content) → Plainly rread (read_content server asked f c)
+read_content_plain : (server : ServerState) (asked : Tread) (f : Fid) (c : Content)
+    → Plainly rread (read_content server asked f c)
 read_content_plain server asked f content.Directory = read_dir_plain server asked f (place_at f asked.offset)
 read_content_plain server asked f (content.BodyText w) = (refl, (refl, refl))
 read_content_plain server asked f (content.TagText w) = (refl, (refl, refl))
@@ -190,7 +198,8 @@ stats server (Some f) =
 
 -- ---- a Twrite
 
--- the message is a Twrite of these bytes to a fid of a window's event file, which asks for the item that they name, and nothing else
+-- the message is a Twrite of these bytes to a fid of a window's event file, which asks for the item that they name, and
+-- nothing else
 pub record IsWriteBack (tables : Tables) (conn : ℕ) (body : TBody) (d : Reaction) : Type 0 where
   pub fid : ℕ
   pub offset : ℕ
@@ -204,7 +213,8 @@ pub record IsWriteBack (tables : Tables) (conn : ℕ) (body : TBody) (d : Reacti
 
 module _ (server : ServerState) (fid offset : ℕ) (bytes : List ℕ) where
   abbrev Right : Reaction → Type 0
-  Right d = ((is_back d.demand ≡ false) ⊎ IsWriteBack server.tables server.conn (t.Write fid offset bytes) d) × Owns rwrite d.answer
+  Right d = ((is_back d.demand ≡ false) ⊎ IsWriteBack server.tables server.conn (t.Write fid offset bytes) d)
+      × Owns rwrite d.answer
 
   abbrev Rightly : Result Reaction Refusal → Type 0
   Rightly (Ok d) = Right d
@@ -229,12 +239,14 @@ module _ (server : ServerState) (fid offset : ℕ) (bytes : List ℕ) where
   append_plain : (windows : List (Option Window)) (asked : Twrite) (f : Fid) (w : ℕ) (decoded : Decoded)
       → Plainly rwrite (append_reaction windows asked f w decoded)
   append_plain windows asked f w decoded =
-      if_lives_plain (window_at windows w) _ (done_or rwrite (fits_in (text_at windows w) decoded.text) _ refusal.TextTooLong (refl, (refl, refl)))
+      if_lives_plain (window_at windows w) _ (done_or rwrite (fits_in (text_at windows w) decoded.text) _
+      refusal.TextTooLong (refl, (refl, refl)))
 
   add_plain : (windows : List (Option Window)) (asked : Twrite) (f : Fid) (w : ℕ) (decoded : Decoded)
       → Plainly rwrite (add_reaction windows asked f w decoded)
   add_plain windows asked f w decoded =
-      if_lives_plain (window_at windows w) _ (done_or rwrite (fits_tag (right_of (window_at windows w)) decoded.text) _ refusal.TextTooLong (refl, (refl, refl)))
+      if_lives_plain (window_at windows w) _ (done_or rwrite (fits_tag (right_of (window_at windows w)) decoded.text) _
+      refusal.TextTooLong (refl, (refl, refl)))
 
   or_errors_plain : (o : Option Refusal) (d : Reaction) → Plain rwrite d → Plainly rwrite (or_errors o d)
   or_errors_plain None d h = h
@@ -286,18 +298,24 @@ module _ (server : ServerState) (fid offset : ℕ) (bytes : List ℕ) where
   abbrev this_write : Twrite
   this_write = record { number = fid; bytes = bytes }
 
-  content_right : (windows : List (Option Window)) (f : Fid) (c : Content) → fid_by server fid ≡ Some f → content_of f.node ≡ c
+  content_right : (windows : List (Option Window)) (f : Fid) (c : Content) → fid_by server fid ≡ Some f
+      → content_of f.node ≡ c
       → Rightly (write_content windows this_write f c)
   content_right windows f content.Directory there e = tt
-  content_right windows f (content.BodyText w) there e = plainly _ (append_plain windows this_write f w (whole_runes f bytes))
-  content_right windows f (content.TagText w) there e = plainly _ (add_plain windows this_write f w (whole_runes f bytes))
-  content_right windows f (content.CtlText w) there e = plainly _ (if_lives_plain (window_at windows w) _ (refl, (refl, refl)))
+  content_right windows f (content.BodyText w) there e = plainly _
+      (append_plain windows this_write f w (whole_runes f bytes))
+  content_right windows f (content.TagText w) there e = plainly _ (add_plain windows this_write f w
+      (whole_runes f bytes))
+  content_right windows f (content.CtlText w) there e = plainly _ (if_lives_plain (window_at windows w) _
+      (refl, (refl, refl)))
   content_right windows f (content.AddrText w) there e = plainly _ (addr_plain w (window_at windows w))
   content_right windows f (content.DataOf w) there e = plainly _ (taking_plain w (window_at windows w))
   content_right windows f (content.XdataOf w) there e = plainly _ (taking_plain w (window_at windows w))
   content_right windows f content.IndexText there e = tt
-  content_right windows f (content.ErrorsOf w) there e = plainly _ (errors_plain windows this_write f (errors_of (window_at windows w)) (whole_runes f bytes))
-  content_right windows f content.ConsErrors there e = plainly _ (errors_plain windows this_write f root_errors (whole_runes f bytes))
+  content_right windows f (content.ErrorsOf w) there e = plainly _
+      (errors_plain windows this_write f (errors_of (window_at windows w)) (whole_runes f bytes))
+  content_right windows f content.ConsErrors there e = plainly _ (errors_plain windows this_write f root_errors
+      (whole_runes f bytes))
   content_right windows f content.Empty there e = (inl refl, (refl, refl))
   content_right windows f (content.EventsOf w) there e = if_lives_right (window_at windows w) _ (
     inr (record {
@@ -342,7 +360,8 @@ module _ (server : ServerState) where
   soundly body (Ok d) h = (inl h.0, h.1)
   soundly body (Err x) h = refl
 
-  written : (fid offset : ℕ) (bytes : List ℕ) (x : Result Reaction Refusal) → Rightly server fid offset bytes x → Soundly (t.Write fid offset bytes) (refused x) x
+  written : (fid offset : ℕ) (bytes : List ℕ) (x : Result Reaction Refusal) → Rightly server fid offset bytes x
+      → Soundly (t.Write fid offset bytes) (refused x) x
   written fid offset bytes (Ok d) h = h
   written fid offset bytes (Err x) h = refl
 
@@ -351,12 +370,16 @@ module _ (server : ServerState) where
   removed fid (Some f) = (inl (rest_plain (holds_rules f) f.held), refl)
 
   agrees : (asked msize : ℕ) (version : List ℕ) (same : Bool)
-      → Sound (t.Version asked version) None (cond {A = Reaction} same (does (effect.Begins (Some msize)) [] (r.Version msize (codes "9P2000"))) (does (effect.Begins None) [] (r.Version msize (codes "unknown"))))
+      → Sound (t.Version asked version) None (cond {A = Reaction} same
+      (does (effect.Begins (Some msize)) [] (r.Version msize (codes "9P2000")))
+      (does (effect.Begins None) [] (r.Version msize (codes "unknown"))))
   agrees asked msize version true = (inl refl, (refl, refl))
   agrees asked msize version false = (inl refl, (refl, refl))
 
   versioned : (msize : ℕ) (version : List ℕ) (low : Bool)
-      → Sound (t.Version msize version) (cond low (Some refusal.MsizeTooSmall) None) (cond low (refusal_with_effect (effect.Begins None) refusal.MsizeTooSmall) (agreement (min msize 65560) version))
+      → Sound (t.Version msize version) (cond low (Some refusal.MsizeTooSmall) None)
+      (cond low (refusal_with_effect (effect.Begins None) refusal.MsizeTooSmall)
+      (agreement (min msize 65560) version))
   versioned msize version true = (inl refl, refl)
   versioned msize version false = agrees msize (min msize 65560) version (is_version version)
 
@@ -364,8 +387,10 @@ module _ (server : ServerState) where
   answered (t.Version msize version) = versioned msize version (nat_lt msize 256)
   answered (t.Auth afid uname aname) = refl
   answered (t.Flush oldtag) = (inl refl, (refl, refl))
-  answered (t.Attach fid afid uname aname) = soundly (t.Attach fid afid uname aname) _ (attaches fid aname (attach_refusal server fid afid))
-  answered (t.Walk fid newfid names) = soundly (t.Walk fid newfid names) _ (walks server fid newfid names (fid_by server fid))
+  answered (t.Attach fid afid uname aname) = soundly (t.Attach fid afid uname aname) _
+      (attaches fid aname (attach_refusal server fid afid))
+  answered (t.Walk fid newfid names) = soundly (t.Walk fid newfid names) _
+      (walks server fid newfid names (fid_by server fid))
   answered (t.Open fid mode) = soundly (t.Open fid mode) _ (opens server fid mode (fid_by server fid))
   answered (t.Create fid name perm mode) = soundly (t.Create fid name perm mode) _ (denied rcreate (fid_by server fid))
   answered (t.Read fid offset count) =
@@ -379,17 +404,25 @@ module _ (server : ServerState) where
   answered (t.Stat fid) = soundly (t.Stat fid) _ (stats server (fid_by server fid))
   answered (t.Wstat fid stat) = soundly (t.Wstat fid stat) _ (denied rwstat (fid_by server fid))
 
-  settled : (body : TBody) (o : Option Refusal) (x : Result Reaction Refusal) → Soundly body o x → Sound body o (reaction_or_refusal x)
+  settled : (body : TBody) (o : Option Refusal) (x : Result Reaction Refusal) → Soundly body o x
+      → Sound body o (reaction_or_refusal x)
   settled body o (Ok d) h = h
-  settled body o (Err x) h = (inl refl, subst (λ (p : Option Refusal). IsExact body p (Says (r.Error (refusal_text x)))) (sym h) refl)
+  settled body o (Err x) h = (
+    inl refl,
+    subst (λ (p : Option Refusal). IsExact body p (Says (r.Error (refusal_text x))))
+        (sym h) refl,
+  )
 
   first_or : (body : TBody) (o : Option Refusal) (b : Bool) (d : Reaction) → Sound body o d
-      → Sound body (cond b (Some refusal.VersionFirst) o) (cond b (refusal_with_effect effect.Nothing refusal.VersionFirst) d)
+      → Sound body (cond b (Some refusal.VersionFirst) o) (cond b (refusal_with_effect effect.Nothing
+      refusal.VersionFirst) d)
   first_or body o true d h = (inl refl, refl)
   first_or body o false d h = h
 
-  -- A reaction asks for an item only where its message is such a Twrite; and it answers the refusal, where there is one.
+  -- A reaction asks for an item only where its message is such a Twrite; and it answers the refusal, where there is
+  -- one.
   pub reaction_sound : (body : TBody)
-      → Sound body (cond (comes_first server body) (Some refusal.VersionFirst) (session_refusal server body)) (reaction server body)
+      → Sound body (cond (comes_first server body) (Some refusal.VersionFirst) (session_refusal server body))
+      (reaction server body)
   reaction_sound body =
       first_or body _ (comes_first server body) _ (settled body _ (session_reaction server body) (answered body))

@@ -1,5 +1,6 @@
 -- What is said goes to connections that live, so an ended one is replied nothing more.
-use Rattle.std.proofs.Common.{◌≡◌, ◌≢◌, ℕ, zero, suc, ◌+◌, ◌<◌, true, false, eqb, ◌||◌, List, [], ◌∷◌, ◌++◌, None, All, refl, sym, ap, subst, ◌∙◌, append-nil}
+use Rattle.std.proofs.Common.{◌≡◌, ◌≢◌, ℕ, zero, suc, ◌+◌, ◌<◌, true, false, eqb, ◌||◌, List, [], ◌∷◌, ◌++◌, None, All}
+use Rattle.std.proofs.Common.{refl, sym, ap, subst, ◌∙◌, append-nil}
 use Rattle.std.proofs.lemmas.Bool.{ne_eqb, or_left}
 use Rattle.std.proofs.lemmas.List.Elements.{All-head, All-tail, All-weaker}
 use Rattle.std.proofs.lemmas.List.Folds.{list_any-append}
@@ -39,22 +40,28 @@ use Rattle.core_laws.proofs.Unsents.{ahead, sent_or_unsent}
 use Rattle.plumb_ports.specs.PortsState.{PortsState}
 use Rattle.core_fids.specs.Fids.{event_opening, port_opening}
 use Rattle.core_laws.proofs.Helds.{AreHeld, held_open, held_after}
-use Rattle.core_laws.proofs.Wells.{Lives, IsOfLive, WaitsOnLive, AreWell, IsWell, IsOwn, begun, own, dial_lives, later, well_read, well_after}
+use Rattle.core_laws.proofs.Wells.{Lives, IsOfLive, WaitsOnLive, AreWell, IsWell, IsOwn, begun, own, dial_lives, later}
+use Rattle.core_laws.proofs.Wells.{well_read, well_after}
 
 -- ---- what an entry says goes to connections that live
 
 abbrev OnLive : List Connection → ℕ → ℕ → Type 0
 OnLive cs conn tag = Lives cs conn
 
-reads_live : (cs : List Connection) (t : Tables) (at : ℕ) (b : BookState) → AreWell cs t at b → IsBook (Reading (OnLive cs)) at b
+reads_live : (cs : List Connection) (t : Tables) (at : ℕ) (b : BookState) → AreWell cs t at b
+    → IsBook (Reading (OnLive cs)) at b
 reads_live cs t at b well =
-    book_weaker (IsHeld event_opening t) (Reading (OnLive cs)) at b (λ r h. (fids_at (IsOfLive cs) t r.conn h.number h.fid well.fids h.is).0) well.book
+    book_weaker (IsHeld event_opening t) (Reading (OnLive cs)) at b
+    (λ r h. (fids_at (IsOfLive cs) t r.conn h.number h.fid well.fids h.is).0) well.book
 
-ports_live : (cs : List Connection) (t : Tables) (at : ℕ) (b : BookState) (p : PortsState) → AreWell cs t at b → AreHeld t p → All (Reading (OnLive cs)) p.reads
+ports_live : (cs : List Connection) (t : Tables) (at : ℕ) (b : BookState) (p : PortsState) → AreWell cs t at b
+    → AreHeld t p → All (Reading (OnLive cs)) p.reads
 ports_live cs t at b p well held =
-    All-weaker (IsHeld port_opening t) (Reading (OnLive cs)) (λ r h. (fids_at (IsOfLive cs) t r.conn h.number h.fid well.fids h.is).0) p.reads held
+    All-weaker (IsHeld port_opening t) (Reading (OnLive cs)) (λ r h. (fids_at (IsOfLive cs) t r.conn h.number h.fid
+    well.fids h.is).0) p.reads held
 
-own_live : (cs : List Connection) (s : Present) (k : Kind) (d : Doing) → cs ≡ s.connections → IsOwn s k d → OfMessage (OnLive (begun cs k)) k
+own_live : (cs : List Connection) (s : Present) (k : Kind) (d : Doing) → cs ≡ s.connections → IsOwn s k d
+    → OfMessage (OnLive (begun cs k)) k
 unfolding IsOwn begun
 own_live cs s (kind.Dials conn) d e own = tt
 own_live cs s (kind.Asks conn tag) d e own = subst (λ (x : List Connection). Lives x conn) (sym e) own.0
@@ -62,9 +69,11 @@ own_live cs s (kind.Ends conn why) d e own = tt
 own_live cs s (kind.Takes conn) d e own = tt
 own_live cs s kind.Acts d e own = tt
 
-waits_live : (cs : List Connection) (k : Kind) (ws : List Waiting) → All (WaitsOnLive cs) ws → All (WaitsOnLive (begun cs k)) ws
+waits_live : (cs : List Connection) (k : Kind) (ws : List Waiting) → All (WaitsOnLive cs) ws
+    → All (WaitsOnLive (begun cs k)) ws
 unfolding begun
-waits_live cs (kind.Dials conn) ws h = All-weaker (WaitsOnLive cs) (WaitsOnLive (slice_set cs conn Live)) (λ w l. dial_lives cs conn w.conn l) ws h
+waits_live cs (kind.Dials conn) ws h = All-weaker (WaitsOnLive cs) (WaitsOnLive (slice_set cs conn Live))
+    (λ w l. dial_lives cs conn w.conn l) ws h
 waits_live cs (kind.Asks conn tag) ws h = h
 waits_live cs (kind.Ends conn why) ws h = h
 waits_live cs (kind.Takes conn) ws h = h
@@ -75,7 +84,8 @@ undialed_ended Undialed e h = absurd cc
 undialed_ended Live e h = absurd cc
 undialed_ended (Ended why) e h = absurd cc
 
-dial_ended : (cs : List Connection) (c x : ℕ) → dial_refusal (connection_at cs c) ≡ None → is_ended (connection_at cs x) ≡ true → is_ended (connection_at (slice_set cs c Live) x) ≡ true
+dial_ended : (cs : List Connection) (c x : ℕ) → dial_refusal (connection_at cs c) ≡ None →
+    is_ended (connection_at cs x) ≡ true → is_ended (connection_at (slice_set cs c Live) x) ≡ true
 dial_ended [] c x e h = h
 dial_ended (v ∷ cs) zero zero e h = absurd (undialed_ended v e h)
 dial_ended (v ∷ cs) zero (suc x) e h = h
@@ -89,14 +99,18 @@ says_live s e allowed well held =
     let k : Kind = kind_of e in
     let d : Doing = doing_of p e in
     let mine : IsOwn p k d = own s e allowed well in
-    let grown : AreWell (begun s.connections k) (grown_tables p k d) (s.entries + 1) (read_book p k d) = well_read p k d mine (later s well) in
+    let grown : AreWell (begun s.connections k) (grown_tables p k d) (s.entries + 1) (read_book p k d) = well_read p k d
+    mine (later s well) in
     tells (OnLive (begun s.connections k)) p k d (own_live s.connections p k d refl mine)
     (reads_live (begun s.connections k) (grown_tables p k d) (s.entries + 1) (read_book p k d) grown)
-    (ports_live (begun s.connections k) (grown_tables p k d) (s.entries + 1) (read_book p k d) (open_ports p k d) grown (held_open p k d mine held))
+    (ports_live (begun s.connections k) (grown_tables p k d) (s.entries + 1) (read_book p k d) (open_ports p k d) grown
+    (held_open p k d mine held))
     (waits_live s.connections k s.tables.waiting well.waiting)
 
 -- an ended connection isn't dialled again
-still_ended : (s : State) (e : Event) (conn : ℕ) → enabled_at (present s) e ≡ None → is_ended (connection_at s.connections conn) ≡ true → is_ended (connection_at (begun s.connections (kind_of e)) conn) ≡ true
+still_ended : (s : State) (e : Event) (conn : ℕ) → enabled_at (present s) e ≡ None →
+    is_ended (connection_at s.connections conn) ≡ true → is_ended (connection_at (begun s.connections (kind_of e)) conn)
+    ≡ true
 unfolding begun
 still_ended s (event.Dial c) conn allowed ended = dial_ended s.connections c conn allowed ended
 still_ended s (event.Msg c msg) conn allowed ended = ended
@@ -124,11 +138,14 @@ joined_none conn (x ∷ xs) h =
     let apart : eqb x.conn conn ≡ false = ne_eqb x.conn conn (All-head (λ (y : Response). y.conn ≢ conn) x xs h) in
     rw apart (joined_none conn xs (All-tail (λ (y : Response). y.conn ≢ conn) x xs h))
 
-step_replies : (s : State) (e : Event) → (step s e).replies ≡ replies_of (said (present s) (kind_of e) (doing_of (present s) e))
+step_replies : (s : State) (e : Event) → (step s e).replies ≡ replies_of
+    (said (present s) (kind_of e) (doing_of (present s) e))
 unfolding step
 step_replies s e = refl
 
-replied_none : (before : List Event) (e : Event) (conn : ℕ) → enabled before e ≡ None → IsWell (run before) → AreHeld (run before).tables (run before).scene.ports → is_ended (connection_at (run before).connections conn) ≡ true → replied_by conn before e ≡ []
+replied_none : (before : List Event) (e : Event) (conn : ℕ) → enabled before e ≡ None → IsWell (run before)
+    → AreHeld (run before).tables (run before).scene.ports → is_ended (connection_at (run before).connections conn)
+    ≡ true → replied_by conn before e ≡ []
 replied_none before e conn allowed well held ended =
     let s : State = run before in
     let cs : List Connection = begun s.connections (kind_of e) in
@@ -136,28 +153,37 @@ replied_none before e conn allowed well held ended =
     let over : is_ended (connection_at cs conn) ≡ true = still_ended s e conn allowed ended in
     let apart : All (λ x. x.conn ≢ conn) xs =
     All-weaker (Tells (OnLive cs)) (λ x. x.conn ≢ conn)
-    (λ x live (same : x.conn ≡ conn). both (connection_at cs conn) (subst (Lives cs) same live) over) xs (says_live s e allowed well held)
+    (λ x live (same : x.conn ≡ conn). both (connection_at cs conn) (subst (Lives cs) same live) over) xs
+    (says_live s e allowed well held)
     in
-    ap (λ (u : State). bytes_to conn u.replies) (run-push before e) ∙ ap (bytes_to conn) (step_replies s e) ∙ joined_none conn xs apart
+    ap (λ (u : State). bytes_to conn u.replies) (run-push before e) ∙ ap (bytes_to conn) (step_replies s e)
+    ∙ joined_none conn xs apart
 
 -- ---- all entries behind a hang-up
 
-hung_more : (before : List Event) (e : Event) (conn : ℕ) → has_hang before conn ≡ true → has_hang (before ++ e ∷ []) conn ≡ true
-hung_more before e conn hung = list_any-append (is_hang_of conn) before (e ∷ []) ∙ or_left (has_hang before conn) (is_hang_of conn e || false) hung
+hung_more : (before : List Event) (e : Event) (conn : ℕ) → has_hang before conn ≡ true → has_hang (before ++ e ∷ [])
+    conn ≡ true
+hung_more before e conn hung = list_any-append (is_hang_of conn) before (e ∷ [])
+    ∙ or_left (has_hang before conn) (is_hang_of conn e || false) hung
 
-nothing_behind : (before events : List Event) (conn : ℕ) → conn < 64 → IsPlayed enabled before → ArePlayed enabled before events → has_hang before conn ≡ true
+nothing_behind : (before events : List Event) (conn : ℕ) → conn < 64 → IsPlayed enabled before
+    → ArePlayed enabled before events → has_hang before conn ≡ true
     → replied_from before events conn ≡ []
 unfolding ArePlayed
 nothing_behind before [] conn small was played hung = refl
 nothing_behind before (e ∷ events) conn small was played hung =
-    let ended : is_ended (connection_at (run before).connections conn) ≡ true = tells_connections.ended before conn was small ∙ hung in
-    let first : replied_by conn before e ≡ [] = replied_none before e conn played.1 (well_after before was) (held_after before was) ended in
+    let ended : is_ended (connection_at (run before).connections conn) ≡ true = tells_connections.ended before conn was
+    small ∙ hung in
+    let first : replied_by conn before e ≡ [] = replied_none before e conn played.1 (well_after before was)
+    (held_after before was) ended in
     ap (λ (l : List ℕ). l ++ replied_from (before ++ e ∷ []) events conn) first
-    ∙ nothing_behind (before ++ e ∷ []) events conn small (played_more [] before e was played.0 played.1) played.2 (hung_more before e conn hung)
+    ∙ nothing_behind (before ++ e ∷ []) events conn small (played_more [] before e was played.0 played.1) played.2
+    (hung_more before e conn hung)
 
 -- ---- the laws
 
-behind : (before rest : List Event) (conn : ℕ) → conn < 64 → IsPlayed enabled (before ++ rest) → has_hang before conn ≡ true → replied_from before rest conn ≡ []
+behind : (before rest : List Event) (conn : ℕ) → conn < 64 → IsPlayed enabled (before ++ rest)
+    → has_hang before conn ≡ true → replied_from before rest conn ≡ []
 behind before rest conn small played hung =
     let parts : ArePlayed enabled [] before × ArePlayed enabled before rest = played_parts [] before rest played in
     nothing_behind before rest conn small parts.0 parts.1 hung
@@ -185,9 +211,12 @@ get_all before journal conn small played front hung none =
     let all : IsPlayed enabled (before ++ rest) = subst (IsPlayed enabled) (sym is) played in
     let silent : replied_from before rest conn ≡ [] = behind before rest conn small all hung in
     let taken : sent_from output_at before rest conn ++ output_at (before ++ rest) conn ≡ [] =
-    sym (ahead before rest conn small) ∙ ap (λ (l : List ℕ). output_at before conn ++ l) silent ∙ append-nil (output_at before conn) ∙ none
+    sym (ahead before rest conn small) ∙ ap (λ (l : List ℕ). output_at before conn ++ l) silent
+    ∙ append-nil (output_at before conn) ∙ none
     in
-    let empty : output_at journal conn ≡ [] = ap (λ (l : List Event). output_at l conn) (sym is) ∙ second_nil (sent_from output_at before rest conn) (output_at (before ++ rest) conn) taken in
-    sym (sent_or_unsent journal conn small ∙ ap (λ (l : List ℕ). sent output_at journal conn ++ l) empty ∙ append-nil (sent output_at journal conn))
+    let empty : output_at journal conn ≡ [] = ap (λ (l : List Event). output_at l conn) (sym is)
+    ∙ second_nil (sent_from output_at before rest conn) (output_at (before ++ rest) conn) taken in
+    sym (sent_or_unsent journal conn small ∙ ap (λ (l : List ℕ). sent output_at journal conn ++ l) empty
+    ∙ append-nil (sent output_at journal conn))
 
 pub ruleset ended = (nothing_after, get_all)

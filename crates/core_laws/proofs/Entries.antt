@@ -1,5 +1,7 @@
 -- An item that was written back was so by one entry, and no other item by the same.
-use Rattle.std.proofs.Common.{◌≡◌, ◌≢◌, ◌==◌, ◌⊎◌, inl, inr, ℕ, zero, suc, ◌+◌, ◌≤◌, Bool, true, false, cond, List, [], ◌∷◌, ◌++◌, length, fold, nat_lt, slice_get, Option, Some, None, refl, sym, ap, subst, ◌∙◌, append_assoc, append-nil, arith}
+use Rattle.std.proofs.Common.{◌≡◌, ◌≢◌, ◌==◌, ◌⊎◌, inl, inr, ℕ, zero, suc, ◌+◌, ◌≤◌, Bool, true, false, cond, List, []}
+use Rattle.std.proofs.Common.{◌∷◌, ◌++◌, length, fold, nat_lt, slice_get, Option, Some, None, refl, sym, ap, subst, ◌∙◌}
+use Rattle.std.proofs.Common.{append_assoc, append-nil, arith}
 use Rattle.std.proofs.lemmas.Bool.{false≢true}
 use Rattle.std.proofs.lemmas.Bool.Decides.{nat_tests}
 use Rattle.fid_table.specs.declared.types.Fid.{Fid}
@@ -13,13 +15,19 @@ use Rattle.wait_queue.specs.declared.types.Asker.{Asker}
 use Rattle.wait_queue.specs.declared.types.Asked.{Asked}
 use Rattle.wait_queue.specs.declared.types.Asked.TheVariants.{Now, Waits}
 use Rattle.event_book.specs.declared.lives.Recorded.{Recorded}
-use Rattle.event_book.specs.Lives.{is_back, pends, fresh, take_first, drop_life, with_drop, all_dropped, written_back as back_in, numbered as numbered_in}
-use Rattle.event_book.specs.WindowFiles.{EventFile, queue_of, enlisted, with_item, items_after, given, with_written, left_with, left, deleted, file_of, with_file}
-use Rattle.event_book.specs.BookState.{BookState, window_of, file_on, is_open_window, is_living, is_taken_of, recorded_of, next_opening, read_waits, asked_of, next_of, after_next, after_add, after_put, after_answer, after_ask, after_serve, after_written, after_cancel, after_leave, after_delete}
+use Rattle.event_book.specs.Lives.{is_back, pends, fresh, take_first, drop_life, with_drop, all_dropped}
+use Rattle.event_book.specs.Lives.{written_back as back_in, numbered as numbered_in}
+use Rattle.event_book.specs.WindowFiles.{EventFile, queue_of, enlisted, with_item, items_after, given, with_written}
+use Rattle.event_book.specs.WindowFiles.{left_with, left, deleted, file_of, with_file}
+use Rattle.event_book.specs.BookState.{BookState, window_of, file_on, is_open_window, is_living, is_taken_of}
+use Rattle.event_book.specs.BookState.{recorded_of, next_opening, read_waits, asked_of, next_of, after_next, after_add}
+use Rattle.event_book.specs.BookState.{after_put, after_answer, after_ask, after_serve, after_written, after_cancel}
+use Rattle.event_book.specs.BookState.{after_leave, after_delete}
 use Rattle.event_book.specs.Laws.{IsLawful}
 use Rattle.event_book.proofs.TableLemmas.{eq_from_test}
 use Rattle.event_book.proofs.BookLemmas.{same_window, other_window}
-use Rattle.event_book.proofs.LawfulLemmas.{lawful-add, lawful-put_in, lawful-waits, lawful-answer, lawful-serve, lawful-written_back, lawful-cancel, lawful-leave, lawful-delete}
+use Rattle.event_book.proofs.LawfulLemmas.{lawful-add, lawful-put_in, lawful-waits, lawful-answer, lawful-serve}
+use Rattle.event_book.proofs.LawfulLemmas.{lawful-written_back, lawful-cancel, lawful-leave, lawful-delete}
 use Rattle.am_journal.specs.declared.event.Event.{Event}
 use Rattle.core_fids.specs.declared.effect.Answer.{Answer}
 use Rattle.core_fids.specs.declared.effect.Answer.TheVariants.{Says, Reads, ReadsPort}
@@ -32,7 +40,8 @@ use Rattle.core_scene.specs.Scenes.{deleted_by}
 use Rattle.core_events.specs.Asking.{reads_are_full, opened, book_asked, book_read}
 use Rattle.core_events.specs.declared.closing.BackItem.{BackItem}
 use Rattle.core_fids.specs.Fids.{event_opening}
-use Rattle.core_events.specs.Closing.{written_back, without_opening, without_fid, opening_in, freed, cancelled, closed_with}
+use Rattle.core_events.specs.Closing.{written_back, without_opening, without_fid, opening_in, freed, cancelled}
+use Rattle.core_events.specs.Closing.{closed_with}
 use Rattle.core_events.specs.Putting.{put_one, put_all, is_ending, put_if_lives, put_living, ending}
 use Rattle.core_events.specs.Serving.{book_served_most, book_served_all}
 use Rattle.core_events.proofs.Idles.{AreIdle}
@@ -42,7 +51,8 @@ use Rattle.core_intents.specs.Doings.{doing_of}
 use Rattle.core_parts.specs.Doing.{Doing}
 use Rattle.core_parts.specs.Kinds.{kind_of}
 use Rattle.acme_core.specs.Run.{step, run}
-use Rattle.core_steps.specs.Stages.{asker_of, answer_book, message_book, acted, with_fid, grown_tables, read_book, put_book, grown_book, book_after}
+use Rattle.core_steps.specs.Stages.{asker_of, answer_book, message_book, acted, with_fid, grown_tables, read_book}
+use Rattle.core_steps.specs.Stages.{put_book, grown_book, book_after}
 use Rattle.core_closing.specs.Closing.{left_book}
 use Rattle.core_parts.specs.States.{Present, State, present, next_entry}
 use Rattle.acme_core.proofs.Goes.{run-push}
@@ -63,7 +73,8 @@ some_is : {A : Type 0} (a b : A) → Some a ≡ Some b → a ≡ b
 some_is a b h = cc
 
 not_one : (x r : Recorded) → is_back x.life ≡ false → Some x ≡ Some r → is_back r.life ≡ true → ⊥
-not_one x r fresh_one is back = false≢true (sym fresh_one ∙ ap (λ (y : Recorded). is_back y.life) (some_is x r is) ∙ back)
+not_one x r fresh_one is back = false≢true (sym fresh_one ∙ ap (λ (y : Recorded). is_back y.life) (some_is x r is)
+    ∙ back)
 
 same : (o : Option Recorded) → WasBack o o
 same o r is back = is
@@ -77,12 +88,14 @@ pushed new (x ∷ es) (suc k) r is back = pushed new es k r is back
 taken : (o a : ℕ) (es : List Recorded) (k : ℕ) → WasBack (slice_get es k) (slice_get (take_first (Taken o a) es) k)
 taken o a [] k = same (slice_get [] k)
 taken o a (x ∷ es) zero =
-    elim (pends x) as (λ b. WasBack (Some x) (slice_get (cond b (record { item = x.item; life = Taken o a } ∷ es) (x ∷ take_first (Taken o a) es)) zero)) [
+    elim (pends x) as (λ b. WasBack (Some x) (slice_get (cond b (record { item = x.item; life = Taken o a } ∷ es)
+    (x ∷ take_first (Taken o a) es)) zero)) [
       | true ↦ λ r is back. absurd (not_one (record { item = x.item; life = Taken o a }) r refl is back)
       | false ↦ same (Some x)
     ]
 taken o a (x ∷ es) (suc k) =
-    elim (pends x) as (λ b. WasBack (slice_get es k) (slice_get (cond b (record { item = x.item; life = Taken o a } ∷ es) (x ∷ take_first (Taken o a) es)) (suc k))) [
+    elim (pends x) as (λ b. WasBack (slice_get es k) (slice_get (cond b
+    (record { item = x.item; life = Taken o a } ∷ es) (x ∷ take_first (Taken o a) es)) (suc k))) [
       | true ↦ same (slice_get es k)
       | false ↦ taken o a es k
     ]
@@ -104,30 +117,38 @@ closed at [] k = same (slice_get [] k)
 closed at (x ∷ es) zero = dropped_one at x
 closed at (x ∷ es) (suc k) = closed at es k
 
-by_number : (es es' : List Recorded) → ((k : ℕ) → WasBack (slice_get es k) (slice_get es' k)) → (n : ℕ) → WasBack (numbered_in es n) (numbered_in es' n)
+by_number : (es es' : List Recorded) → ((k : ℕ) → WasBack (slice_get es k) (slice_get es' k)) → (n : ℕ)
+    → WasBack (numbered_in es n) (numbered_in es' n)
 by_number es es' h zero = same None
 by_number es es' h (suc k) = h k
 
-taken_items : (o a : ℕ) (t : Option ℕ) (es : List Recorded) (n : ℕ) → WasBack (numbered_in es n) (numbered_in (items_after t (Taken o a) es) n)
+taken_items : (o a : ℕ) (t : Option ℕ) (es : List Recorded) (n : ℕ)
+    → WasBack (numbered_in es n) (numbered_in (items_after t (Taken o a) es) n)
 taken_items o a None es n = same (numbered_in es n)
 taken_items o a (Some number) es n = by_number es (take_first (Taken o a) es) (taken o a es) n
 
-left_items : (at : ℕ) (cs : List OpenCarry) (f : EventFile) (n : ℕ) → WasBack (numbered_in f.items n) (numbered_in (left_with cs at f).items n)
+left_items : (at : ℕ) (cs : List OpenCarry) (f : EventFile) (n : ℕ)
+    → WasBack (numbered_in f.items n) (numbered_in (left_with cs at f).items n)
 left_items at [] f n = by_number f.items (all_dropped at f.items) (closed at f.items) n
 left_items at (c ∷ cs) f n = same (numbered_in f.items n)
 
 -- one window's file changed
-with_items : (s : BookState) (w : ℕ) (f : EventFile) → IsLawful s → ((n : ℕ) → WasBack (numbered_in (file_of s.files w).items n) (numbered_in f.items n)) → (v n : ℕ)
+with_items : (s : BookState) (w : ℕ) (f : EventFile) → IsLawful s →
+    ((n : ℕ) → WasBack (numbered_in (file_of s.files w).items n) (numbered_in f.items n)) → (v n : ℕ)
     → WasBack (numbered_in (file_of s.files v).items n) (numbered_in (file_of (with_file w f s.files) v).items n)
 with_items s w f h own v n =
-    (elim (v == w) as (λ b. (v == w) ≡ b → WasBack (numbered_in (file_of s.files v).items n) (numbered_in (file_of (with_file w f s.files) v).items n)) [
+    (elim (v == w) as (λ b. (v == w) ≡ b → WasBack (numbered_in (file_of s.files v).items n)
+    (numbered_in (file_of (with_file w f s.files) v).items n)) [
       | true ↦ λ t.
           let e : v ≡ w = eq_from_test v w t in
-          subst (λ (x : ℕ). WasBack (numbered_in (file_of s.files x).items n) (numbered_in (file_of (with_file w f s.files) x).items n)) (sym e)
-          (subst (λ (g : EventFile). WasBack (numbered_in (file_of s.files w).items n) (numbered_in g.items n)) (sym (same_window 0 w f s.files h.rise)) (own n))
+          subst (λ (x : ℕ). WasBack (numbered_in (file_of s.files x).items n)
+          (numbered_in (file_of (with_file w f s.files) x).items n)) (sym e)
+          (subst (λ (g : EventFile). WasBack (numbered_in (file_of s.files w).items n) (numbered_in g.items n))
+          (sym (same_window 0 w f s.files h.rise)) (own n))
       | false ↦ λ t.
           let other : v ≢ w = grind (arith, nat_tests) in
-          subst (λ (g : EventFile). WasBack (numbered_in (file_of s.files v).items n) (numbered_in g.items n)) (sym (other_window w v f s.files other)) (same (numbered_in (file_of s.files v).items n))
+          subst (λ (g : EventFile). WasBack (numbered_in (file_of s.files v).items n) (numbered_in g.items n))
+          (sym (other_window w v f s.files other)) (same (numbered_in (file_of s.files v).items n))
     ]) refl
 
 -- ---- the calls of a book but that which writes back
@@ -142,7 +163,8 @@ answer_from s x at h =
 
 ask_from : (s : BookState) (x : Asker) (at : ℕ) → IsLawful s → From s (after_ask s x at)
 ask_from s x at h =
-    elim (read_waits s x) as (λ b. From s (cond b (record s { reads = s.reads ++ x ∷ []; latest = at }) (after_answer s x at))) [
+    elim (read_waits s x) as (λ b. From s (cond b (record s { reads = s.reads ++ x ∷ []; latest = at })
+    (after_answer s x at))) [
       | true ↦ λ v n. same (recorded_of s v n)
       | false ↦ answer_from s x at h
     ]
@@ -173,7 +195,8 @@ module _ (first : BookState) (at : ℕ) where
   from_opened s (events.Opens w) k =
       elim (nat_lt (length s.owners) 4294967295) as (λ t. K (cond t (after_add s w) s)) [
         | true ↦ on s (after_add s w) k (lawful-add s w k.lawful) k.latest
-            (with_items s w (enlisted (file_of s.files w) (next_opening s)) k.lawful (λ n. same (numbered_in (file_of s.files w).items n)))
+            (with_items s w (enlisted (file_of s.files w) (next_opening s)) k.lawful
+            (λ n. same (numbered_in (file_of s.files w).items n)))
         | false ↦ k
       ]
   from_opened s (events.Cancels tag) k = k
@@ -181,10 +204,12 @@ module _ (first : BookState) (at : ℕ) where
 
   from_put : (s : BookState) (i : WindowItem) → K s → K (put_one s i)
   from_put s i k =
-      (elim (is_open_window s i.window) as (λ t. is_open_window s i.window ≡ t → K (cond t (after_put s i.window i.item) s)) [
+      (elim (is_open_window s i.window) as (λ t. is_open_window s i.window ≡ t →
+      K (cond t (after_put s i.window i.item) s)) [
         | true ↦ λ e. on s (after_put s i.window i.item) k (lawful-put_in s i.window i.item e k.lawful) k.latest
             (with_items s i.window (with_item (file_of s.files i.window) i.item) k.lawful
-            (by_number (file_of s.files i.window).items ((file_of s.files i.window).items ++ fresh i.item ∷ []) (pushed i.item (file_of s.files i.window).items)))
+            (by_number (file_of s.files i.window).items ((file_of s.files i.window).items ++ fresh i.item ∷ [])
+            (pushed i.item (file_of s.files i.window).items)))
         | false ↦ λ e. k
       ]) refl
 
@@ -206,31 +231,36 @@ module _ (first : BookState) (at : ℕ) where
     where
       lawful : IsLawful (after_ask s x at)
       lawful =
-          elim (read_waits s x) as (λ t. IsLawful (cond t (record s { reads = s.reads ++ x ∷ []; latest = at }) (after_answer s x at))) [
+          elim (read_waits s x) as (λ t. IsLawful (cond t (record s { reads = s.reads ++ x ∷ []; latest = at })
+          (after_answer s x at))) [
             | true ↦ lawful-waits s x at k.latest living k.lawful
             | false ↦ lawful-answer s x at k.latest living k.lawful
           ]
 
       latest : (after_ask s x at).latest ≤ at
       latest =
-          elim (read_waits s x) as (λ t. (cond t (record s { reads = s.reads ++ x ∷ []; latest = at }) (after_answer s x at)).latest ≤ at) [
+          elim (read_waits s x) as (λ t. (cond t (record s { reads = s.reads ++ x ∷ []; latest = at })
+          (after_answer s x at)).latest ≤ at) [
             | true ↦ omega arith
             | false ↦ omega arith
           ]
 
-  from_asked : (full : Bool) (asked : Asked) (s : BookState) (x : Asker) → is_living s x.opening ≡ true → K s → K (book_asked full asked s x at)
+  from_asked : (full : Bool) (asked : Asked) (s : BookState) (x : Asker) → is_living s x.opening ≡ true → K s
+      → K (book_asked full asked s x at)
   from_asked full (Now piece) s x living k = from_ask s x living k
   from_asked true Waits s x living k = k
   from_asked false Waits s x living k = from_ask s x living k
 
   from_read : (t : Tables) (s : BookState) (x : Asker) → K s → K (book_read t s x at)
   from_read t s x k =
-      (elim (is_living s x.opening) as (λ l. is_living s x.opening ≡ l → K (cond l (book_asked (reads_are_full t x.conn) (asked_of s x) s x at) s)) [
+      (elim (is_living s x.opening) as (λ l. is_living s x.opening ≡ l →
+      K (cond l (book_asked (reads_are_full t x.conn) (asked_of s x) s x at) s)) [
         | true ↦ λ living. from_asked (reads_are_full t x.conn) (asked_of s x) s x living k
         | false ↦ λ dead. k
       ]) refl
 
-  from_answer : (t : Tables) (s : BookState) (conn tag : ℕ) (a : Option Answer) → K s → K (answer_book t s conn tag a at)
+  from_answer : (t : Tables) (s : BookState) (conn tag : ℕ) (a : Option Answer) → K s
+      → K (answer_book t s conn tag a at)
   from_answer t s conn tag None k = k
   from_answer t s conn tag (Some (Says body)) k = k
   from_answer t s conn tag (Some (Reads fid opening count)) k = from_read t s (asker_of conn tag opening count) k
@@ -252,16 +282,20 @@ module _ (first : BookState) (at : ℕ) where
   from_most zero s k = k
   from_most (suc n) s k =
       from_most n (after_serve s at)
-      (on s (after_serve s at) k (lawful-serve s at k.latest k.lawful) (next_latest (next_of s) s k.latest) (next_from (next_of s) s at k.lawful))
+      (on s (after_serve s at) k (lawful-serve s at k.latest k.lawful) (next_latest (next_of s) s k.latest)
+      (next_from (next_of s) s at k.lawful))
 
   -- all that a step makes
   from_grown : (p : Present) (m : Kind) (d : Doing) → at ≡ next_entry p → K p.scene.book → K (grown_book p m d)
   from_grown p m d e k =
       let items : List WindowItem = (acted p d).items in
-      let read : K (read_book p m d) = subst (λ (n : ℕ). K (message_book (with_fid p m d) p.scene.book m d.answer n)) e (from_message (with_fid p m d) p.scene.book m d.answer k) in
-      let put : K (put_book p m d) = from_living (deleted_by d.deeds) (opened (read_book p m d) d.events) items (from_opened (read_book p m d) d.events read) in
+      let read : K (read_book p m d) = subst (λ (n : ℕ). K (message_book (with_fid p m d) p.scene.book m d.answer n)) e
+      (from_message (with_fid p m d) p.scene.book m d.answer k) in
+      let put : K (put_book p m d) = from_living (deleted_by d.deeds) (opened (read_book p m d) d.events) items
+      (from_opened (read_book p m d) d.events read) in
       let served : K (book_served_all (next_entry p) (put_book p m d)) =
-      subst (λ (n : ℕ). K (book_served_all n (put_book p m d))) e (from_most (length (put_book p m d).reads) (put_book p m d) put)
+      subst (λ (n : ℕ). K (book_served_all n (put_book p m d))) e (from_most (length (put_book p m d).reads)
+      (put_book p m d) put)
       in
       from_put_all (book_served_all (next_entry p) (put_book p m d)) (ending (deleted_by d.deeds) items) served
 
@@ -272,7 +306,8 @@ module _ (first : BookState) (at : ℕ) where
   from_without s (Some o) k =
       elim (is_living s o) as (λ t. K (cond t (after_leave s o at) s)) [
         | true ↦ on s (after_leave s o at) k (lawful-leave s o at k.latest k.lawful) (omega arith)
-            (with_items s (window_of s.owners o) (left (file_on s o) o at) k.lawful (left_items at (without_carry (file_on s o).openings o) (file_on s o)))
+            (with_items s (window_of s.owners o) (left (file_on s o) o at) k.lawful
+            (left_items at (without_carry (file_on s o).openings o) (file_on s o)))
         | false ↦ k
       ]
 
@@ -290,11 +325,13 @@ module _ (first : BookState) (at : ℕ) where
   from_cancelled s conn events.Nothing k = k
   from_cancelled s conn (events.Opens w) k = k
   from_cancelled s conn (events.Joins port) k = k
-  from_cancelled s conn (events.Cancels tag) k = on s (after_cancel s conn tag) k (lawful-cancel s conn tag k.lawful) k.latest (λ v n. same (recorded_of s v n))
+  from_cancelled s conn (events.Cancels tag) k = on s (after_cancel s conn tag) k (lawful-cancel s conn tag k.lawful)
+      k.latest (λ v n. same (recorded_of s v n))
 
   from_left : (t : Tables) (s : BookState) (m : Kind) (d : Doing) → K s → K (left_book at t m d s)
   from_left t s (kind.Dials conn) d k = k
-  from_left t s (kind.Asks conn tag) d k = from_cancelled (freed at s t conn d.effect) conn d.events (from_freed s t conn d.effect k)
+  from_left t s (kind.Asks conn tag) d k = from_cancelled (freed at s t conn d.effect) conn d.events
+      (from_freed s t conn d.effect k)
   from_left t s (kind.Ends conn why) d k = from_fids s (fids_of t conn) k
   from_left t s (kind.Takes conn) d k = k
   from_left t s kind.Acts d k = k
@@ -304,17 +341,22 @@ module _ (first : BookState) (at : ℕ) where
   from_closed s (w ∷ ws) k =
       from_closed (after_delete s w at) ws
       (on s (after_delete s w at) k (lawful-delete s w at k.latest k.lawful) (omega arith)
-      (with_items s w (deleted (file_of s.files w) at) k.lawful (by_number (file_of s.files w).items (all_dropped at (file_of s.files w).items) (closed at (file_of s.files w).items))))
+      (with_items s w (deleted (file_of s.files w) at) k.lawful (by_number (file_of s.files w).items
+      (all_dropped at (file_of s.files w).items) (closed at (file_of s.files w).items))))
 
-  from_after : (p : Present) (m : Kind) (d : Doing) → at ≡ next_entry p → K (written_back at (grown_book p m d) d.back) → K (book_after p m d)
+  from_after : (p : Present) (m : Kind) (d : Doing) → at ≡ next_entry p → K (written_back at (grown_book p m d) d.back)
+      → K (book_after p m d)
   from_after p m d e k =
-      subst (λ (n : ℕ). K (closed_with n (left_book n (grown_tables p m d) m d (written_back n (grown_book p m d) d.back)) (deleted_by d.deeds))) e
-      (from_closed (left_book at (grown_tables p m d) m d (written_back at (grown_book p m d) d.back)) (deleted_by d.deeds)
+      subst (λ (n : ℕ). K (closed_with n (left_book n (grown_tables p m d) m d
+      (written_back n (grown_book p m d) d.back)) (deleted_by d.deeds))) e
+      (from_closed (left_book at (grown_tables p m d) m d (written_back at (grown_book p m d) d.back))
+      (deleted_by d.deeds)
       (from_left (grown_tables p m d) (written_back at (grown_book p m d) d.back) m d k))
 
 -- ---- the call that writes back
 
-write_at : (at m : ℕ) (es : List Recorded) (k : ℕ) (r : Recorded) → slice_get (back_in at m es) k ≡ Some r → (slice_get es k ≡ Some r) ⊎ (suc k ≡ m)
+write_at : (at m : ℕ) (es : List Recorded) (k : ℕ) (r : Recorded) → slice_get (back_in at m es) k ≡ Some r
+    → (slice_get es k ≡ Some r) ⊎ (suc k ≡ m)
 write_at at zero es k r h = inl h
 write_at at (suc m) [] k r h = inl h
 write_at at (suc zero) (x ∷ es) zero r h = inr refl
@@ -326,7 +368,8 @@ write_at at (suc (suc m)) (x ∷ es) (suc k) r h =
       | inr e ↦ inr (ap suc e)
     ]
 
-write_number : (at m : ℕ) (es : List Recorded) (n : ℕ) (r : Recorded) → numbered_in (back_in at m es) n ≡ Some r → (numbered_in es n ≡ Some r) ⊎ (n ≡ m)
+write_number : (at m : ℕ) (es : List Recorded) (n : ℕ) (r : Recorded) → numbered_in (back_in at m es) n ≡ Some r
+    → (numbered_in es n ≡ Some r) ⊎ (n ≡ m)
 write_number at m es zero r h = inl h
 write_number at m es (suc k) r h = write_at at m es k r h
 
@@ -334,7 +377,8 @@ write_number at m es (suc k) r h = write_at at m es k r h
 abbrev Or : BookState → BackItem → ℕ → ℕ → Recorded → Type 0
 Or s b v n r = (recorded_of s v n ≡ Some r) ⊎ (b ≡ numbered v n)
 
-write_window : (s : BookState) (b : BackItem) (at v n : ℕ) (r : Recorded) → IsLawful s → recorded_of (after_written s b.window b.number at) v n ≡ Some r → Or s b v n r
+write_window : (s : BookState) (b : BackItem) (at v n : ℕ) (r : Recorded) → IsLawful s
+    → recorded_of (after_written s b.window b.number at) v n ≡ Some r → Or s b v n r
 write_window s b at v n r h is =
     let f : EventFile = with_written (file_of s.files b.window) b.number at in
     (elim (v == b.window) as (λ t. (v == b.window) ≡ t → Or s b v n r) [
@@ -343,7 +387,8 @@ write_window s b at v n r h is =
           let here : numbered_in (file_of (with_file b.window f s.files) b.window).items n ≡ Some r =
           subst (λ (x : ℕ). numbered_in (file_of (with_file b.window f s.files) x).items n ≡ Some r) e is
           in
-          let items : numbered_in f.items n ≡ Some r = subst (λ (g : EventFile). numbered_in g.items n ≡ Some r) (same_window 0 b.window f s.files h.rise) here in
+          let items : numbered_in f.items n ≡ Some r = subst (λ (g : EventFile). numbered_in g.items n ≡ Some r)
+          (same_window 0 b.window f s.files h.rise) here in
           elim (write_number at b.number (file_of s.files b.window).items n r items) [
             | inl l ↦ inl (subst (λ (x : ℕ). recorded_of s x n ≡ Some r) (sym e) l)
             | inr m ↦ inr (ap (λ (x : ℕ). numbered b.window x) (sym m) ∙ ap (λ (x : ℕ). numbered x n) (sym e))
@@ -360,30 +405,37 @@ some_or : (s : BookState) (b : BackItem) (v n : ℕ) (r : Recorded) → Or s b v
 some_or s b v n r (inl l) = inl l
 some_or s b v n r (inr e) = inr (ap (λ (x : BackItem). Some x) e)
 
-write_from : (s : BookState) (o : Option BackItem) (at v n : ℕ) (r : Recorded) → IsLawful s → recorded_of (written_back at s o) v n ≡ Some r → OrAny s o v n r
+write_from : (s : BookState) (o : Option BackItem) (at v n : ℕ) (r : Recorded) → IsLawful s
+    → recorded_of (written_back at s o) v n ≡ Some r → OrAny s o v n r
 write_from s None at v n r h is = inl is
 write_from s (Some b) at v n r h is =
-    (elim (is_taken_of s b.window b.number) as (λ t. recorded_of (cond t (after_written s b.window b.number at) s) v n ≡ Some r → OrAny s (Some b) v n r) [
+    (elim (is_taken_of s b.window b.number) as (λ t. recorded_of (cond t (after_written s b.window b.number at) s) v
+    n ≡ Some r → OrAny s (Some b) v n r) [
       | true ↦ λ k. some_or s b v n r (write_window s b at v n r h k)
       | false ↦ λ k. inl k
     ]) is
 
-write_lawful : (s : BookState) (o : Option BackItem) (at : ℕ) → IsLawful s → s.latest ≤ at → IsFrom (written_back at s o) at (written_back at s o)
+write_lawful : (s : BookState) (o : Option BackItem) (at : ℕ) → IsLawful s → s.latest ≤ at
+    → IsFrom (written_back at s o) at (written_back at s o)
 write_lawful s None at h l = from_first at s h l
 write_lawful s (Some b) at h l =
-    elim (is_taken_of s b.window b.number) as (λ t. IsFrom (cond t (after_written s b.window b.number at) s) at (cond t (after_written s b.window b.number at) s)) [
-      | true ↦ from_first at (after_written s b.window b.number at) (lawful-written_back s b.window b.number at l h) (omega arith)
+    elim (is_taken_of s b.window b.number) as (λ t. IsFrom (cond t (after_written s b.window b.number at) s) at
+    (cond t (after_written s b.window b.number at) s)) [
+      | true ↦ from_first at (after_written s b.window b.number at) (lawful-written_back s b.window b.number at l h)
+          (omega arith)
       | false ↦ from_first at s h l
     ]
 
 -- ---- one entry
 
 -- what is written back after an entry was so before it, or the entry wrote it back
-grown_or : (s g : BookState) (o : Option BackItem) (v n : ℕ) (r : Recorded) → From s g → is_back r.life ≡ true → OrAny g o v n r → OrAny s o v n r
+grown_or : (s g : BookState) (o : Option BackItem) (v n : ℕ) (r : Recorded) → From s g
+    → is_back r.life ≡ true → OrAny g o v n r → OrAny s o v n r
 grown_or s g o v n r from back (inl l) = inl (from v n r l back)
 grown_or s g o v n r from back (inr e) = inr e
 
-step_or : (s : State) (e : Event) (v n : ℕ) (r : Recorded) → IsLawful s.scene.book → s.scene.book.latest ≤ s.entries → recorded_of (step s e).scene.book v n ≡ Some r
+step_or : (s : State) (e : Event) (v n : ℕ) (r : Recorded) → IsLawful s.scene.book → s.scene.book.latest ≤ s.entries
+    → recorded_of (step s e).scene.book v n ≡ Some r
     → is_back r.life ≡ true → OrAny s.scene.book (doing_of (present s) e).back v n r
 unfolding step
 step_or s e v n r lawful latest is back =
@@ -392,10 +444,13 @@ step_or s e v n r lawful latest is back =
     let d : Doing = doing_of p e in
     let at : ℕ = s.entries + 1 in
     let g : BookState = grown_book p k d in
-    let grown : IsFrom s.scene.book at g = from_grown s.scene.book at p k d refl (from_first at s.scene.book lawful (omega (arith, latest))) in
+    let grown : IsFrom s.scene.book at g = from_grown s.scene.book at p k d refl
+    (from_first at s.scene.book lawful (omega (arith, latest))) in
     let written : BookState = written_back at g d.back in
-    let last : IsFrom written at (book_after p k d) = from_after written at p k d refl (write_lawful g d.back at grown.lawful grown.latest) in
-    grown_or s.scene.book g d.back v n r grown.from back (write_from g d.back at v n r grown.lawful (last.from v n r is back))
+    let last : IsFrom written at (book_after p k d) = from_after written at p k d refl
+    (write_lawful g d.back at grown.lawful grown.latest) in
+    grown_or s.scene.book g d.back v n r grown.from back (write_from g d.back at v n r grown.lawful
+    (last.from v n r is back))
 
 -- ---- every journal
 
@@ -407,16 +462,19 @@ record IsWritten (before entries : List Event) (v n : ℕ) : Type 0 where
   is : front ++ entry ∷ rest ≡ entries
   writes : written_by (before ++ front) entry ≡ Some (numbered v n)
 
-later_written : (before entries : List Event) (e : Event) (v n : ℕ) → IsWritten (before ++ e ∷ []) entries v n → IsWritten before (e ∷ entries) v n
+later_written : (before entries : List Event) (e : Event) (v n : ℕ) → IsWritten (before ++ e ∷ []) entries v n
+    → IsWritten before (e ∷ entries) v n
 later_written before entries e v n w = record {
   front = e ∷ w.front;
   entry = w.entry;
   rest = w.rest;
   is = ap (λ (l : List Event). e ∷ l) w.is;
-  writes = subst (λ (l : List Event). written_by l w.entry ≡ Some (numbered v n)) (append_assoc before (e ∷ []) w.front) w.writes;
+  writes = subst (λ (l : List Event). written_by l w.entry ≡ Some (numbered v n)) (append_assoc before (e ∷ []) w.front)
+      w.writes;
 }
 
-first_written : (before entries : List Event) (e : Event) (v n : ℕ) → written_by before e ≡ Some (numbered v n) → IsWritten before (e ∷ entries) v n
+first_written : (before entries : List Event) (e : Event) (v n : ℕ) → written_by before e ≡ Some (numbered v n)
+    → IsWritten before (e ∷ entries) v n
 first_written before entries e v n w = record {
   front = [];
   entry = e;
@@ -428,20 +486,25 @@ first_written before entries e v n w = record {
 abbrev Comes : List Event → List Event → ℕ → ℕ → Recorded → Type 0
 Comes before entries v n r = (recorded_of (run before).scene.book v n ≡ Some r) ⊎ IsWritten before entries v n
 
-one_comes : (before entries : List Event) (e : Event) (v n : ℕ) (r : Recorded) → is_back r.life ≡ true → Comes (before ++ e ∷ []) entries v n r → Comes before (e ∷ entries) v n r
+one_comes : (before entries : List Event) (e : Event) (v n : ℕ) (r : Recorded)
+    → is_back r.life ≡ true → Comes (before ++ e ∷ []) entries v n r → Comes before (e ∷ entries) v n r
 one_comes before entries e v n r back (inl l) =
     let idle : AreIdle [] (run before).entries (run before).scene.book = run_idle before in
-    elim (step_or (run before) e v n r idle.lawful idle.latest (subst (λ (s : State). recorded_of s.scene.book v n ≡ Some r) (run-push before e) l) back) [
+    elim (step_or (run before) e v n r idle.lawful idle.latest (subst
+    (λ (s : State). recorded_of s.scene.book v n ≡ Some r) (run-push before e) l) back) [
       | inl was ↦ inl was
       | inr w ↦ inr (first_written before entries e v n w)
     ]
 one_comes before entries e v n r back (inr w) = inr (later_written before entries e v n w)
 
-comes : (before entries : List Event) (v n : ℕ) (r : Recorded) → recorded_of (run (before ++ entries)).scene.book v n ≡ Some r → is_back r.life ≡ true → Comes before entries v n r
-comes before [] v n r is back = inl (subst (λ (l : List Event). recorded_of (run l).scene.book v n ≡ Some r) (append-nil before) is)
+comes : (before entries : List Event) (v n : ℕ) (r : Recorded) → recorded_of (run (before ++ entries)).scene.book v
+    n ≡ Some r → is_back r.life ≡ true → Comes before entries v n r
+comes before [] v n r is back = inl (subst (λ (l : List Event). recorded_of (run l).scene.book v n ≡ Some r)
+    (append-nil before) is)
 comes before (e ∷ entries) v n r is back =
     one_comes before entries e v n r back
-    (comes (before ++ e ∷ []) entries v n r (subst (λ (l : List Event). recorded_of (run l).scene.book v n ≡ Some r) (sym (append_assoc before (e ∷ []) entries)) is) back)
+    (comes (before ++ e ∷ []) entries v n r (subst (λ (l : List Event). recorded_of (run l).scene.book v n ≡ Some r)
+    (sym (append_assoc before (e ∷ []) entries)) is) back)
 
 none_there : (v n : ℕ) (r : Recorded) → recorded_of (run []).scene.book v n ≡ Some r → ⊥
 unfolding run
@@ -451,32 +514,41 @@ none_there v (suc n) r is = cc
 same_back : (o t m p u n : ℕ) → Back o t m ≡ Back p u n → m ≡ n
 same_back o t m p u n h = cc
 
-same_entry : (a b : Item) (o t m p u n : ℕ) → Some (as_recorded a (Back o t m)) ≡ Some (as_recorded b (Back p u n)) → m ≡ n
-same_entry a b o t m p u n h = same_back o t m p u n (ap (λ (y : Recorded). y.life) (some_is (as_recorded a (Back o t m)) (as_recorded b (Back p u n)) h))
+same_entry : (a b : Item) (o t m p u n : ℕ) → Some (as_recorded a (Back o t m)) ≡ Some (as_recorded b (Back p u n))
+    → m ≡ n
+same_entry a b o t m p u n h = same_back o t m p u n (ap (λ (y : Recorded). y.life)
+    (some_is (as_recorded a (Back o t m)) (as_recorded b (Back p u n)) h))
 
 -- the entry is that which the life names
-entry_is : (journal : List Event) (v n : ℕ) (item : Item) (opening taken_at at : ℕ) → recorded_of (run journal).scene.book v n ≡ Some (record { item = item; life = Back opening taken_at at })
+entry_is : (journal : List Event) (v n : ℕ) (item : Item) (opening taken_at at : ℕ)
+    → recorded_of (run journal).scene.book v n ≡ Some (record { item = item; life = Back opening taken_at at })
     → IsWritten [] journal v n → HasItsEntry journal v n at
 entry_is journal v n item opening taken_at at is w =
-    let back : IsBackAt (run (w.front ++ w.entry ∷ w.rest)).scene.book (numbered v n) (length w.front + 1) = named w.front w.rest w.entry (numbered v n) w.writes in
+    let back : IsBackAt (run (w.front ++ w.entry ∷ w.rest)).scene.book (numbered v n) (length w.front + 1) =
+    named w.front w.rest w.entry (numbered v n) w.writes in
     let here : IsBackAt (run journal).scene.book (numbered v n) (length w.front + 1) =
     subst (λ (l : List Event). IsBackAt (run l).scene.book (numbered v n) (length w.front + 1)) w.is back
     in
-    let number : length w.front + 1 ≡ at = same_entry here.item item here.opening here.taken (length w.front + 1) opening taken_at at (sym here.is ∙ is) in
+    let number : length w.front + 1 ≡ at = same_entry here.item item here.opening here.taken (length w.front + 1)
+    opening taken_at at (sym here.is ∙ is) in
     record { before = w.front; entry = w.entry; behind = w.rest; is = w.is; number = number; writes = w.writes }
 
-entry_of : (journal : List Event) (v n : ℕ) (item : Item) (opening taken_at at : ℕ) → recorded_of (run journal).scene.book v n ≡ Some (record { item = item; life = Back opening taken_at at })
+entry_of : (journal : List Event) (v n : ℕ) (item : Item) (opening taken_at at : ℕ)
+    → recorded_of (run journal).scene.book v n ≡ Some (record { item = item; life = Back opening taken_at at })
     → Comes [] journal v n (record { item = item; life = Back opening taken_at at }) → HasItsEntry journal v n at
-entry_of journal v n item opening taken_at at is (inl l) = absurd (none_there v n (record { item = item; life = Back opening taken_at at }) l)
+entry_of journal v n item opening taken_at at is (inl l) = absurd (none_there v n
+    (record { item = item; life = Back opening taken_at at }) l)
 entry_of journal v n item opening taken_at at is (inr w) = entry_is journal v n item opening taken_at at is w
 
 pub have_entries : (journal : List Event) → BacksHaveEntries journal
 have_entries journal v n item opening taken_at at is =
-    entry_of journal v n item opening taken_at at is (comes [] journal v n (record { item = item; life = Back opening taken_at at }) is refl)
+    entry_of journal v n item opening taken_at at is (comes [] journal v n
+    (record { item = item; life = Back opening taken_at at }) is refl)
 
 -- ---- one item an entry
 
-same_place : (xs ys : List Event) (a b : Event) (us vs : List Event) → length xs ≡ length ys → xs ++ a ∷ us ≡ ys ++ b ∷ vs → (xs ≡ ys) × (a ≡ b)
+same_place : (xs ys : List Event) (a b : Event) (us vs : List Event) → length xs ≡ length ys
+    → xs ++ a ∷ us ≡ ys ++ b ∷ vs → (xs ≡ ys) × (a ≡ b)
 same_place [] [] a b us vs long is = let head : a ≡ b = cc in (refl, head)
 same_place [] (y ∷ ys) a b us vs long is = absurd (omega (arith, long))
 same_place (x ∷ xs) [] a b us vs long is = absurd (omega (arith, long))
@@ -486,15 +558,19 @@ same_place (x ∷ xs) (y ∷ ys) a b us vs long is =
     let rest : (xs ≡ ys) × (a ≡ b) = same_place xs ys a b us vs (omega (arith, long)) tail in
     (ap (λ (z : Event). z ∷ xs) head ∙ ap (λ (l : List Event). y ∷ l) rest.0, rest.1)
 
-one_each : (journal : List Event) (v n w m at : ℕ) → HasItsEntry journal v n at → HasItsEntry journal w m at → numbered v n ≡ numbered w m
+one_each : (journal : List Event) (v n w m at : ℕ) → HasItsEntry journal v n at → HasItsEntry journal w m at
+    → numbered v n ≡ numbered w m
 one_each journal v n w m at a b =
     let long : length a.before ≡ length b.before = (let x = a.number in let y = b.number in omega (arith, x, y)) in
-    let place : (a.before ≡ b.before) × (a.entry ≡ b.entry) = same_place a.before b.before a.entry b.entry a.behind b.behind long (a.is ∙ sym b.is) in
+    let place : (a.before ≡ b.before) × (a.entry ≡ b.entry) = same_place a.before b.before a.entry b.entry a.behind
+    b.behind long (a.is ∙ sym b.is) in
     let moved : written_by b.before b.entry ≡ Some (numbered v n) =
-    subst (λ (e : Event). written_by b.before e ≡ Some (numbered v n)) place.1 (subst (λ (l : List Event). written_by l a.entry ≡ Some (numbered v n)) place.0 a.writes)
+    subst (λ (e : Event). written_by b.before e ≡ Some (numbered v n)) place.1
+    (subst (λ (l : List Event). written_by l a.entry ≡ Some (numbered v n)) place.0 a.writes)
     in
     some_is (numbered v n) (numbered w m) (sym moved ∙ b.writes)
 
 pub one_item : (journal : List Event) → OneItemAnEntry journal
 one_item journal v n w m item other opening by taken_at took_at at first second =
-    one_each journal v n w m at (have_entries journal v n item opening taken_at at first) (have_entries journal w m other by took_at at second)
+    one_each journal v n w m at (have_entries journal v n item opening taken_at at first)
+    (have_entries journal w m other by took_at at second)

@@ -43,29 +43,37 @@ unfolding exec_deeds
 text_moves e w x m r s is = command_moves e w x (classified x.text) m r s is
 
 -- an item that is acted on
-item_moves : (e : Entry) (w n : ℕ) (item : Item) (m : Move) (r : Range) (s : SceneState) → item_of s.book w n ≡ Some item → is_exec item.sort ≡ true
-    → classified (own_text item.text item.expanded) ≡ command.Builtin (builtin_of m) r → act_on_deeds e w n s ≡ move_deeds m w s
+item_moves : (e : Entry) (w n : ℕ) (item : Item) (m : Move) (r : Range) (s : SceneState)
+    → item_of s.book w n ≡ Some item → is_exec item.sort ≡ true
+    → classified (own_text item.text item.expanded) ≡ command.Builtin (builtin_of m) r
+    → act_on_deeds e w n s ≡ move_deeds m w s
 item_moves e w n item m r s found exec is =
     ap (λ (o : Option Item). back_deeds e w o s) found
     ∙ exec_action e w item.sort (executed_of item) s exec
     ∙ text_moves e w (executed_of item) m r s is
 
-back_moves : (before : List Event) (e : Event) (w n : ℕ) (item : Item) (m : Move) (r : Range) → written_by before e ≡ Some (numbered w n) → item_of (present_after before).scene.book w n ≡ Some item
-    → is_exec item.sort ≡ true → classified (own_text item.text item.expanded) ≡ command.Builtin (builtin_of m) r → IsMove before e m w
+back_moves : (before : List Event) (e : Event) (w n : ℕ) (item : Item) (m : Move) (r : Range)
+    → written_by before e ≡ Some (numbered w n) → item_of (present_after before).scene.book w n ≡ Some item
+    → is_exec item.sort ≡ true → classified (own_text item.text item.expanded) ≡ command.Builtin (builtin_of m) r
+    → IsMove before e m w
 back_moves before e w n item m r writes found exec is =
     let x : IsBackBy before e (numbered w n) = back_by before e (numbered w n) writes in
-    x.deeds ∙ item_moves (entry_by (present_after before) x.origin) w n item m r (present_after before).scene found exec is
+    x.deeds ∙ item_moves (entry_by (present_after before) x.origin) w n item m r (present_after before).scene found exec
+    is
 
 pub executed_moves : ExecutedMovesAreMoves
 unfolding task_deeds
 executed_moves journal = record {
   exec = λ before behind at c m r at_it closed clicked is.
       let x : SceneState = (present_after before).scene in
-      clicked_moves (entry_by (present_after before) M) at (argument_if_any x.windows None) (clicked_at x.windows at click.Exec) c m r x closed clicked is;
+      clicked_moves (entry_by (present_after before) M) at (argument_if_any x.windows None)
+      (clicked_at x.windows at click.Exec) c m r x closed clicked is;
   arg = λ before behind at chord c m r at_it closed clicked is.
       let x : SceneState = (present_after before).scene in
-      clicked_moves (entry_by (present_after before) M) at (argument_if_any x.windows (Some chord)) (clicked_at x.windows at click.Exec) c m r x closed clicked is;
-  back = λ before behind e w n item m r at_it writes found exec is. back_moves before e w n item m r writes found exec is;
+      clicked_moves (entry_by (present_after before) M) at (argument_if_any x.windows (Some chord))
+      (clicked_at x.windows at click.Exec) c m r x closed clicked is;
+  back = λ before behind e w n item m r at_it writes found exec is. back_moves before e w n item m r writes found exec
+      is;
 }
 
 pub ruleset executing = (executed_moves)

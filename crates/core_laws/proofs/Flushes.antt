@@ -1,5 +1,6 @@
 -- Nothing is said to a tag that was flushed.
-use Rattle.std.proofs.Common.{◌≡◌, ℕ, Bool, true, false, not, cond, eqb, ◌&&◌, List, [], ◌∷◌, ◌++◌, All, None, refl, sym, ap, subst, ◌∙◌, append_assoc}
+use Rattle.std.proofs.Common.{◌≡◌, ℕ, Bool, true, false, not, cond, eqb, ◌&&◌, List, [], ◌∷◌, ◌++◌, All, None, refl}
+use Rattle.std.proofs.Common.{sym, ap, subst, ◌∙◌, append_assoc}
 use Rattle.std.specs.List.{filter, list_any}
 use Rattle.std.proofs.lemmas.Bool.{false≢true, not-true, or_parts}
 use Rattle.std.specs.Prelude.{Contains}
@@ -39,7 +40,8 @@ use Rattle.core_laws.proofs.Quiets.{IsQuiet, OfMessages, quiet_all, quiet_end}
 use Rattle.core_laws.proofs.Tells.{IsWaiting, Reading, OfMessage}
 use Rattle.core_laws.proofs.Wells.{IsWell, well_step, well_after}
 
-step_replies : (s : State) (e : Event) → (step s e).replies ≡ replies_of (said (present s) (kind_of e) (doing_of (present s) e))
+step_replies : (s : State) (e : Event) → (step s e).replies ≡ replies_of
+    (said (present s) (kind_of e) (doing_of (present s) e))
 unfolding step
 step_replies s e = refl
 
@@ -51,14 +53,18 @@ replies_said before e = ap (λ (s : State). s.replies) (run-push before e) ∙ s
 abbrev OtherTag : ℕ → ℕ → ℕ → ℕ → Type 0
 OtherTag conn tag c t = (eqb c conn && eqb t tag) ≡ false
 
-none_waiting : (conn tag : ℕ) (ws : List Waiting) → All (λ w. is_waiting conn tag w ≡ false) (filter (λ w. not (is_waiting conn tag w)) ws)
+none_waiting : (conn tag : ℕ) (ws : List Waiting) → All (λ w. is_waiting conn tag w ≡ false)
+    (filter (λ w. not (is_waiting conn tag w)) ws)
 none_waiting conn tag ws =
-    All-weaker (λ w. not (is_waiting conn tag w) ≡ true) (λ w. is_waiting conn tag w ≡ false) (λ w h. not-true (is_waiting conn tag w) h)
+    All-weaker (λ w. not (is_waiting conn tag w) ≡ true) (λ w. is_waiting conn tag w ≡ false)
+    (λ w h. not-true (is_waiting conn tag w) h)
     (filter (λ w. not (is_waiting conn tag w)) ws) (filter_passes (λ w. not (is_waiting conn tag w)) ws)
 
-none_reading : (conn tag : ℕ) (rs : List Asker) → All (λ r. is_read conn tag r ≡ false) (filter (λ r. not (is_read conn tag r)) rs)
+none_reading : (conn tag : ℕ) (rs : List Asker) → All (λ r. is_read conn tag r ≡ false)
+    (filter (λ r. not (is_read conn tag r)) rs)
 none_reading conn tag rs =
-    All-weaker (λ r. not (is_read conn tag r) ≡ true) (λ r. is_read conn tag r ≡ false) (λ r h. not-true (is_read conn tag r) h)
+    All-weaker (λ r. not (is_read conn tag r) ≡ true) (λ r. is_read conn tag r ≡ false)
+    (λ r h. not-true (is_read conn tag r) h)
     (filter (λ r. not (is_read conn tag r)) rs) (filter_passes (λ r. not (is_read conn tag r)) rs)
 
 -- ---- a Tflush
@@ -69,10 +75,13 @@ flush_or missing oldtag = cond missing (refusal_reaction refusal.VersionFirst) (
 
 -- nothing else is said, since no read that waits can be answered
 flush_said : (before : List Event) (conn tag oldtag : ℕ) (there : Bool)
-    → said (present (run before)) (kind.Asks conn tag) (message_doing (present (run before)) (flush_or (not there) oldtag) F) ≡ response conn tag (flush_body there) ∷ []
+    → said (present (run before)) (kind.Asks conn tag) (message_doing (present (run before))
+    (flush_or (not there) oldtag) F) ≡ response conn tag (flush_body there) ∷ []
 unfolding task_deeds task_refusal
-flush_said before conn tag oldtag true = ap (λ (xs : List Response). response conn tag (flush_body true) ∷ xs) (silent_after before (next_entry (present (run before))))
-flush_said before conn tag oldtag false = ap (λ (xs : List Response). response conn tag (flush_body false) ∷ xs) (silent_after before (next_entry (present (run before))))
+flush_said before conn tag oldtag true = ap (λ (xs : List Response). response conn tag (flush_body true) ∷ xs)
+    (silent_after before (next_entry (present (run before))))
+flush_said before conn tag oldtag false = ap (λ (xs : List Response). response conn tag (flush_body false) ∷ xs)
+    (silent_after before (next_entry (present (run before))))
 
 pub each_flush : EachFlushIsAnswered
 each_flush before conn tag oldtag = flush_said before conn tag oldtag (is_there (msize_of (run before).tables conn))
@@ -82,12 +91,14 @@ one_of : (x y : Response) → Contains (x ∷ []) y → x ≡ y
 one_of x y c = All-contains (λ z. x ≡ z) (x ∷ []) y (All-cons (λ z. x ≡ z) x [] refl (All-nil (λ z. x ≡ z))) c
 
 -- so where Rflush is said, it is said alone
-flushed_alone : (before : List Event) (conn tag oldtag : ℕ) → Contains (said_after before (flush_of conn tag oldtag)) (flushed conn tag)
+flushed_alone : (before : List Event) (conn tag oldtag : ℕ) → Contains (said_after before (flush_of conn tag oldtag))
+    (flushed conn tag)
     → said_after before (flush_of conn tag oldtag) ≡ flushed conn tag ∷ []
 flushed_alone before conn tag oldtag said_one =
     let only : Response = response conn tag (flush_body (is_there (msize_of (run before).tables conn))) in
     let is : said_after before (flush_of conn tag oldtag) ≡ only ∷ [] = each_flush before conn tag oldtag in
-    is ∙ ap (λ (x : Response). x ∷ []) (one_of only (flushed conn tag) (subst (λ (xs : List Response). Contains xs (flushed conn tag)) is said_one))
+    is ∙ ap (λ (x : Response). x ∷ []) (one_of only (flushed conn tag)
+    (subst (λ (xs : List Response). Contains xs (flushed conn tag)) is said_one))
 
 flushes : RBody → Bool
 flushes r.Flush = true
@@ -98,7 +109,8 @@ unfolding flushes
 first_flushes [] = false
 first_flushes (x ∷ xs) = flushes x.message.body
 
-is_flush : (s : Present) (conn tag oldtag : ℕ) (missing : Bool) → said s (kind.Asks conn tag) (message_doing s (flush_or missing oldtag) F) ≡ flushed conn tag ∷ []
+is_flush : (s : Present) (conn tag oldtag : ℕ) (missing : Bool) → said s (kind.Asks conn tag)
+    (message_doing s (flush_or missing oldtag) F) ≡ flushed conn tag ∷ []
     → flush_or missing oldtag ≡ flush_reaction oldtag
 unfolding first_flushes flushes task_deeds task_refusal
 is_flush s conn tag oldtag true h = absurd (false≢true (ap first_flushes h))
@@ -113,16 +125,19 @@ QuietAfter s conn tag oldtag d =
 quiet_flush : (s : Present) (conn tag oldtag : ℕ) → QuietAfter s conn tag oldtag (flush_reaction oldtag)
 unfolding task_deeds task_refusal
 quiet_flush s conn tag oldtag = (
-  none_waiting conn oldtag (ended s.tables (said s (kind.Asks conn tag) (message_doing s (flush_reaction oldtag) F))).waiting,
+  none_waiting conn oldtag (ended s.tables (said s (kind.Asks conn tag)
+      (message_doing s (flush_reaction oldtag) F))).waiting,
   none_reading conn oldtag (grown_book s (kind.Asks conn tag) (message_doing s (flush_reaction oldtag) F)).reads,
   none_reading conn oldtag (grown_ports s (kind.Asks conn tag) (message_doing s (flush_reaction oldtag) F)).reads,
 )
 
-quiet_then : (s : State) (conn tag oldtag : ℕ) → said (present s) (kind.Asks conn tag) (doing_of (present s) (flush_of conn tag oldtag)) ≡ flushed conn tag ∷ []
+quiet_then : (s : State) (conn tag oldtag : ℕ) → said (present s) (kind.Asks conn tag)
+    (doing_of (present s) (flush_of conn tag oldtag)) ≡ flushed conn tag ∷ []
     → IsQuiet (OtherTag conn oldtag) (step s (flush_of conn tag oldtag))
 unfolding step
 quiet_then s conn tag oldtag is =
-    subst (QuietAfter (present s) conn tag oldtag) (sym (is_flush (present s) conn tag oldtag (not (is_there (msize_of s.tables conn))) is)) (quiet_flush (present s) conn tag oldtag)
+    subst (QuietAfter (present s) conn tag oldtag) (sym (is_flush (present s) conn tag oldtag
+    (not (is_there (msize_of s.tables conn))) is)) (quiet_flush (present s) conn tag oldtag)
 
 -- ---- behind it
 
@@ -133,10 +148,12 @@ of_message conn tag (kind.Ends c why) h = tt
 of_message conn tag (kind.Takes c) h = tt
 of_message conn tag kind.Acts h = tt
 
-of_messages : (conn tag : ℕ) (events : List Event) → list_any (is_message conn tag) events ≡ false → OfMessages (OtherTag conn tag) events
+of_messages : (conn tag : ℕ) (events : List Event) → list_any (is_message conn tag) events ≡ false →
+    OfMessages (OtherTag conn tag) events
 of_messages conn tag [] h = tt
 of_messages conn tag (e ∷ events) h =
-    let parts : (asks conn tag (kind_of e) ≡ false) × (list_any (is_message conn tag) events ≡ false) = or_parts (asks conn tag (kind_of e)) (list_any (is_message conn tag) events) h in
+    let parts : (asks conn tag (kind_of e) ≡ false) × (list_any (is_message conn tag) events ≡ false) =
+    or_parts (asks conn tag (kind_of e)) (list_any (is_message conn tag) events) h in
     (of_message conn tag (kind_of e) parts.0, of_messages conn tag events parts.1)
 
 free_by : (journal : List Event) (conn tag : ℕ) → IsQuiet (OtherTag conn tag) (run journal) → IsFree journal conn tag
@@ -148,13 +165,16 @@ free_by journal conn tag quiet = record {
 
 pub nothing_to_a_flushed : NothingToAFlushedTag
 nothing_to_a_flushed before behind conn tag oldtag played said_one none =
-    let is : said_after before (flush_of conn tag oldtag) ≡ flushed conn tag ∷ [] = flushed_alone before conn tag oldtag said_one in
+    let is : said_after before (flush_of conn tag oldtag) ≡ flushed conn tag ∷ [] = flushed_alone before conn tag oldtag
+    said_one in
     let e : Event = flush_of conn tag oldtag in
     let next : List Event = before ++ e ∷ [] in
-    let parts : ArePlayed enabled [] before × ArePlayed enabled before (e ∷ behind) = played_parts [] before (e ∷ behind) played in
+    let parts : ArePlayed enabled [] before × ArePlayed enabled before (e ∷ behind) = played_parts [] before
+    (e ∷ behind) played in
     let first : (enabled before e ≡ None) × ArePlayed enabled next behind = played_first before behind e parts.1 in
     let own : OfMessages (OtherTag conn oldtag) behind = of_messages conn oldtag behind none in
-    let well : IsWell (run next) = subst IsWell (sym (run-push before e)) (well_step (run before) e first.0 (well_after before parts.0)) in
+    let well : IsWell (run next) = subst IsWell (sym (run-push before e))
+    (well_step (run before) e first.0 (well_after before parts.0)) in
     let quiet : IsQuiet (OtherTag conn oldtag) (run next) =
     subst (IsQuiet (OtherTag conn oldtag)) (sym (run-push before e)) (quiet_then (run before) conn tag oldtag is)
     in (

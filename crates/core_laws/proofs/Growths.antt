@@ -1,5 +1,6 @@
 -- What a step makes before it ends anything, in the sessions, the event files and the ports: the same reads.
-use Rattle.std.proofs.Common.{◌≡◌, ℕ, zero, suc, ◌+◌, ◌≤◌, ◌<◌, Bool, true, false, not, cond, nat_lt, ◌&&◌, ◌||◌, List, [], ◌∷◌, ◌++◌, length, map, Option, Some, None, refl, sym, ap, subst, ◌∙◌, arith}
+use Rattle.std.proofs.Common.{◌≡◌, ℕ, zero, suc, ◌+◌, ◌≤◌, ◌<◌, Bool, true, false, not, cond, nat_lt, ◌&&◌, ◌||◌, List}
+use Rattle.std.proofs.Common.{[], ◌∷◌, ◌++◌, length, map, Option, Some, None, refl, sym, ap, subst, ◌∙◌, arith}
 use Rattle.std.specs.List.{list_any}
 use Rattle.std.proofs.lemmas.Bool.{ltb-true, false_from_ne_true}
 use Rattle.std.proofs.lemmas.Bool.Decides.{nat_tests}
@@ -15,10 +16,13 @@ use Rattle.fid_table.specs.declared.types.Fid.{Fid}
 use Rattle.fid_table.specs.Tables.{Tables}
 use Rattle.wait_queue.specs.declared.types.Asked.TheVariants.{Now, Waits}
 use Rattle.wait_queue.specs.declared.types.Asker.{Asker}
-use Rattle.event_book.specs.BookState.{BookState, is_living, read_waits, piece_for, asked_of, after_add, after_answer, is_on_window}
+use Rattle.event_book.specs.BookState.{BookState, is_living, read_waits, piece_for, asked_of, after_add, after_answer}
+use Rattle.event_book.specs.BookState.{is_on_window}
 use Rattle.plumb_ports.specs.PortList.{Port, named, names_of, number_of, with_name, kept_of, with_kept}
 use Rattle.plumb_ports.specs.Inboxes.{delivered}
-use Rattle.plumb_ports.specs.PortsState.{PortsState, is_open, has_joined, read_waits as port_waits, piece_for as port_piece, asked_of as port_asked, after_ask as after_port_ask, after_answer as after_port_answer, after_join, delivered_at, delivered_on}
+use Rattle.plumb_ports.specs.PortsState.{PortsState, is_open, has_joined, read_waits as port_waits}
+use Rattle.plumb_ports.specs.PortsState.{piece_for as port_piece, asked_of as port_asked, after_ask as after_port_ask}
+use Rattle.plumb_ports.specs.PortsState.{after_answer as after_port_answer, after_join, delivered_at, delivered_on}
 use Rattle.plumb_ports.specs.Laws.{AreNumbered, Join}
 use Rattle.plumb_ports.proofs.NumberLemmas.{numbered, on_numbers, ask_numbers, call_numbers}
 use Rattle.core_scene.specs.declared.deed.Deed.{Deed}
@@ -36,7 +40,8 @@ use Rattle.core_fids.specs.declared.refusal.Refusal.TheVariants as refusal
 use Rattle.core_fids.specs.Refusals.{refusal_text}
 use Rattle.core_events.specs.Asking.{opened, reads_are_full, said_to, book_asked, read_said, book_read}
 use Rattle.core_events.specs.Waits.{is_of_window, deletions}
-use Rattle.core_events.specs.PortAsking.{next_opening, can_join, joined_with, read_refusal, said_unless, read_unless, port_said, ports_read}
+use Rattle.core_events.specs.PortAsking.{next_opening, can_join, joined_with, read_refusal, said_unless, read_unless}
+use Rattle.core_events.specs.PortAsking.{port_said, ports_read}
 use Rattle.core_laws.specs.Waits.{told}
 use Rattle.core_laws.proofs.Lists.{IsIn}
 use Rattle.core_laws.proofs.Zips.{HasWaiting, asker_waits}
@@ -47,10 +52,12 @@ use Rattle.core_laws.proofs.Ties.{Ties, KeepOwners, by_window, by_no_window}
 
 -- ---- openings of event files
 
-pub owners_more : (b : BookState) (e : EventChange) → (length b.owners ≤ length (opened b e).owners) × KeepOwners b.owners (opened b e).owners
+pub owners_more : (b : BookState) (e : EventChange) → (length b.owners ≤ length (opened b e).owners)
+    × KeepOwners b.owners (opened b e).owners
 owners_more b events.Nothing = (omega arith, λ o w h. h)
 owners_more b (events.Opens v) =
-    elim (nat_lt (length b.owners) 4294967295) as (λ t. (length b.owners ≤ length (cond t (after_add b v) b).owners) × KeepOwners b.owners (cond t (after_add b v) b).owners) [
+    elim (nat_lt (length b.owners) 4294967295) as (λ t. (length b.owners ≤ length (cond t (after_add b v) b).owners)
+    × KeepOwners b.owners (cond t (after_add b v) b).owners) [
       | true ↦ (omega (arith, length-append b.owners (v ∷ [])), λ o w h. owner_pushed b.owners v o w h)
       | false ↦ (omega arith, λ o w h. h)
     ]
@@ -65,14 +72,20 @@ counted_true n h =
     ]) h
 
 -- one that is newly opened has the next number, and is one of its window
-pub new_event : (world : World) (plumber : Plumber) (b : BookState) (e : EventChange) (v : Fid) (w o : ℕ) → IsNew world plumber (length b.owners) e v → v.node ≡ node.File w file.Event → v.opening ≡ Some o
+pub new_event : (world : World) (plumber : Plumber) (b : BookState) (e : EventChange) (v : Fid) (w o : ℕ)
+    → IsNew world plumber (length b.owners) e v → v.node ≡ node.File w file.Event → v.opening ≡ Some o
     → (o ≡ length b.owners + 1) × ((opened b e).owners ≡ b.owners ++ w ∷ [])
 new_event world plumber b e v w o new at opens =
-    let number : Some (length b.owners + 1) ≡ Some o = ap (λ (n : Node). opening_of plumber (length b.owners) (content_of n)) (sym at) ∙ sym new.opening ∙ opens in
+    let number : Some (length b.owners + 1) ≡ Some o = ap (λ (n : Node). opening_of plumber (length b.owners)
+    (content_of n)) (sym at) ∙ sym new.opening ∙ opens in
     let adds : e ≡ events.Opens w = new.events ∙ ap (λ (n : Node). opening_events (content_of n)) at in
-    let counts : opening_refusal (length b.owners) ≡ None = ap (λ (n : Node). content_refusal plumber (length b.owners) (content_of n)) (sym at) ∙ new.counted in
-    let same : length b.owners + 1 ≡ o = cc in
-    (sym same, ap (λ (x : EventChange). (opened b x).owners) adds ∙ ap (λ (t : Bool). (cond t (after_add b w) b).owners) (counted_true (length b.owners) counts))
+    let counts : opening_refusal (length b.owners) ≡ None = ap (λ (n : Node). content_refusal plumber (length b.owners)
+    (content_of n)) (sym at) ∙ new.counted in
+    let same : length b.owners + 1 ≡ o = cc in (
+      sym same,
+      ap (λ (x : EventChange). (opened b x).owners) adds ∙ ap (λ (t : Bool). (cond t (after_add b w) b).owners)
+          (counted_true (length b.owners) counts),
+    )
 
 -- ---- deeds
 
@@ -90,7 +103,8 @@ more_then : (p q u : PortsState) → IsMore p q → IsMore q u → IsMore p u
 more_then p q u a b = record {
   reads = b.reads ∙ a.reads;
   joined = b.joined ∙ a.joined;
-  ports = let x : length p.ports ≤ length q.ports = a.ports in let y : length q.ports ≤ length u.ports = b.ports in omega (arith, x, y);
+  ports = let x : length p.ports ≤ length q.ports = a.ports in let y : length q.ports ≤ length u.ports = b.ports in
+      omega (arith, x, y);
   numbers = λ h. b.numbers (a.numbers h);
 }
 
@@ -100,15 +114,23 @@ kept_long (p ∷ ps) zero messages = refl
 kept_long (p ∷ ps) (suc port) messages = ap suc (kept_long ps port messages)
 
 add_more : (s : PortsState) (name : List ℕ) (o : Option ℕ) → IsMore s (record s { ports = with_name o s.ports name })
-add_more s name None = record { reads = refl; joined = refl; ports = omega (arith, length-append s.ports (named name ∷ [])); numbers = λ h. h }
+add_more s name None = record {
+  reads = refl;
+  joined = refl;
+  ports =
+      omega (arith, length-append s.ports (named name ∷ []));
+  numbers = λ h. h;
+}
 add_more s name (Some port) = more_itself s
 
 delivered_parts : (s : PortsState) (message : List ℕ) (port : ℕ)
-    → ((delivered_at s port message).reads ≡ s.reads) × ((delivered_at s port message).joined ≡ s.joined) × (length s.ports ≤ length (delivered_at s port message).ports)
+    → ((delivered_at s port message).reads ≡ s.reads) × ((delivered_at s port message).joined ≡ s.joined)
+    × (length s.ports ≤ length (delivered_at s port message).ports)
 delivered_parts s message port =
     let copied : PortsState = record s { openings = map (delivered port message) s.openings } in
     let kept : PortsState = record s { ports = with_kept s.ports port (kept_of s.ports port ++ message ∷ []) } in
-    elim (is_open s port) as (λ b. ((cond b copied kept).reads ≡ s.reads) × ((cond b copied kept).joined ≡ s.joined) × (length s.ports ≤ length (cond b copied kept).ports)) [
+    elim (is_open s port) as (λ b. ((cond b copied kept).reads ≡ s.reads) × ((cond b copied kept).joined ≡ s.joined)
+    × (length s.ports ≤ length (cond b copied kept).ports)) [
       | true ↦ (refl, refl, omega arith)
       | false ↦ (refl, refl, omega (arith, kept_long s.ports port (kept_of s.ports port ++ message ∷ [])))
     ]
@@ -116,7 +138,13 @@ delivered_parts s message port =
 deliver_more : (s : PortsState) (message : List ℕ) (o : Option ℕ) → IsMore s (delivered_on o s message)
 deliver_more s message None = more_itself s
 deliver_more s message (Some port) =
-    let parts = delivered_parts s message port in record { reads = parts.0; joined = parts.1; ports = parts.2; numbers = λ h. on_numbers (Some port) s message h }
+    let parts = delivered_parts s message port in record {
+      reads = parts.0;
+      joined = parts.1;
+      ports = parts.2;
+      numbers =
+          λ h. on_numbers (Some port) s message h;
+    }
 
 deed_more : (e : Entry) (s : SceneState) (d : Deed) → IsMore s.ports (done e s d).ports
 deed_more e s (deed.Windows c) = more_itself s.ports
@@ -132,15 +160,18 @@ deed_more e s (deed.Delivers name message keep) = deliver_more s.ports message (
 
 pub acted_more : (e : Entry) (s : SceneState) (ds : List Deed) → IsMore s.ports (done_all e s ds).ports
 acted_more e s [] = more_itself s.ports
-acted_more e s (d ∷ ds) = more_then s.ports (done e s d).ports (done_all e (done e s d) ds).ports (deed_more e s d) (acted_more e (done e s d) ds)
+acted_more e s (d ∷ ds) = more_then s.ports (done e s d).ports (done_all e (done e s d) ds).ports (deed_more e s d)
+    (acted_more e (done e s d) ds)
 
 -- ---- openings of ports
 
-pub joined_more : (p : PortsState) (e : EventChange) → ((joined_with p e).reads ≡ p.reads) × (p.joined ≤ (joined_with p e).joined)
+pub joined_more : (p : PortsState) (e : EventChange) → ((joined_with p e).reads ≡ p.reads)
+    × (p.joined ≤ (joined_with p e).joined)
 joined_more p events.Nothing = (refl, omega arith)
 joined_more p (events.Opens w) = (refl, omega arith)
 joined_more p (events.Joins port) =
-    elim (can_join p port) as (λ b. ((cond b (after_join p port (next_opening p)) p).reads ≡ p.reads) × (p.joined ≤ (cond b (after_join p port (next_opening p)) p).joined)) [
+    elim (can_join p port) as (λ b. ((cond b (after_join p port (next_opening p)) p).reads ≡ p.reads)
+    × (p.joined ≤ (cond b (after_join p port (next_opening p)) p).joined)) [
       | true ↦ (refl, omega arith)
       | false ↦ (refl, omega arith)
     ]
@@ -161,14 +192,19 @@ names_long [] = refl
 names_long (p ∷ ps) = ap suc (names_long ps)
 
 -- one that is newly opened has the next number, and joins
-pub new_port : (world : World) (plumber : Plumber) (openings : ℕ) (before p : PortsState) (e : EventChange) (v : Fid) (k o : ℕ) → plumber.names ≡ names_of before.ports → plumber.joined ≡ before.joined → IsMore before p
-    → AreNumbered p → IsNew world plumber openings e v → v.node ≡ node.Port k → v.opening ≡ Some o → (o ≡ before.joined + 1) × ((joined_with p e).joined ≡ before.joined + 1)
+pub new_port : (world : World) (plumber : Plumber) (openings : ℕ) (before p : PortsState) (e : EventChange) (v : Fid)
+    (k o : ℕ) → plumber.names ≡ names_of before.ports → plumber.joined ≡ before.joined → IsMore before p
+    → AreNumbered p → IsNew world plumber openings e v → v.node ≡ node.Port k → v.opening ≡ Some o
+    → (o ≡ before.joined + 1) × ((joined_with p e).joined ≡ before.joined + 1)
 new_port world plumber openings before p e v k o names count more numbers new at opens =
-    let number : Some (plumber.joined + 1) ≡ Some o = ap (λ (n : Node). opening_of plumber openings (content_of n)) (sym at) ∙ sym new.opening ∙ opens in
+    let number : Some (plumber.joined + 1) ≡ Some o = ap (λ (n : Node). opening_of plumber openings (content_of n))
+    (sym at) ∙ sym new.opening ∙ opens in
     let same : plumber.joined + 1 ≡ o = cc in
     let joins : e ≡ events.Joins k = new.events ∙ ap (λ (n : Node). opening_events (content_of n)) at in
-    let counts : opening_refusal plumber.joined ≡ None = ap (λ (n : Node). content_refusal plumber openings (content_of n)) (sym at) ∙ new.counted in
-    let few : nat_lt p.joined 4294967295 ≡ true = ap (λ (n : ℕ). nat_lt n 4294967295) (more.joined ∙ sym count) ∙ counted_true plumber.joined counts in
+    let counts : opening_refusal plumber.joined ≡ None = ap (λ (n : Node). content_refusal plumber openings
+    (content_of n)) (sym at) ∙ new.counted in
+    let few : nat_lt p.joined 4294967295 ≡ true = ap (λ (n : ℕ). nat_lt n 4294967295) (more.joined ∙ sym count)
+    ∙ counted_true plumber.joined counts in
     let live : nat_lt k (length plumber.names) ≡ true = port_live at new.live in
     let inside : nat_lt k (length p.ports) ≡ true =
     (let low : k < length plumber.names = ltb-true k (length plumber.names) live in
@@ -176,16 +212,20 @@ new_port world plumber openings before p e v k o names count more numbers new at
     let later : length before.ports ≤ length p.ports = more.ports in grind (arith, nat_tests))
     in
     let fresh : has_joined p (next_opening p) ≡ false =
-    false_from_ne_true (has_joined p (next_opening p)) (λ t. let low : p.joined + 1 ≤ p.joined = numbered p.joined p.openings (next_opening p) numbers t in absurd (omega (arith, low)))
+    false_from_ne_true (has_joined p (next_opening p)) (λ t. let low : p.joined + 1 ≤ p.joined = numbered p.joined
+    p.openings (next_opening p) numbers t in absurd (omega (arith, low)))
     in
-    let can : can_join p k ≡ true = ap (λ (b : Bool). (b && nat_lt p.joined 4294967295) && not (has_joined p (next_opening p))) inside
+    let can : can_join p k ≡ true = ap (λ (b : Bool). (b && nat_lt p.joined 4294967295)
+    && not (has_joined p (next_opening p))) inside
     ∙ ap (λ (b : Bool). b && not (has_joined p (next_opening p))) few ∙ ap not fresh
     in (
       sym same ∙ ap (λ (n : ℕ). n + 1) count,
-      ap (λ (x : EventChange). (joined_with p x).joined) joins ∙ ap (λ (b : Bool). (cond b (after_join p k (next_opening p)) p).joined) can ∙ ap (λ (n : ℕ). n + 1) more.joined,
+      ap (λ (x : EventChange). (joined_with p x).joined) joins ∙ ap
+          (λ (b : Bool). (cond b (after_join p k (next_opening p)) p).joined) can ∙ ap (λ (n : ℕ). n + 1) more.joined,
     )
   where
-    port_live : v.node ≡ node.Port k → is_live world plumber.names v.node ≡ true → nat_lt k (length plumber.names) ≡ true
+    port_live : v.node ≡ node.Port k → is_live world plumber.names v.node ≡ true → nat_lt k
+        (length plumber.names) ≡ true
     port_live is h = ap (is_live world plumber.names) (sym is) ∙ h
 
 -- ---- a read of an event file
@@ -195,11 +235,14 @@ abbrev pub with_asker : Option RBody → Asker → List Asker → List Asker
 with_asker None r rs = rs ++ r ∷ []
 with_asker (Some body) r rs = rs
 
-pub read_reads : (t : Tables) (b : BookState) (r : Asker) (at : ℕ) → ((book_read t b r at).reads ≡ with_asker (read_said t b r) r b.reads) × ((book_read t b r at).owners ≡ b.owners)
+pub read_reads : (t : Tables) (b : BookState) (r : Asker) (at : ℕ)
+    → ((book_read t b r at).reads ≡ with_asker (read_said t b r) r b.reads) × ((book_read t b r at).owners ≡ b.owners)
 read_reads t b r at = by (is_living b r.opening)
   where
     waits : (w : Bool) → read_waits b r ≡ w → (full : Bool)
-        → ((book_asked full (cond w Waits (Now (piece_for b r))) b r at).reads ≡ with_asker (said_to full (cond w Waits (Now (piece_for b r)))) r b.reads) × ((book_asked full (cond w Waits (Now (piece_for b r))) b r at).owners ≡ b.owners)
+        → ((book_asked full (cond w Waits (Now (piece_for b r))) b r at).reads
+        ≡ with_asker (said_to full (cond w Waits (Now (piece_for b r)))) r b.reads)
+        × ((book_asked full (cond w Waits (Now (piece_for b r))) b r at).owners ≡ b.owners)
     waits true e true = (refl, refl)
     waits true e false = (
       ap (λ (x : Bool). (cond x (record b { reads = b.reads ++ r ∷ []; latest = at }) (after_answer b r at)).reads) e,
@@ -211,21 +254,35 @@ read_reads t b r at = by (is_living b r.opening)
     )
 
     by : (living : Bool)
-        → ((cond living (book_asked (reads_are_full t r.conn) (asked_of b r) b r at) b).reads ≡ with_asker (cond living (said_to (reads_are_full t r.conn) (asked_of b r)) (Some (answer.Error (refusal_text refusal.WindowDeleted)))) r b.reads)
+        → ((cond living (book_asked (reads_are_full t r.conn) (asked_of b r) b r at) b).reads
+        ≡ with_asker (cond living (said_to (reads_are_full t r.conn) (asked_of b r))
+        (Some (answer.Error (refusal_text refusal.WindowDeleted)))) r b.reads)
         × ((cond living (book_asked (reads_are_full t r.conn) (asked_of b r) b r at) b).owners ≡ b.owners)
     by true = waits (read_waits b r) refl (reads_are_full t r.conn)
     by false = (refl, refl)
 
 -- ---- a read of a port
 
-pub port_reads : (t : Tables) (p : PortsState) (r : Asker) → ((ports_read t p r).reads ≡ with_asker (port_said t p r) r p.reads) × ((ports_read t p r).joined ≡ p.joined)
+pub port_reads : (t : Tables) (p : PortsState) (r : Asker) → ((ports_read t p r).reads ≡ with_asker (port_said t p r) r
+    p.reads) × ((ports_read t p r).joined ≡ p.joined)
 port_reads t p r = by (read_refusal t p r)
   where
-    waits : (w : Bool) → port_waits p r ≡ w → ((after_port_ask p r).reads ≡ with_asker (said_unless None (cond w Waits (Now (port_piece p r)))) r p.reads) × ((after_port_ask p r).joined ≡ p.joined)
-    waits true e = (ap (λ (x : Bool). (cond x (record p { reads = p.reads ++ r ∷ [] }) (after_port_answer p r)).reads) e, ap (λ (x : Bool). (cond x (record p { reads = p.reads ++ r ∷ [] }) (after_port_answer p r)).joined) e)
-    waits false e = (ap (λ (x : Bool). (cond x (record p { reads = p.reads ++ r ∷ [] }) (after_port_answer p r)).reads) e, ap (λ (x : Bool). (cond x (record p { reads = p.reads ++ r ∷ [] }) (after_port_answer p r)).joined) e)
+    waits : (w : Bool) → port_waits p r ≡ w → ((after_port_ask p r).reads
+        ≡ with_asker (said_unless None (cond w Waits (Now (port_piece p r)))) r p.reads)
+        × ((after_port_ask p r).joined ≡ p.joined)
+    waits true e = (
+      ap (λ (x : Bool). (cond x (record p { reads = p.reads ++ r ∷ [] }) (after_port_answer p r)).reads)
+          e,
+      ap (λ (x : Bool). (cond x (record p { reads = p.reads ++ r ∷ [] }) (after_port_answer p r)).joined) e,
+    )
+    waits false e = (
+      ap (λ (x : Bool). (cond x (record p { reads = p.reads ++ r ∷ [] }) (after_port_answer p r)).reads)
+          e,
+      ap (λ (x : Bool). (cond x (record p { reads = p.reads ++ r ∷ [] }) (after_port_answer p r)).joined) e,
+    )
 
-    by : (o : Option Refusal) → ((read_unless o p r).reads ≡ with_asker (said_unless o (port_asked p r)) r p.reads) × ((read_unless o p r).joined ≡ p.joined)
+    by : (o : Option Refusal) → ((read_unless o p r).reads ≡ with_asker (said_unless o (port_asked p r)) r p.reads)
+        × ((read_unless o p r).joined ≡ p.joined)
     by (Some x) = (refl, refl)
     by None = waits (port_waits p r) refl
 
@@ -246,19 +303,26 @@ any_none : (p : ℕ → Bool) (xs : List ℕ) → ((x : ℕ) → p x ≡ false) 
 any_none p [] h = refl
 any_none p (x ∷ xs) h = ap (λ (b : Bool). b || list_any p xs) (h x) ∙ any_none p xs h
 
-module _ (t : Tables) (es ps : List Asker) (owners next : List ℕ) (joined : ℕ) (ties : Ties t es ps owners joined) (windows : List ℕ) where
+module _ (t : Tables) (es ps : List Asker) (owners next : List ℕ) (joined : ℕ) (ties : Ties t es ps owners joined)
+    (windows : List ℕ) where
   key_of : (P : ℕ → ℕ → Type 0) (a b c d : ℕ) → a ≡ c → b ≡ d → P a b → P c d
   key_of P a b c d e f h = subst (λ (y : ℕ). P c y) f (subst (λ (x : ℕ). P x b) e h)
 
-  pub deleted_right : KeepOwners owners next → (r : Asker) → IsIn es r → heard (deletions t windows) r.conn r.tag ≡ list_any (λ v. is_on_window next v r) windows
+  pub deleted_right : KeepOwners owners next → (r : Asker) → IsIn es r
+      → heard (deletions t windows) r.conn r.tag ≡ list_any (λ v. is_on_window next v r) windows
   deleted_right keeps r i =
-      let h : HasWaiting event_opening t t.waiting (told r) = asker_waits event_opening t t.waiting es ties.events r i in
+      let h : HasWaiting event_opening t t.waiting (told r) = asker_waits event_opening t t.waiting es ties.events r
+      i in
       let later : AreOfWindows next t = λ c e w o j n g. keeps o w (ties.windows c e w o j n g) in
-      key_of (λ (c g : ℕ). heard (deletions t windows) c g ≡ list_any (λ v. is_on_window next v r) windows) h.waiting.conn h.waiting.tag r.conn r.tag h.conn h.tag
-      (heard_deleted t windows h.waiting ties.apart h.there ∙ any_same (λ (v : ℕ). is_of_window t v h.waiting) (λ (v : ℕ). is_on_window next v r) windows (λ v. by_window t next later t.waiting r h v))
+      key_of (λ (c g : ℕ). heard (deletions t windows) c g ≡ list_any (λ v. is_on_window next v r) windows)
+      h.waiting.conn h.waiting.tag r.conn r.tag h.conn h.tag
+      (heard_deleted t windows h.waiting ties.apart h.there ∙ any_same (λ (v : ℕ). is_of_window t v h.waiting)
+      (λ (v : ℕ). is_on_window next v r) windows (λ v. by_window t next later t.waiting r h v))
 
   pub port_deleted_right : (r : Asker) → IsIn ps r → heard (deletions t windows) r.conn r.tag ≡ false
   port_deleted_right r i =
       let h : HasWaiting port_opening t t.waiting (told r) = asker_waits port_opening t t.waiting ps ties.ports r i in
-      key_of (λ (c g : ℕ). heard (deletions t windows) c g ≡ false) h.waiting.conn h.waiting.tag r.conn r.tag h.conn h.tag
-      (heard_deleted t windows h.waiting ties.apart h.there ∙ any_none (λ (v : ℕ). is_of_window t v h.waiting) windows (λ v. by_no_window t t.waiting r h v))
+      key_of (λ (c g : ℕ). heard (deletions t windows) c g ≡ false) h.waiting.conn h.waiting.tag r.conn r.tag h.conn
+      h.tag
+      (heard_deleted t windows h.waiting ties.apart h.there ∙ any_none (λ (v : ℕ). is_of_window t v h.waiting) windows
+      (λ v. by_no_window t t.waiting r h v))

@@ -1,5 +1,6 @@
 -- All laws of a journal of the editor.
-use Rattle.std.proofs.Common.{◌≡◌, ℕ, eqb, ◌&&◌, Bool, true, false, List, [], ◌∷◌, ◌++◌, All, inl, inr, None, refl, sym, subst, ◌∙◌, arith, append_assoc}
+use Rattle.std.proofs.Common.{◌≡◌, ℕ, eqb, ◌&&◌, Bool, true, false, List, [], ◌∷◌, ◌++◌, All, inl, inr, None, refl, sym}
+use Rattle.std.proofs.Common.{subst, ◌∙◌, arith, append_assoc}
 use Rattle.std.specs.List.{Contains, list_any}
 use Rattle.std.proofs.lemmas.Bool.{eqb-true, false≢true}
 use Rattle.am_journal.specs.declared.event.Event.{Event}
@@ -14,7 +15,8 @@ use Rattle.acme_core.specs.Laws.{EachIsAnswered}
 use Rattle.acme_core.specs.Run.{enabled, run, present_after}
 use Rattle.am_counter.specs.Played.{ArePlayed, IsPlayed, IsPrefix}
 use Rattle.core_events.specs.declared.response.Response.{Response}
-use Rattle.core_laws.specs.Journals.{FlushedTagsAreSilent, FlushedReadsGetNothing, NothingBehindHangUps, JournalsAreLawful}
+use Rattle.core_laws.specs.Journals.{FlushedTagsAreSilent, FlushedReadsGetNothing, NothingBehindHangUps}
+use Rattle.core_laws.specs.Journals.{JournalsAreLawful}
 use Rattle.core_laws.specs.Laws.{IsFree}
 use Rattle.core_laws.specs.Saying.{said_after, said_from, is_told, flush_of, flushed}
 use Rattle.core_laws.proofs.Answered.{messages_answered}
@@ -32,8 +34,10 @@ use Rattle.core_laws.proofs.Unsents.{sent_or_unsent}
 use Rattle.core_laws.proofs.Windows.{possible_prefix, all_lawful, histories}
 
 -- the events of a beginning were enabled, too
-played_prefix : (before journal : List Event) → IsPrefix before journal → IsPlayed enabled journal → IsPlayed enabled before
-played_prefix before journal front played = (played_parts [] before front.0 (subst (IsPlayed enabled) (sym front.1) played)).0
+played_prefix : (before journal : List Event) → IsPrefix before journal → IsPlayed enabled journal
+    → IsPlayed enabled before
+played_prefix before journal front played = (played_parts [] before front.0
+    (subst (IsPlayed enabled) (sym front.1) played)).0
 
 -- the front of a journal up to an entry and some behind it
 silent_by : (journal : List Event) → IsPlayed enabled journal → FlushedTagsAreSilent journal
@@ -43,10 +47,14 @@ silent_by journal played before middle behind conn tag oldtag is said none =
     let parts : ArePlayed enabled [] (before ++ e ∷ middle) × ArePlayed enabled ([] ++ (before ++ e ∷ middle)) behind =
     played_parts [] (before ++ e ∷ middle) behind (subst (IsPlayed enabled) (sym whole) played)
     in
-    let both : IsFree (before ++ e ∷ middle) conn oldtag × All (λ x. is_told conn oldtag x ≡ false) (said_from (before ++ e ∷ []) middle) =
+    let both : IsFree (before ++ e ∷ middle) conn oldtag × All (λ x. is_told conn oldtag x ≡ false)
+    (said_from (before ++ e ∷ []) middle) =
     nothing_to_a_flushed before middle conn tag oldtag parts.0 said none
     in
-    record { free = subst (λ (l : List Event). IsFree l conn oldtag) (sym (append_assoc before (e ∷ []) middle)) both.0; said = both.1 }
+    record {
+      free = subst (λ (l : List Event). IsFree l conn oldtag) (sym (append_assoc before (e ∷ []) middle)) both.0;
+      said = both.1;
+    }
 
 -- ---- a read that is flushed
 
@@ -55,18 +63,22 @@ and_no true = refl
 and_no false = refl
 
 -- a tag with which a read waits isn't one with which none does
-other_tag : (conn tag oldtag : ℕ) (ws : List Waiting) → list_any (is_waiting conn tag) ws ≡ false → list_any (is_waiting conn oldtag) ws ≡ true
+other_tag : (conn tag oldtag : ℕ) (ws : List Waiting) → list_any (is_waiting conn tag) ws ≡ false →
+    list_any (is_waiting conn oldtag) ws ≡ true
     → is_told conn oldtag (flushed conn tag) ≡ false
 other_tag conn tag oldtag ws free waits =
     elim (eqb tag oldtag) as (λ b. eqb tag oldtag ≡ b → (eqb conn conn && b) ≡ false) [
-      | true ↦ λ e. absurd (false≢true (sym (subst (λ (t : ℕ). list_any (is_waiting conn t) ws ≡ false) (eqb-true tag oldtag e) free) ∙ waits))
+      | true ↦ λ e. absurd (false≢true (sym (subst (λ (t : ℕ). list_any (is_waiting conn t) ws ≡ false)
+          (eqb-true tag oldtag e) free) ∙ waits))
       | false ↦ λ e. and_no (eqb conn conn)
     ] refl
 
 -- the tag of a Tflush that was enabled is no waiting read's
-own_tag : (before : List Event) (conn tag oldtag : ℕ) → enabled before (flush_of conn tag oldtag) ≡ None → list_any (is_waiting conn tag) (run before).tables.waiting ≡ false
+own_tag : (before : List Event) (conn tag oldtag : ℕ) → enabled before (flush_of conn tag oldtag) ≡ None →
+    list_any (is_waiting conn tag) (run before).tables.waiting ≡ false
 own_tag before conn tag oldtag allowed =
-    elim (tag_or_version (present_after before) conn (record { tag = tag; body = t.Flush oldtag }) allowed) as (λ z. list_any (is_waiting conn tag) (run before).tables.waiting ≡ false) [
+    elim (tag_or_version (present_after before) conn (record { tag = tag; body = t.Flush oldtag }) allowed) as
+    (λ z. list_any (is_waiting conn tag) (run before).tables.waiting ≡ false) [
       | inl free ↦ free
       | inr version ↦ absurd (false≢true version)
     ]
@@ -82,7 +94,8 @@ flushed_by journal played before middle behind conn tag oldtag is waits none =
     record {
       alone = alone;
       other = other_tag conn tag oldtag (run before).tables.waiting (own_tag before conn tag oldtag allowed) waits;
-      silent = silent_by journal played before middle behind conn tag oldtag is (subst (λ (xs : List Response). Contains xs (flushed conn tag)) (sym alone) (0, omega arith, refl)) none;
+      silent = silent_by journal played before middle behind conn tag oldtag is
+          (subst (λ (xs : List Response). Contains xs (flushed conn tag)) (sym alone) (0, omega arith, refl)) none;
     }
 
 -- ---- behind a hang-up
@@ -96,7 +109,8 @@ hung_by journal played before conn small front hung = record {
 pub all_laws : DeedsShow → RangesAreInside → NumbersStay → EachIsAnswered → JournalsAreLawful
 all_laws show inside numbers answers journal is = record {
   windows = λ before front. all_lawful show before (possible_prefix before journal front is.possible);
-  histories = λ before front. histories inside before (all_lawful show before (possible_prefix before journal front is.possible));
+  histories = λ before front. histories inside before (all_lawful show before
+      (possible_prefix before journal front is.possible));
   groups = λ before front. groups_numbered numbers before;
   begun = λ before front. groups_begun before;
   moves = moves_whole show journal is.possible;

@@ -1,5 +1,6 @@
 -- Lists without what passes a test, and members of lists.
-use Rattle.std.proofs.Common.{◌≡◌, ◌⊎◌, inl, inr, Bool, true, false, not, cond, ◌||◌, List, [], ◌∷◌, ◌++◌, All, refl, ap, subst, ◌∙◌}
+use Rattle.std.proofs.Common.{◌≡◌, ◌⊎◌, inl, inr, Bool, true, false, not, cond, ◌||◌, List, [], ◌∷◌, ◌++◌, All, refl}
+use Rattle.std.proofs.Common.{ap, subst, ◌∙◌}
 use Rattle.std.specs.List.{filter, list_any}
 use Rattle.std.proofs.lemmas.List.Elements.{All-nil, All-cons, All-head, All-tail}
 
@@ -12,7 +13,8 @@ module _ {A : Type 0} where
   without_both p q [] = refl
   without_both p q (x ∷ xs) = by (q x) refl (without_both p q xs)
     where
-      by : (b : Bool) → q x ≡ b → without p (without q xs) ≡ without (λ y. q y || p y) xs → without p (without q (x ∷ xs)) ≡ without (λ y. q y || p y) (x ∷ xs)
+      by : (b : Bool) → q x ≡ b → without p (without q xs) ≡ without (λ y. q y || p y) xs
+          → without p (without q (x ∷ xs)) ≡ without (λ y. q y || p y) (x ∷ xs)
       by true e later = rw e later
       by false e later = rw e (ap (λ (l : List A). cond (not (p x)) (x ∷ l) l) later)
 
@@ -31,7 +33,8 @@ module _ {A : Type 0} where
   in_without p [] x i = absurd i
   in_without p (y ∷ ys) x i = by (p y) refl (in_without p ys x) i
     where
-      by : (b : Bool) → p y ≡ b → (IsIn (without p ys) x → IsIn ys x × (p x ≡ false)) → IsIn (cond (not b) (y ∷ without p ys) (without p ys)) x → IsIn (y ∷ ys) x × (p x ≡ false)
+      by : (b : Bool) → p y ≡ b → (IsIn (without p ys) x → IsIn ys x × (p x ≡ false))
+          → IsIn (cond (not b) (y ∷ without p ys) (without p ys)) x → IsIn (y ∷ ys) x × (p x ≡ false)
       by true e later j = (inr (later j).0, (later j).1)
       by false e later (inl j) = (inl j, subst (λ (z : A). p z ≡ false) j e)
       by false e later (inr j) = (inr (later j).0, (later j).1)
@@ -50,14 +53,16 @@ module _ {A : Type 0} where
   which_any p [] h = absurd cc
   which_any p (y ∷ ys) h = by (p y) refl (which_any p ys) h
     where
-      by : (b : Bool) → p y ≡ b → (list_any p ys ≡ true → (x : A) × IsIn ys x × (p x ≡ true)) → (b || list_any p ys) ≡ true → (x : A) × IsIn (y ∷ ys) x × (p x ≡ true)
+      by : (b : Bool) → p y ≡ b → (list_any p ys ≡ true → (x : A) × IsIn ys x × (p x ≡ true))
+          → (b || list_any p ys) ≡ true → (x : A) × IsIn (y ∷ ys) x × (p x ≡ true)
       by true e later h = (y, inl refl, e)
       by false e later h = ((later h).0, inr (later h).1, (later h).2)
 
   pub without_same : (p q : A → Bool) (xs : List A) → ((x : A) → IsIn xs x → p x ≡ q x) → without p xs ≡ without q xs
   without_same p q [] h = refl
   without_same p q (x ∷ xs) h =
-      ap (λ (b : Bool). cond (not b) (x ∷ without p xs) (without p xs)) (h x (inl refl)) ∙ ap (λ (l : List A). cond (not (q x)) (x ∷ l) l) (without_same p q xs (λ y i. h y (inr i)))
+      ap (λ (b : Bool). cond (not b) (x ∷ without p xs) (without p xs)) (h x (inl refl))
+      ∙ ap (λ (l : List A). cond (not (q x)) (x ∷ l) l) (without_same p q xs (λ y i. h y (inr i)))
 
   pub all_by : (P : A → Type 0) (xs : List A) → ((x : A) → IsIn xs x → P x) → All P xs
   all_by P [] h = All-nil P

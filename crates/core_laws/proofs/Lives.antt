@@ -1,5 +1,6 @@
 -- Items that are settled stay so while a step makes what it makes, and items that ended through the whole step.
-use Rattle.std.proofs.Common.{◌≡◌, ◌≢◌, ◌==◌, ℕ, zero, suc, ◌≤◌, Bool, true, false, not, cond, List, [], ◌∷◌, ◌++◌, length, fold, nat_lt, slice_get, Option, Some, None, refl, sym, subst, arith}
+use Rattle.std.proofs.Common.{◌≡◌, ◌≢◌, ◌==◌, ℕ, zero, suc, ◌≤◌, Bool, true, false, not, cond, List, [], ◌∷◌, ◌++◌}
+use Rattle.std.proofs.Common.{length, fold, nat_lt, slice_get, Option, Some, None, refl, sym, subst, arith}
 use Rattle.std.proofs.lemmas.Bool.Decides.{nat_tests}
 use Rattle.fid_table.specs.declared.types.Fid.{Fid}
 use Rattle.fid_table.specs.Tables.{Tables, fid_of, fids_of}
@@ -12,12 +13,17 @@ use Rattle.wait_queue.specs.declared.types.Asked.{Asked}
 use Rattle.wait_queue.specs.declared.types.Asked.TheVariants.{Now, Waits}
 use Rattle.event_book.specs.declared.lives.Recorded.{Recorded}
 use Rattle.event_book.specs.Lives.{is_pending, pends, fresh, take_first, numbered}
-use Rattle.event_book.specs.WindowFiles.{EventFile, queue_of, enlisted, with_item, items_after, given, file_of, with_file}
-use Rattle.event_book.specs.BookState.{BookState, window_of, file_on, is_open_window, is_living, is_taken_of, recorded_of, next_opening, read_waits, asked_of, next_of, after_next, after_add, after_put, after_answer, after_ask, after_serve, after_written, after_cancel, after_leave, after_delete}
+use Rattle.event_book.specs.WindowFiles.{EventFile, queue_of, enlisted, with_item, items_after, given, file_of}
+use Rattle.event_book.specs.WindowFiles.{with_file}
+use Rattle.event_book.specs.BookState.{BookState, window_of, file_on, is_open_window, is_living, is_taken_of}
+use Rattle.event_book.specs.BookState.{recorded_of, next_opening, read_waits, asked_of, next_of, after_next, after_add}
+use Rattle.event_book.specs.BookState.{after_put, after_answer, after_ask, after_serve, after_written, after_cancel}
+use Rattle.event_book.specs.BookState.{after_leave, after_delete}
 use Rattle.event_book.specs.Laws.{IsLawful, is_ended, KeepsEnded}
 use Rattle.event_book.proofs.TableLemmas.{eq_from_test}
 use Rattle.event_book.proofs.BookLemmas.{same_window, other_window}
-use Rattle.event_book.proofs.LawfulLemmas.{lawful-add, lawful-put_in, lawful-waits, lawful-answer, lawful-serve, lawful-written_back, lawful-cancel, lawful-leave, lawful-delete}
+use Rattle.event_book.proofs.LawfulLemmas.{lawful-add, lawful-put_in, lawful-waits, lawful-answer, lawful-serve}
+use Rattle.event_book.proofs.LawfulLemmas.{lawful-written_back, lawful-cancel, lawful-leave, lawful-delete}
 use Rattle.event_book.proofs.LifeLemmas.{ended_stays}
 use Rattle.core_fids.specs.declared.effect.Answer.{Answer}
 use Rattle.core_fids.specs.declared.effect.Answer.TheVariants.{Says, Reads, ReadsPort}
@@ -30,13 +36,15 @@ use Rattle.core_scene.specs.Scenes.{deleted_by}
 use Rattle.core_events.specs.Asking.{reads_are_full, opened, book_asked, book_read}
 use Rattle.core_events.specs.declared.closing.BackItem.{BackItem}
 use Rattle.core_fids.specs.Fids.{event_opening}
-use Rattle.core_events.specs.Closing.{written_back, without_opening, without_fid, opening_in, freed, cancelled, closed_with}
+use Rattle.core_events.specs.Closing.{written_back, without_opening, without_fid, opening_in, freed, cancelled}
+use Rattle.core_events.specs.Closing.{closed_with}
 use Rattle.core_events.specs.Putting.{put_one, put_all, is_ending, put_if_lives, put_living, ending}
 use Rattle.core_events.specs.Serving.{book_served_most, book_served_all}
 use Rattle.core_parts.specs.declared.kind.Kind.{Kind}
 use Rattle.core_parts.specs.declared.kind.Kind.TheVariants as kind
 use Rattle.core_parts.specs.Doing.{Doing}
-use Rattle.core_steps.specs.Stages.{asker_of, answer_book, message_book, acted, with_fid, grown_tables, read_book, put_book, grown_book, book_after}
+use Rattle.core_steps.specs.Stages.{asker_of, answer_book, message_book, acted, with_fid, grown_tables, read_book}
+use Rattle.core_steps.specs.Stages.{put_book, grown_book, book_after}
 use Rattle.core_closing.specs.Closing.{left_book}
 use Rattle.core_parts.specs.States.{Present, next_entry}
 
@@ -90,36 +98,45 @@ pushed new (x ∷ es) (suc k) e is t = pushed new es k e is t
 taken : (life : Life) (es : List Recorded) (k : ℕ) → Same (slice_get es k) (slice_get (take_first life es) k)
 taken life [] k = same (slice_get [] k)
 taken life (x ∷ es) zero =
-    (elim (pends x) as (λ b. pends x ≡ b → Same (Some x) (slice_get (cond b (record { item = x.item; life = life } ∷ es) (x ∷ take_first life es)) zero)) [
+    (elim (pends x) as (λ b. pends x ≡ b → Same (Some x) (slice_get
+    (cond b (record { item = x.item; life = life } ∷ es) (x ∷ take_first life es)) zero)) [
       | true ↦ λ p e is t. absurd (not_pending e.life (subst (λ (r : Recorded). pends r ≡ true) (some_same x e is) p) t)
       | false ↦ λ p. same (Some x)
     ]) refl
 taken life (x ∷ es) (suc k) =
-    elim (pends x) as (λ b. Same (slice_get es k) (slice_get (cond b (record { item = x.item; life = life } ∷ es) (x ∷ take_first life es)) (suc k))) [
+    elim (pends x) as (λ b. Same (slice_get es k) (slice_get (cond b (record { item = x.item; life = life } ∷ es)
+    (x ∷ take_first life es)) (suc k))) [
       | true ↦ same (slice_get es k)
       | false ↦ taken life es k
     ]
 
-by_number : (es es' : List Recorded) → ((k : ℕ) → Same (slice_get es k) (slice_get es' k)) → (n : ℕ) → Same (numbered es n) (numbered es' n)
+by_number : (es es' : List Recorded) → ((k : ℕ) → Same (slice_get es k) (slice_get es' k)) → (n : ℕ)
+    → Same (numbered es n) (numbered es' n)
 by_number es es' h zero = same None
 by_number es es' h (suc k) = h k
 
-taken_items : (life : Life) (o : Option ℕ) (es : List Recorded) (n : ℕ) → Same (numbered es n) (numbered (items_after o life es) n)
+taken_items : (life : Life) (o : Option ℕ) (es : List Recorded) (n : ℕ)
+    → Same (numbered es n) (numbered (items_after o life es) n)
 taken_items life None es n = same (numbered es n)
 taken_items life (Some number) es n = by_number es (take_first life es) (taken life es) n
 
 -- one window's file changed
-with_items : (s : BookState) (w : ℕ) (f : EventFile) → IsLawful s → ((n : ℕ) → Same (numbered (file_of s.files w).items n) (numbered f.items n)) → (v n : ℕ)
+with_items : (s : BookState) (w : ℕ) (f : EventFile) → IsLawful s →
+    ((n : ℕ) → Same (numbered (file_of s.files w).items n) (numbered f.items n)) → (v n : ℕ)
     → Same (numbered (file_of s.files v).items n) (numbered (file_of (with_file w f s.files) v).items n)
 with_items s w f h own v n =
-    (elim (v == w) as (λ b. (v == w) ≡ b → Same (numbered (file_of s.files v).items n) (numbered (file_of (with_file w f s.files) v).items n)) [
+    (elim (v == w) as (λ b. (v == w) ≡ b → Same (numbered (file_of s.files v).items n)
+    (numbered (file_of (with_file w f s.files) v).items n)) [
       | true ↦ λ t.
           let e : v ≡ w = eq_from_test v w t in
-          subst (λ (x : ℕ). Same (numbered (file_of s.files x).items n) (numbered (file_of (with_file w f s.files) x).items n)) (sym e)
-          (subst (λ (g : EventFile). Same (numbered (file_of s.files w).items n) (numbered g.items n)) (sym (same_window 0 w f s.files h.rise)) (own n))
+          subst (λ (x : ℕ). Same (numbered (file_of s.files x).items n)
+          (numbered (file_of (with_file w f s.files) x).items n)) (sym e)
+          (subst (λ (g : EventFile). Same (numbered (file_of s.files w).items n) (numbered g.items n))
+          (sym (same_window 0 w f s.files h.rise)) (own n))
       | false ↦ λ t.
           let other : v ≢ w = grind (arith, nat_tests) in
-          subst (λ (g : EventFile). Same (numbered (file_of s.files v).items n) (numbered g.items n)) (sym (other_window w v f s.files other)) (same (numbered (file_of s.files v).items n))
+          subst (λ (g : EventFile). Same (numbered (file_of s.files v).items n) (numbered g.items n))
+          (sym (other_window w v f s.files other)) (same (numbered (file_of s.files v).items n))
     ]) refl
 
 answer_keeps : (s : BookState) (r : Asker) (at : ℕ) → IsLawful s → Keeps is_settled s (after_answer s r at)
@@ -129,7 +146,8 @@ answer_keeps s r at h =
 
 ask_keeps : (s : BookState) (r : Asker) (at : ℕ) → IsLawful s → Keeps is_settled s (after_ask s r at)
 ask_keeps s r at h =
-    elim (read_waits s r) as (λ b. Keeps is_settled s (cond b (record s { reads = s.reads ++ r ∷ []; latest = at }) (after_answer s r at))) [
+    elim (read_waits s r) as (λ b. Keeps is_settled s (cond b (record s { reads = s.reads ++ r ∷ []; latest = at })
+    (after_answer s r at))) [
       | true ↦ λ v n. same (recorded_of s v n)
       | false ↦ answer_keeps s r at h
     ]
@@ -140,8 +158,11 @@ next_keeps (Some r) s at h = answer_keeps s r at h
 
 pub settled_keep : AllKeep is_settled
 settled_keep s h = record {
-  add = λ w. with_items s w (enlisted (file_of s.files w) (next_opening s)) h (λ n. same (numbered (file_of s.files w).items n));
-  put = λ w item. with_items s w (with_item (file_of s.files w) item) h (by_number (file_of s.files w).items ((file_of s.files w).items ++ fresh item ∷ []) (pushed item (file_of s.files w).items));
+  add = λ w. with_items s w (enlisted (file_of s.files w) (next_opening s)) h
+      (λ n. same (numbered (file_of s.files w).items n));
+  put = λ w item. with_items s w (with_item (file_of s.files w) item) h
+      (by_number (file_of s.files w).items ((file_of s.files w).items ++ fresh item ∷ [])
+      (pushed item (file_of s.files w).items));
   ask = λ r at. ask_keeps s r at h;
   serve = λ at. next_keeps (next_of s) s at h;
 }
@@ -178,8 +199,10 @@ module _ (Q : Life → Bool) (all : AllKeep Q) (first : BookState) (at : ℕ) wh
 
   keep_put : (s : BookState) (i : WindowItem) → K s → K (put_one s i)
   keep_put s i k =
-      (elim (is_open_window s i.window) as (λ t. is_open_window s i.window ≡ t → K (cond t (after_put s i.window i.item) s)) [
-        | true ↦ λ e. on s (after_put s i.window i.item) k (lawful-put_in s i.window i.item e k.lawful) k.latest ((all s k.lawful).put i.window i.item)
+      (elim (is_open_window s i.window) as (λ t. is_open_window s i.window ≡ t →
+      K (cond t (after_put s i.window i.item) s)) [
+        | true ↦ λ e. on s (after_put s i.window i.item) k (lawful-put_in s i.window i.item e k.lawful) k.latest
+            ((all s k.lawful).put i.window i.item)
         | false ↦ λ e. k
       ]) refl
 
@@ -201,31 +224,36 @@ module _ (Q : Life → Bool) (all : AllKeep Q) (first : BookState) (at : ℕ) wh
     where
       lawful : IsLawful (after_ask s r at)
       lawful =
-          elim (read_waits s r) as (λ t. IsLawful (cond t (record s { reads = s.reads ++ r ∷ []; latest = at }) (after_answer s r at))) [
+          elim (read_waits s r) as (λ t. IsLawful (cond t (record s { reads = s.reads ++ r ∷ []; latest = at })
+          (after_answer s r at))) [
             | true ↦ lawful-waits s r at k.latest living k.lawful
             | false ↦ lawful-answer s r at k.latest living k.lawful
           ]
 
       latest : (after_ask s r at).latest ≤ at
       latest =
-          elim (read_waits s r) as (λ t. (cond t (record s { reads = s.reads ++ r ∷ []; latest = at }) (after_answer s r at)).latest ≤ at) [
+          elim (read_waits s r) as (λ t. (cond t (record s { reads = s.reads ++ r ∷ []; latest = at })
+          (after_answer s r at)).latest ≤ at) [
             | true ↦ omega arith
             | false ↦ omega arith
           ]
 
-  keep_asked : (full : Bool) (asked : Asked) (s : BookState) (r : Asker) → is_living s r.opening ≡ true → K s → K (book_asked full asked s r at)
+  keep_asked : (full : Bool) (asked : Asked) (s : BookState) (r : Asker) → is_living s r.opening ≡ true → K s
+      → K (book_asked full asked s r at)
   keep_asked full (Now piece) s r living k = keep_ask s r living k
   keep_asked true Waits s r living k = k
   keep_asked false Waits s r living k = keep_ask s r living k
 
   keep_read : (t : Tables) (s : BookState) (r : Asker) → K s → K (book_read t s r at)
   keep_read t s r k =
-      (elim (is_living s r.opening) as (λ l. is_living s r.opening ≡ l → K (cond l (book_asked (reads_are_full t r.conn) (asked_of s r) s r at) s)) [
+      (elim (is_living s r.opening) as (λ l. is_living s r.opening ≡ l →
+      K (cond l (book_asked (reads_are_full t r.conn) (asked_of s r) s r at) s)) [
         | true ↦ λ living. keep_asked (reads_are_full t r.conn) (asked_of s r) s r living k
         | false ↦ λ dead. k
       ]) refl
 
-  keep_answer : (t : Tables) (s : BookState) (conn tag : ℕ) (a : Option Answer) → K s → K (answer_book t s conn tag a at)
+  keep_answer : (t : Tables) (s : BookState) (conn tag : ℕ) (a : Option Answer) → K s
+      → K (answer_book t s conn tag a at)
   keep_answer t s conn tag None k = k
   keep_answer t s conn tag (Some (Says body)) k = k
   keep_answer t s conn tag (Some (Reads fid opening count)) k = keep_read t s (asker_of conn tag opening count) k
@@ -243,7 +271,8 @@ module _ (Q : Life → Bool) (all : AllKeep Q) (first : BookState) (at : ℕ) wh
   next_latest (Some r) s h = omega arith
 
   keep_serve : (s : BookState) → K s → K (after_serve s at)
-  keep_serve s k = on s (after_serve s at) k (lawful-serve s at k.latest k.lawful) (next_latest (next_of s) s k.latest) ((all s k.lawful).serve at)
+  keep_serve s k = on s (after_serve s at) k (lawful-serve s at k.latest k.lawful) (next_latest (next_of s) s k.latest)
+      ((all s k.lawful).serve at)
 
   keep_most : (n : ℕ) (s : BookState) → K s → K (book_served_most n at s)
   unfolding book_served_most
@@ -254,10 +283,13 @@ module _ (Q : Life → Bool) (all : AllKeep Q) (first : BookState) (at : ℕ) wh
   pub keep_grown : (p : Present) (m : Kind) (d : Doing) → at ≡ next_entry p → K p.scene.book → K (grown_book p m d)
   keep_grown p m d e k =
       let items : List WindowItem = (acted p d).items in
-      let read : K (read_book p m d) = subst (λ (n : ℕ). K (message_book (with_fid p m d) p.scene.book m d.answer n)) e (keep_message (with_fid p m d) p.scene.book m d.answer k) in
-      let put : K (put_book p m d) = keep_living (deleted_by d.deeds) (opened (read_book p m d) d.events) items (keep_opened (read_book p m d) d.events read) in
+      let read : K (read_book p m d) = subst (λ (n : ℕ). K (message_book (with_fid p m d) p.scene.book m d.answer n)) e
+      (keep_message (with_fid p m d) p.scene.book m d.answer k) in
+      let put : K (put_book p m d) = keep_living (deleted_by d.deeds) (opened (read_book p m d) d.events) items
+      (keep_opened (read_book p m d) d.events read) in
       let served : K (book_served_all (next_entry p) (put_book p m d)) =
-      subst (λ (n : ℕ). K (book_served_all n (put_book p m d))) e (keep_most (length (put_book p m d).reads) (put_book p m d) put)
+      subst (λ (n : ℕ). K (book_served_all n (put_book p m d))) e (keep_most (length (put_book p m d).reads)
+      (put_book p m d) put)
       in
       keep_put_all (book_served_all (next_entry p) (put_book p m d)) (ending (deleted_by d.deeds) items) served
 
@@ -274,7 +306,8 @@ module _ (first : BookState) (at : ℕ) where
   end_written s None k = k
   end_written s (Some b) k =
       elim (is_taken_of s b.window b.number) as (λ t. E (cond t (after_written s b.window b.number at) s)) [
-        | true ↦ end_on s (after_written s b.window b.number at) k (lawful-written_back s b.window b.number at k.latest k.lawful) (omega arith)
+        | true ↦ end_on s (after_written s b.window b.number at) k
+            (lawful-written_back s b.window b.number at k.latest k.lawful) (omega arith)
             ((ended_stays s k.lawful).written b.window b.number at)
         | false ↦ k
       ]
@@ -283,7 +316,8 @@ module _ (first : BookState) (at : ℕ) where
   end_without s None k = k
   end_without s (Some o) k =
       elim (is_living s o) as (λ t. E (cond t (after_leave s o at) s)) [
-        | true ↦ end_on s (after_leave s o at) k (lawful-leave s o at k.latest k.lawful) (omega arith) ((ended_stays s k.lawful).leave o at)
+        | true ↦ end_on s (after_leave s o at) k (lawful-leave s o at k.latest k.lawful) (omega arith)
+            ((ended_stays s k.lawful).leave o at)
         | false ↦ k
       ]
 
@@ -301,11 +335,13 @@ module _ (first : BookState) (at : ℕ) where
   end_cancelled s conn events.Nothing k = k
   end_cancelled s conn (events.Opens w) k = k
   end_cancelled s conn (events.Joins port) k = k
-  end_cancelled s conn (events.Cancels tag) k = end_on s (after_cancel s conn tag) k (lawful-cancel s conn tag k.lawful) k.latest ((ended_stays s k.lawful).cancel conn tag)
+  end_cancelled s conn (events.Cancels tag) k = end_on s (after_cancel s conn tag) k (lawful-cancel s conn tag k.lawful)
+      k.latest ((ended_stays s k.lawful).cancel conn tag)
 
   end_left : (t : Tables) (s : BookState) (m : Kind) (d : Doing) → E s → E (left_book at t m d s)
   end_left t s (kind.Dials conn) d k = k
-  end_left t s (kind.Asks conn tag) d k = end_cancelled (freed at s t conn d.effect) conn d.events (end_freed s t conn d.effect k)
+  end_left t s (kind.Asks conn tag) d k = end_cancelled (freed at s t conn d.effect) conn d.events
+      (end_freed s t conn d.effect k)
   end_left t s (kind.Ends conn why) d k = end_fids s (fids_of t conn) k
   end_left t s (kind.Takes conn) d k = k
   end_left t s kind.Acts d k = k
@@ -313,11 +349,15 @@ module _ (first : BookState) (at : ℕ) where
   end_closed : (s : BookState) (ws : List ℕ) → E s → E (closed_with at s ws)
   end_closed s [] k = k
   end_closed s (w ∷ ws) k =
-      end_closed (after_delete s w at) ws (end_on s (after_delete s w at) k (lawful-delete s w at k.latest k.lawful) (omega arith) ((ended_stays s k.lawful).delete w at))
+      end_closed (after_delete s w at) ws (end_on s (after_delete s w at) k (lawful-delete s w at k.latest k.lawful)
+      (omega arith) ((ended_stays s k.lawful).delete w at))
 
   -- all that a step ends
-  pub end_after : (p : Present) (m : Kind) (d : Doing) → at ≡ next_entry p → E (written_back at (grown_book p m d) d.back) → E (book_after p m d)
+  pub end_after : (p : Present) (m : Kind) (d : Doing) → at ≡ next_entry p
+      → E (written_back at (grown_book p m d) d.back) → E (book_after p m d)
   end_after p m d e k =
-      subst (λ (n : ℕ). E (closed_with n (left_book n (grown_tables p m d) m d (written_back n (grown_book p m d) d.back)) (deleted_by d.deeds))) e
-      (end_closed (left_book at (grown_tables p m d) m d (written_back at (grown_book p m d) d.back)) (deleted_by d.deeds)
+      subst (λ (n : ℕ). E (closed_with n (left_book n (grown_tables p m d) m d
+      (written_back n (grown_book p m d) d.back)) (deleted_by d.deeds))) e
+      (end_closed (left_book at (grown_tables p m d) m d (written_back at (grown_book p m d) d.back))
+      (deleted_by d.deeds)
       (end_left (grown_tables p m d) (written_back at (grown_book p m d) d.back) m d k))

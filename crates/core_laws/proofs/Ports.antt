@@ -1,8 +1,10 @@
 -- What each call of the ports leaves of their waiting reads, and to whom what they serve is said.
-use Rattle.std.proofs.Common.{◌≡◌, ◌≢◌, ℕ, zero, suc, true, false, not, cond, List, [], ◌∷◌, ◌++◌, length, map, fold, nat_eq, slice_index_or, Option, Some, None, All, refl, ap, ◌∙◌}
+use Rattle.std.proofs.Common.{◌≡◌, ◌≢◌, ℕ, zero, suc, true, false, not, cond, List, [], ◌∷◌, ◌++◌, length, map, fold}
+use Rattle.std.proofs.Common.{nat_eq, slice_index_or, Option, Some, None, All, refl, ap, ◌∙◌}
 use Rattle.std.specs.Map.{lookup}
 use Rattle.std.proofs.lemmas.Bool.{eqb-false, not-true}
-use Rattle.std.proofs.lemmas.List.Elements.{All-nil, All-cons, All-push, All-filter, All-weaker, All-contains, filter_passes}
+use Rattle.std.proofs.lemmas.List.Elements.{All-nil, All-cons, All-push, All-filter, All-weaker, All-contains}
+use Rattle.std.proofs.lemmas.List.Elements.{filter_passes}
 use Rattle.ninep_types.specs.declared.message.RBody.{RBody}
 use Rattle.ninep_types.specs.declared.message.RBody.TheVariants as r
 use Rattle.fid_table.specs.declared.types.Fid.{Fid}
@@ -12,7 +14,8 @@ use Rattle.wait_queue.specs.declared.types.Asker.{Asker}
 use Rattle.wait_queue.specs.declared.types.Piece.{Piece}
 use Rattle.plumb_ports.specs.PortList.{number_of, kept_of, with_kept}
 use Rattle.plumb_ports.specs.Inboxes.{delivered}
-use Rattle.plumb_ports.specs.PortsState.{PortsState, is_open, is_ready, read_waits, next_of, served_of, delivered_at, delivered_on, after_ask, after_answer, after_join, after_next, after_serve}
+use Rattle.plumb_ports.specs.PortsState.{PortsState, is_open, is_ready, read_waits, next_of, served_of, delivered_at}
+use Rattle.plumb_ports.specs.PortsState.{delivered_on, after_ask, after_answer, after_join, after_next, after_serve}
 use Rattle.plumb_ports.proofs.WaitingLemmas.{served_waited}
 use Rattle.core_scene.specs.declared.deed.Deed.{Deed}
 use Rattle.core_scene.specs.declared.deed.Deed.TheVariants as deed
@@ -26,15 +29,19 @@ use Rattle.core_fids.specs.declared.effect.EventChange.TheVariants as events
 use Rattle.core_fids.specs.declared.refusal.Refusal.{Refusal}
 use Rattle.core_events.specs.declared.response.Response.{Response}
 use Rattle.core_events.specs.PortAsking.{next_opening, can_join, joined_with, read_refusal, read_unless, ports_read}
-use Rattle.core_events.specs.PortClosing.{without_opening, without_fid, ports_without_fids, opening_in, ports_freed, ports_cancelled}
-use Rattle.core_events.specs.PortServing.{then_served, served_most, after_serving_most, ports_served, ports_after_serving}
+use Rattle.core_events.specs.PortClosing.{without_opening, without_fid, ports_without_fids, opening_in, ports_freed}
+use Rattle.core_events.specs.PortClosing.{ports_cancelled}
+use Rattle.core_events.specs.PortServing.{then_served, served_most, after_serving_most, ports_served}
+use Rattle.core_events.specs.PortServing.{ports_after_serving}
 use Rattle.core_steps.specs.PortReads.{port_response}
 use Rattle.core_laws.proofs.Books.{all_without_first}
 
 -- ---- what is said to reads that waited
 
-module _ (Tells : Response → Type 0) (Reading : Asker → Type 0) (own : (r : Asker) (body : RBody) → Reading r → Tells (port_response r body)) where
-  then_said : (o : Option (Asker × Piece)) (rest : List Response) → ((x : Asker) (piece : Piece) → o ≡ Some (x, piece) → Reading x) → All Tells rest → All Tells (then_served o rest)
+module _ (Tells : Response → Type 0) (Reading : Asker → Type 0) (own : (r : Asker) (body : RBody) → Reading r
+    → Tells (port_response r body)) where
+  then_said : (o : Option (Asker × Piece)) (rest : List Response) →
+      ((x : Asker) (piece : Piece) → o ≡ Some (x, piece) → Reading x) → All Tells rest → All Tells (then_served o rest)
   then_said None rest waits h = All-nil Tells
   then_said (Some x) rest waits h = All-cons Tells _ rest (own x.0 (r.Read x.1.bytes) (waits x.0 x.1 refl)) h
 
@@ -46,7 +53,8 @@ module _ (Tells : Response → Type 0) (Reading : Asker → Type 0) (own : (r : 
   unfolding served_most
   most_said zero s h = All-nil Tells
   most_said (suc n) s h =
-      then_said (served_of s) (served_most n (after_serve s)) (λ x piece e. All-contains Reading s.reads x h (served_waited s x piece e))
+      then_said (served_of s) (served_most n (after_serve s)) (λ x piece e. All-contains Reading s.reads x h
+      (served_waited s x piece e))
       (most_said n (after_serve s) (next_reading (next_of s) s h))
 
   pub served_said : (s : PortsState) → All Reading s.reads → All Tells (ports_served s)
@@ -84,7 +92,8 @@ module _ (P : Asker → Type 0) where
         | false ↦ h
       ]
 
-  unless_reads : (o : Option Refusal) (s : PortsState) (x : Asker) → P x → All P s.reads → All P (read_unless o s x).reads
+  unless_reads : (o : Option Refusal) (s : PortsState) (x : Asker) → P x → All P s.reads
+      → All P (read_unless o s x).reads
   unless_reads None s x own h = ask_reads s x own h
   unless_reads (Some refusal) s x own h = h
 
@@ -95,7 +104,8 @@ module _ (P : Asker → Type 0) where
 
   at_reads : (s : PortsState) (port : ℕ) (message : List ℕ) → All P s.reads → All P (delivered_at s port message).reads
   at_reads s port message h =
-      elim (is_open s port) as (λ b. All P (cond b (record s { openings = map (delivered port message) s.openings }) (record s { ports = with_kept s.ports port (kept_of s.ports port ++ message ∷ []) })).reads) [
+      elim (is_open s port) as (λ b. All P (cond b (record s { openings = map (delivered port message) s.openings })
+      (record s { ports = with_kept s.ports port (kept_of s.ports port ++ message ∷ []) })).reads) [
         | true ↦ h
         | false ↦ h
       ]
@@ -116,7 +126,8 @@ module _ (P : Asker → Type 0) where
   deed_reads e s (deed.AddsPort name) h = h
   deed_reads e s (deed.Delivers name message keep) h = on_reads (number_of s.ports.ports name) s.ports message h
 
-  pub acted_reads : (e : Entry) (s : SceneState) (ds : List Deed) → All P s.ports.reads → All P (done_all e s ds).ports.reads
+  pub acted_reads : (e : Entry) (s : SceneState) (ds : List Deed) → All P s.ports.reads
+      → All P (done_all e s ds).ports.reads
   acted_reads e s [] h = h
   acted_reads e s (d ∷ ds) h = acted_reads e (done e s d) ds (deed_reads e s d h)
 
@@ -130,16 +141,19 @@ module _ (P : Asker → Type 0) where
   fids_reads [] s h = h
   fids_reads (f ∷ fs) s h = fids_reads fs (without_fid s f) (leave_reads s (port_opening f.1) h)
 
-  pub without_fids_reads : (s : PortsState) (t : Tables) (conn : ℕ) → All P s.reads → All P (ports_without_fids s t conn).reads
+  pub without_fids_reads : (s : PortsState) (t : Tables) (conn : ℕ) → All P s.reads
+      → All P (ports_without_fids s t conn).reads
   without_fids_reads s t conn h = fids_reads (fids_of t conn) s h
 
-  pub freed_reads : (s : PortsState) (t : Tables) (conn : ℕ) (e : Effect) → All P s.reads → All P (ports_freed s t conn e).reads
+  pub freed_reads : (s : PortsState) (t : Tables) (conn : ℕ) (e : Effect) → All P s.reads
+      → All P (ports_freed s t conn e).reads
   freed_reads s t conn effect.Nothing h = h
   freed_reads s t conn (effect.Begins msize) h = without_fids_reads s t conn h
   freed_reads s t conn (effect.Puts fid value) h = h
   freed_reads s t conn (effect.Frees fid) h = leave_reads s (opening_in (fid_of t conn fid)) h
 
-  pub cancelled_reads : (s : PortsState) (conn : ℕ) (e : EventChange) → All P s.reads → All P (ports_cancelled s conn e).reads
+  pub cancelled_reads : (s : PortsState) (conn : ℕ) (e : EventChange) → All P s.reads
+      → All P (ports_cancelled s conn e).reads
   cancelled_reads s conn events.Nothing h = h
   cancelled_reads s conn (events.Opens w) h = h
   cancelled_reads s conn (events.Joins port) h = h
@@ -153,14 +167,16 @@ some_is o x apart e = let same : x.opening ≡ o = cc in apart same
 pub left_none : (s : PortsState) (o : Option ℕ) → All (λ x. o ≡ Some x.opening → ⊥) (without_opening s o).reads
 left_none s None = λ k d h e. absurd cc
 left_none s (Some o) =
-    All-weaker (λ x. not (is_on o x) ≡ true) (λ x. Some o ≡ Some x.opening → ⊥) (λ x h. some_is o x (eqb-false x.opening o (not-true (is_on o x) h))) (without_opening s (Some o)).reads
+    All-weaker (λ x. not (is_on o x) ≡ true) (λ x. Some o ≡ Some x.opening → ⊥)
+    (λ x h. some_is o x (eqb-false x.opening o (not-true (is_on o x) h))) (without_opening s (Some o)).reads
     (filter_passes (λ x. not (is_on o x)) s.reads)
 
 -- no read is on an opening of a port of these fids
 abbrev pub IsApart : List (ℕ × Fid) → Asker → Type 0
 IsApart fs x = (number : ℕ) (f : Fid) → lookup (nat_eq number) fs ≡ Some f → port_opening f ≡ Some x.opening → ⊥
 
-apart_more : (f : ℕ × Fid) (fs : List (ℕ × Fid)) (x : Asker) → (port_opening f.1 ≡ Some x.opening → ⊥) → IsApart fs x → IsApart (f ∷ fs) x
+apart_more : (f : ℕ × Fid) (fs : List (ℕ × Fid)) (x : Asker) → (port_opening f.1 ≡ Some x.opening → ⊥) → IsApart fs x
+    → IsApart (f ∷ fs) x
 apart_more f fs x none rest number g e opens =
     elim (nat_eq number f.0) as (λ b. cond b (Some f.1) (lookup (nat_eq number) fs) ≡ Some g → ⊥) [
       | true ↦ λ h. let same : f.1 ≡ g = cc in none (ap port_opening same ∙ opens)
@@ -175,9 +191,11 @@ fids_none [] s = λ k d h. apart_none (slice_index_or s.reads k d)
 fids_none (f ∷ fs) s =
     let next : PortsState = without_fid s f in
     let end : PortsState = fold without_fid next fs in
-    let first : All (λ x. port_opening f.1 ≡ Some x.opening → ⊥) end.reads = fids_reads (λ x. port_opening f.1 ≡ Some x.opening → ⊥) fs next (left_none s (port_opening f.1)) in
+    let first : All (λ x. port_opening f.1 ≡ Some x.opening → ⊥) end.reads =
+    fids_reads (λ x. port_opening f.1 ≡ Some x.opening → ⊥) fs next (left_none s (port_opening f.1)) in
     let later : All (IsApart fs) end.reads = fids_none fs next in
     λ k d h. apart_more f fs (slice_index_or end.reads k d) (first k d h) (later k d h)
 
-pub without_fids_none : (s : PortsState) (t : Tables) (conn : ℕ) → All (IsApart (fids_of t conn)) (ports_without_fids s t conn).reads
+pub without_fids_none : (s : PortsState) (t : Tables) (conn : ℕ) → All (IsApart (fids_of t conn))
+    (ports_without_fids s t conn).reads
 without_fids_none s t conn = fids_none (fids_of t conn) s

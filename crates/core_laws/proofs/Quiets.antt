@@ -1,5 +1,6 @@
 -- What is true of the connection and the tag of each message, as long as messages come, is true of all that is said.
-use Rattle.std.proofs.Common.{ℕ, ◌+◌, not, List, [], ◌∷◌, ◌++◌, Option, Some, None, All, sym, subst, append_assoc, append-nil}
+use Rattle.std.proofs.Common.{ℕ, ◌+◌, not, List, [], ◌∷◌, ◌++◌, Option, Some, None, All, sym, subst, append_assoc}
+use Rattle.std.proofs.Common.{append-nil}
 use Rattle.std.proofs.lemmas.List.Elements.{All-nil, All-append, All-filter}
 use Rattle.fid_table.specs.Tables.{Tables, fid_of, fids_of, is_waiting_on, after_hangup}
 use Rattle.event_book.specs.BookState.{BookState}
@@ -21,74 +22,95 @@ use Rattle.plumb_ports.specs.PortsState.{PortsState}
 use Rattle.core_events.specs.PortAsking.{port_said}
 use Rattle.core_events.specs.PortClosing.{ports_freed}
 use Rattle.core_steps.specs.PortReads.{port_read_in, port_read_of, asked_tables, asked_ports}
-use Rattle.core_laws.proofs.Ports.{read_reads, joined_reads, acted_reads, served_reads, cancelled_reads, freed_reads, without_fids_reads}
+use Rattle.core_laws.proofs.Ports.{read_reads, joined_reads, acted_reads, served_reads, cancelled_reads, freed_reads}
+use Rattle.core_laws.proofs.Ports.{without_fids_reads}
 use Rattle.core_intents.specs.Doings.{doing_of, entry_of}
 use Rattle.core_parts.specs.Doing.{Doing}
 use Rattle.core_parts.specs.Kinds.{kind_of}
 use Rattle.acme_core.specs.Run.{step, run, enabled}
-use Rattle.core_steps.specs.Stages.{asker_of, answer_book, answer_tables, acted, read_tables, grown_tables, grown_book, open_ports, grown_ports, read_book, book_after, said}
+use Rattle.core_steps.specs.Stages.{asker_of, answer_book, answer_tables, acted, read_tables, grown_tables, grown_book}
+use Rattle.core_steps.specs.Stages.{open_ports, grown_ports, read_book, book_after, said}
 use Rattle.core_closing.specs.Closing.{left_book, left_ports, ended_tables}
 use Rattle.core_parts.specs.States.{Present, State, present, next_entry}
 use Rattle.acme_core.proofs.Goes.{run-push}
 use Rattle.core_laws.specs.Saying.{said_from}
 use Rattle.core_laws.proofs.Books.{IsBook, book_without, book_without_fids, book_cancelled, book_written, book_closed}
 use Rattle.core_laws.proofs.Tells.{Tells, Reading, IsWaiting, OfMessage, tells}
-use Rattle.core_laws.proofs.Wells.{IsWell, later, done_waiting, cancelled_waiting, reading_book, waits_waiting, items_book, well_step}
+use Rattle.core_laws.proofs.Wells.{IsWell, later, done_waiting, cancelled_waiting, reading_book, waits_waiting}
+use Rattle.core_laws.proofs.Wells.{items_book, well_step}
 
 module _ (L : ℕ → ℕ → Type 0) where
   -- it is true of each read that waits
   abbrev pub IsQuiet : State → Type 0
-  IsQuiet s = All (IsWaiting L) s.tables.waiting × All (Reading L) s.scene.book.reads × All (Reading L) s.scene.ports.reads
+  IsQuiet s = All (IsWaiting L) s.tables.waiting × All (Reading L) s.scene.book.reads
+      × All (Reading L) s.scene.ports.reads
 
   book_of : (s : State) → IsWell s → IsQuiet s → IsBook (Reading L) (s.entries + 1) s.scene.book
-  book_of s well quiet = let b = later s well in record { lawful = b.book.lawful; latest = b.book.latest; reads = quiet.1 }
+  book_of s well quiet = let b = later s well in record {
+    lawful = b.book.lawful;
+    latest = b.book.latest;
+    reads =
+        quiet.1;
+  }
 
   -- ---- what grows
 
-  put_waiting : (t : Tables) (conn : ℕ) (e : Effect) → All (IsWaiting L) t.waiting → All (IsWaiting L) (grown_with t conn e).waiting
+  put_waiting : (t : Tables) (conn : ℕ) (e : Effect) → All (IsWaiting L) t.waiting
+      → All (IsWaiting L) (grown_with t conn e).waiting
   put_waiting t conn effect.Nothing h = h
   put_waiting t conn (effect.Begins msize) h = h
   put_waiting t conn (effect.Puts number fid) h = h
   put_waiting t conn (effect.Frees number) h = h
 
-  answered_waiting : (t : Tables) (b : BookState) (conn tag : ℕ) (a : Option Answer) → L conn tag → All (IsWaiting L) t.waiting → All (IsWaiting L) (answer_tables t b conn tag a).waiting
+  answered_waiting : (t : Tables) (b : BookState) (conn tag : ℕ) (a : Option Answer) → L conn tag
+      → All (IsWaiting L) t.waiting → All (IsWaiting L) (answer_tables t b conn tag a).waiting
   answered_waiting t b conn tag None own h = h
   answered_waiting t b conn tag (Some (Says body)) own h = h
-  answered_waiting t b conn tag (Some (Reads fid opening count)) own h = waits_waiting (IsWaiting L) (read_said t b (asker_of conn tag opening count)) t conn tag fid own h
+  answered_waiting t b conn tag (Some (Reads fid opening count)) own h = waits_waiting (IsWaiting L)
+      (read_said t b (asker_of conn tag opening count)) t conn tag fid own h
   answered_waiting t b conn tag (Some (ReadsPort fid opening count)) own h = h
 
-  asked_waiting : (t : Tables) (p : PortsState) (conn tag : ℕ) (a : Option Answer) → L conn tag → All (IsWaiting L) t.waiting
+  asked_waiting : (t : Tables) (p : PortsState) (conn tag : ℕ) (a : Option Answer) → L conn tag
+      → All (IsWaiting L) t.waiting
       → All (IsWaiting L) (asked_tables t p (port_read_in conn tag a)).waiting
   asked_waiting t p conn tag None own h = h
   asked_waiting t p conn tag (Some (Says body)) own h = h
   asked_waiting t p conn tag (Some (Reads fid opening count)) own h = h
-  asked_waiting t p conn tag (Some (ReadsPort fid opening count)) own h = waits_waiting (IsWaiting L) (port_said t p (asker_of conn tag opening count)) t conn tag fid own h
+  asked_waiting t p conn tag (Some (ReadsPort fid opening count)) own h = waits_waiting (IsWaiting L)
+      (port_said t p (asker_of conn tag opening count)) t conn tag fid own h
 
   asked_reads : (t : Tables) (p : PortsState) (conn tag : ℕ) (a : Option Answer) → L conn tag → All (Reading L) p.reads
       → All (Reading L) (asked_ports t p (port_read_in conn tag a)).reads
   asked_reads t p conn tag None own h = h
   asked_reads t p conn tag (Some (Says body)) own h = h
   asked_reads t p conn tag (Some (Reads fid opening count)) own h = h
-  asked_reads t p conn tag (Some (ReadsPort fid opening count)) own h = read_reads (Reading L) t p (asker_of conn tag opening count) own h
+  asked_reads t p conn tag (Some (ReadsPort fid opening count)) own h = read_reads (Reading L) t p
+      (asker_of conn tag opening count) own h
 
-  answered_book : (at : ℕ) (t : Tables) (b : BookState) (conn tag : ℕ) (a : Option Answer) → L conn tag → IsBook (Reading L) at b → IsBook (Reading L) at (answer_book t b conn tag a at)
+  answered_book : (at : ℕ) (t : Tables) (b : BookState) (conn tag : ℕ) (a : Option Answer) → L conn tag
+      → IsBook (Reading L) at b → IsBook (Reading L) at (answer_book t b conn tag a at)
   answered_book at t b conn tag None own book = book
   answered_book at t b conn tag (Some (Says body)) own book = book
-  answered_book at t b conn tag (Some (Reads fid opening count)) own book = reading_book (Reading L) at t b (asker_of conn tag opening count) own book
+  answered_book at t b conn tag (Some (Reads fid opening count)) own book = reading_book (Reading L) at t b
+      (asker_of conn tag opening count) own book
   answered_book at t b conn tag (Some (ReadsPort fid opening count)) own book = book
 
-  grown_waiting : (s : Present) (k : Kind) (d : Doing) → OfMessage L k → All (IsWaiting L) s.tables.waiting → All (IsWaiting L) (grown_tables s k d).waiting
+  grown_waiting : (s : Present) (k : Kind) (d : Doing) → OfMessage L k → All (IsWaiting L) s.tables.waiting
+      → All (IsWaiting L) (grown_tables s k d).waiting
   grown_waiting s (kind.Dials conn) d own h = h
   grown_waiting s (kind.Asks conn tag) d own h =
       asked_waiting (read_tables s (kind.Asks conn tag) d) (acted s d).ports conn tag d.answer own
-      (answered_waiting (grown_with s.tables conn d.effect) s.scene.book conn tag d.answer own (put_waiting s.tables conn d.effect h))
+      (answered_waiting (grown_with s.tables conn d.effect) s.scene.book conn tag d.answer own
+      (put_waiting s.tables conn d.effect h))
   grown_waiting s (kind.Ends conn why) d own h = h
   grown_waiting s (kind.Takes conn) d own h = h
   grown_waiting s kind.Acts d own h = h
 
-  quiet_read : (s : Present) (k : Kind) (d : Doing) → OfMessage L k → IsBook (Reading L) (next_entry s) s.scene.book → IsBook (Reading L) (next_entry s) (read_book s k d)
+  quiet_read : (s : Present) (k : Kind) (d : Doing) → OfMessage L k → IsBook (Reading L) (next_entry s) s.scene.book
+      → IsBook (Reading L) (next_entry s) (read_book s k d)
   quiet_read s (kind.Dials conn) d own book = book
-  quiet_read s (kind.Asks conn tag) d own book = answered_book (next_entry s) (grown_with s.tables conn d.effect) s.scene.book conn tag d.answer own book
+  quiet_read s (kind.Asks conn tag) d own book = answered_book (next_entry s) (grown_with s.tables conn d.effect)
+      s.scene.book conn tag d.answer own book
   quiet_read s (kind.Ends conn why) d own book = book
   quiet_read s (kind.Takes conn) d own book = book
   quiet_read s kind.Acts d own book = book
@@ -97,60 +119,74 @@ module _ (L : ℕ → ℕ → Type 0) where
   message_reads : (s : Present) (k : Kind) (d : Doing) → OfMessage L k → All (Reading L) (acted s d).ports.reads
       → All (Reading L) (asked_ports (read_tables s k d) (acted s d).ports (port_read_of k d.answer)).reads
   message_reads s (kind.Dials conn) d own h = h
-  message_reads s (kind.Asks conn tag) d own h = asked_reads (read_tables s (kind.Asks conn tag) d) (acted s d).ports conn tag d.answer own h
+  message_reads s (kind.Asks conn tag) d own h = asked_reads (read_tables s (kind.Asks conn tag) d) (acted s d).ports
+      conn tag d.answer own h
   message_reads s (kind.Ends conn why) d own h = h
   message_reads s (kind.Takes conn) d own h = h
   message_reads s kind.Acts d own h = h
 
-  pub quiet_ports : (s : Present) (k : Kind) (d : Doing) → OfMessage L k → All (Reading L) s.scene.ports.reads → All (Reading L) (open_ports s k d).reads
+  pub quiet_ports : (s : Present) (k : Kind) (d : Doing) → OfMessage L k → All (Reading L) s.scene.ports.reads
+      → All (Reading L) (open_ports s k d).reads
   quiet_ports s k d own h =
       joined_reads (Reading L) (asked_ports (read_tables s k d) (acted s d).ports (port_read_of k d.answer)) d.events
       (message_reads s k d own (acted_reads (Reading L) (entry_of s d) s.scene d.deeds h))
 
   -- ---- what ends
 
-  left_reads : (t : Tables) (p : PortsState) (k : Kind) (d : Doing) → All (Reading L) p.reads → All (Reading L) (left_ports t k d p).reads
+  left_reads : (t : Tables) (p : PortsState) (k : Kind) (d : Doing) → All (Reading L) p.reads
+      → All (Reading L) (left_ports t k d p).reads
   left_reads t p (kind.Dials conn) d h = h
   left_reads t p (kind.Asks conn tag) d h =
-      cancelled_reads (Reading L) (ports_freed p t conn d.effect) conn d.events (freed_reads (Reading L) p t conn d.effect h)
+      cancelled_reads (Reading L) (ports_freed p t conn d.effect) conn d.events
+      (freed_reads (Reading L) p t conn d.effect h)
   left_reads t p (kind.Ends conn why) d h = without_fids_reads (Reading L) p t conn h
   left_reads t p (kind.Takes conn) d h = h
   left_reads t p kind.Acts d h = h
 
-  freed_waiting : (t : Tables) (conn : ℕ) (e : Effect) → All (IsWaiting L) t.waiting → All (IsWaiting L) (ended_with t conn e).waiting
+  freed_waiting : (t : Tables) (conn : ℕ) (e : Effect) → All (IsWaiting L) t.waiting
+      → All (IsWaiting L) (ended_with t conn e).waiting
   freed_waiting t conn effect.Nothing h = h
   freed_waiting t conn (effect.Begins msize) h = All-filter (λ w. not (is_waiting_on conn w)) (IsWaiting L) t.waiting h
   freed_waiting t conn (effect.Puts number fid) h = h
   freed_waiting t conn (effect.Frees number) h = h
 
-  freed_book : (at : ℕ) (t : Tables) (b : BookState) (conn : ℕ) (e : Effect) → IsBook (Reading L) at b → IsBook (Reading L) at (freed at b t conn e)
+  freed_book : (at : ℕ) (t : Tables) (b : BookState) (conn : ℕ) (e : Effect) → IsBook (Reading L) at b
+      → IsBook (Reading L) at (freed at b t conn e)
   freed_book at t b conn effect.Nothing book = book
   freed_book at t b conn (effect.Begins msize) book = book_without_fids (Reading L) at b (fids_of t conn) book
   freed_book at t b conn (effect.Puts number fid) book = book
-  freed_book at t b conn (effect.Frees number) book = book_without (Reading L) at b (opening_in (fid_of t conn number)) book
+  freed_book at t b conn (effect.Frees number) book = book_without (Reading L) at b (opening_in (fid_of t conn number))
+      book
 
-  left_waiting : (t : Tables) (k : Kind) (d : Doing) (xs : List Response) → All (IsWaiting L) t.waiting → All (IsWaiting L) (ended_tables t k d xs).waiting
+  left_waiting : (t : Tables) (k : Kind) (d : Doing) (xs : List Response) → All (IsWaiting L) t.waiting
+      → All (IsWaiting L) (ended_tables t k d xs).waiting
   left_waiting t (kind.Dials conn) d xs h = done_waiting (IsWaiting L) t xs h
   left_waiting t (kind.Asks conn tag) d xs h =
       let left : Tables = ended_with t conn d.effect in
-      cancelled_waiting (IsWaiting L) (ended left xs) conn d.events (done_waiting (IsWaiting L) left xs (freed_waiting t conn d.effect h))
+      cancelled_waiting (IsWaiting L) (ended left xs) conn d.events
+      (done_waiting (IsWaiting L) left xs (freed_waiting t conn d.effect h))
   left_waiting t (kind.Ends conn why) d xs h =
-      done_waiting (IsWaiting L) (after_hangup t conn) xs (All-filter (λ w. not (is_waiting_on conn w)) (IsWaiting L) t.waiting h)
+      done_waiting (IsWaiting L) (after_hangup t conn) xs (All-filter (λ w. not (is_waiting_on conn w)) (IsWaiting L)
+      t.waiting h)
   left_waiting t (kind.Takes conn) d xs h = done_waiting (IsWaiting L) t xs h
   left_waiting t kind.Acts d xs h = done_waiting (IsWaiting L) t xs h
 
-  quiet_left : (at : ℕ) (t : Tables) (b : BookState) (k : Kind) (d : Doing) → IsBook (Reading L) at b → IsBook (Reading L) at (left_book at t k d b)
+  quiet_left : (at : ℕ) (t : Tables) (b : BookState) (k : Kind) (d : Doing) → IsBook (Reading L) at b
+      → IsBook (Reading L) at (left_book at t k d b)
   quiet_left at t b (kind.Dials conn) d book = book
-  quiet_left at t b (kind.Asks conn tag) d book = book_cancelled (Reading L) at (freed at b t conn d.effect) conn d.events (freed_book at t b conn d.effect book)
+  quiet_left at t b (kind.Asks conn tag) d book = book_cancelled (Reading L) at (freed at b t conn d.effect) conn
+      d.events (freed_book at t b conn d.effect book)
   quiet_left at t b (kind.Ends conn why) d book = book_without_fids (Reading L) at b (fids_of t conn) book
   quiet_left at t b (kind.Takes conn) d book = book
   quiet_left at t b kind.Acts d book = book
 
   -- ---- one event
 
-  pub quiet_says : (s : State) (e : Event) → OfMessage L (kind_of e) → IsWell s → IsQuiet s → All (Tells L) (said (present s) (kind_of e) (doing_of (present s) e))
+  pub quiet_says : (s : State) (e : Event) → OfMessage L (kind_of e) → IsWell s → IsQuiet s
+      → All (Tells L) (said (present s) (kind_of e) (doing_of (present s) e))
   quiet_says s e own well quiet =
-      tells L (present s) (kind_of e) (doing_of (present s) e) own (quiet_read (present s) (kind_of e) (doing_of (present s) e) own (book_of s well quiet))
+      tells L (present s) (kind_of e) (doing_of (present s) e) own
+      (quiet_read (present s) (kind_of e) (doing_of (present s) e) own (book_of s well quiet))
       (quiet_ports (present s) (kind_of e) (doing_of (present s) e) own quiet.2) quiet.0
 
   pub quiet_step : (s : State) (e : Event) → OfMessage L (kind_of e) → IsWell s → IsQuiet s → IsQuiet (step s e)
@@ -161,12 +197,18 @@ module _ (L : ℕ → ℕ → Type 0) where
       let d : Doing = doing_of p e in
       let at : ℕ = s.entries + 1 in
       let t : Tables = grown_tables p k d in
-      let items : IsBook (Reading L) at (grown_book p k d) = items_book (Reading L) p k d (quiet_read p k d own (book_of s well quiet)) in
+      let items : IsBook (Reading L) at (grown_book p k d) = items_book (Reading L) p k d
+      (quiet_read p k d own (book_of s well quiet)) in
       let back : BookState = written_back at (grown_book p k d) d.back in
       let closed : IsBook (Reading L) at (book_after p k d) =
-      book_closed (Reading L) at (left_book at t k d back) (deleted_by d.deeds) (quiet_left at t back k d (book_written (Reading L) at (grown_book p k d) d.back items))
-      in
-      (left_waiting t k d (said p k d) (grown_waiting p k d own quiet.0), closed.reads, left_reads t (grown_ports p k d) k d (served_reads (Reading L) (open_ports p k d) (quiet_ports p k d own quiet.2)))
+      book_closed (Reading L) at (left_book at t k d back) (deleted_by d.deeds)
+      (quiet_left at t back k d (book_written (Reading L) at (grown_book p k d) d.back items))
+      in (
+        left_waiting t k d (said p k d) (grown_waiting p k d own quiet.0),
+        closed.reads,
+        left_reads t (grown_ports p k d) k d (served_reads (Reading L) (open_ports p k d)
+            (quiet_ports p k d own quiet.2)),
+      )
 
   -- ---- all events
 
@@ -174,18 +216,22 @@ module _ (L : ℕ → ℕ → Type 0) where
   OfMessages [] = Unit {0}
   OfMessages (e ∷ events) = OfMessage L (kind_of e) × OfMessages events
 
-  pub quiet_all : (before events : List Event) → ArePlayed enabled before events → OfMessages events → IsWell (run before) → IsQuiet (run before) → All (Tells L) (said_from before events)
+  pub quiet_all : (before events : List Event) → ArePlayed enabled before events → OfMessages events
+      → IsWell (run before) → IsQuiet (run before) → All (Tells L) (said_from before events)
   unfolding ArePlayed said_from
   quiet_all before [] played own well quiet = All-nil (Tells L)
   quiet_all before (e ∷ events) played own well quiet =
-      All-append (Tells L) (said (present (run before)) (kind_of e) (doing_of (present (run before)) e)) (said_from (before ++ e ∷ []) events) (quiet_says (run before) e own.0 well quiet)
+      All-append (Tells L) (said (present (run before)) (kind_of e) (doing_of (present (run before)) e))
+      (said_from (before ++ e ∷ []) events) (quiet_says (run before) e own.0 well quiet)
       (quiet_all (before ++ e ∷ []) events played.2 own.1
       (subst IsWell (sym (run-push before e)) (well_step (run before) e played.1 well))
       (subst IsQuiet (sym (run-push before e)) (quiet_step (run before) e own.0 well quiet)))
 
-  pub quiet_end : (before events : List Event) → ArePlayed enabled before events → OfMessages events → IsWell (run before) → IsQuiet (run before) → IsQuiet (run (before ++ events))
+  pub quiet_end : (before events : List Event) → ArePlayed enabled before events → OfMessages events
+      → IsWell (run before) → IsQuiet (run before) → IsQuiet (run (before ++ events))
   unfolding ArePlayed
-  quiet_end before [] played own well quiet = subst (λ (l : List Event). IsQuiet (run l)) (sym (append-nil before)) quiet
+  quiet_end before [] played own well quiet = subst (λ (l : List Event). IsQuiet (run l)) (sym (append-nil before))
+      quiet
   quiet_end before (e ∷ events) played own well quiet =
       subst (λ (l : List Event). IsQuiet (run l)) (append_assoc before (e ∷ []) events)
       (quiet_end (before ++ e ∷ []) events played.2 own.1

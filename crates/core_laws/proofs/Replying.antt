@@ -15,7 +15,8 @@ abbrev pub replied_from : List Event → List Event → ℕ → List ℕ
 replied_from before [] conn = []
 replied_from before (e ∷ events) conn = replied_by conn before e ++ replied_from (before ++ e ∷ []) events conn
 
-from_state : (before events : List Event) (conn : ℕ) → replied_from before events conn ≡ replies_from (run before) events conn
+from_state : (before events : List Event) (conn : ℕ) → replied_from before events conn ≡ replies_from (run before)
+    events conn
 from_state before [] conn = refl
 from_state before (e ∷ events) conn =
     ap (λ (l : List ℕ). replied_by conn before e ++ l) (from_state (before ++ e ∷ []) events conn)
@@ -25,9 +26,12 @@ pub all_replied : (journal : List Event) (conn : ℕ) → replied_from [] journa
 unfolding run
 all_replied journal conn = from_state [] journal conn
 
-pub replied_parts : (before xs ys : List Event) (conn : ℕ) → replied_from before (xs ++ ys) conn ≡ replied_from before xs conn ++ replied_from (before ++ xs) ys conn
+pub replied_parts : (before xs ys : List Event) (conn : ℕ) → replied_from before (xs ++ ys) conn ≡ replied_from before
+    xs conn ++ replied_from (before ++ xs) ys conn
 replied_parts before [] ys conn = ap (λ (l : List Event). replied_from l ys conn) (sym (append-nil before))
 replied_parts before (x ∷ xs) ys conn =
     ap (λ (l : List ℕ). replied_by conn before x ++ l)
-    (replied_parts (before ++ x ∷ []) xs ys conn ∙ ap (λ (l : List Event). replied_from (before ++ x ∷ []) xs conn ++ replied_from l ys conn) (append_assoc before (x ∷ []) xs))
-    ∙ sym (append_assoc (replied_by conn before x) (replied_from (before ++ x ∷ []) xs conn) (replied_from (before ++ x ∷ xs) ys conn))
+    (replied_parts (before ++ x ∷ []) xs ys conn ∙ ap (λ (l : List Event). replied_from (before ++ x ∷ []) xs conn
+    ++ replied_from l ys conn) (append_assoc before (x ∷ []) xs))
+    ∙ sym (append_assoc (replied_by conn before x) (replied_from (before ++ x ∷ []) xs conn)
+    (replied_from (before ++ x ∷ xs) ys conn))

@@ -1,5 +1,7 @@
--- Which reads of the event files and of the ports wait on after each part of a step: all but those that it answers or ends.
-use Rattle.std.proofs.Common.{◌≡◌, ℕ, zero, suc, Bool, true, false, not, cond, eqb, ◌&&◌, ◌||◌, List, [], ◌∷◌, ◌++◌, length, fold, nat_lt, Option, Some, None, option_map, refl, sym, ap, subst, ◌∙◌}
+-- Which reads of the event files and of the ports wait on after each part of a step: all but those that it answers or
+-- ends.
+use Rattle.std.proofs.Common.{◌≡◌, ℕ, zero, suc, Bool, true, false, not, cond, eqb, ◌&&◌, ◌||◌, List, [], ◌∷◌, ◌++◌}
+use Rattle.std.proofs.Common.{length, fold, nat_lt, Option, Some, None, option_map, refl, sym, ap, subst, ◌∙◌}
 use Rattle.std.specs.List.{filter, list_any, list_all}
 use Rattle.std.proofs.lemmas.Bool.{eqb-true, and_parts, or_parts, both_ways, false_from_ne_true}
 use Rattle.std.proofs.lemmas.List.Folds.{list_any-append}
@@ -9,9 +11,13 @@ use Rattle.fid_table.specs.Tables.{Tables, is_waiting, after_done}
 use Rattle.wait_queue.specs.Reads.{is_on, is_read, without_first}
 use Rattle.wait_queue.specs.declared.types.Asker.{Asker}
 use Rattle.wait_queue.specs.declared.types.Piece.{Piece}
-use Rattle.event_book.specs.BookState.{BookState, is_open_window, is_living, is_ready, piece_for, next_of, after_next, served_of, after_add, after_put, is_taken_of, after_written, after_serve, after_leave, after_delete, is_on_window}
+use Rattle.event_book.specs.BookState.{BookState, is_open_window, is_living, is_ready, piece_for, next_of, after_next}
+use Rattle.event_book.specs.BookState.{served_of, after_add, after_put, is_taken_of, after_written, after_serve}
+use Rattle.event_book.specs.BookState.{after_leave, after_delete, is_on_window}
 use Rattle.event_book.specs.Laws.{IsLawful}
-use Rattle.plumb_ports.specs.PortsState.{PortsState, is_ready as port_ready, piece_for as port_piece, next_of as next_port, after_next as after_next_port, served_of as served_port, after_serve as after_port_serve}
+use Rattle.plumb_ports.specs.PortsState.{PortsState, is_ready as port_ready, piece_for as port_piece}
+use Rattle.plumb_ports.specs.PortsState.{next_of as next_port, after_next as after_next_port, served_of as served_port}
+use Rattle.plumb_ports.specs.PortsState.{after_serve as after_port_serve}
 use Rattle.core_scene.specs.declared.deed.WindowItem.{WindowItem}
 use Rattle.core_fids.specs.declared.effect.EventChange.{EventChange}
 use Rattle.core_fids.specs.declared.effect.EventChange.TheVariants as events
@@ -44,29 +50,36 @@ pub heard_more : (xs ys : List Response) (c g : ℕ) → heard (xs ++ ys) c g �
 heard_more xs ys c g = list_any-append (λ (x : Response). eqb c x.conn && eqb g x.message.tag) xs ys
 
 -- reads to whom something was said wait no more
-pub ended_without : (t : Tables) (xs : List Response) → (ended t xs).waiting ≡ without (λ w. heard xs w.conn w.tag) t.waiting
+pub ended_without : (t : Tables) (xs : List Response) → (ended t xs).waiting ≡ without (λ w. heard xs w.conn w.tag)
+    t.waiting
 ended_without t [] = sym (without_none (λ w. heard [] w.conn w.tag) t.waiting (λ k d l. refl))
 ended_without t (x ∷ xs) =
     ended_without (after_done t x.conn x.message.tag) xs
-    ∙ without_both (λ (w : Waiting). heard xs w.conn w.tag) (λ (w : Waiting). is_waiting x.conn x.message.tag w) t.waiting
+    ∙ without_both (λ (w : Waiting). heard xs w.conn w.tag) (λ (w : Waiting). is_waiting x.conn x.message.tag w)
+    t.waiting
 
-heard_errors : (x : Refusal) (t : Tables) (p : Waiting → Bool) (ws : List Waiting) (c g : ℕ) → heard (errors x t (filter p ws)) c g ≡ list_any (λ v. p v && (eqb c v.conn && eqb g v.tag)) ws
+heard_errors : (x : Refusal) (t : Tables) (p : Waiting → Bool) (ws : List Waiting) (c g : ℕ)
+    → heard (errors x t (filter p ws)) c g ≡ list_any (λ v. p v && (eqb c v.conn && eqb g v.tag)) ws
 heard_errors x t p [] c g = refl
 heard_errors x t p (v ∷ ws) c g =
-    elim (p v) as (λ b. heard (errors x t (cond b (v ∷ filter p ws) (filter p ws))) c g ≡ ((b && (eqb c v.conn && eqb g v.tag)) || list_any (λ u. p u && (eqb c u.conn && eqb g u.tag)) ws)) [
+    elim (p v) as (λ b. heard (errors x t (cond b (v ∷ filter p ws) (filter p ws))) c
+    g ≡ ((b && (eqb c v.conn && eqb g v.tag)) || list_any (λ u. p u && (eqb c u.conn && eqb g u.tag)) ws)) [
       | true ↦ ap (λ (b : Bool). (eqb c v.conn && eqb g v.tag) || b) (heard_errors x t p ws c g)
       | false ↦ heard_errors x t p ws c g
     ]
 
 -- a read that waits is refused with those that pass where it passes
-pub heard_by : (x : Refusal) (t : Tables) (p : Waiting → Bool) (ws : List Waiting) (w : Waiting) → AreApart ws → IsIn ws w → heard (errors x t (filter p ws)) w.conn w.tag ≡ p w
+pub heard_by : (x : Refusal) (t : Tables) (p : Waiting → Bool) (ws : List Waiting) (w : Waiting) → AreApart ws
+    → IsIn ws w → heard (errors x t (filter p ws)) w.conn w.tag ≡ p w
 heard_by x t p ws w apart i = heard_errors x t p ws w.conn w.tag ∙ any_apart p ws w apart i
 
-pub heard_deleted : (t : Tables) (windows : List ℕ) (w : Waiting) → AreApart t.waiting → IsIn t.waiting w → heard (deletions t windows) w.conn w.tag ≡ list_any (λ v. is_of_window t v w) windows
+pub heard_deleted : (t : Tables) (windows : List ℕ) (w : Waiting) → AreApart t.waiting → IsIn t.waiting w
+    → heard (deletions t windows) w.conn w.tag ≡ list_any (λ v. is_of_window t v w) windows
 heard_deleted t [] w apart i = refl
 heard_deleted t (v ∷ vs) w apart i =
     heard_more (errors refusal.WindowDeleted t (filter (is_of_window t v) t.waiting)) (deletions t vs) w.conn w.tag
-    ∙ ap (λ (b : Bool). b || heard (deletions t vs) w.conn w.tag) (heard_by refusal.WindowDeleted t (is_of_window t v) t.waiting w apart i)
+    ∙ ap (λ (b : Bool). b || heard (deletions t vs) w.conn w.tag) (heard_by refusal.WindowDeleted t (is_of_window t v)
+    t.waiting w apart i)
     ∙ ap (λ (b : Bool). is_of_window t v w || b) (heard_deleted t vs w apart i)
 
 -- ---- openings and items
@@ -101,13 +114,16 @@ put_same s i =
 
 pub put_all_same : (s : BookState) (items : List WindowItem) → IsSame s (put_all s items)
 put_all_same s [] = same_itself s
-put_all_same s (i ∷ items) = same_then s (put_one s i) (put_all (put_one s i) items) (put_same s i) (put_all_same (put_one s i) items)
+put_all_same s (i ∷ items) = same_then s (put_one s i) (put_all (put_one s i) items) (put_same s i)
+    (put_all_same (put_one s i) items)
 
-pub put_living_same : (deleted : List ℕ) (s : BookState) (items : List WindowItem) → IsSame s (put_living deleted s items)
+pub put_living_same : (deleted : List ℕ) (s : BookState) (items : List WindowItem)
+    → IsSame s (put_living deleted s items)
 put_living_same deleted s [] = same_itself s
 put_living_same deleted s (i ∷ items) =
     let next : BookState = put_if_lives deleted s i in
-    let one : IsSame s next = elim (is_ending deleted i) as (λ b. IsSame s (cond b s (put_one s i))) [ true ↦ same_itself s | false ↦ put_same s i ] in
+    let one : IsSame s next = elim (is_ending deleted i) as (λ b. IsSame s (cond b s (put_one s i)))
+    [ true ↦ same_itself s | false ↦ put_same s i ] in
     same_then s next (put_living deleted next items) one (put_living_same deleted next items)
 
 pub written_same : (at : ℕ) (s : BookState) (o : Option BackItem) → IsSame s (written_back at s o)
@@ -129,28 +145,39 @@ none_found p q (r ∷ rs) h =
       | false ↦ ap (λ (b : Bool). b || list_any p (without_first q rs)) parts.0 ∙ none_found p q rs parts.1
     ]
 
-not_that : (c g : ℕ) (rs : List Asker) (r : Asker) → list_any (is_read c g) rs ≡ false → IsIn rs r → (eqb c r.conn && eqb g r.tag) ≡ false
+not_that : (c g : ℕ) (rs : List Asker) (r : Asker) → list_any (is_read c g) rs ≡ false → IsIn rs r
+    → (eqb c r.conn && eqb g r.tag) ≡ false
 not_that c g rs r none i =
-    false_from_ne_true (eqb c r.conn && eqb g r.tag) (λ t. let parts : (c ≡ r.conn) × (g ≡ r.tag) = key_parts c g r.conn r.tag t in
-    both_ways (list_any (is_read c g) rs) none (any_in (is_read c g) rs r i (same_key r.conn r.tag c g (sym parts.0) (sym parts.1))))
+    false_from_ne_true (eqb c r.conn && eqb g r.tag) (λ t. let parts : (c ≡ r.conn)
+    × (g ≡ r.tag) = key_parts c g r.conn r.tag t in
+    both_ways (list_any (is_read c g) rs) none (any_in (is_read c g) rs r i
+    (same_key r.conn r.tag c g (sym parts.0) (sym parts.1))))
 
 served_none : (s : BookState) → next_of s ≡ None → served_of s ≡ None
 served_none s h = ap (λ (o : Option Asker). option_map {U = Asker × Piece} (λ r. (r, piece_for s r)) o) h
 
-pub served_without : (n at : ℕ) (s : BookState) → AsksApart s.reads → (book_served_most n at s).reads ≡ without (λ r. heard (served_most n at s) r.conn r.tag) s.reads
+pub served_without : (n at : ℕ) (s : BookState) → AsksApart s.reads
+    → (book_served_most n at s).reads ≡ without (λ r. heard (served_most n at s) r.conn r.tag) s.reads
 unfolding book_served_most served_most
 served_without zero at s apart = sym (without_none (λ (r : Asker). false) s.reads (λ k d l. refl))
 served_without (suc n) at s apart = by (next_of s) refl (served_without n at (after_serve s at))
   where
-    by : (o : Option Asker) → next_of s ≡ o → (AsksApart (after_next o s at).reads → (book_served_most n at (after_next o s at)).reads ≡ without (λ r. heard (served_most n at (after_next o s at)) r.conn r.tag) (after_next o s at).reads)
-        → (book_served_most n at (after_next o s at)).reads ≡ without (λ r. heard (then_served (option_map {U = Asker × Piece} (λ r. (r, piece_for s r)) o) (served_most n at (after_next o s at))) r.conn r.tag) s.reads
-    by None e later = ap (λ (b : BookState). b.reads) (book_none_more n at s (served_none s e)) ∙ sym (without_none (λ (r : Asker). false) s.reads (λ k d l. refl))
+    by : (o : Option Asker) → next_of s ≡ o → (AsksApart (after_next o s at).reads
+        → (book_served_most n at (after_next o s at)).reads ≡ without
+        (λ r. heard (served_most n at (after_next o s at)) r.conn r.tag) (after_next o s at).reads)
+        → (book_served_most n at (after_next o s at)).reads ≡ without
+        (λ r. heard (then_served (option_map {U = Asker × Piece} (λ r. (r, piece_for s r)) o)
+        (served_most n at (after_next o s at))) r.conn r.tag) s.reads
+    by None e later = ap (λ (b : BookState). b.reads) (book_none_more n at s (served_none s e))
+        ∙ sym (without_none (λ (r : Asker). false) s.reads (λ k d l. refl))
     by (Some r) e later =
         let left : List Asker = without_first (is_ready s.files s.owners) s.reads in
-        let one : left ≡ without (is_read r.conn r.tag) s.reads = first_without (is_ready s.files s.owners) s.reads r e apart in
+        let one : left ≡ without (is_read r.conn r.tag) s.reads = first_without (is_ready s.files s.owners) s.reads r e
+        apart in
         later (subst AsksApart (sym one) (asks_without (is_read r.conn r.tag) s.reads apart))
         ∙ ap (without (λ (x : Asker). heard (served_most n at (after_next (Some r) s at)) x.conn x.tag)) one
-        ∙ without_both (λ (x : Asker). heard (served_most n at (after_next (Some r) s at)) x.conn x.tag) (is_read r.conn r.tag) s.reads
+        ∙ without_both (λ (x : Asker). heard (served_most n at (after_next (Some r) s at)) x.conn x.tag)
+        (is_read r.conn r.tag) s.reads
 
 pub served_owners : (n at : ℕ) (s : BookState) → (book_served_most n at s).owners ≡ s.owners
 unfolding book_served_most
@@ -162,35 +189,47 @@ served_owners (suc n) at s = served_owners n at (after_serve s at) ∙ next_owne
     next_owners (Some r) = refl
 
 -- nothing is said to a tag with which none waited
-pub served_silent : (n at : ℕ) (s : BookState) (c g : ℕ) → list_any (is_read c g) s.reads ≡ false → heard (served_most n at s) c g ≡ false
+pub served_silent : (n at : ℕ) (s : BookState) (c g : ℕ) → list_any (is_read c g) s.reads ≡ false →
+    heard (served_most n at s) c g ≡ false
 unfolding served_most
 served_silent zero at s c g none = refl
 served_silent (suc n) at s c g none = by (next_of s) refl (served_silent n at (after_serve s at) c g)
   where
-    by : (o : Option Asker) → next_of s ≡ o → (list_any (is_read c g) (after_next o s at).reads ≡ false → heard (served_most n at (after_next o s at)) c g ≡ false)
-        → heard (then_served (option_map {U = Asker × Piece} (λ r. (r, piece_for s r)) o) (served_most n at (after_next o s at))) c g ≡ false
+    by : (o : Option Asker) → next_of s ≡ o → (list_any (is_read c g) (after_next o s at).reads ≡ false →
+        heard (served_most n at (after_next o s at)) c g ≡ false)
+        → heard (then_served (option_map {U = Asker × Piece} (λ r. (r, piece_for s r)) o)
+        (served_most n at (after_next o s at))) c g ≡ false
     by None e later = refl
     by (Some r) e later =
-        ap (λ (b : Bool). b || heard (served_most n at (after_next (Some r) s at)) c g) (not_that c g s.reads r none (found (is_ready s.files s.owners) s.reads r e))
+        ap (λ (b : Bool). b || heard (served_most n at (after_next (Some r) s at)) c g)
+        (not_that c g s.reads r none (found (is_ready s.files s.owners) s.reads r e))
         ∙ later (none_found (is_read c g) (is_ready s.files s.owners) s.reads none)
 
 port_none : (s : PortsState) → next_port s ≡ None → served_port s ≡ None
 port_none s h = ap (λ (o : Option Asker). option_map {U = Asker × Piece} (λ r. (r, port_piece s r)) o) h
 
-pub ports_without : (n : ℕ) (s : PortsState) → AsksApart s.reads → (after_serving_most n s).reads ≡ without (λ r. heard (served_ports n s) r.conn r.tag) s.reads
+pub ports_without : (n : ℕ) (s : PortsState) → AsksApart s.reads →
+    (after_serving_most n s).reads ≡ without (λ r. heard (served_ports n s) r.conn r.tag) s.reads
 unfolding after_serving_most served_ports
 ports_without zero s apart = sym (without_none (λ (r : Asker). false) s.reads (λ k d l. refl))
 ports_without (suc n) s apart = by (next_port s) refl (ports_without n (after_port_serve s))
   where
-    by : (o : Option Asker) → next_port s ≡ o → (AsksApart (after_next_port o s).reads → (after_serving_most n (after_next_port o s)).reads ≡ without (λ r. heard (served_ports n (after_next_port o s)) r.conn r.tag) (after_next_port o s).reads)
-        → (after_serving_most n (after_next_port o s)).reads ≡ without (λ r. heard (then_port (option_map {U = Asker × Piece} (λ r. (r, port_piece s r)) o) (served_ports n (after_next_port o s))) r.conn r.tag) s.reads
-    by None e later = ap (λ (b : PortsState). b.reads) (after_none_more n s (port_none s e)) ∙ sym (without_none (λ (r : Asker). false) s.reads (λ k d l. refl))
+    by : (o : Option Asker) → next_port s ≡ o → (AsksApart (after_next_port o s).reads
+        → (after_serving_most n (after_next_port o s)).reads ≡ without
+        (λ r. heard (served_ports n (after_next_port o s)) r.conn r.tag) (after_next_port o s).reads)
+        → (after_serving_most n (after_next_port o s)).reads ≡ without
+        (λ r. heard (then_port (option_map {U = Asker × Piece} (λ r. (r, port_piece s r)) o)
+        (served_ports n (after_next_port o s))) r.conn r.tag) s.reads
+    by None e later = ap (λ (b : PortsState). b.reads) (after_none_more n s (port_none s e))
+        ∙ sym (without_none (λ (r : Asker). false) s.reads (λ k d l. refl))
     by (Some r) e later =
         let left : List Asker = without_first (port_ready s.openings) s.reads in
-        let one : left ≡ without (is_read r.conn r.tag) s.reads = first_without (port_ready s.openings) s.reads r e apart in
+        let one : left ≡ without (is_read r.conn r.tag) s.reads = first_without (port_ready s.openings) s.reads r e
+        apart in
         later (subst AsksApart (sym one) (asks_without (is_read r.conn r.tag) s.reads apart))
         ∙ ap (without (λ (x : Asker). heard (served_ports n (after_next_port (Some r) s)) x.conn x.tag)) one
-        ∙ without_both (λ (x : Asker). heard (served_ports n (after_next_port (Some r) s)) x.conn x.tag) (is_read r.conn r.tag) s.reads
+        ∙ without_both (λ (x : Asker). heard (served_ports n (after_next_port (Some r) s)) x.conn x.tag)
+        (is_read r.conn r.tag) s.reads
 
 pub ports_joined : (n : ℕ) (s : PortsState) → (after_serving_most n s).joined ≡ s.joined
 unfolding after_serving_most
@@ -201,16 +240,20 @@ ports_joined (suc n) s = ports_joined n (after_port_serve s) ∙ next_joined (ne
     next_joined None = refl
     next_joined (Some r) = refl
 
-pub ports_silent : (n : ℕ) (s : PortsState) (c g : ℕ) → list_any (is_read c g) s.reads ≡ false → heard (served_ports n s) c g ≡ false
+pub ports_silent : (n : ℕ) (s : PortsState) (c g : ℕ) → list_any (is_read c g) s.reads ≡ false →
+    heard (served_ports n s) c g ≡ false
 unfolding served_ports
 ports_silent zero s c g none = refl
 ports_silent (suc n) s c g none = by (next_port s) refl (ports_silent n (after_port_serve s) c g)
   where
-    by : (o : Option Asker) → next_port s ≡ o → (list_any (is_read c g) (after_next_port o s).reads ≡ false → heard (served_ports n (after_next_port o s)) c g ≡ false)
-        → heard (then_port (option_map {U = Asker × Piece} (λ r. (r, port_piece s r)) o) (served_ports n (after_next_port o s))) c g ≡ false
+    by : (o : Option Asker) → next_port s ≡ o → (list_any (is_read c g) (after_next_port o s).reads ≡ false →
+        heard (served_ports n (after_next_port o s)) c g ≡ false)
+        → heard (then_port (option_map {U = Asker × Piece} (λ r. (r, port_piece s r)) o)
+        (served_ports n (after_next_port o s))) c g ≡ false
     by None e later = refl
     by (Some r) e later =
-        ap (λ (b : Bool). b || heard (served_ports n (after_next_port (Some r) s)) c g) (not_that c g s.reads r none (found (port_ready s.openings) s.reads r e))
+        ap (λ (b : Bool). b || heard (served_ports n (after_next_port (Some r) s)) c g)
+        (not_that c g s.reads r none (found (port_ready s.openings) s.reads r e))
         ∙ later (none_found (is_read c g) (port_ready s.openings) s.reads none)
 
 -- ---- openings that close
@@ -224,14 +267,19 @@ pub there_is : (o : Option ℕ) (r : Asker) → is_there o r ≡ true → o ≡ 
 there_is None r h = absurd cc
 there_is (Some o) r h = ap (λ (n : ℕ). Some n) (sym (eqb-true r.opening o h))
 
-dead_none : (s : BookState) (o : ℕ) (rs : List Asker) → is_living s o ≡ false → list_all (λ r. is_living s r.opening) rs ≡ true → without (is_on o) rs ≡ rs
+dead_none : (s : BookState) (o : ℕ) (rs : List Asker) → is_living s o ≡ false → list_all (λ r. is_living s r.opening)
+    rs ≡ true → without (is_on o) rs ≡ rs
 dead_none s o [] dead all = refl
 dead_none s o (r ∷ rs) dead all =
-    let parts : (is_living s r.opening ≡ true) × (list_all (λ x. is_living s x.opening) rs ≡ true) = and_parts (is_living s r.opening) (list_all (λ x. is_living s x.opening) rs) all in
-    let apart : is_on o r ≡ false = false_from_ne_true (is_on o r) (λ t. both_ways (is_living s o) dead (ap (is_living s) (sym (eqb-true r.opening o t)) ∙ parts.0)) in
-    ap (λ (b : Bool). cond (not b) (r ∷ without (is_on o) rs) (without (is_on o) rs)) apart ∙ ap (λ (l : List Asker). r ∷ l) (dead_none s o rs dead parts.1)
+    let parts : (is_living s r.opening ≡ true) × (list_all (λ x. is_living s x.opening) rs ≡ true) =
+    and_parts (is_living s r.opening) (list_all (λ x. is_living s x.opening) rs) all in
+    let apart : is_on o r ≡ false = false_from_ne_true (is_on o r)
+    (λ t. both_ways (is_living s o) dead (ap (is_living s) (sym (eqb-true r.opening o t)) ∙ parts.0)) in
+    ap (λ (b : Bool). cond (not b) (r ∷ without (is_on o) rs) (without (is_on o) rs)) apart
+    ∙ ap (λ (l : List Asker). r ∷ l) (dead_none s o rs dead parts.1)
 
-pub left_without : (at : ℕ) (s : BookState) (o : Option ℕ) → IsLawful s → (without_opening at s o).reads ≡ without (is_there o) s.reads
+pub left_without : (at : ℕ) (s : BookState) (o : Option ℕ) → IsLawful s
+    → (without_opening at s o).reads ≡ without (is_there o) s.reads
 left_without at s None lawful = sym (without_none (is_there None) s.reads (λ k d l. refl))
 left_without at s (Some o) lawful =
     elim (is_living s o) as (λ b. is_living s o ≡ b → (cond b (after_leave s o at) s).reads ≡ without (is_on o) s.reads) [
@@ -251,7 +299,8 @@ left_owners at s (Some o) =
 abbrev pub is_of_one : (Fid → Option ℕ) → List (ℕ × Fid) → Asker → Bool
 is_of_one which fs r = list_any (λ f. is_there (which f.1) r) fs
 
-pub fids_without : (at : ℕ) (s : BookState) (fs : List (ℕ × Fid)) → IsBook (λ r. Unit {0}) at s → (fold (without_fid at) s fs).reads ≡ without (is_of_one event_opening fs) s.reads
+pub fids_without : (at : ℕ) (s : BookState) (fs : List (ℕ × Fid)) → IsBook (λ r. Unit {0}) at s
+    → (fold (without_fid at) s fs).reads ≡ without (is_of_one event_opening fs) s.reads
 fids_without at s [] b = sym (without_none (is_of_one event_opening []) s.reads (λ k d l. refl))
 fids_without at s (f ∷ fs) b =
     fids_without at (without_fid at s f) fs (book_without (λ r. Unit {0}) at s (event_opening f.1) b)
@@ -270,7 +319,8 @@ pub port_left_joined : (s : PortsState) (o : Option ℕ) → (without_port s o).
 port_left_joined s None = refl
 port_left_joined s (Some o) = refl
 
-pub port_fids_without : (s : PortsState) (fs : List (ℕ × Fid)) → (fold without_port_fid s fs).reads ≡ without (is_of_one port_opening fs) s.reads
+pub port_fids_without : (s : PortsState) (fs : List (ℕ × Fid)) → (fold without_port_fid s fs).reads
+    ≡ without (is_of_one port_opening fs) s.reads
 port_fids_without s [] = sym (without_none (is_of_one port_opening []) s.reads (λ k d l. refl))
 port_fids_without s (f ∷ fs) =
     port_fids_without (without_port_fid s f) fs
@@ -283,7 +333,8 @@ port_fids_joined s (f ∷ fs) = port_fids_joined (without_port_fid s f) fs ∙ p
 
 -- ---- windows that are deleted
 
-pub closed_without : (at : ℕ) (s : BookState) (ws : List ℕ) → (closed_with at s ws).reads ≡ without (λ r. list_any (λ w. is_on_window s.owners w r) ws) s.reads
+pub closed_without : (at : ℕ) (s : BookState) (ws : List ℕ) → (closed_with at s ws).reads
+    ≡ without (λ r. list_any (λ w. is_on_window s.owners w r) ws) s.reads
 closed_without at s [] = sym (without_none (λ (r : Asker). false) s.reads (λ k d l. refl))
 closed_without at s (w ∷ ws) =
     closed_without at (after_delete s w at) ws

@@ -25,7 +25,8 @@ use Rattle.core_parts.specs.Doing.{Doing}
 use Rattle.core_parts.specs.declared.kind.Kind.{Kind}
 use Rattle.core_parts.specs.declared.kind.Kind.TheVariants as kind
 use Rattle.core_parts.specs.Kinds.{conn_of}
-use Rattle.core_steps.specs.Stages.{asker_of, if_said, answer_said, message_said, acted, with_fid, read_tables, read_book, put_book, open_ports, said}
+use Rattle.core_steps.specs.Stages.{asker_of, if_said, answer_said, message_said, acted, with_fid, read_tables}
+use Rattle.core_steps.specs.Stages.{read_book, put_book, open_ports, said}
 use Rattle.core_parts.specs.States.{Present, next_entry}
 use Rattle.plumb_ports.specs.PortsState.{PortsState}
 use Rattle.core_events.specs.PortAsking.{port_said}
@@ -45,8 +46,10 @@ module _ (L : ℕ → ℕ → Type 0) where
   abbrev pub IsWaiting : Waiting → Type 0
   IsWaiting w = L w.conn w.tag
 
-  tell_errors : (x : Refusal) (t : Tables) (test : Waiting → Bool) (ws : List Waiting) → All IsWaiting ws → All Tells (errors x t (filter test ws))
-  tell_errors x t test ws h = All-map Tells (λ (w : Waiting). error x (feed_at t w) w.conn w.tag) (filter test ws) (All-filter test IsWaiting ws h)
+  tell_errors : (x : Refusal) (t : Tables) (test : Waiting → Bool) (ws : List Waiting) → All IsWaiting ws
+      → All Tells (errors x t (filter test ws))
+  tell_errors x t test ws h = All-map Tells (λ (w : Waiting). error x (feed_at t w) w.conn w.tag) (filter test ws)
+      (All-filter test IsWaiting ws h)
 
   pub tell_clunked : (t : Tables) (conn : ℕ) (e : Effect) → All IsWaiting t.waiting → All Tells (clunked t conn e)
   tell_clunked t conn effect.Nothing h = All-nil Tells
@@ -57,30 +60,36 @@ module _ (L : ℕ → ℕ → Type 0) where
   pub tell_deletions : (t : Tables) (ws : List ℕ) → All IsWaiting t.waiting → All Tells (deletions t ws)
   tell_deletions t [] h = All-nil Tells
   tell_deletions t (w ∷ ws) h =
-      All-append Tells (errors refusal.WindowDeleted t (filter (is_of_window t w) t.waiting)) (deletions t ws) (tell_errors refusal.WindowDeleted t (is_of_window t w) t.waiting h)
+      All-append Tells (errors refusal.WindowDeleted t (filter (is_of_window t w) t.waiting)) (deletions t ws)
+      (tell_errors refusal.WindowDeleted t (is_of_window t w) t.waiting h)
       (tell_deletions t ws h)
 
   tell_if : (conn tag opening : ℕ) (o : Option RBody) → L conn tag → All Tells (if_said conn tag opening o)
   tell_if conn tag opening None own = All-nil Tells
   tell_if conn tag opening (Some body) own = All-cons Tells _ [] own (All-nil Tells)
 
-  tell_answer : (t : Tables) (b : BookState) (conn tag : ℕ) (a : Option Answer) → L conn tag → All Tells (answer_said t b conn tag a)
+  tell_answer : (t : Tables) (b : BookState) (conn tag : ℕ) (a : Option Answer) → L conn tag
+      → All Tells (answer_said t b conn tag a)
   tell_answer t b conn tag None own = All-nil Tells
   tell_answer t b conn tag (Some (Says body)) own = All-cons Tells _ [] own (All-nil Tells)
-  tell_answer t b conn tag (Some (Reads fid opening count)) own = tell_if conn tag opening (read_said t b (asker_of conn tag opening count)) own
+  tell_answer t b conn tag (Some (Reads fid opening count)) own = tell_if conn tag opening
+      (read_said t b (asker_of conn tag opening count)) own
   tell_answer t b conn tag (Some (ReadsPort fid opening count)) own = All-nil Tells
 
   tell_port : (r : Asker) (o : Option RBody) → Reading r → All Tells (if_port_said r o)
   tell_port r None own = All-nil Tells
   tell_port r (Some body) own = All-cons Tells _ [] own (All-nil Tells)
 
-  tell_port_in : (t : Tables) (p : PortsState) (conn tag : ℕ) (a : Option Answer) → L conn tag → All Tells (asked_said t p (port_read_in conn tag a))
+  tell_port_in : (t : Tables) (p : PortsState) (conn tag : ℕ) (a : Option Answer) → L conn tag
+      → All Tells (asked_said t p (port_read_in conn tag a))
   tell_port_in t p conn tag None own = All-nil Tells
   tell_port_in t p conn tag (Some (Says body)) own = All-nil Tells
   tell_port_in t p conn tag (Some (Reads fid opening count)) own = All-nil Tells
-  tell_port_in t p conn tag (Some (ReadsPort fid opening count)) own = tell_port (asker_of conn tag opening count) (port_said t p (asker_of conn tag opening count)) own
+  tell_port_in t p conn tag (Some (ReadsPort fid opening count)) own = tell_port (asker_of conn tag opening count)
+      (port_said t p (asker_of conn tag opening count)) own
 
-  tell_then : (o : Option (Asker × Piece)) (rest : List Response) → ((r : Asker) (piece : Piece) → o ≡ Some (r, piece) → Reading r) → All Tells rest → All Tells (then_served o rest)
+  tell_then : (o : Option (Asker × Piece)) (rest : List Response) →
+      ((r : Asker) (piece : Piece) → o ≡ Some (r, piece) → Reading r) → All Tells rest → All Tells (then_served o rest)
   tell_then None rest own h = All-nil Tells
   tell_then (Some x) rest own h = All-cons Tells _ rest (own x.0 x.1 refl) h
 
@@ -88,7 +97,8 @@ module _ (L : ℕ → ℕ → Type 0) where
   unfolding served_most
   tell_most at zero b book = All-nil Tells
   tell_most at (suc n) b book =
-      tell_then (served_of b) (served_most n at (after_serve b at)) (λ r piece e. All-contains Reading b.reads r book.reads (served_waited b r piece e))
+      tell_then (served_of b) (served_most n at (after_serve b at))
+      (λ r piece e. All-contains Reading b.reads r book.reads (served_waited b r piece e))
       (tell_most at n (after_serve b at) (book_serve Reading at b book))
 
   pub tell_served : (at : ℕ) (b : BookState) → IsBook Reading at b → All Tells (served_all at b)
@@ -105,14 +115,16 @@ module _ (L : ℕ → ℕ → Type 0) where
   OfMessage (kind.Takes conn) = Unit {0}
   OfMessage kind.Acts = Unit {0}
 
-  tell_message : (t : Tables) (b : BookState) (k : Kind) (a : Option Answer) → OfMessage k → All Tells (message_said t b k a)
+  tell_message : (t : Tables) (b : BookState) (k : Kind) (a : Option Answer) → OfMessage k
+      → All Tells (message_said t b k a)
   tell_message t b (kind.Dials conn) a own = All-nil Tells
   tell_message t b (kind.Asks conn tag) a own = tell_answer t b conn tag a own
   tell_message t b (kind.Ends conn why) a own = All-nil Tells
   tell_message t b (kind.Takes conn) a own = All-nil Tells
   tell_message t b kind.Acts a own = All-nil Tells
 
-  tell_asked : (t : Tables) (p : PortsState) (k : Kind) (a : Option Answer) → OfMessage k → All Tells (asked_said t p (port_read_of k a))
+  tell_asked : (t : Tables) (p : PortsState) (k : Kind) (a : Option Answer) → OfMessage k
+      → All Tells (asked_said t p (port_read_of k a))
   tell_asked t p (kind.Dials conn) a own = All-nil Tells
   tell_asked t p (kind.Asks conn tag) a own = tell_port_in t p conn tag a own
   tell_asked t p (kind.Ends conn why) a own = All-nil Tells
@@ -120,11 +132,13 @@ module _ (L : ℕ → ℕ → Type 0) where
   tell_asked t p kind.Acts a own = All-nil Tells
 
   -- all that an entry says
-  pub tells : (s : Present) (k : Kind) (d : Doing) → OfMessage k → IsBook Reading (next_entry s) (read_book s k d) → All Reading (open_ports s k d).reads → All IsWaiting s.tables.waiting
+  pub tells : (s : Present) (k : Kind) (d : Doing) → OfMessage k → IsBook Reading (next_entry s) (read_book s k d)
+      → All Reading (open_ports s k d).reads → All IsWaiting s.tables.waiting
       → All Tells (said s k d)
   tells s k d own read ports waiting =
       let at : ℕ = next_entry s in
-      let put : IsBook Reading at (put_book s k d) = book_put_living Reading at (deleted_by d.deeds) _ (acted s d).items (book_opened Reading at (read_book s k d) d.events read) in
+      let put : IsBook Reading at (put_book s k d) = book_put_living Reading at (deleted_by d.deeds) _ (acted s d).items
+      (book_opened Reading at (read_book s k d) d.events read) in
       let one : List Response = clunked s.tables (conn_of k) d.effect in
       let two : List Response = message_said (with_fid s k d) s.scene.book k d.answer in
       let asked : List Response = asked_said (read_tables s k d) (acted s d).ports (port_read_of k d.answer) in
@@ -135,7 +149,8 @@ module _ (L : ℕ → ℕ → Type 0) where
       (All-append Tells (one ++ two ++ asked ++ three) four
       (All-append Tells (one ++ two ++ asked) three
       (All-append Tells (one ++ two) asked
-      (All-append Tells one two (tell_clunked s.tables (conn_of k) d.effect waiting) (tell_message (with_fid s k d) s.scene.book k d.answer own))
+      (All-append Tells one two (tell_clunked s.tables (conn_of k) d.effect waiting)
+      (tell_message (with_fid s k d) s.scene.book k d.answer own))
       (tell_asked (read_tables s k d) (acted s d).ports k d.answer own))
       (tell_deletions s.tables (deleted_by d.deeds) waiting))
       (tell_served at (put_book s k d) put))

@@ -1,5 +1,7 @@
--- The two lists of reads that wait are the same reads, in order: what holds with that, and what each part of a step leaves of it.
-use Rattle.std.proofs.Common.{◌≡◌, ◌⊎◌, inl, inr, ℕ, ◌≤◌, Bool, true, false, eqb, List, [], ◌∷◌, ◌++◌, length, map, nat_eq, unwrap_or, Option, Some, None, refl, sym, ap, subst, ◌∙◌, append-nil, arith}
+-- The two lists of reads that wait are the same reads, in order: what holds with that, and what each part of a step
+-- leaves of it.
+use Rattle.std.proofs.Common.{◌≡◌, ◌⊎◌, inl, inr, ℕ, ◌≤◌, Bool, true, false, eqb, List, [], ◌∷◌, ◌++◌, length, map}
+use Rattle.std.proofs.Common.{nat_eq, unwrap_or, Option, Some, None, refl, sym, ap, subst, ◌∙◌, append-nil, arith}
 use Rattle.std.specs.List.{list_any}
 use Rattle.std.specs.Map.{lookup}
 use Rattle.std.proofs.lemmas.Bool.{eqb-true, eqb-false, and_parts, both_ways, false_from_ne_true}
@@ -18,13 +20,15 @@ use Rattle.core_events.specs.Waits.{is_of_fid, is_event_of, reads_event_of, is_o
 use Rattle.core_laws.specs.Waits.{WaitingRead, told, opening_by, with_read, reads_in, AreApart}
 use Rattle.core_laws.proofs.Fids.{fids_joined}
 use Rattle.core_laws.proofs.Lists.{without, IsIn, in_without, any_in, which_any, in_push}
-use Rattle.core_laws.proofs.Zips.{by_waiting, by_asker, zip_without, HasWaiting, asker_waits, apart_same, apart_without, apart_push, reads_same, reads_push, same_key}
-use Rattle.core_laws.proofs.Holders.{Has, numbered_fid, fid_has, put_has, join_has, AreFewer, AreOwn, own_fewer, own_more, own_put, IsItsOpening, AreOfWindows, IsFed, fed_same, put_alike}
+use Rattle.core_laws.proofs.Zips.{by_waiting, by_asker, zip_without, HasWaiting, asker_waits, apart_same, apart_without}
+use Rattle.core_laws.proofs.Zips.{apart_push, reads_same, reads_push, same_key}
+use Rattle.core_laws.proofs.Holders.{Has, numbered_fid, fid_has, put_has, join_has, AreFewer, AreOwn, own_fewer}
+use Rattle.core_laws.proofs.Holders.{own_more, own_put, IsItsOpening, AreOfWindows, IsFed, fed_same, put_alike}
 use Rattle.core_laws.proofs.Reactions.{of_event, of_port}
 use Rattle.core_laws.proofs.Staying.{is_there, there_is, is_of_one}
 
--- The reads of the sessions are these reads of event files and of ports, and none else; no two have one connection and tag; each opening
--- of these is one fid's, and each of an event file one of its window.
+-- The reads of the sessions are these reads of event files and of ports, and none else; no two have one connection and
+-- tag; each opening of these is one fid's, and each of an event file one of its window.
 pub record Ties (t : Tables) (es ps : List Asker) (owners : List ℕ) (joined : ℕ) : Type 0 where
   pub fed : (w : Waiting) → IsIn t.waiting w → IsFed t w
   pub apart : AreApart t.waiting
@@ -78,7 +82,8 @@ not_both f a b g h =
     absurd cc
 
 -- where the fid that is looked up has such an opening
-looked : (which : Fid → Option ℕ) (o : Option Fid) (x : ℕ) → opening_by which o ≡ Some x → (f : Fid) × (o ≡ Some f) × (which f ≡ Some x)
+looked : (which : Fid → Option ℕ) (o : Option Fid) (x : ℕ) → opening_by which o ≡ Some x → (f : Fid) × (o ≡ Some f)
+    × (which f ≡ Some x)
 looked which None x h = absurd cc
 looked which (Some f) x h = (f, refl, h)
 
@@ -102,7 +107,8 @@ no_event f x h = by (event_opening f) refl
 abbrev pub KeepOwners : List ℕ → List ℕ → Type 0
 KeepOwners owners next = (o w : ℕ) → owner_of owners o ≡ Some w → owner_of next o ≡ Some w
 
-pub ties_more : (t : Tables) (es ps : List Asker) (owners next : List ℕ) (joined more : ℕ) → length owners ≤ length next → KeepOwners owners next → joined ≤ more
+pub ties_more : (t : Tables) (es ps : List Asker) (owners next : List ℕ) (joined more : ℕ) → length owners ≤ length next
+    → KeepOwners owners next → joined ≤ more
     → Ties t es ps owners joined → Ties t es ps next more
 ties_more t es ps owners next joined more long keeps later h = record {
   fed = h.fed;
@@ -115,26 +121,34 @@ ties_more t es ps owners next joined more long keeps later h = record {
 }
 
 -- the reads that wait are the same, and the fids of these are, or are alike
-ties_fids : (t u : Tables) (es ps : List Asker) (owners : List ℕ) (joined : ℕ) → u.waiting ≡ t.waiting → ((w : Waiting) → IsIn t.waiting w → fid_of u w.conn w.fid ≡ fid_of t w.conn w.fid) → AreFewer u t
+ties_fids : (t u : Tables) (es ps : List Asker) (owners : List ℕ) (joined : ℕ)
+    → u.waiting ≡ t.waiting → ((w : Waiting) → IsIn t.waiting w → fid_of u w.conn w.fid ≡ fid_of t w.conn w.fid)
+    → AreFewer u t
     → Ties t es ps owners joined → Ties u es ps owners joined
 ties_fids t u es ps owners joined waits same fewer h = record {
-  fed = λ w i. let j : IsIn t.waiting w = subst (λ (l : List Waiting). IsIn l w) waits i in fed_same t u w (same w j) (h.fed w j);
+  fed = λ w i. let j : IsIn t.waiting w = subst (λ (l : List Waiting). IsIn l w) waits i in
+      fed_same t u w (same w j) (h.fed w j);
   apart = subst AreApart (sym waits) h.apart;
-  events = ap (reads_in event_opening u) waits ∙ reads_same event_opening t u t.waiting (λ w i. ap (opening_by event_opening) (same w i)) ∙ h.events;
-  ports = ap (reads_in port_opening u) waits ∙ reads_same port_opening t u t.waiting (λ w i. ap (opening_by port_opening) (same w i)) ∙ h.ports;
+  events = ap (reads_in event_opening u) waits ∙ reads_same event_opening t u t.waiting
+      (λ w i. ap (opening_by event_opening) (same w i)) ∙ h.events;
+  ports = ap (reads_in port_opening u) waits ∙ reads_same port_opening t u t.waiting
+      (λ w i. ap (opening_by port_opening) (same w i)) ∙ h.ports;
   own = own_fewer event_opening t u (length owners) fewer h.own;
   port_own = own_fewer port_opening t u joined fewer h.port_own;
   windows = λ c e w o i n g. h.windows c e w o (fewer c e i) n g;
 }
 
-pub ties_join : (t : Tables) (c : ℕ) (es ps : List Asker) (owners : List ℕ) (joined : ℕ) → Ties t es ps owners joined → Ties (after_join t c) es ps owners joined
-ties_join t c es ps owners joined h = ties_fids t (after_join t c) es ps owners joined refl (λ w i. ap (lookup (nat_eq w.fid)) (fids_joined t c w.conn)) (join_has t c) h
+pub ties_join : (t : Tables) (c : ℕ) (es ps : List Asker) (owners : List ℕ) (joined : ℕ) → Ties t es ps owners joined
+    → Ties (after_join t c) es ps owners joined
+ties_join t c es ps owners joined h = ties_fids t (after_join t c) es ps owners joined refl
+    (λ w i. ap (lookup (nat_eq w.fid)) (fids_joined t c w.conn)) (join_has t c) h
 
 -- ---- a fid is put
 
 -- what is put has the opening and the node of the one in its place, where that has an opening
 abbrev pub Keeps : Tables → ℕ → ℕ → Fid → Type 0
-Keeps t c n v = (f : Fid) (o : ℕ) → fid_of t c n ≡ Some f → f.opening ≡ Some o → (v.opening ≡ Some o) × (v.node ≡ f.node)
+Keeps t c n v = (f : Fid) (o : ℕ) → fid_of t c n ≡ Some f → f.opening ≡ Some o → (v.opening ≡ Some o)
+    × (v.node ≡ f.node)
 
 module _ (t : Tables) (c n : ℕ) (v : Fid) (keeps : Keeps t c n v) where
   abbrev u : Tables
@@ -144,17 +158,23 @@ module _ (t : Tables) (c n : ℕ) (v : Fid) (keeps : Keeps t c n v) where
   its_opening f x (inl h) = of_event f.node f.opening x h
   its_opening f x (inr h) = of_port f.node f.opening x h
 
-  alike : (w : Waiting) (fed : IsFed t w) → (g : Fid) × (fid_of u w.conn w.fid ≡ Some g) × (g.opening ≡ fed.fid.opening) × (g.node ≡ fed.fid.node)
-  alike w fed = put_alike t c n v keeps w.conn w.fid fed.fid fed.opening fed.is (its_opening fed.fid fed.opening fed.opens)
+  alike : (w : Waiting) (fed : IsFed t w) → (g : Fid) × (fid_of u w.conn w.fid ≡ Some g) × (g.opening ≡ fed.fid.opening)
+      × (g.node ≡ fed.fid.node)
+  alike w fed = put_alike t c n v keeps w.conn w.fid fed.fid fed.opening fed.is
+      (its_opening fed.fid fed.opening fed.opens)
 
   -- the same by its node and its opening
-  by_parts : (at : Node → Option ℕ → Option ℕ) (g f : Fid) → g.opening ≡ f.opening → g.node ≡ f.node → at g.node g.opening ≡ at f.node f.opening
+  by_parts : (at : Node → Option ℕ → Option ℕ) (g f : Fid) → g.opening ≡ f.opening → g.node ≡ f.node → at g.node
+      g.opening ≡ at f.node f.opening
   by_parts at g f o k = ap (at g.node) o ∙ ap (λ (m : Node). at m f.opening) k
 
-  put_opening : (at : Node → Option ℕ → Option ℕ) (w : Waiting) → IsFed t w → opening_by (λ f. at f.node f.opening) (fid_of u w.conn w.fid) ≡ opening_by (λ f. at f.node f.opening) (fid_of t w.conn w.fid)
+  put_opening : (at : Node → Option ℕ → Option ℕ) (w : Waiting) → IsFed t w
+      → opening_by (λ f. at f.node f.opening) (fid_of u w.conn w.fid) ≡ opening_by (λ f. at f.node f.opening)
+      (fid_of t w.conn w.fid)
   put_opening at w fed =
       let a = alike w fed in
-      ap (opening_by (λ f. at f.node f.opening)) a.1 ∙ by_parts at a.0 fed.fid a.2 a.3 ∙ ap (opening_by (λ f. at f.node f.opening)) (sym fed.is)
+      ap (opening_by (λ f. at f.node f.opening)) a.1 ∙ by_parts at a.0 fed.fid a.2 a.3
+      ∙ ap (opening_by (λ f. at f.node f.opening)) (sym fed.is)
 
   put_fed : (w : Waiting) → IsFed t w → IsFed u w
   put_fed w fed =
@@ -169,7 +189,8 @@ module _ (t : Tables) (c n : ℕ) (v : Fid) (keeps : Keeps t c n v) where
         ];
       }
 
-  pub ties_put : (es ps : List Asker) (owners next : List ℕ) (joined more : ℕ) → length owners ≤ length next → KeepOwners owners next → joined ≤ more
+  pub ties_put : (es ps : List Asker) (owners next : List ℕ) (joined more : ℕ) → length owners ≤ length next
+      → KeepOwners owners next → joined ≤ more
       → ((o : ℕ) → event_opening v ≡ Some o → IsItsOpening event_opening t c n (length owners) (length next) o)
       → ((o : ℕ) → port_opening v ≡ Some o → IsItsOpening port_opening t c n joined more o)
       → ((w o : ℕ) → v.node ≡ node.File w file.Event → v.opening ≡ Some o → owner_of next o ≡ Some w)
@@ -184,9 +205,11 @@ module _ (t : Tables) (c n : ℕ) (v : Fid) (keeps : Keeps t c n v) where
     windows = λ x e w o i k g. of_window x e w o k g (put_has t c n v x e i);
   }
     where
-      of_window : (x : ℕ) (e : ℕ × Fid) (w o : ℕ) → e.1.node ≡ node.File w file.Event → e.1.opening ≡ Some o → Has t x e ⊎ ((x ≡ c) × (e ≡ numbered_fid n v)) → owner_of next o ≡ Some w
+      of_window : (x : ℕ) (e : ℕ × Fid) (w o : ℕ) → e.1.node ≡ node.File w file.Event → e.1.opening ≡ Some o → Has t x e
+          ⊎ ((x ≡ c) × (e ≡ numbered_fid n v)) → owner_of next o ≡ Some w
       of_window x e w o k g (inl i) = keep o w (h.windows x e w o i k g)
-      of_window x e w o k g (inr i) = owner w o (ap (λ (z : ℕ × Fid). z.1.node) (sym i.1) ∙ k) (ap (λ (z : ℕ × Fid). z.1.opening) (sym i.1) ∙ g)
+      of_window x e w o k g (inr i) = owner w o (ap (λ (z : ℕ × Fid). z.1.node) (sym i.1) ∙ k)
+          (ap (λ (z : ℕ × Fid). z.1.opening) (sym i.1) ∙ g)
 
 -- ---- a read that waits from now on
 
@@ -197,7 +220,8 @@ told_push (x ∷ rs) r = ap (λ (l : List WaitingRead). told x ∷ l) (told_push
 abbrev new_waiting : ℕ → ℕ → ℕ → Waiting
 new_waiting conn tag fid = record { conn = conn; tag = tag; fid = fid }
 
-wait_fed : (t : Tables) (conn tag fid : ℕ) (f : Fid) (o : ℕ) → fid_of t conn fid ≡ Some f → (event_opening f ≡ Some o) ⊎ (port_opening f ≡ Some o) → ((w : Waiting) → IsIn t.waiting w → IsFed t w)
+wait_fed : (t : Tables) (conn tag fid : ℕ) (f : Fid) (o : ℕ) → fid_of t conn fid ≡ Some f → (event_opening f ≡ Some o)
+    ⊎ (port_opening f ≡ Some o) → ((w : Waiting) → IsIn t.waiting w → IsFed t w)
     → (w : Waiting) → IsIn (after_wait t conn tag fid).waiting w → IsFed (after_wait t conn tag fid) w
 wait_fed t conn tag fid f o is opens all w i =
     elim (in_push t.waiting (new_waiting conn tag fid) w i) as (λ k. IsFed (after_wait t conn tag fid) w) [
@@ -206,13 +230,17 @@ wait_fed t conn tag fid f o is opens all w i =
     ]
 
 -- a read of an event file
-pub ties_wait : (t : Tables) (r : Asker) (fid : ℕ) (f : Fid) (es ps : List Asker) (owners : List ℕ) (joined : ℕ) → fid_of t r.conn fid ≡ Some f → event_opening f ≡ Some r.opening
-    → list_any (is_waiting r.conn r.tag) t.waiting ≡ false → Ties t es ps owners joined → Ties (after_wait t r.conn r.tag fid) (es ++ r ∷ []) ps owners joined
+pub ties_wait : (t : Tables) (r : Asker) (fid : ℕ) (f : Fid) (es ps : List Asker) (owners : List ℕ) (joined : ℕ)
+    → fid_of t r.conn fid ≡ Some f → event_opening f ≡ Some r.opening
+    → list_any (is_waiting r.conn r.tag) t.waiting ≡ false → Ties t es ps owners joined
+    → Ties (after_wait t r.conn r.tag fid) (es ++ r ∷ []) ps owners joined
 ties_wait t r fid f es ps owners joined is opens none h =
     let w : Waiting = new_waiting r.conn r.tag fid in
     let u : Tables = after_wait t r.conn r.tag fid in
-    let mine : opening_by event_opening (fid_of t r.conn fid) ≡ Some r.opening = ap (opening_by event_opening) is ∙ opens in
-    let other : opening_by port_opening (fid_of t r.conn fid) ≡ None = ap (opening_by port_opening) is ∙ no_port f r.opening opens in
+    let mine : opening_by event_opening (fid_of t r.conn fid) ≡ Some r.opening = ap (opening_by event_opening) is
+    ∙ opens in
+    let other : opening_by port_opening (fid_of t r.conn fid) ≡ None = ap (opening_by port_opening) is
+    ∙ no_port f r.opening opens in
     record {
       fed = wait_fed t r.conn r.tag fid f r.opening is (inl opens) h.fed;
       apart = apart_push t.waiting w h.apart none;
@@ -232,13 +260,17 @@ ties_wait t r fid f es ps owners joined is opens none h =
     }
 
 -- a read of a port
-pub ties_wait_port : (t : Tables) (r : Asker) (fid : ℕ) (f : Fid) (es ps : List Asker) (owners : List ℕ) (joined : ℕ) → fid_of t r.conn fid ≡ Some f → port_opening f ≡ Some r.opening
-    → list_any (is_waiting r.conn r.tag) t.waiting ≡ false → Ties t es ps owners joined → Ties (after_wait t r.conn r.tag fid) es (ps ++ r ∷ []) owners joined
+pub ties_wait_port : (t : Tables) (r : Asker) (fid : ℕ) (f : Fid) (es ps : List Asker) (owners : List ℕ) (joined : ℕ)
+    → fid_of t r.conn fid ≡ Some f → port_opening f ≡ Some r.opening
+    → list_any (is_waiting r.conn r.tag) t.waiting ≡ false → Ties t es ps owners joined
+    → Ties (after_wait t r.conn r.tag fid) es (ps ++ r ∷ []) owners joined
 ties_wait_port t r fid f es ps owners joined is opens none h =
     let w : Waiting = new_waiting r.conn r.tag fid in
     let u : Tables = after_wait t r.conn r.tag fid in
-    let mine : opening_by port_opening (fid_of t r.conn fid) ≡ Some r.opening = ap (opening_by port_opening) is ∙ opens in
-    let other : opening_by event_opening (fid_of t r.conn fid) ≡ None = ap (opening_by event_opening) is ∙ no_event f r.opening opens in
+    let mine : opening_by port_opening (fid_of t r.conn fid) ≡ Some r.opening = ap (opening_by port_opening) is
+    ∙ opens in
+    let other : opening_by event_opening (fid_of t r.conn fid) ≡ None = ap (opening_by event_opening) is
+    ∙ no_event f r.opening opens in
     record {
       fed = wait_fed t r.conn r.tag fid f r.opening is (inr opens) h.fed;
       apart = apart_push t.waiting w h.apart none;
@@ -259,19 +291,26 @@ ties_wait_port t r fid f es ps owners joined is opens none h =
 
 -- ---- reads that wait no more
 
--- The sessions' reads without these keys, and those of the event files and ports without what has them; the fids of the reads that are left
--- stay, and no fid comes.
-pub ties_without : (t u : Tables) (es ps fs qs : List Asker) (owners : List ℕ) (joined : ℕ) (K : ℕ → ℕ → Bool) → u.waiting ≡ without (by_waiting K) t.waiting
+-- The sessions' reads without these keys, and those of the event files and ports without what has them; the fids of the
+-- reads that are left stay, and no fid comes.
+pub ties_without : (t u : Tables) (es ps fs qs : List Asker) (owners : List ℕ) (joined : ℕ) (K : ℕ → ℕ → Bool)
+    → u.waiting ≡ without (by_waiting K) t.waiting
     → fs ≡ without (by_asker K) es → qs ≡ without (by_asker K) ps
-    → ((w : Waiting) → IsIn (without (by_waiting K) t.waiting) w → fid_of u w.conn w.fid ≡ fid_of t w.conn w.fid) → AreFewer u t
+    → ((w : Waiting) → IsIn (without (by_waiting K) t.waiting) w → fid_of u w.conn w.fid ≡ fid_of t w.conn w.fid)
+    → AreFewer u t
     → Ties t es ps owners joined → Ties u fs qs owners joined
 ties_without t u es ps fs qs owners joined K waits left right same fewer h =
     let ws : List Waiting = without (by_waiting K) t.waiting in
     record {
-      fed = λ w i. let j : IsIn ws w = subst (λ (l : List Waiting). IsIn l w) waits i in fed_same t u w (same w j) (h.fed w (in_without (by_waiting K) t.waiting w j).0);
+      fed = λ w i. let j : IsIn ws w = subst (λ (l : List Waiting). IsIn l w) waits i in
+          fed_same t u w (same w j) (h.fed w (in_without (by_waiting K) t.waiting w j).0);
       apart = subst AreApart (sym waits) (apart_without (by_waiting K) t.waiting h.apart);
-      events = ap (reads_in event_opening u) waits ∙ reads_same event_opening t u ws (λ w i. ap (opening_by event_opening) (same w i)) ∙ zip_without K event_opening t t.waiting es h.events ∙ ap (map told) (sym left);
-      ports = ap (reads_in port_opening u) waits ∙ reads_same port_opening t u ws (λ w i. ap (opening_by port_opening) (same w i)) ∙ zip_without K port_opening t t.waiting ps h.ports ∙ ap (map told) (sym right);
+      events = ap (reads_in event_opening u) waits ∙ reads_same event_opening t u ws
+          (λ w i. ap (opening_by event_opening) (same w i)) ∙ zip_without K event_opening t t.waiting es h.events
+          ∙ ap (map told) (sym left);
+      ports = ap (reads_in port_opening u) waits ∙ reads_same port_opening t u ws
+          (λ w i. ap (opening_by port_opening) (same w i)) ∙ zip_without K port_opening t t.waiting ps h.ports
+          ∙ ap (map told) (sym right);
       own = own_fewer event_opening t u (length owners) fewer h.own;
       port_own = own_fewer port_opening t u joined fewer h.port_own;
       windows = λ c e w o i n g. h.windows c e w o (fewer c e i) n g;
@@ -279,14 +318,17 @@ ties_without t u es ps fs qs owners joined K waits left right same fewer h =
 
 -- ---- the same read by its fid and by its opening
 
-module _ (which : Fid → Option ℕ) (t : Tables) (ws : List Waiting) (bound : ℕ) (own : AreOwn which t bound) (r : Asker) (h : HasWaiting which t ws (told r)) where
+module _ (which : Fid → Option ℕ) (t : Tables) (ws : List Waiting) (bound : ℕ) (own : AreOwn which t bound) (r : Asker)
+    (h : HasWaiting which t ws (told r)) where
   holder : (f : Fid) × (fid_of t h.waiting.conn h.waiting.fid ≡ Some f) × (which f ≡ Some r.opening)
   holder = looked which (fid_of t h.waiting.conn h.waiting.fid) r.opening h.opens
 
   -- a fid with its opening is its fid
-  same_fid : (conn : ℕ) (e : ℕ × Fid) → Has t conn e → which e.1 ≡ Some r.opening → (conn ≡ h.waiting.conn) × (e.0 ≡ h.waiting.fid)
+  same_fid : (conn : ℕ) (e : ℕ × Fid) → Has t conn e → which e.1 ≡ Some r.opening → (conn ≡ h.waiting.conn)
+      × (e.0 ≡ h.waiting.fid)
   same_fid conn e i g =
-      let f = holder in own.one conn h.waiting.conn e (numbered_fid h.waiting.fid f.0) r.opening i (fid_has t h.waiting.conn h.waiting.fid f.0 f.1) g f.2
+      let f = holder in own.one conn h.waiting.conn e (numbered_fid h.waiting.fid f.0) r.opening i
+      (fid_has t h.waiting.conn h.waiting.fid f.0 f.1) g f.2
 
   on_itself : is_on r.opening r ≡ true
   on_itself = grind (arith, nat_tests)
@@ -297,17 +339,20 @@ module _ (which : Fid → Option ℕ) (t : Tables) (ws : List Waiting) (bound : 
     where
       by : (b : Bool) → is_of_fid conn n h.waiting ≡ b → b ≡ is_there (opening_by which (fid_of t conn n)) r
       by true e =
-          let parts : (eqb h.waiting.conn conn ≡ true) × (eqb h.waiting.fid n ≡ true) = and_parts (eqb h.waiting.conn conn) (eqb h.waiting.fid n) e in
+          let parts : (eqb h.waiting.conn conn ≡ true) × (eqb h.waiting.fid n ≡ true) =
+          and_parts (eqb h.waiting.conn conn) (eqb h.waiting.fid n) e in
           let here : opening_by which (fid_of t conn n) ≡ Some r.opening =
           subst (λ (c : ℕ). opening_by which (fid_of t c n) ≡ Some r.opening) (eqb-true h.waiting.conn conn parts.0)
-          (subst (λ (m : ℕ). opening_by which (fid_of t h.waiting.conn m) ≡ Some r.opening) (eqb-true h.waiting.fid n parts.1) h.opens)
+          (subst (λ (m : ℕ). opening_by which (fid_of t h.waiting.conn m) ≡ Some r.opening)
+          (eqb-true h.waiting.fid n parts.1) h.opens)
           in
           sym (ap (λ (o : Option ℕ). is_there o r) here ∙ on_itself)
       by false e =
           sym (false_from_ne_true (is_there (opening_by which (fid_of t conn n)) r) (λ k.
           let f = looked which (fid_of t conn n) r.opening (there_is (opening_by which (fid_of t conn n)) r k) in
           let same = same_fid conn (numbered_fid n f.0) (fid_has t conn n f.0 f.1) f.2 in
-          both_ways (is_of_fid conn n h.waiting) e (same_key h.waiting.conn h.waiting.fid conn n (sym same.0) (sym same.1))))
+          both_ways (is_of_fid conn n h.waiting) e (same_key h.waiting.conn h.waiting.fid conn n (sym same.0)
+          (sym same.1))))
 
   -- all fids of a connection are
   pub by_conn : (conn : ℕ) → eqb r.conn conn ≡ is_of_one which (fids_of t conn) r
@@ -317,8 +362,11 @@ module _ (which : Fid → Option ℕ) (t : Tables) (ws : List Waiting) (bound : 
       by true e =
           let f = holder in
           let at : h.waiting.conn ≡ conn = h.conn ∙ eqb-true r.conn conn e in
-          let i : Has t conn (numbered_fid h.waiting.fid f.0) = subst (λ (c : ℕ). Has t c (numbered_fid h.waiting.fid f.0)) at (fid_has t h.waiting.conn h.waiting.fid f.0 f.1) in
-          sym (any_in (λ (g : ℕ × Fid). is_there (which g.1) r) (fids_of t conn) (numbered_fid h.waiting.fid f.0) i (ap (λ (o : Option ℕ). is_there o r) f.2 ∙ on_itself))
+          let i : Has t conn (numbered_fid h.waiting.fid f.0) = subst
+          (λ (c : ℕ). Has t c (numbered_fid h.waiting.fid f.0)) at
+          (fid_has t h.waiting.conn h.waiting.fid f.0 f.1) in
+          sym (any_in (λ (g : ℕ × Fid). is_there (which g.1) r) (fids_of t conn) (numbered_fid h.waiting.fid f.0) i
+          (ap (λ (o : Option ℕ). is_there o r) f.2 ∙ on_itself))
       by false e =
           sym (false_from_ne_true (is_of_one which (fids_of t conn) r) (λ k.
           let x = which_any (λ (g : ℕ × Fid). is_there (which g.1) r) (fids_of t conn) k in
@@ -327,25 +375,31 @@ module _ (which : Fid → Option ℕ) (t : Tables) (ws : List Waiting) (bound : 
 
 -- a window is deleted
 module _ (t : Tables) (owners : List ℕ) (windows : AreOfWindows owners t) where
-  pub by_window : (ws : List Waiting) (r : Asker) (h : HasWaiting event_opening t ws (told r)) (v : ℕ) → is_of_window t v h.waiting ≡ is_on_window owners v r
+  pub by_window : (ws : List Waiting) (r : Asker) (h : HasWaiting event_opening t ws (told r)) (v : ℕ)
+      → is_of_window t v h.waiting ≡ is_on_window owners v r
   by_window ws r h v =
       let f = looked event_opening (fid_of t h.waiting.conn h.waiting.fid) r.opening h.opens in
       let at : (w : ℕ) × (f.0.node ≡ node.File w file.Event) = event_node f.0.node f.0.opening r.opening f.2 in
       let own : owner_of owners r.opening ≡ Some at.0 =
-      windows h.waiting.conn (numbered_fid h.waiting.fid f.0) at.0 r.opening (fid_has t h.waiting.conn h.waiting.fid f.0 f.1) at.1 (of_event f.0.node f.0.opening r.opening f.2)
+      windows h.waiting.conn (numbered_fid h.waiting.fid f.0) at.0 r.opening
+      (fid_has t h.waiting.conn h.waiting.fid f.0 f.1) at.1 (of_event f.0.node f.0.opening r.opening f.2)
       in
       ap (reads_event_of v) f.1 ∙ ap (is_event_of v) at.1 ∙ sym (ap (λ (o : Option ℕ). eqb (unwrap_or o 0) v) own)
 
-pub by_no_window : (t : Tables) (ws : List Waiting) (r : Asker) (h : HasWaiting port_opening t ws (told r)) (v : ℕ) → is_of_window t v h.waiting ≡ false
+pub by_no_window : (t : Tables) (ws : List Waiting) (r : Asker) (h : HasWaiting port_opening t ws (told r)) (v : ℕ)
+    → is_of_window t v h.waiting ≡ false
 by_no_window t ws r h v =
-    let f = looked port_opening (fid_of t h.waiting.conn h.waiting.fid) r.opening h.opens in ap (reads_event_of v) f.1 ∙ ap (is_event_of v) (port_at f.0.node f.0.opening r.opening f.2).1
+    let f = looked port_opening (fid_of t h.waiting.conn h.waiting.fid) r.opening h.opens in
+    ap (reads_event_of v) f.1 ∙ ap (is_event_of v) (port_at f.0.node f.0.opening r.opening f.2).1
 
 -- a read of an event file and one of a port have two keys
-pub two_keys : (t : Tables) (es ps : List Asker) (owners : List ℕ) (joined : ℕ) → Ties t es ps owners joined → (r x : Asker) → IsIn es r → IsIn ps x → r.conn ≡ x.conn → r.tag ≡ x.tag → ⊥
+pub two_keys : (t : Tables) (es ps : List Asker) (owners : List ℕ) (joined : ℕ) → Ties t es ps owners joined
+    → (r x : Asker) → IsIn es r → IsIn ps x → r.conn ≡ x.conn → r.tag ≡ x.tag → ⊥
 two_keys t es ps owners joined h r x i j c g =
     let a : HasWaiting event_opening t t.waiting (told r) = asker_waits event_opening t t.waiting es h.events r i in
     let b : HasWaiting port_opening t t.waiting (told x) = asker_waits port_opening t t.waiting ps h.ports x j in
-    let same : a.waiting ≡ b.waiting = apart_same t.waiting a.waiting b.waiting h.apart a.there b.there (a.conn ∙ c ∙ sym b.conn) (a.tag ∙ g ∙ sym b.tag) in
+    let same : a.waiting ≡ b.waiting = apart_same t.waiting a.waiting b.waiting h.apart a.there b.there
+    (a.conn ∙ c ∙ sym b.conn) (a.tag ∙ g ∙ sym b.tag) in
     let f = looked event_opening (fid_of t a.waiting.conn a.waiting.fid) r.opening a.opens in
     let p = looked port_opening (fid_of t b.waiting.conn b.waiting.fid) x.opening b.opens in
     let one : Some f.0 ≡ Some p.0 = sym f.1 ∙ ap (λ (w : Waiting). fid_of t w.conn w.fid) same ∙ p.1 in

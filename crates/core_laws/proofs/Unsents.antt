@@ -1,5 +1,6 @@
 -- What entries reply is what they leave unsent, but for what they take.
-use Rattle.std.proofs.Common.{◌≡◌, ℕ, zero, suc, ◌+◌, ◌<◌, true, false, cond, eqb, List, [], ◌∷◌, ◌++◌, length, fold, refl, sym, ap, subst, ◌∙◌, append_assoc, append-nil, arith}
+use Rattle.std.proofs.Common.{◌≡◌, ℕ, zero, suc, ◌+◌, ◌<◌, true, false, cond, eqb, List, [], ◌∷◌, ◌++◌, length, fold}
+use Rattle.std.proofs.Common.{refl, sym, ap, subst, ◌∙◌, append_assoc, append-nil, arith}
 use Rattle.std.specs.Prelude.{slice_set, replicate}
 use Rattle.std.proofs.lemmas.Bool.{eqb-true, eqb-false}
 use Rattle.std.proofs.lemmas.List.{get_or-set_same, get_or-set_other, length-set, length-replicate}
@@ -31,21 +32,32 @@ use Rattle.core_laws.specs.Laws.{RepliesAreSentOrUnsent}
 abbrev bytes_at : List Unsent → ℕ → List ℕ
 bytes_at us conn = (unsent_at us conn).bytes
 
-put_one : (us : List Unsent) (x : Reply) (conn : ℕ) → conn < length us → bytes_at (put_reply us x) conn ≡ bytes_at us conn ++ cond (eqb x.conn conn) x.bytes []
+put_one : (us : List Unsent) (x : Reply) (conn : ℕ) → conn < length us
+    → bytes_at (put_reply us x) conn ≡ bytes_at us conn ++ cond (eqb x.conn conn) x.bytes []
 put_one us x conn inside =
-    elim (eqb x.conn conn) as (λ b. eqb x.conn conn ≡ b → bytes_at (put_reply us x) conn ≡ bytes_at us conn ++ cond b x.bytes []) [
+    elim (eqb x.conn conn) as (λ b. eqb x.conn conn ≡ b → bytes_at (put_reply us x) conn ≡ bytes_at us conn
+    ++ cond b x.bytes []) [
       | true ↦ λ e. let at : x.conn ≡ conn = eqb-true x.conn conn e in
-          subst (λ (c : ℕ). bytes_at (slice_set us c (with_reply (unsent_at us c) x.bytes)) conn ≡ bytes_at us conn ++ x.bytes) (sym at)
-          (ap (λ (u : Unsent). u.bytes) (get_or-set_same us conn (with_reply (unsent_at us conn) x.bytes) nothing_unsent inside))
+          subst (λ (c : ℕ). bytes_at (slice_set us c (with_reply (unsent_at us c) x.bytes)) conn ≡ bytes_at us conn
+          ++ x.bytes) (sym at)
+          (ap (λ (u : Unsent). u.bytes) (get_or-set_same us conn (with_reply (unsent_at us conn) x.bytes) nothing_unsent
+          inside))
       | false ↦ λ e.
-          ap (λ (u : Unsent). u.bytes) (get_or-set_other us x.conn conn (with_reply (unsent_at us x.conn) x.bytes) nothing_unsent (λ (s : conn ≡ x.conn). eqb-false x.conn conn e (sym s)))
+          ap (λ (u : Unsent). u.bytes) (get_or-set_other us x.conn conn (with_reply (unsent_at us x.conn) x.bytes)
+          nothing_unsent (λ (s : conn ≡ x.conn). eqb-false x.conn conn e (sym s)))
           ∙ sym (append-nil (bytes_at us conn))
     ] refl
 
-put_all : (us : List Unsent) (xs : List Reply) (conn : ℕ) → conn < length us → bytes_at (put_replies us xs) conn ≡ bytes_at us conn ++ bytes_to conn xs
+put_all : (us : List Unsent) (xs : List Reply) (conn : ℕ) → conn < length us
+    → bytes_at (put_replies us xs) conn ≡ bytes_at us conn ++ bytes_to conn xs
 put_all us [] conn inside = sym (append-nil (bytes_at us conn))
 put_all us (x ∷ xs) conn inside =
-    put_all (put_reply us x) xs conn (omega (arith, inside, length-set us x.conn (with_reply (unsent_at us x.conn) x.bytes)))
+    put_all (put_reply us x) xs conn (omega (
+      arith,
+      inside,
+      length-set us x.conn
+          (with_reply (unsent_at us x.conn) x.bytes),
+    ))
     ∙ ap (λ (l : List ℕ). l ++ bytes_to conn xs) (put_one us x conn inside)
     ∙ append_assoc (bytes_at us conn) (cond (eqb x.conn conn) x.bytes []) (bytes_to conn xs)
 
@@ -53,7 +65,8 @@ put_all us (x ∷ xs) conn inside =
 
 length_put : (us : List Unsent) (xs : List Reply) → length (put_replies us xs) ≡ length us
 length_put us [] = refl
-length_put us (x ∷ xs) = length_put (put_reply us x) xs ∙ length-set us x.conn (with_reply (unsent_at us x.conn) x.bytes)
+length_put us (x ∷ xs) = length_put (put_reply us x) xs ∙ length-set us x.conn
+    (with_reply (unsent_at us x.conn) x.bytes)
 
 length_left : (us : List Unsent) (k : Kind) → length (left_unsent us k) ≡ length us
 length_left us (kind.Dials conn) = refl
@@ -81,13 +94,17 @@ conns journal = length_all start journal ∙ length-replicate 64 nothing_unsent
 taken_at : (us : List Unsent) (c conn : ℕ) → conn < length us
     → bytes_at us conn ++ [] ≡ cond (eqb c conn) (bytes_at us c) [] ++ bytes_at (slice_set us c nothing_unsent) conn
 taken_at us c conn inside =
-    elim (eqb c conn) as (λ b. eqb c conn ≡ b → bytes_at us conn ++ [] ≡ cond b (bytes_at us c) [] ++ bytes_at (slice_set us c nothing_unsent) conn) [
+    elim (eqb c conn) as (λ b. eqb c conn ≡ b → bytes_at us conn ++ [] ≡ cond b (bytes_at us c) []
+    ++ bytes_at (slice_set us c nothing_unsent) conn) [
       | true ↦ λ e. let at : c ≡ conn = eqb-true c conn e in
-          subst (λ (x : ℕ). bytes_at us conn ++ [] ≡ bytes_at us x ++ bytes_at (slice_set us x nothing_unsent) conn) (sym at)
-          (ap (λ (u : Unsent). bytes_at us conn ++ u.bytes) (sym (get_or-set_same us conn nothing_unsent nothing_unsent inside)))
+          subst (λ (x : ℕ). bytes_at us conn ++ [] ≡ bytes_at us x ++ bytes_at (slice_set us x nothing_unsent) conn)
+          (sym at)
+          (ap (λ (u : Unsent). bytes_at us conn ++ u.bytes) (sym (get_or-set_same us conn nothing_unsent nothing_unsent
+          inside)))
       | false ↦ λ e.
           append-nil (bytes_at us conn)
-          ∙ ap (λ (u : Unsent). u.bytes) (sym (get_or-set_other us c conn nothing_unsent nothing_unsent (λ (h : conn ≡ c). eqb-false c conn e (sym h))))
+          ∙ ap (λ (u : Unsent). u.bytes) (sym (get_or-set_other us c conn nothing_unsent nothing_unsent
+          (λ (h : conn ≡ c). eqb-false c conn e (sym h))))
     ] refl
 
 -- what a step of this state says
@@ -95,38 +112,55 @@ abbrev said_by : State → Event → List Reply
 said_by s e = replies_of (said (present s) (kind_of e) (doing_of (present s) e))
 
 one : (before : List Event) (e : Event) (conn : ℕ) → conn < length (run before).unsent
-    → output_at before conn ++ bytes_to conn (step (run before) e).replies ≡ sent_by output_at conn before e ++ bytes_at (step (run before) e).unsent conn
+    → output_at before conn ++ bytes_to conn (step (run before) e).replies ≡ sent_by output_at conn before e
+    ++ bytes_at (step (run before) e).unsent conn
 unfolding step task_deeds served_most
-one before (event.Dial c) conn inside = sym (put_all (run before).unsent (said_by (run before) (event.Dial c)) conn inside)
-one before (event.Msg c msg) conn inside = sym (put_all (run before).unsent (said_by (run before) (event.Msg c msg)) conn inside)
-one before (event.Hang c why) conn inside = sym (put_all (run before).unsent (said_by (run before) (event.Hang c why)) conn inside)
+one before (event.Dial c) conn inside = sym (put_all (run before).unsent (said_by (run before) (event.Dial c)) conn
+    inside)
+one before (event.Msg c msg) conn inside = sym (put_all (run before).unsent (said_by (run before) (event.Msg c msg))
+    conn inside)
+one before (event.Hang c why) conn inside = sym (put_all (run before).unsent (said_by (run before) (event.Hang c why))
+    conn inside)
 one before (event.Took c) conn inside =
     let s : State = run before in
-    let none : said (present s) (kind.Takes c) (doing_of (present s) (event.Took c)) ≡ [] = silent_after before (s.entries + 1) in
-    subst (λ (xs : List Response). output_at before conn ++ bytes_to conn (replies_of xs) ≡ cond (eqb c conn) (bytes_at s.unsent c) [] ++ bytes_at (slice_set (put_replies s.unsent (replies_of xs)) c nothing_unsent) conn)
+    let none : said (present s) (kind.Takes c) (doing_of (present s) (event.Took c)) ≡ [] = silent_after before
+    (s.entries + 1) in
+    subst (λ (xs : List Response). output_at before conn ++ bytes_to conn (replies_of xs) ≡ cond (eqb c conn)
+    (bytes_at s.unsent c) [] ++ bytes_at (slice_set (put_replies s.unsent (replies_of xs)) c nothing_unsent) conn)
     (sym none) (taken_at s.unsent c conn inside)
 one before event.New conn inside = sym (put_all (run before).unsent (said_by (run before) event.New) conn inside)
-one before (event.Key w side text) conn inside = sym (put_all (run before).unsent (said_by (run before) (event.Key w side text)) conn inside)
-one before (event.Sel w range) conn inside = sym (put_all (run before).unsent (said_by (run before) (event.Sel w range)) conn inside)
-one before (event.Exec at) conn inside = sym (put_all (run before).unsent (said_by (run before) (event.Exec at)) conn inside)
-one before (event.Arg at chord) conn inside = sym (put_all (run before).unsent (said_by (run before) (event.Arg at chord)) conn inside)
-one before (event.Look at) conn inside = sym (put_all (run before).unsent (said_by (run before) (event.Look at)) conn inside)
-one before (event.File path text) conn inside = sym (put_all (run before).unsent (said_by (run before) (event.File path text)) conn inside)
-one before (event.Dir path) conn inside = sym (put_all (run before).unsent (said_by (run before) (event.Dir path)) conn inside)
+one before (event.Key w side text) conn inside = sym (put_all (run before).unsent
+    (said_by (run before) (event.Key w side text)) conn inside)
+one before (event.Sel w range) conn inside = sym (put_all (run before).unsent (said_by (run before) (event.Sel w range))
+    conn inside)
+one before (event.Exec at) conn inside = sym (put_all (run before).unsent (said_by (run before) (event.Exec at)) conn
+    inside)
+one before (event.Arg at chord) conn inside = sym (put_all (run before).unsent
+    (said_by (run before) (event.Arg at chord)) conn inside)
+one before (event.Look at) conn inside = sym (put_all (run before).unsent (said_by (run before) (event.Look at)) conn
+    inside)
+one before (event.File path text) conn inside = sym (put_all (run before).unsent
+    (said_by (run before) (event.File path text)) conn inside)
+one before (event.Dir path) conn inside = sym (put_all (run before).unsent (said_by (run before) (event.Dir path)) conn
+    inside)
 
 entry : (before : List Event) (e : Event) (conn : ℕ) → conn < 64
-    → output_at before conn ++ replied_by conn before e ≡ sent_by output_at conn before e ++ output_at (before ++ e ∷ []) conn
+    → output_at before conn ++ replied_by conn before e ≡ sent_by output_at conn before e
+    ++ output_at (before ++ e ∷ []) conn
 entry before e conn small =
     let pushed : run (before ++ e ∷ []) ≡ step (run before) e = run-push before e in
-    subst (λ (s : State). output_at before conn ++ bytes_to conn s.replies ≡ sent_by output_at conn before e ++ bytes_at s.unsent conn) (sym pushed)
+    subst (λ (s : State). output_at before conn ++ bytes_to conn s.replies ≡ sent_by output_at conn before e
+    ++ bytes_at s.unsent conn) (sym pushed)
     (one before e conn (omega (arith, small, conns before)))
 
 -- ---- all entries
 
 pub ahead : (before events : List Event) (conn : ℕ) → conn < 64
-    → output_at before conn ++ replied_from before events conn ≡ sent_from output_at before events conn ++ output_at (before ++ events) conn
+    → output_at before conn ++ replied_from before events conn ≡ sent_from output_at before events conn
+    ++ output_at (before ++ events) conn
 unfolding sent_from
-ahead before [] conn small = append-nil (output_at before conn) ∙ ap (λ (l : List Event). output_at l conn) (sym (append-nil before))
+ahead before [] conn small = append-nil (output_at before conn) ∙ ap (λ (l : List Event). output_at l conn)
+    (sym (append-nil before))
 ahead before (e ∷ events) conn small =
     let next : List Event = before ++ e ∷ [] in
     let later : List ℕ = replied_from next events conn in
@@ -136,7 +170,8 @@ ahead before (e ∷ events) conn small =
     ∙ append_assoc taken (output_at next conn) later
     ∙ ap (λ (l : List ℕ). taken ++ l) (ahead next events conn small)
     ∙ sym (append_assoc taken (sent_from output_at next events conn) (output_at (next ++ events) conn))
-    ∙ ap (λ (l : List Event). (taken ++ sent_from output_at next events conn) ++ output_at l conn) (append_assoc before (e ∷ []) events)
+    ∙ ap (λ (l : List Event). (taken ++ sent_from output_at next events conn) ++ output_at l conn)
+    (append_assoc before (e ∷ []) events)
 
 none_unsent : (n conn : ℕ) → bytes_at (replicate n nothing_unsent) conn ≡ []
 none_unsent zero conn = refl
@@ -149,4 +184,5 @@ none_yet conn = none_unsent 64 conn
 
 pub sent_or_unsent : RepliesAreSentOrUnsent
 sent_or_unsent journal conn small =
-    sym (all_replied journal conn) ∙ ap (λ (l : List ℕ). l ++ replied_from [] journal conn) (sym (none_yet conn)) ∙ ahead [] journal conn small
+    sym (all_replied journal conn) ∙ ap (λ (l : List ℕ). l ++ replied_from [] journal conn) (sym (none_yet conn))
+    ∙ ahead [] journal conn small

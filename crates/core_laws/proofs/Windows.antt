@@ -25,9 +25,11 @@ possible_prefix before journal front all = possible_front [] before front.0 (sub
 
 -- ---- windows stay lawful
 
-lawful_all : DeedsShow → (before events : List Event) → ArePossible before events → AreLawful (run before).windows → AreLawful (run (before ++ events)).windows
+lawful_all : DeedsShow → (before events : List Event) → ArePossible before events → AreLawful (run before).windows
+    → AreLawful (run (before ++ events)).windows
 unfolding ArePossible
-lawful_all show before [] all lawful = subst (λ (l : List Event). AreLawful (run l).windows) (sym (append-nil before)) lawful
+lawful_all show before [] all lawful = subst (λ (l : List Event). AreLawful (run l).windows) (sym (append-nil before))
+    lawful
 lawful_all show before (e ∷ events) all lawful =
     subst (λ (l : List Event). AreLawful (run l).windows) (append_assoc before (e ∷ []) events)
     (lawful_all show (before ++ e ∷ []) events all.1
@@ -42,10 +44,12 @@ all_lawful show journal all = lawful_all show [] journal all none_lawful
 
 -- ---- one window of them
 
-pub one_lawful : (ss : List (Option WindowStory)) (w : ℕ) (s : WindowStory) → AreLawful ss → story_at ss w ≡ Some s → IsLawfulWindow s
+pub one_lawful : (ss : List (Option WindowStory)) (w : ℕ) (s : WindowStory) → AreLawful ss → story_at ss w ≡ Some s
+    → IsLawfulWindow s
 one_lawful ss w s all is = subst IsLawfulIfLive is (lawful_at ss w all)
 
-pub histories : RangesAreInside → (journal : List Event) → AreLawful (run journal).windows → BodiesAreTheirHistories journal
+pub histories : RangesAreInside → (journal : List Event) → AreLawful (run journal).windows
+    → BodiesAreTheirHistories journal
 histories inside journal all w s is =
     let h : IsLawfulWindow s = one_lawful (run journal).windows w s all is in
     let sound : IsSound (shown s.body) = inside s.body h.body in

@@ -1,6 +1,7 @@
 -- What a write to an event file does that is answered by Rwrite: the item that it names is acted on.
 use Rattle.std.specs.Option.{option_map}
-use Rattle.std.proofs.Common.{◌≡◌, ◌⊎◌, inl, inr, ℕ, ◌+◌, ◌==◌, ◌&&◌, ◌||◌, Bool, true, false, not, cond, List, ◌∷◌, ◌++◌, length, Option, Some, None, Result, Ok, Err, refl, sym, ap, subst, ◌∙◌}
+use Rattle.std.proofs.Common.{◌≡◌, ◌⊎◌, inl, inr, ℕ, ◌+◌, ◌==◌, ◌&&◌, ◌||◌, Bool, true, false, not, cond, List, ◌∷◌}
+use Rattle.std.proofs.Common.{◌++◌, length, Option, Some, None, Result, Ok, Err, refl, sym, ap, subst, ◌∙◌}
 use Rattle.std.proofs.lemmas.Bool.{eqb-true}
 use Rattle.ninep_types.specs.declared.message.RBody.TheVariants as r
 use Rattle.ninep_types.specs.declared.message.TBody.{TBody}
@@ -49,13 +50,15 @@ use Rattle.core_exec.specs.Acting.{act_on_deeds}
 use Rattle.core_tasks.specs.Tasks.{task_deeds, task_refusal}
 use Rattle.core_intents.specs.Doings.{doing_of, entry_by, message_doing, resolved}
 use Rattle.core_parts.specs.Doing.{Doing}
-use Rattle.core_intents.specs.Intents.{answer_or, demanded_item, or_refused, item_or_refusal, item_named, item_of_text, back_task, item_if_any, refusal_if_any, reaction_at, server_at}
+use Rattle.core_intents.specs.Intents.{answer_or, demanded_item, or_refused, item_or_refusal, item_named, item_of_text}
+use Rattle.core_intents.specs.Intents.{back_task, item_if_any, refusal_if_any, reaction_at, server_at}
 use Rattle.core_intents.specs.Origins.{is_text, origin_at, message_origin}
 use Rattle.acme_core.specs.Run.{run, present_after}
 use Rattle.core_parts.specs.States.{Present}
 use Rattle.acme_core.proofs.Goes.{entries_counted}
 use Rattle.core_laws.specs.Laws.{IsBackAt, written_by}
-use Rattle.core_laws.specs.WriteBacks.{IsNamed, numbered, IsActedOn, write_of, WritesAreActedOn, HasItsEntry, BacksAreWrites, ActedOnOnce}
+use Rattle.core_laws.specs.WriteBacks.{IsNamed, numbered, IsActedOn, write_of, WritesAreActedOn, HasItsEntry}
+use Rattle.core_laws.specs.WriteBacks.{BacksAreWrites, ActedOnOnce}
 use Rattle.core_laws.proofs.Backs.{IsBackFrom, back_from, named, once}
 use Rattle.core_laws.proofs.Clicks.{clicks}
 use Rattle.core_laws.proofs.Demands.{IsWriteBack, is_back, reaction_sound}
@@ -83,22 +86,36 @@ first_of_both false b h = absurd cc
 fitting_acts : (m : BackMsg) (item : Item) → fits m item ≡ true → is_action m.sort ≡ true → is_action item.sort ≡ true
 fitting_acts m item fit acts =
     let same : sort_letter m.sort ≡ sort_letter item.sort =
-    eqb-true (sort_letter m.sort) (sort_letter item.sort) (first_of_both (sort_letter m.sort == sort_letter item.sort) (same_range item.range m.range || expands_to item.expanded m.range) fit)
+    eqb-true (sort_letter m.sort) (sort_letter item.sort) (first_of_both (sort_letter m.sort == sort_letter item.sort)
+    (same_range item.range m.range || expands_to item.expanded m.range) fit)
     in
     by_letter item.sort ∙ ap letter_acts (sym same) ∙ sym (by_letter m.sort) ∙ acts
 
 abbrev Names : BookState → ℕ → List ℕ → BackItem → Type 0
 Names book w bytes b = (number : ℕ) × (b ≡ numbered w number) × IsNamed book w bytes number
 
-names_found : (book : BookState) (w : ℕ) (bytes : List ℕ) (b : BackItem) (m : BackMsg) (y : Result ℕ BackFault) → back_of bytes ≡ Some m → found_of book w m ≡ y
+names_found : (book : BookState) (w : ℕ) (bytes : List ℕ) (b : BackItem) (m : BackMsg) (y : Result ℕ BackFault)
+    → back_of bytes ≡ Some m → found_of book w m ≡ y
     → item_or_refusal w y ≡ Ok b → Names book w bytes b
 names_found book w bytes b m (Ok number) is found e =
     let same : ◌≡◌ {A = BackItem} b (numbered w number) = cc in
-    let fit : IsFound book w number m = found_fits book w number m found in
-    (number, same, record { message = m; is = is; found = found; item = fit.item; there = fit.is; fit = fit.fit; action = fitting_acts m fit.item fit.fit (back_is bytes m is).action })
+    let fit : IsFound book w number m = found_fits book w number m found in (
+      number,
+      same,
+      record {
+        message = m;
+        is = is;
+        found = found;
+        item = fit.item;
+        there = fit.is;
+        fit = fit.fit;
+        action = fitting_acts m fit.item fit.fit (back_is bytes m is).action;
+      },
+    )
 names_found book w bytes b m (Err fault) is found e = absurd cc
 
-names : (book : BookState) (w : ℕ) (bytes : List ℕ) (b : BackItem) (m : Option BackMsg) → back_of bytes ≡ m → item_named book w m ≡ Ok b → Names book w bytes b
+names : (book : BookState) (w : ℕ) (bytes : List ℕ) (b : BackItem) (m : Option BackMsg)
+    → back_of bytes ≡ m → item_named book w m ≡ Ok b → Names book w bytes b
 names book w bytes b None is e = absurd cc
 names book w bytes b (Some m) is e = names_found book w bytes b m (found_of book w m) is refl e
 
@@ -106,22 +123,30 @@ names book w bytes b (Some m) is e = names_found book w bytes b m (found_of book
 
 abbrev shape : ℕ → List ℕ → Bool → Option Refusal → Option Window → Reaction
 shape w bytes missing o window =
-    cond missing (refusal_reaction refusal.VersionFirst) (reaction_or_refusal (or_reads o (if_lives window (Ok (demands (demand.WriteBack w bytes) (length bytes))))))
+    cond missing (refusal_reaction refusal.VersionFirst) (reaction_or_refusal
+    (or_reads o (if_lives window (Ok (demands (demand.WriteBack w bytes) (length bytes))))))
 
 abbrev write_msg : ℕ → ℕ → ℕ → List ℕ → TMsg
 write_msg tag fid offset bytes = record { tag = tag; body = t.Write fid offset bytes }
 
-write_shape : (s : Present) (conn tag fid offset w : ℕ) (bytes : List ℕ) (f : Fid) → fid_of s.tables conn fid ≡ Some f → f.node ≡ File w EventsFile
+write_shape : (s : Present) (conn tag fid offset w : ℕ) (bytes : List ℕ) (f : Fid) → fid_of s.tables conn fid ≡ Some f
+    → f.node ≡ File w EventsFile
     → reaction_at s conn (write_msg tag fid offset bytes)
-    ≡ shape w bytes (not (is_there (msize_of s.tables conn))) (use_refusal (world_of s.scene.windows) (plumber_of s.scene.rules s.scene.ports).names f is_for_writing) (window_at s.scene.windows w)
+    ≡ shape w bytes (not (is_there (msize_of s.tables conn))) (use_refusal (world_of s.scene.windows)
+    (plumber_of s.scene.rules s.scene.ports).names f is_for_writing) (window_at s.scene.windows w)
 write_shape s conn tag fid offset w bytes f there node =
     let missing : Bool = not (is_there (msize_of s.tables conn)) in
-    ap (λ (o : Option Fid). cond missing (refusal_reaction refusal.VersionFirst) (reaction_or_refusal (write_fid (server_at s conn) (record { number = fid; bytes = bytes }) o))) there
-    ∙ ap (λ (n : Node). cond missing (refusal_reaction refusal.VersionFirst) (reaction_or_refusal (or_reads (use_refusal (world_of s.scene.windows) (plumber_of s.scene.rules s.scene.ports).names f is_for_writing) (write_content s.scene.windows (record { number = fid; bytes = bytes }) f (content_of n))))) node
+    ap (λ (o : Option Fid). cond missing (refusal_reaction refusal.VersionFirst)
+    (reaction_or_refusal (write_fid (server_at s conn) (record { number = fid; bytes = bytes }) o))) there
+    ∙ ap (λ (n : Node). cond missing (refusal_reaction refusal.VersionFirst)
+    (reaction_or_refusal (or_reads (use_refusal (world_of s.scene.windows)
+    (plumber_of s.scene.rules s.scene.ports).names f is_for_writing)
+    (write_content s.scene.windows (record { number = fid; bytes = bytes }) f (content_of n))))) node
 
 -- where it is answered by Rwrite it asks for the item that it names
 shape_acts : (s : Present) (w count : ℕ) (bytes : List ℕ) (missing : Bool) (o : Option Refusal) (window : Option Window)
-    → (message_doing s (shape w bytes missing o window) F).answer ≡ Some (Says (r.Write count)) → shape w bytes missing o window ≡ demands (demand.WriteBack w bytes) (length bytes)
+    → (message_doing s (shape w bytes missing o window) F).answer ≡ Some (Says (r.Write count))
+    → shape w bytes missing o window ≡ demands (demand.WriteBack w bytes) (length bytes)
 unfolding task_refusal
 shape_acts s w count bytes true o window is = absurd cc
 shape_acts s w count bytes false (Some x) window is = absurd cc
@@ -139,37 +164,46 @@ back_doing s bytes x = resolved s (record {
 })
 
 -- and there is such an item
-back_found : (s : Present) (count : ℕ) (bytes : List ℕ) (x : Result BackItem Refusal) → (back_doing s bytes x).answer ≡ Some (Says (r.Write count)) → (b : BackItem) × (x ≡ Ok b)
+back_found : (s : Present) (count : ℕ) (bytes : List ℕ) (x : Result BackItem Refusal)
+    → (back_doing s bytes x).answer ≡ Some (Says (r.Write count)) → (b : BackItem) × (x ≡ Ok b)
 unfolding task_refusal
 back_found s count bytes (Ok b) is = (b, refl)
 back_found s count bytes (Err y) is = absurd cc
 
-origin_is : (s : Present) (conn tag fid offset w : ℕ) (bytes : List ℕ) (f : Fid) → fid_of s.tables conn fid ≡ Some f → f.node ≡ File w EventsFile
+origin_is : (s : Present) (conn tag fid offset w : ℕ) (bytes : List ℕ) (f : Fid) → fid_of s.tables conn fid ≡ Some f
+    → f.node ≡ File w EventsFile
     → message_origin s.tables conn (write_msg tag fid offset bytes).body ≡ F
 origin_is s conn tag fid offset w bytes f there node = ap origin_at there ∙ ap (λ (n : Node). cond (is_text n) E F) node
 
 -- ---- every journal
 
-pub acted_on : (before behind : List Event) (conn tag fid offset count w : ℕ) (bytes : List ℕ) (f : Fid) → fid_of (run before).tables conn fid ≡ Some f → f.node ≡ File w EventsFile
+pub acted_on : (before behind : List Event) (conn tag fid offset count w : ℕ) (bytes : List ℕ) (f : Fid)
+    → fid_of (run before).tables conn fid ≡ Some f → f.node ≡ File w EventsFile
     → (doing_of (present_after before) (write_of conn tag fid offset bytes)).answer ≡ Some (Says (r.Write count))
-    → IsActedOn before (before ++ write_of conn tag fid offset bytes ∷ behind) (write_of conn tag fid offset bytes) w bytes
+    → IsActedOn before (before ++ write_of conn tag fid offset bytes ∷ behind) (write_of conn tag fid offset bytes) w
+    bytes
 unfolding task_deeds
 acted_on before behind conn tag fid offset count w bytes f there node answered =
     let s : Present = present_after before in
     let e : Event = write_of conn tag fid offset bytes in
     let d : Reaction = reaction_at s conn (write_msg tag fid offset bytes) in
     let missing : Bool = not (is_there (msize_of s.tables conn)) in
-    let o : Option Refusal = use_refusal (world_of s.scene.windows) (plumber_of s.scene.rules s.scene.ports).names f is_for_writing in
+    let o : Option Refusal = use_refusal (world_of s.scene.windows) (plumber_of s.scene.rules s.scene.ports).names f
+    is_for_writing in
     let x : Reaction = shape w bytes missing o (window_at s.scene.windows w) in
     let shaped : doing_of s e ≡ message_doing s x F =
-    ap (λ (y : Reaction). message_doing s y (message_origin s.tables conn (t.Write fid offset bytes))) (write_shape s conn tag fid offset w bytes f there node)
+    ap (λ (y : Reaction). message_doing s y (message_origin s.tables conn (t.Write fid offset bytes)))
+    (write_shape s conn tag fid offset w bytes f there node)
     ∙ ap (λ (y : Origin). message_doing s x y) (origin_is s conn tag fid offset w bytes f there node)
     in
     let acts : x ≡ demands (demand.WriteBack w bytes) (length bytes) =
-    shape_acts s w count bytes missing o (window_at s.scene.windows w) (sym (ap (λ (y : Doing). y.answer) shaped) ∙ answered)
+    shape_acts s w count bytes missing o (window_at s.scene.windows w)
+    (sym (ap (λ (y : Doing). y.answer) shaped) ∙ answered)
     in
-    let asks : doing_of s e ≡ back_doing s bytes (item_of_text s.scene.book w bytes) = shaped ∙ ap (λ (y : Reaction). message_doing s y F) acts in
-    let found : (b : BackItem) × (item_of_text s.scene.book w bytes ≡ Ok b) = back_found s count bytes (item_of_text s.scene.book w bytes) (sym (ap (λ (y : Doing). y.answer) asks) ∙ answered) in
+    let asks : doing_of s e ≡ back_doing s bytes (item_of_text s.scene.book w bytes) =
+    shaped ∙ ap (λ (y : Reaction). message_doing s y F) acts in
+    let found : (b : BackItem) × (item_of_text s.scene.book w bytes ≡ Ok b) = back_found s count bytes
+    (item_of_text s.scene.book w bytes) (sym (ap (λ (y : Doing). y.answer) asks) ∙ answered) in
     let item : Names s.scene.book w bytes found.0 = names s.scene.book w bytes found.0 (back_of bytes) refl found.1 in
     let does : doing_of s e ≡ back_doing s bytes (Ok (numbered w item.0)) =
     asks ∙ ap (back_doing s bytes) found.1 ∙ ap (λ (b : BackItem). back_doing s bytes (Ok b)) item.1
@@ -179,14 +213,16 @@ acted_on before behind conn tag fid offset count w bytes f there node answered =
       number = item.0;
       named = item.2;
       writes = writes;
-      deeds = ap (λ (y : Doing). y.deeds) does ∙ ap (λ (n : ℕ). act_on_deeds (record { at = n + 1; origin = F }) w item.0 s.scene) (entries_counted before);
+      deeds = ap (λ (y : Doing). y.deeds) does ∙ ap (λ (n : ℕ). act_on_deeds (record { at = n + 1; origin = F }) w
+          item.0 s.scene) (entries_counted before);
       origin = ap (λ (y : Doing). y.origin) does;
       life = named before behind e (numbered w item.0) writes;
     }
 
 writes_acted : (journal : List Event) → WritesAreActedOn journal
 writes_acted journal before behind conn tag fid offset count w bytes f is there node answered =
-    subst (λ (l : List Event). IsActedOn before l (write_of conn tag fid offset bytes) w bytes) is (acted_on before behind conn tag fid offset count w bytes f there node answered)
+    subst (λ (l : List Event). IsActedOn before l (write_of conn tag fid offset bytes) w bytes) is
+    (acted_on before behind conn tag fid offset count w bytes f there node answered)
 
 -- ---- the entry that wrote an item back
 
@@ -205,10 +241,12 @@ not_plain book b (demand.Sends text) plain is = cc
 
 -- the item that is found is answered for
 found_answer : (s : Present) (origin : Origin) (count : ℕ) (x : Result BackItem Refusal) (b : BackItem) → x ≡ Ok b
-    → answer_or (task_refusal (entry_by s origin) (back_task x) s.scene) (Some (or_refused (refusal_if_any x) (Says (r.Write count)))) ≡ Some (Says (r.Write count))
+    → answer_or (task_refusal (entry_by s origin) (back_task x) s.scene)
+    (Some (or_refused (refusal_if_any x) (Says (r.Write count)))) ≡ Some (Says (r.Write count))
 unfolding task_refusal
 found_answer s origin count x b is =
-    ap (λ (y : Result BackItem Refusal). answer_or (task_refusal (entry_by s origin) (back_task y) s.scene) (Some (or_refused (refusal_if_any y) (Says (r.Write count))))) is
+    ap (λ (y : Result BackItem Refusal). answer_or (task_refusal (entry_by s origin) (back_task y) s.scene)
+    (Some (or_refused (refusal_if_any y) (Says (r.Write count))))) is
 
 -- the item is written back, and acted on, by a Twrite to an event file of its window that is answered
 pub record IsBackBy (before : List Event) (e : Event) (b : BackItem) : Type 0 where
@@ -226,16 +264,22 @@ pub record IsBackBy (before : List Event) (e : Event) (b : BackItem) : Type 0 wh
   pub found : item_of (run before).scene.book b.window b.number ≡ Some item
   pub action : is_action item.sort ≡ true
   pub origin : Origin
-  pub deeds : (doing_of (present_after before) e).deeds ≡ act_on_deeds (entry_by (present_after before) origin) b.window b.number (present_after before).scene
+  pub deeds : (doing_of (present_after before) e).deeds ≡ act_on_deeds (entry_by (present_after before) origin) b.window
+      b.number (present_after before).scene
 
-by_write : (before : List Event) (conn : ℕ) (msg : TMsg) (b : BackItem) → written_by before (event.Msg conn msg) ≡ Some b → (x : IsWriteBack (run before).tables conn msg.body (reaction_at (present_after before) conn msg))
+by_write : (before : List Event) (conn : ℕ) (msg : TMsg) (b : BackItem)
+    → written_by before (event.Msg conn msg) ≡ Some b → (x : IsWriteBack (run before).tables conn msg.body
+    (reaction_at (present_after before) conn msg))
     → IsBackBy before (event.Msg conn msg) b
 unfolding task_deeds
 by_write before conn msg b is x =
     let s : Present = present_after before in
-    let asks : demanded_item s.scene.book (demand.WriteBack x.window x.bytes) ≡ Some b = sym (ap (λ (d : Reaction). demanded_item s.scene.book d.demand) x.asks) ∙ is in
-    let found : item_of_text s.scene.book x.window x.bytes ≡ Ok b = any_item (item_of_text s.scene.book x.window x.bytes) b asks in
-    let named : Names s.scene.book x.window x.bytes b = names s.scene.book x.window x.bytes b (back_of x.bytes) refl found in
+    let asks : demanded_item s.scene.book (demand.WriteBack x.window x.bytes) ≡ Some b =
+    sym (ap (λ (d : Reaction). demanded_item s.scene.book d.demand) x.asks) ∙ is in
+    let found : item_of_text s.scene.book x.window x.bytes ≡ Ok b =
+    any_item (item_of_text s.scene.book x.window x.bytes) b asks in
+    let named : Names s.scene.book x.window x.bytes b = names s.scene.book x.window x.bytes b (back_of x.bytes) refl
+    found in
     let there : BackItem = numbered x.window named.0 in
     let same : ◌≡◌ {A = BackItem} there b = sym named.1 in
     record {
@@ -249,19 +293,24 @@ by_write before conn msg b is x =
       there = x.there;
       node = x.node ∙ ap (λ (i : BackItem). File i.window EventsFile) same;
       answered = ap (λ (d : Reaction). (message_doing s d (message_origin s.tables conn msg.body)).answer) x.asks
-          ∙ found_answer s (message_origin s.tables conn msg.body) (length x.bytes) (item_of_text s.scene.book x.window x.bytes) b found;
+          ∙ found_answer s (message_origin s.tables conn msg.body) (length x.bytes)
+          (item_of_text s.scene.book x.window x.bytes) b found;
       item = named.2.item;
       found = subst (λ (i : BackItem). item_of s.scene.book i.window i.number ≡ Some named.2.item) same named.2.there;
       action = named.2.action;
       origin = message_origin s.tables conn msg.body;
       deeds = ap (λ (d : Reaction). (message_doing s d (message_origin s.tables conn msg.body)).deeds) x.asks
-          ∙ ap (λ (y : Result BackItem Refusal). task_deeds (entry_by s (message_origin s.tables conn msg.body)) (back_task y) s.scene) found;
+          ∙ ap (λ (y : Result BackItem Refusal). task_deeds (entry_by s (message_origin s.tables conn msg.body))
+          (back_task y) s.scene) found;
     }
 
-by_message : (before : List Event) (conn : ℕ) (msg : TMsg) (b : BackItem) → written_by before (event.Msg conn msg) ≡ Some b
-    → (is_back (reaction_at (present_after before) conn msg).demand ≡ false) ⊎ IsWriteBack (run before).tables conn msg.body (reaction_at (present_after before) conn msg)
+by_message : (before : List Event) (conn : ℕ) (msg : TMsg) (b : BackItem)
+    → written_by before (event.Msg conn msg) ≡ Some b
+    → (is_back (reaction_at (present_after before) conn msg).demand ≡ false)
+    ⊎ IsWriteBack (run before).tables conn msg.body (reaction_at (present_after before) conn msg)
     → IsBackBy before (event.Msg conn msg) b
-by_message before conn msg b is (inl plain) = absurd (not_plain (present_after before).scene.book b (reaction_at (present_after before) conn msg).demand plain is)
+by_message before conn msg b is (inl plain) = absurd (not_plain (present_after before).scene.book b
+    (reaction_at (present_after before) conn msg).demand plain is)
 by_message before conn msg b is (inr x) = by_write before conn msg b is x
 
 pub back_by : (before : List Event) (e : Event) (b : BackItem) → written_by before e ≡ Some b → IsBackBy before e b
@@ -291,10 +340,12 @@ back_writes journal w n item opening taken at is =
     let h : HasItsEntry journal w n at = have_entries journal w n item opening taken at is in
     let x : IsBackBy h.before h.entry (numbered w n) = back_by h.before h.entry (numbered w n) h.writes in
     let kept : IsBackFrom (run h.before).scene.book (run journal).scene.book (numbered w n) (length h.before + 1) =
-    subst (λ (l : List Event). IsBackFrom (run h.before).scene.book (run l).scene.book (numbered w n) (length h.before + 1)) h.is (back_from h.before h.behind h.entry (numbered w n) h.writes)
+    subst (λ (l : List Event). IsBackFrom (run h.before).scene.book (run l).scene.book (numbered w n)
+    (length h.before + 1)) h.is (back_from h.before h.behind h.entry (numbered w n) h.writes)
     in
     let now : kept.item ≡ item = life_item _ _ (sym kept.is ∙ is) in
-    let same : kept.item ≡ x.item = some_item kept.item x.item (sym (ap (λ (o : Option Recorded). option_map (λ e. e.item) o) kept.was) ∙ x.found) in
+    let same : kept.item ≡ x.item = some_item kept.item x.item (sym
+    (ap (λ (o : Option Recorded). option_map (λ e. e.item) o) kept.was) ∙ x.found) in
     record {
       before = h.before;
       behind = h.behind;
@@ -308,14 +359,16 @@ back_writes journal w n item opening taken at is =
       number = h.number;
       there = x.there;
       node = x.node;
-      answered = subst (λ (e : Event). (doing_of (present_after h.before) e).answer ≡ Some (Says (r.Write (length x.bytes)))) x.is x.answered;
+      answered = subst (λ (e : Event). (doing_of (present_after h.before) e).answer
+          ≡ Some (Says (r.Write (length x.bytes)))) x.is x.answered;
       action = subst (λ (i : Item). is_action i.sort ≡ true) (sym same ∙ now) x.action;
     }
 
 pub acted_once : (journal : List Event) → ActedOnOnce journal
 acted_once journal = record {
   writes = writes_acted journal;
-  named = λ before behind e b is written. subst (λ (l : List Event). IsBackAt (run l).scene.book b (length before + 1)) is (named before behind e b written);
+  named = λ before behind e b is written. subst (λ (l : List Event). IsBackAt (run l).scene.book b (length before + 1))
+      is (named before behind e b written);
   once = λ before between behind e f b is first second. once before between e f b first second;
   entries = have_entries journal;
   backs = back_writes journal;

@@ -1,5 +1,5 @@
 -- Connections, and their sessions and fids.
-use Rattle.std.specs.Prelude.{◌≡◌, ℕ, Bool, true, false, List, count_by, slice_index_or, slice_set}
+use Rattle.std.specs.Prelude.{◌≡◌, ℕ, Bool, true, false, List, Option, Some, None, count_by, slice_index_or, slice_set}
 use Rattle.core_parts.specs.declared.connection.Connection.{Connection}
 use Rattle.core_parts.specs.declared.connection.Connection.TheVariants.{Undialed, Live, Ended}
 use Rattle.core_parts.specs.declared.kind.Kind.{Kind}
@@ -29,6 +29,21 @@ connections_after connections (kind.Asks conn tag) = connections
 connections_after connections (kind.Ends conn why) = slice_set connections conn (Ended why)
 connections_after connections (kind.Takes conn) = connections
 connections_after connections kind.Acts = connections
+
+-- ---- their users
+
+-- the users with that of one connection anew, where there is one
+abbrev pub with_user : List (List ℕ) → ℕ → Option (List ℕ) → List (List ℕ)
+with_user users conn None = users
+with_user users conn (Some user) = slice_set users conn user
+
+-- the users after an event of this kind, which attaches this one to its connection, or none
+abbrev pub users_after : List (List ℕ) → Kind → Option (List ℕ) → List (List ℕ)
+users_after users (kind.Dials conn) user = users
+users_after users (kind.Asks conn tag) user = with_user users conn user
+users_after users (kind.Ends conn why) user = users
+users_after users (kind.Takes conn) user = users
+users_after users kind.Acts user = users
 
 -- ---- their sessions
 

@@ -7,8 +7,8 @@ use Rattle.core_fids.specs.declared.effect.Answer.{Answer}
 use Rattle.core_events.specs.declared.closing.BackItem.{BackItem}
 use Rattle.core_scene.specs.declared.deed.Deed.{Deed}
 
--- To the fids and the session of its connection, to event files and ports, and by deeds to the scene; what the items come from that it makes; how
--- its message is answered, where it is one; and the item that it writes back.
+-- To the fids and the session of its connection, to event files and ports, and by deeds to the scene; what the items
+-- come from that it makes; how its message is answered, where it is one; and the item that it writes back.
 pub record Doing : Type 0 where
   pub effect : Effect
   pub events : EventChange

@@ -9,6 +9,7 @@ abbrev pub present_of : Parts → Present
 present_of p = record {
   entries = p.entries;
   connections = p.connections.items;
+  users = p.users.items;
   tables = p.sessions.kept;
   scene = kept_of p.scene;
   unsent = p.outputs.kept;

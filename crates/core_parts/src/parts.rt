@@ -1,14 +1,15 @@
 //! The tables of the editor: what is kept of the state that its journal leads to.
 
-ghost use Rattle.std.specs.Prelude.{◌≡◌, IfOk};
+ghost use Rattle.std.specs.Prelude.{◌≡◌, [], replicate, IfOk};
 ghost use Rattle.am_text.specs.Twice.{both};
+ghost use Rattle.am_journal.specs.Limits.{connection_count};
 ghost use Rattle.core_scene.specs.Scenes.{kept_of, scene_in};
 ghost use Rattle.core_parts.specs.Parts.{present_of, AreSteady};
-ghost use Rattle.core_parts.specs.States.{start, present};
+ghost use Rattle.core_parts.specs.States.{start_of, present};
 
 use crate::connection::Connection;
-use am_journal::CONNECTIONS;
-use am_text::NoMemory;
+use am_journal::{CONNECTIONS, Format};
+use am_text::{Bytes, Items, NoMemory};
 use core_outputs::{Outputs, Reply};
 use core_scene::Scene;
 use fid_table::Sessions;
@@ -20,7 +21,9 @@ pub struct Parts {
     pub entries: u64,
     /// The 64 connections.
     pub connections: Vec<Connection>,
-    /// Their sessions, fids and waiting reads.
+    /// The user of each: the uname of its last Tattach that was answered by Rattach, empty where there is none.
+    pub users: Vec<Bytes>,
+    /// Their sessions, fids and waiting reads, and the format of the journal.
     pub sessions: Sessions,
     /// What steps play on: windows, event files and the rest.
     pub scene: Scene,
@@ -36,6 +39,7 @@ impl Drop for Parts {
         let Parts {
             entries: _,
             connections: _,
+            users: _,
             sessions: _,
             scene: _,
             outputs: _,
@@ -44,16 +48,29 @@ impl Drop for Parts {
     }
 }
 
+// No connection has a user.
+#[tactic(auto, using(crate::proofs::Users::more_users))]
+fn no_users(alloc: Global) -> Result<Vec<Bytes>, NoMemory>
+    ensures { IfOk result (λ users. users.items ≡ replicate connection_count []) }
+{
+    let mut users = Vec::new(alloc);
+    while users.len() < CONNECTIONS {
+        users.push(Items::new(alloc))?;
+    }
+    Ok(users)
+}
+
 impl Parts {
-    /// The tables of the empty editor, with nothing ready in them.
-    pub fn new(alloc: Global) -> Result<Parts, NoMemory>
-        ensures state { IfOk result (λ parts. present_of parts ≡ present start) }
+    /// The tables of the empty editor of a format, with nothing ready in them.
+    pub fn new(alloc: Global, format: Format) -> Result<Parts, NoMemory>
+        ensures state { IfOk result (λ parts. present_of parts ≡ present (start_of format)) }
         ensures steady { IfOk result AreSteady }
     {
         Ok(Parts {
             entries: 0,
             connections: vec![in alloc; Connection::Undialed; CONNECTIONS]?,
-            sessions: Sessions::new(alloc)?,
+            users: no_users(alloc)?,
+            sessions: Sessions::new(alloc, format)?,
             scene: Scene::new(alloc)?,
             outputs: Outputs::new(alloc)?,
             replies: Vec::new(alloc),
@@ -62,7 +79,12 @@ impl Parts {
 
     /// Takes back what was made ready for an event that wasn't done. It takes no memory.
     pub fn back(&mut self, alloc: Global)
-        ensures new { self.new ≡ record self.old { sessions = both self.old.sessions.kept; scene = scene_in (kept_of self.old.scene); outputs = both self.old.outputs.kept } }
+        ensures new { self.new ≡ record self.old {
+          sessions = both self.old.sessions.kept;
+          scene =
+              scene_in (kept_of self.old.scene);
+          outputs = both self.old.outputs.kept;
+        } }
     {
         self.sessions.back();
         self.scene.back(alloc);

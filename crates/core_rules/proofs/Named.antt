@@ -15,7 +15,8 @@ among name [] = refl
 among name (k ∷ ks) = ap (λ (b : Bool). bytes_eq name k.items || b) (among name ks)
 
 -- one that isn't there comes last
-pub put_last : (ks : List (Vec ℕ)) (k : Vec ℕ) → is_among k.items (texts ks) ≡ false → texts (insert_key (λ x y. bytes_eq x.items y.items) ks k) ≡ texts ks ++ k.items ∷ []
+pub put_last : (ks : List (Vec ℕ)) (k : Vec ℕ) → is_among k.items (texts ks) ≡ false →
+    texts (insert_key (λ x y. bytes_eq x.items y.items) ks k) ≡ texts ks ++ k.items ∷ []
 put_last ks k h =
     let e : list_any (λ y. bytes_eq k.items y.items) ks ≡ false = among k.items ks ∙ h in
     ap (λ (b : Bool). texts (cond b ks (ks ++ k ∷ []))) e ∙ map-append (λ (x : Vec ℕ). x.items) ks (k ∷ [])

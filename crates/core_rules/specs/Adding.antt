@@ -1,5 +1,6 @@
 -- Sets of rules that are added, and the ports that they name.
-use Rattle.std.specs.Prelude.{ℕ, ◌+◌, Bool, ◌&&◌, nat_le, List, [], ◌∷◌, ◌++◌, length, map, Option, Some, None, Result, Ok, Err, if◌then◌else◌}
+use Rattle.std.specs.Prelude.{ℕ, ◌+◌, Bool, ◌&&◌, nat_le, List, [], ◌∷◌, ◌++◌, length, map, Option, Some, None, Result}
+use Rattle.std.specs.Prelude.{Ok, Err, if◌then◌else◌}
 use Rattle.am_text.specs.Utf8.{decode}
 use Rattle.rule_syntax.specs.Parsing.{rules_of}
 use Rattle.rule_syntax.specs.declared.fault.RuleFault.{RuleFault}
@@ -31,7 +32,8 @@ refusal_outcome r = record { deeds = []; refusal = Some r }
 
 -- ---- sets that were read
 
--- a port for each of these names, and then the sets, with the variables after them and the text in which they were written
+-- a port for each of these names, and then the sets, with the variables after them and the text in which they were
+-- written
 abbrev pub set_deeds : List (List ℕ) → List ℕ → List (List Rule) × List Var → List Deed
 set_deeds names text read = map deed.AddsPort names ++ deed.AddsRules read.0 read.1 text ∷ []
 
@@ -41,7 +43,8 @@ fits names bytes s = nat_le (length s.ports.ports + length names) max_ports && h
 
 -- ports of these names and the sets are added, where they fit
 abbrev pub names_added : List (List ℕ) → List ℕ → ℕ → List (List Rule) × List Var → SceneState → Outcome
-names_added names text bytes read s = if fits names bytes s then does (set_deeds names text read) else refusal_outcome refusal.TooManyRules
+names_added names text bytes read s = if fits names bytes s then does (set_deeds names text read) else refusal_outcome
+    refusal.TooManyRules
 
 -- with the ports that the sets name and that aren't there
 abbrev pub sets_added : List ℕ → ℕ → List (List Rule) × List Var → SceneState → Outcome

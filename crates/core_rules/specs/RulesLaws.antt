@@ -7,8 +7,10 @@ use Rattle.core_rules.specs.Writing.{rules_outcome, rest_outcome, held_after}
 
 -- A refusal adds nothing.
 pub record RefusedAddsNothing : Type 0 where
-  pub write : (text : List ℕ) (s : SceneState) (r : RulesRefusal) → (rules_outcome text s).refusal ≡ Some r → (rules_outcome text s).deeds ≡ []
-  pub rest : (text : List ℕ) (s : SceneState) (r : RulesRefusal) → (rest_outcome text s).refusal ≡ Some r → (rest_outcome text s).deeds ≡ []
+  pub write : (text : List ℕ) (s : SceneState) (r : RulesRefusal) → (rules_outcome text s).refusal ≡ Some r
+      → (rules_outcome text s).deeds ≡ []
+  pub rest : (text : List ℕ) (s : SceneState) (r : RulesRefusal) → (rest_outcome text s).refusal ≡ Some r
+      → (rest_outcome text s).deeds ≡ []
 
 -- What isn't refused is kept: accepted or held after a write, and accepted after a clunk.
 pub record WrittenIsKept : Type 0 where

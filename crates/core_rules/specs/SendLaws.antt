@@ -10,7 +10,8 @@ use Rattle.core_rules.specs.Sending.{send_outcome}
 -- the bytes are these messages, one after another, and then the rest
 abbrev pub AreMessages : List ℕ → List PlumbMsg → List ℕ → Type 0
 AreMessages bytes [] rest = bytes ≡ rest
-AreMessages bytes (m ∷ ms) rest = (front behind : List ℕ) × (bytes ≡ front ++ behind) × IsMessage front m × AreMessages behind ms rest
+AreMessages bytes (m ∷ ms) rest = (front behind : List ℕ) × (bytes ≡ front ++ behind) × IsMessage front m
+    × AreMessages behind ms rest
 
 -- A text is the messages that it is cut into, and the bytes that are left.
 abbrev pub MessagesAreRead : Type 0
@@ -18,4 +19,5 @@ MessagesAreRead = (text : List ℕ) → AreMessages text (cut_of text).messages 
 
 -- What is held is a proper front of a message, or nothing where the write is refused. No byte is a proper front, too.
 abbrev pub HeldIsBegun : Type 0
-HeldIsBegun = (e : Entry) (text : List ℕ) (s : SceneState) → (send_outcome e text s).refusal ≡ None → IsProperFront (send_outcome e text s).held
+HeldIsBegun = (e : Entry) (text : List ℕ) (s : SceneState) → (send_outcome e text s).refusal ≡ None →
+    IsProperFront (send_outcome e text s).held

@@ -26,7 +26,8 @@ then_rest deeds (Some r) rest = record { deeds = deeds; refusal = Some r }
 -- one after another, each over the scene that those before it leave, up to the first that is refused
 unfoldable pub plumbed : Entry → List PlumbMsg → SceneState → Plumbed
 plumbed e [] s = record { deeds = []; refusal = None }
-plumbed e (m ∷ ms) s = then_rest (plumb_deeds e m s) (plumb_refusal m s) (plumbed e ms (done_all e s (plumb_deeds e m s)))
+plumbed e (m ∷ ms) s = then_rest (plumb_deeds e m s) (plumb_refusal m s)
+    (plumbed e ms (done_all e s (plumb_deeds e m s)))
 
 -- ---- a write
 
@@ -38,7 +39,12 @@ pub record Outcome : Type 0 where
 
 -- a message that is begun is held; bytes that begin none are refused
 abbrev pub ended : List Deed → Bool → List ℕ → Outcome
-ended deeds is_bad rest = if is_bad then record { deeds = deeds; refusal = Some refusal.BadPlumbMessage; held = [] } else record { deeds = deeds; refusal = None; held = rest }
+ended deeds is_bad rest = if is_bad then record {
+  deeds = deeds;
+  refusal = Some refusal.BadPlumbMessage;
+  held =
+      [];
+} else record { deeds = deeds; refusal = None; held = rest }
 
 -- what came of whole messages, and what is held of the rest
 abbrev pub outcome_of : List Deed → Option PlumbRefusal → Cut → Outcome
@@ -49,7 +55,7 @@ outcome_of deeds None cut = ended deeds cut.is_bad cut.rest
 abbrev pub cut_outcome : Entry → Cut → SceneState → Outcome
 cut_outcome e cut s = outcome_of (plumbed e cut.messages s).deeds (plumbed e cut.messages s).refusal cut
 
--- A write, where the text is what was held with what is written: its whole messages are plumbed. What stands behind them is held, where it
--- begins a message and none is refused; else nothing is.
+-- A write, where the text is what was held with what is written: its whole messages are plumbed. What stands behind
+-- them is held, where it begins a message and none is refused; else nothing is.
 abbrev pub send_outcome : Entry → List ℕ → SceneState → Outcome
 send_outcome e text s = cut_outcome e (cut_of text) s

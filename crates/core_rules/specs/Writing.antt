@@ -7,7 +7,8 @@ use Rattle.core_scene.specs.Scenes.{SceneState}
 use Rattle.core_rules.specs.declared.refusal.RulesRefusal.{RulesRefusal}
 use Rattle.core_rules.specs.Adding.{Outcome, does, adds}
 
--- A write, where the text is what was held with what is written: the sets that are whole are added. All of the text counts as held.
+-- A write, where the text is what was held with what is written: the sets that are whole are added. All of the text
+-- counts as held.
 abbrev pub rules_outcome : List ℕ → SceneState → Outcome
 rules_outcome text s = adds (whole_sets text) (length text) s
 

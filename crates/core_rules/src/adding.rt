@@ -57,8 +57,10 @@ fn add_names(
 ) -> Result<Option<RulesRefusal>, NoMemory>
     requires counted { length written.text.now ≤ written.bytes }
     requires named { list_all is_port_name found.0 ≡ true }
-    ensures refusal { IfOk result (λ refusal. refusal ≡ (names_added found.0 written.entry.text.now written.entry.bytes found.1 (scene_of scene.old)).refusal) }
-    ensures ok { OnOk result (Did entry (scene_of scene.old) (scene_of scene.new) (names_added found.0 written.entry.text.now written.entry.bytes found.1 (scene_of scene.old)).deeds) }
+    ensures refusal { IfOk result (λ refusal. refusal ≡ (names_added found.0 written.entry.text.now written.entry.bytes
+        found.1 (scene_of scene.old)).refusal) }
+    ensures ok { OnOk result (Did entry (scene_of scene.old) (scene_of scene.new)
+        (names_added found.0 written.entry.text.now written.entry.bytes found.1 (scene_of scene.old)).deeds) }
     ensures kept { kept_of scene.new ≡ kept_of scene.old }
 {
     let (names, read) = found;
@@ -80,8 +82,10 @@ fn add_sets(
 ) -> Result<Option<RulesRefusal>, NoMemory>
     requires counted { length written.text.now ≤ written.bytes }
     requires named { list_all is_port_name (naming.ports_of read.0) ≡ true }
-    ensures refusal { IfOk result (λ refusal. refusal ≡ (sets_added written.entry.text.now written.entry.bytes read (scene_of scene.old)).refusal) }
-    ensures ok { OnOk result (Did entry (scene_of scene.old) (scene_of scene.new) (sets_added written.entry.text.now written.entry.bytes read (scene_of scene.old)).deeds) }
+    ensures refusal { IfOk result (λ refusal. refusal ≡ (sets_added written.entry.text.now written.entry.bytes read
+        (scene_of scene.old)).refusal) }
+    ensures ok { OnOk result (Did entry (scene_of scene.old) (scene_of scene.new)
+        (sets_added written.entry.text.now written.entry.bytes read (scene_of scene.old)).deeds) }
     ensures kept { kept_of scene.new ≡ kept_of scene.old }
 {
     let named = ports_of(alloc, read.0.as_slice())?;
@@ -97,8 +101,10 @@ pub(crate) fn add(
     written: Written<'_>,
 ) -> Result<Option<RulesRefusal>, NoMemory>
     requires { length written.text.now ≤ written.bytes }
-    ensures refusal { IfOk result (λ refusal. refusal ≡ (adds written.entry.text.now written.entry.bytes (scene_of scene.old)).refusal) }
-    ensures ok { OnOk result (Did entry (scene_of scene.old) (scene_of scene.new) (adds written.entry.text.now written.entry.bytes (scene_of scene.old)).deeds) }
+    ensures refusal { IfOk result (λ refusal. refusal ≡ (adds written.entry.text.now written.entry.bytes
+        (scene_of scene.old)).refusal) }
+    ensures ok { OnOk result (Did entry (scene_of scene.old) (scene_of scene.new)
+        (adds written.entry.text.now written.entry.bytes (scene_of scene.old)).deeds) }
     ensures kept { kept_of scene.new ≡ kept_of scene.old }
 {
     names_are_ports();

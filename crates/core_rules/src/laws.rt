@@ -7,8 +7,8 @@ pub fn refused_adds_nothing()
     ensures { RefusedAddsNothing }
 {}
 
-/// What is accepted and held after a write is what was accepted and what was held before, with what was written; and a rest
-/// is accepted whole.
+/// What is accepted and held after a write is what was accepted and what was held before, with what was written; and a
+/// rest is accepted whole.
 pub fn what_is_written_is_kept()
     ensures { WrittenIsKept }
 {}

@@ -1,5 +1,5 @@
-//! What is written to the plumber's files. `rules`: sets of rules that are added, and the ports that they name. `send`: messages, one
-//! after another, each of which is plumbed.
+//! What is written to the plumber's files. `rules`: sets of rules that are added, and the ports that they name. `send`:
+//! messages, one after another, each of which is plumbed.
 #![tactic(auto)]
 
 mod adding;

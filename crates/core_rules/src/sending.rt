@@ -60,7 +60,8 @@ fn send_read<'a>(
     ensures refusal { IfOk result (λ left. left.refusal ≡ (send_outcome entry text.now (scene_of scene.old)).refusal) }
     ensures held { IfOk result (λ left. left.held.now ≡ (send_outcome entry text.now (scene_of scene.old)).held) }
     ensures begun { IfOk result (λ left. 0 < length left.held.now → read_of left.held.now ≡ More) }
-    ensures ok { OnOk result (Did entry (scene_of scene.old) (scene_of scene.new) (send_outcome entry text.now (scene_of scene.old)).deeds) }
+    ensures ok { OnOk result (Did entry (scene_of scene.old) (scene_of scene.new)
+        (send_outcome entry text.now (scene_of scene.old)).deeds) }
     ensures kept { kept_of scene.new ≡ kept_of scene.old }
 {
     let mut rest = text;
@@ -92,12 +93,13 @@ fn held_of(alloc: Global, bytes: &[u8]) -> Result<Held, NoMemory>
 /// Plumbs the whole messages of a text: what a fid of `send` holds, with the bytes that are now written to it. Each is
 /// plumbed over the scene that those before it leave, up to the first that is refused; those before it stay plumbed.
 ///
-/// It is refused where a message is, and as `BadPlumbMessage` where what stands behind the messages begins none. Nothing is
-/// held then. Of a message that goes on no byte is read twice.
+/// It is refused where a message is, and as `BadPlumbMessage` where what stands behind the messages begins none.
+/// Nothing is held then. Of a message that goes on no byte is read twice.
 pub fn send(alloc: Global, scene: &mut Scene, entry: Entry, text: Held) -> Result<Sent, NoMemory>
     ensures refusal { IfOk result (λ sent. sent.refusal ≡ (send_outcome entry text (scene_of scene.old)).refusal) }
     ensures held { IfOk result (λ sent. sent.held ≡ (send_outcome entry text (scene_of scene.old)).held) }
-    ensures ok { OnOk result (Did entry (scene_of scene.old) (scene_of scene.new) (send_outcome entry text (scene_of scene.old)).deeds) }
+    ensures ok { OnOk result (Did entry (scene_of scene.old) (scene_of scene.new)
+        (send_outcome entry text (scene_of scene.old)).deeds) }
     ensures kept { kept_of scene.new ≡ kept_of scene.old }
 {
     let mut text = text;

@@ -11,12 +11,12 @@ use core_scene::{Deed, Entry, Scene};
 use fid_table::Held;
 use std::alloc::Global;
 
-/// Adds the whole sets of a text: what a fid of `rules` holds, with the bytes that are now written to it. A set ends at a
-/// blank line. The ports that they name are added, too. The answer is why nothing is added, if nothing is.
+/// Adds the whole sets of a text: what a fid of `rules` holds, with the bytes that are now written to it. A set ends at
+/// a blank line. The ports that they name are added, too. The answer is why nothing is added, if nothing is.
 ///
-/// It is `BadRule` or `BadExpressionSize` where the whole sets aren't rules, read with the variables that accepted rules
-/// define; else `TooManyRules` where there would be more than 65,536 ports, or where the accepted text and all of this text
-/// have more than 262,144 bytes, also where no set is whole. `held_after` says what of the text is held then.
+/// It is `BadRule` or `BadExpressionSize` where the whole sets aren't rules, read with the variables that accepted
+/// rules define; else `TooManyRules` where there would be more than 65,536 ports, or where the accepted text and all of
+/// this text have more than 262,144 bytes, also where no set is whole. `held_after` says what of the text is held then.
 pub fn write_rules(
     alloc: Global,
     scene: &mut Scene,
@@ -24,7 +24,8 @@ pub fn write_rules(
     text: &mut Held,
 ) -> Result<Option<RulesRefusal>, NoMemory>
     ensures refusal { IfOk result (λ refusal. refusal ≡ (rules_outcome text.old (scene_of scene.old)).refusal) }
-    ensures ok { OnOk result (Did entry (scene_of scene.old) (scene_of scene.new) (rules_outcome text.old (scene_of scene.old)).deeds) }
+    ensures ok { OnOk result (Did entry (scene_of scene.old) (scene_of scene.new)
+        (rules_outcome text.old (scene_of scene.old)).deeds) }
     ensures kept { kept_of scene.new ≡ kept_of scene.old }
     ensures text { text.new ≡ text.old }
 {
@@ -46,7 +47,8 @@ pub fn add_rest(
     text: &[u8],
 ) -> Result<Option<RulesRefusal>, NoMemory>
     ensures refusal { IfOk result (λ refusal. refusal ≡ (rest_outcome text.now (scene_of scene.old)).refusal) }
-    ensures ok { OnOk result (Did entry (scene_of scene.old) (scene_of scene.new) (rest_outcome text.now (scene_of scene.old)).deeds) }
+    ensures ok { OnOk result (Did entry (scene_of scene.old) (scene_of scene.new)
+        (rest_outcome text.now (scene_of scene.old)).deeds) }
     ensures kept { kept_of scene.new ≡ kept_of scene.old }
 {
     if text.is_empty() {
@@ -67,8 +69,8 @@ pub fn clear_rules(alloc: Global, scene: &mut Scene, entry: Entry) -> Result<(),
     scene.act(alloc, entry, Deed::ClearsRules)
 }
 
-/// What a fid of `rules` holds behind a write, with which it had this text: what follows the whole sets, and nothing where
-/// the write was refused.
+/// What a fid of `rules` holds behind a write, with which it had this text: what follows the whole sets, and nothing
+/// where the write was refused.
 pub fn held_after(
     alloc: Global,
     text: Held,

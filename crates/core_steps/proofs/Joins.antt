@@ -1,5 +1,6 @@
 -- The connections that joined the sessions are those that were dialled, one event further.
-use Rattle.std.proofs.Common.{◌≡◌, ◌≢◌, ℕ, ◌<◌, Bool, true, false, cond, eqb, ◌||◌, List, [], ◌∷◌, length, Option, Some, None, refl, sym, ap, subst, ◌∙◌, arith}
+use Rattle.std.proofs.Common.{◌≡◌, ◌≢◌, ℕ, ◌<◌, Bool, true, false, cond, eqb, ◌||◌, List, [], ◌∷◌, length, Option, Some}
+use Rattle.std.proofs.Common.{None, refl, sym, ap, subst, ◌∙◌, arith}
 use Rattle.std.specs.Prelude.{slice_set, IfSome}
 use Rattle.std.specs.List.{list_any}
 use Rattle.std.proofs.lemmas.Bool.{eqb-true, eqb-false}
@@ -9,12 +10,14 @@ use Rattle.core_parts.specs.declared.kind.Kind.{Kind}
 use Rattle.core_parts.specs.declared.kind.Kind.TheVariants as kind
 use Rattle.core_intents.proofs.Kinded.{IsNumbered, IsFound}
 use Rattle.fid_table.specs.declared.session.Session.{Session}
-use Rattle.fid_table.specs.Tables.{Tables, HasJoined, is_session, has_joined, on_session, put_in, taken_from, begun, after_join, after_done, after_hangup}
+use Rattle.fid_table.specs.Tables.{Tables, HasJoined, is_session, has_joined, on_session, put_in, taken_from, begun}
+use Rattle.fid_table.specs.Tables.{after_join, after_done, after_hangup}
 use Rattle.core_parts.specs.declared.connection.Connection.{Connection}
 use Rattle.core_parts.specs.declared.connection.Connection.TheVariants.{Undialed, Live, Ended}
 use Rattle.core_fids.specs.declared.effect.Effect.{Effect}
 use Rattle.core_fids.specs.declared.effect.Effect.TheVariants as effect
-use Rattle.core_parts.specs.Connections.{connection_at, connections_after, was_dialed, AreJoined, IsJoinedFor, IsOfJoined, grown, grown_with, ended_with}
+use Rattle.core_parts.specs.Connections.{connection_at, connections_after, was_dialed, AreJoined, IsJoinedFor}
+use Rattle.core_parts.specs.Connections.{IsOfJoined, grown, grown_with, ended_with}
 use Rattle.core_intents.specs.Enabled.{dial_refusal, live_refusal}
 use Rattle.core_parts.specs.States.{Present}
 use Rattle.core_steps.specs.Stages.{asker_of, answer_tables, message_tables, acted, said, tables_after}
@@ -37,10 +40,12 @@ use Rattle.core_steps.specs.PortReads.{port_read_in, port_read_of, asked_tables,
 -- ---- sessions keep their connections
 
 module _ (change : Session → Session) (keeps : (s : Session) → (change s).conn ≡ s.conn) where
-  any_kept : (conn x : ℕ) (ss : List Session) → list_any (is_session x) (on_session change conn ss) ≡ list_any (is_session x) ss
+  any_kept : (conn x : ℕ) (ss : List Session) → list_any (is_session x)
+      (on_session change conn ss) ≡ list_any (is_session x) ss
   any_kept conn x [] = refl
   any_kept conn x (s ∷ ss) =
-      elim (eqb s.conn conn) as (λ t. list_any (is_session x) (cond t (change s ∷ ss) (s ∷ on_session change conn ss)) ≡ (eqb s.conn x || list_any (is_session x) ss)) [
+      elim (eqb s.conn conn) as (λ t. list_any (is_session x) (cond t (change s ∷ ss) (s ∷ on_session change conn ss))
+      ≡ (eqb s.conn x || list_any (is_session x) ss)) [
         | true ↦ ap (λ (c : ℕ). eqb c x || list_any (is_session x) ss) (keeps s)
         | false ↦ ap (λ (b : Bool). eqb s.conn x || b) (any_kept conn x ss)
       ]
@@ -61,23 +66,28 @@ ended_keeps : (t : Tables) (x : ℕ) (responses : List Response) → has_joined 
 ended_keeps t x [] = refl
 ended_keeps t x (r ∷ rs) = ended_keeps (after_done t r.conn r.message.tag) x rs
 
-cancelled_keeps : (t : Tables) (conn x : ℕ) (v : EventChange) → has_joined (without_cancelled t conn v) x ≡ has_joined t x
+cancelled_keeps : (t : Tables) (conn x : ℕ) (v : EventChange) → has_joined (without_cancelled t conn v) x ≡ has_joined t
+    x
 cancelled_keeps t conn x events.Nothing = refl
 cancelled_keeps t conn x (events.Opens w) = refl
 cancelled_keeps t conn x (events.Cancels tag) = refl
 cancelled_keeps t conn x (events.Joins port) = refl
 
-waits_keeps : (t : Tables) (conn tag fid x : ℕ) (o : Option RBody) → has_joined (waits_unless o t conn tag fid) x ≡ has_joined t x
+waits_keeps : (t : Tables) (conn tag fid x : ℕ) (o : Option RBody)
+    → has_joined (waits_unless o t conn tag fid) x ≡ has_joined t x
 waits_keeps t conn tag fid x None = refl
 waits_keeps t conn tag fid x (Some body) = refl
 
-answer_keeps : (t : Tables) (b : BookState) (conn tag x : ℕ) (a : Option Answer) → has_joined (answer_tables t b conn tag a) x ≡ has_joined t x
+answer_keeps : (t : Tables) (b : BookState) (conn tag x : ℕ) (a : Option Answer)
+    → has_joined (answer_tables t b conn tag a) x ≡ has_joined t x
 answer_keeps t b conn tag x None = refl
 answer_keeps t b conn tag x (Some (Says body)) = refl
-answer_keeps t b conn tag x (Some (Reads fid opening count)) = waits_keeps t conn tag fid x (read_said t b (asker_of conn tag opening count))
+answer_keeps t b conn tag x (Some (Reads fid opening count)) = waits_keeps t conn tag fid x
+    (read_said t b (asker_of conn tag opening count))
 answer_keeps t b conn tag x (Some (ReadsPort fid opening count)) = refl
 
-asked_keeps : (t : Tables) (p : PortsState) (r : Option PortRead) (x : ℕ) → has_joined (asked_tables t p r) x ≡ has_joined t x
+asked_keeps : (t : Tables) (p : PortsState) (r : Option PortRead) (x : ℕ)
+    → has_joined (asked_tables t p r) x ≡ has_joined t x
 asked_keeps t p None x = refl
 asked_keeps t p (Some r) x = waits_keeps t r.asker.conn r.asker.tag r.fid x (port_said t p r.asker)
 
@@ -86,7 +96,8 @@ or_false true = refl
 or_false false = refl
 
 joined_more : (t : Tables) (conn x : ℕ) → has_joined (after_join t conn) x ≡ (has_joined t x || eqb conn x)
-joined_more t conn x = list_any-append (is_session x) t.sessions _ ∙ ap (λ (b : Bool). has_joined t x || b) (or_false (eqb conn x))
+joined_more t conn x = list_any-append (is_session x) t.sessions _
+    ∙ ap (λ (b : Bool). has_joined t x || b) (or_false (eqb conn x))
 
 or_true : (b : Bool) → (b || true) ≡ true
 or_true true = refl
@@ -97,7 +108,8 @@ or_true false = refl
 pub here : (cs : List Connection) (c : ℕ) (v : Connection) → c < length cs → connection_at (slice_set cs c v) c ≡ v
 here cs c v h = get_or-set_same cs c v Undialed h
 
-pub elsewhere : (cs : List Connection) (c x : ℕ) (v : Connection) → x ≢ c → connection_at (slice_set cs c v) x ≡ connection_at cs x
+pub elsewhere : (cs : List Connection) (c x : ℕ) (v : Connection) → x ≢ c
+    → connection_at (slice_set cs c v) x ≡ connection_at cs x
 elsewhere cs c x v h = get_or-set_other cs c x v Undialed h
 
 dialed_live : (v : Connection) → live_refusal v ≡ None → was_dialed v ≡ true
@@ -112,15 +124,20 @@ undialed (Ended why) e = absurd cc
 
 -- ---- one event
 
-dial_joins : (cs : List Connection) (t : Tables) (conn : ℕ) → conn < length cs → AreJoined cs t → AreJoined (slice_set cs conn Live) (after_join t conn)
+dial_joins : (cs : List Connection) (t : Tables) (conn : ℕ) → conn < length cs → AreJoined cs t
+    → AreJoined (slice_set cs conn Live) (after_join t conn)
 dial_joins cs t conn h all x =
     joined_more t conn x ∙
-    elim (eqb conn x) as (λ b. eqb conn x ≡ b → (has_joined t x || b) ≡ was_dialed (connection_at (slice_set cs conn Live) x)) [
-      | true ↦ λ e. or_true (has_joined t x) ∙ sym (ap was_dialed (ap (connection_at (slice_set cs conn Live)) (sym (eqb-true conn x e)) ∙ here cs conn Live h))
-      | false ↦ λ e. or_false (has_joined t x) ∙ all x ∙ sym (ap was_dialed (elsewhere cs conn x Live (λ (s : x ≡ conn). eqb-false conn x e (sym s))))
+    elim (eqb conn x) as (λ b. eqb conn x ≡ b → (has_joined t x || b)
+    ≡ was_dialed (connection_at (slice_set cs conn Live) x)) [
+      | true ↦ λ e. or_true (has_joined t x) ∙ sym (ap was_dialed (ap (connection_at (slice_set cs conn Live))
+          (sym (eqb-true conn x e)) ∙ here cs conn Live h))
+      | false ↦ λ e. or_false (has_joined t x) ∙ all x ∙ sym (ap was_dialed
+          (elsewhere cs conn x Live (λ (s : x ≡ conn). eqb-false conn x e (sym s))))
     ] refl
 
-hang_joins : (cs : List Connection) (t : Tables) (conn : ℕ) (v : Connection) → conn < length cs → was_dialed v ≡ true → was_dialed (connection_at cs conn) ≡ true
+hang_joins : (cs : List Connection) (t : Tables) (conn : ℕ) (v : Connection) → conn < length cs
+    → was_dialed v ≡ true → was_dialed (connection_at cs conn) ≡ true
     → AreJoined cs t → AreJoined (slice_set cs conn v) t
 hang_joins cs t conn v h new old all x =
     elim (eqb conn x) as (λ b. eqb conn x ≡ b → has_joined t x ≡ was_dialed (connection_at (slice_set cs conn v) x)) [
@@ -130,10 +147,12 @@ hang_joins cs t conn v h new old all x =
       | false ↦ λ e. all x ∙ sym (ap was_dialed (elsewhere cs conn x v (λ (s : x ≡ conn). eqb-false conn x e (sym s))))
     ] refl
 
-pub joins_on : (s : Present) (k : Kind) (d : Doing) → length s.connections ≡ 64 → IsNumbered k → IsFound s.connections k → AreJoined s.connections s.tables
+pub joins_on : (s : Present) (k : Kind) (d : Doing) → length s.connections ≡ 64 → IsNumbered k → IsFound s.connections k
+    → AreJoined s.connections s.tables
     → AreJoined (connections_after s.connections k) (tables_after s k d)
 joins_on s (kind.Dials conn) d n h e all = λ x.
-    ended_keeps (after_join s.tables conn) x (said s (kind.Dials conn) d) ∙ dial_joins s.connections s.tables conn (omega (arith, n, h)) all x
+    ended_keeps (after_join s.tables conn) x (said s (kind.Dials conn) d)
+    ∙ dial_joins s.connections s.tables conn (omega (arith, n, h)) all x
 joins_on s (kind.Asks conn tag) d n h e all = λ x.
     let put : Tables = grown_with s.tables conn d.effect in
     let read : Tables = answer_tables put s.scene.book conn tag d.answer in
@@ -141,11 +160,15 @@ joins_on s (kind.Asks conn tag) d n h e all = λ x.
     let asked : Tables = asked_tables read (acted s d).ports port in
     let left : Tables = ended_with asked conn d.effect in
     let responses : List Response = said s (kind.Asks conn tag) d in
-    cancelled_keeps (ended left responses) conn x d.events ∙ ended_keeps left x responses ∙ ended_with_keeps asked conn x d.effect
-    ∙ asked_keeps read (acted s d).ports port x ∙ answer_keeps put s.scene.book conn tag x d.answer ∙ grown_keeps s.tables conn x d.effect ∙ all x
+    cancelled_keeps (ended left responses) conn x d.events ∙ ended_keeps left x responses
+    ∙ ended_with_keeps asked conn x d.effect
+    ∙ asked_keeps read (acted s d).ports port x ∙ answer_keeps put s.scene.book conn tag x d.answer
+    ∙ grown_keeps s.tables conn x d.effect ∙ all x
 joins_on s (kind.Ends conn why) d n h e all = λ x.
-    ended_keeps (after_hangup s.tables conn) x (said s (kind.Ends conn why) d) ∙ any_kept (begun None) (λ s. refl) conn x s.tables.sessions
-    ∙ hang_joins s.connections s.tables conn (Ended why) (omega (arith, n, h)) refl (dialed_live (connection_at s.connections conn) e) all x
+    ended_keeps (after_hangup s.tables conn) x (said s (kind.Ends conn why) d)
+    ∙ any_kept (begun None) (λ s. refl) conn x s.tables.sessions
+    ∙ hang_joins s.connections s.tables conn (Ended why) (omega (arith, n, h)) refl
+    (dialed_live (connection_at s.connections conn) e) all x
 joins_on s (kind.Takes conn) d n h e all = λ x. ended_keeps s.tables x (said s (kind.Takes conn) d) ∙ all x
 joins_on s kind.Acts d n h e all = λ x. ended_keeps s.tables x (said s kind.Acts d) ∙ all x
 
@@ -168,14 +191,16 @@ grown_joined t (kind.Ends conn why) f h = h
 grown_joined t (kind.Takes conn) f h = tt
 grown_joined t kind.Acts f h = tt
 
-pub read_joined : (t : Tables) (b : BookState) (k : Kind) (a : Option Answer) → IsOfJoined t k → IsOfJoined (message_tables t b k a) k
+pub read_joined : (t : Tables) (b : BookState) (k : Kind) (a : Option Answer) → IsOfJoined t k
+    → IsOfJoined (message_tables t b k a) k
 read_joined t b (kind.Dials conn) a h = tt
 read_joined t b (kind.Asks conn tag) a h = answer_keeps t b conn tag conn a ∙ h
 read_joined t b (kind.Ends conn why) a h = h
 read_joined t b (kind.Takes conn) a h = tt
 read_joined t b kind.Acts a h = tt
 
-pub asked_joined : (t : Tables) (p : PortsState) (r : Option PortRead) (k : Kind) → IsOfJoined t k → IsOfJoined (asked_tables t p r) k
+pub asked_joined : (t : Tables) (p : PortsState) (r : Option PortRead) (k : Kind) → IsOfJoined t k
+    → IsOfJoined (asked_tables t p r) k
 asked_joined t p r (kind.Dials conn) h = tt
 asked_joined t p r (kind.Asks conn tag) h = asked_keeps t p r conn ∙ h
 asked_joined t p r (kind.Ends conn why) h = asked_keeps t p r conn ∙ h
@@ -184,20 +209,24 @@ asked_joined t p r kind.Acts h = tt
 
 -- ---- the read of a port
 
-readable_in : (t : Tables) (conn tag : ℕ) (a : Option Answer) → IsAnswerable a → HasJoined t conn → IfSome (port_read_in conn tag a) (IsReadable t)
+readable_in : (t : Tables) (conn tag : ℕ) (a : Option Answer) → IsAnswerable a → HasJoined t conn
+    → IfSome (port_read_in conn tag a) (IsReadable t)
 readable_in t conn tag None short joined = tt
 readable_in t conn tag (Some (Says body)) short joined = tt
 readable_in t conn tag (Some (Reads fid opening count)) short joined = tt
 readable_in t conn tag (Some (ReadsPort fid opening count)) short joined = record { short = short; joined = joined }
 
-readable_of : (t : Tables) (k : Kind) (a : Option Answer) → IsAnswerable a → IsOfJoined t k → IfSome (port_read_of k a) (IsReadable t)
+readable_of : (t : Tables) (k : Kind) (a : Option Answer) → IsAnswerable a → IsOfJoined t k
+    → IfSome (port_read_of k a) (IsReadable t)
 readable_of t (kind.Dials conn) a short joined = tt
 readable_of t (kind.Asks conn tag) a short joined = readable_in t conn tag a short joined
 readable_of t (kind.Ends conn why) a short joined = tt
 readable_of t (kind.Takes conn) a short joined = tt
 readable_of t kind.Acts a short joined = tt
 
-pub readable : (t : Tables) (k : Kind) (a : Option Answer) (r : Option PortRead) → r ≡ port_read_of k a → IsAnswerable a → IsOfJoined t k → IfSome r (IsReadable t)
-readable t k a r is short joined = subst (λ (x : Option PortRead). IfSome x (IsReadable t)) (sym is) (readable_of t k a short joined)
+pub readable : (t : Tables) (k : Kind) (a : Option Answer) (r : Option PortRead) → r ≡ port_read_of k a → IsAnswerable a
+    → IsOfJoined t k → IfSome r (IsReadable t)
+readable t k a r is short joined = subst (λ (x : Option PortRead). IfSome x (IsReadable t)) (sym is)
+    (readable_of t k a short joined)
 
 pub ruleset joining = (grown_joined, read_joined, asked_joined, readable)

@@ -27,7 +27,8 @@ port_sound e s deed.ClearsRules h = h
 port_sound e s (deed.AddsPort name) h = sound_add s.ports name h
 port_sound e s (deed.Delivers port message keep) h = sound_deliver s.ports port message h
 
-ports_sound : (e : Entry) (s : SceneState) (ds : List Deed) → ArePortsSound s.ports → ArePortsSound (done_all e s ds).ports
+ports_sound : (e : Entry) (s : SceneState) (ds : List Deed) → ArePortsSound s.ports
+    → ArePortsSound (done_all e s ds).ports
 ports_sound e s [] h = h
 ports_sound e s (d ∷ ds) h = ports_sound e (done e s d) ds (port_sound e s d h)
 
@@ -38,7 +39,8 @@ pub can_now : (e : Entry) (x : Scene) (t : Task) → IsSettled x → CanDoTask e
 can_now e x t settled can = subst (λ (s : SceneState). CanDoTask e s t) (sym (settled_is x settled)) can
 
 -- old: the scene before the task; x: the scene once it is done
-module _ (e : Entry) (old x : Scene) (t : Task) (settled : IsSettled old) (did : Did e (scene_of old) (scene_of x) (task_deeds e t (scene_of old))) where
+module _ (e : Entry) (old x : Scene) (t : Task) (settled : IsSettled old)
+    (did : Did e (scene_of old) (scene_of x) (task_deeds e t (scene_of old))) where
   abbrev deeds : List Deed
   deeds = task_deeds e t (kept_of old)
 
@@ -49,26 +51,35 @@ module _ (e : Entry) (old x : Scene) (t : Task) (settled : IsSettled old) (did :
   task_can = did_kept.can
 
   -- the scene without the items and the windows that are taken of it
-  pub task_scene : (y z : Scene) → y ≡ record x { items = [] } → z ≡ record y { deleted = [] } → scene_of z ≡ record (done_all e (kept_of old) deeds) { items = []; deleted = [] }
+  pub task_scene : (y z : Scene) → y ≡ record x { items = [] } → z ≡ record y { deleted = [] }
+      → scene_of z ≡ record (done_all e (kept_of old) deeds) { items = []; deleted = [] }
   task_scene y z first second =
-      ap scene_of (second ∙ ap (λ (s : Scene). record s { deleted = [] }) first) ∙ ap (λ (s : SceneState). record s { items = []; deleted = [] }) did_kept.made
+      ap scene_of (second ∙ ap (λ (s : Scene). record s { deleted = [] }) first)
+      ∙ ap (λ (s : SceneState). record s { items = []; deleted = [] }) did_kept.made
 
   pub task_items : (items : List WindowItem) → items ≡ x.items → items ≡ (done_all e (kept_of old) deeds).items
   task_items items is = is ∙ ap (λ (s : SceneState). s.items) did_kept.made
 
-  pub task_deleted : (y : Scene) (deleted : List ℕ) → y ≡ record x { items = [] } → deleted ≡ y.deleted → deleted ≡ deleted_by deeds
+  pub task_deleted : (y : Scene) (deleted : List ℕ) → y ≡ record x { items = [] }
+      → deleted ≡ y.deleted → deleted ≡ deleted_by deeds
   task_deleted y deleted first is =
-      is ∙ ap (λ (s : Scene). s.deleted) first ∙ ap (λ (s : SceneState). s.deleted) did_kept.made ∙ deleted_done e (kept_of old) deeds
+      is ∙ ap (λ (s : Scene). s.deleted) first ∙ ap (λ (s : SceneState). s.deleted) did_kept.made
+      ∙ deleted_done e (kept_of old) deeds
 
-  pub task_ports : (y z : Scene) → y ≡ record x { items = [] } → z ≡ record y { deleted = [] } → ArePortsSound old.ports.kept → ArePortsSound z.ports.present
+  pub task_ports : (y z : Scene) → y ≡ record x { items = [] } → z ≡ record y { deleted = [] }
+      → ArePortsSound old.ports.kept → ArePortsSound z.ports.present
   task_ports y z first second sound =
-      subst (λ (s : SceneState). ArePortsSound s.ports) (sym (task_scene y z first second)) (ports_sound e (kept_of old) deeds sound)
+      subst (λ (s : SceneState). ArePortsSound s.ports) (sym (task_scene y z first second))
+      (ports_sound e (kept_of old) deeds sound)
 
-  pub task_kept : (y z : Scene) → kept_of x ≡ kept_of old → y ≡ record x { items = [] } → z ≡ record y { deleted = [] } → kept_of z ≡ kept_of old
+  pub task_kept : (y z : Scene) → kept_of x ≡ kept_of old → y ≡ record x { items = [] } → z ≡ record y { deleted = [] }
+      → kept_of z ≡ kept_of old
   task_kept y z kept first second = ap kept_of (second ∙ ap (λ (s : Scene). record s { deleted = [] }) first) ∙ kept
 
-  pub task_book : (y z : Scene) → kept_of x ≡ kept_of old → y ≡ record x { items = [] } → z ≡ record y { deleted = [] } → z.book ≡ old.book
-  task_book y z kept first second = ap (λ (s : Scene). s.book) (second ∙ ap (λ (s : Scene). record s { deleted = [] }) first) ∙ book_stays did kept
+  pub task_book : (y z : Scene) → kept_of x ≡ kept_of old → y ≡ record x { items = [] } → z ≡ record y { deleted = [] }
+      → z.book ≡ old.book
+  task_book y z kept first second = ap (λ (s : Scene). s.book) (second ∙ ap (λ (s : Scene). record s { deleted = [] })
+      first) ∙ book_stays did kept
 
 pub ruleset moving = (can_now)
 

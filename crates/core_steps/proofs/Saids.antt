@@ -7,7 +7,8 @@ use Rattle.core_outputs.specs.Unsent.{HasBytes, HaveBytes}
 
 pub ruleset saying = (both_said, one_said, none_said)
 
-pub bytes_more : (replies next : List Reply) (r : Reply) → HaveBytes replies → HasBytes r → next ≡ replies ++ r ∷ [] → HaveBytes next
+pub bytes_more : (replies next : List Reply) (r : Reply) → HaveBytes replies → HasBytes r → next ≡ replies ++ r ∷ []
+    → HaveBytes next
 bytes_more replies next r h k e = subst HaveBytes (sym e) (All-push HasBytes replies r h k)
 
 pub no_bytes : (replies : List Reply) → replies ≡ [] → HaveBytes replies

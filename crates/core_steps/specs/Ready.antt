@@ -9,6 +9,7 @@ use Rattle.core_parts.specs.declared.parts.Parts.{Parts}
 use Rattle.core_closing.specs.declared.prepared.Prepared.{Prepared}
 use Rattle.core_parts.specs.Connections.{IsOfJoined}
 use Rattle.core_parts.specs.Kinds.{kind_of}
+use Rattle.core_intents.specs.Users.{user_of}
 use Rattle.core_steps.specs.Stages.{acted, grown_tables, grown_book, grown_ports, said}
 use Rattle.core_parts.specs.States.{Present, next_entry}
 use Rattle.core_steps.specs.Replies.{replies_of}
@@ -26,6 +27,7 @@ pub record HasReady (p : Parts) (prepared : Prepared) (d : Doing) : Type 0 where
   pub events : prepared.events ≡ d.events
   pub deleted : prepared.deleted ≡ deleted_by d.deeds
   pub back : prepared.back ≡ d.back
+  pub user : prepared.user ≡ user_of prepared.event d.answer
   pub answers : prepared.said ≡ said (present_of p) (kind_of prepared.event) d
   pub replies : prepared.replies.items ≡ replies_of (said (present_of p) (kind_of prepared.event) d)
   pub joined : IsOfJoined p.sessions.present (kind_of prepared.event)

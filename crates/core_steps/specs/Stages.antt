@@ -23,8 +23,9 @@ use Rattle.core_events.specs.PortAsking.{joined_with}
 use Rattle.core_events.specs.PortServing.{ports_served, ports_after_serving}
 use Rattle.core_parts.specs.declared.kind.Kind.{Kind}
 use Rattle.core_parts.specs.declared.kind.Kind.TheVariants as kind
-use Rattle.core_parts.specs.Connections.{connections_after, grown}
+use Rattle.core_parts.specs.Connections.{connections_after, users_after, grown}
 use Rattle.core_intents.specs.Doings.{entry_of}
+use Rattle.core_intents.specs.Users.{user_of}
 use Rattle.core_parts.specs.Doing.{Doing}
 use Rattle.core_parts.specs.Kinds.{kind_of, conn_of}
 use Rattle.core_parts.specs.States.{Present, State, next_entry}
@@ -177,6 +178,7 @@ abbrev pub after : Present → Event → Doing → Present
 after s e d = record {
   entries = next_entry s;
   connections = connections_after s.connections (kind_of e);
+  users = users_after s.users (kind_of e) (user_of e d.answer);
   tables = tables_after s (kind_of e) d;
   scene = scene_after s (kind_of e) d;
   unsent = left_unsent (put_replies s.unsent (replies_of (said s (kind_of e) d))) (kind_of e);
@@ -188,6 +190,7 @@ abbrev pub after_story : State → Present → Event → Doing → State
 after_story s p e d = record {
   entries = next_entry p;
   connections = connections_after s.connections (kind_of e);
+  users = users_after s.users (kind_of e) (user_of e d.answer);
   tables = tables_after p (kind_of e) d;
   windows = all_changed_stories (next_entry p) s.windows (changes_in d.deeds);
   scene = record (scene_after p (kind_of e) d) { windows = [] };

@@ -10,7 +10,8 @@ ghost use Rattle.core_steps.specs.Stages.{after};
 
 use am_journal::Event;
 use core_closing::{
-    Prepared, change_book, change_connections, change_ports, change_sessions, take_replies,
+    Prepared, change_book, change_connections, change_ports, change_sessions, change_users,
+    take_replies,
 };
 use core_parts::{Parts, kind_of};
 use std::alloc::Global;
@@ -35,10 +36,12 @@ pub fn apply(alloc: Global, parts: &mut Parts, prepared: Prepared) -> Event
         at,
         effect,
         events,
+        user,
         said,
         replies,
         ..
     } = prepared;
+    change_users(parts.users.as_mut_slice(), kind, user);
     change_sessions(&mut parts.sessions, kind, &effect, events, said.as_slice());
     parts.outputs.keep();
     take_replies(alloc, &mut parts.outputs, kind);

@@ -22,14 +22,14 @@ use crate::files::{Asks, grow_files};
 use crate::reading::{ask_port, port_read_of};
 use crate::saying::{Heard, Told, tell};
 use am_journal::Event;
-use am_text::{Ids, Items, NoMemory};
+use am_text::{Bytes, Ids, Items, NoMemory};
 use core_closing::Prepared;
 use core_events::{
     Book, Ports, Responses, clunked, deletions, open_port, put_all, put_living, serve_all,
     serve_ports,
 };
 use core_fids::{Effect, EventChange};
-use core_intents::{Intent, with_held};
+use core_intents::{Intent, user_of, with_held};
 use core_parts::{Parts, conn_of, kind_of};
 use core_scene::{Entry, WindowItems};
 use std::alloc::Global;
@@ -128,11 +128,13 @@ fn hear(
     })
 }
 
-// What a step makes: what its message does to fids, the windows that it deletes, and what is said.
+// What a step makes: what its message does to fids, the windows that it deletes, the user whom it attaches, and what is
+// said.
 #[derive(Drop)]
 struct Grown {
     effect: Effect,
     deleted: Ids,
+    user: Option<Bytes>,
     told: Told,
 }
 
@@ -156,17 +158,18 @@ fn grow_parts(
     requires at { at ≡ next_entry (present_of parts.old) }
     ensures state { present_of parts.new ≡ present_of parts.old }
     ensures possible { OnOk result (CanBeDone (present_of parts.old) (resolved (present_of parts.old) intent)) }
-    ensures ready { IfOk result (λ g. HasReady parts.new
-        (record {
-          event = event.now;
-          at = at;
-          effect = g.effect;
-          events = intent.events;
-          deleted = g.deleted;
-          back = intent.back;
-          said = g.told.said;
-          replies = g.told.replies;
-        }) (resolved (present_of parts.old) intent)) }
+    ensures ready { IfOk result (λ g. HasReady parts.new (record {
+      event = event.now;
+      at = at;
+      effect = g.effect;
+      events = intent.events;
+      deleted = g.deleted;
+      back = intent.back;
+      user = g.user;
+      said = g.told.said;
+      replies =
+          g.told.replies;
+    }) (resolved (present_of parts.old) intent)) }
 {
     let Intent {
         effect,
@@ -182,6 +185,7 @@ fn grow_parts(
         held,
         answer,
     } = act(alloc, &mut parts.scene, Entry { at, origin }, task, answer)?;
+    let user = user_of(alloc, event, &answer)?;
     let effect = with_held(effect, held);
     let asks = Asks {
         kind: kind_of(event),
@@ -194,6 +198,7 @@ fn grow_parts(
     Ok(Grown {
         effect,
         deleted,
+        user,
         told,
     })
 }
@@ -225,6 +230,7 @@ pub fn grow(
     let Grown {
         effect,
         deleted,
+        user,
         told: Told { said, replies },
     } = grow_parts(alloc, parts, &event, intent, at)?;
     Ok(Prepared {
@@ -234,6 +240,7 @@ pub fn grow(
         events,
         deleted,
         back,
+        user,
         said,
         replies,
     })

@@ -1,21 +1,25 @@
 -- The connections that joined, the reads that wait, and what each call does to them.
-use Rattle.std.specs.Prelude.{◌==◌, ◌&&◌, ℕ, Bool, List, [], ◌∷◌, ◌++◌, not, filter, find, nat_eq, Option, Some, None, IsTrue, if◌then◌else◌}
+use Rattle.std.specs.Prelude.{◌==◌, ◌&&◌, ℕ, Bool, List, [], ◌∷◌, ◌++◌, not, filter, find, nat_eq, Option, Some, None}
+use Rattle.std.specs.Prelude.{IsTrue, if◌then◌else◌}
 use Rattle.std.specs.List.{list_any}
 use Rattle.std.specs.Map.{lookup}
+use Rattle.am_journal.specs.declared.event.Format.{Format}
 use Rattle.fid_table.specs.Fids.{with_fid, without_fid}
 use Rattle.fid_table.specs.declared.types.Fid.{Fid}
 use Rattle.fid_table.specs.declared.session.Session.{Session}
 use Rattle.fid_table.specs.declared.session.Waiting.{Waiting}
 
+-- format: that of the journal, by which the limits go
 -- sessions: the connections in the order of joining, each with its msize, where a session is open, and its fids
 -- waiting: the waiting reads of all connections, in the order of asking
 pub record Tables : Type 0 where
+  pub format : Format
   pub sessions : List Session
   pub waiting : List Waiting
 
 -- no connection has joined
-abbrev pub nothing : Tables
-nothing = record { sessions = []; waiting = [] }
+abbrev pub nothing : Format → Tables
+nothing format = record { format = format; sessions = []; waiting = [] }
 
 -- whether this is that connection's session
 abbrev pub is_session : ℕ → Session → Bool
@@ -87,7 +91,11 @@ after_join t conn = record t { sessions = t.sessions ++ record { conn = conn; ms
 -- a session with this msize, or none, no fids and no waiting reads
 abbrev pub after_version : Tables → ℕ → Option ℕ → Tables
 after_version t conn msize =
-    record { sessions = on_session (begun msize) conn t.sessions; waiting = filter (λ w. not (is_waiting_on conn w)) t.waiting }
+    record t {
+      sessions = on_session (begun msize) conn t.sessions;
+      waiting = filter (λ w. not (is_waiting_on conn w))
+          t.waiting;
+    }
 
 -- a connection without a session
 abbrev pub after_hangup : Tables → ℕ → Tables

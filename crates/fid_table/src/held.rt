@@ -165,8 +165,8 @@ impl Held {
         self.reached = Reached::Message(Begun::of(self.bytes.as_slice()));
     }
 
-    /// Whether it shows itself to be a plumb message that is begun, by what was written since it was one. It may be one also
-    /// where the answer is no.
+    /// Whether it shows itself to be a plumb message that is begun, by what was written since it was one. It may be one
+    /// also where the answer is no.
     pub fn goes_on(&mut self, alloc: Global) -> Result<bool, NoMemory>
         ensures same { self.new ≡ self.old }
         ensures more { IfOk result (λ goes. goes ≡ true → read_of self.old ≡ More) }

@@ -1,14 +1,18 @@
 //! The sessions of all connections, in two states.
 
-ghost use Rattle.std.specs.Prelude.{◌≡◌, false, length, slice_get, option_copied, option_map, count_by, IfOk, OnOk, OnErr};
+ghost use Rattle.std.specs.Prelude.{◌≡◌, false, length, slice_get, option_copied, option_map, count_by, IfOk, OnOk};
+ghost use Rattle.std.specs.Prelude.{OnErr};
 ghost use Rattle.std.specs.List.{list_any};
 ghost use Rattle.am_text.specs.Twice.{both, IsSteady};
 ghost use Rattle.fid_table.specs.Fids.{AreDistinct, seen};
-ghost use Rattle.fid_table.specs.Tables.{nothing, has_joined, HasJoined, msize_of, fids_of, fid_of, is_waiting, is_waiting_on, as_triple, after_join, after_version, after_hangup, after_put, after_take, after_wait, after_done};
+ghost use Rattle.fid_table.specs.Tables.{nothing, has_joined, HasJoined, msize_of, fids_of, fid_of, is_waiting};
+ghost use Rattle.fid_table.specs.Tables.{is_waiting_on, as_triple, after_join, after_version, after_hangup, after_put};
+ghost use Rattle.fid_table.specs.Tables.{after_take, after_wait, after_done};
 
 use crate::table::Table;
 use crate::types::Fid;
 use crate::undo::{Undo, take_all_back, unset};
+use am_journal::Format;
 use am_text::NoMemory;
 use std::alloc::Global;
 use std::marker::Model;
@@ -49,13 +53,13 @@ impl Model for Sessions {
 }
 
 impl Sessions {
-    /// No connection joined, and no read waits.
-    pub fn new(alloc: Global) -> Result<Sessions, NoMemory>
-        ensures { IfOk result (λ sessions. sessions ≡ both nothing) }
+    /// No connection joined, and no read waits. The journal is of this format.
+    pub fn new(alloc: Global, format: Format) -> Result<Sessions, NoMemory>
+        ensures { IfOk result (λ sessions. sessions ≡ both (nothing format)) }
     {
         Ok(Sessions {
             alloc,
-            table: Table::new(alloc),
+            table: Table::new(alloc, format),
             trail: Vec::with_capacity(alloc, 4)?,
         })
     }
@@ -73,6 +77,13 @@ impl Sessions {
         ensures { self.new ≡ both self.old.kept }
     {
         take_all_back(&mut self.table, &mut self.trail);
+    }
+
+    /// The format of the journal. No call changes it.
+    pub fn format(&self) -> Format
+        ensures { result ≡ self.now.present.format }
+    {
+        self.table.format()
     }
 
     /// Whether the connection joined.

@@ -1,14 +1,18 @@
 //! The tables of sessions and of waiting reads, in one state.
 
-ghost use Rattle.std.specs.Prelude.{◌≡◌, not, filter, length, slice_get, option_copied, option_map, count_by, IfOk, OnOk, OnErr};
+ghost use Rattle.std.specs.Prelude.{◌≡◌, not, filter, length, slice_get, option_copied, option_map, count_by, IfOk};
+ghost use Rattle.std.specs.Prelude.{OnOk, OnErr};
 ghost use Rattle.std.specs.List.{list_any};
 ghost use Rattle.fid_table.specs.Fids.{AreDistinct, seen};
-ghost use Rattle.fid_table.specs.Tables.{nothing, has_joined, msize_of, fids_of, fid_of, is_waiting, is_waiting_on, as_triple, after_join, after_version, after_put, after_take, after_wait, after_done};
+ghost use Rattle.fid_table.specs.Tables.{nothing, has_joined, msize_of, fids_of, fid_of, is_waiting, is_waiting_on};
+ghost use Rattle.fid_table.specs.Tables.{as_triple, after_join, after_version, after_put, after_take, after_wait};
+ghost use Rattle.fid_table.specs.Tables.{after_done};
 ghost use Rattle.fid_table.specs.Undo.{after_leave, after_restore, after_unwait};
 
 use crate::fids::Fids;
 use crate::session::{Session, Waiting, place_of, session_of};
 use crate::types::Fid;
+use am_journal::Format;
 use am_text::NoMemory;
 use std::alloc::Global;
 use std::marker::Model;
@@ -25,9 +29,10 @@ fn drop_read(waiting: &mut Vec<Waiting>, conn: u32, tag: u16)
     waiting.retain(|w| !(w.conn == conn && w.tag == tag));
 }
 
-/// The connections that joined, and the reads that wait, in the order of asking.
+/// The format of the journal, the connections that joined, and the reads that wait, in the order of asking.
 #[derive(Drop)]
 pub struct Table {
+    format: Format,
     sessions: Vec<Session>,
     waiting: Vec<Waiting>,
 }
@@ -37,18 +42,26 @@ impl Model for Table {
 
     ghost Value = { Tables };
 
-    ghost view = { λ t. record { sessions = t.sessions.items; waiting = t.waiting.items } };
+    ghost view = { λ t. record { format = t.format; sessions = t.sessions.items; waiting = t.waiting.items } };
 }
 
 impl Table {
     /// No connections. It takes no memory.
-    pub fn new(alloc: Global) -> Self
-        ensures { result ≡ nothing }
+    pub fn new(alloc: Global, format: Format) -> Self
+        ensures { result ≡ nothing format }
     {
         Table {
+            format,
             sessions: Vec::new(alloc),
             waiting: Vec::new(alloc),
         }
+    }
+
+    /// The format of the journal.
+    pub fn format(&self) -> Format
+        ensures { result ≡ self.now.format }
+    {
+        self.format
     }
 
     /// Whether the connection joined.

@@ -1,5 +1,6 @@
 -- Numbers of data, in a line.
-use Rattle.std.proofs.Common.{◌≡◌, ℕ, ◌+◌, ◌-◌, ◌*◌, ◌^◌, ◌<◌, ◌≤◌, Bool, true, false, cond, ◌&&◌, ◌||◌, ◌%◌, ne_eqb, eqb, ltb, leb, List, [], ◌∷◌, ◌++◌, length, Option, Some, None, refl, ap, sym, ◌∙◌, arith}
+use Rattle.std.proofs.Common.{◌≡◌, ℕ, ◌+◌, ◌-◌, ◌*◌, ◌^◌, ◌<◌, ◌≤◌, Bool, true, false, cond, ◌&&◌, ◌||◌, ◌%◌, ne_eqb}
+use Rattle.std.proofs.Common.{eqb, ltb, leb, List, [], ◌∷◌, ◌++◌, length, Option, Some, None, refl, ap, sym, ◌∙◌, arith}
 use Rattle.std.specs.Prelude.{is_some}
 use Rattle.std.specs.Char.{is_ascii_digit}
 use Rattle.std.specs.Fmt.{decimal}
@@ -38,7 +39,8 @@ number_ge (d ∷ ds) n k e =
     omega (arith, grows d n, number_ge ds (n * 10 + (d - 48)) k g.1)
 
 -- the number of a front of digits is no larger
-number_front : (bs more : List ℕ) (n k : ℕ) → number_after n (bs ++ more) ≡ Some k → (j : ℕ) × (number_after n bs ≡ Some j) × (j ≤ k)
+number_front : (bs more : List ℕ) (n k : ℕ) → number_after n (bs ++ more) ≡ Some k → (j : ℕ)
+    × (number_after n bs ≡ Some j) × (j ≤ k)
 unfolding number_after
 number_front [] more n k e = (n, refl, number_ge more n k e)
 number_front (d ∷ ds) more n k e =
@@ -46,7 +48,8 @@ number_front (d ∷ ds) more n k e =
     let r = number_front ds more (n * 10 + (d - 48)) k g.1 in
     (r.0, ap (λ (t : Bool). cond t (number_after (n * 10 + (d - 48)) ds) None) g.0 ∙ r.1, r.2)
 
-decimal_front : (d : ℕ) (ds more : List ℕ) (k : ℕ) → number_of (d ∷ (ds ++ more)) ≡ Some k → (j : ℕ) × (number_of (d ∷ ds) ≡ Some j) × (j ≤ k)
+decimal_front : (d : ℕ) (ds more : List ℕ) (k : ℕ) → number_of (d ∷ (ds ++ more)) ≡ Some k → (j : ℕ)
+    × (number_of (d ∷ ds) ≡ Some j) × (j ≤ k)
 decimal_front d [] [] k e = (k, e, omega arith)
 decimal_front d [] (b ∷ more) k e =
     let g = guard_else (eqb d 48) (number_after 0 (d ∷ b ∷ more)) k e in
@@ -83,7 +86,8 @@ pub decimal-clean : (n : ℕ) → n < 2 ^ 64 → has_newline (decimal n) ≡ fal
 decimal-clean n fits =
     decimal_by_steps (λ n ds. has_newline ds ≡ false)
     (λ n lt. rw (not_newline (48 + n) (omega arith)) refl)
-    (λ n ds ge before. list_any-append (λ b. eqb b 10) ds ((48 + n % 10) ∷ []) ∙ rw (before, not_newline (48 + n % 10) (omega arith)) refl)
+    (λ n ds ge before. list_any-append (λ b. eqb b 10) ds ((48 + n % 10) ∷ [])
+    ∙ rw (before, not_newline (48 + n % 10) (omega arith)) refl)
     n fits
 
 -- ---- fronts
@@ -108,13 +112,15 @@ count-down [] more n e = refl
 count-down (d ∷ ds) more n e =
     let s = small_is (number_of (d ∷ (ds ++ more))) n e in
     let r = decimal_front d ds more n s.0 in
-    or_right (eqb (length (d ∷ ds)) 0) (is_some (count_of (d ∷ ds))) (some_test (count_of (d ∷ ds)) r.0 (ap small r.1 ∙ small_again r.0 (omega (arith, r.2, s.1))))
+    or_right (eqb (length (d ∷ ds)) 0) (is_some (count_of (d ∷ ds)))
+    (some_test (count_of (d ∷ ds)) r.0 (ap small r.1 ∙ small_again r.0 (omega (arith, r.2, s.1))))
 
 count-up : (bs : List ℕ) → has_newline bs ≡ false → is_count_front bs ≡ true → Completes count_of bs
 unfolding number_after
 count-up [] clean h = record { more = 48 ∷ []; clean = refl; value = 0; reads = refl }
 count-up (d ∷ ds) clean h =
-    let v = value_from (count_of (d ∷ ds)) (or_cases (eqb (length (d ∷ ds)) 0) (is_some (count_of (d ∷ ds))) (ne_eqb (length (d ∷ ds)) 0 (λ (e : length (d ∷ ds) ≡ 0). omega arith)) h) in
+    let v = value_from (count_of (d ∷ ds)) (or_cases (eqb (length (d ∷ ds)) 0) (is_some (count_of (d ∷ ds)))
+    (ne_eqb (length (d ∷ ds)) 0 (λ (e : length (d ∷ ds) ≡ 0). omega arith)) h) in
     record { more = []; clean = refl; value = v.0; reads = ap count_of (append-nil (d ∷ ds)) ∙ v.1 }
 
 pub count_kind : IsLineKind count_of is_count_front

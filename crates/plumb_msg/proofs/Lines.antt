@@ -1,5 +1,6 @@
 -- Lines and newlines.
-use Rattle.std.proofs.Common.{◌≡◌, ℕ, ◌≤◌, suc, true, false, cond, ◌||◌, eqb, List, [], ◌∷◌, ◌++◌, length, refl, ap, sym, arith}
+use Rattle.std.proofs.Common.{◌≡◌, ℕ, ◌≤◌, suc, true, false, cond, ◌||◌, eqb, List, [], ◌∷◌, ◌++◌, length, refl, ap}
+use Rattle.std.proofs.Common.{sym, arith}
 use Rattle.std.proofs.lemmas.Bool.{eqb-true, false≢true}
 use Rattle.am_text.specs.Lines.{first_line, after_line}
 use Rattle.plumb_msg.specs.Texts.{has_newline}
@@ -8,7 +9,8 @@ use Rattle.plumb_msg.specs.Texts.{has_newline}
 pub newline-split : (bs : List ℕ) → has_newline bs ≡ true → bs ≡ first_line bs ++ 10 ∷ after_line bs
 newline-split [] = λ h. absurd (false≢true h)
 newline-split (b ∷ bs) =
-    elim (eqb b 10) as (λ t. eqb b 10 ≡ t → (t || has_newline bs) ≡ true → b ∷ bs ≡ cond t [] (b ∷ first_line bs) ++ 10 ∷ cond t bs (after_line bs)) [
+    elim (eqb b 10) as (λ t. eqb b 10 ≡ t → (t || has_newline bs) ≡ true → b ∷ bs ≡ cond t [] (b ∷ first_line bs)
+    ++ 10 ∷ cond t bs (after_line bs)) [
       | true ↦ λ e h. ap (λ (x : ℕ). x ∷ bs) (eqb-true b 10 e)
       | false ↦ λ e h. ap (λ (l : List ℕ). b ∷ l) (newline-split bs h)
     ] refl
@@ -25,18 +27,21 @@ pub after-le : (bs : List ℕ) → length (after_line bs) ≤ length bs
 after-le [] = omega arith
 after-le (b ∷ bs) =
     let ih = after-le bs in
-    elim (eqb b 10) as (λ t. length (cond t bs (after_line bs)) ≤ suc (length bs)) [ true ↦ omega arith | false ↦ omega arith ]
+    elim (eqb b 10) as (λ t. length (cond t bs (after_line bs)) ≤ suc (length bs))
+    [ true ↦ omega arith | false ↦ omega arith ]
 
 -- ---- lines that go on
 
 pub has-append : (bs more : List ℕ) → has_newline (bs ++ more) ≡ (has_newline bs || has_newline more)
 has-append [] more = refl
-has-append (b ∷ bs) more = elim (eqb b 10) as (λ t. (t || has_newline (bs ++ more)) ≡ ((t || has_newline bs) || has_newline more)) [ true ↦ refl | false ↦ has-append bs more ]
+has-append (b ∷ bs) more = elim (eqb b 10) as (λ t. (t || has_newline (bs ++ more))
+    ≡ ((t || has_newline bs) || has_newline more)) [ true ↦ refl | false ↦ has-append bs more ]
 
 pub first-append : (bs more : List ℕ) → has_newline bs ≡ true → first_line (bs ++ more) ≡ first_line bs
 first-append [] more = λ h. absurd (false≢true h)
 first-append (b ∷ bs) more =
-    elim (eqb b 10) as (λ t. (t || has_newline bs) ≡ true → cond t [] (b ∷ first_line (bs ++ more)) ≡ cond t [] (b ∷ first_line bs)) [
+    elim (eqb b 10) as (λ t. (t || has_newline bs) ≡ true → cond t [] (b ∷ first_line (bs ++ more)) ≡ cond t []
+    (b ∷ first_line bs)) [
       | true ↦ λ h. refl
       | false ↦ λ h. ap (λ (l : List ℕ). b ∷ l) (first-append bs more h)
     ]
@@ -44,7 +49,8 @@ first-append (b ∷ bs) more =
 pub after-append : (bs more : List ℕ) → has_newline bs ≡ true → after_line (bs ++ more) ≡ after_line bs ++ more
 after-append [] more = λ h. absurd (false≢true h)
 after-append (b ∷ bs) more =
-    elim (eqb b 10) as (λ t. (t || has_newline bs) ≡ true → cond t (bs ++ more) (after_line (bs ++ more)) ≡ cond t bs (after_line bs) ++ more) [
+    elim (eqb b 10) as (λ t. (t || has_newline bs) ≡ true → cond t (bs ++ more) (after_line (bs ++ more)) ≡ cond t bs
+    (after_line bs) ++ more) [
       | true ↦ λ h. refl
       | false ↦ λ h. after-append bs more h
     ]
@@ -54,7 +60,8 @@ after-append (b ∷ bs) more =
 pub first-joined : (bs more : List ℕ) → has_newline bs ≡ false → first_line (bs ++ more) ≡ bs ++ first_line more
 first-joined [] more = λ h. refl
 first-joined (b ∷ bs) more =
-    elim (eqb b 10) as (λ t. (t || has_newline bs) ≡ false → cond t [] (b ∷ first_line (bs ++ more)) ≡ b ∷ (bs ++ first_line more)) [
+    elim (eqb b 10) as (λ t. (t || has_newline bs) ≡ false → cond t []
+    (b ∷ first_line (bs ++ more)) ≡ b ∷ (bs ++ first_line more)) [
       | true ↦ λ h. absurd (false≢true (sym h))
       | false ↦ λ h. ap (λ (l : List ℕ). b ∷ l) (first-joined bs more h)
     ]
@@ -62,7 +69,8 @@ first-joined (b ∷ bs) more =
 pub after-joined : (bs more : List ℕ) → has_newline bs ≡ false → after_line (bs ++ more) ≡ after_line more
 after-joined [] more = λ h. refl
 after-joined (b ∷ bs) more =
-    elim (eqb b 10) as (λ t. (t || has_newline bs) ≡ false → cond t (bs ++ more) (after_line (bs ++ more)) ≡ after_line more) [
+    elim (eqb b 10) as (λ t. (t || has_newline bs) ≡ false → cond t (bs ++ more)
+    (after_line (bs ++ more)) ≡ after_line more) [
       | true ↦ λ h. absurd (false≢true (sym h))
       | false ↦ λ h. after-joined bs more h
     ]
@@ -81,6 +89,7 @@ after-is bs rest h = after-joined bs (10 ∷ rest) h
 
 pub has-is : (bs rest : List ℕ) → has_newline (bs ++ 10 ∷ rest) ≡ true
 has-is [] rest = refl
-has-is (b ∷ bs) rest = elim (eqb b 10) as (λ t. (t || has_newline (bs ++ 10 ∷ rest)) ≡ true) [ true ↦ refl | false ↦ has-is bs rest ]
+has-is (b ∷ bs) rest = elim (eqb b 10) as (λ t. (t || has_newline (bs ++ 10 ∷ rest)) ≡ true)
+    [ true ↦ refl | false ↦ has-is bs rest ]
 
 pub ruleset fewer = after-le

@@ -1,5 +1,6 @@
 -- Fronts of a line that was scanned.
-use Rattle.std.proofs.Common.{◌≡◌, ℕ, List, [], ◌∷◌, ◌++◌, length, take, drop, Option, Some, None, true, refl, ap, sym, ◌∙◌}
+use Rattle.std.proofs.Common.{◌≡◌, ℕ, List, [], ◌∷◌, ◌++◌, length, take, drop, Option, Some, None, true, refl, ap, sym}
+use Rattle.std.proofs.Common.{◌∙◌}
 use Rattle.std.specs.Prelude.{is_some, nat_eq}
 use Rattle.std.specs.Cmp.Lexicographic.{bytes_decides}
 use Rattle.std.specs.List.{starts_with}
@@ -9,7 +10,9 @@ use Rattle.plumb_msg.specs.declared.scanning.Scan.{Scan}
 use Rattle.plumb_msg.proofs.Attributes.{scan-append}
 
 -- a line goes on from its front
-pub scan_on : (line front more : List ℕ) (s : Scan) (o : Option Scan) → front ++ drop (length front) line ≡ line → scan start front ≡ Some s → more ≡ drop (length front) line → o ≡ scan s more → o ≡ scan start line
+pub scan_on : (line front more : List ℕ) (s : Scan) (o : Option Scan)
+    → front ++ drop (length front) line ≡ line → scan start front ≡ Some s → more ≡ drop (length front) line
+    → o ≡ scan s more → o ≡ scan start line
 scan_on line front more s o parts is e so =
     so ∙ ap (scan s) e
     ∙ sym (ap (λ (k : Option Scan). then_scan k (λ t. scan t (drop (length front) line))) is)
@@ -23,11 +26,14 @@ nothing_scanned = refl
 pub nothing_known : (front : List ℕ) → front ≡ [] → scan start front ≡ Some start
 nothing_known front e = ap (scan start) e ∙ nothing_scanned
 
-pub scan_more_of : (line front more : List ℕ) (s t : Scan) → front ++ drop (length front) line ≡ line → scan start front ≡ Some s → more ≡ drop (length front) line → Some t ≡ scan s more → true ≡ is_some (scan start line)
+pub scan_more_of : (line front more : List ℕ) (s t : Scan) → front ++ drop (length front) line ≡ line → scan start
+    front ≡ Some s → more ≡ drop (length front) line → Some t ≡ scan s more → true ≡ is_some (scan start line)
 scan_more_of line front more s t parts is e so = ap is_some (scan_on line front more s (Some t) parts is e so)
 
-pub scan_grown : (front more : List ℕ) (s t : Scan) → scan start front ≡ Some s → Some t ≡ scan s more → scan start (front ++ more) ≡ Some t
-scan_grown front more s t is so = scan-append start front more ∙ ap (λ (k : Option Scan). then_scan k (λ u. scan u more)) is ∙ sym so
+pub scan_grown : (front more : List ℕ) (s t : Scan) → scan start front ≡ Some s → Some t ≡ scan s more
+    → scan start (front ++ more) ≡ Some t
+scan_grown front more s t is so = scan-append start front more ∙ ap
+    (λ (k : Option Scan). then_scan k (λ u. scan u more)) is ∙ sym so
 
 pub ruleset memos = (scan_on, nothing_scanned, nothing_known, scan_more_of, scan_grown)
 

@@ -1,5 +1,7 @@
 -- Whole messages: reading against the grammar.
-use Rattle.std.proofs.Common.{◌≡◌, ℕ, ◌-◌, ◌<◌, ◌≤◌, Bool, true, false, cond, leb, List, [], ◌∷◌, ◌++◌, length, take, drop, Option, Some, None, Result, Ok, Err, refl, ap, sym, subst, ◌∙◌, append_assoc, arith, length-append, length-drop}
+use Rattle.std.proofs.Common.{◌≡◌, ℕ, ◌-◌, ◌<◌, ◌≤◌, Bool, true, false, cond, leb, List, [], ◌∷◌, ◌++◌, length, take}
+use Rattle.std.proofs.Common.{drop, Option, Some, None, Result, Ok, Err, refl, ap, sym, subst, ◌∙◌, append_assoc, arith}
+use Rattle.std.proofs.Common.{length-append, length-drop}
 use Rattle.std.specs.Prelude.{IfOk, nat_lt}
 use Rattle.std.specs.Fmt.{decimal}
 use Rattle.std.specs.Str.{is_utf8}
@@ -10,7 +12,8 @@ use Rattle.am_text.specs.declared.memory.NoMemory.{NoMemory}
 use Rattle.plumb_msg.specs.Texts.{has_newline, is_line, is_text_front}
 use Rattle.plumb_msg.specs.Attributes.{attrs_of, is_attrs_front}
 use Rattle.plumb_msg.specs.Fields.{◌>>=◌}
-use Rattle.plumb_msg.specs.Reading.{text_of, text_at, attrs_at, count_of, is_count_front, count_at, bytes_at, body_at, msg_at, read_told, read_of}
+use Rattle.plumb_msg.specs.Reading.{text_of, text_at, attrs_at, count_of, is_count_front, count_at, bytes_at, body_at}
+use Rattle.plumb_msg.specs.Reading.{msg_at, read_told, read_of}
 use Rattle.plumb_msg.specs.Spelling.{attrs_text, msg_bytes, msg_text, are_named, can_spell}
 use Rattle.plumb_msg.specs.Grammar.{IsMessage, Begins, IsProperFront}
 use Rattle.plumb_msg.specs.Laws.{ReadAgain, WholeStays, BadStays, WholeIsExact, MoreIsExact, BadIsExact}
@@ -23,7 +26,8 @@ use Rattle.plumb_msg.proofs.Attributes.{written_line}
 use Rattle.plumb_msg.proofs.AttrsLines.{attrs_are_exact}
 use Rattle.plumb_msg.proofs.Counts.{count_kind, count_is, count_again, decimal-clean}
 use Rattle.plumb_msg.proofs.LineKinds.{text_kind, attrs_kind}
-use Rattle.plumb_msg.proofs.Readers.{Read, read_as, refused, read_is, IsReader, reader-done, both, reader-both, reader-bytes, reader-line, line_again, line_is}
+use Rattle.plumb_msg.proofs.Readers.{Read, read_as, refused, read_is, IsReader, reader-done, both, reader-both}
+use Rattle.plumb_msg.proofs.Readers.{reader-bytes, reader-line, line_again, line_is}
 
 -- ---- a message is read by readers, one after another
 
@@ -38,7 +42,15 @@ reader-body = reader-both count_at bytes_at (reader-line count_of is_count_front
 
 -- the message of all its parts
 abbrev message : List ℕ → List ℕ → List ℕ → List ℕ → List Attr → List ℕ → PlumbMsg
-message src dst wdir sort attrs body = record { src = src; dst = dst; wdir = wdir; sort = sort; attrs = attrs; body = body }
+message src dst wdir sort attrs body = record {
+  src = src;
+  dst = dst;
+  wdir = wdir;
+  sort = sort;
+  attrs = attrs;
+  body =
+      body;
+}
 
 abbrev after_attrs : List ℕ → List ℕ → List ℕ → List ℕ → List Attr → List ℕ → Read PlumbMsg
 after_attrs src dst wdir sort attrs = both body_at (λ body rest. read_as (message src dst wdir sort attrs body) rest)
@@ -63,11 +75,13 @@ reader-msg =
     reader-both text_at (after_wdir src dst) reader-text (λ wdir.
     reader-both text_at (after_sort src dst wdir) reader-text (λ sort.
     reader-both attrs_at (after_attrs src dst wdir sort) reader-attrs (λ attrs.
-    reader-both body_at (λ body rest. read_as (message src dst wdir sort attrs body) rest) reader-body (λ body. reader-done (message src dst wdir sort attrs body)))))))
+    reader-both body_at (λ body rest. read_as (message src dst wdir sort attrs body) rest) reader-body
+    (λ body. reader-done (message src dst wdir sort attrs body)))))))
 
 -- ---- what is read is a message
 
-bind_ok : {A B : Type 0} (r : Read A) (f : A × List ℕ → Read B) (y : B × List ℕ) → (r >>= f) ≡ Ok y → (x : A × List ℕ) × (r ≡ Ok x) × (f x ≡ Ok y)
+bind_ok : {A B : Type 0} (r : Read A) (f : A × List ℕ → Read B) (y : B × List ℕ) → (r >>= f) ≡ Ok y → (x : A × List ℕ)
+    × (r ≡ Ok x) × (f x ≡ Ok y)
 bind_ok (Ok x) f y e = (x, refl, e)
 bind_ok (Err d) f y e = absurd cc
 
@@ -87,7 +101,8 @@ text_is : (bs : List ℕ) (x : List ℕ × List ℕ) → text_at bs ≡ Ok x →
 text_is bs x e =
     let l = line_is text_of is_text_front text_kind bs x.0 x.1 e in
     let g = guard_some (is_utf8 l.text) (Some l.text) x.0 l.value in
-    subst (λ (t : List ℕ). IsText bs t x.1) (some_is l.text x.0 g.1) (record { one_line = ap (λ (t : Bool). cond t false (is_utf8 l.text)) l.clean ∙ g.0; parts = l.parts })
+    subst (λ (t : List ℕ). IsText bs t x.1) (some_is l.text x.0 g.1)
+    (record { one_line = ap (λ (t : Bool). cond t false (is_utf8 l.text)) l.clean ∙ g.0; parts = l.parts })
 
 record IsBody (bs body rest : List ℕ) : Type 0 where
   small : length body ≤ 1048576
@@ -95,11 +110,13 @@ record IsBody (bs body rest : List ℕ) : Type 0 where
 
 bytes_is : (n : ℕ) (bs : List ℕ) (x : List ℕ × List ℕ) → bytes_at n bs ≡ Ok x → (length x.0 ≡ n) × (bs ≡ x.0 ++ x.1)
 bytes_is n bs x =
-    elim (nat_lt (length bs) n) as (λ t. nat_lt (length bs) n ≡ t → cond t (refused More) (read_as (take n bs) (drop n bs)) ≡ Ok x → (length x.0 ≡ n) × (bs ≡ x.0 ++ x.1)) [
+    elim (nat_lt (length bs) n) as (λ t. nat_lt (length bs) n ≡ t → cond t (refused More)
+    (read_as (take n bs) (drop n bs)) ≡ Ok x → (length x.0 ≡ n) × (bs ≡ x.0 ++ x.1)) [
       | true ↦ λ t e. absurd cc
       | false ↦ λ t e.
           let long : n ≤ length bs = ltb-false (length bs) n t in
-          subst (λ (y : List ℕ × List ℕ). (length y.0 ≡ n) × (bs ≡ y.0 ++ y.1)) (read_is (take n bs, drop n bs) x e) (omega (arith, long, length-take n bs), sym (take-append-drop n bs))
+          subst (λ (y : List ℕ × List ℕ). (length y.0 ≡ n) × (bs ≡ y.0 ++ y.1)) (read_is (take n bs, drop n bs) x e)
+          (omega (arith, long, length-take n bs), sym (take-append-drop n bs))
     ] refl
 
 body_is : (bs : List ℕ) (x : List ℕ × List ℕ) → body_at bs ≡ Ok x → IsBody bs x.0 x.1
@@ -110,7 +127,8 @@ body_is bs x e =
     let d = bytes_is b.0.0 b.0.1 x b.2 in
     record {
       small = omega (arith, d.0, c.1);
-      parts = l.parts ∙ ap (λ (t : List ℕ). t ++ 10 ∷ b.0.1) (c.0 ∙ ap decimal (sym d.0)) ∙ ap (λ (r : List ℕ). decimal (length x.0) ++ 10 ∷ r) d.1;
+      parts = l.parts ∙ ap (λ (t : List ℕ). t ++ 10 ∷ b.0.1) (c.0 ∙ ap decimal (sym d.0))
+          ∙ ap (λ (r : List ℕ). decimal (length x.0) ++ 10 ∷ r) d.1;
     }
 
 -- the bytes are a message and a rest
@@ -123,7 +141,9 @@ abbrev then_line : List ℕ → List ℕ → List ℕ
 then_line text rest = text ++ 10 ∷ rest
 
 -- the bytes of a message and what follows, line after line
-bytes-lines : (m : PlumbMsg) (attributes rest : List ℕ) → msg_bytes m attributes ++ rest ≡ then_line m.src (then_line m.dst (then_line m.wdir (then_line m.sort (then_line attributes (then_line (decimal (length m.body)) (m.body ++ rest))))))
+bytes-lines : (m : PlumbMsg) (attributes rest : List ℕ) → msg_bytes m attributes
+    ++ rest ≡ then_line m.src (then_line m.dst (then_line m.wdir (then_line m.sort
+    (then_line attributes (then_line (decimal (length m.body)) (m.body ++ rest))))))
 unfolding msg_bytes
 bytes-lines m attributes rest = simp append_assoc refl
 
@@ -147,7 +167,8 @@ msg_spells bs m rest e =
     let attrs_line = (attrs_are_exact attrs.text f.0.0).0 attrs.value in
     let body = body_is f.0.1 g.0 g.1 in
     let made = message a.0.0 b.0.0 c.0.0 d.0.0 f.0.0 g.0.0 in
-    let lines : bs ≡ then_line made.src (then_line made.dst (then_line made.wdir (then_line made.sort (then_line attrs.text (then_line (decimal (length made.body)) (made.body ++ g.0.1)))))) =
+    let lines : bs ≡ then_line made.src (then_line made.dst (then_line made.wdir
+    (then_line made.sort (then_line attrs.text (then_line (decimal (length made.body)) (made.body ++ g.0.1)))))) =
     src.parts
     ∙ ap (λ (l : List ℕ). then_line made.src l) (dst.parts
     ∙ ap (λ (l : List ℕ). then_line made.dst l) (wdir.parts
@@ -185,14 +206,22 @@ text_again text rest h =
     line_again text_of is_text_front text_kind text rest text p.0 (ap (λ (t : Bool). cond t (Some text) None) p.1)
 
 bytes_again : (body rest : List ℕ) → bytes_at (length body) (body ++ rest) ≡ Ok (body, rest)
-bytes_again body rest = rw (le-ltb (length (body ++ rest)) (length body) (omega (arith, length-append body rest)), take_at body rest (length body) refl, drop_at body rest (length body) refl) refl
+bytes_again body rest = rw (
+  le-ltb (length (body ++ rest)) (length body) (omega (arith, length-append body rest)),
+  take_at body rest (length body) refl,
+  drop_at body rest (length body) refl,
+) refl
 
-body_again : (body rest : List ℕ) → length body ≤ 1048576 → body_at (then_line (decimal (length body)) (body ++ rest)) ≡ Ok (body, rest)
+body_again : (body rest : List ℕ) → length body ≤ 1048576 → body_at (then_line (decimal (length body)) (body ++ rest))
+    ≡ Ok (body, rest)
 body_again body rest h =
-    ap (λ (r : Read ℕ). r >>= λ count. bytes_at count.0 count.1) (line_again count_of is_count_front count_kind (decimal (length body)) (body ++ rest) (length body) (decimal-clean (length body) (omega (arith, h))) (count_again (length body) h))
+    ap (λ (r : Read ℕ). r >>= λ count. bytes_at count.0 count.1) (line_again count_of is_count_front count_kind
+    (decimal (length body)) (body ++ rest) (length body) (decimal-clean (length body) (omega (arith, h)))
+    (count_again (length body) h))
     ∙ bytes_again body rest
 
-pub msg_again : (front : List ℕ) (m : PlumbMsg) (rest : List ℕ) → IsMessage front m → msg_at (front ++ rest) ≡ Ok (m, rest)
+pub msg_again : (front : List ℕ) (m : PlumbMsg) (rest : List ℕ) → IsMessage front m
+    → msg_at (front ++ rest) ≡ Ok (m, rest)
 unfolding msg_at
 msg_again front m rest is =
     let l6 = then_line (decimal (length m.body)) (m.body ++ rest) in
@@ -201,21 +230,24 @@ msg_again front m rest is =
     let l3 = then_line m.wdir l4 in
     let l2 = then_line m.dst l3 in
     let attributes = line_parts is.attributes is.one_line in
-    let attrs = line_again attrs_of is_attrs_front attrs_kind is.attributes l6 m.attrs attributes.0 ((attrs_are_exact is.attributes m.attrs).1 (attributes.1, is.attrs)) in
+    let attrs = line_again attrs_of is_attrs_front attrs_kind is.attributes l6 m.attrs attributes.0
+    ((attrs_are_exact is.attributes m.attrs).1 (attributes.1, is.attrs)) in
     ap msg_at (ap (λ (l : List ℕ). l ++ rest) is.spelled ∙ bytes-lines m is.attributes rest)
     ∙ ap (λ (r : Read (List ℕ)). r >>= λ x. after_src x.0 x.1) (text_again m.src l2 is.src)
     ∙ ap (λ (r : Read (List ℕ)). r >>= λ x. after_dst m.src x.0 x.1) (text_again m.dst l3 is.dst)
     ∙ ap (λ (r : Read (List ℕ)). r >>= λ x. after_wdir m.src m.dst x.0 x.1) (text_again m.wdir l4 is.wdir)
     ∙ ap (λ (r : Read (List ℕ)). r >>= λ x. after_sort m.src m.dst m.wdir x.0 x.1) (text_again m.sort l5 is.sort)
     ∙ ap (λ (r : Read (List Attr)). r >>= λ x. after_attrs m.src m.dst m.wdir m.sort x.0 x.1) attrs
-    ∙ ap (λ (r : Read (List ℕ)). r >>= λ x. read_as (message m.src m.dst m.wdir m.sort m.attrs x.0) x.1) (body_again m.body rest is.small)
+    ∙ ap (λ (r : Read (List ℕ)). r >>= λ x. read_as (message m.src m.dst m.wdir m.sort m.attrs x.0) x.1)
+    (body_again m.body rest is.small)
 
 -- ---- the three answers
 
 whole_is : (m n : PlumbMsg) (k l : ℕ) → told.Whole m k ≡ told.Whole n l → (m ≡ n) × (k ≡ l)
 whole_is m n k l e = (cc, cc)
 
-told_whole : (bs : List ℕ) (m : PlumbMsg) (used : ℕ) (r : Read PlumbMsg) → read_told bs r ≡ told.Whole m used → (rest : List ℕ) × (r ≡ Ok (m, rest)) × (used ≡ length bs - length rest)
+told_whole : (bs : List ℕ) (m : PlumbMsg) (used : ℕ) (r : Read PlumbMsg) → read_told bs r ≡ told.Whole m used
+    → (rest : List ℕ) × (r ≡ Ok (m, rest)) × (used ≡ length bs - length rest)
 told_whole bs m used (Ok x) e =
     let w = whole_is x.0 m (length bs - length x.1) used e in
     (x.1, ap (λ (n : PlumbMsg). read_as n x.1) w.0, sym w.1)
@@ -259,14 +291,16 @@ read_again m rest h =
       small = leb-true (length m.body) 1048576 p.1;
       spelled = refl;
     } in
-    let used : length (msg_text m ++ rest) - length rest ≡ length (msg_text m) = omega (arith, length-append (msg_text m) rest) in
+    let used : length (msg_text m ++ rest) - length rest ≡ length (msg_text m) =
+    omega (arith, length-append (msg_text m) rest) in
     ap (read_told (msg_text m ++ rest)) (msg_again (msg_text m) m rest is) ∙ ap (told.Whole m) used
 
 pub whole_stays : WholeStays
 whole_stays bs more m used e =
     let r = told_whole bs m used (msg_at bs) e in
     let inside = reader-msg.inside bs m r.0 r.1 in
-    let same : length (bs ++ more) - length (r.0 ++ more) ≡ used = omega (arith, inside, r.2, length-append bs more, length-append r.0 more) in
+    let same : length (bs ++ more) - length (r.0 ++ more) ≡ used =
+    omega (arith, inside, r.2, length-append bs more, length-append r.0 more) in
     ap (read_told (bs ++ more)) (reader-msg.whole bs more m r.0 r.1) ∙ ap (told.Whole m) same
 
 pub bad_stays : BadStays
@@ -278,8 +312,13 @@ begins_from bs m used e =
     let s = msg_spells bs m r.0 r.1 in
     let len = ap (λ (l : List ℕ). length l) s.parts in
     let is : used ≡ length s.front = omega (arith, len, r.2, length-append s.front r.0) in
-    let taken : take used bs ≡ s.front = ap (λ (k : ℕ). take k bs) is ∙ ap (λ (l : List ℕ). take (length s.front) l) s.parts ∙ take-append_seam s.front r.0 in
-    record { inside = omega (arith, is, len, length-append s.front r.0); message = subst (λ (l : List ℕ). IsMessage l m) (sym taken) s.message }
+    let taken : take used bs ≡ s.front = ap (λ (k : ℕ). take k bs) is
+    ∙ ap (λ (l : List ℕ). take (length s.front) l) s.parts ∙ take-append_seam s.front r.0 in
+    record {
+      inside = omega (arith, is, len, length-append s.front r.0);
+      message = subst (λ (l : List ℕ). IsMessage l m)
+          (sym taken) s.message;
+    }
 
 begins_to : (bs : List ℕ) (m : PlumbMsg) (used : ℕ) → Begins bs m used → msg_at bs ≡ Ok (m, drop used bs)
 begins_to bs m used b = ap msg_at (sym (take-append-drop used bs)) ∙ msg_again (take used bs) m (drop used bs) b.message
@@ -310,11 +349,14 @@ front_from bs e =
 
 -- bytes that go on to a message aren't bad, and no message ends before it
 not_bad : (bs more : List ℕ) (m : PlumbMsg) → IsMessage (bs ++ more) m → msg_at bs ≡ Err Bad → ⊥
-not_bad bs more m is e = not_both (msg_at (bs ++ more)) m [] Bad (message_whole (bs ++ more) m is) (reader-msg.bad bs more e)
+not_bad bs more m is e = not_both (msg_at (bs ++ more)) m [] Bad (message_whole (bs ++ more) m is)
+    (reader-msg.bad bs more e)
 
-not_whole : (bs more : List ℕ) (m n : PlumbMsg) (rest : List ℕ) → 0 < length more → IsMessage (bs ++ more) m → msg_at bs ≡ Ok (n, rest) → ⊥
+not_whole : (bs more : List ℕ) (m n : PlumbMsg) (rest : List ℕ) → 0 < length more → IsMessage (bs ++ more) m
+    → msg_at bs ≡ Ok (n, rest) → ⊥
 not_whole bs more m n rest some is e =
-    let same : ◌≡◌ {A = PlumbMsg × List ℕ} (m, []) (n, rest ++ more) = read_is (m, []) (n, rest ++ more) (sym (message_whole (bs ++ more) m is) ∙ reader-msg.whole bs more n rest e) in
+    let same : ◌≡◌ {A = PlumbMsg × List ℕ} (m, []) (n, rest ++ more) = read_is (m, []) (n, rest ++ more)
+    (sym (message_whole (bs ++ more) m is) ∙ reader-msg.whole bs more n rest e) in
     omega (arith, some, length-append rest more, ap (λ (y : PlumbMsg × List ℕ). length y.1) same)
 
 more_to : (bs : List ℕ) → IsProperFront bs → msg_at bs ≡ Err More
@@ -328,19 +370,23 @@ more_to bs f = of (msg_at bs) refl
 pub more_is_exact : MoreIsExact
 more_is_exact bs = (λ e. front_from bs (told_more bs (msg_at bs) e), λ f. ap (read_told bs) (more_to bs f))
 
-bad_to : (bs : List ℕ) → ((m : PlumbMsg) (used : ℕ) → Begins bs m used → ⊥) → ((more : List ℕ) (m : PlumbMsg) → IsMessage (bs ++ more) m → ⊥) → msg_at bs ≡ Err Bad
+bad_to : (bs : List ℕ) → ((m : PlumbMsg) (used : ℕ) → Begins bs m used → ⊥)
+    → ((more : List ℕ) (m : PlumbMsg) → IsMessage (bs ++ more) m → ⊥) → msg_at bs ≡ Err Bad
 bad_to bs none never = of (msg_at bs) refl
   where
     of : (r : Read PlumbMsg) → msg_at bs ≡ r → r ≡ Err Bad
-    of (Ok x) e = absurd (none x.0 (length bs - length x.1) (begins_from bs x.0 (length bs - length x.1) (ap (read_told bs) e)))
+    of (Ok x) e = absurd (none x.0 (length bs - length x.1) (begins_from bs x.0 (length bs - length x.1)
+        (ap (read_told bs) e)))
     of (Err More) e = let f = front_from bs e in absurd (never f.more f.m f.message)
     of (Err Bad) e = refl
 
 pub bad_is_exact : BadIsExact
 bad_is_exact bs = (
   λ e.
-      let bad = told_bad bs (msg_at bs) e in
-      (λ m used b. not_both (msg_at bs) m (drop used bs) Bad (begins_to bs m used b) bad, λ more m is. not_bad bs more m is bad),
+      let bad = told_bad bs (msg_at bs) e in (
+        λ m used b. not_both (msg_at bs) m (drop used bs) Bad (begins_to bs m used b) bad,
+        λ more m is. not_bad bs more m is bad,
+      ),
   λ h. ap (read_told bs) (bad_to bs h.0 h.1),
 )
 
@@ -349,6 +395,9 @@ bad_is_exact bs = (
 pub msg_inside : (bs : List ℕ) (m : PlumbMsg) (rest : List ℕ) → msg_at bs ≡ Ok (m, rest) → length rest ≤ length bs
 msg_inside bs m rest e = reader-msg.inside bs m rest e
 
-pub written_again : (m : PlumbMsg) (r : Result (List ℕ) NoMemory) → can_spell m ≡ true → IfOk r (λ bytes. bytes ≡ msg_text m) → IfOk r (λ bytes. (rest : List ℕ) → read_of (bytes ++ rest) ≡ told.Whole m (length bytes))
-written_again m (Ok bytes) h e = λ rest. ap (λ (l : List ℕ). read_of (l ++ rest)) e ∙ read_again m rest h ∙ ap (λ (l : List ℕ). told.Whole m (length l)) (sym e)
+pub written_again : (m : PlumbMsg) (r : Result (List ℕ) NoMemory) → can_spell m ≡ true → IfOk r
+    (λ bytes. bytes ≡ msg_text m) → IfOk r (λ bytes. (rest : List ℕ)
+    → read_of (bytes ++ rest) ≡ told.Whole m (length bytes))
+written_again m (Ok bytes) h e = λ rest. ap (λ (l : List ℕ). read_of (l ++ rest)) e ∙ read_again m rest h
+    ∙ ap (λ (l : List ℕ). told.Whole m (length l)) (sym e)
 written_again m (Err n) h e = tt

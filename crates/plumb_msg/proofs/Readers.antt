@@ -1,15 +1,19 @@
 -- Readers whose answers stay as bytes are added, and that can always go on.
-use Rattle.std.proofs.Common.{◌≡◌, ℕ, ◌-◌, ◌<◌, ◌≤◌, Bool, true, false, cond, ◌||◌, List, [], ◌∷◌, ◌++◌, length, take, drop, Option, Some, None, Result, Ok, Err, refl, ap, sym, subst, ◌∙◌, append_assoc, arith, length-append, length-drop}
+use Rattle.std.proofs.Common.{◌≡◌, ℕ, ◌-◌, ◌<◌, ◌≤◌, Bool, true, false, cond, ◌||◌, List, [], ◌∷◌, ◌++◌, length, take}
+use Rattle.std.proofs.Common.{drop, Option, Some, None, Result, Ok, Err, refl, ap, sym, subst, ◌∙◌, append_assoc, arith}
+use Rattle.std.proofs.Common.{length-append, length-drop}
 use Rattle.std.specs.Prelude.{nat_lt, replicate}
 use Rattle.std.proofs.lemmas.Bool.{false≢true, ltb-false, ltb-true, le-ltb}
-use Rattle.std.proofs.lemmas.List.{nil_from_length, take-append-le, drop-append-le, take_all, drop_all, length-replicate}
+use Rattle.std.proofs.lemmas.List.{nil_from_length, take-append-le, drop-append-le, take_all, drop_all}
+use Rattle.std.proofs.lemmas.List.{length-replicate}
 use Rattle.am_text.specs.Lines.{first_line, after_line}
 use Rattle.plumb_msg.specs.Texts.{has_newline}
 use Rattle.plumb_msg.specs.Fields.{◌>>=◌, unfinished, line_told, line_at}
 use Rattle.plumb_msg.specs.Reading.{bytes_at}
 use Rattle.plumb_msg.specs.declared.unread.Unread.{Unread}
 use Rattle.plumb_msg.specs.declared.unread.Unread.TheVariants.{More, Bad}
-use Rattle.plumb_msg.proofs.Lines.{newline-split, first-clean, first-append, after-append, after-le, has-append, first-joined, has-is, first-is, after-is}
+use Rattle.plumb_msg.proofs.Lines.{newline-split, first-clean, first-append, after-append, after-le, has-append}
+use Rattle.plumb_msg.proofs.Lines.{first-joined, has-is, first-is, after-is}
 
 abbrev pub Read : Type 0 → Type 0
 Read A = Result (A × List ℕ) Unread
@@ -27,7 +31,8 @@ pub record GoesOn {A : Type 0} (read : List ℕ → Read A) (bs : List ℕ) : Ty
   pub reads : read (bs ++ more) ≡ Ok (value, [])
 
 pub record IsReader {A : Type 0} (read : List ℕ → Read A) : Type 0 where
-  pub whole : (bs more : List ℕ) (a : A) (rest : List ℕ) → read bs ≡ Ok (a, rest) → read (bs ++ more) ≡ Ok (a, rest ++ more)
+  pub whole : (bs more : List ℕ) (a : A) (rest : List ℕ) → read bs ≡ Ok (a, rest)
+      → read (bs ++ more) ≡ Ok (a, rest ++ more)
   pub bad : (bs more : List ℕ) → read bs ≡ Err Bad → read (bs ++ more) ≡ Err Bad
   pub inside : (bs : List ℕ) (a : A) (rest : List ℕ) → read bs ≡ Ok (a, rest) → length rest ≤ length bs
   pub not_bad : read [] ≡ Err Bad → ⊥
@@ -46,9 +51,11 @@ read_is x y e = ok_is x y e
 
 pub reader-done : {A : Type 0} (a : A) → IsReader (λ bs. read_as a bs)
 reader-done {A} a = record {
-  whole = λ bs more b rest e. let same = read_is (a, bs) (b, rest) e in ap (λ (x : A × List ℕ). read_as x.0 (x.1 ++ more)) same;
+  whole = λ bs more b rest e. let same = read_is (a, bs) (b, rest) e in
+      ap (λ (x : A × List ℕ). read_as x.0 (x.1 ++ more)) same;
   bad = λ bs more e. absurd cc;
-  inside = λ bs b rest e. let same = read_is (a, bs) (b, rest) e in let len : length bs ≡ length rest = ap (λ (x : A × List ℕ). length x.1) same in omega (arith, len);
+  inside = λ bs b rest e. let same = read_is (a, bs) (b, rest) e in
+      let len : length bs ≡ length rest = ap (λ (x : A × List ℕ). length x.1) same in omega (arith, len);
   not_bad = λ e. absurd cc;
   goes_on = λ bs e. absurd cc;
 }
@@ -63,18 +70,23 @@ module _ {A B : Type 0} (first : List ℕ → Read A) (then : A → List ℕ →
   after r = r >>= λ x. then x.0 x.1
 
   module _ (p : IsReader first) (q : (a : A) → IsReader (then a)) where
-    both-whole : (bs more : List ℕ) (b : B) (rest : List ℕ) → both bs ≡ Ok (b, rest) → both (bs ++ more) ≡ Ok (b, rest ++ more)
+    both-whole : (bs more : List ℕ) (b : B) (rest : List ℕ) → both bs ≡ Ok (b, rest)
+        → both (bs ++ more) ≡ Ok (b, rest ++ more)
     both-whole bs more b rest =
-        elim (first bs) as (λ r. first bs ≡ r → (r >>= λ x. then x.0 x.1) ≡ Ok (b, rest) → both (bs ++ more) ≡ Ok (b, rest ++ more)) [
-          | Ok x ↦ λ is e. ap (λ (r : Read A). r >>= λ x. then x.0 x.1) (p.whole bs more x.0 x.1 is) ∙ (q x.0).whole x.1 more b rest e
+        elim (first bs) as (λ r. first bs ≡ r → (r >>= λ x. then x.0 x.1) ≡ Ok (b, rest)
+        → both (bs ++ more) ≡ Ok (b, rest ++ more)) [
+          | Ok x ↦ λ is e. ap (λ (r : Read A). r >>= λ x. then x.0 x.1) (p.whole bs more x.0 x.1 is)
+              ∙ (q x.0).whole x.1 more b rest e
           | Err u ↦ λ is e. absurd cc
         ] refl
 
     both-bad : (bs more : List ℕ) → both bs ≡ Err Bad → both (bs ++ more) ≡ Err Bad
     both-bad bs more =
         elim (first bs) as (λ r. first bs ≡ r → (r >>= λ x. then x.0 x.1) ≡ Err Bad → both (bs ++ more) ≡ Err Bad) [
-          | Ok x ↦ λ is e. ap (λ (r : Read A). r >>= λ x. then x.0 x.1) (p.whole bs more x.0 x.1 is) ∙ (q x.0).bad x.1 more e
-          | Err u ↦ λ is e. let u-is : refused {A = A} u ≡ Err Bad = ap refused (unread_is u e) in ap (λ (r : Read A). r >>= λ x. then x.0 x.1) (p.bad bs more (is ∙ u-is))
+          | Ok x ↦ λ is e. ap (λ (r : Read A). r >>= λ x. then x.0 x.1) (p.whole bs more x.0 x.1 is)
+              ∙ (q x.0).bad x.1 more e
+          | Err u ↦ λ is e. let u-is : refused {A = A} u ≡ Err Bad = ap refused (unread_is u e) in
+              ap (λ (r : Read A). r >>= λ x. then x.0 x.1) (p.bad bs more (is ∙ u-is))
         ] refl
       where
         unread_is : (u : Unread) → refused {A = B} u ≡ Err Bad → u ≡ Bad
@@ -90,7 +102,8 @@ module _ {A B : Type 0} (first : List ℕ → Read A) (then : A → List ℕ →
     both-not_bad : both [] ≡ Err Bad → ⊥
     both-not_bad =
         elim (first []) as (λ r. first [] ≡ r → (r >>= λ x. then x.0 x.1) ≡ Err Bad → ⊥) [
-          | Ok x ↦ λ is e. (q x.0).not_bad (subst (λ (l : List ℕ). then x.0 l ≡ Err Bad) (nil_from_length x.1 (omega (arith, p.inside [] x.0 x.1 is))) e)
+          | Ok x ↦ λ is e. (q x.0).not_bad (subst (λ (l : List ℕ). then x.0 l ≡ Err Bad)
+              (nil_from_length x.1 (omega (arith, p.inside [] x.0 x.1 is))) e)
           | Err u ↦ λ is e. p.not_bad (is ∙ ap refused (unread_is u e))
         ] refl
       where
@@ -103,7 +116,12 @@ module _ {A B : Type 0} (first : List ℕ → Read A) (then : A → List ℕ →
         elim (then a []) as (λ r. then a [] ≡ r → GoesOn both bs) [
           | Ok y ↦ λ e.
               let nothing : y.1 ≡ [] = nil_from_length y.1 (omega (arith, (q a).inside [] y.0 y.1 e)) in
-              record { more = more; value = y.0; reads = ap (λ (r : Read A). r >>= λ x. then x.0 x.1) is ∙ e ∙ ap (read_as y.0) nothing }
+              record {
+                more = more;
+                value = y.0;
+                reads = ap (λ (r : Read A). r >>= λ x. then x.0 x.1) is
+                    ∙ e ∙ ap (read_as y.0) nothing;
+              }
           | Err u ↦ λ e. later u e
         ] refl
       where
@@ -125,7 +143,12 @@ module _ {A B : Type 0} (first : List ℕ → Read A) (then : A → List ℕ →
         elim (first bs) as (λ r. first bs ≡ r → (r >>= λ x. then x.0 x.1) ≡ Err More → GoesOn both bs) [
           | Ok x ↦ λ is e.
               let g = (q x.0).goes_on x.1 e in
-              record { more = g.more; value = g.value; reads = ap (λ (r : Read A). r >>= λ x. then x.0 x.1) (p.whole bs g.more x.0 x.1 is) ∙ g.reads }
+              record {
+                more = g.more;
+                value = g.value;
+                reads = ap (λ (r : Read A). r >>= λ x. then x.0 x.1)
+                    (p.whole bs g.more x.0 x.1 is) ∙ g.reads;
+              }
           | Err u ↦ λ is e.
               let g = p.goes_on bs (is ∙ ap refused (unread_is u e)) in
               from_first bs g.more g.value g.reads
@@ -135,19 +158,32 @@ module _ {A B : Type 0} (first : List ℕ → Read A) (then : A → List ℕ →
         unread_is u e = cc
 
     pub reader-both : IsReader both
-    reader-both = record { whole = both-whole; bad = both-bad; inside = both-inside; not_bad = both-not_bad; goes_on = both-goes_on }
+    reader-both = record {
+      whole = both-whole;
+      bad = both-bad;
+      inside = both-inside;
+      not_bad = both-not_bad;
+      goes_on =
+          both-goes_on;
+    }
 
 -- ---- so many bytes
 
 module _ (n : ℕ) where
-  bytes-whole : (bs more : List ℕ) (a rest : List ℕ) → bytes_at n bs ≡ Ok (a, rest) → bytes_at n (bs ++ more) ≡ Ok (a, rest ++ more)
+  bytes-whole : (bs more : List ℕ) (a rest : List ℕ) → bytes_at n bs ≡ Ok (a, rest)
+      → bytes_at n (bs ++ more) ≡ Ok (a, rest ++ more)
   bytes-whole bs more a rest =
-      elim (nat_lt (length bs) n) as (λ t. nat_lt (length bs) n ≡ t → cond t (refused More) (read_as (take n bs) (drop n bs)) ≡ Ok (a, rest) → bytes_at n (bs ++ more) ≡ Ok (a, rest ++ more)) [
+      elim (nat_lt (length bs) n) as (λ t. nat_lt (length bs) n ≡ t → cond t (refused More)
+      (read_as (take n bs) (drop n bs)) ≡ Ok (a, rest) → bytes_at n (bs ++ more) ≡ Ok (a, rest ++ more)) [
         | true ↦ λ t e. absurd cc
         | false ↦ λ t e.
             let long : n ≤ length bs = ltb-false (length bs) n t in
             let same = read_is (take n bs, drop n bs) (a, rest) e in
-            rw (le-ltb (length (bs ++ more)) n (omega (arith, length-append bs more)), take-append-le n bs more long, drop-append-le n bs more long)
+            rw (
+              le-ltb (length (bs ++ more)) n (omega (arith, length-append bs more)),
+              take-append-le n bs more long,
+              drop-append-le n bs more long,
+            )
             (ap (λ (x : List ℕ × List ℕ). read_as x.0 (x.1 ++ more)) same)
       ] refl
 
@@ -163,7 +199,8 @@ module _ (n : ℕ) where
 
   bytes-inside : (bs a rest : List ℕ) → bytes_at n bs ≡ Ok (a, rest) → length rest ≤ length bs
   bytes-inside bs a rest =
-      elim (nat_lt (length bs) n) as (λ t. cond t (refused More) (read_as (take n bs) (drop n bs)) ≡ Ok (a, rest) → length rest ≤ length bs) [
+      elim (nat_lt (length bs) n) as (λ t. cond t (refused More) (read_as (take n bs) (drop n bs)) ≡ Ok (a, rest)
+      → length rest ≤ length bs) [
         | true ↦ λ e. absurd cc
         | false ↦ λ e.
             let same = read_is (take n bs, drop n bs) (a, rest) e in
@@ -173,21 +210,36 @@ module _ (n : ℕ) where
 
   bytes-goes_on : (bs : List ℕ) → bytes_at n bs ≡ Err More → GoesOn (bytes_at n) bs
   bytes-goes_on bs =
-      elim (nat_lt (length bs) n) as (λ t. nat_lt (length bs) n ≡ t → cond t (refused More) (read_as (take n bs) (drop n bs)) ≡ Err More → GoesOn (bytes_at n) bs) [
+      elim (nat_lt (length bs) n) as (λ t. nat_lt (length bs) n ≡ t → cond t (refused More)
+      (read_as (take n bs) (drop n bs)) ≡ Err More → GoesOn (bytes_at n) bs) [
         | true ↦ λ t e.
             let short : length bs < n = ltb-true (length bs) n t in
             let more = replicate (n - length bs) 0 in
-            let len : length (bs ++ more) ≡ n = omega (arith, length-append bs more, length-replicate {A = ℕ} (n - length bs) 0) in
+            let len : length (bs ++ more) ≡ n = omega (
+              arith,
+              length-append bs more,
+              length-replicate {A = ℕ} (n - length bs) 0,
+            ) in
             record {
               more = more;
               value = bs ++ more;
-              reads = rw (le-ltb (length (bs ++ more)) n (omega (arith, len)), take_all n (bs ++ more) (omega (arith, len)), drop_all n (bs ++ more) (omega (arith, len))) refl;
+              reads = rw (
+                le-ltb (length (bs ++ more)) n (omega (arith, len)),
+                take_all n (bs ++ more) (omega (arith, len)),
+                drop_all n (bs ++ more) (omega (arith, len)),
+              ) refl;
             }
         | false ↦ λ t e. absurd cc
       ] refl
 
   pub reader-bytes : IsReader (bytes_at n)
-  reader-bytes = record { whole = bytes-whole; bad = λ bs more e. absurd (bytes-bad bs e); inside = bytes-inside; not_bad = bytes-bad []; goes_on = bytes-goes_on }
+  reader-bytes = record {
+    whole = bytes-whole;
+    bad = λ bs more e. absurd (bytes-bad bs e);
+    inside = bytes-inside;
+    not_bad = bytes-bad [];
+    goes_on = bytes-goes_on;
+  }
 
 -- ---- a line
 
@@ -211,9 +263,11 @@ module _ {A : Type 0} (value_of : List ℕ → Option A) (begun : List ℕ → B
   told_by t bs = cond t (line_told (value_of (first_line bs)) (after_line bs)) (Err (unfinished (begun bs)))
 
   -- a line that is told stays so
-  told_more : (o : Option A) (rest more : List ℕ) (a : A) (left : List ℕ) → line_told o rest ≡ Ok (a, left) → line_told o (rest ++ more) ≡ Ok (a, left ++ more)
+  told_more : (o : Option A) (rest more : List ℕ) (a : A) (left : List ℕ) → line_told o rest ≡ Ok (a, left)
+      → line_told o (rest ++ more) ≡ Ok (a, left ++ more)
   told_more None rest more a left = λ e. absurd cc
-  told_more (Some b) rest more a left = λ e. ap (λ (x : A × List ℕ). read_as x.0 (x.1 ++ more)) (read_is (b, rest) (a, left) e)
+  told_more (Some b) rest more a left = λ e. ap (λ (x : A × List ℕ). read_as x.0 (x.1 ++ more))
+      (read_is (b, rest) (a, left) e)
 
   told_bad : (o : Option A) (rest more : List ℕ) → line_told o rest ≡ Err Bad → line_told o (rest ++ more) ≡ Err Bad
   told_bad None rest more = λ e. refl
@@ -255,15 +309,18 @@ module _ {A : Type 0} (value_of : List ℕ → Option A) (begun : List ℕ → B
   without : (bs : List ℕ) → has_newline bs ≡ false → reads bs ≡ Err (unfinished (begun bs))
   without bs h = ap (λ (t : Bool). told_by t bs) h
 
-  more_newline : (bs more : List ℕ) → has_newline bs ≡ true → reads (bs ++ more) ≡ line_told (value_of (first_line bs)) (after_line bs ++ more)
+  more_newline : (bs more : List ℕ) → has_newline bs ≡ true → reads (bs ++ more) ≡ line_told (value_of (first_line bs))
+      (after_line bs ++ more)
   more_newline bs more h =
       at_newline (bs ++ more) (has-append bs more ∙ ap (λ (t : Bool). t || has_newline more) h)
       ∙ ap (λ (l : List ℕ). line_told (value_of l) (after_line (bs ++ more))) (first-append bs more h)
       ∙ ap (line_told (value_of (first_line bs))) (after-append bs more h)
 
-  line-whole : (bs more : List ℕ) (a : A) (rest : List ℕ) → reads bs ≡ Ok (a, rest) → reads (bs ++ more) ≡ Ok (a, rest ++ more)
+  line-whole : (bs more : List ℕ) (a : A) (rest : List ℕ) → reads bs ≡ Ok (a, rest)
+      → reads (bs ++ more) ≡ Ok (a, rest ++ more)
   line-whole bs more a rest =
-      elim (has_newline bs) as (λ t. has_newline bs ≡ t → told_by t bs ≡ Ok (a, rest) → reads (bs ++ more) ≡ Ok (a, rest ++ more)) [
+      elim (has_newline bs) as (λ t. has_newline bs ≡ t → told_by t bs ≡ Ok (a, rest)
+      → reads (bs ++ more) ≡ Ok (a, rest ++ more)) [
         | true ↦ λ t e. more_newline bs more t ∙ told_more (value_of (first_line bs)) (after_line bs) more a rest e
         | false ↦ λ t e. absurd cc
       ] refl
@@ -275,9 +332,11 @@ module _ {A : Type 0} (value_of : List ℕ → Option A) (begun : List ℕ → B
         | true ↦ λ t.
             at_newline (bs ++ more) (has-append bs more ∙ ap (λ (u : Bool). u || has_newline more) clean ∙ t)
             ∙ ap (λ (l : List ℕ). line_told (value_of l) (after_line (bs ++ more))) (first-joined bs more clean)
-            ∙ told_none (value_of (bs ++ first_line more)) (after_line (bs ++ more)) (λ a e. false≢true (sym none ∙ kind.down bs (first_line more) a e))
+            ∙ told_none (value_of (bs ++ first_line more)) (after_line (bs ++ more))
+            (λ a e. false≢true (sym none ∙ kind.down bs (first_line more) a e))
         | false ↦ λ t.
-            let whole_clean : has_newline (bs ++ more) ≡ false = has-append bs more ∙ ap (λ (u : Bool). u || has_newline more) clean ∙ t in
+            let whole_clean : has_newline (bs ++ more) ≡ false = has-append bs more
+            ∙ ap (λ (u : Bool). u || has_newline more) clean ∙ t in
             without (bs ++ more) whole_clean ∙ ap (λ (b : Bool). refused (unfinished b)) (not_begun whole_clean)
       ] refl
     where
@@ -286,7 +345,8 @@ module _ {A : Type 0} (value_of : List ℕ → Option A) (begun : List ℕ → B
           elim (begun (bs ++ more)) as (λ t. begun (bs ++ more) ≡ t → t ≡ false) [
             | true ↦ λ t.
                 let c = kind.up (bs ++ more) clean_all t in
-                absurd (false≢true (sym none ∙ kind.down bs (more ++ c.more) c.value (ap value_of (sym (append_assoc bs more c.more)) ∙ c.reads)))
+                absurd (false≢true (sym none ∙ kind.down bs (more ++ c.more) c.value
+                (ap value_of (sym (append_assoc bs more c.more)) ∙ c.reads)))
             | false ↦ λ t. refl
           ] refl
 
@@ -300,7 +360,12 @@ module _ {A : Type 0} (value_of : List ℕ → Option A) (begun : List ℕ → B
   line-inside : (bs : List ℕ) (a : A) (rest : List ℕ) → reads bs ≡ Ok (a, rest) → length rest ≤ length bs
   line-inside bs a rest =
       elim (has_newline bs) as (λ t. told_by t bs ≡ Ok (a, rest) → length rest ≤ length bs) [
-        | true ↦ λ e. omega (arith, after-le bs, ap (λ (l : List ℕ). length l) (told_rest (value_of (first_line bs)) (after_line bs) a rest e))
+        | true ↦ λ e. omega (
+          arith,
+          after-le bs,
+          ap (λ (l : List ℕ). length l)
+              (told_rest (value_of (first_line bs)) (after_line bs) a rest e),
+        )
         | false ↦ λ e. absurd cc
       ]
 
@@ -308,7 +373,8 @@ module _ {A : Type 0} (value_of : List ℕ → Option A) (begun : List ℕ → B
   line-not_bad e = false≢true (sym (unfinished_bad (begun []) e) ∙ kind.empty)
 
   -- a whole line
-  pub line_again : (text rest : List ℕ) (a : A) → has_newline text ≡ false → value_of text ≡ Some a → reads (text ++ 10 ∷ rest) ≡ Ok (a, rest)
+  pub line_again : (text rest : List ℕ) (a : A) → has_newline text ≡ false → value_of text ≡ Some a
+      → reads (text ++ 10 ∷ rest) ≡ Ok (a, rest)
   line_again text rest a clean is =
       at_newline (text ++ 10 ∷ rest) (has-is text rest)
       ∙ ap (λ (l : List ℕ). line_told (value_of l) (after_line (text ++ 10 ∷ rest))) (first-is text rest clean)
@@ -321,16 +387,25 @@ module _ {A : Type 0} (value_of : List ℕ → Option A) (begun : List ℕ → B
         | true ↦ λ t e. absurd (told_not_more (value_of (first_line bs)) (after_line bs) e)
         | false ↦ λ t e.
             let c = kind.up bs t (unfinished_more (begun bs) e) in
-            let clean : has_newline (bs ++ c.more) ≡ false = has-append bs c.more ∙ ap (λ (u : Bool). u || has_newline c.more) t ∙ c.clean in
+            let clean : has_newline (bs ++ c.more) ≡ false = has-append bs c.more
+            ∙ ap (λ (u : Bool). u || has_newline c.more) t ∙ c.clean in
             record {
               more = c.more ++ 10 ∷ [];
               value = c.value;
-              reads = ap reads (sym (append_assoc bs c.more (10 ∷ []))) ∙ line_again (bs ++ c.more) [] c.value clean c.reads;
+              reads = ap reads (sym (append_assoc bs c.more (10 ∷ [])))
+                  ∙ line_again (bs ++ c.more) [] c.value clean c.reads;
             }
       ] refl
 
   pub reader-line : IsReader reads
-  reader-line = record { whole = line-whole; bad = line-bad; inside = line-inside; not_bad = line-not_bad; goes_on = line-goes_on }
+  reader-line = record {
+    whole = line-whole;
+    bad = line-bad;
+    inside = line-inside;
+    not_bad = line-not_bad;
+    goes_on =
+        line-goes_on;
+  }
 
   -- what is told of a whole line
   pub record IsLine (bs : List ℕ) (a : A) (rest : List ℕ) : Type 0 where
@@ -339,15 +414,23 @@ module _ {A : Type 0} (value_of : List ℕ → Option A) (begun : List ℕ → B
     pub value : value_of text ≡ Some a
     pub parts : bs ≡ text ++ 10 ∷ rest
 
-  line_told_is : (o : Option A) (left : List ℕ) (a : A) (rest : List ℕ) → line_told o left ≡ Ok (a, rest) → (o ≡ Some a) × (left ≡ rest)
+  line_told_is : (o : Option A) (left : List ℕ) (a : A) (rest : List ℕ) → line_told o left ≡ Ok (a, rest) → (o ≡ Some a)
+      × (left ≡ rest)
   line_told_is None left a rest = λ e. absurd cc
-  line_told_is (Some b) left a rest = λ e. let same = read_is (b, left) (a, rest) e in (ap (λ (x : A × List ℕ). Some x.0) same, ap (λ (x : A × List ℕ). x.1) same)
+  line_told_is (Some b) left a rest = λ e. let same = read_is (b, left) (a, rest) e in
+      (ap (λ (x : A × List ℕ). Some x.0) same, ap (λ (x : A × List ℕ). x.1) same)
 
   pub line_is : (bs : List ℕ) (a : A) (rest : List ℕ) → reads bs ≡ Ok (a, rest) → IsLine bs a rest
   line_is bs a rest =
       elim (has_newline bs) as (λ t. has_newline bs ≡ t → told_by t bs ≡ Ok (a, rest) → IsLine bs a rest) [
         | true ↦ λ t e.
             let told = line_told_is (value_of (first_line bs)) (after_line bs) a rest e in
-            record { text = first_line bs; clean = first-clean bs; value = told.0; parts = newline-split bs t ∙ ap (λ (l : List ℕ). first_line bs ++ 10 ∷ l) told.1 }
+            record {
+              text = first_line bs;
+              clean = first-clean bs;
+              value = told.0;
+              parts = newline-split bs t
+                  ∙ ap (λ (l : List ℕ). first_line bs ++ 10 ∷ l) told.1;
+            }
         | false ↦ λ t e. absurd cc
       ] refl

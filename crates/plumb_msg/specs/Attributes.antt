@@ -1,6 +1,7 @@
--- Attributes in one line: `name=value` with single blanks between, where a value may stand in quotes and then has each quote
--- twice. Reading goes from left to right.
-use Rattle.std.specs.Prelude.{ℕ, Bool, false, ◌||◌, ◌==◌, List, [], ◌∷◌, ◌++◌, Option, Some, None, is_some, if◌then◌else◌}
+-- Attributes in one line: `name=value` with single blanks between, where a value may stand in quotes and then has each
+-- quote twice. Reading goes from left to right.
+use Rattle.std.specs.Prelude.{ℕ, Bool, false, ◌||◌, ◌==◌, List, [], ◌∷◌, ◌++◌, Option, Some, None, is_some}
+use Rattle.std.specs.Prelude.{if◌then◌else◌}
 use Rattle.std.specs.Char.{is_ascii_alphanumeric}
 use Rattle.std.specs.Str.{is_utf8}
 use Rattle.am_text.specs.Ascii.{tab, space, quote, equals, underscore}

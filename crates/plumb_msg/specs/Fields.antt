@@ -1,4 +1,5 @@
--- Parts of a message, each in a line of its own. Reading gives the value and the bytes after the line, or why there is none.
+-- Parts of a message, each in a line of its own. Reading gives the value and the bytes after the line, or why there is
+-- none.
 use Rattle.std.specs.Prelude.{◌≡◌, ℕ, Bool, List, Option, Some, None, Result, Ok, Err, if◌then◌else◌}
 use Rattle.am_text.specs.Lines.{first_line, after_line}
 use Rattle.plumb_msg.specs.Texts.{has_newline}
@@ -35,4 +36,5 @@ module _ {A : Type 0} where
 
   -- the first line, by the value of a whole one and by the test of a front of one
   abbrev pub line_at : (List ℕ → Option A) → (List ℕ → Bool) → List ℕ → Result (A × List ℕ) Unread
-  line_at whole begun bs = if has_newline bs then line_told (whole (first_line bs)) (after_line bs) else Err (unfinished (begun bs))
+  line_at whole begun bs = if has_newline bs then line_told (whole (first_line bs)) (after_line bs) else Err
+      (unfinished (begun bs))

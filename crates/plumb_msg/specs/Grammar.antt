@@ -23,7 +23,8 @@ IsAttr text a = (is_name a.name ≡ true) × (value : List ℕ) × IsValue value
 abbrev pub AreAttrs : List ℕ → List Attr → Type 0
 AreAttrs line [] = line ≡ []
 AreAttrs line (a ∷ []) = IsAttr line a
-AreAttrs line (a ∷ b ∷ others) = (text rest : List ℕ) × (line ≡ text ++ space ∷ rest) × IsAttr text a × AreAttrs rest (b ∷ others)
+AreAttrs line (a ∷ b ∷ others) = (text rest : List ℕ) × (line ≡ text ++ space ∷ rest) × IsAttr text a
+    × AreAttrs rest (b ∷ others)
 
 -- the names of attributes, in their order
 abbrev pub names_of : List Attr → List (List ℕ)

@@ -1,5 +1,6 @@
 -- Messages that are begun, and that grow.
-use Rattle.std.specs.Prelude.{◌≡◌, ◌≤◌, ℕ, Bool, true, false, ◌&&◌, List, ◌++◌, length, drop, nat_lt, Option, Some, None, is_some, if◌then◌else◌}
+use Rattle.std.specs.Prelude.{◌≡◌, ◌≤◌, ℕ, Bool, true, false, ◌&&◌, List, ◌++◌, length, drop, nat_lt, Option, Some}
+use Rattle.std.specs.Prelude.{None, is_some, if◌then◌else◌}
 use Rattle.am_text.specs.Lines.{after_line}
 use Rattle.plumb_msg.specs.Attributes.{scan, start}
 use Rattle.plumb_msg.specs.Reading.{read_of}

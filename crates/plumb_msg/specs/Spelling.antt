@@ -46,7 +46,8 @@ line text = text ++ newline ∷ []
 -- the bytes of a message, with this line for its attributes
 unfoldable pub msg_bytes : PlumbMsg → List ℕ → List ℕ
 msg_bytes m attributes =
-    line m.src ++ line m.dst ++ line m.wdir ++ line m.sort ++ line attributes ++ line (decimal (length m.body)) ++ m.body
+    line m.src ++ line m.dst ++ line m.wdir ++ line m.sort ++ line attributes ++ line (decimal (length m.body))
+    ++ m.body
 
 -- the bytes of a message as it is written
 abbrev pub msg_text : PlumbMsg → List ℕ
@@ -65,7 +66,8 @@ is_name name = if length name == 0 then false else are_name_bytes name
 -- each has a name, which none of those before it has
 abbrev pub are_named : List Attr → List Attr → Bool
 are_named before [] = true
-are_named before (a ∷ after) = if is_known a.name before then false else (if is_name a.name then are_named (before ++ a ∷ []) after else false)
+are_named before (a ∷ after) = if is_known a.name before then false else
+    (if is_name a.name then are_named (before ++ a ∷ []) after else false)
 
 -- the texts stand in one line each, the attributes have names that differ, and the data aren't too long
 unfoldable pub can_spell : PlumbMsg → Bool

@@ -20,7 +20,8 @@ pub enum Begun {
     Unknown,
     /// In a line of text, of which whole characters stand before this place.
     Text { at: usize },
-    /// In the line of attributes, which begins at the place `from`, and of which whole characters stand before the place
+    /// In the line of attributes, which begins at the place `from`, and of which whole characters stand before the
+    /// place
     /// `at`.
     Attrs { at: usize, from: usize, memo: Memo },
     /// In its data: so many bytes from this place on.
@@ -160,8 +161,8 @@ impl Begun {
         }
     }
 
-    /// Where a message goes on that was begun so far, and has grown: only what came since is read. None where that doesn't
-    /// show that it still is begun.
+    /// Where a message goes on that was begun so far, and has grown: only what came since is read. None where that
+    /// doesn't show that it still is begun.
     pub fn go_on(self, alloc: Global, text: &[u8]) -> Result<Option<Begun>, NoMemory>
         requires { IsBegun self text.now }
         ensures begun { IfOk result (λ o. IfSome o (λ b. IsBegun b text.now)) }

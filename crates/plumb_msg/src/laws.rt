@@ -1,6 +1,7 @@
 //! Laws of reading and writing. Each function has laws as its contract, and does nothing.
 
-ghost use Rattle.plumb_msg.specs.Laws.{ReadAgain, WholeStays, BadStays, WholeIsExact, MoreIsExact, BadIsExact, AttrsAreExact, LineIsOneList};
+ghost use Rattle.plumb_msg.specs.Laws.{ReadAgain, WholeStays, BadStays, WholeIsExact, MoreIsExact, BadIsExact};
+ghost use Rattle.plumb_msg.specs.Laws.{AttrsAreExact, LineIsOneList};
 
 /// What is written is read again, whatever follows it.
 pub fn messages_are_read_again()

@@ -28,8 +28,8 @@ impl Model for Scanned {
     ghost invariant = { λ s. scan start s.front ≡ Some s.state };
 }
 
-/// The scan of a line of attributes, so that what is added to the line is scanned alone. What it has is no part of what it
-/// means: a line that goes on otherwise is scanned anew.
+/// The scan of a line of attributes, so that what is added to the line is scanned alone. What it has is no part of what
+/// it means: a line that goes on otherwise is scanned anew.
 #[derive(Drop)]
 pub struct Memo {
     cell: Cell<Option<Scanned>>,

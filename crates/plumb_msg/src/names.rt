@@ -43,7 +43,8 @@ impl Names {
 
     /// The name is among them from now on.
     pub fn put(&mut self, alloc: Global, name: &[u8]) -> Result<(), NoMemory>
-        ensures { OnOk result ((other : List ℕ) → is_among other self.new ≡ (is_among other self.old || bytes_eq name.now other)) }
+        ensures { OnOk result ((other : List ℕ) → is_among other self.new
+            ≡ (is_among other self.old || bytes_eq name.now other)) }
     {
         let name = Vec::from_slice(alloc, name)?;
         self.all.insert(name)?;

@@ -2,7 +2,8 @@
 
 ghost use Rattle.std.specs.Prelude.{◌≡◌, ◌≤◌, length, IfOk};
 ghost use Rattle.plumb_msg.specs.Fields.{Gives, unfinished};
-ghost use Rattle.plumb_msg.specs.Reading.{text_at, attrs_at, count_of, is_count_front, count_at, bytes_at, body_at, msg_at, read_of};
+ghost use Rattle.plumb_msg.specs.Reading.{text_at, attrs_at, count_of, is_count_front, count_at, bytes_at, body_at};
+ghost use Rattle.plumb_msg.specs.Reading.{msg_at, read_of};
 ghost use Rattle.plumb_msg.specs.declared.message.PlumbRead.TheVariants.{Whole};
 
 use crate::limits::MAX_DATA;
@@ -113,8 +114,8 @@ fn message(alloc: Global, bytes: &[u8]) -> Result<(PlumbMsg, &[u8]), Stop>
     Ok((msg, rest))
 }
 
-/// What stands at the front of the bytes: a message and how many bytes it takes, a proper front of a message, or neither.
-/// The texts of a message are UTF-8, and its data have at most 1,048,576 bytes.
+/// What stands at the front of the bytes: a message and how many bytes it takes, a proper front of a message, or
+/// neither. The texts of a message are UTF-8, and its data have at most 1,048,576 bytes.
 pub fn read_msg(alloc: Global, bytes: &[u8]) -> Result<PlumbRead, NoMemory>
     ensures exact { IfOk result (λ told. told ≡ read_of bytes.now) }
 {

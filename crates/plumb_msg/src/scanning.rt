@@ -1,7 +1,9 @@
 //! Attributes in one line.
 
 ghost use Rattle.std.specs.Prelude.{◌≡◌, IfOk, is_some};
-ghost use Rattle.plumb_msg.specs.Attributes.{is_name_byte, is_special, with_stage, named, name_ended, put, plain, attr_of, attrs_with, ended, step_value, step_plain, step_quoted, step_closed, step, start, scan, finished, attrs_of, is_attrs_front};
+ghost use Rattle.plumb_msg.specs.Attributes.{is_name_byte, is_special, with_stage, named, name_ended, put, plain};
+ghost use Rattle.plumb_msg.specs.Attributes.{attr_of, attrs_with, ended, step_value, step_plain, step_quoted};
+ghost use Rattle.plumb_msg.specs.Attributes.{step_closed, step, start, scan, finished, attrs_of, is_attrs_front};
 
 use crate::message::{Attr, Attrs};
 use crate::names::NamedAttrs;
@@ -221,8 +223,9 @@ fn finished(alloc: Global, scan: Option<Scan>) -> Result<Option<Attrs>, NoMemory
     }
 }
 
-/// The attributes of a line, where it is one: `name=value` with single blanks between. A value may stand in quotes, with
-/// each quote inside twice, and one with a blank, a tab, a quote or `=` has to. Names are letters, digits and `_`, and differ.
+/// The attributes of a line, where it is one: `name=value` with single blanks between. A value may stand in quotes,
+/// with each quote inside twice, and one with a blank, a tab, a quote or `=` has to. Names are letters, digits and `_`,
+/// and differ.
 pub fn read_attrs(alloc: Global, line: &[u8]) -> Result<Option<Attrs>, NoMemory>
     ensures { IfOk result (λ attrs. attrs ≡ attrs_of line.now) }
 {

@@ -3,7 +3,8 @@
 ghost use Rattle.std.specs.Prelude.{◌≡◌, ◌++◌, ◌∷◌, [], List, ℕ, true, length, IfOk, OnOk};
 ghost use Rattle.std.specs.List.{flat_map};
 ghost use Rattle.plumb_msg.specs.Reading.{read_of};
-ghost use Rattle.plumb_msg.specs.Spelling.{quoted, needs_quotes, value_text, attr_text, after_blank, attrs_text, line, msg_text, are_name_bytes, is_name, are_named, can_spell};
+ghost use Rattle.plumb_msg.specs.Spelling.{quoted, needs_quotes, value_text, attr_text, after_blank, attrs_text, line};
+ghost use Rattle.plumb_msg.specs.Spelling.{msg_text, are_name_bytes, is_name, are_named, can_spell};
 ghost use Rattle.plumb_msg.specs.declared.message.PlumbRead.TheVariants.{Whole};
 
 use crate::limits::MAX_DATA;
@@ -67,8 +68,8 @@ fn put_attrs(alloc: Global, out: &mut Bytes, attrs: &[Attr]) -> Result<(), NoMem
     Ok(())
 }
 
-/// The line of attributes, without its newline: `name=value` with single blanks between. A value stands in quotes where it
-/// has a blank, a tab, a quote or `=`.
+/// The line of attributes, without its newline: `name=value` with single blanks between. A value stands in quotes where
+/// it has a blank, a tab, a quote or `=`.
 pub fn attrs_text(alloc: Global, attrs: &[Attr]) -> Result<Bytes, NoMemory>
     ensures { IfOk result (λ text. text ≡ attrs_text attrs.now) }
 {

@@ -1,5 +1,6 @@
 -- Arguments: quotes, and variables.
-use Rattle.std.specs.Prelude.{ℕ, ◌-◌, Bool, true, false, ◌==◌, List, [], ◌∷◌, ◌++◌, map, Option, Some, None, if◌then◌else◌, codes}
+use Rattle.std.specs.Prelude.{ℕ, ◌-◌, Bool, true, false, ◌==◌, List, [], ◌∷◌, ◌++◌, map, Option, Some, None}
+use Rattle.std.specs.Prelude.{if◌then◌else◌, codes}
 use Rattle.std.specs.List.{list_all}
 use Rattle.std.specs.Str.{bytes_eq}
 use Rattle.am_text.specs.Ascii as ascii
@@ -31,7 +32,8 @@ looked_up (r ∷ rs) name = if bytes_eq name r.0 then Some r.1 else looked_up rs
 -- the variables that are replaced when matched
 unfoldable pub late_of : List ℕ → Option Late
 late_of name = looked_up (
-    (codes "attr", late.Attr) ∷ (codes "data", late.Data) ∷ (codes "dir", late.Dir) ∷ (codes "dst", late.Dst) ∷ (codes "file", late.File)
+    (codes "attr", late.Attr) ∷ (codes "data", late.Data) ∷ (codes "dir", late.Dir) ∷ (codes "dst", late.Dst)
+    ∷ (codes "file", late.File)
     ∷ (codes "ndata", late.Ndata) ∷ (codes "src", late.Src) ∷ (codes "type", late.Sort) ∷ (codes "wdir", late.Wdir) ∷ []
     ) name
 
@@ -55,7 +57,8 @@ abbrev pub with_rune : List Piece → ℕ → List Piece
 with_rune pieces c = pieces ++ piece.Rune c ∷ []
 
 abbrev pub plain : List Piece → ℕ → Reader
-plain pieces c = if c == ascii.quote then reader pieces Quoted else (if c == ascii.dollar then reader pieces Dollar else reader (with_rune pieces c) Plain)
+plain pieces c = if c == ascii.quote then reader pieces Quoted else
+    (if c == ascii.dollar then reader pieces Dollar else reader (with_rune pieces c) Plain)
 
 abbrev pub quoted : List Piece → ℕ → Reader
 quoted pieces c = if c == ascii.quote then reader pieces Closed else reader (with_rune pieces c) Quoted
@@ -71,7 +74,8 @@ dollar pieces c =
     else (if is_name_rune c then reader pieces (Name (c ∷ [])) else plain (with_rune pieces ascii.dollar) c)
 
 abbrev pub naming : List Var → List Piece → List ℕ → ℕ → Reader
-naming vars pieces name c = if is_name_rune c then reader pieces (Name (name ++ c ∷ [])) else plain (pieces ++ named vars name) c
+naming vars pieces name c = if is_name_rune c then reader pieces (Name (name ++ c ∷ [])) else plain
+    (pieces ++ named vars name) c
 
 abbrev pub step_at : Mode → List Var → List Piece → ℕ → Reader
 step_at Plain vars pieces c = plain pieces c

@@ -1,5 +1,6 @@
 -- Where whole sets end in a text of rules that is still being written.
-use Rattle.std.specs.Prelude.{◌≡◌, ℕ, ◌+◌, ◌≤◌, Bool, false, ◌&&◌, ◌||◌, ◌==◌, not, List, [], ◌∷◌, ◌++◌, length, take, drop, Option, Some, None, if◌then◌else◌}
+use Rattle.std.specs.Prelude.{◌≡◌, ℕ, ◌+◌, ◌≤◌, Bool, false, ◌&&◌, ◌||◌, ◌==◌, not, List, [], ◌∷◌, ◌++◌, length, take}
+use Rattle.std.specs.Prelude.{drop, Option, Some, None, if◌then◌else◌}
 use Rattle.std.specs.List.{list_any}
 use Rattle.am_text.specs.Ascii.{newline, quote}
 use Rattle.rule_syntax.specs.Words.{is_blank_line, is_comment}
@@ -52,7 +53,8 @@ is_rule line = not (is_blank_line line) && not (is_comment line) && not (is_defi
 
 -- ---- sets
 
--- Where the last whole set ends in the lines so far, how many bytes those have, and whether a set is begun behind it, in front of all lines.
+-- Where the last whole set ends in the lines so far, how many bytes those have, and whether a set is begun behind it,
+-- in front of all lines.
 abbrev pub front : Scan
 front = record { at = 0; end = 0; begun = false }
 
@@ -93,4 +95,5 @@ begun_set text = drop (sets_end text) text
 pub record IsScanOf (s : Scan) (text : List ℕ) : Type 0 where
   pub inside : s.at ≤ length text
   pub ends : s.end ≤ s.at
-  pub same : (more : List ℕ) → after_lines s (ended_lines (drop s.at text ++ more)) ≡ after_lines front (ended_lines (text ++ more))
+  pub same : (more : List ℕ) → after_lines s (ended_lines (drop s.at text ++ more)) ≡ after_lines front
+      (ended_lines (text ++ more))

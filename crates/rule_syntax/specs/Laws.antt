@@ -1,5 +1,6 @@
 -- What arguments are read as, part by part.
-use Rattle.std.specs.Prelude.{◌≡◌, ℕ, ◌-◌, Bool, true, false, ◌&&◌, ◌||◌, ◌==◌, not, List, [], ◌∷◌, ◌++◌, Option, Some, option_map, if◌then◌else◌}
+use Rattle.std.specs.Prelude.{◌≡◌, ℕ, ◌-◌, Bool, true, false, ◌&&◌, ◌||◌, ◌==◌, not, List, [], ◌∷◌, ◌++◌, Option, Some}
+use Rattle.std.specs.Prelude.{option_map, if◌then◌else◌}
 use Rattle.std.specs.List.{list_all}
 use Rattle.am_text.specs.Ascii as ascii
 use Rattle.rule_syntax.specs.Arguments.{rune_pieces, named, text_pieces, argument_of}
@@ -35,9 +36,9 @@ begins test (c ∷ cs) = test c
 abbrev pub and_then : List Piece → Option (List Piece) → Option (List Piece)
 and_then pieces more = option_map (λ those. pieces ++ those) more
 
--- A text in quotes is its runes, each doubled quote one; runes other than quotes and `$` stand for themselves; `$` with the
--- longest name behind it is that variable, with a digit a group of the match, and else a rune. Each part is read alike
--- whatever follows it.
+-- A text in quotes is its runes, each doubled quote one; runes other than quotes and `$` stand for themselves; `$` with
+-- the longest name behind it is that variable, with a digit a group of the match, and else a rune. Each part is read
+-- alike whatever follows it.
 pub record ReadsParts : Type 0 where
   pub nothing : (vars : List Var) → text_pieces vars [] ≡ Some []
   pub quoted : (vars : List Var) (text rest : List ℕ) → begins (λ c. c == ascii.quote) rest ≡ false →
@@ -47,7 +48,8 @@ pub record ReadsParts : Type 0 where
   pub name : (vars : List Var) (name rest : List ℕ) → is_name name ≡ true → begins is_name_rune rest ≡ false →
       text_pieces vars (ascii.dollar ∷ name ++ rest) ≡ and_then (named vars name) (text_pieces vars rest)
   pub group : (vars : List Var) (digit : ℕ) (rest : List ℕ) → is_digit digit ≡ true →
-      text_pieces vars (ascii.dollar ∷ digit ∷ rest) ≡ and_then (piece.Late (late.Group (digit - ascii.digit_0)) ∷ []) (text_pieces vars rest)
+      text_pieces vars (ascii.dollar ∷ digit ∷ rest) ≡ and_then (piece.Late (late.Group (digit - ascii.digit_0)) ∷ [])
+      (text_pieces vars rest)
   pub dollar : (vars : List Var) (rest : List ℕ) → begins is_name_rune rest ≡ false →
       text_pieces vars (ascii.dollar ∷ rest) ≡ and_then (piece.Rune ascii.dollar ∷ []) (text_pieces vars rest)
 

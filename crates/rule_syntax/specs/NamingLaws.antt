@@ -8,4 +8,5 @@ use Rattle.rule_syntax.specs.Naming.{ports_of}
 
 -- Each port that rules name has a name that a port can have.
 abbrev pub NamesArePorts : Type 0
-NamesArePorts = (text : List ℕ) (known : List Var) → IfOk (rules_of text known) (λ read. list_all is_port_name (ports_of read.0) ≡ true)
+NamesArePorts = (text : List ℕ) (known : List Var) → IfOk (rules_of text known)
+    (λ read. list_all is_port_name (ports_of read.0) ≡ true)

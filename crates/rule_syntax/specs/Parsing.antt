@@ -1,8 +1,10 @@
 -- Texts of rules, line by line.
-use Rattle.std.specs.Prelude.{◌≡◌, ℕ, ◌+◌, Bool, true, false, ◌&&◌, ◌||◌, ◌==◌, not, List, [], ◌∷◌, ◌++◌, length, Option, Some, None, Result, Ok, Err, if◌then◌else◌}
+use Rattle.std.specs.Prelude.{◌≡◌, ℕ, ◌+◌, Bool, true, false, ◌&&◌, ◌||◌, ◌==◌, not, List, [], ◌∷◌, ◌++◌, length}
+use Rattle.std.specs.Prelude.{Option, Some, None, Result, Ok, Err, if◌then◌else◌}
 use Rattle.am_text.specs.Ascii.{equals}
 use Rattle.am_text.specs.Lines.{lines_of}
-use Rattle.rule_syntax.specs.Words.{word, after_word, after_gaps, after_blanks, trimmed, name_part, after_name, is_blank_line, is_comment, begins_with_digit}
+use Rattle.rule_syntax.specs.Words.{word, after_word, after_gaps, after_blanks, trimmed, name_part, after_name}
+use Rattle.rule_syntax.specs.Words.{is_blank_line, is_comment, begins_with_digit}
 use Rattle.rule_syntax.specs.Arguments.{argument_of, runes_of}
 use Rattle.rule_syntax.specs.Verbs.{verb_of, needs_none, argument_fit, is_repeated, plumbs}
 use Rattle.rule_syntax.specs.declared.fault.RuleFault.{RuleFault}
@@ -22,9 +24,11 @@ abbrev pub after_equals : List ℕ → Option (List ℕ)
 after_equals [] = None
 after_equals (c ∷ cs) = if c == equals then Some (after_blanks cs) else None
 
--- the text of the value, where the line defines a variable: a name that begins with no digit, and `=`, with blanks round it allowed
+-- the text of the value, where the line defines a variable: a name that begins with no digit, and `=`, with blanks
+-- round it allowed
 abbrev pub value_text : List ℕ → Option (List ℕ)
-value_text line = if length (name_part line) == 0 || begins_with_digit line then None else after_equals (after_blanks (after_name line))
+value_text line = if length (name_part line) == 0 || begins_with_digit line then None else after_equals
+    (after_blanks (after_name line))
 
 abbrev pub var : List ℕ → List ℕ → Var
 var name value = record { name = name; value = value }
@@ -58,7 +62,8 @@ rule_told s v (Some pieces) = rule_judged s (rule v pieces) (argument_fit v piec
 -- a rule with this text for its argument
 abbrev pub rule_from : State → Option Verb → List ℕ → Option State
 rule_from s None raw = None
-rule_from s (Some v) raw = if length (trimmed raw) == 0 && not (needs_none v) then None else rule_told s v (argument_of s.vars raw)
+rule_from s (Some v) raw = if length (trimmed raw) == 0 && not (needs_none v) then None else rule_told s v
+    (argument_of s.vars raw)
 
 -- object, verb and argument, with blanks or tabs between
 abbrev pub rule_line : State → List ℕ → Option State
@@ -89,7 +94,8 @@ abbrev pub end_told : ℕ → Option State → Result (List (List Rule) × List 
 end_told n None = Err (Bad n)
 end_told n (Some s) = told s
 
-abbrev pub then_lines : ℕ → Option State → (State → Result (List (List Rule) × List Var) RuleFault) → Result (List (List Rule) × List Var) RuleFault
+abbrev pub then_lines : ℕ → Option State → (State → Result (List (List Rule) × List Var) RuleFault)
+    → Result (List (List Rule) × List Var) RuleFault
 then_lines n None go = Err (Bad n)
 then_lines n (Some s) go = go s
 

@@ -1,5 +1,6 @@
 -- Objects and verbs of rules, and what their arguments have to be.
-use Rattle.std.specs.Prelude.{ℕ, Bool, true, false, ◌&&◌, ◌||◌, ◌==◌, not, nat_le, List, [], ◌∷◌, length, Option, Some, None, if◌then◌else◌, codes}
+use Rattle.std.specs.Prelude.{ℕ, Bool, true, false, ◌&&◌, ◌||◌, ◌==◌, not, nat_le, List, [], ◌∷◌, length, Option, Some}
+use Rattle.std.specs.Prelude.{None, if◌then◌else◌, codes}
 use Rattle.std.specs.List.{list_all, list_any}
 use Rattle.std.specs.Str.{bytes_eq}
 use Rattle.am_text.specs.Ascii.{dot, minus}
@@ -27,10 +28,12 @@ module _ {A : Type 0} where
   or_else (Some a) other = Some a
 
 unfoldable pub field_of : List ℕ → Option Field
-field_of object = found ((codes "src", Src) ∷ (codes "dst", Dst) ∷ (codes "wdir", Wdir) ∷ (codes "type", Sort) ∷ (codes "data", Data) ∷ []) object
+field_of object = found ((codes "src", Src) ∷ (codes "dst", Dst) ∷ (codes "wdir", Wdir) ∷ (codes "type", Sort)
+    ∷ (codes "data", Data) ∷ []) object
 
 unfoldable pub text_verb : Field → List ℕ → Option Verb
-text_verb f word = found ((codes "is", verb.Is f) ∷ (codes "matches", verb.Matches f) ∷ (codes "set", verb.Set f) ∷ []) word
+text_verb f word = found ((codes "is", verb.Is f) ∷ (codes "matches", verb.Matches f) ∷ (codes "set", verb.Set f) ∷ [])
+    word
 
 unfoldable pub data_verb : List ℕ → Option Verb
 data_verb word = found ((codes "isfile", verb.DataIsFile) ∷ (codes "isdir", verb.DataIsDir) ∷ []) word
@@ -87,7 +90,8 @@ is_taken name = bytes_eq name (codes "send") || bytes_eq name (codes "rules")
 
 -- 1 to 64 letters of ASCII, digits, `_`, `.` and `-`, and neither `send` nor `rules`
 unfoldable pub is_port_name : List ℕ → Bool
-is_port_name name = if nat_le 1 (length name) && nat_le (length name) 64 then are_port_runes name && not (is_taken name) else false
+is_port_name name = if nat_le 1 (length name) && nat_le (length name) 64 then are_port_runes name
+    && not (is_taken name) else false
 
 -- an expression with variables is read when matched
 abbrev pub pattern_fit : List Piece → Fit

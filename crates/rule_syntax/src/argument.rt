@@ -2,7 +2,9 @@
 
 ghost use Rattle.std.specs.Prelude.{◌≡◌, ◌++◌, [], IfOk, OnOk};
 ghost use Rattle.std.specs.Str.{bytes_eq};
-ghost use Rattle.rule_syntax.specs.Arguments.{value_in, late_of, rune_pieces, named, reader, with_rune, plain, quoted, closed, dollar, naming, step, reads, ended, argument_of, is_rune, is_literal, onto, runes_of};
+ghost use Rattle.rule_syntax.specs.Arguments.{value_in, late_of, rune_pieces, named, reader, with_rune, plain, quoted};
+ghost use Rattle.rule_syntax.specs.Arguments.{closed, dollar, naming, step, reads, ended, argument_of, is_rune};
+ghost use Rattle.rule_syntax.specs.Arguments.{is_literal, onto, runes_of};
 ghost use Rattle.rule_syntax.specs.declared.argument.Mode.TheVariants as mode;
 
 use crate::rule::{Argument, Late, Piece, Var};
@@ -204,8 +206,8 @@ fn read_all(alloc: Global, vars: &[Var], text: &[Rune]) -> Result<Reader, NoMemo
     Ok(reading)
 }
 
-/// The argument of a text: quotes are taken away, variables replaced, and blanks at the end dropped. There is none where a
-/// quote is open.
+/// The argument of a text: quotes are taken away, variables replaced, and blanks at the end dropped. There is none
+/// where a quote is open.
 pub(crate) fn argument_of(
     alloc: Global,
     vars: &[Var],

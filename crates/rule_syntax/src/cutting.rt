@@ -54,8 +54,8 @@ impl Scan {
         }
     }
 
-    /// All lines of a text further, where this is how far a front of it was scanned. Only what stands behind its lines is
-    /// looked at.
+    /// All lines of a text further, where this is how far a front of it was scanned. Only what stands behind its lines
+    /// is looked at.
     #[tactic(auto, using(crate::proofs::Scans::scans))]
     pub fn go_on(self, text: &[u8]) -> Scan
         requires { IsScanOf self text.now }
@@ -76,8 +76,8 @@ impl Scan {
     }
 }
 
-/// How many bytes of a text whole sets of rules take: all up to and with the last blank line that ends a set. A line ends by
-/// its newline, and a set that ends has a line which is neither blank, nor a comment, nor a definition.
+/// How many bytes of a text whole sets of rules take: all up to and with the last blank line that ends a set. A line
+/// ends by its newline, and a set that ends has a line which is neither blank, nor a comment, nor a definition.
 #[tactic(auto, using(crate::proofs::Scans::scans))]
 pub fn sets_end(text: &[u8]) -> usize
     ensures exact { result ≡ sets_end text.now }

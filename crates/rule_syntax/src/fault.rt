@@ -8,8 +8,8 @@ use am_text::NoMemory;
 /// Why a text isn't rules.
 #[derive(Clone, Copy, Debug, PartialEq, Eq)]
 pub enum RuleFault {
-    /// The first line at fault, from 1: it is no rule, no definition, not blank and no comment; it repeats what its set has;
-    /// or it ends a set without a `plumb` rule.
+    /// The first line at fault, from 1: it is no rule, no definition, not blank and no comment; it repeats what its set
+    /// has; or it ends a set without a `plumb` rule.
     Bad(usize),
     /// No line is at fault, and an expression has more than 2,048 nodes.
     Nodes,

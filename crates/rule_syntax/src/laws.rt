@@ -8,8 +8,8 @@ pub fn expressions_have_sizes()
     ensures { HasSize }
 {}
 
-/// An argument is read part by part: texts in quotes as their runes, variables by their longest names, and other runes as themselves.
-/// A text in quotes is just that text, and one without quotes, `$` and blanks at its end is itself.
+/// An argument is read part by part: texts in quotes as their runes, variables by their longest names, and other runes
+/// as themselves. A text in quotes is just that text, and one without quotes, `$` and blanks at its end is itself.
 pub fn arguments_are_read_in_parts()
     ensures parts { ReadsParts }
     ensures texts { ReadsTexts }

@@ -3,7 +3,9 @@
 ghost use Rattle.std.specs.Prelude.{◌≡◌, IfOk, IfErr, Ok, option_copied};
 ghost use Rattle.am_text.specs.Lines.{lines_of};
 ghost use Rattle.am_text.specs.Utf8.{decode};
-ghost use Rattle.rule_syntax.specs.Parsing.{after_equals, value_text, defined, rule_added, rule_judged, rule_told, rule_from, rule_line, definition_or_rule, set_ended, line_read, told, end_told, lines_read, begun, rules_of, Refuses};
+ghost use Rattle.rule_syntax.specs.Parsing.{after_equals, value_text, defined, rule_added, rule_judged, rule_told};
+ghost use Rattle.rule_syntax.specs.Parsing.{rule_from, rule_line, definition_or_rule, set_ended, line_read, told};
+ghost use Rattle.rule_syntax.specs.Parsing.{end_told, lines_read, begun, rules_of, Refuses};
 
 use crate::argument::{argument_of, runes_of};
 use crate::expression::Judged;
@@ -19,7 +21,8 @@ use crate::words::{
 use am_text::{EQUALS, NoMemory, Rune, Runes, decode_whole};
 use std::alloc::Global;
 
-/// What the lines so far gave: the sets, the rules of the set that is read, the variables, and whether an expression is too large.
+/// What the lines so far gave: the sets, the rules of the set that is read, the variables, and whether an expression is
+/// too large.
 #[derive(Drop)]
 pub struct State {
     pub sets: RuleSets,
@@ -251,8 +254,8 @@ fn lines_read(alloc: Global, state: State, text: &[Rune]) -> Result<(RuleSets, V
     end_told(alloc, state, lines)
 }
 
-/// The sets of a text of rules, and the variables after it. The text is read as UTF-8, and its variables come after those
-/// that were known. An expression without variables that are replaced when matched has to be one.
+/// The sets of a text of rules, and the variables after it. The text is read as UTF-8, and its variables come after
+/// those that were known. An expression without variables that are replaced when matched has to be one.
 pub fn parse_rules(alloc: Global, text: &[u8], known: &Vars) -> Result<(RuleSets, Vars), RuleFault>
     ensures ok { IfOk result (λ x. rules_of (decode text.now) known.now ≡ Ok x) }
     ensures refused { IfErr result (λ e. Refuses e (rules_of (decode text.now) known.now)) }

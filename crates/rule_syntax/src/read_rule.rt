@@ -8,8 +8,8 @@ use am_text::{Items, Rune};
 use re_edges::Edges;
 use std::marker::Model;
 
-/// A rule that was read, with the edges of the expression that its argument is, where that is known before a message comes.
-/// Contracts see the rule.
+/// A rule that was read, with the edges of the expression that its argument is, where that is known before a message
+/// comes. Contracts see the rule.
 pub struct ReadRule {
     rule: Rule,
     edges: Option<Edges>,

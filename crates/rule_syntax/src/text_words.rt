@@ -2,7 +2,8 @@
 
 ghost use Rattle.std.specs.Prelude.{◌≡◌, option_copied, false};
 ghost use Rattle.std.specs.Int.{is_in_range};
-ghost use Rattle.rule_syntax.specs.Words.{is_digit, is_name_rune, is_gap, name_part, after_name, after_blanks, is_blank_line, is_comment, begins_with_digit};
+ghost use Rattle.rule_syntax.specs.Words.{is_digit, is_name_rune, is_gap, name_part, after_name, after_blanks};
+ghost use Rattle.rule_syntax.specs.Words.{is_blank_line, is_comment, begins_with_digit};
 ghost use Rattle.rule_syntax.specs.Parsing.{after_equals, value_text};
 ghost use Rattle.rule_syntax.specs.Cutting.{has_newline, is_open_behind, is_open, is_whole, is_definition, is_rule};
 

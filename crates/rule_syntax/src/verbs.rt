@@ -4,7 +4,10 @@ ghost use Rattle.std.specs.Prelude.{◌≡◌, true, IfOk, IfSome};
 ghost use Rattle.rule_syntax.specs.Arguments as arguments;
 ghost use Rattle.rule_syntax.specs.Expressions.{size_of, size_fit};
 ghost use Rattle.rule_syntax.specs.Edged.{AreEdgesOf, without_edges};
-ghost use Rattle.rule_syntax.specs.Verbs.{field_of, text_verb, data_verb, field_verb, arg_verb, attr_verb, plumb_verb, verb_of, needs_none, is_port_rune, are_port_runes, is_taken, is_port_name, pattern_fit, port_fit, argument_fit, is_to, is_request, any_to, any_request, is_repeated, plumbs};
+ghost use Rattle.rule_syntax.specs.Verbs.{field_of, text_verb, data_verb, field_verb, arg_verb, attr_verb, plumb_verb};
+ghost use Rattle.rule_syntax.specs.Verbs.{verb_of, needs_none, is_port_rune, are_port_runes, is_taken, is_port_name};
+ghost use Rattle.rule_syntax.specs.Verbs.{pattern_fit, port_fit, argument_fit, is_to, is_request, any_to, any_request};
+ghost use Rattle.rule_syntax.specs.Verbs.{is_repeated, plumbs};
 
 use crate::argument::{is_literal, runes_of};
 use crate::expression::{Judged, expression_judged};

@@ -4,7 +4,9 @@ ghost use Rattle.std.specs.Prelude.{◌≡◌, ◌≤◌, length};
 ghost use Rattle.std.specs.Int.{is_in_range};
 ghost use Rattle.std.specs.Str.{bytes_eq};
 ghost use Rattle.am_text.specs.Lines.{first_line, after_line};
-ghost use Rattle.rule_syntax.specs.Words.{is_gap, is_blank, is_digit, is_name_rune, word, after_word, after_gaps, after_blanks, trimmed, name_part, after_name, is_blank_line, is_comment, begins_with_digit};
+ghost use Rattle.rule_syntax.specs.Words.{is_gap, is_blank, is_digit, is_name_rune, word, after_word, after_gaps};
+ghost use Rattle.rule_syntax.specs.Words.{after_blanks, trimmed, name_part, after_name, is_blank_line, is_comment};
+ghost use Rattle.rule_syntax.specs.Words.{begins_with_digit};
 
 use am_text::{DIGIT_0, DIGIT_9, HASH, NEWLINE, Rune, SPACE, TAB, UNDERSCORE};
 

@@ -9,4 +9,5 @@ pub returns : goal.returns
 unfolding conn_line
 returns c =
     rw (c.in_ok-append.ensures.ok, c.in_ok-put_state.ensures, c.in_ok-put_around.ensures, c.from.ensures)
-    (three c.args.out.now (around (codes "connection ") c.args.view.now.conn (32 ∷ [])) (conn_state c.args.view.now.ending) (10 ∷ []))
+    (three c.args.out.now (around (codes "connection ") c.args.view.now.conn (32 ∷ []))
+    (conn_state c.args.view.now.ending) (10 ∷ []))

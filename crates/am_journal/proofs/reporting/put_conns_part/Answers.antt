@@ -9,4 +9,5 @@ pub returns : goal.returns
 unfolding conns_part
 returns c =
     rw (c.in_ok-put_conns.ensures, c.as_slice.ensures, c.in_ok-put_around.ensures, c.len.ensures)
-    (append_assoc c.args.out.now (around (codes "connections ") (length c.args.view.now.conns) (10 ∷ [])) (flat_map conn_line c.args.view.now.conns))
+    (append_assoc c.args.out.now (around (codes "connections ") (length c.args.view.now.conns) (10 ∷ []))
+    (flat_map conn_line c.args.view.now.conns))

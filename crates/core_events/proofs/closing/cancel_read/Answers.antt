@@ -4,4 +4,5 @@ use Rattle.core_events.proofs.closing.cancel_read.Goals as goal
 
 pub returns-in-Cancels-clause-sound : goal.returns-in-Cancels-clause-sound
 returns-in-Cancels-clause-sound c =
-    λ at sound. sound_both at c.cancel.new.self _ c.cancel.ensures.new (sound_cancelled at c.args.book.now.present c.args.conn (events.Cancels c.in-Cancels.tag) sound)
+    λ at sound. sound_both at c.cancel.new.self _ c.cancel.ensures.new
+    (sound_cancelled at c.args.book.now.present c.args.conn (events.Cancels c.in-Cancels.tag) sound)

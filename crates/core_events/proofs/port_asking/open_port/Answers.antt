@@ -10,6 +10,7 @@ pub returns-in_ok-join-in-Joins-clause-sound : goal.returns-in_ok-join-in-Joins-
 returns-in_ok-join-in-Joins-clause-sound c =
     let before : PortsState = c.args.ports.now.present in
     let after : c.join.new.self.present ≡ after_join before c.in-Joins.port (next_opening before) =
-    ap (λ (t : Twice PortsState). t.present) c.in_ok-join-in-Joins.ensures.ok ∙ ap (λ (n : ℕ). after_join before c.in-Joins.port (n + 1)) c.joined.ensures
+    ap (λ (t : Twice PortsState). t.present) c.in_ok-join-in-Joins.ensures.ok
+    ∙ ap (λ (n : ℕ). after_join before c.in-Joins.port (n + 1)) c.joined.ensures
     in
     λ sound. subst (λ (s : PortsState). ArePortsSound s) (sym after) (sound_join before c.in-Joins.port sound)

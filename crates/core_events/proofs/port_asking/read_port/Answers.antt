@@ -7,5 +7,6 @@ use Rattle.core_events.proofs.port_asking.read_port.Goals as goal
 
 pub returns-in-Now-clause-sound : goal.returns-in-Now-clause-sound
 returns-in-Now-clause-sound c =
-    subst (λ (s : PortsState). ArePortsSound s) (sym (ap (λ (t : Twice PortsState). t.present) c.in_ok-piece.ensures.ok))
+    subst (λ (s : PortsState). ArePortsSound s) (sym (ap (λ (t : Twice PortsState). t.present)
+    c.in_ok-piece.ensures.ok))
     (sound_ask c.args.ports.now.present c.args.asker c.requires.small c.requires.sound)

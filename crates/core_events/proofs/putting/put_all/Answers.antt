@@ -6,4 +6,5 @@ use Rattle.core_events.proofs.putting.put_all.Goals as goal
 
 pub returns-clause-sound : goal.returns-clause-sound
 returns-clause-sound c =
-    λ at sound. subst (λ (s : BookState). IsSound at s) (sym c.loop-item.invariant.3) (sound_all at c.args.book.now.present c.loop-item.yielded sound)
+    λ at sound. subst (λ (s : BookState). IsSound at s) (sym c.loop-item.invariant.3)
+    (sound_all at c.args.book.now.present c.loop-item.yielded sound)

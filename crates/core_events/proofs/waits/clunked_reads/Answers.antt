@@ -6,10 +6,13 @@ use Rattle.core_events.proofs.waits.clunked_reads.Goals as goal
 
 pub loop-k-preserved : goal.loop-k-preserved
 loop-k-preserved c = record {
-  exact = said_more refusal.FidClunked c.args.sessions.now.present (is_of_fid c.args.conn c.args.fid) c.args.sessions.now.present.waiting c.loop-k.k c.loop-k.said c.answer_clunked.new.said c.loop-k.invariant.exact c.in_ok-answer_clunked.ensures.ok;
+  exact = said_more refusal.FidClunked c.args.sessions.now.present (is_of_fid c.args.conn c.args.fid)
+      c.args.sessions.now.present.waiting c.loop-k.k c.loop-k.said c.answer_clunked.new.said c.loop-k.invariant.exact
+      c.in_ok-answer_clunked.ensures.ok;
   said = c.in_ok-answer_clunked.ensures.said;
 }
 
 pub returns-clause-exact : goal.returns-clause-exact
 returns-clause-exact c =
-    said_all refusal.FidClunked c.args.sessions.now.present (is_of_fid c.args.conn c.args.fid) c.args.sessions.now.present.waiting c.loop-k.k c.loop-k.said (omega arith) c.loop-k.invariant.exact
+    said_all refusal.FidClunked c.args.sessions.now.present (is_of_fid c.args.conn c.args.fid)
+    c.args.sessions.now.present.waiting c.loop-k.k c.loop-k.said (omega arith) c.loop-k.invariant.exact

@@ -6,6 +6,7 @@ use Rattle.core_events.proofs.waits.clunked_reads.Given as goal
 
 abbrev pub invariant-loop-k : goal.invariant-loop-k
 invariant-loop-k l = record {
-  exact : l.said ≡ errors refusal.FidClunked l.sessions.present (filter (is_of_fid l.conn l.fid) (take l.k l.sessions.present.waiting));
+  exact : l.said ≡ errors refusal.FidClunked l.sessions.present (filter (is_of_fid l.conn l.fid)
+      (take l.k l.sessions.present.waiting));
   said : AreSaid l.said;
 }

@@ -6,10 +6,13 @@ use Rattle.core_events.proofs.waits.deleted_reads.Goals as goal
 
 pub loop-k-preserved : goal.loop-k-preserved
 loop-k-preserved c = record {
-  exact = said_more refusal.WindowDeleted c.args.sessions.now.present (is_of_window c.args.sessions.now.present c.args.window) c.args.sessions.now.present.waiting c.loop-k.k c.loop-k.said c.answer_deleted.new.said c.loop-k.invariant.exact c.in_ok-answer_deleted.ensures.ok;
+  exact = said_more refusal.WindowDeleted c.args.sessions.now.present
+      (is_of_window c.args.sessions.now.present c.args.window) c.args.sessions.now.present.waiting c.loop-k.k
+      c.loop-k.said c.answer_deleted.new.said c.loop-k.invariant.exact c.in_ok-answer_deleted.ensures.ok;
   said = c.in_ok-answer_deleted.ensures.said;
 }
 
 pub returns-clause-exact : goal.returns-clause-exact
 returns-clause-exact c =
-    said_all refusal.WindowDeleted c.args.sessions.now.present (is_of_window c.args.sessions.now.present c.args.window) c.args.sessions.now.present.waiting c.loop-k.k c.loop-k.said (omega arith) c.loop-k.invariant.exact
+    said_all refusal.WindowDeleted c.args.sessions.now.present (is_of_window c.args.sessions.now.present c.args.window)
+    c.args.sessions.now.present.waiting c.loop-k.k c.loop-k.said (omega arith) c.loop-k.invariant.exact

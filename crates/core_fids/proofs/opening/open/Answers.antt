@@ -6,6 +6,8 @@ use Rattle.core_fids.proofs.opening.open.Goals as goal
 pub returns-clause-done : goal.returns-clause-done
 returns-clause-done c = record {
   sent = search rules;
-  possible = opens_possible (server_in c.args.server.now) c.args.mode c.in-Some.fid.now c.in_ok-opening_changes.field-0 (search rules) (search rules);
-  demand = opening_asks (windows_in c.args.server.now) c.truncates.result c.content_of-content.result c.opening_demand.result c.opening_demand.ensures;
+  possible = opens_possible (server_in c.args.server.now) c.args.mode c.in-Some.fid.now c.in_ok-opening_changes.field-0
+      (search rules) (search rules);
+  demand = opening_asks (windows_in c.args.server.now) c.truncates.result c.content_of-content.result
+      c.opening_demand.result c.opening_demand.ensures;
 }

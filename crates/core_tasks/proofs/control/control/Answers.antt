@@ -1,6 +1,7 @@
 use Rattle.std.proofs.Common.{◌≡◌, sym, ◌∙◌, length, arith}
 use Rattle.std.proofs.lemmas.Bool.Decides.{nat_tests}
-use Rattle.core_tasks.proofs.Controlled.{lives_behind, left_behind, deleted_did, deleted_unrefused, refused_did, refused_so, no_lines, none_left, none_refused}
+use Rattle.core_tasks.proofs.Controlled.{lives_behind, left_behind, deleted_did, deleted_unrefused, refused_did}
+use Rattle.core_tasks.proofs.Controlled.{refused_so, no_lines, none_left, none_refused}
 use Rattle.core_tasks.proofs.control.control.Goals as goal
 
 pub loop-rest-preserved : goal.loop-rest-preserved
@@ -17,22 +18,26 @@ loop-rest-preserved c =
 pub returns-in-Deleted-clause-refusal : goal.returns-in-Deleted-clause-refusal
 returns-in-Deleted-clause-refusal c =
     let line = c.in_ok-do_line.ensures in
-    deleted_unrefused _ _ _ _ _ _ _ _ _ c.split_line.ensures.lines c.loop-rest.invariant.left line.ok (sym line.next ∙ c.in-Deleted.is)
+    deleted_unrefused _ _ _ _ _ _ _ _ _ c.split_line.ensures.lines c.loop-rest.invariant.left line.ok
+    (sym line.next ∙ c.in-Deleted.is)
 
 pub returns-in-Deleted-clause-ok : goal.returns-in-Deleted-clause-ok
 returns-in-Deleted-clause-ok c =
     let line = c.in_ok-do_line.ensures in
-    deleted_did _ _ _ _ _ _ _ _ _ c.split_line.ensures.lines c.loop-rest.invariant.left line.ok (sym line.next ∙ c.in-Deleted.is)
+    deleted_did _ _ _ _ _ _ _ _ _ c.split_line.ensures.lines c.loop-rest.invariant.left line.ok
+    (sym line.next ∙ c.in-Deleted.is)
 
 pub returns-in-Refused-clause-refusal : goal.returns-in-Refused-clause-refusal
 returns-in-Refused-clause-refusal c =
     let line = c.in_ok-do_line.ensures in
-    refused_so _ _ _ _ _ _ _ _ _ c.split_line.ensures.lines c.loop-rest.invariant.left line.ok c.in-Refused.refusal (sym line.next ∙ c.in-Refused.is)
+    refused_so _ _ _ _ _ _ _ _ _ c.split_line.ensures.lines c.loop-rest.invariant.left line.ok c.in-Refused.refusal
+    (sym line.next ∙ c.in-Refused.is)
 
 pub returns-in-Refused-clause-ok : goal.returns-in-Refused-clause-ok
 returns-in-Refused-clause-ok c =
     let line = c.in_ok-do_line.ensures in
-    refused_did _ _ _ _ _ _ _ _ _ c.split_line.ensures.lines c.loop-rest.invariant.left line.ok c.in-Refused.refusal (sym line.next ∙ c.in-Refused.is)
+    refused_did _ _ _ _ _ _ _ _ _ c.split_line.ensures.lines c.loop-rest.invariant.left line.ok c.in-Refused.refusal
+    (sym line.next ∙ c.in-Refused.is)
 
 pub returns-clause-refusal : goal.returns-clause-refusal
 returns-clause-refusal c =

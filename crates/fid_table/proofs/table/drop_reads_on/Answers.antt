@@ -4,4 +4,5 @@ use Rattle.fid_table.specs.Tables.{is_waiting_on}
 use Rattle.fid_table.proofs.table.drop_reads_on.Goals as goal
 
 pub returns : goal.returns
-returns c = filter_same _ (λ w. not (is_waiting_on c.args.conn w)) _ (λ x b q k. search rules) _ _ c.retain.ensures.filtered
+returns c = filter_same _ (λ w. not (is_waiting_on c.args.conn w)) _ (λ x b q k. search rules) _ _
+    c.retain.ensures.filtered

@@ -8,5 +8,6 @@ last_count-more-requires c = brief_at _ _ _ c.requires.next (ap (λ (e : Editor)
 
 pub returns-in-Ok-clause-counted : goal.returns-in-Ok-clause-counted
 returns-in-Ok-clause-counted c =
-    counted_at c.args.self.now.core.journal _ c.args.event c.args.self.now.count c.last_count-more.result c.requires.next c.requires.counted
+    counted_at c.args.self.now.core.journal _ c.args.event c.args.self.now.count c.last_count-more.result
+    c.requires.next c.requires.counted
     (ap (λ (e : Editor). e.journal) c.in-Ok.ensures.done) c.last_count-more.ensures

@@ -7,7 +7,8 @@ pub returns : goal.returns
 returns c =
     let name : c.in_ok-name.name.items ≡ c.args.name.now = c.in_ok-name.ensures.items in
     let new : is_among c.in_ok-name.name.items (texts c.self.inside.names.keys) ≡ false =
-    ap (λ (n : List ℕ). is_among n (texts c.self.inside.names.keys)) name ∙ ap (is_among c.args.name.now) c.self.view_is ∙ c.requires
+    ap (λ (n : List ℕ). is_among n (texts c.self.inside.names.keys)) name ∙ ap (is_among c.args.name.now) c.self.view_is
+    ∙ c.requires
     in
     rw (← c.self.view_is)
     (ap texts c.in_ok-insert.ensures.keys

@@ -4,4 +4,5 @@ use Rattle.fid_table.proofs.fids.Fids.take.Goals as goal
 
 pub returns-clause-new : goal.returns-clause-new
 returns-clause-new c =
-    rw (← c.self.view_is) (c.shift_remove.ensures.entries ∙ removed c.self.inside.map.entries c.args.fid c.len-len.ensures.unique)
+    rw (← c.self.view_is) (c.shift_remove.ensures.entries ∙ removed c.self.inside.map.entries c.args.fid
+    c.len-len.ensures.unique)

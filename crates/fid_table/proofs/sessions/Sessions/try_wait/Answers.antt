@@ -7,4 +7,5 @@ pub returns-clause-ok : goal.returns-clause-ok
 returns-clause-ok c =
     let steps : c.push_reserved.new.self.items ≡ c.self.inside.trail.items ++ Unwait ∷ [] = cc in
     rw (← c.self.view_is, steps, c.in_ok-wait.ensures.ok)
-    (grown c.self.inside.trail.items Unwait c.self.inside.table _ (wait_undone c.self.inside.table c.args.conn c.args.tag c.args.fid))
+    (grown c.self.inside.trail.items Unwait c.self.inside.table _ (wait_undone c.self.inside.table c.args.conn
+    c.args.tag c.args.fid))

@@ -7,17 +7,23 @@ use Rattle.fid_table.proofs.table.Table.put.Goals as goal
 
 pub returns-in_default-clause-before : goal.returns-in_default-clause-before
 returns-in_default-clause-before c =
-    rw (← c.self.view_is) (sym (ap (λ o. lookup (nat_eq c.args.fid) (fids_in o)) (find_none c.self.inside.sessions.items c.args.conn (cc))))
+    rw (← c.self.view_is) (sym (ap (λ o. lookup (nat_eq c.args.fid) (fids_in o))
+    (find_none c.self.inside.sessions.items c.args.conn (cc))))
 
 pub returns-in_default-clause-ok : goal.returns-in_default-clause-ok
-returns-in_default-clause-ok c = rw (← c.self.view_is) (missing_table (put_in c.args.fid c.args.value) _ _ _ (cc))
+returns-in_default-clause-ok c = rw (← c.self.view_is) (missing_table (put_in c.args.fid c.args.value) _ _ _ _ (cc))
 
 pub returns-clause-before : goal.returns-clause-before
 returns-clause-before c =
-    rw (← c.self.view_is, find_some c.self.inside.sessions.items c.args.conn c.in-Some.place c.index_mut-session.result.now (cc) (cc))
+    rw (
+      ← c.self.view_is,
+      find_some c.self.inside.sessions.items c.args.conn c.in-Some.place
+          c.index_mut-session.result.now (cc) (cc),
+    )
     c.put.ensures.before
 
 pub returns-clause-ok : goal.returns-clause-ok
 returns-clause-ok c =
     rw (← c.self.view_is)
-    (on_ok_weaker c.put.result (λ e. changed_table (put_in c.args.fid c.args.value) _ _ _ _ c.index_mut-session.result.now _ (cc) (cc) (cc)) c.put.ensures.ok)
+    (on_ok_weaker c.put.result (λ e. changed_table (put_in c.args.fid c.args.value) _ _ _ _ _
+    c.index_mut-session.result.now _ (cc) (cc) (cc)) c.put.ensures.ok)

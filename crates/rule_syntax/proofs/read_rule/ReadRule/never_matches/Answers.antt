@@ -5,4 +5,6 @@ use Rattle.rule_syntax.proofs.ExpressionLemmas.{never_by}
 use Rattle.rule_syntax.proofs.read_rule.ReadRule.never_matches.Goals as goal
 
 pub returns-in-Some : goal.returns-in-Some
-returns-in-Some c = λ h. subst (λ (r : Rule). NeverMatches r.argument c.args.text.now) c.self.view_is (never_by c.self.inside.rule.argument c.self.inside.edges c.in-Some.edges c.args.text.now c.in-Some.is c.self.invariant (ap not (sym c.may_be_whole.ensures) ∙ h))
+returns-in-Some c = λ h. subst (λ (r : Rule). NeverMatches r.argument c.args.text.now) c.self.view_is
+    (never_by c.self.inside.rule.argument c.self.inside.edges c.in-Some.edges c.args.text.now c.in-Some.is
+    c.self.invariant (ap not (sym c.may_be_whole.ensures) ∙ h))

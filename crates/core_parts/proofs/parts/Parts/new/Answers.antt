@@ -1,0 +1,9 @@
+use Rattle.core_parts.proofs.Users.{begins}
+use Rattle.core_parts.proofs.parts.Parts.new.Goals as goal
+
+pub returns-clause-state : goal.returns-clause-state
+returns-clause-state c =
+    begins c.args.format c.in_ok-vec.field-0.items c.in_ok-no_users.field-0.items c.in_ok-new.field-0
+    c.in_ok-new-2.field-0 c.in_ok-new-3.field-0 c.new-4.result.items
+    (c.in_ok-vec.ensures.items_if_clones_equal (λ y h. h)) c.in_ok-no_users.ensures c.in_ok-new.ensures
+    c.in_ok-new-2.ensures c.in_ok-new-3.ensures c.new-4.ensures.items
