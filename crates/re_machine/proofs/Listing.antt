@@ -3,8 +3,8 @@ use Rattle.std.proofs.Common.{◌≡◌, ℕ, ◌+◌, ◌≤◌, ◌||◌, Bool
 use Rattle.std.proofs.Common.{ap, subst, ◌∙◌, append_assoc, append-nil, arith}
 use Rattle.re_syntax.specs.Tree.{Tree, tree, Letter, AnyLetter, OneOf, LineStart, LineEnd, Then, Either, Many, Several}
 use Rattle.re_syntax.specs.Tree.{Maybe, Group}
-use Rattle.re_nodes.specs.Nodes.{Node, Alone, Joined, Chosen, Often, Repeated, Optional, Numbered, node_of, nodes_of}
-use Rattle.re_nodes.specs.Nodes.{Builds}
+use Rattle.re_syntax.specs.Nodes.{Node, Alone, Joined, Chosen, Often, Repeated, Optional, Numbered, node_of, nodes_of}
+use Rattle.re_syntax.specs.Nodes.{Builds}
 use Rattle.re_sets.specs.Readings.{read_as}
 use Rattle.re_sets.specs.Numbers.{letters}
 use Rattle.re_machine.specs.Leaves.{leaves_of}

@@ -4,7 +4,7 @@ use Rattle.std.proofs.Common.{sym, ap, subst, ◌∙◌, arith}
 use Rattle.std.specs.Prelude.{IsTrue, bit_or, if◌then◌else◌}
 use Rattle.re_syntax.specs.Tree.{Tree, Letter, AnyLetter, OneOf, LineStart, LineEnd, Then, Either, Many, Several, Maybe}
 use Rattle.re_syntax.specs.Tree.{Group}
-use Rattle.re_nodes.specs.Nodes.{Node, Alone, Joined, Chosen, Often, Repeated, Optional, Numbered, Builds}
+use Rattle.re_syntax.specs.Nodes.{Node, Alone, Joined, Chosen, Often, Repeated, Optional, Numbered, Builds}
 use Rattle.re_spans.specs.declared.leaf.Here.{Here}
 use Rattle.re_sets.specs.Numbers.{letters}
 use Rattle.re_sets.specs.Spots.{first, last}

@@ -1,8 +1,8 @@
 -- How a tree is copied, node by node.
 use Rattle.std.specs.Prelude.{List, ◌∷◌}
 use Rattle.re_syntax.specs.Tree.{Tree, Many, Several, Maybe, Group}
-use Rattle.re_nodes.specs.Nodes.{Node, Builds}
-use Rattle.re_nodes.specs.Nodes as node
+use Rattle.re_syntax.specs.Nodes.{Node, Builds}
+use Rattle.re_syntax.specs.Nodes as node
 use Rattle.re_machine.specs.declared.copy.Wrap.{Wrap}
 use Rattle.re_machine.specs.declared.copy.Wrap.TheVariants.{Often, Repeated, Optional, Numbered}
 

@@ -1,7 +1,7 @@
 -- What a part of a tree is, and what the rows of its letters have.
 use Rattle.std.specs.Prelude.{◌≡◌, ◌+◌, ◌≤◌, ◌↔◌, ◌⊎◌, ℕ, Bool, List, [], ◌∷◌, IsTrue, length, slice_index}
 use Rattle.re_syntax.specs.Tree.{Tree, Letter, AnyLetter, OneOf}
-use Rattle.re_nodes.specs.Nodes.{Node, Builds}
+use Rattle.re_syntax.specs.Nodes.{Node, Builds}
 use Rattle.re_spans.specs.declared.leaf.Here.{Here}
 use Rattle.re_sets.specs.Spots.{null, first, last, follow}
 use Rattle.re_sets.specs.Numbers.{letters, rows}

@@ -1,7 +1,7 @@
 -- The nodes of a tree that a search goes by.
 use Rattle.std.specs.Prelude.{◌≡◌, ◌||◌, Bool, true, false, List, [], ◌∷◌, ◌++◌, map}
 use Rattle.re_syntax.specs.Tree.{Tree, tree, Letter, AnyLetter, OneOf, LineStart, LineEnd}
-use Rattle.re_nodes.specs.Nodes.{Node, Alone, Joined, Chosen, Often, Repeated, Optional, Numbered, node_of, nodes_of}
+use Rattle.re_syntax.specs.Nodes.{Node, Alone, Joined, Chosen, Often, Repeated, Optional, Numbered, node_of, nodes_of}
 use Rattle.re_sets.specs.Readings.{read_as}
 use Rattle.re_machine.specs.Leaves.{leaves_of}
 use Rattle.re_machine.specs.Contexts.{has_anchor}

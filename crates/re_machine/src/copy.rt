@@ -2,12 +2,11 @@
 
 ghost use Rattle.std.specs.Prelude.{◌≡◌, ◌∷◌, map, IfOk, OnOk};
 ghost use Rattle.re_syntax.specs.Tree.{tree, OneOf};
-ghost use Rattle.re_nodes.specs.Nodes.{node_of, Joined, Chosen};
+ghost use Rattle.re_syntax.specs.Nodes.{node_of, Joined, Chosen};
 ghost use Rattle.re_machine.specs.Copies.{Makes, wrapped, node_over};
 
 use am_text::{Items, NoMemory};
-use re_nodes::nodes_of;
-use re_syntax::{Re, RuneSpans};
+use re_syntax::{Re, RuneSpans, nodes_of};
 use std::alloc::Global;
 use std::collections::VecDeque;
 

@@ -3,7 +3,7 @@
 ghost use Rattle.std.specs.Prelude.{◌≡◌, ◌<◌, ◌≤◌, ◌+◌, [], ◌∷◌, List, ℕ, length, map, slice_index, slice_set, bit_or};
 ghost use Rattle.std.specs.Prelude.{IsTrue, ◌&&◌, ◌||◌, ◌^◌, true, false, IfOk, OnOk, if◌then◌else◌};
 ghost use Rattle.re_syntax.specs.Tree.{Tree, tree, LineStart, LineEnd};
-ghost use Rattle.re_nodes.specs.Nodes.{node_of, Alone, Joined, Chosen, Often, Repeated, Optional};
+ghost use Rattle.re_syntax.specs.Nodes.{node_of, Alone, Joined, Chosen, Often, Repeated, Optional};
 ghost use Rattle.re_spans.specs.declared.leaf.Here.{Here};
 ghost use Rattle.re_sets.specs.Words.{on};
 ghost use Rattle.re_sets.specs.Numbers.{letters};

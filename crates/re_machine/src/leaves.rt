@@ -2,7 +2,7 @@
 
 ghost use Rattle.std.specs.Prelude.{◌≡◌, ◌<◌, ◌≤◌, ◌^◌, ◌++◌, bit_or, if◌then◌else◌, length, map, IfOk, OnOk};
 ghost use Rattle.re_syntax.specs.Tree.{tree};
-ghost use Rattle.re_nodes.specs.Nodes.{node_of};
+ghost use Rattle.re_syntax.specs.Nodes.{node_of};
 ghost use Rattle.re_sets.specs.Numbers.{letters};
 ghost use Rattle.re_machine.specs.Listed.{tree_of, letter_of, IsListed};
 ghost use Rattle.re_machine.specs.Leaves.{leaves_of, taken_word};

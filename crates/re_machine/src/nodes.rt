@@ -2,14 +2,13 @@
 
 ghost use Rattle.std.specs.Prelude.{◌≡◌, IfOk};
 ghost use Rattle.re_syntax.specs.Tree.{tree};
-ghost use Rattle.re_nodes.specs.Nodes.{node_of};
+ghost use Rattle.re_syntax.specs.Nodes.{node_of};
 ghost use Rattle.re_sets.specs.Readings.{read_as};
 ghost use Rattle.re_machine.specs.Contexts.{has_anchor};
 ghost use Rattle.re_machine.specs.Listed.{tree_of, is_anchor, IsListed};
 
 use am_text::NoMemory;
-use re_nodes::nodes_of;
-use re_syntax::Re;
+use re_syntax::{Re, nodes_of};
 use std::alloc::Global;
 use std::collections::VecDeque;
 

@@ -2,7 +2,7 @@
 use Rattle.std.proofs.Common.{◌≡◌, false, List, [], ◌∷◌, ◌++◌, refl, ap, ◌∙◌}
 use Rattle.re_syntax.specs.Tree.{Tree, Letter, AnyLetter, OneOf, LineStart, LineEnd, Then, Either, Many, Several, Maybe}
 use Rattle.re_syntax.specs.Tree.{Group}
-use Rattle.re_nodes.specs.Nodes.{Node, Joined, Chosen, Often, Repeated, Optional, Numbered, nodes_of}
+use Rattle.re_syntax.specs.Nodes.{Node, Joined, Chosen, Often, Repeated, Optional, Numbered, nodes_of}
 use Rattle.re_spans.specs.Fresh.{with_node, with_nodes}
 use Rattle.re_spans.specs.Marks.{Marking, fresh}
 use Rattle.re_spans.specs.declared.leaf.Here.{Here}

@@ -1,6 +1,6 @@
 -- How the marks of a tree are made, node by node. No public contract needs this.
 use Rattle.std.specs.Prelude.{Bool, true, false, List, [], ◌∷◌}
-use Rattle.re_nodes.specs.Nodes.{Node, Alone, Joined, Chosen, Often, Repeated, Optional, Numbered}
+use Rattle.re_syntax.specs.Nodes.{Node, Alone, Joined, Chosen, Often, Repeated, Optional, Numbered}
 use Rattle.re_spans.specs.Marks.{Marking, OfLeaf, pair, either, leaf_mark, with_part, with_pair}
 use Rattle.re_spans.specs.declared.leaf.Here.{Here}
 use Rattle.re_spans.specs.declared.marks.Joint.{Joint}

@@ -3,7 +3,7 @@
 ghost use Rattle.std.specs.Prelude.{◌≡◌, ◌&&◌, ◌∷◌, false, map, IfOk, OnOk};
 ghost use Rattle.re_syntax.specs.Tree.{tree};
 ghost use Rattle.re_spans.specs.Leaves.{takes};
-ghost use Rattle.re_nodes.specs.Nodes.{node_of};
+ghost use Rattle.re_syntax.specs.Nodes.{node_of};
 ghost use Rattle.re_spans.specs.Marks.{marks_of, mark_of, is_alive, with_mark, passes, left_enters, right_enters, join};
 ghost use Rattle.re_spans.specs.Marks.{pair, either, wrap, leaf_mark, fresh, step, step_one, step_cat, step_alt};
 ghost use Rattle.re_spans.specs.Marks.{OfLeaf};
@@ -12,8 +12,7 @@ ghost use Rattle.re_spans.specs.Fresh.{both, with_last, with_last_two, with_node
 use crate::leaf::{Here, Read, is_null, takes};
 use crate::way::Way;
 use am_text::NoMemory;
-use re_nodes::nodes_of;
-use re_syntax::Re;
+use re_syntax::{Re, nodes_of};
 use std::alloc::Global;
 use std::collections::VecDeque;
 

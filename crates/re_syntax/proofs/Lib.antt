@@ -4,3 +4,4 @@ pub mod Steps
 pub mod Complete
 pub mod Live
 pub mod Answered
+pub mod Listing

@@ -7,3 +7,4 @@ pub mod Build
 pub mod Read
 pub mod Match
 pub mod Groups
+pub mod Nodes

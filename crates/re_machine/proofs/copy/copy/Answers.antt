@@ -1,6 +1,6 @@
 use Rattle.std.proofs.Common.{◌≡◌, ◌+◌, List, false, map, drop, subst, arith}
 use Rattle.re_syntax.specs.Tree.{tree}
-use Rattle.re_nodes.specs.Nodes.{Node, node_of, Builds}
+use Rattle.re_syntax.specs.Nodes.{Node, node_of, Builds}
 use Rattle.re_sets.proofs.Mirrored.{read_on}
 use Rattle.re_machine.proofs.Dropping.{drop_map_at, drop_map_all}
 use Rattle.re_machine.proofs.Listing.{builds_tree, builds_one, builds_some}

@@ -1,6 +1,6 @@
 use Rattle.std.specs.Prelude.{drop, map}
 use Rattle.re_syntax.specs.Tree.{tree}
-use Rattle.re_nodes.specs.Nodes.{node_of, Builds}
+use Rattle.re_syntax.specs.Nodes.{node_of, Builds}
 use Rattle.re_machine.proofs.copy.copy.Given as goal
 
 abbrev pub invariant-loop-k : goal.invariant-loop-k

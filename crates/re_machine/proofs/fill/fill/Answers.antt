@@ -1,6 +1,6 @@
 use Rattle.std.proofs.Common.{◌≡◌, ◌<◌, ◌≤◌, ◌+◌, List, [], length, map, drop, refl, subst, arith}
 use Rattle.re_syntax.specs.Tree.{tree}
-use Rattle.re_nodes.specs.Nodes.{Node, node_of}
+use Rattle.re_syntax.specs.Nodes.{Node, node_of}
 use Rattle.re_machine.specs.Listed.{tree_of, list_of}
 use Rattle.re_machine.specs.Filling.{IsFilling}
 use Rattle.re_machine.proofs.Joining.{len}

@@ -1,6 +1,6 @@
 use Rattle.std.proofs.Common.{◌≡◌, ◌∙◌, ◌+◌, map, drop, arith}
 use Rattle.re_syntax.specs.Tree.{tree}
-use Rattle.re_nodes.specs.Nodes.{node_of}
+use Rattle.re_syntax.specs.Nodes.{node_of}
 use Rattle.re_machine.specs.Listed.{list_of}
 use Rattle.re_machine.proofs.Dropping.{drop_map_at, drop_map_all}
 use Rattle.re_machine.proofs.Listing.{letters_tree, letters_more, letters_done}

@@ -1,6 +1,6 @@
 use Rattle.std.proofs.Common.{◌≡◌, [], ◌∷◌, length, map}
 use Rattle.re_syntax.specs.Tree.{tree}
-use Rattle.re_nodes.specs.Nodes.{node_of}
+use Rattle.re_syntax.specs.Nodes.{node_of}
 use Rattle.re_spans.specs.Fresh.{with_nodes}
 use Rattle.re_spans.specs.Marks.{marks_of, fresh}
 use Rattle.re_spans.proofs.marks.fresh.Given as goal

@@ -1,6 +1,6 @@
 use Rattle.std.proofs.Common.{◌≡◌, ◌∙◌, ◌+◌, sym, ap, drop, arith}
 use Rattle.re_syntax.specs.Tree.{tree}
-use Rattle.re_nodes.specs.Nodes.{node_of}
+use Rattle.re_syntax.specs.Nodes.{node_of}
 use Rattle.re_machine.specs.Listed.{any_anchor, list_of}
 use Rattle.re_machine.proofs.Dropping.{drop_map_at, drop_map_all}
 use Rattle.re_machine.proofs.Listing.{anchor_tree, anchor_found, anchor_passed}

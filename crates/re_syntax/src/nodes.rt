@@ -2,10 +2,10 @@
 
 ghost use Rattle.std.specs.Prelude.{◌≡◌, ◌++◌, map, IfOk, OnOk};
 ghost use Rattle.re_syntax.specs.Tree.{tree};
-ghost use Rattle.re_nodes.specs.Nodes.{node_of, nodes_of, parts_before};
+ghost use Rattle.re_syntax.specs.Nodes.{node_of, nodes_of, parts_before};
 
+use crate::re::Re;
 use am_text::NoMemory;
-use re_syntax::Re;
 use std::alloc::Global;
 use std::collections::VecDeque;
 

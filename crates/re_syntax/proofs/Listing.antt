@@ -3,7 +3,7 @@ use Rattle.std.proofs.Common.{◌≡◌, ℕ, ◌+◌, ◌<◌, Bool, true, fals
 use Rattle.std.proofs.Common.{append_assoc, arith}
 use Rattle.re_syntax.specs.Tree.{Tree, Letter, AnyLetter, OneOf, LineStart, LineEnd, Then, Either, Many, Several, Maybe}
 use Rattle.re_syntax.specs.Tree.{Group, nodes}
-use Rattle.re_nodes.specs.Nodes.{Node, node_of, nodes_of, nodes_of_all, parts_before}
+use Rattle.re_syntax.specs.Nodes.{Node, node_of, nodes_of, nodes_of_all, parts_before}
 
 -- how many nodes trees have
 abbrev pub total : List Tree → ℕ
