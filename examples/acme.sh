@@ -53,18 +53,24 @@ sys.stdout.buffer.write(text.encode("utf-8", "surrogateescape"))
 '
 }
 
-# Does lines, and tells what is refused. What was read goes to the standard output.
+# Does lines, and tells what is refused, and that nothing was done. What was read goes to the standard output.
 acme_do() {
-    local line status=0
-    while IFS= read -r line; do
-        case $line in
-        'data :') ;;
-        'data :'*) printf '%s\n' "$line" | acme_text ;;
-        ok*) ;;
-        *) printf '%s\n' "$line" >&2 && status=1 ;;
-        esac
-    done < <("$ACMEFS" do "$ACME" "${1:-acme}")
-    return "$status"
+    local ends
+    "$ACMEFS" do "$ACME" "${1:-acme}" | {
+        status=0
+        while IFS= read -r line; do
+            case $line in
+            'data :') ;;
+            'data :'*) printf '%s\n' "$line" | acme_text ;;
+            ok*) ;;
+            *) printf '%s\n' "$line" >&2 && status=1 ;;
+            esac
+        done
+        exit "$status"
+    }
+    ends=("${PIPESTATUS[@]}")
+    [ "${ends[0]}" -eq 0 ] || { echo "acmefs do ended with status ${ends[0]} (acmefs(1) has what it means)" >&2 && return 1; }
+    return "${ends[1]}"
 }
 
 acme_write() {

@@ -22,6 +22,7 @@ import time
 from typing import Any, Callable, Dict, List, Mapping, Optional, Sequence, Tuple, Union
 
 from harness import PROGRAM
+from serving import is_listening
 
 from acme9 import wire
 from acme9.connection import MSIZE as MESSAGE_LIMIT
@@ -183,17 +184,6 @@ class Client:
         """Reads until the server has ended, and keeps nothing."""
         while self.socket.recv(65536):
             pass
-
-
-def is_listening(path: str) -> bool:
-    """Waits until there is a socket that takes connections, as Linux tells, and answers whether there is."""
-    for _ in range(SECONDS * 100):
-        with open("/proc/net/unix", encoding="utf-8") as file:
-            rows = [it.split() for it in file]
-        if any(row[3] == "00010000" and row[-1] == path for row in rows):
-            return True
-        time.sleep(0.01)
-    return False
 
 
 class Lines:

@@ -2,6 +2,7 @@
 
 import subprocess
 import threading
+import time
 from typing import Any, Callable, Dict, List
 
 from harness import PROGRAM, SECONDS, Case, call, same, store
@@ -45,6 +46,17 @@ def in_rooms(*cases: Callable[[Room], object]) -> Dict[str, Case]:
     return {it.__name__.replace("_", "-"): of(it) for it in cases}
 
 
+def is_listening(path: str) -> bool:
+    """Waits until there is a socket that takes connections, as Linux tells, and answers whether there is."""
+    for _ in range(SECONDS * 100):
+        with open("/proc/net/unix", encoding="utf-8") as file:
+            rows = [it.split() for it in file]
+        if any(row[3] == "00010000" and row[-1] == path for row in rows):
+            return True
+        time.sleep(0.01)
+    return False
+
+
 class Server:
     """A server for so many clients, with a script beside them."""
 
@@ -55,6 +67,11 @@ class Server:
 
     def slot(self, number: int = 0) -> str:
         return f"{self.path}.{number}"
+
+    def listens(self, number: int = 0) -> str:
+        """A slot, once a program that doesn't wait for it can connect."""
+        same(is_listening(self.slot(number)), True, "whether the server listens")
+        return self.slot(number)
 
     def journal(self) -> str:
         """What it writes at its end, which comes with status 0."""

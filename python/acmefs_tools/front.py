@@ -40,6 +40,8 @@ MOST_CLIENTS = 64
 STARTING = 10.0
 # how often it is looked for
 LOOKS = 0.02
+# what the sockets don't allow: anything to others, and to execute
+UMASK = 0o177
 TATTACH = 104
 # what a connection that has ended sends to the front's bell; a signal sends its number
 RUNG = b"\0"
@@ -169,8 +171,10 @@ def is_free(path: str) -> bool:
 
 
 def listeners(paths: Dict[str, Optional[str]]) -> Dict[socket.socket, Optional[str]]:
-    """Sockets that listen at paths, all or none, each with the tree of its path."""
+    """Sockets that listen at paths, all or none, each with the tree of its path. They are for the user alone, whatever
+    the umask is."""
     found: Dict[socket.socket, Optional[str]] = {}
+    before = os.umask(UMASK)
     try:
         for path, tree in paths.items():
             if not is_free(path):
@@ -182,6 +186,8 @@ def listeners(paths: Dict[str, Optional[str]]) -> Dict[socket.socket, Optional[s
     except (Error, OSError) as why:
         forget(found)
         raise Error(str(why) if isinstance(why, Error) else f"{path}: {why.strerror or why}") from None
+    finally:
+        os.umask(before)
     return found
 
 

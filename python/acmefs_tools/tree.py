@@ -24,6 +24,8 @@ from .lines import INPUT_LIMIT, Fault, Report, decoded, escape, report_lines
 
 NAME = "acmefs-tree"
 NO_ROOM = "there is no room for it in a script"
+# the bytes of a script that are left for what its user does with the folder
+LEFT = 65536
 # what no part of a path of the editor's tree has
 BAD_RUNE = re.compile(r"[\0-\x20\\]")
 
@@ -49,7 +51,7 @@ class Loading:
     """The lines of a folder, as far as a script has room for them."""
 
     def __init__(self, at: List[str]):
-        self._at, self._room = at, INPUT_LIMIT
+        self._at, self._room = at, INPUT_LIMIT - LEFT
         self.left_out: List[str] = []
 
     def lines(self, found: Iterator[Found]) -> Iterator[str]:
@@ -67,16 +69,24 @@ class Loading:
             path = below([], parts)
             if path not in made:
                 made.update(below([], parts[:k]) for k in range(len(parts)))
-                yield f"dir {path}"
+                if self._has_room(f"dir {path}"):
+                    yield f"dir {path}"
+                else:
+                    self.left_out.append(f"{below([], parts[len(self._at):])}: {NO_ROOM}")
+
+    def _has_room(self, line: str) -> bool:
+        """Whether there is room for a line, which then is taken."""
+        size = len(line.encode("utf-8")) + 1
+        has_room = size <= self._room
+        self._room -= size if has_room else 0
+        return has_room
 
     def _line(self, it: Found) -> str:
         """The line of a file; nothing of a folder, and of what is left out."""
         why, line = self._why(it), ""
         if not why and it.data is not None:
             line = f"file {below(self._at, [*it.parts])} :{escape(it.data.decode('utf-8'))}"
-            size = len(line.encode("utf-8")) + 1
-            why = NO_ROOM if size > self._room else ""
-            self._room -= 0 if why else size
+            why = "" if self._has_room(line) else NO_ROOM
         if why:
             self.left_out.append(f"{below([], [*it.parts])}: {why}")
         return "" if why else line
