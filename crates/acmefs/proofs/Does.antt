@@ -5,7 +5,7 @@ use Rattle.std.specs.Char.{encode_utf8}
 use Rattle.std.specs.List.{AllByRecursion}
 use Rattle.std.specs.Str.{is_utf8, chars}
 use Rattle.am_base.specs.Outside.{HasRisen}
-use Rattle.am_base.specs.Seen.{Given, Seen}
+use Rattle.am_base.specs.Seen.{Given, HostSeen, Seen}
 use Rattle.am_text.specs.Lines.{lines_of}
 use Rattle.am_journal.specs.declared.ending.Ending.{Ending}
 use Rattle.am_journal.specs.declared.event.Event.{Event}
@@ -22,7 +22,7 @@ use Rattle.am_do.specs.declared.running.Doing.{Doing}
 use Rattle.am_do.specs.declared.stop.Stop.{Stop}
 use Rattle.am_do.specs.declared.stop.Stop.TheVariants as stop
 use Rattle.am_do.specs.Ends as talks
-use Rattle.am_do.specs.Ends.{Peer, Refuses, Lined, Says, end_at, unlinked}
+use Rattle.am_do.specs.Ends.{IsGivenAt, Peer, Refuses, Lined, Says, end_at, unlinked}
 use Rattle.am_do.specs.Complete.{NothingFails}
 use Rattle.am_do.specs.Talks.{Told, told_of}
 use Rattle.am_do.specs.Went as talking
@@ -37,7 +37,7 @@ use Rattle.am_server.specs.declared.served.ServedEnd.TheVariants as end
 use Rattle.am_words.specs.declared.asked.Tree.{Tree}
 use Rattle.am_words.specs.declared.asked.Tree.TheVariants.{Acme, Plumb}
 use Rattle.am_words.specs.Words.{tree_name}
-use Rattle.acmefs.specs.Does.{Does, closed_by, do_status, ended_by, entry_at, entry_of, how_ended, listed, peer_of, undialled}
+use Rattle.acmefs.specs.Does.{AsksAt, Does, closed_by, do_status, ended_by, entry_at, entry_of, how_ended, listed, peer_of, undialled}
 use Rattle.acmefs.specs.declared.status.Status.{Status}
 use Rattle.acmefs.specs.declared.status.Status.TheVariants as exit
 use Rattle.acmefs.specs.Statuses.{number_of}
@@ -185,3 +185,42 @@ module _ {G L S K : Type 0} where
     where
       idly : Says (peer_of m) tree i o (unlinked doing.NoMemory)
       idly = inr (inr (inl (record { nothing = refl; silent = silent })))
+
+  -- ---- what the host was asked for
+
+  pub none_asked : (m : Outside G L S K) (path : List ℕ) (h : HostSeen) (served : List (Served G L S K)) → served ≡ [] → h.now ≡ h.before → AsksAt m path h served
+  none_asked m path h served none same = subst (AsksAt m path h) (sym none) same
+
+  -- no client is told of where there was no link, and the host has not failed
+  pub none_linked : (d : Doing L S K) (entry : Option (Served G L S K)) (served : List (Served G L S K)) → entry ≡ entry_of d → served ≡ listed entry → served ≡ []
+      → (d.link ≡ None) × (d.end ≡ doing.HostFault → ⊥)
+  none_linked d entry served is told none = at_ends d (sym (told ∙ ap (λ (e : Option (Served G L S K)). listed e) is) ∙ none)
+    where
+      unasked : (e : DoEnd) (link : Option L) (reader : Option S) (writer : Option K) (why : Option Stop)
+          → listed {G = G} (entry_of (record { end = e; link = link; reader = reader; writer = writer; stop = why })) ≡ [] → (link ≡ None) × (e ≡ doing.HostFault → ⊥)
+      unasked e None (Some reader) writer why none = absurd cc
+      unasked e (Some link) None writer why none = absurd cc
+      unasked e (Some link) (Some reader) writer why none = absurd cc
+      unasked doing.HostFault None None writer why none = absurd cc
+      unasked doing.Done None None writer why none = (refl, λ h. absurd cc)
+      unasked doing.Script None None writer why none = (refl, λ h. absurd cc)
+      unasked doing.ReadFault None None writer why none = (refl, λ h. absurd cc)
+      unasked doing.Talk None None writer why none = (refl, λ h. absurd cc)
+      unasked doing.NoMemory None None writer why none = (refl, λ h. absurd cc)
+      unasked doing.WriteFault None None writer why none = (refl, λ h. absurd cc)
+
+      at_ends : (d : Doing L S K) → listed {G = G} (entry_of d) ≡ [] → (d.link ≡ None) × (d.end ≡ doing.HostFault → ⊥)
+      at_ends d none = unasked d.end d.link d.reader d.writer d.stop none
+
+  -- the link of the client that is told of is the one that the host gave
+  pub asked_at : (m : Outside G L S K) (path : List ℕ) (h : HostSeen) (d : Doing L S K) (entry : Option (Served G L S K)) (served : List (Served G L S K))
+      → entry ≡ entry_of d → served ≡ listed entry → (served ≡ [] → h.now ≡ h.before) → IsGivenAt (peer_of m) path h d.link → AsksAt m path h served
+  asked_at m path h d entry served is told untouched given =
+      subst (AsksAt m path h) (sym same) (by_entry (how_ended d.end (is_some d.link) (is_some d.reader) d.stop) (λ e. untouched (same ∙ e)))
+    where
+      same : served ≡ listed (entry_of d)
+      same = told ∙ ap (λ (e : Option (Served G L S K)). listed e) is
+
+      by_entry : (e : Option ServedEnd) → (listed {G = G} (entry_at d e) ≡ [] → h.now ≡ h.before) → AsksAt m path h (listed (entry_at d e))
+      by_entry None none = none refl
+      by_entry (Some e) none = given

@@ -1,5 +1,6 @@
 -- What holds where nothing is done.
 use Rattle.std.proofs.Common.{◌≡◌, inl, inr, ℕ, List, [], ◌++◌, Option, Some, None, ◌∙◌, refl, sym, ap, subst, arith}
+use Rattle.std.specs.Prelude.{string_bytes}
 use Rattle.std.proofs.lemmas.List.{append-nil}
 use Rattle.am_base.specs.Outside.{BytesTold, AreTold, told_then}
 use Rattle.am_base.specs.Seen.{Given, Seen, seen}
@@ -55,41 +56,42 @@ module _ {G L S K : Type 0} where
 
   -- whatever was asked for, that is one of its ends
   asked_idle : (a : Asked) (status : Status) (m : Outside G L S K) (i : Given) (first : BytesTold) (journal : List Event) (served : List (Served G L S K))
-      → status ≡ exit.NoMemory → i.input.now.bytes ≡ i.input.before.bytes → journal ≡ [] → served ≡ [] → OfJournal journal → OfAsked a (Nothing status m i first journal served)
-  asked_idle asked.Replay status m i first journal served is unread empty none of =
+      → status ≡ exit.NoMemory → i.input.now.bytes ≡ i.input.before.bytes → i.host.now ≡ i.host.before → journal ≡ [] → served ≡ [] → OfJournal journal → OfAsked a (Nothing status m i first journal served)
+  asked_idle asked.Replay status m i first journal served is unread unasked empty none of =
       of_replay (Nothing status m i first journal served) end.NoMemory is
       (bytes_in i.input.before.bytes, are_told i.input.before.bytes, ran_out (script_of (bytes_in i.input.before.bytes)) (seen first first) journal refl empty) none of
-  asked_idle asked.Trace status m i first journal served is unread empty none of = record {
+  asked_idle asked.Trace status m i first journal served is unread unasked empty none of = record {
     traces = traces.idle status i.input.before i.input.now first journal is empty;
     unserved = none;
     journal = of;
   }
-  asked_idle asked.Pack status m i first journal served is unread empty none of = record {
+  asked_idle asked.Pack status m i first journal served is unread unasked empty none of = record {
     packs = packs.idle status i.input.before i.input.now first journal is empty;
     unserved = none;
   }
-  asked_idle (asked.Drill rounds) status m i first journal served is unread empty none of =
+  asked_idle (asked.Drill rounds) status m i first journal served is unread unasked empty none of =
       of_drill rounds (Nothing status m i first journal served)
       (drilling.NoMemory, is, ((events rounds, ap (λ (j : List Event). j ++ events rounds) empty), (refl, refl))) unread none of
-  asked_idle (asked.Serve path clients) status m i first journal served is unread empty none of = record {
+  asked_idle (asked.Serve path clients) status m i first journal served is unread unasked empty none of = record {
     serves = (serving.NoMemory, is, inr (inr (inl (refl, record { silent = refl; empty = empty; none = none }))));
     replied = λ h. none_replied m journal served none;
     sound = none_ended m journal served none;
     complete = none_complete m clients i.input.before.bytes i (seen first first) journal served status is;
     journal = of;
   }
-  asked_idle (asked.Do path tree) status m i first journal served is unread empty none of = record {
+  asked_idle (asked.Do path tree) status m i first journal served is unread unasked empty none of = record {
     does = does.idle status m (tree_name tree) i (seen first first) served refl is none;
+    dialled = does.none_asked m (string_bytes path) i.host served none unasked;
     empty = empty;
     journal = of;
   }
 
   -- memory ran out before the words were read
   pub of_want : (words : List (List ℕ)) (status : Status) (m : Outside G L S K) (i : Given) (first : BytesTold) (journal : List Event) (served : List (Served G L S K))
-      → AreKnown words → status ≡ exit.NoMemory → i.input.now.bytes ≡ i.input.before.bytes → journal ≡ [] → served ≡ [] → OfJournal journal
+      → AreKnown words → status ≡ exit.NoMemory → i.input.now.bytes ≡ i.input.before.bytes → i.host.now ≡ i.host.before → journal ≡ [] → served ≡ [] → OfJournal journal
       → OfWords words (Nothing status m i first journal served)
-  of_want words status m i first journal served known is unread empty none of = record {
-    asked = λ a x. asked_idle a status m i first journal served is unread empty none of;
+  of_want words status m i first journal served known is unread unasked empty none of = record {
+    asked = λ a x. asked_idle a status m i first journal served is unread unasked empty none of;
     other = λ unknown. absurd (unknown known);
     usage = λ h. absurd (omega (arith, ap number_of is, ap number_of h));
     read_fault = λ h. absurd (omega (arith, ap number_of is, ap number_of h));

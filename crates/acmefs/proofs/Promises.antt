@@ -18,7 +18,7 @@ use Rattle.acmefs.proofs.PackEnds as packs
 use Rattle.acmefs.proofs.Promised as replays
 use Rattle.acmefs.proofs.ServeEnds.{never_usage, serve_read_fault, serve_write_fault}
 use Rattle.acmefs.proofs.TraceEnds as traces
-use Rattle.acmefs.proofs.Words.{asked_once, known, number, one_number, rounds_once, tree_once}
+use Rattle.acmefs.proofs.Words.{asked_once, done_once, known, number, one_number, rounds_once}
 
 module _ {G L S K : Type 0} where
   -- ---- one thing is asked for
@@ -30,6 +30,13 @@ module _ {G L S K : Type 0} where
   pub at_path : (p q : List ℕ) (clients : ℕ) (r : Run G L S K) → p ≡ q → OfServe p clients r → OfServe q clients r
   at_path p q clients r e of = subst (λ (x : List ℕ). OfServe x clients r) e of
 
+  did_at : (p q : List ℕ) (s t : Tree) (r : Run G L S K) → (p ≡ q) × (s ≡ t) → OfDo p s r → OfDo q t r
+  did_at p q s t r e of = subst (λ (x : List ℕ). OfDo x t r) e.0 (subst (λ (k : Tree). OfDo p k r) e.1 of)
+
+  -- doing lines at one path under two names
+  pub did_path : (p q : List ℕ) (tree : Tree) (r : Run G L S K) → p ≡ q → OfDo p tree r → OfDo q tree r
+  did_path p q tree r e of = subst (λ (x : List ℕ). OfDo x tree r) e of
+
   by_number : (words : List (List ℕ)) (a b : Asked) (r : Run G L S K) → number a ≡ number b → AsksFor words a → AsksFor words b → OfAsked a r → OfAsked b r
   by_number words asked.Replay asked.Replay r e x y of = of
   by_number words asked.Trace asked.Trace r e x y of = of
@@ -37,7 +44,7 @@ module _ {G L S K : Type 0} where
   by_number words (asked.Drill m) (asked.Drill n) r e x y of = subst (λ (k : ℕ). OfDrill k r) (rounds_once words m n x y) of
   by_number words (asked.Serve p m) (asked.Serve q n) r e x y of =
       served_at (string_bytes p) (string_bytes q) m n r (asked_once words (string_bytes p) (string_bytes q) m n x.0 y.0) of
-  by_number words (asked.Do p s) (asked.Do q t) r e x y of = subst (λ (k : Tree). OfDo k r) (tree_once words (string_bytes p) (string_bytes q) s t x.0 y.0) of
+  by_number words (asked.Do p s) (asked.Do q t) r e x y of = did_at (string_bytes p) (string_bytes q) s t r (done_once words (string_bytes p) (string_bytes q) s t x.0 y.0) of
   by_number words a b r e x y of = absurd (omega (arith, e))
 
   -- ---- what the statuses say

@@ -75,15 +75,15 @@ module _ {G L S K : Type 0} where
   no_write_fault slots script.Done h =
       host_or (list_any has_failed slots) (end_done (list_any wants_untold slots) false) exit.WriteFault (λ x. absurd (omega (arith, ap number_of x))) (whole_or (list_any wants_untold slots)) h
 
-  writes_read : (slots : List (Slot G L S K)) (s : ScriptEnd) (o : Seen) (text : List ℕ) (e : ServeEnd) → serve_status e ≡ exit.ReadFault → Writes slots s o text e → ⊥
-  writes_read slots s o text e h (inl w) = no_read_fault slots s false (ap serve_status (sym w.0) ∙ h)
-  writes_read slots s o text e h (inr (inl w)) = no_read_fault slots s true (ap serve_status (sym w.0) ∙ h)
-  writes_read slots s o text e h (inr (inr w)) = absurd (omega (arith, ap number_of (ap serve_status w.0), ap number_of h))
+  writes_read : (journal : List Event) (slots : List (Slot G L S K)) (s : ScriptEnd) (o : Seen) (e : ServeEnd) → serve_status e ≡ exit.ReadFault → Writes journal slots s o e → ⊥
+  writes_read journal slots s o e h (inl w) = no_read_fault slots s false (ap serve_status (sym w.0) ∙ h)
+  writes_read journal slots s o e h (inr (inl w)) = no_read_fault slots s true (ap serve_status (sym w.0) ∙ h)
+  writes_read journal slots s o e h (inr (inr w)) = absurd (omega (arith, ap number_of (ap serve_status w.0), ap number_of h))
 
-  writes_fault : (slots : List (Slot G L S K)) (s : ScriptEnd) (o : Seen) (text : List ℕ) (e : ServeEnd) → serve_status e ≡ exit.WriteFault → Writes slots s o text e → HasRisen o.before.faults o.now.faults
-  writes_fault slots s o text e h (inl w) = absurd (no_write_fault slots s (ap serve_status (sym w.0) ∙ h))
-  writes_fault slots s o text e h (inr (inl w)) = w.1.risen
-  writes_fault slots s o text e h (inr (inr w)) = absurd (omega (arith, ap number_of (ap serve_status w.0), ap number_of h))
+  writes_fault : (journal : List Event) (slots : List (Slot G L S K)) (s : ScriptEnd) (o : Seen) (e : ServeEnd) → serve_status e ≡ exit.WriteFault → Writes journal slots s o e → HasRisen o.before.faults o.now.faults
+  writes_fault journal slots s o e h (inl w) = absurd (no_write_fault slots s (ap serve_status (sym w.0) ∙ h))
+  writes_fault journal slots s o e h (inr (inl w)) = w.1.risen
+  writes_fault journal slots s o e h (inr (inr w)) = absurd (omega (arith, ap number_of (ap serve_status w.0), ap number_of h))
 
   too_long_ends : (o : Seen) (journal : List Event) (served : List (Served G L S K)) (e : ServeEnd) → ends.IsTooLong o journal served e → (serve_status e ≡ exit.Refused) ⊎ (serve_status e ≡ exit.NoMemory)
   too_long_ends o journal served e t = ⊎_elim (λ w. inl (ap serve_status w.0)) (λ w. inr (ap serve_status w.0)) t.put
@@ -95,7 +95,7 @@ module _ {G L S K : Type 0} where
   serve_read_fault m path clients i o journal served status e is (inr (inl (long, t))) h =
       ⊎_elim (λ (x : serve_status e ≡ exit.Refused). absurd (omega (arith, ap number_of x, ap number_of is, ap number_of h))) (λ (x : serve_status e ≡ exit.NoMemory). absurd (omega (arith, ap number_of x, ap number_of is, ap number_of h))) (too_long_ends o journal served e t)
   serve_read_fault m path clients i o journal served status e is (inr (inr (inl w))) h = absurd (omega (arith, ap number_of (ap serve_status w.0), ap number_of is, ap number_of h))
-  serve_read_fault m path clients i o journal served status e is (inr (inr (inr (lines, told, fits, s)))) h = absurd (writes_read s.slots s.done o _ e (sym is ∙ h) s.writes)
+  serve_read_fault m path clients i o journal served status e is (inr (inr (inr (lines, told, fits, s)))) h = absurd (writes_read journal s.slots s.done o e (sym is ∙ h) s.writes)
 
   -- status 4 comes only where the output's count has risen
   pub serve_write_fault : (m : Outside G L S K) (path : List ℕ) (clients : ℕ) (i : Given) (o : Seen) (journal : List Event) (served : List (Served G L S K)) (status : Status) (e : ServeEnd)
@@ -104,7 +104,7 @@ module _ {G L S K : Type 0} where
   serve_write_fault m path clients i o journal served status e is (inr (inl (long, t))) h =
       ⊎_elim (λ (x : serve_status e ≡ exit.Refused). absurd (omega (arith, ap number_of x, ap number_of is, ap number_of h))) (λ (x : serve_status e ≡ exit.NoMemory). absurd (omega (arith, ap number_of x, ap number_of is, ap number_of h))) (too_long_ends o journal served e t)
   serve_write_fault m path clients i o journal served status e is (inr (inr (inl w))) h = absurd (omega (arith, ap number_of (ap serve_status w.0), ap number_of is, ap number_of h))
-  serve_write_fault m path clients i o journal served status e is (inr (inr (inr (lines, told, fits, s)))) h = writes_fault s.slots s.done o _ e (sym is ∙ h) s.writes
+  serve_write_fault m path clients i o journal served status e is (inr (inr (inr (lines, told, fits, s)))) h = writes_fault journal s.slots s.done o e (sym is ∙ h) s.writes
 
   -- where nothing was served, no sink lacks a reply
   pub none_replied : (m : Outside G L S K) (journal : List Event) (served : List (Served G L S K)) → served ≡ [] → AllByRecursion (GotAll m journal) served

@@ -123,10 +123,14 @@ rounds_once words a b h k = let e : Some a ≡ Some b = sym h ∙ k in ap (round
     rounds_in other None = other
     rounds_in other (Some x) = x
 
--- one tree is asked for
-pub tree_once : (words : List (List ℕ)) (p q : List ℕ) (a b : Tree) → asks_do words ≡ Some (p, a) → asks_do words ≡ Some (q, b) → a ≡ b
-tree_once words p q a b h k = let e : Some (p, a) ≡ Some (q, b) = sym h ∙ k in ap (tree_in a) e
+-- words ask for one path and one tree
+pub done_once : (words : List (List ℕ)) (p q : List ℕ) (a b : Tree) → asks_do words ≡ Some (p, a) → asks_do words ≡ Some (q, b) → (p ≡ q) × (a ≡ b)
+done_once words p q a b h k = let e : Some (p, a) ≡ Some (q, b) = sym h ∙ k in (ap (path_in p) e, ap (tree_in a) e)
   where
+    path_in : List ℕ → Option (List ℕ × Tree) → List ℕ
+    path_in other None = other
+    path_in other (Some x) = x.0
+
     tree_in : Tree → Option (List ℕ × Tree) → Tree
     tree_in other None = other
     tree_in other (Some x) = x.1

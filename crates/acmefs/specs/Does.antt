@@ -1,6 +1,6 @@
 -- What doing lines over a connection comes to.
 use Rattle.std.specs.Prelude.{◌≡◌, ◌⊎◌, ℕ, Bool, true, false, List, [], ◌∷◌, Option, Some, None, is_some, IfSome, if◌then◌else◌}
-use Rattle.am_base.specs.Seen.{Given, Seen}
+use Rattle.am_base.specs.Seen.{Given, HostSeen, Seen}
 use Rattle.ninep_client.specs.declared.fault.CallFault.{CallFault}
 use Rattle.ninep_client.specs.declared.fault.CallFault.TheVariants as fault
 use Rattle.am_do.specs.declared.running.DoEnd.{DoEnd}
@@ -9,7 +9,7 @@ use Rattle.am_do.specs.declared.running.Doing.{Doing}
 use Rattle.am_do.specs.declared.stop.Stop.{Stop}
 use Rattle.am_do.specs.declared.stop.Stop.TheVariants as stop
 use Rattle.am_do.specs.Complete.{NothingFails}
-use Rattle.am_do.specs.Ends.{Peer, Says, peer}
+use Rattle.am_do.specs.Ends.{IsGivenAt, Peer, Says, peer}
 use Rattle.am_slots.specs.Slots.{Outside}
 use Rattle.am_server.specs.declared.served.Served.{Served}
 use Rattle.am_server.specs.declared.served.ServedEnd.{ServedEnd}
@@ -81,6 +81,11 @@ module _ {G L S K : Type 0} where
 
   abbrev pub peer_of : Outside G L S K → Peer L S K
   peer_of m = peer m.link m.reader m.writer
+
+  -- What the host was asked for: nothing, where no client is told of; else it gave one link, which was dialled at this path, or none.
+  abbrev pub AsksAt : Outside G L S K → List ℕ → HostSeen → List (Served G L S K) → Type 0
+  AsksAt m path h [] = h.now ≡ h.before
+  AsksAt m path h (s ∷ others) = IsGivenAt (peer_of m) path h s.link
 
   -- What doing lines over a tree comes to: the exit status and the entry of the client are those of one doing, which is as the lines and
   -- the replies to them say. Where nothing outside fails and all is answered, all is done and written, or memory runs out.

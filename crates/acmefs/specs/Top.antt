@@ -25,14 +25,14 @@ use Rattle.am_replay.specs.Ends.{Says, IsIdle, RanTold}
 use Rattle.am_replay.specs.Own.{PutsOwn, RoundTrips}
 use Rattle.acmefs.specs.Ends.{IsComplete, Drilled, IsDrilled, IsServeComplete, status_of}
 use Rattle.acmefs.specs.Ends.{serve_status}
-use Rattle.acmefs.specs.Does.{Does}
+use Rattle.acmefs.specs.Does.{AsksAt, Does}
 use Rattle.acmefs.specs.Packs.{PackEnds}
 use Rattle.acmefs.specs.Traces.{TraceEnds}
 use Rattle.acmefs.specs.declared.status.Status.{Status}
 use Rattle.acmefs.specs.declared.status.Status.TheVariants as exit
 
 -- All that is seen of a run: the exit status, what the outside's objects tell, what was given (what
--- the input tells, and the host's counts of faults), the output, the journal and the connections.
+-- the input and the host tell), the output, the journal and the connections.
 pub record Run (G L S K : Type 0) : Type 0 where
   pub status : Status
   pub objects : Outside G L S K
@@ -142,8 +142,10 @@ module _ {G L S K : Type 0} where
   -- of the word `do` with a path and a tree: what the server is sent and what is written are those
   -- of the lines and of the replies to them, or fronts of them, as the status and the connection's
   -- end tell. All lines are checked before anything is dialled.
-  pub record OfDo (tree : Tree) (r : Run G L S K) : Type 0 where
+  pub record OfDo (path : List ℕ) (tree : Tree) (r : Run G L S K) : Type 0 where
     pub does : Does r.status r.objects (tree_name tree) r.given r.output r.served
+    -- The link of the client that is told of was dialled at the path, and the host gave no other.
+    pub dialled : AsksAt r.objects path r.given.host r.served
     -- No journal is kept.
     pub empty : r.journal ≡ []
     pub journal : OfJournal r.journal
@@ -155,7 +157,7 @@ module _ {G L S K : Type 0} where
   OfAsked asked.Pack r = OfPack r
   OfAsked (asked.Drill rounds) r = OfDrill rounds r
   OfAsked (asked.Serve path clients) r = OfServe (string_bytes path) clients r
-  OfAsked (asked.Do path tree) r = OfDo tree r
+  OfAsked (asked.Do path tree) r = OfDo (string_bytes path) tree r
 
   -- of all words
   pub record OfWords (words : List (List ℕ)) (r : Run G L S K) : Type 0 where

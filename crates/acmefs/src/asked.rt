@@ -116,10 +116,12 @@ pub(crate) fn do_asked<I: Source, O: Sink, H: Host, R: Threads + Wait + Sync>(
 ) -> Outcome<H>
     ensures words { OfWords words.now (run result.status
         (outside H.G.told H.G.L.told H.G.L.R.told H.G.L.W.told)
-        (given (I.told input.old) (I.told input.new) (H.faults host.old) (H.faults host.new))
+        (given (I.told input.old) (I.told input.new) (H.told host.old) (H.told host.new))
         (seen (O.told output.old) (O.told output.new)) result.journal result.served) }
     // Only words that ask for serving, or for doing lines, touch the host.
     ensures untouched { asks_serve words.now ≡ None → asks_do words.now ≡ None → host.new ≡ host.old }
+    // It is asked for nothing where no slot and no client is told of.
+    ensures unasked { result.served ≡ [] → host.new ≡ host.old }
 {
     match read_words(alloc, words.as_slice()) {
         Ok(Some(Asked::Replay)) => replayed(alloc, input, output),

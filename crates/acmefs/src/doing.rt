@@ -147,10 +147,12 @@ pub fn do_main<I: Source, O: Sink, H: Host>(
     host: &mut H,
 ) -> Outcome<H>
     // What doing lines promises.
-    ensures { OfDo tree (run result.status
+    ensures does { OfDo path.now tree (run result.status
         (outside H.G.told H.G.L.told H.G.L.R.told H.G.L.W.told)
-        (given (I.told input.old) (I.told input.new) (H.faults host.old) (H.faults host.new))
+        (given (I.told input.old) (I.told input.new) (H.told host.old) (H.told host.new))
         (seen (O.told output.old) (O.told output.new)) result.journal result.served) }
+    // Where no client is told of, the host was asked for nothing.
+    ensures unasked { result.served ≡ [] → host.new ≡ host.old }
 {
     journals_are_lawful();
     let Ok(room) = Vec::with_capacity(alloc, 1) else {

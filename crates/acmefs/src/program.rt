@@ -1,6 +1,6 @@
 //! All that the program does.
 
-ghost use Rattle.std.specs.Prelude.{◌≡◌, None};
+ghost use Rattle.std.specs.Prelude.{◌≡◌, None, []};
 ghost use Rattle.am_base.specs.Seen.{given, seen};
 ghost use Rattle.acmefs.specs.Top.{OfWords, run};
 ghost use Rattle.am_words.specs.Words.{asks_do, asks_serve};
@@ -40,10 +40,13 @@ pub fn acmefs<I: Source, O: Sink, H: Host, R: Threads + Wait + Sync>(
     // What the words ask for is done as its record says, and what statuses 1, 3 and 4 say of any words.
     ensures words { OfWords words.now (run result.status
         (outside H.G.told H.G.L.told H.G.L.R.told H.G.L.W.told)
-        (given (I.told input.old) (I.told input.new) (H.faults host.old) (H.faults host.new))
+        (given (I.told input.old) (I.told input.new) (H.told host.old) (H.told host.new))
         (seen (O.told output.old) (O.told output.new)) result.journal result.served) }
     // Only words that ask for serving, or for doing lines, touch the host.
     ensures untouched { asks_serve words.now ≡ None → asks_do words.now ≡ None → host.new ≡ host.old }
+    // Where no slot and no client is told of, the host was asked for nothing: it binds only once a script was read, and dials only once
+    // all lines were checked, and both only where there was memory to begin.
+    ensures unasked { result.served ≡ [] → host.new ≡ host.old }
     // Each message of the journal is answered by the text of the refusal that the state gives it, exactly where there is one, and else by its
     // own R message, unless it is a read that waits.
     ensures answered { RefusalsAreExact result.journal }

@@ -1,6 +1,6 @@
 //! Serving, by its exit status.
 
-ghost use Rattle.std.specs.Prelude.{◌≡◌, ◌≤◌};
+ghost use Rattle.std.specs.Prelude.{◌≡◌, ◌≤◌, []};
 ghost use Rattle.am_base.specs.Seen.{given, seen};
 ghost use Rattle.am_journal.specs.Limits.{connection_count};
 ghost use Rattle.acmefs.specs.Ends.{serve_status};
@@ -64,8 +64,10 @@ pub fn serve_main<I: Source, O: Sink, H: Host, R: Threads + Wait + Sync>(
     // What serving promises.
     ensures serves { OfServe site.now.path.now site.now.clients (run result.status
         (outside H.G.told H.G.L.told H.G.L.R.told H.G.L.W.told)
-        (given (I.told input.old) (I.told input.new) (H.faults host.old) (H.faults host.new))
+        (given (I.told input.old) (I.told input.new) (H.told host.old) (H.told host.new))
         (seen (O.told output.old) (O.told output.new)) result.journal result.served) }
+    // Where no slot is told of, the host was asked for nothing.
+    ensures unasked { result.served ≡ [] → host.new ≡ host.old }
     // What came of the items of event files.
     ensures events { EventLaws result.journal }
     // What each opening of a port got of the messages that came to it.

@@ -1,11 +1,11 @@
 -- The gate that is found has the name that was asked for.
 use Rattle.std.proofs.Common.{◌≡◌, ℕ, Bool, true, false, ◌&&◌, List, Option, Some, None, slice_get, if◌then◌else◌, sym, ap, ◌∙◌, refl}
-use Rattle.std.specs.Prelude.{position}
+use Rattle.std.specs.Prelude.{position, option_map}
 use Rattle.std.proofs.lemmas.List.Quantifiers.{position-Some}
 use Rattle.std.proofs.lemmas.Option.{get_or_from_slice_get}
 use Rattle.std.proofs.lemmas.Slice.Eq.{bytes_eq-Decides}
 use Rattle.std.proofs.lemmas.Bool.{eqb-true}
-use Rattle.am_base.specs.Memory.{GateState, HostState, fails_next, is_gate_of, place_of}
+use Rattle.am_base.specs.Memory.{GateState, HostState, LinkState, dialled_at, dialled_link, dialled_place, fails_next, is_gate_at, is_gate_of, link_of, place_of}
 
 -- both tests pass
 both_pass : (a b : Bool) → (a && b) ≡ true → (a ≡ true) × (b ≡ true)
@@ -30,3 +30,16 @@ chosen false o at e = e
 
 pub named_place : (h : HostState) (path : List ℕ) (slot : ℕ) (at : ℕ) (g : GateState) → place_of h path slot ≡ Some at → slice_get h.gates at ≡ Some g → (g.path ≡ path) × (g.slot ≡ slot)
 named_place h path slot at g found e = named_position path slot h.gates at g (chosen (fails_next h.calls) (position (is_gate_of path slot) h.gates) at found) e
+
+-- the gate that is dialled has the path
+pub at_dialled : (h : HostState) (path : List ℕ) (at : ℕ) (g : GateState) → dialled_place h path ≡ Some at → slice_get h.gates at ≡ Some g → g.path ≡ path
+at_dialled h path at g found e =
+    let passes = (position-Some (is_gate_at path) h.gates at g (chosen (fails_next h.calls) (position (is_gate_at path) h.gates) at found)).1 in
+    (bytes_eq-Decides g.path path).0 (ap (is_gate_at path) (sym (get_or_from_slice_get h.gates at g g e)) ∙ passes)
+
+-- what it hands out is told with the path
+pub dialled-some : (g : GateState) (l : LinkState) → link_of g ≡ Some l → dialled_link g ≡ Some (dialled_at g.path l)
+dialled-some g l e = ap (option_map (dialled_at g.path)) e
+
+pub dialled-none : (g : GateState) → link_of g ≡ None → dialled_link g ≡ None
+dialled-none g e = ap (option_map (dialled_at g.path)) e

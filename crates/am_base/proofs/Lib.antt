@@ -1,3 +1,4 @@
 pub mod Gates
 pub mod Names
 pub mod Told
+pub mod Puts

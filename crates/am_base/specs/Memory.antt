@@ -86,12 +86,14 @@ ended_sink s = record s { calls = ended_calls s.calls }
 abbrev pub begun_sink : SinkState → SinkState
 begun_sink s = record s { held = []; calls = begun_calls s.calls }
 
--- A link: what it still hands out, what its source begins with, whether it is to fail, whether it has given its halves.
+-- A link: what it still hands out, what its source begins with, whether it is to fail, whether it has given its halves, the path that it
+-- was dialled at.
 pub record LinkState : Type 0 where
   pub halves : Option (SourceState × SinkState)
   pub begins : List ℕ
   pub fails : Bool
   pub is_halved : Bool
+  pub dialled : Option (List ℕ)
   pub faults : ℕ
 
 -- what a link hands out at the next call, or None where that fails
@@ -164,9 +166,17 @@ is_gate_at path g = bytes_eq g.path path
 abbrev pub dialled_place : HostState → List ℕ → Option ℕ
 dialled_place h path = if fails_next h.calls then None else position (is_gate_at path) h.gates
 
+-- a link that was dialled at a path
+abbrev pub dialled_at : List ℕ → LinkState → LinkState
+dialled_at path l = record l { dialled = Some path }
+
+-- the link that a gate hands out to one who dials it, or None where it hands out none
+abbrev pub dialled_link : GateState → Option LinkState
+dialled_link g = option_map (dialled_at g.path) (link_of g)
+
 -- the link that this gate hands out, or None where it hands out none
 abbrev pub dialled : HostState → List ℕ → Option LinkState
-dialled h path = option_and_then link_of (option_and_then (slice_get h.gates) (dialled_place h path))
+dialled h path = option_and_then dialled_link (option_and_then (slice_get h.gates) (dialled_place h path))
 
 -- the gate is taken, whether it hands out a link or not; a call without one failed
 abbrev pub gates_without : List GateState → Option ℕ → List GateState

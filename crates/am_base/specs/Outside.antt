@@ -23,15 +23,21 @@ pub record WasEnded (before now : BytesTold) : Type 0 where
   pub later : before.faults ≤ now.faults
 
 -- What a link tells: the bytes that its source begins with, where it tells them, also after its halves were handed out, whether they were,
--- and how often it has failed.
+-- the path that it was dialled at, where it tells one, and how often it has failed.
 pub record LinkTold : Type 0 where
   pub begins : Option (List ℕ)
   pub is_halved : Bool
+  pub dialled : Option (List ℕ)
   pub faults : ℕ
 
 -- What a gate tells: its path and slot, where it tells them, how many links it has given, and how often it has failed.
 pub record GateTold : Type 0 where
   pub name : Option (List ℕ × ℕ)
+  pub given : ℕ
+  pub faults : ℕ
+
+-- What a host tells: how many gates and links it has given, and how often it has failed.
+pub record HostTold : Type 0 where
   pub given : ℕ
   pub faults : ℕ
 

@@ -1,7 +1,7 @@
 //! What connections come from.
 
-ghost use Rattle.std.specs.Prelude.{◌≡◌, ℕ, [], true, false, OnOk, OnErr, IfOk};
-ghost use Rattle.am_base.specs.Outside.{GateTold, LinkTold, AreTold, Counts, IsNamed, HasCause};
+ghost use Rattle.std.specs.Prelude.{◌≡◌, [], true, false, OnOk, OnErr, IfOk};
+ghost use Rattle.am_base.specs.Outside.{GateTold, HostTold, LinkTold, AreTold, Counts, IsNamed, HasCause};
 
 use crate::sink::Sink;
 use crate::source::{Failed, Source};
@@ -12,7 +12,8 @@ pub trait Link: Drop + Send {
 
     type W: Sink + Drop + Send;
 
-    /// The bytes that its source begins with, where it tells them, whether `halves` has succeeded, and how often it has failed.
+    /// The bytes that its source begins with, where it tells them, whether `halves` has succeeded, the path that it was dialled at, where
+    /// it tells one, and how often it has failed.
     ghost told: { Self → LinkTold };
 
     /// Hands out the source and the sink, at most once. A sink that tells its bytes begins empty.
@@ -22,6 +23,7 @@ pub trait Link: Drop + Send {
         ensures fresh { IfOk result (λ h. ((Self.R.told h.0).faults ≡ 0) × ((Self.W.told h.1).faults ≡ 0)) }
         ensures open { IfOk result (λ h. ((Self.R.told h.0).is_ended ≡ false) × ((Self.W.told h.1).is_ended ≡ false)) }
         ensures begins { (told self.new).begins ≡ (told self.old).begins }
+        ensures dialled { (told self.new).dialled ≡ (told self.old).dialled }
         ensures once { OnOk result (((told self.old).is_halved ≡ false) × ((told self.new).is_halved ≡ true)) }
         ensures err { OnErr result ((told self.new).is_halved ≡ (told self.old).is_halved) }
         ensures cause { HasCause (told self.old).faults (told self.new).faults result };
@@ -47,24 +49,22 @@ pub trait Gate: Drop + Send {
 pub trait Host {
     type G: Gate;
 
-    /// How often it has failed.
-    ghost faults: { Self → ℕ };
-
-    /// How many gates and links it has given.
-    ghost given: { Self → ℕ };
+    /// How many gates and links it has given, and how often it has failed.
+    ghost told: { Self → HostTold };
 
     /// Makes the gate of a path and a slot.
     fn bind(&mut self, path: &str, slot: u32) -> Result<Self::G, Failed>
         ensures named { IfOk result (λ gate. IsNamed (Self.G.told gate).name path.now slot) }
         ensures fresh { IfOk result (λ gate. (Self.G.told gate).faults ≡ 0) }
         ensures unasked { IfOk result (λ gate. (Self.G.told gate).given ≡ 0) }
-        ensures given { Counts (given self.old) (given self.new) result }
-        ensures cause { HasCause (faults self.old) (faults self.new) result };
+        ensures given { Counts (told self.old).given (told self.new).given result }
+        ensures cause { HasCause (told self.old).faults (told self.new).faults result };
 
     /// Connects to the gate of a path, which is taken as it stands.
     fn dial(&mut self, path: &str) -> Result<<Self::G as Gate>::L, Failed>
         ensures fresh { IfOk result (λ link. (Self.G.L.told link).faults ≡ 0) }
         ensures whole { IfOk result (λ link. (Self.G.L.told link).is_halved ≡ false) }
-        ensures given { Counts (given self.old) (given self.new) result }
-        ensures cause { HasCause (faults self.old) (faults self.new) result };
+        ensures dialled { IfOk result (λ link. AreTold (Self.G.L.told link).dialled path.now) }
+        ensures given { Counts (told self.old).given (told self.new).given result }
+        ensures cause { HasCause (told self.old).faults (told self.new).faults result };
 }

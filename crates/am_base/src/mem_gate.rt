@@ -2,7 +2,7 @@
 
 ghost use Rattle.std.specs.Prelude.{◌≡◌, Some, None, false, IfOk, OnErr};
 ghost use Rattle.am_base.specs.Outside.{Counts, HasCause};
-ghost use Rattle.am_base.specs.Memory.{link_of, after_accept, begun_gate, is_gate_of, is_gate_at, name_of};
+ghost use Rattle.am_base.specs.Memory.{link_of, dialled_link, after_accept, begun_gate, is_gate_of, is_gate_at, name_of};
 
 use crate::calls::raised;
 use crate::link::Gate;
@@ -68,6 +68,21 @@ impl MemGate {
         gate.given = 0;
         gate.faults = 0;
         gate
+    }
+
+    /// The link that it hands out to one who dials it.
+    pub(crate) fn dialled(self) -> Result<MemLink, Failed>
+        ensures fresh { IfOk result (λ link. link.faults ≡ 0) }
+        ensures whole { IfOk result (λ link. link.is_halved ≡ false) }
+        ensures dialled { IfOk result (λ link. link.dialled ≡ Some self.path) }
+        ensures gives { IfOk result (λ link. dialled_link self ≡ Some link) }
+        ensures fails { OnErr result (dialled_link self ≡ None) }
+    {
+        let mut gate = self;
+        match gate.accept() {
+            Ok(link) => Ok(link.dialled_at(gate.path)),
+            Err(Failed) => Err(Failed),
+        }
     }
 }
 

@@ -1,11 +1,11 @@
 //! A host in memory.
 
 ghost use Rattle.std.specs.Prelude.{◌≡◌, Some, None, false, IfOk, OnErr, ◌<◌, length, position, remove, slice_get};
-ghost use Rattle.am_base.specs.Outside.{Counts, HasCause};
+ghost use Rattle.am_base.specs.Outside.{AreTold, Counts, HasCause};
 ghost use Rattle.am_base.specs.Memory.{no_calls, place_of, after_bind, is_gate_of, gate_of, is_gate_at, dialled_place, dialled, after_dial};
 
 use crate::calls::{Calls, raised};
-use crate::link::{Gate, Host};
+use crate::link::Host;
 use crate::mem_gate::MemGate;
 use crate::mem_link::MemLink;
 use crate::source::Failed;
@@ -90,9 +90,7 @@ impl MemHost {
 impl Host for MemHost {
     type G = MemGate;
 
-    ghost faults = { λ h. h.calls.faults };
-
-    ghost given = { λ h. h.given };
+    ghost told = { λ h. record { given = h.given; faults = h.calls.faults } };
 
     fn bind(&mut self, path: &str, slot: u32) -> Result<MemGate, Failed>
         ensures named { IfOk result (λ gate. (gate.path ≡ path.now) × (gate.slot ≡ slot)) }
@@ -117,6 +115,7 @@ impl Host for MemHost {
     fn dial(&mut self, path: &str) -> Result<MemLink, Failed>
         ensures fresh { IfOk result (λ link. link.faults ≡ 0) }
         ensures whole { IfOk result (λ link. link.is_halved ≡ false) }
+        ensures dialled { IfOk result (λ link. AreTold link.dialled path.now) }
         ensures given { Counts self.old.given self.new.given result }
         ensures cause { HasCause self.old.calls.faults self.new.calls.faults result }
         // What is handed out, and which calls fail.
@@ -128,7 +127,7 @@ impl Host for MemHost {
             self.calls.count(true);
             return Err(Failed);
         };
-        match self.take(at).accept() {
+        match self.take(at).dialled() {
             Ok(link) => {
                 self.calls.count(false);
                 self.given = raised(self.given);

@@ -2,13 +2,14 @@
 
 ghost use Rattle.std.specs.Prelude.{◌≡◌, [], true, false, Some, None, IfOk, OnOk, OnErr};
 ghost use Rattle.am_base.specs.Outside.{HasCause};
-ghost use Rattle.am_base.specs.Memory.{halves_of, after_halves, begun_link};
+ghost use Rattle.am_base.specs.Memory.{halves_of, after_halves, begun_link, dialled_at};
 
 use crate::calls::raised;
 use crate::link::Link;
 use crate::mem_sink::MemSink;
 use crate::mem_source::MemSource;
 use crate::source::Failed;
+use am_text::Bytes;
 use std::marker::Model;
 use std::snapshot::Snapshot;
 
@@ -19,6 +20,7 @@ pub struct MemLink {
     source: Snapshot<MemSource>,
     fails: bool,
     is_halved: bool,
+    dialled: Option<Bytes>,
     faults: u64,
 }
 
@@ -29,7 +31,7 @@ impl Model for MemLink {
 
     ghost Value = { LinkState };
 
-    ghost view = { λ l. record { halves = l.halves; begins = l.source.value.left; fails = l.fails; is_halved = l.is_halved; faults = l.faults } };
+    ghost view = { λ l. record { halves = l.halves; begins = l.source.value.left; fails = l.fails; is_halved = l.is_halved; dialled = l.dialled; faults = l.faults } };
 
     ghost invariant = { λ l. ForSome l.halves (λ h. (h.0.left ≡ l.source.value.left) × (l.is_halved ≡ false)) };
 }
@@ -38,13 +40,14 @@ impl MemLink {
     /// Hands out this source and this sink once, and not where `fail` holds. The sink is emptied
     /// then, the counts of faults of both begin, and neither is ended. It takes no memory.
     pub fn new(source: MemSource, sink: MemSink, fail: bool) -> MemLink
-        ensures { result ≡ record { halves = Some (source, sink); begins = source.left; fails = fail; is_halved = false; faults = 0 } }
+        ensures { result ≡ record { halves = Some (source, sink); begins = source.left; fails = fail; is_halved = false; dialled = None; faults = 0 } }
     {
         MemLink {
             source: Snapshot::of(&source),
             halves: Some((source, sink)),
             fails: fail,
             is_halved: false,
+            dialled: None,
             faults: 0,
         }
     }
@@ -58,6 +61,15 @@ impl MemLink {
         link.faults = 0;
         link
     }
+
+    /// The link as it is handed out to one who dials this path.
+    pub(crate) fn dialled_at(self, path: Bytes) -> MemLink
+        ensures { result ≡ dialled_at path self }
+    {
+        let mut link = self;
+        link.dialled = Some(path);
+        link
+    }
 }
 
 impl Link for MemLink {
@@ -65,7 +77,7 @@ impl Link for MemLink {
 
     type W = MemSink;
 
-    ghost told = { λ l. record { begins = Some l.begins; is_halved = l.is_halved; faults = l.faults } };
+    ghost told = { λ l. record { begins = Some l.begins; is_halved = l.is_halved; dialled = l.dialled; faults = l.faults } };
 
     fn halves(&mut self) -> Result<(MemSource, MemSink), Failed>
         ensures source { IfOk result (λ h. Some h.0.left ≡ Some self.old.begins) }
@@ -73,6 +85,7 @@ impl Link for MemLink {
         ensures fresh { IfOk result (λ h. (h.0.calls.faults ≡ 0) × (h.1.calls.faults ≡ 0)) }
         ensures open { IfOk result (λ h. (h.0.calls.is_ended ≡ false) × (h.1.calls.is_ended ≡ false)) }
         ensures begins { Some self.new.begins ≡ Some self.old.begins }
+        ensures dialled { self.new.dialled ≡ self.old.dialled }
         ensures once { OnOk result ((self.old.is_halved ≡ false) × (self.new.is_halved ≡ true)) }
         ensures err { OnErr result (self.new.is_halved ≡ self.old.is_halved) }
         ensures cause { HasCause self.old.faults self.new.faults result }

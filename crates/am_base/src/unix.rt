@@ -153,7 +153,7 @@ impl Link for UnixLink {
 
     type W = UnixSink;
 
-    ghost told = { λ l. record { begins = None; is_halved = l.is_halved; faults = l.faults } };
+    ghost told = { λ l. record { begins = None; is_halved = l.is_halved; dialled = None; faults = l.faults } };
 
     fn halves(&mut self) -> Result<(UnixSource, UnixSink), Failed>
         ensures fresh { IfOk result (λ h. (h.0 ≡ new_stream) × (h.1 ≡ new_stream)) }
@@ -181,10 +181,10 @@ impl Link for UnixLink {
     }
 }
 
-/// A socket that listens. Its file stays where it is when the gate is dropped.
+/// A socket that listens, until it has failed. Its file stays where it is when the gate is dropped.
 #[derive(Drop)]
 pub struct UnixGate {
-    listener: UnixListener,
+    listener: Option<UnixListener>,
     given: u64,
     faults: u64,
 }
@@ -195,6 +195,14 @@ impl Model for UnixGate {
     ghost Value = { Asked };
 
     ghost view = { λ g. record { given = g.given; faults = g.faults } };
+}
+
+impl UnixGate {
+    // The next connection, unless the gate fails or has failed.
+    fn take(&self) -> Option<UnixStream> {
+        let (stream, _) = self.listener.as_ref()?.accept().ok()?;
+        Some(stream)
+    }
 }
 
 impl Gate for UnixGate {
@@ -211,15 +219,17 @@ impl Gate for UnixGate {
         ensures ok { OnOk result (self.new ≡ record self.old { given = one_more self.old.given }) }
         ensures failed { OnErr result (self.new ≡ record self.old { faults = one_more self.old.faults }) }
     {
-        match self.listener.accept() {
-            Ok((stream, _)) => {
+        match self.take() {
+            Some(stream) => {
                 self.given = raised(self.given);
                 Ok(UnixLink {
                     stream: Some(stream),
                     faults: 0,
                 })
             }
-            Err(_) => {
+            None => {
+                // Who waits for an answer is cut off, and nobody can come any more.
+                self.listener = None;
                 self.faults = raised(self.faults);
                 Err(Failed)
             }
@@ -260,9 +270,7 @@ impl<'a, R> UnixHost<'a, R> {
 impl<'a, R: Files + Net> Host for UnixHost<'a, R> {
     type G = UnixGate;
 
-    ghost faults = { λ h. h.faults };
-
-    ghost given = { λ h. h.given };
+    ghost told = { λ h. record { given = h.given; faults = h.faults } };
 
     fn bind(&mut self, path: &str, slot: u32) -> Result<UnixGate, Failed>
         ensures named { IfOk result (λ _. IsNamed None path.now slot) }
@@ -278,7 +286,7 @@ impl<'a, R: Files + Net> Host for UnixHost<'a, R> {
             Some(listener) => {
                 self.given = raised(self.given);
                 Ok(UnixGate {
-                    listener,
+                    listener: Some(listener),
                     given: 0,
                     faults: 0,
                 })
@@ -293,6 +301,7 @@ impl<'a, R: Files + Net> Host for UnixHost<'a, R> {
     fn dial(&mut self, path: &str) -> Result<UnixLink, Failed>
         ensures fresh { IfOk result (λ link. link.faults ≡ 0) }
         ensures whole { IfOk result (λ link. link.is_halved ≡ false) }
+        ensures dialled { IfOk result (λ _. AreTold None path.now) }
         ensures given { Counts self.old.given self.new.given result }
         ensures cause { HasCause self.old.faults self.new.faults result }
         // A call that fails is counted, and no other.

@@ -31,7 +31,7 @@ module _ {L S K : Type 0} where
     pub lines : List DoLine
     pub read : lines_from 1 (lines_of bytes) ≡ Ok lines
     pub input : ¬ HasRisen i.input.before.faults i.input.now.faults
-    pub host : ¬ HasRisen i.host_faults i.host_faults_now
+    pub host : ¬ HasRisen i.host.before.faults i.host.now.faults
     pub output : ¬ HasRisen o.before.faults o.now.faults
     pub link : IfSome d.link (λ link. Answers m tree lines link)
     pub reader : IfSome d.reader (λ reader. (m.source reader).faults ≡ 0)

@@ -1,8 +1,8 @@
 -- How `do` ends.
 use Rattle.std.specs.Prelude.{◌≡◌, ◌⊎◌, ℕ, ◌<◌, ◌≤◌, Bool, true, false, List, [], length, Option, Some, None, IfSome, Result, Ok, Err, codes}
-use Rattle.am_base.specs.Outside.{BytesTold, LinkTold, AreTold, HasRisen}
+use Rattle.am_base.specs.Outside.{BytesTold, LinkTold, AreTold, HasRisen, one_more}
 use Rattle.am_base.specs.Stops.{input_limit}
-use Rattle.am_base.specs.Seen.{Given, Seen}
+use Rattle.am_base.specs.Seen.{Given, HostSeen, Seen}
 use Rattle.am_base.specs.Written.{IsPut}
 use Rattle.am_text.specs.Lines.{lines_of}
 use Rattle.am_journal.specs.Texts.{refused_text}
@@ -90,13 +90,18 @@ module _ {L S K : Type 0} where
     pub comes : Comes d.stop (told_of tree lines) begun (ends sink (m.sink writer) source (m.source reader)) failed o
     pub ended : d.end ≡ end_at d.stop failed
 
+  -- what a host gave: one link, which was dialled at this path, or none
+  abbrev pub IsGivenAt : Peer L S K → List ℕ → HostSeen → Option L → Type 0
+  IsGivenAt m path h None = h.now.given ≡ h.before.given
+  IsGivenAt m path h (Some link) = (h.now.given ≡ one_more h.before.given) × AreTold (m.link link).dialled path
+
   -- over a link: it gave no halves, or the lines were done
   abbrev pub TalksOver : Peer L S K → List ℕ → List DoLine → Seen → Doing L S K → Type 0
   TalksOver m tree lines o d = IsUnhalved m o d ⊎ Talked m tree lines o d
 
   -- lines in the grammar: the host has failed, or there was a link
   abbrev pub Dials : Peer L S K → List ℕ → List DoLine → Given → Seen → Doing L S K → Type 0
-  Dials m tree lines i o d = (IsIdle end.HostFault o d × HasRisen i.host_faults i.host_faults_now) ⊎ TalksOver m tree lines o d
+  Dials m tree lines i o d = (IsIdle end.HostFault o d × HasRisen i.host.before.faults i.host.now.faults) ⊎ TalksOver m tree lines o d
 
   -- what came of lines that were read: the first outside the grammar is refused
   abbrev pub Lined : Peer L S K → List ℕ → Result (List DoLine) ℕ → Given → Seen → Doing L S K → Type 0

@@ -1,10 +1,10 @@
 //! What `do` does, from its input to its end.
 
-ghost use Rattle.std.specs.Prelude.{◌≡◌, ◌≢◌, None, Some, false};
+ghost use Rattle.std.specs.Prelude.{◌≡◌, ◌≢◌, None, Some, false, MatchOption};
 ghost use Rattle.am_base.specs.Outside.{untold};
-ghost use Rattle.am_base.specs.Seen.{given, seen};
+ghost use Rattle.am_base.specs.Seen.{given, host_seen, seen};
 ghost use Rattle.ninep_types.specs.Spelling.{IsString};
-ghost use Rattle.am_do.specs.Ends.{Says, Reads, Dials, TalksOver, Refuses, end_at, peer};
+ghost use Rattle.am_do.specs.Ends.{Says, Reads, Dials, IsGivenAt, TalksOver, Refuses, end_at, peer};
 ghost use Rattle.am_do.specs.declared.running.DoEnd.TheVariants as end;
 ghost use Rattle.am_do.specs.Lines.{lines_from};
 ghost use Rattle.am_do.specs.Lawful.{AreLawful};
@@ -95,8 +95,9 @@ fn talk<O: Sink, L: Link>(
     requires fresh { ((L.told link).faults ≡ 0) × ((L.told link).is_halved ≡ false) }
     requires tree { IsString tree.now }
     requires lawful { AreLawful lines }
-    ensures { TalksOver (peer L.told L.R.told L.W.told) tree.now lines
+    ensures talks { TalksOver (peer L.told L.R.told L.W.told) tree.now lines
         (seen (O.told output.old) (O.told output.new)) result }
+    ensures link { MatchOption result.link ⊥ (λ now. (L.told now).dialled ≡ (L.told link).dialled) }
 {
     let mut link = link;
     match link.halves() {
@@ -128,8 +129,10 @@ fn dial_and_talk<O: Sink, H: Host>(
     requires tree { IsString tree.now }
     requires lawful { AreLawful lines }
     ensures dials { Dials (peer H.G.L.told H.G.L.R.told H.G.L.W.told) tree.now lines
-        (given untold untold (H.faults host.old) (H.faults host.new)) (seen (O.told output.old) (O.told output.new)) result }
+        (given untold untold (H.told host.old) (H.told host.new)) (seen (O.told output.old) (O.told output.new)) result }
     ensures untouched { result.link ≡ None → result.end ≢ end.HostFault → host.new ≡ host.old }
+    ensures given { IsGivenAt (peer H.G.L.told H.G.L.R.told H.G.L.W.told) path.now
+        (host_seen (H.told host.old) (H.told host.new)) result.link }
 {
     match host.dial(path) {
         Ok(link) => talk(alloc, link, tree, lines, output),
@@ -139,7 +142,8 @@ fn dial_and_talk<O: Sink, H: Host>(
 
 // Refuses a line, or the whole input.
 fn refuse<O: Sink, L, S, K>(alloc: Global, line: u64, word: &[u8], output: &mut O) -> Doing<L, S, K>
-    ensures { Refuses line word.now (seen (O.told output.old) (O.told output.new)) result }
+    ensures refuses { Refuses line word.now (seen (O.told output.old) (O.told output.new)) result }
+    ensures unlinked { result.link ≡ None }
 {
     match refused_line(alloc, line, word) {
         Ok(text) => {
@@ -161,8 +165,10 @@ fn do_input<O: Sink, H: Host>(
 ) -> HostDoing<H>
     requires tree { IsString tree.now }
     ensures reads { Reads (peer H.G.L.told H.G.L.R.told H.G.L.W.told) tree.now (lines_from 1 (lines_of input.now))
-        (given untold untold (H.faults host.old) (H.faults host.new)) (seen (O.told output.old) (O.told output.new)) result }
+        (given untold untold (H.told host.old) (H.told host.new)) (seen (O.told output.old) (O.told output.new)) result }
     ensures untouched { result.link ≡ None → result.end ≢ end.HostFault → host.new ≡ host.old }
+    ensures given { IsGivenAt (peer H.G.L.told H.G.L.R.told H.G.L.W.told) path.now
+        (host_seen (H.told host.old) (H.told host.new)) result.link }
 {
     match read_do_lines(alloc, input) {
         Ok(lines) => dial_and_talk(alloc, path, tree, lines, output, host),
@@ -183,9 +189,12 @@ pub fn do_path<I: Source, O: Sink, H: Host>(
 ) -> HostDoing<H>
     requires tree { IsString tree.now }
     ensures says { Says (peer H.G.L.told H.G.L.R.told H.G.L.W.told) tree.now
-        (given (I.told input.old) (I.told input.new) (H.faults host.old) (H.faults host.new)) (seen (O.told output.old) (O.told output.new)) result }
+        (given (I.told input.old) (I.told input.new) (H.told host.old) (H.told host.new)) (seen (O.told output.old) (O.told output.new)) result }
     // The host is asked for nothing before all lines are checked.
     ensures untouched { result.link ≡ None → result.end ≢ end.HostFault → host.new ≡ host.old }
+    // It gave one link, which was dialled at the path, or none.
+    ensures given { IsGivenAt (peer H.G.L.told H.G.L.R.told H.G.L.W.told) path.now
+        (host_seen (H.told host.old) (H.told host.new)) result.link }
 {
     match read_to_end(alloc, input, INPUT_LIMIT) {
         Ok(bytes) => do_input(alloc, path, tree, bytes.as_slice(), output, host),

@@ -6,7 +6,7 @@ use Rattle.turn_lock.specs.Journal.{AllStand}
 use Rattle.turn_lock.specs.Kinds.{KeepsOrder}
 use Rattle.am_base.specs.Outside.{AreTold, PutsFront, HasCause}
 use Rattle.am_base.specs.Stops.{input_limit}
-use Rattle.am_base.specs.Seen.{Given, Seen}
+use Rattle.am_base.specs.Seen.{Given, HostSeen, Seen}
 use Rattle.am_base.specs.Written.{IsWhole, IsCut, IsPut}
 use Rattle.am_journal.specs.declared.event.Event.{Event}
 use Rattle.ninep_cut.specs.Laws.{JoinsPieces, CutsNoMore}
@@ -20,16 +20,15 @@ use Rattle.acme_core.specs.Run.{enabled, output_at}
 use Rattle.am_desk.specs.Knowing.{EachOnce}
 use Rattle.am_slots.proofs.Ran.{ran}
 use Rattle.am_slots.specs.Serving.{EachTells, ServesAll, IsRun}
-use Rattle.am_slots.specs.Slots.{Outside, unbound, HasRisenBy}
+use Rattle.am_slots.specs.Slots.{Outside, unbound, HasGiven, HasRisenBy}
 use Rattle.am_slots.specs.declared.slot.Slot.{Slot}
 use Rattle.core_laws.specs.Laws.{EndedGetAllReplies}
 use Rattle.am_server.proofs.Replying.{got_all, wrote_well}
 use Rattle.am_server.proofs.Sounds.{sound_all}
 use Rattle.am_server.specs.Replied.{GotAll}
 use Rattle.am_server.specs.Sound.{EndsWell}
-use Rattle.am_server.specs.Ends.{Writes, IsTooLong, ServesLines, SaysServe, end_at}
+use Rattle.am_server.specs.Ends.{Writes, IsTooLong, ServesLines, SaysServe}
 use Rattle.am_server.specs.Served.{served_from}
-use Rattle.am_server.specs.Texts.{served_text}
 use Rattle.am_server.specs.declared.served.Served.{Served}
 use Rattle.am_server.specs.declared.writing.ServeEnd.{ServeEnd}
 
@@ -63,22 +62,14 @@ put_one o text whole r is ok err cause = by_cases (got o text whole r is ok err 
     by_cases (inr c) = inr c.1
 
 module _ {G L S K : Type 0} where
-  pub wrote : {T E : Type 0} (slots : List (Slot G L S K)) (script : ScriptEnd) (o : Seen) (text whole : List ℕ) (r : Result T E) (e : ServeEnd) → text ≡ whole
-      → OnOk r (IsWhole o text) → OnErr r (PutsFront o.before.bytes text o.now.bytes) → HasCause o.before.faults o.now.faults r → e ≡ end_at slots script (is_err r) → Writes slots script o whole e
-  wrote slots script o text whole r e is ok err cause at = by_cases (got o text whole r is ok err cause)
-    where
-      by_cases : ((is_err r ≡ false) × IsWhole o whole) ⊎ ((is_err r ≡ true) × IsCut o whole) → Writes slots script o whole e
-      by_cases (inl w) = inl (at ∙ ap (end_at slots script) w.0, w.1)
-      by_cases (inr c) = inr (inl (at ∙ ap (end_at slots script) c.0, c.1))
-
   -- the slots of one seat, which has all entries at the end
-  pub served_lines : (law : EndedGetAllReplies) (joins : JoinsPieces) (breaks : CutsNoMore) (m : Outside G L S K) (path : List ℕ) (clients : ℕ) (lines : List ℕ) (before now : ℕ) (o : Seen) (slots : List (Slot G L S K)) (script : ScriptEnd) (w : Known)
+  pub served_lines : (law : EndedGetAllReplies) (joins : JoinsPieces) (breaks : CutsNoMore) (m : Outside G L S K) (path : List ℕ) (clients : ℕ) (lines : List ℕ) (h : HostSeen) (o : Seen) (slots : List (Slot G L S K)) (script : ScriptEnd) (w : Known)
       (core journal : List Event) (served : List (Served G L S K)) (e : ServeEnd)
       → length slots ≡ clients → clients ≤ 64 → IsPlayed enabled w.seen → AllByRecursion IsInRange w.seen → AllStand w.seen (lists_of w) → EachOnce w → KeepsOrder w.seen (lists_of w)
-      → ServesAll m enabled output_at answer_at clients lines slots script w → EachTells m path 0 slots → HasRisenBy (unbound slots) before now
-      → core ≡ w.seen → journal ≡ core → served ≡ served_from core 0 slots → Writes slots script o (served_text core slots script) e
-      → ServesLines m path clients lines before now o journal served e
-  served_lines law joins breaks m path clients lines before now o slots script w core journal served e count few played ranged own once order serves tells risen same is told writes =
+      → ServesAll m enabled output_at answer_at clients lines slots script w → EachTells m path 0 slots → HasRisenBy (unbound slots) h.before.faults h.now.faults → HasGiven clients (unbound slots) h.before.given h.now.given
+      → core ≡ w.seen → journal ≡ core → served ≡ served_from core 0 slots → Writes core slots script o e
+      → ServesLines m path clients lines h o journal served e
+  served_lines law joins breaks m path clients lines h o slots script w core journal served e count few played ranged own once order serves tells risen given same is told writes =
       let now_played : IsPlayed enabled journal = subst (IsPlayed enabled) (sym (is ∙ same)) played in
       let run : IsRun m enabled output_at answer_at clients lines journal slots script =
       subst (λ (l : List Event). IsRun m enabled output_at answer_at clients lines l slots script) (sym (is ∙ same))
@@ -93,15 +84,16 @@ module _ {G L S K : Type 0} where
         run = run;
         tells = tells;
         risen = risen;
+        given = given;
         told = now_told;
-        writes = subst (λ (l : List Event). Writes slots script o (served_text l slots script) e) (sym is) writes;
+        writes = subst (λ (l : List Event). Writes l slots script o e) (sym is) writes;
         replied = λ well. subst (λ (l : List (Served G L S K)). AllByRecursion (GotAll m journal) l) (sym now_told)
-            (got_all m journal law now_played path 0 slots (omega (arith, count, few)) run.each tells (wrote_well slots script o (served_text core slots script) e writes well));
+            (got_all m journal law now_played path 0 slots (omega (arith, count, few)) run.each tells (wrote_well core slots script o e writes well));
         sound = subst (λ (l : List (Served G L S K)). AllByRecursion (EndsWell m journal) l) (sym now_told) (sound_all joins breaks m journal path 0 slots run.each tells);
       }
 
   pub says_lines : (m : Outside G L S K) (path : List ℕ) (clients : ℕ) (i : Given) (o : Seen) (journal : List Event) (served : List (Served G L S K)) (e : ServeEnd) (lines : List ℕ)
-      → AreTold i.input.before.bytes lines → length lines ≤ input_limit → ServesLines m path clients lines i.host_faults i.host_faults_now o journal served e
+      → AreTold i.input.before.bytes lines → length lines ≤ input_limit → ServesLines m path clients lines i.host o journal served e
       → SaysServe m path clients i o journal served e
   says_lines m path clients i o journal served e lines told fits (inl s) = inr (inr (inr (lines, told, fits, s)))
   says_lines m path clients i o journal served e lines told fits (inr t) = inr (inr (inl t))
@@ -109,3 +101,8 @@ module _ {G L S K : Type 0} where
   pub says_long : (m : Outside G L S K) (path : List ℕ) (clients : ℕ) (i : Given) (o : Seen) (journal : List Event) (served : List (Served G L S K)) (e : ServeEnd)
       → IfSome i.input.before.bytes (λ bytes. input_limit < length bytes) → IsTooLong o journal served e → SaysServe m path clients i o journal served e
   says_long m path clients i o journal served e long t = inr (inl (long, t))
+
+  -- slots that were served are told of
+  pub none_told : (journal : List Event) (n : ℕ) (slots : List (Slot G L S K)) (served : List (Served G L S K)) → served ≡ served_from journal n slots → 1 ≤ length slots → served ≡ [] → ⊥
+  none_told journal n [] served is some none = absurd (omega (arith, some))
+  none_told journal n (s ∷ slots) served is some none = let same : served_from journal n (s ∷ slots) ≡ [] = sym is ∙ none in absurd cc

@@ -141,7 +141,7 @@ module _ {G L S K : Type 0} where
   done_at slots none = ap (λ (b : Bool). cond b end.HostFault (end_done (list_any wants_untold slots) false)) none
 
   wrote_well : (o : Seen) (journal : List Event) (slots : List (Slot G L S K)) (done : ScriptEnd) (e : ServeEnd) → ¬ HasRisen o.before.faults o.now.faults
-      → list_any has_failed slots ≡ false → ((line : ℕ) (fault : LineFault) → done ≡ script.Refused line fault → ⊥) → Writes slots done o (served_text journal slots done) e → Well o journal e
+      → list_any has_failed slots ≡ false → ((line : ℕ) (fault : LineFault) → done ≡ script.Refused line fault → ⊥) → Writes journal slots done o e → Well o journal e
   unfolding Well
   wrote_well o journal slots (script.Refused line fault) e calm none unrefused w = absurd (unrefused line fault refl)
   wrote_well o journal slots script.NoMemory e calm none unrefused (inl w) = inr (w.0 ∙ ap (λ (b : Bool). cond b end.HostFault end.NoMemory) none)
@@ -153,11 +153,11 @@ module _ {G L S K : Type 0} where
   wrote_well o journal slots script.Done e calm none unrefused (inr (inr w)) = inr w.0
 
   pub served_complete : (m : Outside G L S K) (path : List ℕ) (clients : ℕ) (lines : List ℕ) (i : Given) (o : Seen) (journal : List Event) (served : List (Served G L S K)) (e : ServeEnd)
-      → Serves m path clients lines i.host_faults i.host_faults_now o journal served e → IsComplete m clients lines i o journal served e
+      → Serves m path clients lines i.host o journal served e → IsComplete m clients lines i o journal served e
   unfolding Well
   served_complete m path clients lines i o journal served e s = λ h.
       let calm = subst (λ (l : List (Served G L S K)). AllByRecursion (IsCalm m) l) s.told h.slots in
-      let failed = none_failed m journal path 0 s.slots s.tells calm (none_unbound (unbound s.slots) i.host_faults i.host_faults_now s.risen h.host) in
+      let failed = none_failed m journal path 0 s.slots s.tells calm (none_unbound (unbound s.slots) i.host.before.faults i.host.now.faults s.risen h.host) in
       let unrefused : (line : ℕ) (fault : LineFault) → s.done ≡ script.Refused line fault → ⊥ =
       λ line fault is. not_refused clients lines journal line fault h.none_refused (subst (λ (x : ScriptEnd). DidScript enabled answer_at clients lines journal x) is s.run.did) in
       wrote_well o journal s.slots s.done e h.output failed unrefused s.writes

@@ -1,3 +1,4 @@
+pub mod Putting
 pub mod Replying
 pub mod Sounds
 pub mod Completing

@@ -100,13 +100,13 @@ done_well true untold failed h = absurd h
 done_well false true failed h = absurd h
 done_well false false failed h = refl
 
-module _ {G L S K : Type 0} (slots : List (Slot G L S K)) where
+module _ {G L S K : Type 0} (journal : List Event) (slots : List (Slot G L S K)) where
   well_at : (done : ScriptEnd) (failed : Bool) → AllDone (end_at slots done failed) → list_any wants_untold slots ≡ false
   well_at (script.Refused line why) failed h = absurd h
   well_at script.NoMemory failed h = let never : true ≡ false = done_well (list_any has_failed slots) true failed h in absurd cc
   well_at script.Done failed h = done_well (list_any has_failed slots) (list_any wants_untold slots) failed h
 
-  pub wrote_well : (done : ScriptEnd) (o : Seen) (text : List ℕ) (e : ServeEnd) → Writes slots done o text e → AllDone e → list_any wants_untold slots ≡ false
-  wrote_well done o text e (inl w) h = well_at done false (subst AllDone w.0 h)
-  wrote_well done o text e (inr (inl w)) h = well_at done true (subst AllDone w.0 h)
-  wrote_well done o text e (inr (inr w)) h = absurd (subst AllDone w.0 h)
+  pub wrote_well : (done : ScriptEnd) (o : Seen) (e : ServeEnd) → Writes journal slots done o e → AllDone e → list_any wants_untold slots ≡ false
+  wrote_well done o e (inl w) h = well_at done false (subst AllDone w.0 h)
+  wrote_well done o e (inr (inl w)) h = well_at done true (subst AllDone w.0 h)
+  wrote_well done o e (inr (inr w)) h = absurd (subst AllDone w.0 h)

@@ -42,7 +42,7 @@ module _ {G L S K : Type 0} where
     pub none_refused : NoneRefused clients script journal
     pub input : ¬ HasRisen i.input.before.faults i.input.now.faults
     pub output : ¬ HasRisen o.before.faults o.now.faults
-    pub host : ¬ HasRisen i.host_faults i.host_faults_now
+    pub host : ¬ HasRisen i.host.before.faults i.host.now.faults
     pub slots : AllByRecursion (IsCalm m) served
 
   -- then all is done, and the whole text written, or memory runs out

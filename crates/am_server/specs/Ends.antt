@@ -3,7 +3,7 @@ use Rattle.std.specs.Prelude.{◌≡◌, ◌⊎◌, ℕ, ◌<◌, ◌≤◌, Boo
 use Rattle.std.specs.List.{list_any, AllByRecursion}
 use Rattle.am_base.specs.Outside.{AreTold, HasRisen}
 use Rattle.am_base.specs.Stops.{input_limit}
-use Rattle.am_base.specs.Seen.{Given, Seen}
+use Rattle.am_base.specs.Seen.{Given, HostSeen, Seen}
 use Rattle.am_base.specs.Written.{IsWhole, IsCut, IsPut}
 use Rattle.am_journal.specs.declared.ending.Ending.{Ending}
 use Rattle.am_journal.specs.declared.ending.Ending.TheVariants as ending
@@ -17,12 +17,13 @@ use Rattle.am_serve.specs.declared.scripting.ScriptEnd.{ScriptEnd}
 use Rattle.am_serve.specs.declared.scripting.ScriptEnd.TheVariants as script
 use Rattle.am_serve.specs.declared.writing.WriteEnd.TheVariants as write
 use Rattle.am_slots.specs.Serving.{EachTells, IsRun}
-use Rattle.am_slots.specs.Slots.{Outside, unbound, HasRisenBy}
+use Rattle.am_slots.specs.Slots.{Outside, unbound, HasGiven, HasRisenBy}
 use Rattle.am_slots.specs.declared.slot.Slot.{Slot}
 use Rattle.am_slots.specs.declared.slot.Slot.TheVariants as slot
 use Rattle.am_server.specs.Replied.{GotAll}
 use Rattle.am_server.specs.Sound.{EndsWell}
 use Rattle.am_server.specs.Served.{served_from}
+use Rattle.am_server.specs.Putting.{IsLeft}
 use Rattle.am_server.specs.Texts.{has_failed, served_text}
 use Rattle.am_server.specs.declared.served.Served.{Served}
 use Rattle.am_server.specs.declared.writing.ServeEnd.{ServeEnd}
@@ -62,13 +63,12 @@ module _ {G L S K : Type 0} where
   end_at slots script.NoMemory failed = if list_any has_failed slots then end.HostFault else end.NoMemory
   end_at slots script.Done failed = if list_any has_failed slots then end.HostFault else end_done (list_any wants_untold slots) failed
 
-  -- The slots were served, and what came of it was written: whole, but where the output has failed. Without memory for the text nothing
-  -- was written.
-  abbrev pub Writes : List (Slot G L S K) → ScriptEnd → Seen → List ℕ → ServeEnd → Type 0
-  Writes slots done o text e =
-      ((e ≡ end_at slots done false) × IsWhole o text)
-      ⊎ ((e ≡ end_at slots done true) × IsCut o text)
-      ⊎ ((e ≡ end.NoMemory) × (o.now.bytes ≡ o.before.bytes))
+  -- The slots were served, and what came of it was written: whole, but where the output has failed, or memory ran out for a line.
+  abbrev pub Writes : List Event → List (Slot G L S K) → ScriptEnd → Seen → ServeEnd → Type 0
+  Writes journal slots done o e =
+      ((e ≡ end_at slots done false) × IsWhole o (served_text journal slots done))
+      ⊎ ((e ≡ end_at slots done true) × IsCut o (served_text journal slots done))
+      ⊎ ((e ≡ end.NoMemory) × IsLeft o journal slots)
 
 -- what an output got, nothing was done, and no slot is told of
 pub record IsIdle {G L S K : Type 0} (o : Seen) (journal : List Event) (served : List (Served G L S K)) : Type 0 where
@@ -93,7 +93,7 @@ AllDone end.WriteFault = Unit {0}
 
 -- A script was served: its slots, the script's end, and one journal that has just their entries. Where all was done, each sink that has
 -- not failed got all replies. A connection with sound objects ends well.
-pub record Serves {G L S K : Type 0} (m : Outside G L S K) (path : List ℕ) (clients : ℕ) (lines : List ℕ) (before now : ℕ) (o : Seen) (journal : List Event) (served : List (Served G L S K)) (e : ServeEnd) : Type 0 where
+pub record Serves {G L S K : Type 0} (m : Outside G L S K) (path : List ℕ) (clients : ℕ) (lines : List ℕ) (h : HostSeen) (o : Seen) (journal : List Event) (served : List (Served G L S K)) (e : ServeEnd) : Type 0 where
   pub slots : List (Slot G L S K)
   pub done : ScriptEnd
   pub count : length slots ≡ clients
@@ -101,16 +101,17 @@ pub record Serves {G L S K : Type 0} (m : Outside G L S K) (path : List ℕ) (cl
   pub in_range : AllByRecursion IsInRange journal
   pub run : IsRun m enabled output_at answer_at clients lines journal slots done
   pub tells : EachTells m path 0 slots
-  pub risen : HasRisenBy (unbound slots) before now
+  pub risen : HasRisenBy (unbound slots) h.before.faults h.now.faults
+  pub given : HasGiven clients (unbound slots) h.before.given h.now.given
   pub told : served ≡ served_from journal 0 slots
-  pub writes : Writes slots done o (served_text journal slots done) e
+  pub writes : Writes journal slots done o e
   pub replied : AllDone e → AllByRecursion (GotAll m journal) served
   pub sound : AllByRecursion (EndsWell m journal) served
 
 -- what came of a script of lawful length: it was served, or there was no memory to begin
-abbrev pub ServesLines : {G L S K : Type 0} → Outside G L S K → List ℕ → ℕ → List ℕ → ℕ → ℕ → Seen → List Event → List (Served G L S K) → ServeEnd → Type 0
-ServesLines m path clients lines before now o journal served e =
-    Serves m path clients lines before now o journal served e ⊎ ((e ≡ end.NoMemory) × IsIdle o journal served)
+abbrev pub ServesLines : {G L S K : Type 0} → Outside G L S K → List ℕ → ℕ → List ℕ → HostSeen → Seen → List Event → List (Served G L S K) → ServeEnd → Type 0
+ServesLines m path clients lines h o journal served e =
+    Serves m path clients lines h o journal served e ⊎ ((e ≡ end.NoMemory) × IsIdle o journal served)
 
 -- How serving ends: the input could not be read, or was too long, or there was no memory for it, or its lines were served.
 abbrev pub SaysServe : {G L S K : Type 0} → Outside G L S K → List ℕ → ℕ → Given → Seen → List Event → List (Served G L S K) → ServeEnd → Type 0
@@ -118,4 +119,4 @@ SaysServe m path clients i o journal served e =
     ((e ≡ end.ReadFault) × HasRisen i.input.before.faults i.input.now.faults × IsIdle o journal served)
     ⊎ (IfSome i.input.before.bytes (λ bytes. input_limit < length bytes) × IsTooLong o journal served e)
     ⊎ ((e ≡ end.NoMemory) × IsIdle o journal served)
-    ⊎ ((lines : List ℕ) × AreTold i.input.before.bytes lines × (length lines ≤ input_limit) × Serves m path clients lines i.host_faults i.host_faults_now o journal served e)
+    ⊎ ((lines : List ℕ) × AreTold i.input.before.bytes lines × (length lines ≤ input_limit) × Serves m path clients lines i.host o journal served e)

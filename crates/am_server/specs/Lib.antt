@@ -4,3 +4,4 @@ pub mod Ends
 pub mod Complete
 pub mod Served
 pub mod Texts
+pub mod Putting

@@ -1,7 +1,7 @@
 //! Serving connections, with a script beside them.
 
-ghost use Rattle.std.specs.Prelude.{◌≡◌, ◌≤◌};
-ghost use Rattle.am_base.specs.Seen.{given, seen};
+ghost use Rattle.std.specs.Prelude.{◌≡◌, ◌≤◌, []};
+ghost use Rattle.am_base.specs.Seen.{given, host_seen, seen};
 ghost use Rattle.acme_core.specs.Run.{IsPossible};
 ghost use Rattle.am_slots.specs.Slots.{outside};
 ghost use Rattle.am_journal.specs.Limits.{connection_count};
@@ -37,10 +37,11 @@ fn serve_lines<O: Sink, H: Host, R: Threads + Wait + Sync>(
 ) -> HostServing<H>
     requires clients { (1 ≤ service.now.clients) × (service.now.clients ≤ connection_count) }
     ensures serves { ServesLines (outside H.G.told H.G.L.told H.G.L.R.told H.G.L.W.told)
-        service.now.path.now service.now.clients service.now.script.now (H.faults host.old) (H.faults host.new)
+        service.now.path.now service.now.clients service.now.script.now (host_seen (H.told host.old) (H.told host.new))
         (seen (O.told output.old) (O.told output.new))
         result.journal result.served result.end }
     ensures possible { IsPossible result.journal }
+    ensures untouched { result.served ≡ [] → host.new ≡ host.old }
 {
     let Ok(served) = Vec::with_capacity(alloc, service.clients as usize) else {
         return idle(alloc, ServeEnd::NoMemory);
@@ -84,11 +85,13 @@ pub fn serve<I: Source, O: Sink, H: Host, R: Threads + Wait + Sync>(
 ) -> HostServing<H>
     requires clients { (1 ≤ site.now.clients) × (site.now.clients ≤ connection_count) }
     ensures says { SaysServe (outside H.G.told H.G.L.told H.G.L.R.told H.G.L.W.told)
-        site.now.path.now site.now.clients (given (I.told input.old) (I.told input.new) (H.faults host.old) (H.faults host.new))
+        site.now.path.now site.now.clients (given (I.told input.old) (I.told input.new) (H.told host.old) (H.told host.new))
         (seen (O.told output.old) (O.told output.new))
         result.journal result.served result.end }
     // What each event of the journal does could be done at its place.
     ensures possible { IsPossible result.journal }
+    // Where no slot is told of, the host was asked for nothing: it is only once the script was read, and there was memory to begin.
+    ensures untouched { result.served ≡ [] → host.new ≡ host.old }
 {
     match read_to_end(alloc, input, INPUT_LIMIT) {
         Ok(script) => {

@@ -1,38 +1,99 @@
-//! What is written at the end.
+//! The text that is written at the end, a line at a time.
 
-ghost use Rattle.std.specs.Prelude.{◌≡◌, ◌++◌, ◌<◌, ◌^◌, length, OnOk, IfOk};
+ghost use Rattle.std.specs.Prelude.{◌≡◌, ◌≤◌, ◌<◌, ◌^◌, [], length, take, IfOk, OnOk, IfErr, if◌then◌else◌};
 ghost use Rattle.std.specs.List.{AllByRecursion};
-ghost use Rattle.am_journal.specs.Journal.{journal_text};
+ghost use Rattle.am_base.specs.Seen.{seen};
+ghost use Rattle.am_base.specs.Written.{IsWhole};
+ghost use Rattle.am_journal.specs.Journal.{ended_line, journal_text};
 ghost use Rattle.am_journal.specs.Lawful.{IsLawful};
 ghost use Rattle.am_journal.specs.Report.{report_text};
 ghost use Rattle.acme_core.specs.Run.{settled};
 ghost use Rattle.acme_core.specs.Views.{view_of};
-ghost use Rattle.am_server.specs.Texts.{has_failed, host_text, refusal_text, served_text};
+ghost use Rattle.am_server.specs.Putting.{StopsAt, StopsIn};
+ghost use Rattle.am_server.specs.Texts.{has_failed, host_line, host_text, refusal_text, served_text};
 
 use acme_core::{Core, Event};
+use am_base::{Failed, Sink, write_all};
 use am_journal::{refused_line, report, write_line};
 use am_serve::{ScriptEnd, fault_word};
 use am_slots::Slot;
 use am_text::{Bytes, Items, NoMemory, decimal};
 use std::alloc::Global;
 
-fn put_journal(alloc: Global, text: &mut Bytes, journal: &[Event]) -> Result<(), NoMemory>
+/// Why writing stops before the end of the text.
+#[derive(Clone, Copy, Debug, PartialEq, Eq)]
+pub(crate) enum Stop {
+    /// The output has failed.
+    Failed,
+    /// There was no memory for the next line.
+    NoMemory,
+}
+
+// Writes a text.
+fn put<O: Sink>(output: &mut O, text: &[u8]) -> Result<(), Stop>
+    ensures ok { OnOk result (IsWhole (seen (O.told output.old) (O.told output.new)) text.now) }
+    ensures later { (O.told output.old).faults ≤ (O.told output.new).faults }
+    ensures err { IfErr result (λ e. StopsIn e (seen (O.told output.old) (O.told output.new)) text.now (λ _. [])) }
+{
+    match write_all(output, text) {
+        Ok(()) => Ok(()),
+        Err(Failed) => Err(Stop::Failed),
+    }
+}
+
+fn event_line(alloc: Global, event: &Event) -> Result<Bytes, NoMemory>
+    requires { IsLawful event.now }
+    ensures { IfOk result (λ line. line ≡ ended_line event.now) }
+{
+    let mut line = write_line(alloc, event)?;
+    line.append(b"\n")?;
+    Ok(line)
+}
+
+fn put_event<O: Sink>(alloc: Global, output: &mut O, event: &Event) -> Result<(), Stop>
+    requires { IsLawful event.now }
+    ensures ok { OnOk result (IsWhole (seen (O.told output.old) (O.told output.new)) (ended_line event.now)) }
+    ensures later { (O.told output.old).faults ≤ (O.told output.new).faults }
+    ensures err { IfErr result (λ e. StopsIn e (seen (O.told output.old) (O.told output.new)) (ended_line event.now) (λ _. [])) }
+{
+    match event_line(alloc, event) {
+        Ok(line) => put(output, line.as_slice()),
+        Err(NoMemory) => Err(Stop::NoMemory),
+    }
+}
+
+fn put_journal<O: Sink>(alloc: Global, output: &mut O, journal: &[Event]) -> Result<(), Stop>
     requires { AllByRecursion IsLawful journal.now }
-    ensures { OnOk result (text.new ≡ text.old ++ journal_text journal.now) }
+    ensures ok { OnOk result (IsWhole (seen (O.told output.old) (O.told output.new)) (journal_text journal.now)) }
+    ensures later { (O.told output.old).faults ≤ (O.told output.new).faults }
+    ensures err { IfErr result (λ e. StopsIn e (seen (O.told output.old) (O.told output.new))
+        (journal_text journal.now) (λ n. journal_text (take n journal.now))) }
 {
     for event in journal {
-        text.append(write_line(alloc, event)?.as_slice())?;
-        text.append(b"\n")?;
+        put_event(alloc, output, event)?;
     }
     Ok(())
 }
 
-fn put_report(alloc: Global, text: &mut Bytes, core: &Core) -> Result<(), NoMemory>
+fn report_of(alloc: Global, core: &Core) -> Result<Bytes, NoMemory>
     requires { core.now ≡ settled core.now.journal }
-    ensures { OnOk result (text.new ≡ text.old ++ report_text (view_of core.now.journal)) }
+    ensures { IfOk result (λ text. text ≡ report_text (view_of core.now.journal)) }
 {
     let view = core.view()?;
-    text.append(report(alloc, &view)?.as_slice())
+    report(alloc, &view)
+}
+
+fn put_report<O: Sink>(alloc: Global, output: &mut O, core: &Core) -> Result<(), Stop>
+    requires { core.now ≡ settled core.now.journal }
+    ensures ok { OnOk result (IsWhole (seen (O.told output.old) (O.told output.new)) (report_text (view_of core.now.journal))) }
+    ensures later { (O.told output.old).faults ≤ (O.told output.new).faults }
+    ensures err { IfErr result (λ e. StopsIn e (seen (O.told output.old) (O.told output.new))
+        (report_text (view_of core.now.journal)) (λ _. [])) }
+{
+    match report_of(alloc, core) {
+        Ok(text) => put(output, text.as_slice()),
+        Err(NoMemory) => Err(Stop::NoMemory),
+    }
 }
 
 /// Whether a slot's gate could not be bound, its gate gave no link, or its link gave no halves.
@@ -45,52 +106,95 @@ pub(crate) fn has_failed<G, L, S, K>(slot: &Slot<G, L, S, K>) -> bool
     }
 }
 
-fn put_hosts<G, L, S, K>(
+fn host_line(alloc: Global, number: u64) -> Result<Bytes, NoMemory>
+    ensures { IfOk result (λ line. line ≡ host_line number) }
+{
+    let mut line = Items::new(alloc);
+    line.append(b"host ")?;
+    line.append(decimal(alloc, number)?.as_slice())?;
+    line.append(b"\n")?;
+    Ok(line)
+}
+
+fn put_host<O: Sink>(alloc: Global, output: &mut O, number: u64) -> Result<(), Stop>
+    ensures ok { OnOk result (IsWhole (seen (O.told output.old) (O.told output.new)) (host_line number)) }
+    ensures later { (O.told output.old).faults ≤ (O.told output.new).faults }
+    ensures err { IfErr result (λ e. StopsIn e (seen (O.told output.old) (O.told output.new)) (host_line number) (λ _. [])) }
+{
+    match host_line(alloc, number) {
+        Ok(line) => put(output, line.as_slice()),
+        Err(NoMemory) => Err(Stop::NoMemory),
+    }
+}
+
+fn put_slot<G, L, S, K, O: Sink>(
     alloc: Global,
-    text: &mut Bytes,
+    output: &mut O,
+    number: u64,
+    slot: &Slot<G, L, S, K>,
+) -> Result<(), Stop>
+    ensures ok { OnOk result (IsWhole (seen (O.told output.old) (O.told output.new)) (if has_failed slot.now then host_line number else [])) }
+    ensures later { (O.told output.old).faults ≤ (O.told output.new).faults }
+    ensures err { IfErr result (λ e. StopsIn e (seen (O.told output.old) (O.told output.new))
+        (if has_failed slot.now then host_line number else []) (λ _. [])) }
+{
+    if has_failed(slot) {
+        put_host(alloc, output, number)
+    } else {
+        Ok(())
+    }
+}
+
+fn put_hosts<G, L, S, K, O: Sink>(
+    alloc: Global,
+    output: &mut O,
     slots: &[Slot<G, L, S, K>],
-) -> Result<(), NoMemory>
+) -> Result<(), Stop>
     requires { length slots.now < 2 ^ 64 }
-    ensures { OnOk result (text.new ≡ text.old ++ host_text 0 slots.now) }
+    ensures ok { OnOk result (IsWhole (seen (O.told output.old) (O.told output.new)) (host_text 0 slots.now)) }
+    ensures later { (O.told output.old).faults ≤ (O.told output.new).faults }
+    ensures err { IfErr result (λ e. StopsIn e (seen (O.told output.old) (O.told output.new))
+        (host_text 0 slots.now) (λ n. host_text 0 (take n slots.now))) }
 {
     let mut number: u64 = 0;
     for slot in slots {
-        if has_failed(slot) {
-            text.append(b"host ")?;
-            text.append(decimal(alloc, number)?.as_slice())?;
-            text.append(b"\n")?;
-        }
+        put_slot(alloc, output, number, slot)?;
         number += 1;
     }
     Ok(())
 }
 
-fn put_refusal(alloc: Global, text: &mut Bytes, end: ScriptEnd) -> Result<(), NoMemory>
-    ensures { OnOk result (text.new ≡ text.old ++ refusal_text end) }
+fn put_refusal<O: Sink>(alloc: Global, output: &mut O, end: ScriptEnd) -> Result<(), Stop>
+    ensures ok { OnOk result (IsWhole (seen (O.told output.old) (O.told output.new)) (refusal_text end)) }
+    ensures later { (O.told output.old).faults ≤ (O.told output.new).faults }
+    ensures err { IfErr result (λ e. StopsIn e (seen (O.told output.old) (O.told output.new)) (refusal_text end) (λ _. [])) }
 {
     match end {
         ScriptEnd::Done | ScriptEnd::NoMemory => Ok(()),
-        ScriptEnd::Refused { line, why } => {
-            text.append(refused_line(alloc, line, fault_word(why))?.as_slice())
-        }
+        ScriptEnd::Refused { line, why } => match refused_line(alloc, line, fault_word(why)) {
+            Ok(text) => put(output, text.as_slice()),
+            Err(NoMemory) => Err(Stop::NoMemory),
+        },
     }
 }
 
-/// The journal's lines, the report, a line `host` for each slot that has failed, and a line `refused` where a line of the script is.
-pub(crate) fn whole_text<G, L, S, K>(
+/// Writes the journal's lines one by one, the report, a line `host` for each slot that has failed, and a line `refused` where a line of
+/// the script is. At want of memory what stands before stays written.
+pub(crate) fn put_text<G, L, S, K, O: Sink>(
     alloc: Global,
     core: &Core,
     slots: &[Slot<G, L, S, K>],
     end: ScriptEnd,
-) -> Result<Bytes, NoMemory>
+    output: &mut O,
+) -> Result<(), Stop>
     requires settled { core.now ≡ settled core.now.journal }
     requires lawful { AllByRecursion IsLawful core.now.journal }
-    ensures { IfOk result (λ text. text ≡ served_text core.now.journal slots.now end) }
+    ensures ok { OnOk result (IsWhole (seen (O.told output.old) (O.told output.new)) (served_text core.now.journal slots.now end)) }
+    ensures err { IfErr result (λ e. StopsAt e (seen (O.told output.old) (O.told output.new)) core.now.journal slots.now end) }
 {
-    let mut text = Items::new(alloc);
-    put_journal(alloc, &mut text, core.journal())?;
-    put_report(alloc, &mut text, core)?;
-    put_hosts(alloc, &mut text, slots)?;
-    put_refusal(alloc, &mut text, end)?;
-    Ok(text)
+    put_journal(alloc, output, core.journal())?;
+    put_report(alloc, output, core)?;
+    put_hosts(alloc, output, slots)?;
+    put_refusal(alloc, output, end)?;
+    Ok(())
 }

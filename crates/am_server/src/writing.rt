@@ -7,16 +7,16 @@ ghost use Rattle.am_journal.specs.Lawful.{IsLawful};
 ghost use Rattle.acme_core.specs.Run.{settled, IsPossible};
 ghost use Rattle.am_server.specs.Ends.{ended_otherwise, wants_untold, end_done, end_at, Writes};
 ghost use Rattle.am_server.specs.Served.{served_from};
-ghost use Rattle.am_server.specs.Texts.{has_failed, served_text};
+ghost use Rattle.am_server.specs.Texts.{has_failed};
 
 use crate::served::{Served, served_all};
-use crate::texts::{has_failed, whole_text};
+use crate::texts::{Stop, has_failed, put_text};
 use acme_core::{Core, Journal};
-use am_base::{Sink, write_all};
+use am_base::Sink;
 use am_journal::Ending;
 use am_serve::{ScriptEnd, WriteEnd};
 use am_slots::{Slot, Slots};
-use am_text::{Items, NoMemory};
+use am_text::Items;
 use std::alloc::Global;
 
 /// How serving ended. Each has an exit status.
@@ -120,7 +120,7 @@ fn end_at<G, L, S, K>(slots: &[Slot<G, L, S, K>], end: ScriptEnd, failed: bool) 
     }
 }
 
-// Writes the whole text, and answers how serving ended.
+// Writes the text, and answers how serving ended.
 fn write_served<G, L, S, K, O: Sink>(
     alloc: Global,
     core: &Core,
@@ -131,16 +131,13 @@ fn write_served<G, L, S, K, O: Sink>(
     requires settled { core.now ≡ settled core.now.journal }
     requires lawful { AllByRecursion IsLawful core.now.journal }
     requires few { length slots.now < 2 ^ 32 }
-    ensures { Writes slots.now script
-        (seen (O.told output.old) (O.told output.new))
-        (served_text core.now.journal slots.now script) result }
+    ensures { Writes core.now.journal slots.now script
+        (seen (O.told output.old) (O.told output.new)) result }
 {
-    match whole_text(alloc, core, slots, script) {
-        Ok(text) => {
-            let failed = write_all(output, text.as_slice()).is_err();
-            end_at(slots, script, failed)
-        }
-        Err(NoMemory) => ServeEnd::NoMemory,
+    match put_text(alloc, core, slots, script, output) {
+        Ok(()) => end_at(slots, script, false),
+        Err(Stop::Failed) => end_at(slots, script, true),
+        Err(Stop::NoMemory) => ServeEnd::NoMemory,
     }
 }
 
@@ -175,9 +172,8 @@ pub(crate) fn finish<G: Drop, L: Drop, S: Drop, K: Drop, O: Sink>(
     ensures journal { result.journal ≡ core.journal }
     ensures possible { IsPossible result.journal }
     ensures served { result.served ≡ served_from core.journal 0 slots }
-    ensures writes { Writes slots script
-        (seen (O.told output.old) (O.told output.new))
-        (served_text core.journal slots script) result.end }
+    ensures writes { Writes core.journal slots script
+        (seen (O.told output.old) (O.told output.new)) result.end }
 {
     let end = write_served(alloc, &core, slots.as_slice(), script, output);
     core.events_were_possible();

@@ -1,5 +1,5 @@
 -- What serving does to the workers of slots.
-use Rattle.std.specs.Prelude.{◌≡◌, ℕ, ◌+◌, ◌<◌, true, List, [], ◌∷◌, ◌++◌, Option, Some, slice_index_or, length, map}
+use Rattle.std.specs.Prelude.{◌≡◌, ℕ, ◌+◌, ◌<◌, ◌≤◌, true, List, [], ◌∷◌, ◌++◌, Option, Some, slice_index_or, length, map, vec_capacity}
 use Rattle.std.specs.List.{flat_map, AllByRecursion}
 use denote.Ref.{MutBor}
 use denote.Param.Members.{Shared}
@@ -19,6 +19,7 @@ use Rattle.am_serve.specs.Writing.{AreWritten, Gets, taken_bytes}
 use Rattle.am_serve.specs.declared.writing.WriteEnd.{WriteEnd}
 use Rattle.am_serve.specs.declared.writing.WriteEnd.TheVariants as end
 use Rattle.am_slots.specs.Slots.{Outside, IsWaiting, HasName, Tells, Has, unbound}
+use Rattle.am_slots.specs.declared.room.Room.{Room}
 use Rattle.am_slots.specs.declared.slot.Slot.{Slot}
 use Rattle.am_slots.specs.declared.working.Worker.{Worker}
 
@@ -95,3 +96,8 @@ module _ {T G L S K : Type 0} (known : T → Known) where
 -- the slots of workers
 abbrev pub slots_of : {T G L S K : Type 0} → List (Worker T G L S K) → List (Slot G L S K)
 slots_of workers = map (λ w. w.slot) workers
+
+-- nothing is in it, and it has room for so many slots
+pub record HasRoom {T G L S K : Type 0} (clients : ℕ) (room : Room T G L S K) : Type 0 where
+  pub workers : (room.workers.items ≡ []) × (clients ≤ vec_capacity room.workers)
+  pub slots : (room.slots.items ≡ []) × (clients ≤ vec_capacity room.slots)

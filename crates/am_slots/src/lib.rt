@@ -2,6 +2,7 @@
 #![tactic(auto)]
 
 mod binding;
+mod room;
 mod service;
 mod serving;
 mod slot;

@@ -7,17 +7,18 @@ ghost use Rattle.am_serve.specs.Script.{EndsScript, asked_by_script};
 ghost use Rattle.am_journal.specs.Limits.{connection_count};
 ghost use Rattle.am_slots.specs.Binding.{AreWaiting, HaveNames};
 ghost use Rattle.am_slots.specs.Slots.{outside, unbound, HasGiven, HasRisenBy};
-ghost use Rattle.am_slots.specs.Working.{IsReady, Works, ServesEach, EachWorks, IsFresh};
+ghost use Rattle.am_slots.specs.Working.{HasRoom, IsReady, Works, ServesEach, EachWorks, IsFresh};
 ghost use Rattle.am_slots.specs.Serving.{ServesAll, EachTells};
 
 use crate::binding::bind_all;
+use crate::room::Room;
 use crate::service::Service;
 use crate::serving::serve_slot;
 use crate::slot::{HostSlots, Slots};
 use crate::working::{Worker, gather, hire};
 use am_base::{Gate, Host, Link, Sink, Source};
 use am_counter::{Counter, Seats};
-use am_serve::{Bells, Script, ScriptEnd, Station, script_side};
+use am_serve::{Script, ScriptEnd, Station, script_side};
 use am_text::NoMemory;
 use std::alloc::Global;
 use std::sync::Wait;
@@ -133,25 +134,28 @@ fn serve_bound<
     desk: &C,
     seat: &mut T,
     bound: Slots<G, L, S, K>,
+    room: Room<T, G, L, S, K>,
     service: &Service<'_>,
-) -> Result<(Slots<G, L, S, K>, ScriptEnd), NoMemory>
+) -> (Slots<G, L, S, K>, ScriptEnd)
     requires fits { C.fits desk.now seat.old }
     requires clients { (service.now.clients ≤ connection_count) × (length bound ≡ service.now.clients) }
     requires fresh { IsFresh (2 * service.now.clients + 1) (C.known seat.old) × ((C.known seat.old).seen ≡ []) }
     requires waiting { AreWaiting G.told bound }
+    requires room { HasRoom service.now.clients room }
     ensures fits { C.fits desk.now seat.new }
     ensures parts { (C.known seat.new).parts ≡ (C.known seat.old).parts }
-    ensures count { IfOk result (λ r. length r.0 ≡ service.now.clients) }
-    ensures serves { IfOk result (λ r. ServesAll (outside G.told L.told S.told K.told)
-        C.enabled C.unsent C.answer service.now.clients service.now.script.now r.0 r.1 (C.known seat.new)) }
-    ensures tells { IfOk result (λ r. (path : List ℕ) → HaveNames G.told path 0 bound
-        → EachTells (outside G.told L.told S.told K.told) path 0 r.0) }
-    ensures unbound { IfOk result (λ r. unbound r.0 ≡ unbound bound) }
-    ensures err { OnErr result (C.known seat.new ≡ C.known seat.old) }
+    ensures count { length result.0 ≡ service.now.clients }
+    ensures serves { ServesAll (outside G.told L.told S.told K.told)
+        C.enabled C.unsent C.answer service.now.clients service.now.script.now result.0 result.1 (C.known seat.new) }
+    ensures tells { (path : List ℕ) → HaveNames G.told path 0 bound
+        → EachTells (outside G.told L.told S.told K.told) path 0 result.0 }
+    ensures unbound { unbound result.0 ≡ unbound bound }
 {
-    let slots = Vec::with_capacity(alloc, bound.len())?;
-    let workers = Vec::with_capacity(alloc, bound.len())?;
-    let bells = Bells::new(alloc)?;
+    let Room {
+        workers,
+        slots,
+        bells,
+    } = room;
     let mut workers = hire(desk, seat, bound, workers);
     let script = Script {
         desk,
@@ -160,11 +164,11 @@ fn serve_bound<
         clients: service.clients,
     };
     let end = serve_workers(rt, alloc, &script, seat, workers.as_mut_slice());
-    Ok((gather(rt, desk, seat, workers, slots), end))
+    (gather(rt, desk, seat, workers, slots), end)
 }
 
 /// Binds a gate for each of so many slots, and then takes a connection at each and serves it, all at once, and does the script beside
-/// them, until all have ended. Of want of memory for the slots themselves nothing but the gates comes; a connection that found none
+/// them, until all have ended. Want of memory for the slots themselves is told before anything is bound; a connection that found none
 /// is in its slot.
 pub fn serve_slots<H: Host, C: Seats<Seat = T> + Sync, T: Send + Drop, R: Threads + Wait + Sync>(
     rt: &R,
@@ -185,12 +189,17 @@ pub fn serve_slots<H: Host, C: Seats<Seat = T> + Sync, T: Send + Drop, R: Thread
         C.enabled C.unsent C.answer service.now.clients service.now.script.now r.0 r.1 (C.known seat.new)) }
     ensures tells { IfOk result (λ r. EachTells
         (outside H.G.told H.G.L.told H.G.L.R.told H.G.L.W.told) service.now.path.now 0 r.0) }
-    ensures risen { IfOk result (λ r. HasRisenBy (unbound r.0) (H.faults host.old) (H.faults host.new)) }
-    ensures later { H.faults host.old ≤ H.faults host.new }
+    ensures risen { IfOk result (λ r. HasRisenBy (unbound r.0) (H.told host.old).faults (H.told host.new).faults) }
+    ensures later { (H.told host.old).faults ≤ (H.told host.new).faults }
     // Each slot was asked for once.
-    ensures given { IfOk result (λ r. HasGiven service.now.clients (unbound r.0) (H.given host.old) (H.given host.new)) }
+    ensures given { IfOk result (λ r. HasGiven service.now.clients (unbound r.0) (H.told host.old).given (H.told host.new).given) }
     ensures err { OnErr result (C.known seat.new ≡ C.known seat.old) }
+    // Without memory nothing was bound.
+    ensures untouched { OnErr result (host.new ≡ host.old) }
 {
-    let bound = bind_all(alloc, host, service.path, service.clients)?;
-    serve_bound(rt, alloc, desk, seat, bound, service)
+    let clients = service.clients as usize;
+    let room = Room::new(alloc, clients)?;
+    let bound = Vec::with_capacity(alloc, clients)?;
+    let bound = bind_all(host, service.path, service.clients, bound);
+    Ok(serve_bound(rt, alloc, desk, seat, bound, room, service))
 }

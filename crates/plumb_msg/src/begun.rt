@@ -9,8 +9,8 @@ ghost use Rattle.plumb_msg.specs.declared.message.PlumbRead.TheVariants.{More};
 
 use crate::memo::Memo;
 use crate::reading::count_of;
-use crate::texts::{cut_line, has_newline, is_text_front};
-use am_text::NoMemory;
+use crate::texts::{has_newline, is_text_front};
+use am_text::{NoMemory, cut_line};
 use std::alloc::Global;
 
 /// Where a message that is begun goes on, so that what stands before isn't read again.

@@ -7,7 +7,7 @@ use Rattle.acmefs.proofs.Drills.{of_drill}
 use Rattle.acmefs.proofs.Idle.{of_want}
 use Rattle.acmefs.proofs.PackEnds as packs
 use Rattle.acmefs.proofs.Promised.{of_replay}
-use Rattle.acmefs.proofs.Promises.{at_path, of_asked, of_other}
+use Rattle.acmefs.proofs.Promises.{at_path, did_path, of_asked, of_other}
 use Rattle.acmefs.proofs.TraceEnds as traces
 use Rattle.acmefs.proofs.Words.{asked_at, none_at}
 use Rattle.acmefs.proofs.asked.do_asked.Goals as goal
@@ -52,7 +52,7 @@ returns-in-Ok-Some-Do-clause-words g c =
     of_asked {G = g.row.H-G.Denot} {L = g.row.H-G-L.Denot} {S = g.row.H-G-L-R.Denot} {K = g.row.H-G-L-W.Denot}
     c.args.words.now (asked.Do c.in-Ok-Some-Do.path c.in-Ok-Some-Do.tree) _
     (asked_at c.args.words.now _ c.in-Ok-Some-Do.field-0 c.in-Ok-Some-Do.field-0-0 (asked.Do c.in-Ok-Some-Do.path c.in-Ok-Some-Do.tree) c.in-Ok-Some-Do.field-0-is c.in-Ok-Some-Do.field-0-0-is c.as_slice.ensures c.in-Ok-Some-Do.ensures.asked)
-    (c.do_main.ensures)
+    (did_path {G = g.row.H-G.Denot} {L = g.row.H-G-L.Denot} {S = g.row.H-G-L-R.Denot} {K = g.row.H-G-L-W.Denot} _ _ c.in-Ok-Some-Do.tree _ c.deref-in-Ok-Some-Do.ensures c.do_main.ensures.does)
 
 pub returns-in-Ok-Some-Serve-clause-untouched : goal.returns-in-Ok-Some-Serve-clause-untouched
 returns-in-Ok-Some-Serve-clause-untouched g c = λ n d. absurd (let a = sym n ∙ (asked_at c.args.words.now _ c.in-Ok-Some-Serve.field-0 c.in-Ok-Some-Serve.field-0-0 (asked.Serve c.in-Ok-Some-Serve.path c.in-Ok-Some-Serve.clients) c.in-Ok-Some-Serve.field-0-is c.in-Ok-Some-Serve.field-0-0-is c.as_slice.ensures c.in-Ok-Some-Serve.ensures.asked).0 in cc)
@@ -77,5 +77,5 @@ returns-in-Err-clause-words g c =
     let e = c.idle-in-Err.ensures in
     of_want {G = g.row.H-G.Denot} {L = g.row.H-G-L.Denot} {S = g.row.H-G-L-R.Denot} {K = g.row.H-G-L-W.Denot}
     c.args.words.now _ (outside g.H.G.Gate.told g.H.G.L.Link.told g.H.G.L.R.Source.told g.H.G.L.W.Sink.told)
-    (given (g.I.Source.told c.args.input.now) (g.I.Source.told c.args.input.now) (g.H.Host.faults c.args.host.now) (g.H.Host.faults c.args.host.now))
-    _ _ _ (subst (λ (x : List (List ℕ)). AreKnown x) c.as_slice.ensures c.in-Err.ensures.known) e.status refl e.empty e.unserved e.journal
+    (given (g.I.Source.told c.args.input.now) (g.I.Source.told c.args.input.now) (g.H.Host.told c.args.host.now) (g.H.Host.told c.args.host.now))
+    _ _ _ (subst (λ (x : List (List ℕ)). AreKnown x) c.as_slice.ensures c.in-Err.ensures.known) e.status refl refl e.empty e.unserved e.journal

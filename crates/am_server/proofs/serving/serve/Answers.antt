@@ -15,7 +15,7 @@ returns-in-Ok-clause-says g c =
     says_lines {G = g.row.H-G.Denot} {L = g.row.H-G-L.Denot} {S = g.row.H-G-L-R.Denot} {K = g.row.H-G-L-W.Denot}
     (outside g.H.G.Gate.told g.H.G.L.Link.told g.H.G.L.R.Source.told g.H.G.L.W.Sink.told)
     c.args.site.now.path.now c.args.site.now.clients
-    (given (g.I.Source.told c.args.input.now) (g.I.Source.told c.read_to_end.new.source) (g.H.Host.faults c.args.host.now) (g.H.Host.faults c.serve_lines.new.host))
+    (given (g.I.Source.told c.args.input.now) (g.I.Source.told c.read_to_end.new.source) (g.H.Host.told c.args.host.now) (g.H.Host.told c.serve_lines.new.host))
     _ _ _ _ c.as_slice.result.now (subst T (sym c.as_slice.ensures) c.in-Ok.ensures.told) (subst F (sym c.as_slice.ensures) c.in-Ok.ensures.fits) c.serve_lines.ensures.serves
 
 pub returns-in-Err-TooLong-clause-says : goal.returns-in-Err-TooLong-clause-says
@@ -25,7 +25,7 @@ returns-in-Err-TooLong-clause-says g c =
     says_long {G = g.row.H-G.Denot} {L = g.row.H-G-L.Denot} {S = g.row.H-G-L-R.Denot} {K = g.row.H-G-L-W.Denot}
     (outside g.H.G.Gate.told g.H.G.L.Link.told g.H.G.L.R.Source.told g.H.G.L.W.Sink.told)
     c.args.site.now.path.now c.args.site.now.clients
-    (given (g.I.Source.told c.args.input.now) (g.I.Source.told c.read_to_end.new.source) (g.H.Host.faults c.args.host.now) (g.H.Host.faults c.args.host.now))
+    (given (g.I.Source.told c.args.input.now) (g.I.Source.told c.read_to_end.new.source) (g.H.Host.told c.args.host.now) (g.H.Host.told c.args.host.now))
     _ _ _ _ stopped.0 c.refuse_input.ensures.long
 
 pub returns-in-Err-ReadFault-clause-says : goal.returns-in-Err-ReadFault-clause-says

@@ -1,10 +1,14 @@
-use Rattle.std.proofs.Common.{◌≡◌, ◌++◌, drop}
+use Rattle.std.proofs.Common.{◌≤◌, take, drop}
 use Rattle.std.specs.List.{AllByRecursion}
+use Rattle.am_base.specs.Seen.{seen}
+use Rattle.am_base.specs.Written.{IsWhole}
 use Rattle.am_journal.specs.Journal.{journal_text}
 use Rattle.am_journal.specs.Lawful.{IsLawful}
 use Rattle.am_server.proofs.texts.put_journal.Given as goal
 
 abbrev pub invariant-loop-event : goal.invariant-loop-event
-invariant-loop-event l =
-    (l.text ++ journal_text (drop l.event-index l.journal) ≡ l.initial.text ++ journal_text l.journal)
-    × AllByRecursion IsLawful (drop l.event-index l.journal)
+invariant-loop-event g l = record {
+  put : IsWhole (seen (g.O.Sink.told l.fn.output) (g.O.Sink.told l.output)) (journal_text (take l.event-index l.journal));
+  later : (g.O.Sink.told l.fn.output).faults ≤ (g.O.Sink.told l.output).faults;
+  lawful : AllByRecursion IsLawful (drop l.event-index l.journal);
+}
