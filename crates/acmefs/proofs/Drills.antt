@@ -20,14 +20,17 @@ use Rattle.acmefs.specs.Top.{OfDrill, OfJournal, Run}
 
 -- ---- the journal
 
-said-done : (e : DrillEnd) (rounds : ℕ) (o : Seen) (journal : List Event) → AreDone [] (events rounds) → DrillSays e rounds o journal → AreDone [] journal
+said-done : (e : DrillEnd) (rounds : ℕ) (o : Seen) (journal : List Event) → AreDone [] (events rounds)
+    → DrillSays e rounds o journal → AreDone [] journal
 said-done end.Done rounds o journal d h = subst (AreDone []) (sym h.0) d
 said-done end.WriteFault rounds o journal d h = subst (AreDone []) (sym h.0) d
 said-done end.NoMemory rounds o journal d h = front-done journal h.0.0 [] (subst (AreDone []) (sym h.0.1) d)
 
-pub drill_done : (e : DrillEnd) (rounds : ℕ) (o : Seen) (journal : List Event) → IsPlayed enabled (events rounds) → AllByRecursion IsInRange (events rounds)
+pub drill_done : (e : DrillEnd) (rounds : ℕ) (o : Seen) (journal : List Event) → IsPlayed enabled (events rounds)
+    → AllByRecursion IsInRange (events rounds)
     → DrillSays e rounds o journal → AreDone [] journal
-drill_done e rounds o journal played ranged says = said-done e rounds o journal (done-from [] (events rounds) played ranged) says
+drill_done e rounds o journal played ranged says = said-done e rounds o journal
+    (done-from [] (events rounds) played ranged) says
 
 -- ---- the status
 
@@ -36,7 +39,8 @@ no_usage end.Done h = absurd (omega (arith, ap number_of h))
 no_usage end.WriteFault h = absurd (omega (arith, ap number_of h))
 no_usage end.NoMemory h = absurd (omega (arith, ap number_of h))
 
-pub drill_usage : (status : Status) (rounds : ℕ) (o : Seen) (journal : List Event) → Drilled status rounds o journal → status ≡ exit.Usage → ⊥
+pub drill_usage : (status : Status) (rounds : ℕ) (o : Seen) (journal : List Event) → Drilled status rounds o journal
+    → status ≡ exit.Usage → ⊥
 drill_usage status rounds o journal d h = no_usage d.0 (sym d.1 ∙ h)
 
 no_read_fault : (e : DrillEnd) → drill_status e ≡ exit.ReadFault → ⊥
@@ -44,24 +48,29 @@ no_read_fault end.Done h = absurd (omega (arith, ap number_of h))
 no_read_fault end.WriteFault h = absurd (omega (arith, ap number_of h))
 no_read_fault end.NoMemory h = absurd (omega (arith, ap number_of h))
 
-pub drill_read_fault : (status : Status) (rounds : ℕ) (o : Seen) (journal : List Event) → Drilled status rounds o journal → status ≡ exit.ReadFault → ⊥
+pub drill_read_fault : (status : Status) (rounds : ℕ) (o : Seen) (journal : List Event)
+    → Drilled status rounds o journal → status ≡ exit.ReadFault → ⊥
 drill_read_fault status rounds o journal d h = no_read_fault d.0 (sym d.1 ∙ h)
 
-risen_at : (e : DrillEnd) (rounds : ℕ) (o : Seen) (journal : List Event) → drill_status e ≡ exit.WriteFault → DrillSays e rounds o journal → HasRisen o.before.faults o.now.faults
+risen_at : (e : DrillEnd) (rounds : ℕ) (o : Seen) (journal : List Event)
+    → drill_status e ≡ exit.WriteFault → DrillSays e rounds o journal → HasRisen o.before.faults o.now.faults
 risen_at end.Done rounds o journal h says = absurd (omega (arith, ap number_of h))
 risen_at end.WriteFault rounds o journal h says = says.1.risen
 risen_at end.NoMemory rounds o journal h says = absurd (omega (arith, ap number_of h))
 
-pub drill_write_fault : (status : Status) (rounds : ℕ) (o : Seen) (journal : List Event) → Drilled status rounds o journal → status ≡ exit.WriteFault → HasRisen o.before.faults o.now.faults
+pub drill_write_fault : (status : Status) (rounds : ℕ) (o : Seen) (journal : List Event)
+    → Drilled status rounds o journal → status ≡ exit.WriteFault → HasRisen o.before.faults o.now.faults
 drill_write_fault status rounds o journal d h = risen_at d.0 rounds o journal (sym d.1 ∙ h) d.2
 
-complete_at : (e : DrillEnd) (status : Status) (rounds : ℕ) (o : Seen) (journal : List Event) → status ≡ drill_status e → DrillSays e rounds o journal → IsDrilled status rounds o journal
+complete_at : (e : DrillEnd) (status : Status) (rounds : ℕ) (o : Seen) (journal : List Event) → status ≡ drill_status e
+    → DrillSays e rounds o journal → IsDrilled status rounds o journal
 complete_at end.Done status rounds o journal h says = λ unrisen. inl (h, says.0, says.1)
 complete_at end.WriteFault status rounds o journal h says = λ unrisen. absurd (unrisen says.1.risen)
 complete_at end.NoMemory status rounds o journal h says = λ unrisen. inr h
 
 -- all that is promised of a drill
-pub of_drill : {G L S K : Type 0} (rounds : ℕ) (r : Run G L S K) → Drilled r.status rounds r.output r.journal → r.given.input.now.bytes ≡ r.given.input.before.bytes
+pub of_drill : {G L S K : Type 0} (rounds : ℕ) (r : Run G L S K) → Drilled r.status rounds r.output r.journal
+    → r.given.input.now.bytes ≡ r.given.input.before.bytes
     → r.served ≡ [] → OfJournal r.journal → OfDrill rounds r
 of_drill {G} {L} {S} {K} rounds r d unread none journal = record {
   drills = d;

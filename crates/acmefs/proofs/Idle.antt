@@ -33,7 +33,8 @@ nothing_told None = refl
 nothing_told (Some bytes) = ap Some (sym (append-nil bytes))
 
 -- want of memory before the first event
-ran_out : (script : scripts.Script) (o : Seen) (journal : List Event) → o.now.bytes ≡ o.before.bytes → journal ≡ [] → RanOut script o journal
+ran_out : (script : scripts.Script) (o : Seen) (journal : List Event) → o.now.bytes ≡ o.before.bytes → journal ≡ []
+    → RanOut script o journal
 unfolding replied_from
 ran_out script o journal silent none = subst (RanOut script o) (sym none) (record {
   events = (script.events, refl);
@@ -55,11 +56,16 @@ module _ {G L S K : Type 0} where
   Nothing status m i first journal served = run status m i (seen first first) journal served
 
   -- whatever was asked for, that is one of its ends
-  asked_idle : (a : Asked) (status : Status) (m : Outside G L S K) (i : Given) (first : BytesTold) (journal : List Event) (served : List (Served G L S K))
-      → status ≡ exit.NoMemory → i.input.now.bytes ≡ i.input.before.bytes → i.host.now ≡ i.host.before → journal ≡ [] → served ≡ [] → OfJournal journal → OfAsked a (Nothing status m i first journal served)
+  asked_idle : (a : Asked) (status : Status) (m : Outside G L S K) (i : Given) (first : BytesTold)
+      (journal : List Event) (served : List (Served G L S K))
+      → status ≡ exit.NoMemory → i.input.now.bytes ≡ i.input.before.bytes → i.host.now ≡ i.host.before → journal ≡ []
+      → served ≡ [] → OfJournal journal → OfAsked a (Nothing status m i first journal served)
   asked_idle asked.Replay status m i first journal served is unread unasked empty none of =
-      of_replay (Nothing status m i first journal served) end.NoMemory is
-      (bytes_in i.input.before.bytes, are_told i.input.before.bytes, ran_out (script_of (bytes_in i.input.before.bytes)) (seen first first) journal refl empty) none of
+      of_replay (Nothing status m i first journal served) end.NoMemory is (
+        bytes_in i.input.before.bytes,
+        are_told i.input.before.bytes,
+        ran_out (script_of (bytes_in i.input.before.bytes)) (seen first first) journal refl empty,
+      ) none of
   asked_idle asked.Trace status m i first journal served is unread unasked empty none of = record {
     traces = traces.idle status i.input.before i.input.now first journal is empty;
     unserved = none;
@@ -71,7 +77,8 @@ module _ {G L S K : Type 0} where
   }
   asked_idle (asked.Drill rounds) status m i first journal served is unread unasked empty none of =
       of_drill rounds (Nothing status m i first journal served)
-      (drilling.NoMemory, is, ((events rounds, ap (λ (j : List Event). j ++ events rounds) empty), (refl, refl))) unread none of
+      (drilling.NoMemory, is, ((events rounds, ap (λ (j : List Event). j ++ events rounds) empty), (refl, refl))) unread
+      none of
   asked_idle (asked.Serve path clients) status m i first journal served is unread unasked empty none of = record {
     serves = (serving.NoMemory, is, inr (inr (inl (refl, record { silent = refl; empty = empty; none = none }))));
     replied = λ h. none_replied m journal served none;
@@ -87,8 +94,10 @@ module _ {G L S K : Type 0} where
   }
 
   -- memory ran out before the words were read
-  pub of_want : (words : List (List ℕ)) (status : Status) (m : Outside G L S K) (i : Given) (first : BytesTold) (journal : List Event) (served : List (Served G L S K))
-      → AreKnown words → status ≡ exit.NoMemory → i.input.now.bytes ≡ i.input.before.bytes → i.host.now ≡ i.host.before → journal ≡ [] → served ≡ [] → OfJournal journal
+  pub of_want : (words : List (List ℕ)) (status : Status) (m : Outside G L S K) (i : Given) (first : BytesTold)
+      (journal : List Event) (served : List (Served G L S K))
+      → AreKnown words → status ≡ exit.NoMemory → i.input.now.bytes ≡ i.input.before.bytes →
+      i.host.now ≡ i.host.before → journal ≡ [] → served ≡ [] → OfJournal journal
       → OfWords words (Nothing status m i first journal served)
   of_want words status m i first journal served known is unread unasked empty none of = record {
     asked = λ a x. asked_idle a status m i first journal served is unread unasked empty none of;

@@ -16,14 +16,18 @@ use Rattle.acmefs.specs.Statuses.{number_of}
 use Rattle.acmefs.specs.Top.{OfJournal, OfReplay, Run}
 use Rattle.am_replay.proofs.OwnText.{says_own}
 
-told_ran : (end : End) (told : Option (List ℕ)) (o : Seen) (journal : List Event) → Replays end told o journal → RanTold end told o journal
+told_ran : (end : End) (told : Option (List ℕ)) (o : Seen) (journal : List Event) → Replays end told o journal
+    → RanTold end told o journal
 told_ran end None o journal r = tt
 told_ran end (Some bytes) o journal r = subst (λ (x : List ℕ). Ran end (script_of x) o journal) (sym r.1) r.2
 
-told_part : (end : End) (status : Status) (told : Option (List ℕ)) (before now : BytesTold) (o : Seen) (journal : List Event) → Replays end told o journal
-    → ((script : scripts.Script) → Ran end script o journal → IsComplete status script before now o journal) → IfSome told (λ bytes. IsComplete status (script_of bytes) before now o journal)
+told_part : (end : End) (status : Status) (told : Option (List ℕ)) (before now : BytesTold) (o : Seen)
+    (journal : List Event) → Replays end told o journal
+    → ((script : scripts.Script) → Ran end script o journal → IsComplete status script before now o journal)
+    → IfSome told (λ bytes. IsComplete status (script_of bytes) before now o journal)
 told_part end status None before now o journal r f = tt
-told_part end status (Some bytes) before now o journal r f = f (script_of bytes) (subst (λ (x : List ℕ). Ran end (script_of x) o journal) (sym r.1) r.2)
+told_part end status (Some bytes) before now o journal r f = f (script_of bytes)
+    (subst (λ (x : List ℕ). Ran end (script_of x) o journal) (sym r.1) r.2)
 
 -- status 1 comes only for other words
 pub usage : (end : End) (status : Status) (before now : BytesTold) (o : Seen) (journal : List Event)
@@ -47,7 +51,8 @@ idle_fault NoMemory status before now o journal e p h = absurd (omega (arith, ap
 
 -- status 3 comes only where the count of the input has risen
 pub read_fault : (end : End) (status : Status) (before now : BytesTold) (o : Seen) (journal : List Event)
-    → status ≡ status_of end → Says end before now o journal → status ≡ exit.ReadFault → HasRisen before.faults now.faults
+    → status ≡ status_of end → Says end before now o journal → status ≡ exit.ReadFault → HasRisen before.faults
+    now.faults
 read_fault Done status before now o journal e p h = absurd (omega (arith, ap number_of e, ap number_of h))
 read_fault Usage status before now o journal e p h = absurd p
 read_fault Script status before now o journal e p h = absurd (omega (arith, ap number_of e, ap number_of h))
@@ -67,7 +72,8 @@ done NoMemory status before now o journal e p h = absurd (omega (arith, ap numbe
 
 -- with status 2 a line is refused
 pub script : (end : End) (status : Status) (before now : BytesTold) (o : Seen) (journal : List Event)
-    → status ≡ status_of end → Says end before now o journal → status ≡ exit.Refused → RanTold Script before.bytes o journal
+    → status ≡ status_of end → Says end before now o journal → status ≡ exit.Refused → RanTold Script before.bytes o
+    journal
 script Done status before now o journal e p h = absurd (omega (arith, ap number_of e, ap number_of h))
 script Usage status before now o journal e p h = absurd p
 script Script status before now o journal e p h = told_ran Script before.bytes o journal p
@@ -77,7 +83,8 @@ script NoMemory status before now o journal e p h = absurd (omega (arith, ap num
 
 -- with status 4 all was done and a front was written
 pub write_fault : (end : End) (status : Status) (before now : BytesTold) (o : Seen) (journal : List Event)
-    → status ≡ status_of end → Says end before now o journal → status ≡ exit.WriteFault → RanTold WriteFault before.bytes o journal
+    → status ≡ status_of end → Says end before now o journal → status ≡ exit.WriteFault → RanTold WriteFault
+    before.bytes o journal
 write_fault Done status before now o journal e p h = absurd (omega (arith, ap number_of e, ap number_of h))
 write_fault Usage status before now o journal e p h = absurd p
 write_fault Script status before now o journal e p h = absurd (omega (arith, ap number_of e, ap number_of h))
@@ -87,7 +94,8 @@ write_fault NoMemory status before now o journal e p h = absurd (omega (arith, a
 
 -- with status 6 memory ran out
 pub no_memory : (end : End) (status : Status) (before now : BytesTold) (o : Seen) (journal : List Event)
-    → status ≡ status_of end → Says end before now o journal → status ≡ exit.NoMemory → RanTold NoMemory before.bytes o journal
+    → status ≡ status_of end → Says end before now o journal → status ≡ exit.NoMemory → RanTold NoMemory before.bytes o
+    journal
 no_memory Done status before now o journal e p h = absurd (omega (arith, ap number_of e, ap number_of h))
 no_memory Usage status before now o journal e p h = absurd p
 no_memory Script status before now o journal e p h = absurd (omega (arith, ap number_of e, ap number_of h))
@@ -97,7 +105,8 @@ no_memory NoMemory status before now o journal e p h = told_ran NoMemory before.
 
 -- status 4 comes only where the count of the output has risen
 pub write_cause : (end : End) (status : Status) (before now : BytesTold) (o : Seen) (journal : List Event)
-    → status ≡ status_of end → Says end before now o journal → status ≡ exit.WriteFault → HasRisen o.before.faults o.now.faults
+    → status ≡ status_of end → Says end before now o journal → status ≡ exit.WriteFault → HasRisen o.before.faults
+    o.now.faults
 write_cause Done status before now o journal e p h = absurd (omega (arith, ap number_of e, ap number_of h))
 write_cause Usage status before now o journal e p h = absurd p
 write_cause Script status before now o journal e p h = absurd (omega (arith, ap number_of e, ap number_of h))
@@ -105,23 +114,30 @@ write_cause ReadFault status before now o journal e p h = absurd (omega (arith, 
 write_cause WriteFault status before now o journal e p h = p.2.2.risen
 write_cause NoMemory status before now o journal e p h = absurd (omega (arith, ap number_of e, ap number_of h))
 
-risen_in : (told : Option (List ℕ)) (status : Status) (before now : BytesTold) (o : Seen) (journal : List Event) → HasRisen before.faults now.faults
+risen_in : (told : Option (List ℕ)) (status : Status) (before now : BytesTold) (o : Seen) (journal : List Event)
+    → HasRisen before.faults now.faults
     → IfSome told (λ bytes. IsComplete status (script_of bytes) before now o journal)
 risen_in None status before now o journal r = tt
 risen_in (Some bytes) status before now o journal r = λ none in_ok out_ok. absurd (in_ok r)
 
 -- an input of enabled events with no fault outside is done and written whole, or memory ran out
 pub complete : (end : End) (status : Status) (before now : BytesTold) (o : Seen) (journal : List Event)
-    → status ≡ status_of end → Says end before now o journal → IfSome before.bytes (λ bytes. IsComplete status (script_of bytes) before now o journal)
-complete Done status before now o journal e p = told_part Done status before.bytes before now o journal p (λ s r none in_ok out_ok. inl (e, r))
+    → status ≡ status_of end → Says end before now o journal → IfSome before.bytes
+    (λ bytes. IsComplete status (script_of bytes) before now o journal)
+complete Done status before now o journal e p = told_part Done status before.bytes before now o journal p
+    (λ s r none in_ok out_ok. inl (e, r))
 complete Usage status before now o journal e p = absurd p
-complete Script status before now o journal e p = told_part Script status before.bytes before now o journal p (λ s r none in_ok out_ok. absurd (let a = r.1.1 in cc))
+complete Script status before now o journal e p = told_part Script status before.bytes before now o journal p
+    (λ s r none in_ok out_ok. absurd (let a = r.1.1 in cc))
 complete ReadFault status before now o journal e p = risen_in before.bytes status before now o journal p.1
-complete WriteFault status before now o journal e p = told_part WriteFault status before.bytes before now o journal p (λ s r none in_ok out_ok. absurd (out_ok r.2.risen))
-complete NoMemory status before now o journal e p = told_part NoMemory status before.bytes before now o journal p (λ s r none in_ok out_ok. inr e)
+complete WriteFault status before now o journal e p = told_part WriteFault status before.bytes before now o journal p
+    (λ s r none in_ok out_ok. absurd (out_ok r.2.risen))
+complete NoMemory status before now o journal e p = told_part NoMemory status before.bytes before now o journal p
+    (λ s r none in_ok out_ok. inr e)
 
 -- all that is promised of a replay
-pub of_replay : {G L S K : Type 0} (r : Run G L S K) (end : End) → r.status ≡ status_of end → Says end r.given.input.before r.given.input.now r.output r.journal
+pub of_replay : {G L S K : Type 0} (r : Run G L S K) (end : End) → r.status ≡ status_of end
+    → Says end r.given.input.before r.given.input.now r.output r.journal
     → r.served ≡ [] → OfJournal r.journal → OfReplay r
 of_replay {G} {L} {S} {K} r end is says none journal =
     let before : BytesTold = r.given.input.before in

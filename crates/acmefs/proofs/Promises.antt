@@ -37,14 +37,18 @@ module _ {G L S K : Type 0} where
   pub did_path : (p q : List ℕ) (tree : Tree) (r : Run G L S K) → p ≡ q → OfDo p tree r → OfDo q tree r
   did_path p q tree r e of = subst (λ (x : List ℕ). OfDo x tree r) e of
 
-  by_number : (words : List (List ℕ)) (a b : Asked) (r : Run G L S K) → number a ≡ number b → AsksFor words a → AsksFor words b → OfAsked a r → OfAsked b r
+  by_number : (words : List (List ℕ)) (a b : Asked) (r : Run G L S K) → number a ≡ number b → AsksFor words a
+      → AsksFor words b → OfAsked a r → OfAsked b r
   by_number words asked.Replay asked.Replay r e x y of = of
   by_number words asked.Trace asked.Trace r e x y of = of
   by_number words asked.Pack asked.Pack r e x y of = of
-  by_number words (asked.Drill m) (asked.Drill n) r e x y of = subst (λ (k : ℕ). OfDrill k r) (rounds_once words m n x y) of
+  by_number words (asked.Drill m) (asked.Drill n) r e x y of = subst (λ (k : ℕ). OfDrill k r)
+      (rounds_once words m n x y) of
   by_number words (asked.Serve p m) (asked.Serve q n) r e x y of =
-      served_at (string_bytes p) (string_bytes q) m n r (asked_once words (string_bytes p) (string_bytes q) m n x.0 y.0) of
-  by_number words (asked.Do p s) (asked.Do q t) r e x y of = did_at (string_bytes p) (string_bytes q) s t r (done_once words (string_bytes p) (string_bytes q) s t x.0 y.0) of
+      served_at (string_bytes p) (string_bytes q) m n r (asked_once words (string_bytes p) (string_bytes q) m n x.0 y.0)
+      of
+  by_number words (asked.Do p s) (asked.Do q t) r e x y of = did_at (string_bytes p) (string_bytes q) s t r
+      (done_once words (string_bytes p) (string_bytes q) s t x.0 y.0) of
   by_number words a b r e x y of = absurd (omega (arith, e))
 
   -- ---- what the statuses say
@@ -55,30 +59,43 @@ module _ {G L S K : Type 0} where
   no_usage asked.Pack r of h = let s = of.packs.says in packs.usage s.0 _ s.1 h
   no_usage (asked.Drill rounds) r of h = drill_usage r.status rounds r.output r.journal of.drills h
   no_usage (asked.Serve path clients) r of h = never_usage of.serves.0 (sym of.serves.1 ∙ h)
-  no_usage (asked.Do path tree) r of h = does.usage r.status r.objects (tree_name tree) r.given r.output r.served of.does h
+  no_usage (asked.Do path tree) r of h = does.usage r.status r.objects (tree_name tree) r.given r.output r.served
+      of.does h
 
-  read_fault : (a : Asked) (r : Run G L S K) → OfAsked a r → r.status ≡ exit.ReadFault → IsIdle r.output r.journal × HasRisen r.given.input.before.faults r.given.input.now.faults
+  read_fault : (a : Asked) (r : Run G L S K) → OfAsked a r → r.status ≡ exit.ReadFault → IsIdle r.output r.journal
+      × HasRisen r.given.input.before.faults r.given.input.now.faults
   read_fault asked.Replay r of h =
-      let s = of.headline in
-      (replays.idle_fault s.0 r.status r.given.input.before r.given.input.now r.output r.journal s.1 s.2 h, replays.read_fault s.0 r.status r.given.input.before r.given.input.now r.output r.journal s.1 s.2 h)
-  read_fault asked.Trace r of h = let s = of.traces.says in traces.read_fault s.0 r.status r.given.input.before r.given.input.now r.output r.journal s.1 s.2 h
-  read_fault asked.Pack r of h = let s = of.packs.says in packs.read_fault s.0 r.status r.given.input.before r.given.input.now r.output r.journal s.1 s.2 h
+      let s = of.headline in (
+        replays.idle_fault s.0 r.status r.given.input.before r.given.input.now r.output r.journal s.1 s.2 h,
+        replays.read_fault s.0 r.status r.given.input.before r.given.input.now r.output r.journal s.1 s.2 h,
+      )
+  read_fault asked.Trace r of h = let s = of.traces.says in traces.read_fault s.0 r.status r.given.input.before
+      r.given.input.now r.output r.journal s.1 s.2 h
+  read_fault asked.Pack r of h = let s = of.packs.says in packs.read_fault s.0 r.status r.given.input.before
+      r.given.input.now r.output r.journal s.1 s.2 h
   read_fault (asked.Drill rounds) r of h = absurd (drill_read_fault r.status rounds r.output r.journal of.drills h)
   read_fault (asked.Serve path clients) r of h =
-      let f = serve_read_fault r.objects (string_bytes path) clients r.given r.output r.journal r.served r.status of.serves.0 of.serves.1 of.serves.2 h in
+      let f = serve_read_fault r.objects (string_bytes path) clients r.given r.output r.journal r.served r.status
+      of.serves.0 of.serves.1 of.serves.2 h in
       (record { silent = f.1.silent; empty = f.1.empty }, f.0)
   read_fault (asked.Do path tree) r of h =
       let f = does.read_fault r.status r.objects (tree_name tree) r.given r.output r.served of.does h in
       (record { silent = f.1; empty = of.empty }, f.0)
 
-  write_cause : (a : Asked) (r : Run G L S K) → OfAsked a r → r.status ≡ exit.WriteFault → HasRisen r.output.before.faults r.output.now.faults
-  write_cause asked.Replay r of h = let s = of.headline in replays.write_cause s.0 r.status r.given.input.before r.given.input.now r.output r.journal s.1 s.2 h
-  write_cause asked.Trace r of h = let s = of.traces.says in traces.write_cause s.0 r.status r.given.input.before r.given.input.now r.output r.journal s.1 s.2 h
-  write_cause asked.Pack r of h = let s = of.packs.says in packs.write_cause s.0 r.status r.given.input.before r.given.input.now r.output r.journal s.1 s.2 h
+  write_cause : (a : Asked) (r : Run G L S K) → OfAsked a r → r.status ≡ exit.WriteFault →
+      HasRisen r.output.before.faults r.output.now.faults
+  write_cause asked.Replay r of h = let s = of.headline in replays.write_cause s.0 r.status r.given.input.before
+      r.given.input.now r.output r.journal s.1 s.2 h
+  write_cause asked.Trace r of h = let s = of.traces.says in traces.write_cause s.0 r.status r.given.input.before
+      r.given.input.now r.output r.journal s.1 s.2 h
+  write_cause asked.Pack r of h = let s = of.packs.says in packs.write_cause s.0 r.status r.given.input.before
+      r.given.input.now r.output r.journal s.1 s.2 h
   write_cause (asked.Drill rounds) r of h = drill_write_fault r.status rounds r.output r.journal of.drills h
   write_cause (asked.Serve path clients) r of h =
-      serve_write_fault r.objects (string_bytes path) clients r.given r.output r.journal r.served r.status of.serves.0 of.serves.1 of.serves.2 h
-  write_cause (asked.Do path tree) r of h = does.write_cause r.status r.objects (tree_name tree) r.given r.output r.served of.does h
+      serve_write_fault r.objects (string_bytes path) clients r.given r.output r.journal r.served r.status of.serves.0
+      of.serves.1 of.serves.2 h
+  write_cause (asked.Do path tree) r of h = does.write_cause r.status r.objects (tree_name tree) r.given r.output
+      r.served of.does h
 
   -- ---- all of it
 

@@ -1,5 +1,6 @@
 -- What each exit status says where connections are served.
-use Rattle.std.proofs.Common.{◌≡◌, ◌⊎◌, inl, inr, ℕ, Bool, true, false, cond, List, [], ◌∙◌, Option, Some, None, refl, sym, ap, subst, ⊎_elim, arith}
+use Rattle.std.proofs.Common.{◌≡◌, ◌⊎◌, inl, inr, ℕ, Bool, true, false, cond, List, [], ◌∙◌, Option, Some, None, refl}
+use Rattle.std.proofs.Common.{sym, ap, subst, ⊎_elim, arith}
 use Rattle.std.specs.Prelude.{IfSome}
 use Rattle.std.specs.List.{list_any, AllByRecursion}
 use Rattle.am_base.specs.Outside.{HasRisen}
@@ -38,7 +39,8 @@ never_usage end.HostFault h = absurd (omega (arith, ap number_of h))
 never_usage end.NoMemory h = absurd (omega (arith, ap number_of h))
 never_usage end.WriteFault h = absurd (omega (arith, ap number_of h))
 
-host_or : (b : Bool) (e : ServeEnd) (n : Status) → (exit.HostFault ≡ n → ⊥) → (serve_status e ≡ n → ⊥) → serve_status (cond b end.HostFault e) ≡ n → ⊥
+host_or : (b : Bool) (e : ServeEnd) (n : Status) → (exit.HostFault ≡ n → ⊥) → (serve_status e ≡ n → ⊥)
+    → serve_status (cond b end.HostFault e) ≡ n → ⊥
 host_or true e n f g h = f h
 host_or false e n f g h = g h
 
@@ -52,79 +54,136 @@ whole_or true h = absurd (omega (arith, ap number_of h))
 whole_or false h = absurd (omega (arith, ap number_of h))
 
 -- with status 0 and 4 all was done
-all_done : (e : ServeEnd) (status : Status) → status ≡ serve_status e → (status ≡ exit.Done) ⊎ (status ≡ exit.WriteFault) → AllDone e
+all_done : (e : ServeEnd) (status : Status) → status ≡ serve_status e → (status ≡ exit.Done)
+    ⊎ (status ≡ exit.WriteFault) → AllDone e
 all_done end.Done status is h = tt
 all_done end.WriteFault status is h = tt
-all_done end.Script status is h = absurd (⊎_elim (λ (x : status ≡ exit.Done). omega (arith, ap number_of is, ap number_of x)) (λ (x : status ≡ exit.WriteFault). omega (arith, ap number_of is, ap number_of x)) h)
-all_done end.ReadFault status is h = absurd (⊎_elim (λ (x : status ≡ exit.Done). omega (arith, ap number_of is, ap number_of x)) (λ (x : status ≡ exit.WriteFault). omega (arith, ap number_of is, ap number_of x)) h)
-all_done end.HostFault status is h = absurd (⊎_elim (λ (x : status ≡ exit.Done). omega (arith, ap number_of is, ap number_of x)) (λ (x : status ≡ exit.WriteFault). omega (arith, ap number_of is, ap number_of x)) h)
-all_done end.NoMemory status is h = absurd (⊎_elim (λ (x : status ≡ exit.Done). omega (arith, ap number_of is, ap number_of x)) (λ (x : status ≡ exit.WriteFault). omega (arith, ap number_of is, ap number_of x)) h)
+all_done end.Script status is h = absurd (⊎_elim (λ (x : status ≡ exit.Done).
+    omega (arith, ap number_of is, ap number_of x)) (λ (x : status ≡ exit.WriteFault).
+    omega (arith, ap number_of is, ap number_of x)) h)
+all_done end.ReadFault status is h = absurd (⊎_elim (λ (x : status ≡ exit.Done).
+    omega (arith, ap number_of is, ap number_of x)) (λ (x : status ≡ exit.WriteFault).
+    omega (arith, ap number_of is, ap number_of x)) h)
+all_done end.HostFault status is h = absurd (⊎_elim (λ (x : status ≡ exit.Done).
+    omega (arith, ap number_of is, ap number_of x)) (λ (x : status ≡ exit.WriteFault).
+    omega (arith, ap number_of is, ap number_of x)) h)
+all_done end.NoMemory status is h = absurd (⊎_elim (λ (x : status ≡ exit.Done).
+    omega (arith, ap number_of is, ap number_of x)) (λ (x : status ≡ exit.WriteFault).
+    omega (arith, ap number_of is, ap number_of x)) h)
 
 module _ {G L S K : Type 0} where
   -- after a script was done no end tells of the input
-  no_read_fault : (slots : List (Slot G L S K)) (s : ScriptEnd) (failed : Bool) → serve_status (end_at slots s failed) ≡ exit.ReadFault → ⊥
+  no_read_fault : (slots : List (Slot G L S K)) (s : ScriptEnd) (failed : Bool)
+      → serve_status (end_at slots s failed) ≡ exit.ReadFault → ⊥
   no_read_fault slots (script.Refused line why) failed h = absurd (omega (arith, ap number_of h))
-  no_read_fault slots script.NoMemory failed h = host_or (list_any has_failed slots) end.NoMemory exit.ReadFault (λ x. absurd (omega (arith, ap number_of x))) (λ x. absurd (omega (arith, ap number_of x))) h
+  no_read_fault slots script.NoMemory failed h = host_or (list_any has_failed slots) end.NoMemory exit.ReadFault
+      (λ x. absurd (omega (arith, ap number_of x))) (λ x. absurd (omega (arith, ap number_of x))) h
   no_read_fault slots script.Done failed h =
-      host_or (list_any has_failed slots) (end_done (list_any wants_untold slots) failed) exit.ReadFault (λ x. absurd (omega (arith, ap number_of x))) (done_or (list_any wants_untold slots) failed) h
+      host_or (list_any has_failed slots) (end_done (list_any wants_untold slots) failed) exit.ReadFault
+      (λ x. absurd (omega (arith, ap number_of x))) (done_or (list_any wants_untold slots) failed) h
 
   -- and none of the output, where that has not failed
-  no_write_fault : (slots : List (Slot G L S K)) (s : ScriptEnd) → serve_status (end_at slots s false) ≡ exit.WriteFault → ⊥
+  no_write_fault : (slots : List (Slot G L S K)) (s : ScriptEnd) →
+      serve_status (end_at slots s false) ≡ exit.WriteFault → ⊥
   no_write_fault slots (script.Refused line why) h = absurd (omega (arith, ap number_of h))
-  no_write_fault slots script.NoMemory h = host_or (list_any has_failed slots) end.NoMemory exit.WriteFault (λ x. absurd (omega (arith, ap number_of x))) (λ x. absurd (omega (arith, ap number_of x))) h
+  no_write_fault slots script.NoMemory h = host_or (list_any has_failed slots) end.NoMemory exit.WriteFault
+      (λ x. absurd (omega (arith, ap number_of x))) (λ x. absurd (omega (arith, ap number_of x))) h
   no_write_fault slots script.Done h =
-      host_or (list_any has_failed slots) (end_done (list_any wants_untold slots) false) exit.WriteFault (λ x. absurd (omega (arith, ap number_of x))) (whole_or (list_any wants_untold slots)) h
+      host_or (list_any has_failed slots) (end_done (list_any wants_untold slots) false) exit.WriteFault
+      (λ x. absurd (omega (arith, ap number_of x))) (whole_or (list_any wants_untold slots)) h
 
-  writes_read : (journal : List Event) (slots : List (Slot G L S K)) (s : ScriptEnd) (o : Seen) (e : ServeEnd) → serve_status e ≡ exit.ReadFault → Writes journal slots s o e → ⊥
+  writes_read : (journal : List Event) (slots : List (Slot G L S K)) (s : ScriptEnd) (o : Seen) (e : ServeEnd)
+      → serve_status e ≡ exit.ReadFault → Writes journal slots s o e → ⊥
   writes_read journal slots s o e h (inl w) = no_read_fault slots s false (ap serve_status (sym w.0) ∙ h)
   writes_read journal slots s o e h (inr (inl w)) = no_read_fault slots s true (ap serve_status (sym w.0) ∙ h)
-  writes_read journal slots s o e h (inr (inr w)) = absurd (omega (arith, ap number_of (ap serve_status w.0), ap number_of h))
+  writes_read journal slots s o e h (inr (inr w)) = absurd (omega (
+    arith,
+    ap number_of (ap serve_status w.0),
+    ap number_of h,
+  ))
 
-  writes_fault : (journal : List Event) (slots : List (Slot G L S K)) (s : ScriptEnd) (o : Seen) (e : ServeEnd) → serve_status e ≡ exit.WriteFault → Writes journal slots s o e → HasRisen o.before.faults o.now.faults
+  writes_fault : (journal : List Event) (slots : List (Slot G L S K)) (s : ScriptEnd) (o : Seen) (e : ServeEnd)
+      → serve_status e ≡ exit.WriteFault → Writes journal slots s o e → HasRisen o.before.faults o.now.faults
   writes_fault journal slots s o e h (inl w) = absurd (no_write_fault slots s (ap serve_status (sym w.0) ∙ h))
   writes_fault journal slots s o e h (inr (inl w)) = w.1.risen
-  writes_fault journal slots s o e h (inr (inr w)) = absurd (omega (arith, ap number_of (ap serve_status w.0), ap number_of h))
+  writes_fault journal slots s o e h (inr (inr w)) = absurd (omega (
+    arith,
+    ap number_of (ap serve_status w.0),
+    ap number_of h,
+  ))
 
-  too_long_ends : (o : Seen) (journal : List Event) (served : List (Served G L S K)) (e : ServeEnd) → ends.IsTooLong o journal served e → (serve_status e ≡ exit.Refused) ⊎ (serve_status e ≡ exit.NoMemory)
+  too_long_ends : (o : Seen) (journal : List Event) (served : List (Served G L S K)) (e : ServeEnd)
+      → ends.IsTooLong o journal served e → (serve_status e ≡ exit.Refused) ⊎ (serve_status e ≡ exit.NoMemory)
   too_long_ends o journal served e t = ⊎_elim (λ w. inl (ap serve_status w.0)) (λ w. inr (ap serve_status w.0)) t.put
 
   -- status 3 comes only where the input's count has risen
-  pub serve_read_fault : (m : Outside G L S K) (path : List ℕ) (clients : ℕ) (i : Given) (o : Seen) (journal : List Event) (served : List (Served G L S K)) (status : Status) (e : ServeEnd)
-      → status ≡ serve_status e → SaysServe m path clients i o journal served e → status ≡ exit.ReadFault → HasRisen i.input.before.faults i.input.now.faults × ends.IsIdle o journal served
+  pub serve_read_fault : (m : Outside G L S K) (path : List ℕ) (clients : ℕ) (i : Given) (o : Seen)
+      (journal : List Event) (served : List (Served G L S K)) (status : Status) (e : ServeEnd)
+      → status ≡ serve_status e → SaysServe m path clients i o journal served e
+      → status ≡ exit.ReadFault → HasRisen i.input.before.faults i.input.now.faults × ends.IsIdle o journal served
   serve_read_fault m path clients i o journal served status e is (inl s) h = (s.1, s.2)
   serve_read_fault m path clients i o journal served status e is (inr (inl (long, t))) h =
-      ⊎_elim (λ (x : serve_status e ≡ exit.Refused). absurd (omega (arith, ap number_of x, ap number_of is, ap number_of h))) (λ (x : serve_status e ≡ exit.NoMemory). absurd (omega (arith, ap number_of x, ap number_of is, ap number_of h))) (too_long_ends o journal served e t)
-  serve_read_fault m path clients i o journal served status e is (inr (inr (inl w))) h = absurd (omega (arith, ap number_of (ap serve_status w.0), ap number_of is, ap number_of h))
-  serve_read_fault m path clients i o journal served status e is (inr (inr (inr (lines, told, fits, s)))) h = absurd (writes_read journal s.slots s.done o e (sym is ∙ h) s.writes)
+      ⊎_elim (λ (x : serve_status e ≡ exit.Refused). absurd (omega (
+        arith,
+        ap number_of x,
+        ap number_of is,
+        ap number_of h,
+      ))) (λ (x : serve_status e ≡ exit.NoMemory).
+      absurd (omega (arith, ap number_of x, ap number_of is, ap number_of h))) (too_long_ends o journal served e t)
+  serve_read_fault m path clients i o journal served status e is (inr (inr (inl w))) h =
+      absurd (omega (arith, ap number_of (ap serve_status w.0), ap number_of is, ap number_of h))
+  serve_read_fault m path clients i o journal served status e is (inr (inr (inr (lines, told, fits, s)))) h =
+      absurd (writes_read journal s.slots s.done o e (sym is ∙ h) s.writes)
 
   -- status 4 comes only where the output's count has risen
-  pub serve_write_fault : (m : Outside G L S K) (path : List ℕ) (clients : ℕ) (i : Given) (o : Seen) (journal : List Event) (served : List (Served G L S K)) (status : Status) (e : ServeEnd)
-      → status ≡ serve_status e → SaysServe m path clients i o journal served e → status ≡ exit.WriteFault → HasRisen o.before.faults o.now.faults
-  serve_write_fault m path clients i o journal served status e is (inl s) h = absurd (omega (arith, ap number_of (ap serve_status s.0), ap number_of is, ap number_of h))
+  pub serve_write_fault : (m : Outside G L S K) (path : List ℕ) (clients : ℕ) (i : Given) (o : Seen)
+      (journal : List Event) (served : List (Served G L S K)) (status : Status) (e : ServeEnd)
+      → status ≡ serve_status e → SaysServe m path clients i o journal served e
+      → status ≡ exit.WriteFault → HasRisen o.before.faults o.now.faults
+  serve_write_fault m path clients i o journal served status e is (inl s) h =
+      absurd (omega (arith, ap number_of (ap serve_status s.0), ap number_of is, ap number_of h))
   serve_write_fault m path clients i o journal served status e is (inr (inl (long, t))) h =
-      ⊎_elim (λ (x : serve_status e ≡ exit.Refused). absurd (omega (arith, ap number_of x, ap number_of is, ap number_of h))) (λ (x : serve_status e ≡ exit.NoMemory). absurd (omega (arith, ap number_of x, ap number_of is, ap number_of h))) (too_long_ends o journal served e t)
-  serve_write_fault m path clients i o journal served status e is (inr (inr (inl w))) h = absurd (omega (arith, ap number_of (ap serve_status w.0), ap number_of is, ap number_of h))
-  serve_write_fault m path clients i o journal served status e is (inr (inr (inr (lines, told, fits, s)))) h = writes_fault journal s.slots s.done o e (sym is ∙ h) s.writes
+      ⊎_elim (λ (x : serve_status e ≡ exit.Refused). absurd (omega (
+        arith,
+        ap number_of x,
+        ap number_of is,
+        ap number_of h,
+      ))) (λ (x : serve_status e ≡ exit.NoMemory).
+      absurd (omega (arith, ap number_of x, ap number_of is, ap number_of h))) (too_long_ends o journal served e t)
+  serve_write_fault m path clients i o journal served status e is (inr (inr (inl w))) h =
+      absurd (omega (arith, ap number_of (ap serve_status w.0), ap number_of is, ap number_of h))
+  serve_write_fault m path clients i o journal served status e is (inr (inr (inr (lines, told, fits, s)))) h =
+      writes_fault journal s.slots s.done o e (sym is ∙ h) s.writes
 
   -- where nothing was served, no sink lacks a reply
-  pub none_replied : (m : Outside G L S K) (journal : List Event) (served : List (Served G L S K)) → served ≡ [] → AllByRecursion (GotAll m journal) served
-  none_replied m journal served none = subst (λ (l : List (Served G L S K)). AllByRecursion (GotAll m journal) l) (sym none) tt
+  pub none_replied : (m : Outside G L S K) (journal : List Event) (served : List (Served G L S K)) → served ≡ []
+      → AllByRecursion (GotAll m journal) served
+  none_replied m journal served none = subst (λ (l : List (Served G L S K)). AllByRecursion (GotAll m journal) l)
+      (sym none) tt
 
   -- with status 0 and 4 each sink that has not failed got all replies
-  serve_replied : (m : Outside G L S K) (path : List ℕ) (clients : ℕ) (i : Given) (o : Seen) (journal : List Event) (served : List (Served G L S K)) (status : Status) (e : ServeEnd)
-      → status ≡ serve_status e → SaysServe m path clients i o journal served e → (status ≡ exit.Done) ⊎ (status ≡ exit.WriteFault) → AllByRecursion (GotAll m journal) served
+  serve_replied : (m : Outside G L S K) (path : List ℕ) (clients : ℕ) (i : Given) (o : Seen) (journal : List Event)
+      (served : List (Served G L S K)) (status : Status) (e : ServeEnd)
+      → status ≡ serve_status e → SaysServe m path clients i o journal served e → (status ≡ exit.Done)
+      ⊎ (status ≡ exit.WriteFault) → AllByRecursion (GotAll m journal) served
   serve_replied m path clients i o journal served status e is (inl s) h = none_replied m journal served s.2.none
-  serve_replied m path clients i o journal served status e is (inr (inl (long, t))) h = none_replied m journal served t.none
-  serve_replied m path clients i o journal served status e is (inr (inr (inl w))) h = none_replied m journal served w.1.none
-  serve_replied m path clients i o journal served status e is (inr (inr (inr (lines, told, fits, s)))) h = s.replied (all_done e status is h)
+  serve_replied m path clients i o journal served status e is (inr (inl (long, t))) h = none_replied m journal served
+      t.none
+  serve_replied m path clients i o journal served status e is (inr (inr (inl w))) h = none_replied m journal served
+      w.1.none
+  serve_replied m path clients i o journal served status e is (inr (inr (inr (lines, told, fits, s)))) h =
+      s.replied (all_done e status is h)
 
 module _ {G L S K : Type 0} where
   -- where nothing was served, none ended otherwise
-  pub none_ended : (m : Outside G L S K) (journal : List Event) (served : List (Served G L S K)) → served ≡ [] → AllByRecursion (EndsWell m journal) served
-  none_ended m journal served none = subst (λ (l : List (Served G L S K)). AllByRecursion (EndsWell m journal) l) (sym none) tt
+  pub none_ended : (m : Outside G L S K) (journal : List Event) (served : List (Served G L S K)) → served ≡ []
+      → AllByRecursion (EndsWell m journal) served
+  none_ended m journal served none = subst (λ (l : List (Served G L S K)). AllByRecursion (EndsWell m journal) l)
+      (sym none) tt
 
   -- a connection with sound objects ends well
-  serve_sound : (m : Outside G L S K) (path : List ℕ) (clients : ℕ) (i : Given) (o : Seen) (journal : List Event) (served : List (Served G L S K)) (e : ServeEnd)
+  serve_sound : (m : Outside G L S K) (path : List ℕ) (clients : ℕ) (i : Given) (o : Seen) (journal : List Event)
+      (served : List (Served G L S K)) (e : ServeEnd)
       → SaysServe m path clients i o journal served e → AllByRecursion (EndsWell m journal) served
   serve_sound m path clients i o journal served e (inl s) = none_ended m journal served s.2.none
   serve_sound m path clients i o journal served e (inr (inl (long, t))) = none_ended m journal served t.none
@@ -132,34 +191,46 @@ module _ {G L S K : Type 0} where
   serve_sound m path clients i o journal served e (inr (inr (inr (lines, told, fits, s)))) = s.sound
 
   -- the journal's events were enabled, and their numbers fit their fields
-  serve_done : (m : Outside G L S K) (path : List ℕ) (clients : ℕ) (i : Given) (o : Seen) (journal : List Event) (served : List (Served G L S K)) (e : ServeEnd)
+  serve_done : (m : Outside G L S K) (path : List ℕ) (clients : ℕ) (i : Given) (o : Seen) (journal : List Event)
+      (served : List (Served G L S K)) (e : ServeEnd)
       → SaysServe m path clients i o journal served e → AreDone [] journal
   serve_done m path clients i o journal served e (inl s) = none-done journal s.2.empty
   serve_done m path clients i o journal served e (inr (inl (long, t))) = none-done journal t.empty
   serve_done m path clients i o journal served e (inr (inr (inl w))) = none-done journal w.1.empty
-  serve_done m path clients i o journal served e (inr (inr (inr (lines, told, fits, s)))) = done-from [] journal s.played s.in_range
+  serve_done m path clients i o journal served e (inr (inr (inr (lines, told, fits, s)))) = done-from [] journal
+      s.played s.in_range
 
-  complete_as : (m : Outside G L S K) (clients : ℕ) (lines : List ℕ) (i : Given) (o : Seen) (journal : List Event) (served : List (Served G L S K)) (status : Status) (e : ServeEnd)
-      → status ≡ serve_status e → IsComplete m clients lines i o journal served e → IsServeComplete status m clients lines i o journal served
-  complete_as m clients lines i o journal served status e is h = λ n. ⊎_elim (λ w. inl (is ∙ ap serve_status w.0, w.1)) (λ w. inr (is ∙ ap serve_status w)) (h n)
+  complete_as : (m : Outside G L S K) (clients : ℕ) (lines : List ℕ) (i : Given) (o : Seen) (journal : List Event)
+      (served : List (Served G L S K)) (status : Status) (e : ServeEnd)
+      → status ≡ serve_status e → IsComplete m clients lines i o journal served e
+      → IsServeComplete status m clients lines i o journal served
+  complete_as m clients lines i o journal served status e is h = λ n. ⊎_elim (λ w. inl (is ∙ ap serve_status w.0, w.1))
+      (λ w. inr (is ∙ ap serve_status w)) (h n)
 
   -- a script that tells its bytes is done, and its text written, where nothing fails
-  serve_complete : (m : Outside G L S K) (path : List ℕ) (clients : ℕ) (i : Given) (o : Seen) (journal : List Event) (served : List (Served G L S K)) (status : Status) (e : ServeEnd)
-      → status ≡ serve_status e → SaysServe m path clients i o journal served e → IfSome i.input.before.bytes (λ bytes. IsServeComplete status m clients bytes i o journal served)
+  serve_complete : (m : Outside G L S K) (path : List ℕ) (clients : ℕ) (i : Given) (o : Seen) (journal : List Event)
+      (served : List (Served G L S K)) (status : Status) (e : ServeEnd)
+      → status ≡ serve_status e → SaysServe m path clients i o journal served e
+      → IfSome i.input.before.bytes (λ bytes. IsServeComplete status m clients bytes i o journal served)
   serve_complete m path clients i o journal served status e is says = by_case i.input.before.bytes refl
     where
-      by_case : (t : Option (List ℕ)) → i.input.before.bytes ≡ t → IfSome t (λ bytes. IsServeComplete status m clients bytes i o journal served)
+      by_case : (t : Option (List ℕ)) → i.input.before.bytes ≡ t → IfSome t
+          (λ bytes. IsServeComplete status m clients bytes i o journal served)
       by_case None told = tt
-      by_case (Some bytes) told = complete_as m clients bytes i o journal served status e is (says_complete m path clients bytes i o journal served e told says)
+      by_case (Some bytes) told = complete_as m clients bytes i o journal served status e is
+          (says_complete m path clients bytes i o journal served e told says)
 
-  pub none_complete : (m : Outside G L S K) (clients : ℕ) (told : Option (List ℕ)) (i : Given) (o : Seen) (journal : List Event) (served : List (Served G L S K)) (status : Status)
+  pub none_complete : (m : Outside G L S K) (clients : ℕ) (told : Option (List ℕ)) (i : Given) (o : Seen)
+      (journal : List Event) (served : List (Served G L S K)) (status : Status)
       → status ≡ exit.NoMemory → IfSome told (λ bytes. IsServeComplete status m clients bytes i o journal served)
   none_complete m clients None i o journal served status is = tt
   none_complete m clients (Some bytes) i o journal served status is = λ h. inr is
 
   -- all that is promised of serving
-  pub of_serve : JournalsAreLawful → (m : Outside G L S K) (path : List ℕ) (clients : ℕ) (i : Given) (o : Seen) (journal : List Event) (served : List (Served G L S K)) (status : Status) (e : ServeEnd)
-      → status ≡ serve_status e → SaysServe m path clients i o journal served e → IsPossible journal → OfServe path clients (run status m i o journal served)
+  pub of_serve : JournalsAreLawful → (m : Outside G L S K) (path : List ℕ) (clients : ℕ) (i : Given) (o : Seen)
+      (journal : List Event) (served : List (Served G L S K)) (status : Status) (e : ServeEnd)
+      → status ≡ serve_status e → SaysServe m path clients i o journal served e → IsPossible journal
+      → OfServe path clients (run status m i o journal served)
   of_serve all m path clients i o journal served status e is says possible = record {
     serves = (e, is, says);
     replied = serve_replied m path clients i o journal served status e is says;

@@ -31,7 +31,8 @@ usage WriteFault status before now o journal e p h = absurd (omega (arith, ap nu
 usage NoMemory status before now o journal e p h = absurd (omega (arith, ap number_of e, ap number_of h))
 
 pub read_fault : (end : End) (status : Status) (before now : BytesTold) (o : Seen) (journal : List Event)
-    → status ≡ status_of end → TraceSays end before now o journal → status ≡ exit.ReadFault → IsIdle o journal × HasRisen before.faults now.faults
+    → status ≡ status_of end → TraceSays end before now o journal → status ≡ exit.ReadFault → IsIdle o journal
+    × HasRisen before.faults now.faults
 read_fault Done status before now o journal e p h = absurd (omega (arith, ap number_of e, ap number_of h))
 read_fault Usage status before now o journal e p h = absurd p
 read_fault Script status before now o journal e p h = absurd (omega (arith, ap number_of e, ap number_of h))
@@ -40,7 +41,8 @@ read_fault WriteFault status before now o journal e p h = absurd (omega (arith, 
 read_fault NoMemory status before now o journal e p h = absurd (omega (arith, ap number_of e, ap number_of h))
 
 pub write_cause : (end : End) (status : Status) (before now : BytesTold) (o : Seen) (journal : List Event)
-    → status ≡ status_of end → TraceSays end before now o journal → status ≡ exit.WriteFault → HasRisen o.before.faults o.now.faults
+    → status ≡ status_of end → TraceSays end before now o journal → status ≡ exit.WriteFault → HasRisen o.before.faults
+    o.now.faults
 write_cause Done status before now o journal e p h = absurd (omega (arith, ap number_of e, ap number_of h))
 write_cause Usage status before now o journal e p h = absurd p
 write_cause Script status before now o journal e p h = absurd (omega (arith, ap number_of e, ap number_of h))
@@ -50,27 +52,37 @@ write_cause NoMemory status before now o journal e p h = absurd (omega (arith, a
 
 -- ---- completeness
 
-told_part : (end : End) (status : Status) (told : Option (List ℕ)) (before now : BytesTold) (o : Seen) (journal : List Event) → TracesSome end told o journal
-    → ((script : scripts.Script) → Traces end script o journal → IsTraced status script before now o journal) → IfSome told (λ bytes. IsTraced status (script_of bytes) before now o journal)
+told_part : (end : End) (status : Status) (told : Option (List ℕ)) (before now : BytesTold) (o : Seen)
+    (journal : List Event) → TracesSome end told o journal
+    → ((script : scripts.Script) → Traces end script o journal → IsTraced status script before now o journal)
+    → IfSome told (λ bytes. IsTraced status (script_of bytes) before now o journal)
 told_part end status None before now o journal r f = tt
-told_part end status (Some bytes) before now o journal r f = f (script_of bytes) (subst (λ (x : List ℕ). Traces end (script_of x) o journal) (sym r.1) r.2)
+told_part end status (Some bytes) before now o journal r f = f (script_of bytes)
+    (subst (λ (x : List ℕ). Traces end (script_of x) o journal) (sym r.1) r.2)
 
-risen_in : (told : Option (List ℕ)) (status : Status) (before now : BytesTold) (o : Seen) (journal : List Event) → HasRisen before.faults now.faults → IfSome told (λ bytes. IsTraced status (script_of bytes) before now o journal)
+risen_in : (told : Option (List ℕ)) (status : Status) (before now : BytesTold) (o : Seen) (journal : List Event)
+    → HasRisen before.faults now.faults → IfSome told (λ bytes. IsTraced status (script_of bytes) before now o journal)
 risen_in None status before now o journal r = tt
 risen_in (Some bytes) status before now o journal r = λ none in_ok out_ok. absurd (in_ok r)
 
 complete : (end : End) (status : Status) (before now : BytesTold) (o : Seen) (journal : List Event)
-    → status ≡ status_of end → TraceSays end before now o journal → IfSome before.bytes (λ bytes. IsTraced status (script_of bytes) before now o journal)
-complete Done status before now o journal e p = told_part Done status before.bytes before now o journal p (λ s r none in_ok out_ok. inl (e, r))
+    → status ≡ status_of end → TraceSays end before now o journal → IfSome before.bytes
+    (λ bytes. IsTraced status (script_of bytes) before now o journal)
+complete Done status before now o journal e p = told_part Done status before.bytes before now o journal p
+    (λ s r none in_ok out_ok. inl (e, r))
 complete Usage status before now o journal e p = absurd p
-complete Script status before now o journal e p = told_part Script status before.bytes before now o journal p (λ s r none in_ok out_ok. absurd (let a = r.1.1 in cc))
+complete Script status before now o journal e p = told_part Script status before.bytes before now o journal p
+    (λ s r none in_ok out_ok. absurd (let a = r.1.1 in cc))
 complete ReadFault status before now o journal e p = risen_in before.bytes status before now o journal p.1
-complete WriteFault status before now o journal e p = told_part WriteFault status before.bytes before now o journal p (λ s r none in_ok out_ok. absurd (out_ok r.2.risen))
-complete NoMemory status before now o journal e p = told_part NoMemory status before.bytes before now o journal p (λ s r none in_ok out_ok. inr e)
+complete WriteFault status before now o journal e p = told_part WriteFault status before.bytes before now o journal p
+    (λ s r none in_ok out_ok. absurd (out_ok r.2.risen))
+complete NoMemory status before now o journal e p = told_part NoMemory status before.bytes before now o journal p
+    (λ s r none in_ok out_ok. inr e)
 
 -- ---- its events were done
 
-traces-done : (end : End) (script : scripts.Script) (o : Seen) (journal : List Event) → AreDone [] script.events → Traces end script o journal → AreDone [] journal
+traces-done : (end : End) (script : scripts.Script) (o : Seen) (journal : List Event) → AreDone [] script.events
+    → Traces end script o journal → AreDone [] journal
 traces-done Done script o journal d h = subst (AreDone []) (sym h.0) d
 traces-done Usage script o journal d h = absurd h
 traces-done Script script o journal d h = subst (AreDone []) (sym h.0) d
@@ -78,7 +90,8 @@ traces-done ReadFault script o journal d h = absurd h
 traces-done WriteFault script o journal d h = subst (AreDone []) (sym h.0) d
 traces-done NoMemory script o journal d h = front-done journal h.0.0 [] (subst (AreDone []) (sym h.0.1) d)
 
-pub says-done : (end : End) (before now : BytesTold) (o : Seen) (journal : List Event) → TraceSays end before now o journal → AreDone [] journal
+pub says-done : (end : End) (before now : BytesTold) (o : Seen) (journal : List Event)
+    → TraceSays end before now o journal → AreDone [] journal
 says-done Done before now o journal h = traces-done Done (script_of h.0) o journal (script-done h.0) h.2
 says-done Usage before now o journal h = absurd h
 says-done Script before now o journal h = traces-done Script (script_of h.0) o journal (script-done h.0) h.2
@@ -106,8 +119,10 @@ ends end status before now o journal e p = record {
 }
 
 -- memory ran out before the words were read
-pub idle : (status : Status) (before now first : BytesTold) (journal : List Event) → status ≡ exit.NoMemory → journal ≡ []
+pub idle : (status : Status) (before now first : BytesTold) (journal : List Event)
+    → status ≡ exit.NoMemory → journal ≡ []
     → TraceEnds status before now (seen first first) journal
 idle status before now first journal e none =
     ends NoMemory status before now (seen first first) journal e
-    (subst (λ (j : List Event). TraceSays NoMemory before now (seen first first) j) (sym none) (says_none before now first))
+    (subst (λ (j : List Event). TraceSays NoMemory before now (seen first first) j) (sym none)
+    (says_none before now first))

@@ -1,20 +1,25 @@
 -- Words ask for one thing.
-use Rattle.std.proofs.Common.{◌≡◌, inl, inr, ℕ, Bool, true, false, cond, List, [], ◌∷◌, Option, Some, None, ◌∙◌, refl, sym, ap, subst, arith, codes}
+use Rattle.std.proofs.Common.{◌≡◌, inl, inr, ℕ, Bool, true, false, cond, List, [], ◌∷◌, Option, Some, None, ◌∙◌, refl}
+use Rattle.std.proofs.Common.{sym, ap, subst, arith, codes}
 use Rattle.std.proofs.lemmas.Slice.Eq.{bytes_eq-Decides}
 use Rattle.std.specs.Str.{bytes_eq}
 use Rattle.std.specs.Prelude.{IfSome, IfNone, string_bytes}
 use Rattle.am_words.specs.declared.asked.Asked.{Asked}
 use Rattle.am_words.specs.declared.asked.Asked.TheVariants as asked
 use Rattle.am_words.specs.declared.asked.Tree.{Tree}
-use Rattle.am_words.specs.Words.{are_alone, are_replay, asks_do, asks_drill, asks_serve, in_two, in_three, rounds_of, tree_of, with_tree, AsksFor, AreKnown}
+use Rattle.am_words.specs.Words.{are_alone, are_replay, asks_do, asks_drill, asks_serve, in_two, in_three, rounds_of}
+use Rattle.am_words.specs.Words.{tree_of, with_tree, AsksFor, AreKnown}
 
 -- what was read is asked for
-pub asked_at : (words list : List (List ℕ)) (read : Option Asked) (x y : Asked) → read ≡ Some x → x ≡ y → list ≡ words → IfSome read (AsksFor list) → AsksFor words y
+pub asked_at : (words list : List (List ℕ)) (read : Option Asked) (x y : Asked) → read ≡ Some x
+    → x ≡ y → list ≡ words → IfSome read (AsksFor list) → AsksFor words y
 asked_at words list read x y some same e h =
-    subst (AsksFor words) same (subst (λ (w : List (List ℕ)). AsksFor w x) e (subst (λ (r : Option Asked). IfSome r (AsksFor list)) some h))
+    subst (AsksFor words) same (subst (λ (w : List (List ℕ)). AsksFor w x) e
+    (subst (λ (r : Option Asked). IfSome r (AsksFor list)) some h))
 
 -- nothing was read
-pub none_at : (words list : List (List ℕ)) (read : Option Asked) → read ≡ None → list ≡ words → IfNone read (¬ AreKnown list) → ¬ AreKnown words
+pub none_at : (words list : List (List ℕ)) (read : Option Asked) → read ≡ None → list ≡ words → IfNone read
+    (¬ AreKnown list) → ¬ AreKnown words
 none_at words list read none e h =
     subst (λ (w : List (List ℕ)). ¬ AreKnown w) e (subst (λ (r : Option Asked). IfNone r (¬ AreKnown list)) none h)
 
@@ -44,7 +49,8 @@ alone_first name (word ∷ []) h = (bytes_eq-Decides word name).0 h
 alone_first name (word ∷ other ∷ words) h = absurd cc
 
 -- a word behind which something is asked for
-named : {A : Type 0} (word name : List ℕ) (o : Option A) (x : A) → cond (bytes_eq word name) o None ≡ Some x → word ≡ name
+named : {A : Type 0} (word name : List ℕ) (o : Option A) (x : A) → cond (bytes_eq word name) o None ≡ Some x
+    → word ≡ name
 named {A} word name o x h = by_test (bytes_eq word name) refl h
   where
     by_test : (t : Bool) → bytes_eq word name ≡ t → cond t o None ≡ Some x → word ≡ name
@@ -104,7 +110,8 @@ one_number words a b x y = sym (is_numbered words a x) ∙ is_numbered words b y
 -- ---- one thing of each kind
 
 -- words ask for one path and one number
-pub asked_once : (words : List (List ℕ)) (p q : List ℕ) (a b : ℕ) → asks_serve words ≡ Some (p, a) → asks_serve words ≡ Some (q, b) → (p ≡ q) × (a ≡ b)
+pub asked_once : (words : List (List ℕ)) (p q : List ℕ) (a b : ℕ) → asks_serve words ≡ Some (p, a)
+    → asks_serve words ≡ Some (q, b) → (p ≡ q) × (a ≡ b)
 asked_once words p q a b h k = let e : Some (p, a) ≡ Some (q, b) = sym h ∙ k in (ap (path_in p) e, ap (number_in a) e)
   where
     path_in : List ℕ → Option (List ℕ × ℕ) → List ℕ
@@ -124,7 +131,8 @@ rounds_once words a b h k = let e : Some a ≡ Some b = sym h ∙ k in ap (round
     rounds_in other (Some x) = x
 
 -- words ask for one path and one tree
-pub done_once : (words : List (List ℕ)) (p q : List ℕ) (a b : Tree) → asks_do words ≡ Some (p, a) → asks_do words ≡ Some (q, b) → (p ≡ q) × (a ≡ b)
+pub done_once : (words : List (List ℕ)) (p q : List ℕ) (a b : Tree) → asks_do words ≡ Some (p, a)
+    → asks_do words ≡ Some (q, b) → (p ≡ q) × (a ≡ b)
 done_once words p q a b h k = let e : Some (p, a) ≡ Some (q, b) = sym h ∙ k in (ap (path_in p) e, ap (tree_in a) e)
   where
     path_in : List ℕ → Option (List ℕ × Tree) → List ℕ

@@ -1,5 +1,6 @@
 -- What doing lines over a connection comes to.
-use Rattle.std.specs.Prelude.{◌≡◌, ◌⊎◌, ℕ, Bool, true, false, List, [], ◌∷◌, Option, Some, None, is_some, IfSome, if◌then◌else◌}
+use Rattle.std.specs.Prelude.{◌≡◌, ◌⊎◌, ℕ, Bool, true, false, List, [], ◌∷◌, Option, Some, None, is_some, IfSome}
+use Rattle.std.specs.Prelude.{if◌then◌else◌}
 use Rattle.am_base.specs.Seen.{Given, HostSeen, Seen}
 use Rattle.ninep_client.specs.declared.fault.CallFault.{CallFault}
 use Rattle.ninep_client.specs.declared.fault.CallFault.TheVariants as fault
@@ -62,12 +63,21 @@ undialled doing.WriteFault = None
 
 -- how a client ended, by whether there was a link, and whether that gave its halves
 abbrev pub how_ended : DoEnd → Bool → Bool → Option Stop → Option ServedEnd
-how_ended e is_linked is_halved why = if is_halved then Some (ended_by why) else (if is_linked then Some end.Halve else undialled e)
+how_ended e is_linked is_halved why = if is_halved then Some (ended_by why) else
+    (if is_linked then Some end.Halve else undialled e)
 
 module _ {G L S K : Type 0} where
   abbrev pub entry_at : Doing L S K → Option ServedEnd → Option (Served G L S K)
   entry_at d None = None
-  entry_at d (Some e) = Some (record { slot = 0; gate = None; link = d.link; reader = d.reader; writer = d.writer; end = e })
+  entry_at d (Some e) = Some (record {
+    slot = 0;
+    gate = None;
+    link = d.link;
+    reader = d.reader;
+    writer = d.writer;
+    end =
+        e;
+  })
 
   -- a client as it is told: its slot is 0, it has no gate, and its objects are those that it talked over
   abbrev pub entry_of : Doing L S K → Option (Served G L S K)
@@ -82,16 +92,20 @@ module _ {G L S K : Type 0} where
   abbrev pub peer_of : Outside G L S K → Peer L S K
   peer_of m = peer m.link m.reader m.writer
 
-  -- What the host was asked for: nothing, where no client is told of; else it gave one link, which was dialled at this path, or none.
+  -- What the host was asked for: nothing, where no client is told of; else it gave one link, which was dialled at this
+  -- path, or none.
   abbrev pub AsksAt : Outside G L S K → List ℕ → HostSeen → List (Served G L S K) → Type 0
   AsksAt m path h [] = h.now ≡ h.before
   AsksAt m path h (s ∷ others) = IsGivenAt (peer_of m) path h s.link
 
-  -- What doing lines over a tree comes to: the exit status and the entry of the client are those of one doing, which is as the lines and
-  -- the replies to them say. Where nothing outside fails and all is answered, all is done and written, or memory runs out.
-  pub record Does (status : Status) (m : Outside G L S K) (tree : List ℕ) (i : Given) (o : Seen) (served : List (Served G L S K)) : Type 0 where
+  -- What doing lines over a tree comes to: the exit status and the entry of the client are those of one doing, which is
+  -- as the lines and the replies to them say. Where nothing outside fails and all is answered, all is done and written,
+  -- or memory runs out.
+  pub record Does (status : Status) (m : Outside G L S K) (tree : List ℕ) (i : Given) (o : Seen)
+      (served : List (Served G L S K)) : Type 0 where
     pub doing : Doing L S K
     pub coded : status ≡ do_status doing.end
     pub told : served ≡ listed (entry_of doing)
     pub says : Says (peer_of m) tree i o doing
-    pub complete : IfSome i.input.before.bytes (λ bytes. NothingFails (peer_of m) tree bytes i o doing → (status ≡ exit.Done) ⊎ (status ≡ exit.NoMemory))
+    pub complete : IfSome i.input.before.bytes (λ bytes. NothingFails (peer_of m) tree bytes i o doing
+        → (status ≡ exit.Done) ⊎ (status ≡ exit.NoMemory))

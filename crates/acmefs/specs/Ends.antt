@@ -47,19 +47,25 @@ drill_status drilling.NoMemory = exit.NoMemory
 
 -- Completeness: where no event is refused and no count of faults rises, the whole text is written, or memory runs out.
 abbrev pub IsComplete : Status → scripts.Script → BytesTold → BytesTold → Seen → List Event → Type 0
-IsComplete status script before now o journal = script.refused ≡ None → ¬ HasRisen before.faults now.faults → ¬ HasRisen o.before.faults o.now.faults
+IsComplete status script before now o journal = script.refused ≡ None → ¬ HasRisen before.faults now.faults
+    → ¬ HasRisen o.before.faults o.now.faults
     → ((status ≡ exit.Done) × Ran Done script o journal) ⊎ (status ≡ exit.NoMemory)
 
 -- what a drill of so many rounds comes to, by its status
 abbrev pub Drilled : Status → ℕ → Seen → List Event → Type 0
 Drilled status rounds o journal = (end : DrillEnd) × (status ≡ drill_status end) × DrillSays end rounds o journal
 
--- Completeness of a drill: where the output's count of faults doesn't rise, the whole summary is written, or memory runs out.
+-- Completeness of a drill: where the output's count of faults doesn't rise, the whole summary is written, or memory
+-- runs out.
 abbrev pub IsDrilled : Status → ℕ → Seen → List Event → Type 0
 IsDrilled status rounds o journal = ¬ HasRisen o.before.faults o.now.faults
-    → ((status ≡ exit.Done) × (journal ≡ events rounds) × IsWhole o (summary (events rounds))) ⊎ (status ≡ exit.NoMemory)
+    → ((status ≡ exit.Done) × (journal ≡ events rounds) × IsWhole o (summary (events rounds)))
+    ⊎ (status ≡ exit.NoMemory)
 
--- Completeness of serving: where no line is refused and no count of faults rises, the whole text is written, or memory runs out.
-abbrev pub IsServeComplete : {G L S K : Type 0} → Status → Outside G L S K → ℕ → List ℕ → Given → Seen → List Event → List (Served G L S K) → Type 0
+-- Completeness of serving: where no line is refused and no count of faults rises, the whole text is written, or memory
+-- runs out.
+abbrev pub IsServeComplete : {G L S K : Type 0} → Status → Outside G L S K → ℕ → List ℕ → Given → Seen → List Event
+    → List (Served G L S K) → Type 0
 IsServeComplete status m clients script i o journal served =
-    NothingFails m clients script i o journal served → ((status ≡ exit.Done) × IsWhole o (whole_text journal)) ⊎ (status ≡ exit.NoMemory)
+    NothingFails m clients script i o journal served → ((status ≡ exit.Done) × IsWhole o (whole_text journal))
+    ⊎ (status ≡ exit.NoMemory)

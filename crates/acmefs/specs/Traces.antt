@@ -14,11 +14,12 @@ use Rattle.acmefs.specs.declared.status.Status.TheVariants as exit
 
 -- Where no event is refused and no count of faults rises, the whole text is written, or memory runs out.
 abbrev pub IsTraced : Status → scripts.Script → BytesTold → BytesTold → Seen → List Event → Type 0
-IsTraced status script before now o journal = script.refused ≡ None → ¬ HasRisen before.faults now.faults → ¬ HasRisen o.before.faults o.now.faults
+IsTraced status script before now o journal = script.refused ≡ None → ¬ HasRisen before.faults now.faults
+    → ¬ HasRisen o.before.faults o.now.faults
     → ((status ≡ exit.Done) × Traces Done script o journal) ⊎ (status ≡ exit.NoMemory)
 
--- What a trace comes to, by its status: what it says of the input, the output and the journal; that it is done and written whole unless
--- something outside it failed; and that its text is packed back.
+-- What a trace comes to, by its status: what it says of the input, the output and the journal; that it is done and
+-- written whole unless something outside it failed; and that its text is packed back.
 pub record TraceEnds (status : Status) (before now : BytesTold) (o : Seen) (journal : List Event) : Type 0 where
   pub says : (end : End) × (status ≡ status_of end) × TraceSays end before now o journal
   pub complete : IfSome before.bytes (λ bytes. IsTraced status (script_of bytes) before now o journal)

@@ -133,11 +133,12 @@ fn name_of(tree: Tree) -> &'static [u8]
     tree.name()
 }
 
-/// Does the lines that the input gives, in order, over a connection to a path, at whose root a tree is attached, and writes the answer to
-/// each. All lines are checked before anything is dialled.
+/// Does the lines that the input gives, in order, over a connection to a path, at whose root a tree is attached, and
+/// writes the answer to each. All lines are checked before anything is dialled.
 ///
-/// The status is 0 where all was done and written, 2 where a line or the whole input is refused, 3 where the input failed, 4 where the
-/// output failed, 5 where nothing could be dialled, 6 where memory ran out, 7 where the talk has stopped before its end.
+/// The status is 0 where all was done and written, 2 where a line or the whole input is refused, 3 where the input
+/// failed, 4 where the output failed, 5 where nothing could be dialled, 6 where memory ran out, 7 where the talk has
+/// stopped before its end.
 pub fn do_main<I: Source, O: Sink, H: Host>(
     alloc: Global,
     path: &str,

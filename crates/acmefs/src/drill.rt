@@ -26,8 +26,9 @@ fn drill_status(end: DrillEnd) -> Status
     }
 }
 
-/// Does the events of a drill of so many rounds from the empty editor on, and writes the summary of their run (docs/formats/drill.md). The
-/// status is 0 where all was done and written, 4 where the output failed, 6 where memory ran out.
+/// Does the events of a drill of so many rounds from the empty editor on, and writes the summary of their run
+/// (docs/formats/drill.md). The status is 0 where all was done and written, 4 where the output failed, 6 where memory
+/// ran out.
 pub fn drill_main<O: Sink>(alloc: Global, rounds: u64, output: &mut O) -> ReplayEnd
     requires rounds { (1 ≤ rounds) × (rounds ≤ most_rounds) }
     ensures drills { Drilled result.status rounds

@@ -41,8 +41,8 @@ fn words_of(rt: &(impl Env + AllocGlobal)) -> Result<Option<Words>, NoMemory> {
     Ok(Some(words))
 }
 
-// A folder in place of a standard stream that the program was started without: it can be neither read nor written. Else the first socket
-// would stand there. None where all three are there, or where it can't be opened.
+// A folder in place of a standard stream that the program was started without: it can be neither read nor written. Else
+// the first socket would stand there. None where all three are there, or where it can't be opened.
 fn stand_in<R: Files<File = File>>(rt: &R) -> Option<File> {
     let folder = File::open(rt, "/").ok()?;
     if folder.as_raw_fd() <= LAST_STANDARD {

@@ -1,5 +1,6 @@
 -- What is told, one step further.
-use Rattle.std.proofs.Common.{◌≡◌, ℕ, ◌+◌, ◌<◌, ◌≤◌, List, [], ◌++◌, length, take, drop, Option, Some, None, refl, sym, ap, ◌∙◌, append_assoc, arith}
+use Rattle.std.proofs.Common.{◌≡◌, ℕ, ◌+◌, ◌<◌, ◌≤◌, List, [], ◌++◌, length, take, drop, Option, Some, None, refl, sym}
+use Rattle.std.proofs.Common.{ap, ◌∙◌, append_assoc, arith}
 use Rattle.std.specs.Prelude.{IfSome}
 use Rattle.std.proofs.lemmas.List.{append-nil, take_at, length-append, take-append-drop, drop-drop}
 use Rattle.std.proofs.Math.Seq.{take-add}
@@ -22,7 +23,8 @@ then_told-nil None = refl
 then_told-nil (Some h) = refl
 
 -- at the end all was read
-pub all_told : (first now : Option (List ℕ)) (bytes : List ℕ) → first ≡ then_told bytes now → AreTold now [] → AreTold first bytes
+pub all_told : (first now : Option (List ℕ)) (bytes : List ℕ) → first ≡ then_told bytes now → AreTold now []
+    → AreTold first bytes
 all_told None now bytes e h = tt
 all_told (Some f) None bytes e h = absurd cc
 all_told (Some f) (Some g) bytes e h =
@@ -31,7 +33,9 @@ all_told (Some f) (Some g) bytes e h =
     e'' ∙ rw h (append-nil bytes)
 
 -- more than the limit was there
-pub more_told : (first now : Option (List ℕ)) (bytes piece : List ℕ) (limit : ℕ) → first ≡ then_told bytes (then_told piece now) → limit < length bytes + length piece → IfSome first (λ told. limit < length told)
+pub more_told : (first now : Option (List ℕ)) (bytes piece : List ℕ) (limit : ℕ)
+    → first ≡ then_told bytes (then_told piece now) → limit < length bytes + length piece
+    → IfSome first (λ told. limit < length told)
 more_told None now bytes piece limit e h = tt
 more_told (Some f) None bytes piece limit e h = absurd cc
 more_told (Some f) (Some g) bytes piece limit e h =
@@ -39,21 +43,37 @@ more_told (Some f) (Some g) bytes piece limit e h =
     let e'' : f ≡ bytes ++ (piece ++ g) = cc in
     rw e'' (omega (arith, length-append bytes (piece ++ g), length-append piece g))
 
-pub told_then-take : (o : Option (List ℕ)) (n m : ℕ) (bytes : List ℕ) → told_then o (take (n + m) bytes) ≡ told_then (told_then o (take n bytes)) (take m (drop n bytes))
-told_then-take o n m bytes = ap (told_then o) (take-add n m bytes) ∙ sym (told_then-then o (take n bytes) (take m (drop n bytes)))
+pub told_then-take : (o : Option (List ℕ)) (n m : ℕ) (bytes : List ℕ)
+    → told_then o (take (n + m) bytes) ≡ told_then (told_then o (take n bytes)) (take m (drop n bytes))
+told_then-take o n m bytes = ap (told_then o) (take-add n m bytes)
+    ∙ sym (told_then-then o (take n bytes) (take m (drop n bytes)))
 
 -- bytes were taken, and then a piece
-pub takes_piece : (n : ℕ) (first mid now : Option (List ℕ)) (bytes piece : List ℕ) → first ≡ then_told bytes mid → mid ≡ then_told piece now → length bytes + length piece ≡ n → Takes n first now
-takes_piece n first mid now bytes piece e f len = (bytes ++ piece, length-append bytes piece ∙ len, e ∙ ap (then_told bytes) f ∙ then_told-then now bytes piece)
+pub takes_piece : (n : ℕ) (first mid now : Option (List ℕ)) (bytes piece : List ℕ) → first ≡ then_told bytes mid
+    → mid ≡ then_told piece now → length bytes + length piece ≡ n → Takes n first now
+takes_piece n first mid now bytes piece e f len = (
+  bytes ++ piece,
+  length-append bytes piece
+      ∙ len,
+  e ∙ ap (then_told bytes) f ∙ then_told-then now bytes piece,
+)
 
-pub takes_at_most : (n : ℕ) (first now : Option (List ℕ)) (bytes : List ℕ) → first ≡ then_told bytes now → length bytes ≤ n → TakesAtMost n first now
+pub takes_at_most : (n : ℕ) (first now : Option (List ℕ)) (bytes : List ℕ) → first ≡ then_told bytes now
+    → length bytes ≤ n → TakesAtMost n first now
 takes_at_most n first now bytes e len = (bytes, len, e)
 
-pub takes_piece_at_most : (n : ℕ) (first mid now : Option (List ℕ)) (bytes piece : List ℕ) → first ≡ then_told bytes mid → mid ≡ then_told piece now → length bytes + length piece ≤ n → TakesAtMost n first now
-takes_piece_at_most n first mid now bytes piece e f len = (bytes ++ piece, rw (length-append bytes piece) len, e ∙ ap (then_told bytes) f ∙ then_told-then now bytes piece)
+pub takes_piece_at_most : (n : ℕ) (first mid now : Option (List ℕ)) (bytes piece : List ℕ) → first ≡ then_told bytes mid
+    → mid ≡ then_told piece now → length bytes + length piece ≤ n → TakesAtMost n first now
+takes_piece_at_most n first mid now bytes piece e f len = (
+  bytes ++ piece,
+  rw (length-append bytes piece) len,
+  e ∙ ap (then_told bytes) f ∙ then_told-then now bytes piece,
+)
 
 pub ruleset telling = (told_then-take, told_then-then, told_then-nil, then_told-then, then_told-nil, all_told)
 
 -- a front of what is left has moved
-pub moves : (bytes buf piece : List ℕ) (at n : ℕ) → piece ≡ take n (drop at bytes) → length piece ≡ n → drop at bytes ≡ take n (piece ++ drop n buf) ++ drop (at + n) bytes
-moves bytes buf piece at n e len = rw (take_at piece (drop n buf) n len, e, ← drop-drop n at bytes) (sym (take-append-drop n (drop at bytes)))
+pub moves : (bytes buf piece : List ℕ) (at n : ℕ) → piece ≡ take n (drop at bytes)
+    → length piece ≡ n → drop at bytes ≡ take n (piece ++ drop n buf) ++ drop (at + n) bytes
+moves bytes buf piece at n e len = rw (take_at piece (drop n buf) n len, e, ← drop-drop n at bytes)
+    (sym (take-append-drop n (drop at bytes)))

@@ -1,9 +1,12 @@
 -- The objects in memory, as their callers see them.
-use Rattle.std.specs.Prelude.{ℕ, ◌+◌, ◌-◌, ◌^◌, ◌&&◌, ◌||◌, min, Bool, true, false, List, [], ◌++◌, length, take, drop, remove, slice_get, Option, Some, None, is_none, nat_lt, nat_le, ◌==◌, if◌then◌else◌, bytes_eq, position, option_map, option_and_then}
+use Rattle.std.specs.Prelude.{ℕ, ◌+◌, ◌-◌, ◌^◌, ◌&&◌, ◌||◌, min, Bool, true, false, List, [], ◌++◌, length, take, drop}
+use Rattle.std.specs.Prelude.{remove, slice_get, Option, Some, None, is_none, nat_lt, nat_le, ◌==◌, if◌then◌else◌}
+use Rattle.std.specs.Prelude.{bytes_eq, position, option_map, option_and_then}
 use Rattle.std.specs.List.{list_any}
 use Rattle.am_base.specs.Outside.{one_more}
 
--- The calls that were made, the numbers, from 1, of those that fail, and whether the object was ended, so that all later calls fail.
+-- The calls that were made, the numbers, from 1, of those that fail, and whether the object was ended, so that all
+-- later calls fail.
 pub record CallLog : Type 0 where
   pub fail_at : List ℕ
   pub made : ℕ
@@ -57,8 +60,8 @@ ended_source s = record s { calls = ended_calls s.calls }
 abbrev pub begun_source : SourceState → SourceState
 begun_source s = record s { calls = begun_calls s.calls }
 
--- A sink: the bytes got, how many it has room for in all, the most that one write takes, the calls of write, all of which fail once it was
--- ended.
+-- A sink: the bytes got, how many it has room for in all, the most that one write takes, the calls of write, all of
+-- which fail once it was ended.
 pub record SinkState : Type 0 where
   pub held : List ℕ
   pub room : ℕ
@@ -71,7 +74,8 @@ is_full s = nat_le s.room (length s.held)
 
 -- how many bytes a write of so many takes, or None where it fails
 abbrev pub write_count : SinkState → ℕ → Option ℕ
-write_count s len = if fails_next s.calls || is_full s then None else Some (min (min len s.piece) (s.room - length s.held))
+write_count s len = if fails_next s.calls || is_full s then None else Some
+    (min (min len s.piece) (s.room - length s.held))
 
 -- a sink after a write, which took so many bytes or failed
 abbrev pub after_write : SinkState → List ℕ → Option ℕ → SinkState
@@ -86,8 +90,8 @@ ended_sink s = record s { calls = ended_calls s.calls }
 abbrev pub begun_sink : SinkState → SinkState
 begun_sink s = record s { held = []; calls = begun_calls s.calls }
 
--- A link: what it still hands out, what its source begins with, whether it is to fail, whether it has given its halves, the path that it
--- was dialled at.
+-- A link: what it still hands out, what its source begins with, whether it is to fail, whether it has given its halves,
+-- the path that it was dialled at.
 pub record LinkState : Type 0 where
   pub halves : Option (SourceState × SinkState)
   pub begins : List ℕ
@@ -135,7 +139,8 @@ after_accept g (Some l) = record g { link = None; given = one_more g.given }
 abbrev pub begun_gate : GateState → GateState
 begun_gate g = record g { given = 0; faults = 0 }
 
--- A host: the gates that it still hands out or dials, the calls of bind and dial, how many gates and links it has given.
+-- A host: the gates that it still hands out or dials, the calls of bind and dial, how many gates and links it has
+-- given.
 pub record HostState : Type 0 where
   pub gates : List GateState
   pub calls : CallLog
@@ -156,7 +161,12 @@ gate_of h path slot = option_map begun_gate (option_and_then (slice_get h.gates)
 -- a host after a gate was made, or none
 abbrev pub after_bind : HostState → Option ℕ → HostState
 after_bind h None = record h { calls = after_call h.calls true }
-after_bind h (Some at) = record h { gates = remove h.gates at; calls = after_call h.calls false; given = one_more h.given }
+after_bind h (Some at) = record h {
+  gates = remove h.gates at;
+  calls = after_call h.calls false;
+  given =
+      one_more h.given;
+}
 
 -- whether a gate is of this path, whatever its slot
 abbrev pub is_gate_at : List ℕ → GateState → Bool

@@ -1,8 +1,9 @@
 -- What an object of the outside tells, and how often it has failed.
-use Rattle.std.specs.Prelude.{◌≡◌, ◌⊎◌, ℕ, ◌+◌, ◌-◌, ◌^◌, ◌<◌, ◌≤◌, Bool, true, false, List, ◌++◌, length, take, Option, Some, None, Result, IsErr, OnOk, OnErr, nat_lt, if◌then◌else◌}
+use Rattle.std.specs.Prelude.{◌≡◌, ◌⊎◌, ℕ, ◌+◌, ◌-◌, ◌^◌, ◌<◌, ◌≤◌, Bool, true, false, List, ◌++◌, length, take, Option}
+use Rattle.std.specs.Prelude.{Some, None, Result, IsErr, OnOk, OnErr, nat_lt, if◌then◌else◌}
 
--- What a source or a sink tells: the bytes that are left of it or that it holds, where it tells them, how often it has failed, and whether
--- it was ended.
+-- What a source or a sink tells: the bytes that are left of it or that it holds, where it tells them, how often it has
+-- failed, and whether it was ended.
 pub record BytesTold : Type 0 where
   pub bytes : Option (List ℕ)
   pub faults : ℕ
@@ -22,8 +23,8 @@ pub record WasEnded (before now : BytesTold) : Type 0 where
   pub bytes : now.bytes ≡ before.bytes
   pub later : before.faults ≤ now.faults
 
--- What a link tells: the bytes that its source begins with, where it tells them, also after its halves were handed out, whether they were,
--- the path that it was dialled at, where it tells one, and how often it has failed.
+-- What a link tells: the bytes that its source begins with, where it tells them, also after its halves were handed out,
+-- whether they were, the path that it was dialled at, where it tells one, and how often it has failed.
 pub record LinkTold : Type 0 where
   pub begins : Option (List ℕ)
   pub is_halved : Bool

@@ -16,5 +16,6 @@ piece_limit = 8192
 -- want of memory shows nothing.
 abbrev pub StopsFor : ReadStop → BytesTold → BytesTold → ℕ → Type 0
 StopsFor ReadFault before now limit = HasRisen before.faults now.faults
-StopsFor TooLong before now limit = IfSome before.bytes (λ bytes. limit < length bytes) × Takes (limit + 1) before.bytes now.bytes
+StopsFor TooLong before now limit = IfSome before.bytes (λ bytes. limit < length bytes)
+    × Takes (limit + 1) before.bytes now.bytes
 StopsFor NoMemory before now limit = Unit {0}

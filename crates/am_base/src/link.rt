@@ -12,8 +12,8 @@ pub trait Link: Drop + Send {
 
     type W: Sink + Drop + Send;
 
-    /// The bytes that its source begins with, where it tells them, whether `halves` has succeeded, the path that it was dialled at, where
-    /// it tells one, and how often it has failed.
+    /// The bytes that its source begins with, where it tells them, whether `halves` has succeeded, the path that it was
+    /// dialled at, where it tells one, and how often it has failed.
     ghost told: { Self → LinkTold };
 
     /// Hands out the source and the sink, at most once. A sink that tells its bytes begins empty.

@@ -2,7 +2,8 @@
 
 ghost use Rattle.std.specs.Prelude.{◌≡◌, Some, None, false, IfOk, OnErr};
 ghost use Rattle.am_base.specs.Outside.{Counts, HasCause};
-ghost use Rattle.am_base.specs.Memory.{link_of, dialled_link, after_accept, begun_gate, is_gate_of, is_gate_at, name_of};
+ghost use Rattle.am_base.specs.Memory.{link_of, dialled_link, after_accept, begun_gate, is_gate_of, is_gate_at};
+ghost use Rattle.am_base.specs.Memory.{name_of};
 
 use crate::calls::raised;
 use crate::link::Gate;
@@ -27,7 +28,15 @@ impl Model for MemGate {
 
     ghost Value = { GateState };
 
-    ghost view = { λ g. record { path = g.path; slot = g.slot; link = g.link; fails = g.fails; given = g.given; faults = g.faults } };
+    ghost view = { λ g. record {
+      path = g.path;
+      slot = g.slot;
+      link = g.link;
+      fails = g.fails;
+      given = g.given;
+      faults =
+          g.faults;
+    } };
 }
 
 impl MemGate {

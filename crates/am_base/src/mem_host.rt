@@ -2,7 +2,8 @@
 
 ghost use Rattle.std.specs.Prelude.{◌≡◌, Some, None, false, IfOk, OnErr, ◌<◌, length, position, remove, slice_get};
 ghost use Rattle.am_base.specs.Outside.{AreTold, Counts, HasCause};
-ghost use Rattle.am_base.specs.Memory.{no_calls, place_of, after_bind, is_gate_of, gate_of, is_gate_at, dialled_place, dialled, after_dial};
+ghost use Rattle.am_base.specs.Memory.{no_calls, place_of, after_bind, is_gate_of, gate_of, is_gate_at, dialled_place};
+ghost use Rattle.am_base.specs.Memory.{dialled, after_dial};
 
 use crate::calls::{Calls, raised};
 use crate::link::Host;

@@ -31,7 +31,15 @@ impl Model for MemLink {
 
     ghost Value = { LinkState };
 
-    ghost view = { λ l. record { halves = l.halves; begins = l.source.value.left; fails = l.fails; is_halved = l.is_halved; dialled = l.dialled; faults = l.faults } };
+    ghost view = { λ l. record {
+      halves = l.halves;
+      begins = l.source.value.left;
+      fails = l.fails;
+      is_halved =
+          l.is_halved;
+      dialled = l.dialled;
+      faults = l.faults;
+    } };
 
     ghost invariant = { λ l. ForSome l.halves (λ h. (h.0.left ≡ l.source.value.left) × (l.is_halved ≡ false)) };
 }
@@ -40,7 +48,14 @@ impl MemLink {
     /// Hands out this source and this sink once, and not where `fail` holds. The sink is emptied
     /// then, the counts of faults of both begin, and neither is ended. It takes no memory.
     pub fn new(source: MemSource, sink: MemSink, fail: bool) -> MemLink
-        ensures { result ≡ record { halves = Some (source, sink); begins = source.left; fails = fail; is_halved = false; dialled = None; faults = 0 } }
+        ensures { result ≡ record {
+          halves = Some (source, sink);
+          begins = source.left;
+          fails = fail;
+          is_halved = false;
+          dialled = None;
+          faults = 0;
+        } }
     {
         MemLink {
             source: Snapshot::of(&source),
@@ -77,7 +92,13 @@ impl Link for MemLink {
 
     type W = MemSink;
 
-    ghost told = { λ l. record { begins = Some l.begins; is_halved = l.is_halved; dialled = l.dialled; faults = l.faults } };
+    ghost told = { λ l. record {
+      begins = Some l.begins;
+      is_halved = l.is_halved;
+      dialled = l.dialled;
+      faults =
+          l.faults;
+    } };
 
     fn halves(&mut self) -> Result<(MemSource, MemSink), Failed>
         ensures source { IfOk result (λ h. Some h.0.left ≡ Some self.old.begins) }

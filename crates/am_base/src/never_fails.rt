@@ -8,7 +8,8 @@ use crate::mem_source::MemSource;
 use crate::source::{Failed, Source};
 use std::marker::Model;
 
-/// A source in memory of which no call fails, so it gives its bytes also once it was ended. Its count of faults is 0 for good.
+/// A source in memory of which no call fails, so it gives its bytes also once it was ended. Its count of faults is 0
+/// for good.
 #[derive(Drop)]
 pub struct NeverFails {
     source: MemSource,

@@ -237,8 +237,8 @@ impl Gate for UnixGate {
     }
 }
 
-/// Makes sockets in the file system, and connects to those of others. Where a file of that name is there already, of a server that
-/// has ended too, `bind` fails. `bind` and `dial` fail where the name is longer than the system takes.
+/// Makes sockets in the file system, and connects to those of others. Where a file of that name is there already, of a
+/// server that has ended too, `bind` fails. `bind` and `dial` fail where the name is longer than the system takes.
 #[derive(Drop)]
 pub struct UnixHost<'a, R> {
     rt: &'a R,

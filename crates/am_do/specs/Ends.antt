@@ -1,5 +1,6 @@
 -- How `do` ends.
-use Rattle.std.specs.Prelude.{◌≡◌, ◌⊎◌, ℕ, ◌<◌, ◌≤◌, Bool, true, false, List, [], length, Option, Some, None, IfSome, Result, Ok, Err, codes}
+use Rattle.std.specs.Prelude.{◌≡◌, ◌⊎◌, ℕ, ◌<◌, ◌≤◌, Bool, true, false, List, [], length, Option, Some, None, IfSome}
+use Rattle.std.specs.Prelude.{Result, Ok, Err, codes}
 use Rattle.am_base.specs.Outside.{BytesTold, LinkTold, AreTold, HasRisen, one_more}
 use Rattle.am_base.specs.Stops.{input_limit}
 use Rattle.am_base.specs.Seen.{Given, HostSeen, Seen}
@@ -74,13 +75,20 @@ module _ {L S K : Type 0} where
     pub whole : (m.link link).is_halved ≡ false
     pub silent : o.now.bytes ≡ o.before.bytes
 
-  -- The lines were done over a link, whose source and sink were as the link gives them: with what it begins with, and empty, and without
-  -- a fault.
+  -- The lines were done over a link, whose source and sink were as the link gives them: with what it begins with, and
+  -- empty, and without a fault.
   pub record Talked (m : Peer L S K) (tree : List ℕ) (lines : List DoLine) (o : Seen) (d : Doing L S K) : Type 0 where
     pub link : L
     pub reader : S
     pub writer : K
-    pub objects : d ≡ record { end = d.end; link = Some link; reader = Some reader; writer = Some writer; stop = d.stop }
+    pub objects : d ≡ record {
+      end = d.end;
+      link = Some link;
+      reader = Some reader;
+      writer = Some writer;
+      stop =
+          d.stop;
+    }
     pub source : BytesTold
     pub begins : source.bytes ≡ (m.link link).begins
     pub sink : BytesTold
@@ -101,7 +109,8 @@ module _ {L S K : Type 0} where
 
   -- lines in the grammar: the host has failed, or there was a link
   abbrev pub Dials : Peer L S K → List ℕ → List DoLine → Given → Seen → Doing L S K → Type 0
-  Dials m tree lines i o d = (IsIdle end.HostFault o d × HasRisen i.host.before.faults i.host.now.faults) ⊎ TalksOver m tree lines o d
+  Dials m tree lines i o d = (IsIdle end.HostFault o d × HasRisen i.host.before.faults i.host.now.faults)
+      ⊎ TalksOver m tree lines o d
 
   -- what came of lines that were read: the first outside the grammar is refused
   abbrev pub Lined : Peer L S K → List ℕ → Result (List DoLine) ℕ → Given → Seen → Doing L S K → Type 0
@@ -118,4 +127,5 @@ module _ {L S K : Type 0} where
       (IsIdle end.ReadFault o d × HasRisen i.input.before.faults i.input.now.faults)
       ⊎ (IfSome i.input.before.bytes (λ bytes. input_limit < length bytes) × Refuses 0 (codes "input") o d)
       ⊎ IsIdle end.NoMemory o d
-      ⊎ ((bytes : List ℕ) × AreTold i.input.before.bytes bytes × (length bytes ≤ input_limit) × Lined m tree (lines_from 1 (lines_of bytes)) i o d)
+      ⊎ ((bytes : List ℕ) × AreTold i.input.before.bytes bytes × (length bytes ≤ input_limit)
+      × Lined m tree (lines_from 1 (lines_of bytes)) i o d)

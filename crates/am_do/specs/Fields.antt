@@ -1,5 +1,6 @@
 -- The fields of a line of `do`.
-use Rattle.std.specs.Prelude.{◌≡◌, ◌≤◌, ◌<◌, ◌^◌, ℕ, zero, suc, Bool, true, false, ◌&&◌, List, [], ◌∷◌, ◌++◌, length, Option, Some, None, nat_lt, nat_le, ◌==◌, if◌then◌else◌, codes}
+use Rattle.std.specs.Prelude.{◌≡◌, ◌≤◌, ◌<◌, ◌^◌, ℕ, zero, suc, Bool, true, false, ◌&&◌, List, [], ◌∷◌, ◌++◌, length}
+use Rattle.std.specs.Prelude.{Option, Some, None, nat_lt, nat_le, ◌==◌, if◌then◌else◌, codes}
 use Rattle.std.specs.List.{list_all}
 use Rattle.std.specs.Str.{bytes_eq, is_utf8}
 use Rattle.am_text.specs.Ascii.{space, slash, colon}
@@ -29,7 +30,8 @@ count_at bytes = count_from (number_of bytes)
 
 -- the mode of an opening: for reading, for writing, for both
 abbrev pub mode_at : List ℕ → Option ℕ
-mode_at word = if bytes_eq word (codes "r") then Some 0 else (if bytes_eq word (codes "w") then Some 1 else (if bytes_eq word (codes "rw") then Some 2 else None))
+mode_at word = if bytes_eq word (codes "r") then Some 0 else (if bytes_eq word (codes "w") then Some 1 else
+    (if bytes_eq word (codes "rw") then Some 2 else None))
 
 -- bytes to be written: a text after a colon, of at most 8,000 bytes
 abbrev pub few_bytes : List ℕ → Option (List ℕ)
@@ -53,7 +55,8 @@ is_visible b = nat_lt space b
 
 -- a name: UTF-8 of 1 to 65,535 bytes, without runes of at most 0x20
 abbrev pub is_name : List ℕ → Bool
-is_name name = nat_lt 0 (length name) && (nat_le (length name) most_name_bytes && (is_utf8 name && list_all is_visible name))
+is_name name = nat_lt 0 (length name) && (nat_le (length name) most_name_bytes
+    && (is_utf8 name && list_all is_visible name))
 
 -- the bytes up to the first `/`
 abbrev pub first_name : List ℕ → List ℕ
@@ -78,7 +81,8 @@ names_behind go name (Some rest) = onto_names name (go rest)
 -- at most so many names, with `/` between them
 unfoldable pub names_within : ℕ → List ℕ → Option (List (List ℕ))
 names_within zero bytes = None
-names_within (suc n) bytes = if is_name (first_name bytes) then names_behind (names_within n) (first_name bytes) (after_name bytes) else None
+names_within (suc n) bytes = if is_name (first_name bytes) then names_behind (names_within n) (first_name bytes)
+    (after_name bytes) else None
 
 -- the names of an opening
 abbrev pub names_at : List ℕ → Option (List (List ℕ))

@@ -16,7 +16,8 @@ open_from (Some fid) (Some names) (Some mode) = Some (line.Open fid names mode)
 
 -- a line `open` by what follows its word
 abbrev pub open_at : List ℕ → Option DoLine
-open_at bytes = open_from (fid_at (first_field bytes)) (names_at (first_field (after_field bytes))) (mode_at (after_field (after_field bytes)))
+open_at bytes = open_from (fid_at (first_field bytes)) (names_at (first_field (after_field bytes)))
+    (mode_at (after_field (after_field bytes)))
 
 -- `read K OFFSET COUNT`
 abbrev pub read_from : Option ℕ → Option ℕ → Option ℕ → Option DoLine
@@ -27,7 +28,8 @@ read_from (Some fid) (Some offset) (Some count) = Some (line.Read fid offset cou
 
 -- a line `read` by what follows its word
 abbrev pub read_at : List ℕ → Option DoLine
-read_at bytes = read_from (fid_at (first_field bytes)) (number_of (first_field (after_field bytes))) (count_at (after_field (after_field bytes)))
+read_at bytes = read_from (fid_at (first_field bytes)) (number_of (first_field (after_field bytes)))
+    (count_at (after_field (after_field bytes)))
 
 -- `write K OFFSET :TEXT`
 abbrev pub write_from : Option ℕ → Option ℕ → Option (List ℕ) → Option DoLine
@@ -38,7 +40,8 @@ write_from (Some fid) (Some offset) (Some text) = Some (line.Write fid offset te
 
 -- a line `write` by what follows its word
 abbrev pub write_at : List ℕ → Option DoLine
-write_at bytes = write_from (fid_at (first_field bytes)) (number_of (first_field (after_field bytes))) (bytes_at (after_field (after_field bytes)))
+write_at bytes = write_from (fid_at (first_field bytes)) (number_of (first_field (after_field bytes)))
+    (bytes_at (after_field (after_field bytes)))
 
 -- `close K`
 abbrev pub close_from : Option ℕ → Option DoLine
@@ -61,7 +64,8 @@ read_by (r ∷ rs) bytes = with_front (after_front r.0 bytes) r.1 (read_by rs by
 
 -- what a line without its newline asks for, if it is in the grammar
 unfoldable pub line_of : List ℕ → Option DoLine
-line_of bytes = read_by ((codes "open ", open_at) ∷ (codes "read ", read_at) ∷ (codes "write ", write_at) ∷ (codes "close ", close_at) ∷ []) bytes
+line_of bytes = read_by ((codes "open ", open_at) ∷ (codes "read ", read_at) ∷ (codes "write ", write_at)
+    ∷ (codes "close ", close_at) ∷ []) bytes
 
 -- ---- all lines
 

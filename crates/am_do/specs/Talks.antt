@@ -1,5 +1,6 @@
 -- What a client of `do` asks and answers, as a function of the bytes that come.
-use Rattle.std.specs.Prelude.{ℕ, ◌&&◌, List, [], ◌∷◌, ◌++◌, length, Option, Some, None, Result, Ok, Err, nat_lt, nat_le, if◌then◌else◌, codes}
+use Rattle.std.specs.Prelude.{ℕ, ◌&&◌, List, [], ◌∷◌, ◌++◌, length, Option, Some, None, Result, Ok, Err, nat_lt, nat_le}
+use Rattle.std.specs.Prelude.{if◌then◌else◌, codes}
 use Rattle.std.specs.List.{flat_map}
 use Rattle.std.specs.Fmt.{decimal}
 use Rattle.std.specs.Str.{bytes_eq}
@@ -23,8 +24,8 @@ use Rattle.am_do.specs.declared.line.DoLine.{DoLine}
 use Rattle.am_do.specs.declared.line.DoLine.TheVariants as line
 use Rattle.am_do.specs.Limits.{asked_msize}
 
--- What came of a part of a talk: a value, with the bytes behind the messages that were read; the next reply isn't there whole; the
--- next message, or its size, is at fault; the server doesn't take the talk.
+-- What came of a part of a talk: a value, with the bytes behind the messages that were read; the next reply isn't there
+-- whole; the next message, or its size, is at fault; the server doesn't take the talk.
 pub data Got (A : Type 0) : Type 0 where
   Value : A → List ℕ → Got A
   Lacks : Got A
@@ -40,7 +41,11 @@ pub record Told (A : Type 0) : Type 0 where
 module _ {A B : Type 0} where
   -- goes on with a value, where there is one
   abbrev pub then_got : List ℕ → List ℕ → Got A → (A → List ℕ → Told B) → Told B
-  then_got sent text (Value a rest) go = record { sent = sent ++ (go a rest).sent; text = text ++ (go a rest).text; got = (go a rest).got }
+  then_got sent text (Value a rest) go = record {
+    sent = sent ++ (go a rest).sent;
+    text = text ++ (go a rest).text;
+    got = (go a rest).got;
+  }
   then_got sent text Lacks go = record { sent = sent; text = text; got = Lacks }
   then_got sent text (Faulty e) go = record { sent = sent; text = text; got = Faulty e }
   then_got sent text Refused go = record { sent = sent; text = text; got = Refused }
@@ -213,11 +218,13 @@ walk_told most fid names mode bytes = and_then (asks most (t.Walk 0 fid names) b
 
 -- what a line `read` asks and answers
 unfoldable pub read_told : ℕ → ℕ → ℕ → ℕ → List ℕ → Told (Unit {0})
-read_told most fid offset count bytes = and_then (asks most (t.Read fid offset count) bytes) (λ reply rest. says (read_answer reply) rest)
+read_told most fid offset count bytes = and_then (asks most (t.Read fid offset count) bytes)
+    (λ reply rest. says (read_answer reply) rest)
 
 -- what a line `write` asks and answers
 unfoldable pub write_told : ℕ → ℕ → ℕ → List ℕ → List ℕ → Told (Unit {0})
-write_told most fid offset text bytes = and_then (asks most (t.Write fid offset text) bytes) (λ reply rest. says (write_answer reply) rest)
+write_told most fid offset text bytes = and_then (asks most (t.Write fid offset text) bytes)
+    (λ reply rest. says (write_answer reply) rest)
 
 -- what a line `close` asks and answers
 unfoldable pub close_told : ℕ → ℕ → List ℕ → Told (Unit {0})
@@ -234,7 +241,8 @@ line_told most (line.Close fid) = close_told most fid
 
 -- the most bytes of a message on which both agree
 abbrev pub agreed_in : RBody → Option ℕ
-agreed_in (r.Version msize version) = if bytes_eq version version_name && (nat_le min_msize msize && nat_le msize asked_msize) then Some msize else None
+agreed_in (r.Version msize version) = if bytes_eq version version_name
+    && (nat_le min_msize msize && nat_le msize asked_msize) then Some msize else None
 agreed_in (r.Auth aqid) = None
 agreed_in (r.Error text) = None
 agreed_in r.Flush = None

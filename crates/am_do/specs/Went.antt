@@ -32,9 +32,10 @@ abbrev pub ends : BytesTold → BytesTold → BytesTold → BytesTold → Ends
 ends held held_now left left_now = record { sink = seen held held_now; source = seen left left_now }
 
 module _ {A : Type 0} where
-  -- The part was done: bytes came and were used, what was sent for them is put behind what the sink held, and text and value are what they
-  -- give.
-  pub record Went (talk : List ℕ → Told A) (t after : Talk) (held held_now left left_now : Option (List ℕ)) (text : List ℕ) (value : A) : Type 0 where
+  -- The part was done: bytes came and were used, what was sent for them is put behind what the sink held, and text and
+  -- value are what they give.
+  pub record Went (talk : List ℕ → Told A) (t after : Talk) (held held_now left left_now : Option (List ℕ))
+      (text : List ℕ) (value : A) : Type 0 where
     pub used : List ℕ
     pub sent : List ℕ
     pub came : Came left left_now t.unread (used ++ after.unread)
@@ -75,9 +76,12 @@ module _ {A : Type 0} where
   -- Why a talk has stopped, by what is told of the bytes that were used, and of those and the unread ones.
   abbrev pub StopsFor : Stop → Told A → Told A → List ℕ → Ends → List ℕ → Type 0
   StopsFor stop.Refused used all unread e text = IsRefused used e text
-  StopsFor (stop.Fault fault.Ended) used all unread e text = IsLeft used e text × (unread ≡ []) × AreTold e.source.now.bytes []
-  StopsFor (stop.Fault fault.Torn) used all unread e text = IsLeft used e text × IsLeft all e text × (unread ≢ []) × (cut_of unread ≡ More) × AreTold e.source.now.bytes []
-  StopsFor (stop.Fault fault.ReadFault) used all unread e text = IsLeft used e text × (cut_of unread ≡ More) × HasRisen e.source.before.faults e.source.now.faults
+  StopsFor (stop.Fault fault.Ended) used all unread e text = IsLeft used e text × (unread ≡ [])
+      × AreTold e.source.now.bytes []
+  StopsFor (stop.Fault fault.Torn) used all unread e text = IsLeft used e text × IsLeft all e text × (unread ≢ [])
+      × (cut_of unread ≡ More) × AreTold e.source.now.bytes []
+  StopsFor (stop.Fault fault.ReadFault) used all unread e text = IsLeft used e text × (cut_of unread ≡ More)
+      × HasRisen e.source.before.faults e.source.now.faults
   StopsFor (stop.Fault fault.WriteFault) used all unread e text = IsCutOff used e text
   StopsFor (stop.Fault (fault.Wire f)) used all unread e text = IsFaulty (fault.Wire f) all e text
   StopsFor (stop.Fault (fault.Unasked n)) used all unread e text = IsFaulty (fault.Unasked n) all e text

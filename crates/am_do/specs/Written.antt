@@ -38,7 +38,8 @@ pub record WentWell (talk : List ℕ → Told (Unit {0})) (t : Talk) (e : Ends) 
   pub wrote : Wrote failed o text
 
 -- The talk has stopped, and what was said before was put, whole or cut where the output has failed.
-pub record HasHalted (end : Stop) (talk : List ℕ → Told (Unit {0})) (t : Talk) (e : Ends) (failed : Bool) (o : Seen) : Type 0 where
+pub record HasHalted (end : Stop) (talk : List ℕ → Told (Unit {0})) (t : Talk) (e : Ends) (failed : Bool)
+    (o : Seen) : Type 0 where
   pub text : List ℕ
   pub halted : Halted end talk t e text
   pub wrote : Wrote failed o text

@@ -1,7 +1,8 @@
 //! The lines that are written.
 
 ghost use Rattle.std.specs.Prelude.{◌≡◌, ◌++◌, IfOk};
-ghost use Rattle.am_do.specs.Talks.{shown, ok_line, count_line, data_line, error_line, ok_or_error, read_answer, write_answer, walked, data_in, written};
+ghost use Rattle.am_do.specs.Talks.{shown, ok_line, count_line, data_line, error_line, ok_or_error, read_answer};
+ghost use Rattle.am_do.specs.Talks.{write_answer, walked, data_in, written};
 
 use am_text::{Bytes, Items, NoMemory, decimal, decode_whole, escape};
 use ninep_client::RBody;

@@ -67,8 +67,8 @@ fn do_all<R: Source, W: Sink, O: Sink>(
     Done { stop: None, failed }
 }
 
-/// Agrees on the version with a server, attaches a tree, does the lines in order, and writes the answer to each. A failing output doesn't
-/// end the lines.
+/// Agrees on the version with a server, attaches a tree, does the lines in order, and writes the answer to each. A
+/// failing output doesn't end the lines.
 ///
 /// What is sent is a function of the tree, the lines and the replies (`told_of`), and so is what is written.
 pub fn do_lines<R: Source, W: Sink, O: Sink>(

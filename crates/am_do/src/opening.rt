@@ -41,7 +41,8 @@ fn give_back<R: Source, W: Sink>(
     text: &[u8],
 ) -> Result<Bytes, Stop>
     requires ready { IsReady client.old.talk }
-    ensures ok { IfOk result (λ line. Went (back_told client.old.talk.msize fid text.now) client.old.talk client.new.talk
+    ensures ok { IfOk result (λ line. Went (back_told client.old.talk.msize fid text.now) client.old.talk
+        client.new.talk
         (W.told client.old.sink).bytes (W.told client.new.sink).bytes (R.told client.old.source).bytes (R.told client.new.source).bytes line tt) }
     ensures ready { OnOk result (IsReady client.new.talk) }
     ensures most { OnOk result (client.new.talk.msize ≡ client.old.talk.msize) }
@@ -92,7 +93,8 @@ fn walk_and_open<R: Source, W: Sink>(
 ) -> Result<Bytes, Stop>
     requires ready { IsReady client.old.talk }
     requires names { AreNames names }
-    ensures ok { IfOk result (λ text. Went (walk_told client.old.talk.msize fid names mode) client.old.talk client.new.talk
+    ensures ok { IfOk result (λ text. Went (walk_told client.old.talk.msize fid names mode) client.old.talk
+        client.new.talk
         (W.told client.old.sink).bytes (W.told client.new.sink).bytes (R.told client.old.source).bytes (R.told client.new.source).bytes text tt) }
     ensures ready { OnOk result (IsReady client.new.talk) }
     ensures most { OnOk result (client.new.talk.msize ≡ client.old.talk.msize) }
@@ -131,7 +133,8 @@ fn read<R: Source, W: Sink>(
     count: u32,
 ) -> Result<Bytes, Stop>
     requires ready { IsReady client.old.talk }
-    ensures ok { IfOk result (λ text. Went (read_told client.old.talk.msize fid offset count) client.old.talk client.new.talk
+    ensures ok { IfOk result (λ text. Went (read_told client.old.talk.msize fid offset count) client.old.talk
+        client.new.talk
         (W.told client.old.sink).bytes (W.told client.new.sink).bytes (R.told client.old.source).bytes (R.told client.new.source).bytes text tt) }
     ensures ready { OnOk result (IsReady client.new.talk) }
     ensures most { OnOk result (client.new.talk.msize ≡ client.old.talk.msize) }
@@ -156,7 +159,8 @@ fn write<R: Source, W: Sink>(
 ) -> Result<Bytes, Stop>
     requires ready { IsReady client.old.talk }
     requires few { length bytes ≤ most_bytes }
-    ensures ok { IfOk result (λ text. Went (write_told client.old.talk.msize fid offset bytes) client.old.talk client.new.talk
+    ensures ok { IfOk result (λ text. Went (write_told client.old.talk.msize fid offset bytes) client.old.talk
+        client.new.talk
         (W.told client.old.sink).bytes (W.told client.new.sink).bytes (R.told client.old.source).bytes (R.told client.new.source).bytes text tt) }
     ensures ready { OnOk result (IsReady client.new.talk) }
     ensures most { OnOk result (client.new.talk.msize ≡ client.old.talk.msize) }

@@ -177,8 +177,8 @@ fn do_input<O: Sink, H: Host>(
     }
 }
 
-/// Reads lines to the end of the input, connects to a path, attaches a tree, does the lines in order, and writes the answer to each.
-/// All lines are checked before anything is dialled.
+/// Reads lines to the end of the input, connects to a path, attaches a tree, does the lines in order, and writes the
+/// answer to each. All lines are checked before anything is dialled.
 pub fn do_path<I: Source, O: Sink, H: Host>(
     alloc: Global,
     path: &str,

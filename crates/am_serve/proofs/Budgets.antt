@@ -1,5 +1,6 @@
 -- What is left of a budget, one message further.
-use Rattle.std.proofs.Common.{◌≡◌, ℕ, ◌+◌, ◌-◌, ◌<◌, ◌≤◌, Bool, true, false, ◌&&◌, List, [], ◌∷◌, ◌++◌, length, refl, sym, ap, subst, ◌∙◌, if◌then◌else◌, arith}
+use Rattle.std.proofs.Common.{◌≡◌, ℕ, ◌+◌, ◌-◌, ◌<◌, ◌≤◌, Bool, true, false, ◌&&◌, List, [], ◌∷◌, ◌++◌, length, refl}
+use Rattle.std.proofs.Common.{sym, ap, subst, ◌∙◌, if◌then◌else◌, arith}
 use Rattle.std.specs.Prelude.{nat_le}
 use Rattle.std.specs.List.{concat}
 use Rattle.std.proofs.lemmas.Bool.{le-leb, leb-true, leb-false, lt-leb, ltb-true}
@@ -23,7 +24,8 @@ left_at_first = record { messages = omega arith; bytes = omega arith }
 -- messages that left something are no more than may come
 pub left_fits : (b : Budget) (given : List (List ℕ)) → IsLeft b given → fits_budget given ≡ true
 left_fits b given h =
-    both _ _ (le-leb (length given) message_limit (omega (arith, h.messages))) (le-leb (length (concat given)) byte_limit (omega (arith, h.bytes)))
+    both _ _ (le-leb (length given) message_limit (omega (arith, h.messages)))
+    (le-leb (length (concat given)) byte_limit (omega (arith, h.bytes)))
 
 one_more : (given : List (List ℕ)) (m : List ℕ) → length (given ++ m ∷ []) ≡ length given + 1
 one_more given m = length-append given (m ∷ [])
@@ -49,15 +51,19 @@ same_test a b c d there back = by_cases (nat_le a b) refl
             other false f = leb-false c d f
 
 -- one more message may come exactly where all of them fit
-pub fits_next : (b : Budget) (given : List (List ℕ)) (m : List ℕ) → IsLeft b given → has_message b (length m) ≡ fits_budget (given ++ m ∷ [])
+pub fits_next : (b : Budget) (given : List (List ℕ)) (m : List ℕ) → IsLeft b given
+    → has_message b (length m) ≡ fits_budget (given ++ m ∷ [])
 fits_next b given m h =
     ap (λ (x : Bool). x && nat_le (length m) b.bytes)
-    (same_test 1 b.messages (length (given ++ m ∷ [])) message_limit (λ le. omega (arith, le, one_more given m, h.messages)) (λ le. omega (arith, le, one_more given m, h.messages)))
+    (same_test 1 b.messages (length (given ++ m ∷ [])) message_limit
+    (λ le. omega (arith, le, one_more given m, h.messages)) (λ le. omega (arith, le, one_more given m, h.messages)))
     ∙ ap (λ (x : Bool). nat_le (length (given ++ m ∷ [])) message_limit && x)
-    (same_test (length m) b.bytes (length (concat (given ++ m ∷ []))) byte_limit (λ le. omega (arith, le, more_bytes given m, h.bytes)) (λ le. omega (arith, le, more_bytes given m, h.bytes)))
+    (same_test (length m) b.bytes (length (concat (given ++ m ∷ []))) byte_limit
+    (λ le. omega (arith, le, more_bytes given m, h.bytes)) (λ le. omega (arith, le, more_bytes given m, h.bytes)))
 
 -- what is left behind it
-pub left_further : (b now : Budget) (given : List (List ℕ)) (m : List ℕ) → IsLeft b given → has_message b (length m) ≡ true → now ≡ after_message b (length m) → IsLeft now (given ++ m ∷ [])
+pub left_further : (b now : Budget) (given : List (List ℕ)) (m : List ℕ) → IsLeft b given
+    → has_message b (length m) ≡ true → now ≡ after_message b (length m) → IsLeft now (given ++ m ∷ [])
 left_further b now given m h may e =
     let passed = both_pass _ _ may in
     let some : 0 < b.messages = ltb-true 0 b.messages passed.0 in

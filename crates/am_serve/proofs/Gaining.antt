@@ -1,5 +1,6 @@
 -- Seats that go on.
-use Rattle.std.proofs.Common.{◌≡◌, ℕ, zero, suc, ◌+◌, ◌-◌, ◌<◌, ◌≤◌, List, [], ◌∷◌, ◌++◌, length, drop, Some, refl, sym, ap, subst, ◌∙◌, append_assoc, arith}
+use Rattle.std.proofs.Common.{◌≡◌, ℕ, zero, suc, ◌+◌, ◌-◌, ◌<◌, ◌≤◌, List, [], ◌∷◌, ◌++◌, length, drop, Some, refl, sym}
+use Rattle.std.proofs.Common.{ap, subst, ◌∙◌, append_assoc, arith}
 use Rattle.std.specs.Prelude.{slice_get}
 use Rattle.std.proofs.lemmas.List.{append-nil, length-append, drop_at}
 use Rattle.turn_lock.specs.Journal.{Stands}
@@ -31,15 +32,21 @@ module _ {A : Type 0} where
   stands_longer log ys low [] s = tt
   stands_longer log ys low (x ∷ xs) s = (s.0, slice_get_front log ys (x.0 - 1) x.1 s.1, stands_longer log ys x.0 xs s.2)
 
-  pub stands_lower : (log : List A) (low lower : ℕ) (xs : List (ℕ × A)) → lower ≤ low → Stands log low xs → Stands log lower xs
+  pub stands_lower : (log : List A) (low lower : ℕ) (xs : List (ℕ × A)) → lower ≤ low → Stands log low xs
+      → Stands log lower xs
   stands_lower log low lower [] le s = tt
   stands_lower log low lower (x ∷ xs) le s = (omega (arith, le, s.0), s.1, s.2)
 
   -- the entries of a journal, and then those of a longer one that come after it
-  pub stands_joined : (log ys : List A) (low : ℕ) (xs zs : List (ℕ × A)) → low ≤ length log → Stands log low xs → Stands (log ++ ys) (length log) zs → Stands (log ++ ys) low (xs ++ zs)
+  pub stands_joined : (log ys : List A) (low : ℕ) (xs zs : List (ℕ × A)) → low ≤ length log → Stands log low xs
+      → Stands (log ++ ys) (length log) zs → Stands (log ++ ys) low (xs ++ zs)
   stands_joined log ys low [] zs le s t = stands_lower (log ++ ys) (length log) low zs le t
-  stands_joined log ys low (x ∷ xs) zs le s t =
-      (s.0, slice_get_front log ys (x.0 - 1) x.1 s.1, stands_joined log ys x.0 xs zs (omega (arith, s.0, slice_get_below log (x.0 - 1) x.1 s.1)) s.2 t)
+  stands_joined log ys low (x ∷ xs) zs le s t = (
+    s.0,
+    slice_get_front log ys (x.0 - 1) x.1 s.1,
+    stands_joined log ys x.0 xs zs
+        (omega (arith, s.0, slice_get_below log (x.0 - 1) x.1 s.1)) s.2 t,
+  )
 
   stands_next : (log : List A) (n : ℕ) (e : A) → n ≡ length log + 1 → Stands (log ++ e ∷ []) (length log) ((n, e) ∷ [])
   stands_next log n e at = (omega (arith, at), slice_get_last log e (n - 1) (omega (arith, at)), tt)
@@ -68,7 +75,8 @@ gains_more v w x es fs g h = record {
   stand =
       let P : List Event → Type 0 = λ l. Stands l (length v.seen) (es ++ fs) in
       let Q : List Event → Type 0 = λ l. Stands l (length w.seen) fs in
-      subst P h.seen.1 (stands_joined w.seen h.seen.0 (length v.seen) es fs (omega (arith, length-append v.seen g.seen.0, ap length g.seen.1)) g.stand (subst Q (sym h.seen.1) h.stand));
+      subst P h.seen.1 (stands_joined w.seen h.seen.0 (length v.seen) es fs
+      (omega (arith, length-append v.seen g.seen.0, ap length g.seen.1)) g.stand (subst Q (sym h.seen.1) h.stand));
 }
 
 pub gains_look : (v w : Known) → Looks v w → Gains v [] w
@@ -83,13 +91,15 @@ gains_look v w l =
     })
 
 -- an entry is added after a journal that was seen
-pub gains_entry : (v : Known) (now : List Event) (e : Event) → IsPrefix v.seen now → Gains v ((length now + 1, e) ∷ []) (with_entry v now e)
+pub gains_entry : (v : Known) (now : List Event) (e : Event) → IsPrefix v.seen now
+    → Gains v ((length now + 1, e) ∷ []) (with_entry v now e)
 gains_entry v now e p = record {
   parts = refl;
   ended = refl;
   seen = (p.0 ++ e ∷ [], sym (append_assoc v.seen p.0 (e ∷ [])) ∙ ap (λ (l : List Event). l ++ e ∷ []) p.1);
   mine = refl;
-  stand = stands_lower (now ++ e ∷ []) (length now) (length v.seen) ((length now + 1, e) ∷ []) (omega (arith, length-append v.seen p.0, ap length p.1)) (stands_next now (length now + 1) e refl);
+  stand = stands_lower (now ++ e ∷ []) (length now) (length v.seen) ((length now + 1, e) ∷ [])
+      (omega (arith, length-append v.seen p.0, ap length p.1)) (stands_next now (length now + 1) e refl);
 }
 
 -- what was gained is what stands behind the entries of before
@@ -97,7 +107,9 @@ pub gained_is : (v w : Known) (entries : List (ℕ × Event)) → Gains v entrie
 gained_is v w entries g = ap (drop (length v.mine)) g.mine ∙ drop_at v.mine entries (length v.mine) refl
 
 pub gains_gained : (v w : Known) (entries : List (ℕ × Event)) → Gains v entries w → Gains v (gained v w) w
-gains_gained v w entries g = let P : List (ℕ × Event) → Type 0 = λ l. Gains v l w in subst P (sym (gained_is v w entries g)) g
+gains_gained v w entries g = let P : List (ℕ × Event) → Type 0 = λ l. Gains v l w in
+    subst P (sym (gained_is v w entries g)) g
 
 pub gains_then_look : (v w x : Known) (entries : List (ℕ × Event)) → Gains v entries w → Looks w x → Gains v entries x
-gains_then_look v w x entries g l = let P : List (ℕ × Event) → Type 0 = λ l. Gains v l x in subst P (append-nil entries) (gains_more v w x entries [] g (gains_look w x l))
+gains_then_look v w x entries g l = let P : List (ℕ × Event) → Type 0 = λ l. Gains v l x in
+    subst P (append-nil entries) (gains_more v w x entries [] g (gains_look w x l))

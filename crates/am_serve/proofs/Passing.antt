@@ -1,12 +1,14 @@
 -- Lines of a script that are passed.
-use Rattle.std.proofs.Common.{◌≡◌, ◌⊎◌, inl, inr, ℕ, ◌+◌, ◌<◌, true, List, [], ◌∷◌, ◌++◌, length, refl, sym, ap, subst, ◌∙◌, append_assoc, arith}
+use Rattle.std.proofs.Common.{◌≡◌, ◌⊎◌, inl, inr, ℕ, ◌+◌, ◌<◌, true, List, [], ◌∷◌, ◌++◌, length, refl, sym, ap, subst}
+use Rattle.std.proofs.Common.{◌∙◌, append_assoc, arith}
 use Rattle.std.proofs.lemmas.List.{append-nil, map-append, length-append}
 use Rattle.am_text.specs.Lines.{lines_of}
 use Rattle.am_journal.specs.declared.event.Event.{Event}
 use Rattle.am_counter.specs.Known.{Known, with_seen, with_entry, Looks, Submits}
 use Rattle.am_counter.specs.Played.{IsPrefix, has_hang}
 use Rattle.am_serve.specs.Gained.{Rule, Answers, Gains, gained, plain}
-use Rattle.am_serve.specs.Script.{Passes, PassesLine, Passed, RefusedAt, IsRefused, HaveEnded, asked_by, asked_by_lines, asked_by_script, asked_events, then_asked}
+use Rattle.am_serve.specs.Script.{Passes, PassesLine, Passed, RefusedAt, IsRefused, HaveEnded, asked_by, asked_by_lines}
+use Rattle.am_serve.specs.Script.{asked_by_script, asked_events, then_asked}
 use Rattle.am_serve.specs.declared.asked.Asked.{Asked}
 use Rattle.am_serve.specs.declared.asked.Asked.TheVariants.{Does, Awaits, Ends, Faulty}
 use Rattle.am_serve.specs.declared.fault.LineFault.{LineFault}
@@ -32,20 +34,23 @@ pub looks_equal : (v w : Known) → w ≡ v → Looks v w
 looks_equal v w e = let P : Known → Type 0 = λ x. Looks v x in subst P (sym e) (looks_same v)
 
 -- a look before a turn makes no difference to it
-looks_then_submits : (enabled : Rule) (v w x : Known) (e : Event) (n : ℕ) → Looks v w → Submits enabled w e n x → Submits enabled v e n x
+looks_then_submits : (enabled : Rule) (v w x : Known) (e : Event) (n : ℕ) → Looks v w → Submits enabled w e n x
+    → Submits enabled v e n x
 looks_then_submits enabled v w x e n l s =
     let at : w.seen ≡ l.0 = ap (λ (k : Known). k.seen) l.2 in
     let P : List Event → Type 0 = λ t. IsPrefix t s.0 in
     (s.0, grown v.seen l.0 s.0 l.1 (subst P at s.1), s.2, s.3, s.4 ∙ ap (λ (k : Known). with_entry k s.0 e) l.2)
 
 -- the same of a message
-pub looks_then_sends : (enabled : Rule) (conn : ℕ) (v w x : Known) (m : List ℕ) → Looks v w → Sends enabled conn w m x → Sends enabled conn v m x
+pub looks_then_sends : (enabled : Rule) (conn : ℕ) (v w x : Known) (m : List ℕ) → Looks v w → Sends enabled conn w m x
+    → Sends enabled conn v m x
 looks_then_sends enabled conn v w x m l s = (s.0, s.1, s.2, looks_then_submits enabled v w x (Msg conn s.0) s.1 l s.3)
 
 -- ---- lines that are passed
 
 module _ (enabled : Rule) (answer : Answers) where
-  looks_then_passes : (v u w : Known) (lines : List Asked) → Looks v u → Passes enabled answer u lines w → Passes enabled answer v lines w
+  looks_then_passes : (v u w : Known) (lines : List Asked) → Looks v u → Passes enabled answer u lines w
+      → Passes enabled answer v lines w
   unfolding Passes
   looks_then_passes v u w [] l p = looks_on v u w l p
   looks_then_passes v u w (Does e ∷ lines) l p = (p.0, (p.1.0, looks_then_submits enabled v u p.0 e p.1.0 l p.1.1), p.2)
@@ -53,7 +58,8 @@ module _ (enabled : Rule) (answer : Answers) where
   looks_then_passes v u w (Ends ∷ lines) l p = absurd p.1
   looks_then_passes v u w (Faulty ∷ lines) l p = absurd p.1
 
-  passes_on : (v u w : Known) (before after : List Asked) → Passes enabled answer v before u → Passes enabled answer u after w → Passes enabled answer v (before ++ after) w
+  passes_on : (v u w : Known) (before after : List Asked) → Passes enabled answer v before u
+      → Passes enabled answer u after w → Passes enabled answer v (before ++ after) w
   unfolding Passes
   passes_on v u w [] after p q = looks_then_passes v u w after p q
   passes_on v u w (a ∷ before) after p q = (p.0, p.1, passes_on p.0 u w before after p.2 q)
@@ -66,13 +72,15 @@ module _ (enabled : Rule) (answer : Answers) where
   unfolding Passes
   passes_nothing v = looks_same v
 
-  pub passes_look : (v u w : Known) (lines : List Asked) → Passes enabled answer v lines u → Looks u w → Passes enabled answer v lines w
+  pub passes_look : (v u w : Known) (lines : List Asked) → Passes enabled answer v lines u → Looks u w
+      → Passes enabled answer v lines w
   unfolding Passes
   passes_look v u w lines p l =
       let P : List Asked → Type 0 = λ x. Passes enabled answer v x w in
       subst P (append-nil lines) (passes_on v u w lines [] p l)
 
-  pub passes_more : (v u w : Known) (lines : List Asked) (a : Asked) → Passes enabled answer v lines u → PassesLine enabled answer u a w → Passes enabled answer v (lines ++ a ∷ []) w
+  pub passes_more : (v u w : Known) (lines : List Asked) (a : Asked) → Passes enabled answer v lines u
+      → PassesLine enabled answer u a w → Passes enabled answer v (lines ++ a ∷ []) w
   passes_more v u w lines a p q = passes_on v u w lines (a ∷ []) p (passes_one u w a q)
 
   -- ---- what they add
@@ -84,7 +92,8 @@ module _ (enabled : Rule) (answer : Answers) where
   adds_more v u w xs ys p q = (
     p.0 ++ q.0,
     gains_more v u w p.0 q.0 p.1 q.1,
-    map-append (λ (x : ℕ × Event). x.1) p.0 q.0 ∙ ap (λ (l : List Event). l ++ plain q.0) p.2 ∙ ap (λ (l : List Event). xs ++ l) q.2,
+    map-append (λ (x : ℕ × Event). x.1) p.0 q.0 ∙ ap (λ (l : List Event). l ++ plain q.0) p.2
+        ∙ ap (λ (l : List Event). xs ++ l) q.2,
   )
 
   adds_entry : (v w : Known) (e : Event) (n : ℕ) → Submits enabled v e n w → Adds v (e ∷ []) w
@@ -95,8 +104,10 @@ module _ (enabled : Rule) (answer : Answers) where
   passes_add : (v w : Known) (lines : List Asked) → Passes enabled answer v lines w → Adds v (asked_events lines) w
   unfolding Passes
   passes_add v w [] p = ([], gains_look v w p, refl)
-  passes_add v w (Does e ∷ lines) p = adds_more v p.0 w (e ∷ []) (asked_events lines) (adds_entry v p.0 e p.1.0 p.1.1) (passes_add p.0 w lines p.2)
-  passes_add v w (Awaits x ∷ lines) p = adds_more v p.0 w [] (asked_events lines) ([], gains_look v p.0 p.1.0, refl) (passes_add p.0 w lines p.2)
+  passes_add v w (Does e ∷ lines) p = adds_more v p.0 w (e ∷ []) (asked_events lines) (adds_entry v p.0 e p.1.0 p.1.1)
+      (passes_add p.0 w lines p.2)
+  passes_add v w (Awaits x ∷ lines) p = adds_more v p.0 w [] (asked_events lines) ([], gains_look v p.0 p.1.0, refl)
+      (passes_add p.0 w lines p.2)
   passes_add v w (Ends ∷ lines) p = absurd p.1
   passes_add v w (Faulty ∷ lines) p = absurd p.1
 
@@ -123,19 +134,25 @@ module _ (enabled : Rule) (answer : Answers) where
   none_so_far v all = record { before = []; split = refl; number = omega arith; passes = passes_nothing v }
 
   -- the first of the lines that are left, and what it asks
-  next_asked : (rest after : List ℕ) (first : List ℕ) → lines_of rest ≡ first ∷ lines_of after → asked_by_script rest ≡ then_asked (asked_by first) (asked_by_script after)
+  next_asked : (rest after : List ℕ) (first : List ℕ) → lines_of rest ≡ first ∷ lines_of after
+      → asked_by_script rest ≡ then_asked (asked_by first) (asked_by_script after)
   unfolding asked_by_lines
   next_asked rest after first e = ap asked_by_lines e
 
-  push : (all before others : List Asked) (a : Asked) → all ≡ before ++ (a ∷ others) → all ≡ (before ++ a ∷ []) ++ others
+  push : (all before others : List Asked) (a : Asked) → all ≡ before ++ (a ∷ others) → all ≡ (before ++ a ∷ [])
+      ++ others
   push all before others a e = e ∙ sym (append_assoc before (a ∷ []) others)
 
   -- one line more was passed
-  pub passes_next : (v u w : Known) (all : List Asked) (rest after first : List ℕ) (line : ℕ) → lines_of rest ≡ first ∷ lines_of after
-      → PassedSoFar v u all (asked_by_script rest) line → PassesLine enabled answer u (asked_by first) w → PassedSoFar v w all (asked_by_script after) (line + 1)
-  passes_next v u w all rest after first line e h p = by_cases (asked_by first) (h.split ∙ ap (λ (l : List Asked). h.before ++ l) (next_asked rest after first e)) p
+  pub passes_next : (v u w : Known) (all : List Asked) (rest after first : List ℕ) (line : ℕ)
+      → lines_of rest ≡ first ∷ lines_of after
+      → PassedSoFar v u all (asked_by_script rest) line → PassesLine enabled answer u (asked_by first) w
+      → PassedSoFar v w all (asked_by_script after) (line + 1)
+  passes_next v u w all rest after first line e h p = by_cases (asked_by first)
+      (h.split ∙ ap (λ (l : List Asked). h.before ++ l) (next_asked rest after first e)) p
     where
-      more : (a : Asked) → all ≡ h.before ++ (a ∷ asked_by_script after) → PassesLine enabled answer u a w → PassedSoFar v w all (asked_by_script after) (line + 1)
+      more : (a : Asked) → all ≡ h.before ++ (a ∷ asked_by_script after) → PassesLine enabled answer u a w
+          → PassedSoFar v w all (asked_by_script after) (line + 1)
       more a s p = record {
         before = h.before ++ a ∷ [];
         split = push all h.before (asked_by_script after) a s;
@@ -143,29 +160,36 @@ module _ (enabled : Rule) (answer : Answers) where
         passes = passes_more v u w h.before a h.passes p;
       }
 
-      by_cases : (a : Asked) → all ≡ h.before ++ then_asked a (asked_by_script after) → PassesLine enabled answer u a w → PassedSoFar v w all (asked_by_script after) (line + 1)
+      by_cases : (a : Asked) → all ≡ h.before ++ then_asked a (asked_by_script after) → PassesLine enabled answer u a w
+          → PassedSoFar v w all (asked_by_script after) (line + 1)
       by_cases (Does x) s p = more (Does x) s p
       by_cases (Awaits x) s p = more (Awaits x) s p
       by_cases Ends s p = absurd p
       by_cases Faulty s p = absurd p
 
-  all_passed : (v w : Known) (all rest : List Asked) (line : ℕ) → PassedSoFar v w all rest line → rest ≡ [] → Passed enabled answer v all w
+  all_passed : (v w : Known) (all rest : List Asked) (line : ℕ) → PassedSoFar v w all rest line → rest ≡ []
+      → Passed enabled answer v all w
   all_passed v w all rest line h e =
       let P : List Asked → Type 0 = λ l. Passed enabled answer v l w in
-      let whole : h.before ≡ all = sym (append-nil h.before) ∙ sym (ap (λ (l : List Asked). h.before ++ l) e) ∙ sym h.split in
+      let whole : h.before ≡ all = sym (append-nil h.before) ∙ sym (ap (λ (l : List Asked). h.before ++ l) e)
+      ∙ sym h.split in
       subst P whole (passed_is v w h.before h.passes)
 
-  pub so_far_gains : (v u w : Known) (all rest : List Asked) (line : ℕ) → PassedSoFar v u all rest line → Looks u w → Gains v (gained v w) w
+  pub so_far_gains : (v u w : Known) (all rest : List Asked) (line : ℕ) → PassedSoFar v u all rest line → Looks u w
+      → Gains v (gained v w) w
   so_far_gains v u w all rest line h l = passed_gains v w h.before (passes_look v u w h.before h.passes l)
 
   -- a line `report`
-  pub reported : (v w : Known) (all : List Asked) (rest after first : List ℕ) (line : ℕ) → lines_of rest ≡ first ∷ lines_of after
+  pub reported : (v w : Known) (all : List Asked) (rest after first : List ℕ) (line : ℕ)
+      → lines_of rest ≡ first ∷ lines_of after
       → PassedSoFar v w all (asked_by_script rest) line → asked_by first ≡ Ends → Passed enabled answer v all w
   reported v w all rest after first line e h r =
-      all_passed v w all (asked_by_script rest) line h (next_asked rest after first e ∙ ap (λ (a : Asked). then_asked a (asked_by_script after)) r)
+      all_passed v w all (asked_by_script rest) line h (next_asked rest after first e
+      ∙ ap (λ (a : Asked). then_asked a (asked_by_script after)) r)
 
   -- the end
-  pub ended : (v w : Known) (all : List Asked) (rest : List ℕ) (line : ℕ) → length rest ≡ 0 → PassedSoFar v w all (asked_by_script rest) line → Passed enabled answer v all w
+  pub ended : (v w : Known) (all : List Asked) (rest : List ℕ) (line : ℕ)
+      → length rest ≡ 0 → PassedSoFar v w all (asked_by_script rest) line → Passed enabled answer v all w
   unfolding asked_by_lines
   ended v w all [] line e h = all_passed v w all [] line h refl
   ended v w all (b ∷ bs) line e h = absurd (omega (arith, e))
@@ -173,14 +197,25 @@ module _ (enabled : Rule) (answer : Answers) where
   -- no memory
   pub out : (v u w : Known) (all rest : List Asked) (line : ℕ) → PassedSoFar v u all rest line → Looks u w
       → (before : List Asked) × (after : List Asked) × (all ≡ before ++ after) × Passed enabled answer v before w
-  out v u w all rest line h l = (h.before, rest, h.split, passed_is v w h.before (passes_look v u w h.before h.passes l))
+  out v u w all rest line h l = (
+    h.before,
+    rest,
+    h.split,
+    passed_is v w h.before
+        (passes_look v u w h.before h.passes l),
+  )
 
   -- a line is refused
-  pub refused : (clients : ℕ) (v u w : Known) (all : List Asked) (rest after first : List ℕ) (line : ℕ) (why : LineFault) → lines_of rest ≡ first ∷ lines_of after
-      → PassedSoFar v u all (asked_by_script rest) line → Looks u w → IsRefused enabled answer clients w.seen (asked_by first) why → RefusedAt enabled answer clients v all line why w
-  refused clients v u w all rest after first line why e h l r = by_cases (asked_by first) why (h.split ∙ ap (λ (t : List Asked). h.before ++ t) (next_asked rest after first e)) r
+  pub refused : (clients : ℕ) (v u w : Known) (all : List Asked) (rest after first : List ℕ) (line : ℕ)
+      (why : LineFault) → lines_of rest ≡ first ∷ lines_of after
+      → PassedSoFar v u all (asked_by_script rest) line → Looks u w
+      → IsRefused enabled answer clients w.seen (asked_by first) why
+      → RefusedAt enabled answer clients v all line why w
+  refused clients v u w all rest after first line why e h l r = by_cases (asked_by first) why
+      (h.split ∙ ap (λ (t : List Asked). h.before ++ t) (next_asked rest after first e)) r
     where
-      at : (a : Asked) (others : List Asked) (why : LineFault) → all ≡ h.before ++ (a ∷ others) → IsRefused enabled answer clients w.seen a why → RefusedAt enabled answer clients v all line why w
+      at : (a : Asked) (others : List Asked) (why : LineFault) → all ≡ h.before ++ (a ∷ others)
+          → IsRefused enabled answer clients w.seen a why → RefusedAt enabled answer clients v all line why w
       at a others why s r = record {
         before = h.before;
         refused = a;
@@ -197,7 +232,8 @@ module _ (enabled : Rule) (answer : Answers) where
       ends fault.Alone r = let e : Ends ≡ Awaits r.0 = r.1 in cc
       ends (fault.NotEnabled x) r = let e : Ends ≡ Does r.0 = r.1 in cc
 
-      by_cases : (a : Asked) (why : LineFault) → all ≡ h.before ++ then_asked a (asked_by_script after) → IsRefused enabled answer clients w.seen a why → RefusedAt enabled answer clients v all line why w
+      by_cases : (a : Asked) (why : LineFault) → all ≡ h.before ++ then_asked a (asked_by_script after)
+          → IsRefused enabled answer clients w.seen a why → RefusedAt enabled answer clients v all line why w
       by_cases (Does x) why s r = at (Does x) (asked_by_script after) why s r
       by_cases (Awaits x) why s r = at (Awaits x) (asked_by_script after) why s r
       by_cases Ends why s r = absurd (ends why r)
@@ -208,7 +244,8 @@ module _ (enabled : Rule) (answer : Answers) where
 pub have_ended_kept : (clients : ℕ) (xs ys : List Event) → IsPrefix xs ys → HaveEnded clients xs → HaveEnded clients ys
 have_ended_kept clients xs ys p h = λ c lt. has_hang_kept xs ys c p (h c lt)
 
-pub have_ended_more : (n : ℕ) (xs ys : List Event) → IsPrefix xs ys → HaveEnded n xs → has_hang ys n ≡ true → HaveEnded (n + 1) ys
+pub have_ended_more : (n : ℕ) (xs ys : List Event) → IsPrefix xs ys → HaveEnded n xs
+    → has_hang ys n ≡ true → HaveEnded (n + 1) ys
 have_ended_more n xs ys p h last = λ c lt. by_cases c lt (cases_eq c n)
   where
     by_cases : (c : ℕ) → c < n + 1 → (c ≡ n) ⊎ (c ≡ n → ⊥) → has_hang ys c ≡ true
@@ -217,4 +254,5 @@ have_ended_more n xs ys p h last = λ c lt. by_cases c lt (cases_eq c n)
 
 -- looking finds a longer journal
 pub looks_further : (v w : Known) → Looks v w → IsPrefix v.seen w.seen
-looks_further v w l = let P : List Event → Type 0 = λ s. IsPrefix v.seen s in subst P (sym (ap (λ (k : Known). k.seen) l.2)) l.1
+looks_further v w l = let P : List Event → Type 0 = λ s. IsPrefix v.seen s in
+    subst P (sym (ap (λ (k : Known). k.seen) l.2)) l.1

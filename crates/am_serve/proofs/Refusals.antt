@@ -15,13 +15,16 @@ not_dialled true e f = cc
 not_dialled false e f = cc
 
 -- what comes of a message that isn't enabled
-pub refused_is : (enabled : Rule) (conn : ℕ) (v w : Known) (m : List ℕ) (msg : TMsg) (reason : Why) → Looks v w → IsPlayed enabled w.seen → t_of m ≡ Ok msg → has_dial w.seen conn ≡ true
-    → enabled w.seen (Msg conn msg) ≡ Some reason → IsMessageWhy w.seen conn (enabled w.seen (Msg conn msg)) → Tries enabled conn v m (sent_for reason) w
+pub refused_is : (enabled : Rule) (conn : ℕ) (v w : Known) (m : List ℕ) (msg : TMsg) (reason : Why) → Looks v w
+    → IsPlayed enabled w.seen → t_of m ≡ Ok msg → has_dial w.seen conn ≡ true
+    → enabled w.seen (Msg conn msg) ≡ Some reason → IsMessageWhy w.seen conn (enabled w.seen (Msg conn msg))
+    → Tries enabled conn v m (sent_for reason) w
 refused_is enabled conn v w m msg reason l played read dialled e law =
     let P : Option Why → Type 0 = λ o. IsMessageWhy w.seen conn o in
     by_cases reason e (subst P e law)
   where
-    by_cases : (reason : Why) → enabled w.seen (Msg conn msg) ≡ Some reason → IsMessageWhy w.seen conn (Some reason) → Tries enabled conn v m (sent_for reason) w
+    by_cases : (reason : Why) → enabled w.seen (Msg conn msg) ≡ Some reason → IsMessageWhy w.seen conn (Some reason)
+        → Tries enabled conn v m (sent_for reason) w
     by_cases why.Conn e h = absurd (not_dialled (has_dial w.seen conn) dialled h)
     by_cases why.Dialed e h = absurd h
     by_cases why.Ended e h = (l, (h, played))

@@ -45,10 +45,11 @@ hung_up v now conn why = record v { seen = now ++ plain (hang_up now conn why); 
 
 -- a connection is ended at one turn, unless it has ended, and whether it was
 abbrev pub HangsUp : Known → ℕ → Ending → Bool → Known → Type 0
-HangsUp v conn why made w = (now : List Event) × IsPrefix v.seen now × (made ≡ not (has_hang now conn)) × (w ≡ hung_up v now conn why)
+HangsUp v conn why made w = (now : List Event) × IsPrefix v.seen now × (made ≡ not (has_hang now conn))
+    × (w ≡ hung_up v now conn why)
 
--- The entries that a seat has gained are some of this kind, and then the one that ended the connection with this cause. There is no such
--- entry where another has ended it.
+-- The entries that a seat has gained are some of this kind, and then the one that ended the connection with this cause.
+-- There is no such entry where another has ended it.
 abbrev pub EndsWith : (List (ℕ × Event) → Type 0) → ℕ → Ending → Known → Known → Type 0
 EndsWith kind conn why v w =
     (entries : List (ℕ × Event)) × (now : List Event) × kind entries

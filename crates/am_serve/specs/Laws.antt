@@ -21,5 +21,6 @@ LiesInStream ending.NoMemory = ⊥
 abbrev pub NextDecides : Type 0
 NextDecides =
     (enabled : Rule) (conn : ℕ) (journal : List Event) (given : List (List ℕ)) (stream : Stream) (why other : Ending)
-    → LiesInStream why → EndsAfter enabled conn journal given stream why → EndsAfter enabled conn journal given stream other
+    → LiesInStream why → EndsAfter enabled conn journal given stream why
+    → EndsAfter enabled conn journal given stream other
     → (other ≡ why) ⊎ (other ≡ ending.NoMemory)

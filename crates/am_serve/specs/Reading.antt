@@ -1,5 +1,6 @@
 -- What a side that reads messages does.
-use Rattle.std.specs.Prelude.{◌≡◌, ◌≢◌, ◌⊎◌, ℕ, ◌+◌, ◌≤◌, ◌==◌, true, false, List, [], ◌∷◌, ◌++◌, length, Option, Some, None, Ok, Err, if◌then◌else◌}
+use Rattle.std.specs.Prelude.{◌≡◌, ◌≢◌, ◌⊎◌, ℕ, ◌+◌, ◌≤◌, ◌==◌, true, false, List, [], ◌∷◌, ◌++◌, length, Option, Some}
+use Rattle.std.specs.Prelude.{None, Ok, Err, if◌then◌else◌}
 use Rattle.std.specs.List.{concat, flat_map, AllByRecursion}
 use Rattle.am_base.specs.Outside.{then_told}
 use Rattle.am_base.specs.Stops.{piece_limit}
@@ -49,7 +50,8 @@ spelling_of (event.Dir path) = []
 abbrev pub spellings : List (ℕ × Event) → List (List ℕ)
 spellings entries = flat_map (λ x. spelling_of x.1) entries
 
--- Behind its messages stands the hang-up with the cause that a side answered, where no other stood; with none it made no hang-up.
+-- Behind its messages stands the hang-up with the cause that a side answered, where no other stood; with none it made
+-- no hang-up.
 abbrev pub AreRead : ℕ → Option Ending → Known → Known → Type 0
 AreRead conn None v w = AreMessages conn (gained v w)
 AreRead conn (Some why) v w =
@@ -80,7 +82,8 @@ messages_of journal conn = flat_map (spelled_on conn) journal
 -- these messages stand among all, in their order
 abbrev pub StandAmong : List (List ℕ) → List (List ℕ) → Type 0
 StandAmong [] all = Unit {0}
-StandAmong (m ∷ messages) all = (before : List (List ℕ)) × (after : List (List ℕ)) × (all ≡ before ++ m ∷ after) × StandAmong messages after
+StandAmong (m ∷ messages) all = (before : List (List ℕ)) × (after : List (List ℕ)) × (all ≡ before ++ m ∷ after)
+    × StandAmong messages after
 
 -- What was seen begins with a journal that has all messages that were given, and no hang-up of the connection.
 pub record IsTurn (conn : ℕ) (seen : List Event) (given : List (List ℕ)) (journal : List Event) : Type 0 where
@@ -105,7 +108,8 @@ IsDue given stream m = IsNext given stream.messages m × (fits_budget (given ++ 
 -- the next message isn't enabled after a journal, for this reason
 abbrev pub NextRefused : Rule → ℕ → List Event → List (List ℕ) → Stream → Why → Type 0
 NextRefused enabled conn journal given stream reason =
-    (m : List ℕ) × (msg : TMsg) × IsDue given stream m × (t_of m ≡ Ok msg) × (enabled journal (event.Msg conn msg) ≡ Some reason)
+    (m : List ℕ) × (msg : TMsg) × IsDue given stream m × (t_of m ≡ Ok msg)
+    × (enabled journal (event.Msg conn msg) ≡ Some reason)
 
 -- the next message has this fault
 abbrev pub NextFaulty : List (List ℕ) → Stream → WireFault → Type 0
@@ -117,30 +121,34 @@ SizeFaulty given stream = (size : ℕ) × (given ≡ stream.messages) × (cut_of
 
 -- what is wrong behind the messages that were given
 abbrev pub IsBroken : Rule → ℕ → List Event → List (List ℕ) → Stream → Bad → Type 0
-IsBroken enabled conn journal given stream (bad.Wire f) = NextFaulty given stream f ⊎ ((f ≡ wire.Size) × SizeFaulty given stream)
+IsBroken enabled conn journal given stream (bad.Wire f) = NextFaulty given stream f
+    ⊎ ((f ≡ wire.Size) × SizeFaulty given stream)
 IsBroken enabled conn journal given stream bad.Size = NextRefused enabled conn journal given stream why.Size
 IsBroken enabled conn journal given stream bad.Tag = NextRefused enabled conn journal given stream why.Tag
 
--- Why a stream that was read ends a connection after a journal, behind the messages that were given. What stands next decides: where it is
--- beyond the budget or broken, no other cause is left but want of memory.
+-- Why a stream that was read ends a connection after a journal, behind the messages that were given. What stands next
+-- decides: where it is beyond the budget or broken, no other cause is left but want of memory.
 abbrev pub EndsAfter : Rule → ℕ → List Event → List (List ℕ) → Stream → Ending → Type 0
 EndsAfter enabled conn journal given stream ending.End = (given ≡ stream.messages) × (stream.rest ≡ [])
-EndsAfter enabled conn journal given stream ending.Torn = (given ≡ stream.messages) × (cut_of stream.rest ≡ More) × (stream.rest ≢ [])
+EndsAfter enabled conn journal given stream ending.Torn = (given ≡ stream.messages) × (cut_of stream.rest ≡ More)
+    × (stream.rest ≢ [])
 EndsAfter enabled conn journal given stream ending.ReadFault = (given ≡ stream.messages) × (cut_of stream.rest ≡ More)
 EndsAfter enabled conn journal given stream (ending.Broken b) = IsBroken enabled conn journal given stream b
-EndsAfter enabled conn journal given stream ending.Spent = (m : List ℕ) × IsNext given stream.messages m × (fits_budget (given ++ m ∷ []) ≡ false)
+EndsAfter enabled conn journal given stream ending.Spent = (m : List ℕ) × IsNext given stream.messages m
+    × (fits_budget (given ++ m ∷ []) ≡ false)
 EndsAfter enabled conn journal given stream ending.Gone = ⊥
 EndsAfter enabled conn journal given stream ending.NoMemory = AreFront given stream.messages
 
 -- Which messages of a stream that was read were given, and what is left of it, with each answer.
 abbrev pub Gives : Rule → ℕ → List Event → List (List ℕ) → Stream → Option Ending → Type 0
 Gives enabled conn seen given stream None = AreFront given stream.messages
-Gives enabled conn seen given stream (Some why) = (journal : List Event) × IsTurn conn seen given journal × EndsAfter enabled conn journal given stream why
+Gives enabled conn seen given stream (Some why) = (journal : List Event) × IsTurn conn seen given journal
+    × EndsAfter enabled conn journal given stream why
 
 -- ---- room
 
--- At a turn the connection had room for a reply, and all messages of these bytes had come: what was seen begins with the journal of that
--- turn.
+-- At a turn the connection had room for a reply, and all messages of these bytes had come: what was seen begins with
+-- the journal of that turn.
 pub record HadRoom (answer : Answers) (conn : ℕ) (seen : List Event) (bytes : List ℕ) : Type 0 where
   pub journal : List Event
   pub front : IsPrefix journal seen
@@ -150,7 +158,8 @@ pub record HadRoom (answer : Answers) (conn : ℕ) (seen : List Event) (bytes : 
 -- behind these bytes pieces were read, one after another, none longer than one read gives, and each once there was room
 abbrev pub HadRoomEach : Answers → ℕ → List Event → List ℕ → List (List ℕ) → Type 0
 HadRoomEach answer conn seen before [] = Unit {0}
-HadRoomEach answer conn seen before (piece ∷ pieces) = (length piece ≤ piece_limit) × HadRoom answer conn seen before × HadRoomEach answer conn seen (before ++ piece) pieces
+HadRoomEach answer conn seen before (piece ∷ pieces) = (length piece ≤ piece_limit) × HadRoom answer conn seen before
+    × HadRoomEach answer conn seen (before ++ piece) pieces
 
 -- a cause that a read itself tells: it was made, and gave no piece
 abbrev pub IsOfRead : Option Ending → Type 0
@@ -163,16 +172,20 @@ IsOfRead (Some ending.Spent) = ⊥
 IsOfRead (Some ending.Gone) = ⊥
 IsOfRead (Some ending.NoMemory) = ⊥
 
--- Reading was held while there was no room: bytes were read in pieces, each once there was room, and so was the last read made.
-pub record ReadWithRoom (answer : Answers) (conn : ℕ) (seen : List Event) (bytes : List ℕ) (read : Option Ending) : Type 0 where
+-- Reading was held while there was no room: bytes were read in pieces, each once there was room, and so was the last
+-- read made.
+pub record ReadWithRoom (answer : Answers) (conn : ℕ) (seen : List Event) (bytes : List ℕ) (read : Option Ending) : Type
+    0 where
   pub pieces : List (List ℕ)
   pub are : bytes ≡ concat pieces
   pub each : HadRoomEach answer conn seen [] pieces
   pub last : IsOfRead read → HadRoom answer conn seen bytes
 
--- Bytes were read from a source, and reading was held while there was no room. Of the bytes these messages were given, no more than the
--- budget has.
-abbrev pub GivesOf : Rule → Answers → ℕ → List Event → List (List ℕ) → Option (List ℕ) → Option (List ℕ) → Option Ending → Type 0
+-- Bytes were read from a source, and reading was held while there was no room. Of the bytes these messages were given,
+-- no more than the budget has.
+abbrev pub GivesOf : Rule → Answers → ℕ → List Event → List (List ℕ) → Option (List ℕ) → Option (List ℕ) → Option Ending
+    → Type 0
 GivesOf enabled answer conn seen given first now read =
-    (bytes : List ℕ) × (first ≡ then_told bytes now) × (fits_budget given ≡ true) × Gives enabled conn seen given (cut_stream bytes) read
+    (bytes : List ℕ) × (first ≡ then_told bytes now) × (fits_budget given ≡ true)
+    × Gives enabled conn seen given (cut_stream bytes) read
     × ReadWithRoom answer conn seen bytes read

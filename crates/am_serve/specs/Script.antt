@@ -1,5 +1,6 @@
 -- What the lines of a script ask, and what is done of it.
-use Rattle.std.specs.Prelude.{◌≡◌, ℕ, ◌+◌, ◌<◌, Bool, true, false, List, [], ◌∷◌, ◌++◌, length, Option, Some, None, if◌then◌else◌, codes}
+use Rattle.std.specs.Prelude.{◌≡◌, ℕ, ◌+◌, ◌<◌, Bool, true, false, List, [], ◌∷◌, ◌++◌, length, Option, Some, None}
+use Rattle.std.specs.Prelude.{if◌then◌else◌, codes}
 use Rattle.am_text.specs.Lines.{lines_of}
 use Rattle.am_journal.specs.declared.event.Event.{Event}
 use Rattle.am_journal.specs.declared.event.Event.TheVariants as event
@@ -52,7 +53,8 @@ awaits_or (Some rest) others = asks_window (window_at rest)
 
 -- what a line asks: a line `report` ends the script
 abbrev pub asked_by : List ℕ → Asked
-asked_by line = if is_report line then Ends else awaits_or (after_front (codes "await ") line) (asks_event (event_of line))
+asked_by line = if is_report line then Ends else awaits_or (after_front (codes "await ") line)
+    (asks_event (event_of line))
 
 -- an event that a line asks for is lawful
 abbrev pub DoesLawful : Asked → Type 0
@@ -101,10 +103,12 @@ PassesLine enabled answer v (Awaits x) w = Looks v w × (answer w.seen (EventOpe
 PassesLine enabled answer v Ends w = ⊥
 PassesLine enabled answer v Faulty w = ⊥
 
--- Lines are passed one after another. What the seat knows between two of them has the entries of the earlier lines and of none later.
+-- Lines are passed one after another. What the seat knows between two of them has the entries of the earlier lines and
+-- of none later.
 unfoldable pub Passes : Rule → Answers → Known → List Asked → Known → Type 0
 Passes enabled answer v [] w = Looks v w
-Passes enabled answer v (a ∷ others) w = (u : Known) × PassesLine enabled answer v a u × Passes enabled answer u others w
+Passes enabled answer v (a ∷ others) w = (u : Known) × PassesLine enabled answer v a u
+    × Passes enabled answer u others w
 
 -- lines are passed, and the seat has gained their events
 pub record Passed (enabled : Rule) (answer : Answers) (v : Known) (lines : List Asked) (w : Known) : Type 0 where
@@ -118,11 +122,14 @@ HaveEnded clients journal = (c : ℕ) → c < clients → has_hang journal c ≡
 -- why a line isn't passed, over a journal
 abbrev pub IsRefused : Rule → Answers → ℕ → List Event → Asked → LineFault → Type 0
 IsRefused enabled answer clients journal a fault.Line = a ≡ Faulty
-IsRefused enabled answer clients journal a fault.Alone = (w : ℕ) × (a ≡ Awaits w) × (answer journal (EventOpen w) ≡ false) × HaveEnded clients journal
-IsRefused enabled answer clients journal a (fault.NotEnabled why) = (e : Event) × (a ≡ Does e) × (enabled journal e ≡ Some why)
+IsRefused enabled answer clients journal a fault.Alone = (w : ℕ) × (a ≡ Awaits w)
+    × (answer journal (EventOpen w) ≡ false) × HaveEnded clients journal
+IsRefused enabled answer clients journal a (fault.NotEnabled why) = (e : Event) × (a ≡ Does e)
+    × (enabled journal e ≡ Some why)
 
 -- the lines before a numbered one were passed, and that one is refused
-pub record RefusedAt (enabled : Rule) (answer : Answers) (clients : ℕ) (v : Known) (lines : List Asked) (line : ℕ) (why : LineFault) (w : Known) : Type 0 where
+pub record RefusedAt (enabled : Rule) (answer : Answers) (clients : ℕ) (v : Known) (lines : List Asked) (line : ℕ)
+    (why : LineFault) (w : Known) : Type 0 where
   pub before : List Asked
   pub refused : Asked
   pub after : List Asked
@@ -135,4 +142,5 @@ pub record RefusedAt (enabled : Rule) (answer : Answers) (clients : ℕ) (v : Kn
 abbrev pub EndsScript : Rule → Answers → ℕ → Known → List Asked → ScriptEnd → Known → Type 0
 EndsScript enabled answer clients v lines end.Done w = Passed enabled answer v lines w
 EndsScript enabled answer clients v lines (end.Refused line why) w = RefusedAt enabled answer clients v lines line why w
-EndsScript enabled answer clients v lines end.NoMemory w = (before : List Asked) × (after : List Asked) × (lines ≡ before ++ after) × Passed enabled answer v before w
+EndsScript enabled answer clients v lines end.NoMemory w = (before : List Asked) × (after : List Asked)
+    × (lines ≡ before ++ after) × Passed enabled answer v before w

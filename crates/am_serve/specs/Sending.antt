@@ -90,7 +90,8 @@ sent_for why.Tree = sent.Stops stop.Ended
 
 -- ---- one piece
 
--- why reading a piece ends the connection, by what is seen of the source and by the bytes that were left of what was read before
+-- why reading a piece ends the connection, by what is seen of the source and by the bytes that were left of what was
+-- read before
 abbrev pub EndsIn : Seen → List ℕ → Ending → Type 0
 EndsIn s left ending.End = (s.now.bytes ≡ s.before.bytes) × AreTold s.now.bytes [] × (left ≡ [])
 EndsIn s left ending.Torn = (s.now.bytes ≡ s.before.bytes) × AreTold s.now.bytes [] × (left ≢ [])
@@ -98,11 +99,13 @@ EndsIn s left ending.ReadFault = (s.now.bytes ≡ s.before.bytes) × HasRisen s.
 EndsIn s left (ending.Broken b) = ⊥
 EndsIn s left ending.Spent = ⊥
 EndsIn s left ending.Gone = ⊥
-EndsIn s left ending.NoMemory = (piece : List ℕ) × (length piece ≤ piece_limit) × (s.before.bytes ≡ then_told piece s.now.bytes)
+EndsIn s left ending.NoMemory = (piece : List ℕ) × (length piece ≤ piece_limit)
+    × (s.before.bytes ≡ then_told piece s.now.bytes)
 
 -- a piece was read and fed to a cutter that had these bytes
 abbrev pub IsFed : Option (List ℕ) → Option (List ℕ) → List ℕ → List ℕ → Type 0
-IsFed told told_now left left_now = (piece : List ℕ) × (length piece ≤ piece_limit) × (told ≡ then_told piece told_now) × (left_now ≡ left ++ piece)
+IsFed told told_now left left_now = (piece : List ℕ) × (length piece ≤ piece_limit) × (told ≡ then_told piece told_now)
+    × (left_now ≡ left ++ piece)
 
 -- why reading stops at a piece, which is read once there is room
 abbrev pub StopsIn : Rule → Answers → ℕ → List Event → Seen → List ℕ → Stop → Type 0
@@ -111,9 +114,10 @@ StopsIn enabled answer conn seen s left (stop.Ends cause) = EndsIn s left cause 
 
 -- ---- all so far
 
--- Messages were given of the bytes that were read, these bytes of them are left, and this of the budget. Reading was held while there was
--- no room.
-pub record ReadSoFar (answer : Answers) (conn : ℕ) (v w : Known) (left : List ℕ) (b : Budget) (first now : Option (List ℕ)) : Type 0 where
+-- Messages were given of the bytes that were read, these bytes of them are left, and this of the budget. Reading was
+-- held while there was no room.
+pub record ReadSoFar (answer : Answers) (conn : ℕ) (v w : Known) (left : List ℕ) (b : Budget)
+    (first now : Option (List ℕ)) : Type 0 where
   pub entries : List (ℕ × Event)
   pub gains : Gains v entries w
   pub messages : AreMessages conn entries
@@ -136,7 +140,8 @@ cause_of stop.Ended = None
 cause_of (stop.Ends cause) = Some cause
 
 -- The same, and then reading stopped.
-pub record ReadUntil (enabled : Rule) (answer : Answers) (conn : ℕ) (v w : Known) (s : Stop) (first now : Option (List ℕ)) : Type 0 where
+pub record ReadUntil (enabled : Rule) (answer : Answers) (conn : ℕ) (v w : Known) (s : Stop)
+    (first now : Option (List ℕ)) : Type 0 where
   pub entries : List (ℕ × Event)
   pub gains : Gains v entries w
   pub messages : AreMessages conn entries

@@ -46,7 +46,8 @@ Gets end.Gone old bytes new = PutsFront old bytes new
 Gets end.NoMemory old bytes new = new ≡ told_then old bytes
 
 -- the replies were taken that these entries took, and the sink got their bytes
-pub record Wrote (unsent : List Event → ℕ → List ℕ) (conn : ℕ) (v w : Known) (end : WriteEnd) (old new : Option (List ℕ)) : Type 0 where
+pub record Wrote (unsent : List Event → ℕ → List ℕ) (conn : ℕ) (v w : Known) (end : WriteEnd)
+    (old new : Option (List ℕ)) : Type 0 where
   pub entries : List (ℕ × Event)
   pub gains : Gains v entries w
   pub takings : AreTakings conn entries

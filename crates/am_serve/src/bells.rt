@@ -25,8 +25,8 @@ struct Pair {
     writing: Start,
 }
 
-/// A bell for each side of each connection, and one for a script. A side waits for its own alone, so an entry wakes those sides alone for
-/// which it did something. That a ring is heard is not claimed.
+/// A bell for each side of each connection, and one for a script. A side waits for its own alone, so an entry wakes
+/// those sides alone for which it did something. That a ring is heard is not claimed.
 #[derive(Drop)]
 pub struct Bells {
     connections: Vec<Pair>,
@@ -75,7 +75,8 @@ impl Bells {
         self.scripting.begin()
     }
 
-    /// Waits for the script for a while. If it hasn't begun then, no thread could be made for it, and it is too late for it.
+    /// Waits for the script for a while. If it hasn't begun then, no thread could be made for it, and it is too late
+    /// for it.
     pub fn await_script(&self) {
         let _begun = self.scripting.has_begun();
     }
@@ -112,15 +113,16 @@ impl Bells {
         self.script.ring();
     }
 
-    /// Whether a side has told that a connection has ended. It asks without a turn; only the journal says so for certain.
+    /// Whether a side has told that a connection has ended. It asks without a turn; only the journal says so for
+    /// certain.
     pub fn is_over(&self, conn: u32) -> bool
         requires { conn < connection_count }
     {
         self.connections[conn as usize].over.load(Ordering::SeqCst)
     }
 
-    /// Sleeps until replies were made to a connection, or it has ended, since the number `seen`, and answers the number that it found
-    /// then. The first number is 0.
+    /// Sleeps until replies were made to a connection, or it has ended, since the number `seen`, and answers the number
+    /// that it found then. The first number is 0.
     pub fn wait_for_replies<R: Wait>(&self, rt: &R, conn: u32, seen: u64) -> u64
         requires { conn < connection_count }
         ensures { result ≢ seen }

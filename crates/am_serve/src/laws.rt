@@ -2,7 +2,8 @@
 
 ghost use Rattle.am_serve.specs.Laws.{NextDecides};
 
-/// What stands next in the stream decides: where it is beyond the budget or broken, no other cause is left but want of memory.
+/// What stands next in the stream decides: where it is beyond the budget or broken, no other cause is left but want of
+/// memory.
 pub fn what_stands_next_decides()
     ensures { NextDecides }
 {}

@@ -37,11 +37,13 @@ fn read_messages<C: Counter, S: Source, R: Wait>(
     requires conn { at.now.conn < connection_count }
     requires dialled { has_dial (C.known seat.old).seen at.now.conn ≡ true }
     ensures fits { C.fits at.now.desk.now seat.new }
-    ensures reads { ReadUntil C.enabled C.answer at.now.conn (C.known seat.old) (C.known seat.new) result (S.told source.old).bytes (S.told source.new).bytes }
+    ensures reads { ReadUntil C.enabled C.answer at.now.conn (C.known seat.old) (C.known seat.new) result
+        (S.told source.old).bytes (S.told source.new).bytes }
     ensures ended { result ≡ stop.Ended → HasEnded C.enabled at.now.conn (C.known seat.new).seen }
     ensures end { result ≡ stop.Ends ending.End → AreTold (S.told source.new).bytes [] }
     ensures torn { result ≡ stop.Ends ending.Torn → AreTold (S.told source.new).bytes [] }
-    ensures fault { result ≡ stop.Ends ending.ReadFault → HasRisen (S.told source.old).faults (S.told source.new).faults }
+    ensures fault { result ≡ stop.Ends ending.ReadFault → HasRisen (S.told source.old).faults
+        (S.told source.new).faults }
     ensures later { (S.told source.old).faults ≤ (S.told source.new).faults }
 {
     // No reply would ever be written.
@@ -79,11 +81,13 @@ fn read_messages<C: Counter, S: Source, R: Wait>(
     unreachable!()
 }
 
-/// Cuts a source into messages and submits each, until something ends the connection, and answers the cause of the hang-up that it
-/// makes then, or `None` where the connection had ended. It holds reading, and waits for its bell, while the connection has no room for a
-/// reply. It rings for the sides that its entries did something for, once for the messages of a piece. The causes: `End` and `Torn` at the
-/// end of the source, between two messages or inside one, `ReadFault` where the source fails, `Spent` where the next message would be the 1,000,001st, or would bring the bytes of all above
-/// 67,108,864, `Broken` where the next message can't be read, is above the connection's msize or has a tag that waits, in this order, and
+/// Cuts a source into messages and submits each, until something ends the connection, and answers the cause of the
+/// hang-up that it makes then, or `None` where the connection had ended. It holds reading, and waits for its bell,
+/// while the connection has no room for a reply. It rings for the sides that its entries did something for, once for
+/// the messages of a piece. The causes: `End` and `Torn` at the end of the source, between two messages or inside one,
+/// `ReadFault` where the source fails, `Spent` where the next message would be the 1,000,001st, or would bring the
+/// bytes of all above 67,108,864, `Broken` where the next message can't be read, is above the connection's msize or has
+/// a tag that waits, in this order, and
 /// `NoMemory`, also where no thread could be made for the side that writes. It ends its source.
 pub fn read_side<C: Counter, S: Source, R: Wait>(
     rt: &R,
@@ -100,7 +104,8 @@ pub fn read_side<C: Counter, S: Source, R: Wait>(
     ensures gains { Gains (C.known seat.old) (gained (C.known seat.old) (C.known seat.new)) (C.known seat.new) }
     ensures entries { AreRead at.now.conn result (C.known seat.old) (C.known seat.new) }
     // Its messages are those of the bytes that were read, each piece of which was read once there was room.
-    ensures gives { GivesOf C.enabled C.answer at.now.conn (C.known seat.new).seen (spellings (gained (C.known seat.old) (C.known seat.new)))
+    ensures gives { GivesOf C.enabled C.answer at.now.conn (C.known seat.new).seen
+        (spellings (gained (C.known seat.old) (C.known seat.new)))
         (S.told source.old).bytes (S.told source.new).bytes result }
     ensures ended { has_hang (C.known seat.new).seen at.now.conn ≡ true }
     ensures end { result ≡ Some ending.End → AreTold (S.told source.new).bytes [] }

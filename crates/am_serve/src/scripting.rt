@@ -117,7 +117,8 @@ fn do_line<C: Counter, R: Wait>(
     requires fits { C.fits script.now.desk.now seat.old }
     requires clients { script.now.clients ≤ connection_count }
     ensures fits { C.fits script.now.desk.now seat.new }
-    ensures does { DoesLine C.enabled C.answer script.now.clients (C.known seat.old) (asked_by line.now) result (C.known seat.new) }
+    ensures does { DoesLine C.enabled C.answer script.now.clients (C.known seat.old) (asked_by line.now) result
+        (C.known seat.new) }
 {
     match asked_by(alloc, line) {
         Ok(Asked::Does(event)) => submit(rt, script, seat, event),
@@ -134,10 +135,11 @@ fn do_line<C: Counter, R: Wait>(
     }
 }
 
-/// Does the lines of a script, one after another, up to a line `report` or the end. These are the lines of a transcript but `dial`,
-/// `msg`, `hang` and `took`, and `await W` beside them, which waits until window W's event file is open. It is alone where that
-/// isn't open and all of the first `clients` connections have ended. It rings for
-/// the connections that its entries replied to. None is done where the connections have begun without it, for want of a thread.
+/// Does the lines of a script, one after another, up to a line `report` or the end. These are the lines of a transcript
+/// but `dial`,
+/// `msg`, `hang` and `took`, and `await W` beside them, which waits until window W's event file is open. It is alone
+/// where that isn't open and all of the first `clients` connections have ended. It rings for the connections that its
+/// entries replied to. None is done where the connections have begun without it, for want of a thread.
 pub fn script_side<C: Counter, R: Wait>(
     rt: &R,
     alloc: Global,
@@ -148,7 +150,8 @@ pub fn script_side<C: Counter, R: Wait>(
     requires clients { script.now.clients ≤ connection_count }
     ensures fits { C.fits script.now.desk.now seat.new }
     ensures gains { Gains (C.known seat.old) (gained (C.known seat.old) (C.known seat.new)) (C.known seat.new) }
-    ensures ends { EndsScript C.enabled C.answer script.now.clients (C.known seat.old) (asked_by_script script.now.lines.now) result (C.known seat.new) }
+    ensures ends { EndsScript C.enabled C.answer script.now.clients (C.known seat.old)
+        (asked_by_script script.now.lines.now) result (C.known seat.new) }
 {
     if !script.bells.begin_script() {
         return ScriptEnd::NoMemory;

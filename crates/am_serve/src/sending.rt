@@ -38,8 +38,9 @@ pub(crate) enum Sent {
     Stops(Stop),
 }
 
-/// Waits until a message may come on a connection, and answers whether one may, or the connection has ended. Each question gives up the
-/// turn that the seat may have kept behind messages. Only then does it ring for what is due, so that who wakes finds the turn free.
+/// Waits until a message may come on a connection, and answers whether one may, or the connection has ended. Each
+/// question gives up the turn that the seat may have kept behind messages. Only then does it ring for what is due, so
+/// that who wakes finds the turn free.
 pub(crate) fn wait_for_room<C: Counter, R: Wait>(
     rt: &R,
     at: &Station<'_, C>,
@@ -129,7 +130,8 @@ pub(crate) fn send_message<C: Counter, R: Wait>(
     requires message { IsMessage message.now }
     ensures fits { C.fits at.now.desk.now seat.new }
     ensures ok { OnOk result (Sends C.enabled at.now.conn (C.known seat.old) message.now (C.known seat.new)) }
-    ensures err { IfErr result (λ stop. Keeps C.enabled at.now.conn (C.known seat.old) message.now stop (C.known seat.new)) }
+    ensures err { IfErr result (λ stop. Keeps C.enabled at.now.conn (C.known seat.old) message.now stop
+        (C.known seat.new)) }
 {
     for _ in rt.forever() {
         match try_message(rt, alloc, at, seat, due, message) {

@@ -10,11 +10,12 @@ const BEGUN: u64 = 1;
 
 const GIVEN_UP: u64 = 2;
 
-// How often the other lets threads run before it gives a side up: for some tens of milliseconds at least, and for longer where many run.
+// How often the other lets threads run before it gives a side up: for some tens of milliseconds at least, and for
+// longer where many run.
 const PATIENCE: u32 = 200000;
 
-/// The start of a side that runs beside another. Where no thread can be made for it, it comes only once the other has ended; so the other
-/// doesn't wait for it for good, but gives it up.
+/// The start of a side that runs beside another. Where no thread can be made for it, it comes only once the other has
+/// ended; so the other doesn't wait for it for good, but gives it up.
 #[derive(Drop)]
 pub(crate) struct Start {
     state: AtomicU64,

@@ -10,7 +10,8 @@ pub struct Station<'a, C> {
     pub conn: u32,
 }
 
-/// A script that is done beside connections: the journal that all sides share, their bells, its lines, and how many clients there are.
+/// A script that is done beside connections: the journal that all sides share, their bells, its lines, and how many
+/// clients there are.
 #[derive(Drop)]
 pub struct Script<'a, C> {
     pub desk: &'a C,

@@ -40,8 +40,10 @@ fn write_replies<C: Counter, K: Sink, R: Wait>(
     requires conn { at.now.conn < connection_count }
     ensures fits { C.fits at.now.desk.now seat.new }
     ensures played { result ≡ end.Ended → IsPlayed C.enabled (C.known seat.new).seen }
-    ensures wrote { Wrote C.unsent at.now.conn (C.known seat.old) (C.known seat.new) result (K.told sink.old).bytes (K.told sink.new).bytes }
-    ensures ended { result ≡ end.Ended → (has_hang (C.known seat.new).seen at.now.conn ≡ true) × (C.unsent (C.known seat.new).seen at.now.conn ≡ []) }
+    ensures wrote { Wrote C.unsent at.now.conn (C.known seat.old) (C.known seat.new) result (K.told sink.old).bytes
+        (K.told sink.new).bytes }
+    ensures ended { result ≡ end.Ended → (has_hang (C.known seat.new).seen at.now.conn ≡ true)
+        × (C.unsent (C.known seat.new).seen at.now.conn ≡ []) }
     ensures later { (K.told sink.old).faults ≤ (K.told sink.new).faults }
     ensures gone { result ≡ end.Gone → HasRisen (K.told sink.old).faults (K.told sink.new).faults }
 {
@@ -67,9 +69,9 @@ fn write_replies<C: Counter, K: Sink, R: Wait>(
     unreachable!()
 }
 
-/// Takes the replies of a connection and writes them, until it has ended and none is left. Where the sink fails, or memory runs
-/// out, it ends the connection, unless that has ended. It rings where it has taken replies, and where it has ended the connection, and waits
-/// for its bell where there is no reply yet. It ends its sink last.
+/// Takes the replies of a connection and writes them, until it has ended and none is left. Where the sink fails, or
+/// memory runs out, it ends the connection, unless that has ended. It rings where it has taken replies, and where it
+/// has ended the connection, and waits for its bell where there is no reply yet. It ends its sink last.
 pub fn write_side<C: Counter, K: Sink, R: Wait>(
     rt: &R,
     alloc: Global,

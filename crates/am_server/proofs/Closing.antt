@@ -1,5 +1,6 @@
 -- From what came of the slots to what serving says.
-use Rattle.std.proofs.Common.{◌≡◌, ◌⊎◌, inl, inr, ℕ, ◌≤◌, Bool, true, false, List, [], ◌∷◌, ◌++◌, ◌∙◌, length, refl, sym, ap, subst, arith}
+use Rattle.std.proofs.Common.{◌≡◌, ◌⊎◌, inl, inr, ℕ, ◌≤◌, Bool, true, false, List, [], ◌∷◌, ◌++◌, ◌∙◌, length, refl}
+use Rattle.std.proofs.Common.{sym, ap, subst, arith}
 use Rattle.std.specs.Prelude.{◌<◌, IfSome, Result, Ok, Err, is_err, OnOk, OnErr}
 use Rattle.std.specs.List.{AllByRecursion}
 use Rattle.turn_lock.specs.Journal.{AllStand}
@@ -38,11 +39,13 @@ lawful_from before [] p = tt
 lawful_from before (e ∷ events) p = (p.0, lawful_from (before ++ e ∷ []) events p.2)
 
 -- events that were played are lawful
-pub lawful_played : (seen journal : List Event) → journal ≡ seen → IsPlayed enabled seen → AllByRecursion IsLawful journal
+pub lawful_played : (seen journal : List Event) → journal ≡ seen → IsPlayed enabled seen
+    → AllByRecursion IsLawful journal
 lawful_played seen journal is p = subst (λ (l : List Event). AllByRecursion IsLawful l) (sym is) (lawful_from [] seen p)
 
 -- what an output got of a text, by what writing it answered
-got : {T E : Type 0} (o : Seen) (text whole : List ℕ) (r : Result T E) → text ≡ whole → OnOk r (IsWhole o text) → OnErr r (PutsFront o.before.bytes text o.now.bytes) → HasCause o.before.faults o.now.faults r
+got : {T E : Type 0} (o : Seen) (text whole : List ℕ) (r : Result T E) → text ≡ whole → OnOk r (IsWhole o text)
+    → OnErr r (PutsFront o.before.bytes text o.now.bytes) → HasCause o.before.faults o.now.faults r
     → ((is_err r ≡ false) × IsWhole o whole) ⊎ ((is_err r ≡ true) × IsCut o whole)
 got o text whole (Ok x) is ok err cause = inl (refl, subst (IsWhole o) is ok)
 got o text whole (Err e) is ok err cause = inr (
@@ -53,7 +56,8 @@ got o text whole (Err e) is ok err cause = inr (
   },
 )
 
-pub put_one : {T E : Type 0} (o : Seen) (text whole : List ℕ) (r : Result T E) → text ≡ whole → OnOk r (IsWhole o text) → OnErr r (PutsFront o.before.bytes text o.now.bytes) → HasCause o.before.faults o.now.faults r
+pub put_one : {T E : Type 0} (o : Seen) (text whole : List ℕ) (r : Result T E) → text ≡ whole → OnOk r (IsWhole o text)
+    → OnErr r (PutsFront o.before.bytes text o.now.bytes) → HasCause o.before.faults o.now.faults r
     → IsPut o whole
 put_one o text whole r is ok err cause = by_cases (got o text whole r is ok err cause)
   where
@@ -63,18 +67,26 @@ put_one o text whole r is ok err cause = by_cases (got o text whole r is ok err 
 
 module _ {G L S K : Type 0} where
   -- the slots of one seat, which has all entries at the end
-  pub served_lines : (law : EndedGetAllReplies) (joins : JoinsPieces) (breaks : CutsNoMore) (m : Outside G L S K) (path : List ℕ) (clients : ℕ) (lines : List ℕ) (h : HostSeen) (o : Seen) (slots : List (Slot G L S K)) (script : ScriptEnd) (w : Known)
+  pub served_lines : (law : EndedGetAllReplies) (joins : JoinsPieces) (breaks : CutsNoMore) (m : Outside G L S K)
+      (path : List ℕ) (clients : ℕ) (lines : List ℕ) (h : HostSeen) (o : Seen) (slots : List (Slot G L S K))
+      (script : ScriptEnd) (w : Known)
       (core journal : List Event) (served : List (Served G L S K)) (e : ServeEnd)
-      → length slots ≡ clients → clients ≤ 64 → IsPlayed enabled w.seen → AllByRecursion IsInRange w.seen → AllStand w.seen (lists_of w) → EachOnce w → KeepsOrder w.seen (lists_of w)
-      → ServesAll m enabled output_at answer_at clients lines slots script w → EachTells m path 0 slots → HasRisenBy (unbound slots) h.before.faults h.now.faults → HasGiven clients (unbound slots) h.before.given h.now.given
+      → length slots ≡ clients → clients ≤ 64 → IsPlayed enabled w.seen → AllByRecursion IsInRange w.seen
+      → AllStand w.seen (lists_of w) → EachOnce w → KeepsOrder w.seen (lists_of w)
+      → ServesAll m enabled output_at answer_at clients lines slots script w → EachTells m path 0 slots
+      → HasRisenBy (unbound slots) h.before.faults h.now.faults
+      → HasGiven clients (unbound slots) h.before.given h.now.given
       → core ≡ w.seen → journal ≡ core → served ≡ served_from core 0 slots → Writes core slots script o e
       → ServesLines m path clients lines h o journal served e
-  served_lines law joins breaks m path clients lines h o slots script w core journal served e count few played ranged own once order serves tells risen given same is told writes =
+  served_lines law joins breaks m path clients lines h o slots script w core journal served e count few played ranged
+      own once order serves tells risen given same is told writes =
       let now_played : IsPlayed enabled journal = subst (IsPlayed enabled) (sym (is ∙ same)) played in
       let run : IsRun m enabled output_at answer_at clients lines journal slots script =
       subst (λ (l : List Event). IsRun m enabled output_at answer_at clients lines l slots script) (sym (is ∙ same))
-      (ran m enabled output_at answer_at tells_connections clients lines slots script w played own once order count few serves) in
-      let now_told : served ≡ served_from journal 0 slots = told ∙ ap (λ (l : List Event). served_from l 0 slots) (sym is) in
+      (ran m enabled output_at answer_at tells_connections clients lines slots script w played own once order count few
+      serves) in
+      let now_told : served ≡ served_from journal 0 slots = told ∙ ap (λ (l : List Event). served_from l 0 slots)
+      (sym is) in
       inl record {
         slots = slots;
         done = script;
@@ -88,21 +100,29 @@ module _ {G L S K : Type 0} where
         told = now_told;
         writes = subst (λ (l : List Event). Writes l slots script o e) (sym is) writes;
         replied = λ well. subst (λ (l : List (Served G L S K)). AllByRecursion (GotAll m journal) l) (sym now_told)
-            (got_all m journal law now_played path 0 slots (omega (arith, count, few)) run.each tells (wrote_well core slots script o e writes well));
-        sound = subst (λ (l : List (Served G L S K)). AllByRecursion (EndsWell m journal) l) (sym now_told) (sound_all joins breaks m journal path 0 slots run.each tells);
+            (got_all m journal law now_played path 0 slots (omega (arith, count, few)) run.each tells
+            (wrote_well core slots script o e writes well));
+        sound = subst (λ (l : List (Served G L S K)). AllByRecursion (EndsWell m journal) l) (sym now_told)
+            (sound_all joins breaks m journal path 0 slots run.each tells);
       }
 
-  pub says_lines : (m : Outside G L S K) (path : List ℕ) (clients : ℕ) (i : Given) (o : Seen) (journal : List Event) (served : List (Served G L S K)) (e : ServeEnd) (lines : List ℕ)
-      → AreTold i.input.before.bytes lines → length lines ≤ input_limit → ServesLines m path clients lines i.host o journal served e
+  pub says_lines : (m : Outside G L S K) (path : List ℕ) (clients : ℕ) (i : Given) (o : Seen) (journal : List Event)
+      (served : List (Served G L S K)) (e : ServeEnd) (lines : List ℕ)
+      → AreTold i.input.before.bytes lines → length lines ≤ input_limit
+      → ServesLines m path clients lines i.host o journal served e
       → SaysServe m path clients i o journal served e
   says_lines m path clients i o journal served e lines told fits (inl s) = inr (inr (inr (lines, told, fits, s)))
   says_lines m path clients i o journal served e lines told fits (inr t) = inr (inr (inl t))
 
-  pub says_long : (m : Outside G L S K) (path : List ℕ) (clients : ℕ) (i : Given) (o : Seen) (journal : List Event) (served : List (Served G L S K)) (e : ServeEnd)
-      → IfSome i.input.before.bytes (λ bytes. input_limit < length bytes) → IsTooLong o journal served e → SaysServe m path clients i o journal served e
+  pub says_long : (m : Outside G L S K) (path : List ℕ) (clients : ℕ) (i : Given) (o : Seen) (journal : List Event)
+      (served : List (Served G L S K)) (e : ServeEnd)
+      → IfSome i.input.before.bytes (λ bytes. input_limit < length bytes) → IsTooLong o journal served e
+      → SaysServe m path clients i o journal served e
   says_long m path clients i o journal served e long t = inr (inl (long, t))
 
   -- slots that were served are told of
-  pub none_told : (journal : List Event) (n : ℕ) (slots : List (Slot G L S K)) (served : List (Served G L S K)) → served ≡ served_from journal n slots → 1 ≤ length slots → served ≡ [] → ⊥
+  pub none_told : (journal : List Event) (n : ℕ) (slots : List (Slot G L S K)) (served : List (Served G L S K))
+      → served ≡ served_from journal n slots → 1 ≤ length slots → served ≡ [] → ⊥
   none_told journal n [] served is some none = absurd (omega (arith, some))
-  none_told journal n (s ∷ slots) served is some none = let same : served_from journal n (s ∷ slots) ≡ [] = sym is ∙ none in absurd cc
+  none_told journal n (s ∷ slots) served is some none = let same : served_from journal n (s ∷ slots) ≡ [] = sym is
+      ∙ none in absurd cc

@@ -1,5 +1,6 @@
 -- Texts that are put a piece at a time.
-use Rattle.std.proofs.Common.{◌≡◌, inl, inr, ℕ, ◌+◌, ◌<◌, ◌≤◌, List, [], ◌∷◌, ◌++◌, length, take, drop, get_or, refl, sym, ap, subst, ◌∙◌, append_assoc, arith, if◌then◌else◌}
+use Rattle.std.proofs.Common.{◌≡◌, inl, inr, ℕ, ◌+◌, ◌<◌, ◌≤◌, List, [], ◌∷◌, ◌++◌, length, take, drop, get_or, refl}
+use Rattle.std.proofs.Common.{sym, ap, subst, ◌∙◌, append_assoc, arith, if◌then◌else◌}
 use Rattle.std.specs.List.{flat_map}
 use Rattle.std.proofs.lemmas.List.{append-nil, take_more, length-take-le, take-append-drop}
 use Rattle.std.proofs.lemmas.Grind.{flat_map-append}
@@ -25,23 +26,32 @@ whole_still : (a b c : BytesTold) (x : List ℕ) → IsWhole (seen a b) x → Is
 whole_still a b c x p q = subst (λ (l : List ℕ). IsWhole (seen a c) l) (append-nil x) (whole_then a b c x [] p q)
 
 -- one piece more was put
-pub whole_more : (a b c : BytesTold) (front piece now : List ℕ) → now ≡ front ++ piece → IsWhole (seen a b) front → IsWhole (seen b c) piece → IsWhole (seen a c) now
-whole_more a b c front piece now is p q = subst (λ (l : List ℕ). IsWhole (seen a c) l) (sym is) (whole_then a b c front piece p q)
+pub whole_more : (a b c : BytesTold) (front piece now : List ℕ) → now ≡ front ++ piece → IsWhole (seen a b) front
+    → IsWhole (seen b c) piece → IsWhole (seen a c) now
+whole_more a b c front piece now is p q = subst (λ (l : List ℕ). IsWhole (seen a c) l) (sym is)
+    (whole_then a b c front piece p q)
 
 -- one piece more stops
-pub stops_more : (s : Stop) (a b c : BytesTold) (fronts : ℕ → List ℕ) (k : ℕ) (piece rest whole : List ℕ) → fronts (k + 1) ≡ fronts k ++ piece → whole ≡ fronts (k + 1) ++ rest
-    → IsWhole (seen a b) (fronts k) → a.faults ≤ b.faults → StopsIn s (seen b c) piece (λ _. []) → StopsIn s (seen a c) whole fronts
+pub stops_more : (s : Stop) (a b c : BytesTold) (fronts : ℕ → List ℕ) (k : ℕ) (piece rest whole : List ℕ)
+    → fronts (k + 1) ≡ fronts k ++ piece → whole ≡ fronts (k + 1) ++ rest
+    → IsWhole (seen a b) (fronts k) → a.faults ≤ b.faults → StopsIn s (seen b c) piece (λ _. [])
+    → StopsIn s (seen a c) whole fronts
 stops_more stop.Failed a b c fronts k piece rest whole is all p le q =
-    subst (λ (l : List ℕ). IsCut (seen a c) l) (sym (all ∙ ap (λ (l : List ℕ). l ++ rest) is)) (cut_longer a c (fronts k ++ piece) rest (cut_then a b c (fronts k) piece p le q))
+    subst (λ (l : List ℕ). IsCut (seen a c) l) (sym (all ∙ ap (λ (l : List ℕ). l ++ rest) is))
+    (cut_longer a c (fronts k ++ piece) rest (cut_then a b c (fronts k) piece p le q))
 stops_more stop.NoMemory a b c fronts k piece rest whole is all p le q = (k, whole_still a b c (fronts k) p q.1)
 
 -- ---- the journal
 
-pub journal_more : (journal : List Event) (k : ℕ) (e : Event) → k < length journal → e ≡ get_or journal k e → journal_text (take (k + 1) journal) ≡ journal_text (take k journal) ++ ended_line e
-journal_more journal k e lt is = flat_map-more ended_line journal k e lt ∙ ap (λ (x : Event). journal_text (take k journal) ++ ended_line x) (sym is)
+pub journal_more : (journal : List Event) (k : ℕ) (e : Event) → k < length journal → e ≡ get_or journal k e
+    → journal_text (take (k + 1) journal) ≡ journal_text (take k journal) ++ ended_line e
+journal_more journal k e lt is = flat_map-more ended_line journal k e lt
+    ∙ ap (λ (x : Event). journal_text (take k journal) ++ ended_line x) (sym is)
 
-pub journal_split : (journal : List Event) (k : ℕ) → journal_text journal ≡ journal_text (take k journal) ++ journal_text (drop k journal)
-journal_split journal k = ap (flat_map ended_line) (sym (take-append-drop k journal)) ∙ flat_map-append ended_line (take k journal) (drop k journal)
+pub journal_split : (journal : List Event) (k : ℕ) → journal_text journal ≡ journal_text (take k journal)
+    ++ journal_text (drop k journal)
+journal_split journal k = ap (flat_map ended_line) (sym (take-append-drop k journal))
+    ∙ flat_map-append ended_line (take k journal) (drop k journal)
 
 module _ {G L S K : Type 0} where
   -- ---- the lines of slots
@@ -49,7 +59,8 @@ module _ {G L S K : Type 0} where
   abbrev pub host_one : ℕ → Slot G L S K → List ℕ
   host_one n s = if has_failed s then host_line n else []
 
-  host-append : (n : ℕ) (xs ys : List (Slot G L S K)) → host_text n (xs ++ ys) ≡ host_text n xs ++ host_text (n + length xs) ys
+  host-append : (n : ℕ) (xs ys : List (Slot G L S K)) → host_text n (xs ++ ys) ≡ host_text n xs
+      ++ host_text (n + length xs) ys
   host-append n [] ys = let same : n ≡ n + 0 = omega arith in ap (λ (k : ℕ). host_text k ys) same
   host-append n (x ∷ xs) ys =
       let next : n + 1 + length xs ≡ n + length (x ∷ xs) = omega arith in
@@ -57,7 +68,8 @@ module _ {G L S K : Type 0} where
       ∙ sym (append_assoc (host_one n x) (host_text (n + 1) xs) (host_text (n + 1 + length xs) ys))
       ∙ ap (λ (k : ℕ). (host_one n x ++ host_text (n + 1) xs) ++ host_text k ys) next
 
-  pub hosts_more : (slots : List (Slot G L S K)) (k n : ℕ) (s : Slot G L S K) → n ≡ k → k < length slots → s ≡ get_or slots k s → host_text 0 (take (k + 1) slots) ≡ host_text 0 (take k slots) ++ host_one n s
+  pub hosts_more : (slots : List (Slot G L S K)) (k n : ℕ) (s : Slot G L S K) → n ≡ k → k < length slots
+      → s ≡ get_or slots k s → host_text 0 (take (k + 1) slots) ≡ host_text 0 (take k slots) ++ host_one n s
   hosts_more slots k n s same lt is =
       let taken : 0 + length (take k slots) ≡ n = omega (arith, same, length-take-le k slots (omega (arith, lt))) in
       ap (λ (l : List (Slot G L S K)). host_text 0 l) (take_more slots k s lt)
@@ -66,8 +78,10 @@ module _ {G L S K : Type 0} where
       ∙ ap (λ (x : Slot G L S K). host_text 0 (take k slots) ++ host_text n (x ∷ [])) (sym is)
       ∙ ap (λ (l : List ℕ). host_text 0 (take k slots) ++ l) (append-nil (host_one n s))
 
-  pub hosts_split : (slots : List (Slot G L S K)) (k : ℕ) → host_text 0 slots ≡ host_text 0 (take k slots) ++ host_text (0 + length (take k slots)) (drop k slots)
-  hosts_split slots k = ap (λ (l : List (Slot G L S K)). host_text 0 l) (sym (take-append-drop k slots)) ∙ host-append 0 (take k slots) (drop k slots)
+  pub hosts_split : (slots : List (Slot G L S K)) (k : ℕ) → host_text 0 slots ≡ host_text 0 (take k slots)
+      ++ host_text (0 + length (take k slots)) (drop k slots)
+  hosts_split slots k = ap (λ (l : List (Slot G L S K)). host_text 0 l) (sym (take-append-drop k slots))
+      ∙ host-append 0 (take k slots) (drop k slots)
 
   -- ---- the whole text
 
@@ -84,29 +98,39 @@ module _ {G L S K : Type 0} where
     abbrev F : List ℕ
     F = refusal_text end
 
-    pub stops_in_journal : (a b : BytesTold) → StopsIn s (seen a b) J (λ n. journal_text (take n journal)) → StopsAt s (seen a b) journal slots end
+    pub stops_in_journal : (a b : BytesTold) → StopsIn s (seen a b) J (λ n. journal_text (take n journal))
+        → StopsAt s (seen a b) journal slots end
     stops_in_journal a b = by_case s
       where
-        by_case : (x : Stop) → StopsIn x (seen a b) J (λ n. journal_text (take n journal)) → StopsAt x (seen a b) journal slots end
+        by_case : (x : Stop) → StopsIn x (seen a b) J (λ n. journal_text (take n journal))
+            → StopsAt x (seen a b) journal slots end
         by_case stop.Failed p = cut_longer a b (J ++ R ++ H) F (cut_longer a b (J ++ R) H (cut_longer a b J R p))
         by_case stop.NoMemory p = inl p
 
-    pub stops_in_report : (a b c : BytesTold) → IsWhole (seen a b) J → a.faults ≤ b.faults → StopsIn s (seen b c) R (λ _. []) → StopsAt s (seen a c) journal slots end
+    pub stops_in_report : (a b c : BytesTold) → IsWhole (seen a b) J → a.faults ≤ b.faults
+        → StopsIn s (seen b c) R (λ _. []) → StopsAt s (seen a c) journal slots end
     stops_in_report a b c put le = by_case s
       where
         by_case : (x : Stop) → StopsIn x (seen b c) R (λ _. []) → StopsAt x (seen a c) journal slots end
         by_case stop.Failed p = cut_longer a c (J ++ R ++ H) F (cut_longer a c (J ++ R) H (cut_then a b c J R put le p))
         by_case stop.NoMemory p =
-            inl (length journal, subst (λ (l : List Event). IsWhole (seen a c) (journal_text l)) (sym (take-length journal)) (whole_still a b c J put p.1))
+            inl (
+              length journal,
+              subst (λ (l : List Event). IsWhole (seen a c) (journal_text l))
+                  (sym (take-length journal)) (whole_still a b c J put p.1),
+            )
 
-    pub stops_in_hosts : (a b c : BytesTold) → IsWhole (seen a b) (J ++ R) → a.faults ≤ b.faults → StopsIn s (seen b c) H (λ n. host_text 0 (take n slots)) → StopsAt s (seen a c) journal slots end
+    pub stops_in_hosts : (a b c : BytesTold) → IsWhole (seen a b) (J ++ R) → a.faults ≤ b.faults
+        → StopsIn s (seen b c) H (λ n. host_text 0 (take n slots)) → StopsAt s (seen a c) journal slots end
     stops_in_hosts a b c put le = by_case s
       where
-        by_case : (x : Stop) → StopsIn x (seen b c) H (λ n. host_text 0 (take n slots)) → StopsAt x (seen a c) journal slots end
+        by_case : (x : Stop) → StopsIn x (seen b c) H (λ n. host_text 0 (take n slots))
+            → StopsAt x (seen a c) journal slots end
         by_case stop.Failed p = cut_longer a c (J ++ R ++ H) F (cut_then a b c (J ++ R) H put le p)
         by_case stop.NoMemory p = inr (p.0, whole_then a b c (J ++ R) (host_text 0 (take p.0 slots)) put p.1)
 
-    pub stops_in_refusal : (a b c : BytesTold) → IsWhole (seen a b) (J ++ R ++ H) → a.faults ≤ b.faults → StopsIn s (seen b c) F (λ _. []) → StopsAt s (seen a c) journal slots end
+    pub stops_in_refusal : (a b c : BytesTold) → IsWhole (seen a b) (J ++ R ++ H) → a.faults ≤ b.faults
+        → StopsIn s (seen b c) F (λ _. []) → StopsAt s (seen a c) journal slots end
     stops_in_refusal a b c put le = by_case s
       where
         by_case : (x : Stop) → StopsIn x (seen b c) F (λ _. []) → StopsAt x (seen a c) journal slots end
@@ -114,5 +138,6 @@ module _ {G L S K : Type 0} where
         by_case stop.NoMemory p =
             inr (
               length slots,
-              subst (λ (l : List (Slot G L S K)). IsWhole (seen a c) (J ++ R ++ host_text 0 l)) (sym (take-length slots)) (whole_still a b c (J ++ R ++ H) put p.1),
+              subst (λ (l : List (Slot G L S K)). IsWhole (seen a c) (J ++ R ++ host_text 0 l))
+                  (sym (take-length slots)) (whole_still a b c (J ++ R ++ H) put p.1),
             )

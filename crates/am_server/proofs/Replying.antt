@@ -1,5 +1,6 @@
 -- Each sink that has not failed got all replies, where memory ran out for nothing that no hang-up tells of.
-use Rattle.std.proofs.Common.{◌≡◌, ◌≢◌, inl, inr, ℕ, ◌+◌, ◌<◌, ◌≤◌, Bool, true, false, cond, List, [], ◌∷◌, ◌++◌, ◌∙◌, length, Option, Some, None, refl, sym, ap, subst, arith}
+use Rattle.std.proofs.Common.{◌≡◌, ◌≢◌, inl, inr, ℕ, ◌+◌, ◌<◌, ◌≤◌, Bool, true, false, cond, List, [], ◌∷◌, ◌++◌, ◌∙◌}
+use Rattle.std.proofs.Common.{length, Option, Some, None, refl, sym, ap, subst, arith}
 use Rattle.std.specs.Prelude.{◌||◌}
 use Rattle.std.specs.List.{list_any, AllByRecursion}
 use Rattle.am_base.specs.Outside.{AreTold, HasRisen, told_then}
@@ -32,17 +33,21 @@ use Rattle.am_server.specs.declared.writing.ServeEnd.{ServeEnd}
 use Rattle.am_server.specs.declared.writing.ServeEnd.TheVariants as end
 
 -- what a sink holds that began empty
-told_whole : (held empty : Option (List ℕ)) (bytes : List ℕ) → AreTold empty [] → held ≡ told_then empty bytes → AreTold held bytes
+told_whole : (held empty : Option (List ℕ)) (bytes : List ℕ) → AreTold empty [] → held ≡ told_then empty bytes
+    → AreTold held bytes
 told_whole held None bytes none is = subst (λ (h : Option (List ℕ)). AreTold h bytes) (sym is) tt
-told_whole held (Some before) bytes none is = subst (λ (h : Option (List ℕ)). AreTold h bytes) (sym is) (ap (λ (l : List ℕ). l ++ bytes) none)
+told_whole held (Some before) bytes none is = subst (λ (h : Option (List ℕ)). AreTold h bytes) (sym is)
+    (ap (λ (l : List ℕ). l ++ bytes) none)
 
 pub risen_above : (n : ℕ) → HasRisen 0 n → n ≡ 0 → ⊥
 risen_above n (inl lt) z = absurd (omega (arith, lt, z))
 risen_above n (inr le) z = absurd (omega (arith, le, z))
 
 -- the one cause of a connection's hang-ups is the one that is told
-pub cause_told : (causes : List Ending) (cause why : Ending) → causes ≡ cause ∷ [] → ended_with (first_of causes) ≡ served.Ended why → cause ≡ why
-cause_told causes cause why one is = let same : served.Ended cause ≡ served.Ended why = ap (λ (l : List Ending). ended_with (first_of l)) (sym one) ∙ is in cc
+pub cause_told : (causes : List Ending) (cause why : Ending) → causes ≡ cause ∷ []
+    → ended_with (first_of causes) ≡ served.Ended why → cause ≡ why
+cause_told causes cause why one is = let same : served.Ended cause ≡ served.Ended why =
+    ap (λ (l : List Ending). ended_with (first_of l)) (sym one) ∙ is in cc
 
 for_memory : (why : Ending) → ended_otherwise (Some why) ≡ false → why ≡ ending.NoMemory
 for_memory ending.End h = absurd cc
@@ -59,19 +64,26 @@ neither false b h = (refl, h)
 
 -- ---- one slot
 
-module _ {G L S K : Type 0} (m : Outside G L S K) (journal : List Event) (law : EndedGetAllReplies) (played : IsPlayed enabled journal) where
+module _ {G L S K : Type 0} (m : Outside G L S K) (journal : List Event) (law : EndedGetAllReplies)
+    (played : IsPlayed enabled journal) where
   got_served : (n : ℕ) (x : Objects G L S K) (read : Option Ending) (wrote : WriteEnd) (why : Ending) → n < 64
-      → IsServed enabled output_at answer_at journal n (m.link x.link).begins (m.reader x.reader).bytes read wrote (m.writer x.writer).bytes → Tells m (slot.Served x read wrote)
-      → wants_untold (slot.Served x read wrote) ≡ false → IsCause read wrote why → why ≢ ending.NoMemory → (m.writer x.writer).faults ≡ 0
+      → IsServed enabled output_at answer_at journal n (m.link x.link).begins (m.reader x.reader).bytes read wrote
+      (m.writer x.writer).bytes → Tells m (slot.Served x read wrote)
+      → wants_untold (slot.Served x read wrote) ≡ false → IsCause read wrote why → why ≢ ending.NoMemory
+      → (m.writer x.writer).faults ≡ 0
       → AreTold (m.writer x.writer).bytes (replies journal n)
   got_served n x read write.Ended why low is tells told caused other fine =
       let d = is.drained refl in
-      told_whole (m.writer x.writer).bytes is.empty (replies journal n) is.begins_empty (is.gets ∙ ap (told_then is.empty) (law d.0 journal n low played d.1 d.2 d.3))
-  got_served n x read write.Gone why low is tells told caused other fine = absurd (risen_above (m.writer x.writer).faults (tells.3 refl) fine)
+      told_whole (m.writer x.writer).bytes is.empty (replies journal n) is.begins_empty
+      (is.gets ∙ ap (told_then is.empty) (law d.0 journal n low played d.1 d.2 d.3))
+  got_served n x read write.Gone why low is tells told caused other fine =
+      absurd (risen_above (m.writer x.writer).faults (tells.3 refl) fine)
   got_served n x None write.NoMemory why low is tells told caused other fine = absurd (other caused)
-  got_served n x (Some read) write.NoMemory why low is tells told caused other fine = absurd (other (caused ∙ for_memory read told))
+  got_served n x (Some read) write.NoMemory why low is tells told caused other fine =
+      absurd (other (caused ∙ for_memory read told))
 
-  got_one : (n : ℕ) (s : Slot G L S K) → n < 64 → IsOf m enabled output_at answer_at journal n s → Tells m s → wants_untold s ≡ false → GotAll m journal (served_of journal n s)
+  got_one : (n : ℕ) (s : Slot G L S K) → n < 64 → IsOf m enabled output_at answer_at journal n s → Tells m s
+      → wants_untold s ≡ false → GotAll m journal (served_of journal n s)
   got_one n slot.Unbound low is tells told = λ why sink ended other there fine. absurd cc
   got_one n (slot.Bound gate) low is tells told = absurd tells
   got_one n (slot.Unlinked gate) low is tells told = λ why sink ended other there fine. absurd cc
@@ -86,12 +98,16 @@ module _ {G L S K : Type 0} (m : Outside G L S K) (journal : List Event) (law : 
 
   -- ---- all slots
 
-  pub got_all : (path : List ℕ) (n : ℕ) (slots : List (Slot G L S K)) → n + length slots ≤ 64 → EachIs m enabled output_at answer_at journal n slots → EachTells m path n slots
+  pub got_all : (path : List ℕ) (n : ℕ) (slots : List (Slot G L S K)) → n + length slots ≤ 64
+      → EachIs m enabled output_at answer_at journal n slots → EachTells m path n slots
       → list_any wants_untold slots ≡ false → AllByRecursion (GotAll m journal) (served_from journal n slots)
   got_all path n [] few is tells none = tt
   got_all path n (s ∷ slots) few is tells none =
-      let both = neither (wants_untold s) (list_any wants_untold slots) none in
-      (got_one n s (omega (arith, few)) is.0 tells.1 both.0, got_all path (n + 1) slots (omega (arith, few)) is.1 tells.2 both.1)
+      let both = neither (wants_untold s) (list_any wants_untold slots) none in (
+        got_one n s (omega (arith, few)) is.0 tells.1 both.0,
+        got_all path (n + 1) slots (omega (arith, few)) is.1
+            tells.2 both.1,
+      )
 
 -- ---- how serving ended
 
@@ -101,12 +117,15 @@ done_well false true failed h = absurd h
 done_well false false failed h = refl
 
 module _ {G L S K : Type 0} (journal : List Event) (slots : List (Slot G L S K)) where
-  well_at : (done : ScriptEnd) (failed : Bool) → AllDone (end_at slots done failed) → list_any wants_untold slots ≡ false
+  well_at : (done : ScriptEnd) (failed : Bool) → AllDone (end_at slots done failed)
+      → list_any wants_untold slots ≡ false
   well_at (script.Refused line why) failed h = absurd h
-  well_at script.NoMemory failed h = let never : true ≡ false = done_well (list_any has_failed slots) true failed h in absurd cc
+  well_at script.NoMemory failed h = let never : true ≡ false = done_well (list_any has_failed slots) true failed h in
+      absurd cc
   well_at script.Done failed h = done_well (list_any has_failed slots) (list_any wants_untold slots) failed h
 
-  pub wrote_well : (done : ScriptEnd) (o : Seen) (e : ServeEnd) → Writes journal slots done o e → AllDone e → list_any wants_untold slots ≡ false
+  pub wrote_well : (done : ScriptEnd) (o : Seen) (e : ServeEnd) → Writes journal slots done o e → AllDone e
+      → list_any wants_untold slots ≡ false
   wrote_well done o e (inl w) h = well_at done false (subst AllDone w.0 h)
   wrote_well done o e (inr (inl w)) h = well_at done true (subst AllDone w.0 h)
   wrote_well done o e (inr (inr w)) h = absurd (subst AllDone w.0 h)

@@ -1,5 +1,7 @@
 -- A connection with sound objects ends with the end of its source, or for want of memory.
-use Rattle.std.proofs.Common.{◌≡◌, ◌≢◌, ◌⊎◌, inl, inr, ℕ, ◌+◌, ◌<◌, ◌≤◌, Bool, true, false, ◌&&◌, List, [], ◌∷◌, ◌++◌, ◌∙◌, length, Option, Some, None, Result, Ok, Err, refl, sym, ap, subst, ⊎_elim, arith, append_assoc}
+use Rattle.std.proofs.Common.{◌≡◌, ◌≢◌, ◌⊎◌, inl, inr, ℕ, ◌+◌, ◌<◌, ◌≤◌, Bool, true, false, ◌&&◌, List, [], ◌∷◌, ◌++◌}
+use Rattle.std.proofs.Common.{◌∙◌, length, Option, Some, None, Result, Ok, Err, refl, sym, ap, subst, ⊎_elim, arith}
+use Rattle.std.proofs.Common.{append_assoc}
 use Rattle.std.specs.Prelude.{nat_le}
 use Rattle.std.specs.List.{AllByRecursion, concat}
 use Rattle.std.proofs.lemmas.Bool.{le-leb, leb-true}
@@ -28,7 +30,8 @@ use Rattle.am_counter.specs.Played.{IsPrefix, has_hang}
 use Rattle.acme_core.specs.Asks.{answer_at}
 use Rattle.acme_core.specs.Run.{enabled, output_at}
 use Rattle.am_serve.specs.Budget.{message_limit, byte_limit, fits_budget}
-use Rattle.am_serve.specs.Reading.{messages_of, spelled_on, StandAmong, IsNext, NextFaulty, NextRefused, SizeFaulty, IsBroken, EndsAfter}
+use Rattle.am_serve.specs.Reading.{messages_of, spelled_on, StandAmong, IsNext, NextFaulty, NextRefused, SizeFaulty}
+use Rattle.am_serve.specs.Reading.{IsBroken, EndsAfter}
 use Rattle.am_serve.specs.declared.writing.WriteEnd.{WriteEnd}
 use Rattle.am_serve.specs.declared.writing.WriteEnd.TheVariants as write
 use Rattle.am_slots.specs.Connection.{endings_of}
@@ -52,13 +55,20 @@ stand_among_more [] ys h = omega arith
 stand_among_more (x ∷ xs) ys h = omega (arith, ap length h.2, length-append h.0 (x ∷ h.1), stand_among_more xs h.1 h.3)
 
 -- a beginning of the journal that has all messages of a connection has no others of it
-just_these : (journal before : List Event) (conn : ℕ) → IsPrefix before journal → StandAmong (messages_of journal conn) (messages_of before conn)
+just_these : (journal before : List Event) (conn : ℕ) → IsPrefix before journal
+    → StandAmong (messages_of journal conn) (messages_of before conn)
     → messages_of before conn ≡ messages_of journal conn
 just_these journal before conn p stand =
     let front = messages_of before conn in
     let rest = messages_of p.0 conn in
-    let whole : messages_of journal conn ≡ front ++ rest = ap (λ (l : List Event). messages_of l conn) (sym p.1) ∙ flat_map-append (spelled_on conn) before p.0 in
-    let none : rest ≡ [] = nothing_in rest (omega (arith, ap length whole, length-append front rest, stand_among_more (messages_of journal conn) front stand)) in
+    let whole : messages_of journal conn ≡ front ++ rest = ap (λ (l : List Event). messages_of l conn) (sym p.1)
+    ∙ flat_map-append (spelled_on conn) before p.0 in
+    let none : rest ≡ [] = nothing_in rest (omega (
+      arith,
+      ap length whole,
+      length-append front rest,
+      stand_among_more (messages_of journal conn) front stand,
+    )) in
     sym (whole ∙ ap (λ (l : List (List ℕ)). front ++ l) none ∙ append-nil front)
 
 both : (a b : Bool) → a ≡ true → b ≡ true → (a && b) ≡ true
@@ -73,12 +83,18 @@ both_pass false b e = absurd cc
 -- some of the messages are within the limits where all are
 front_fits : (xs ys : List (List ℕ)) → fits_budget (xs ++ ys) ≡ true → fits_budget xs ≡ true
 front_fits xs ys fits =
-    let h = both_pass (nat_le (length (xs ++ ys)) message_limit) (nat_le (length (concat (xs ++ ys))) byte_limit) fits in
+    let h = both_pass (nat_le (length (xs ++ ys)) message_limit) (nat_le (length (concat (xs ++ ys))) byte_limit)
+    fits in
     let few : length (xs ++ ys) ≤ message_limit = leb-true (length (xs ++ ys)) message_limit h.0 in
     let small : length (concat (xs ++ ys)) ≤ byte_limit = leb-true (length (concat (xs ++ ys))) byte_limit h.1 in
     both _ _
     (le-leb (length xs) message_limit (omega (arith, few, length-append xs ys)))
-    (le-leb (length (concat xs)) byte_limit (omega (arith, small, ap length (concat-append xs ys), length-append (concat xs) (concat ys))))
+    (le-leb (length (concat xs)) byte_limit (omega (
+      arith,
+      small,
+      ap length (concat-append xs ys),
+      length-append (concat xs) (concat ys),
+    )))
 
 -- ---- what bytes spell
 
@@ -92,15 +108,21 @@ one_message (Err x) a b p q = absurd cc
 
 -- ---- a piece of a stream of whole messages
 
-module _ (joins : JoinsPieces) (breaks : CutsNoMore) (journal : List Event) (conn : ℕ) (piece more : List ℕ) (whole : (cut_stream (piece ++ more)).rest ≡ [])
-    (fits : fits_budget (cut_stream (piece ++ more)).messages ≡ true) (may : MayCome journal conn (cut_stream (piece ++ more)).messages) where
+module _ (joins : JoinsPieces) (breaks : CutsNoMore) (journal : List Event) (conn : ℕ) (piece more : List ℕ)
+    (whole : (cut_stream (piece ++ more)).rest ≡ [])
+    (fits : fits_budget (cut_stream (piece ++ more)).messages ≡ true)
+    (may : MayCome journal conn (cut_stream (piece ++ more)).messages) where
   others : List (List ℕ)
   others = (cut_stream ((cut_stream piece).rest ++ more)).messages
 
-  next_of_all : (given : List (List ℕ)) (m : List ℕ) → IsNext given (cut_stream piece).messages m → IsNext given (cut_stream (piece ++ more)).messages m
+  next_of_all : (given : List (List ℕ)) (m : List ℕ) → IsNext given (cut_stream piece).messages m
+      → IsNext given (cut_stream (piece ++ more)).messages m
   unfolding others
-  next_of_all given m n =
-      (n.0 ++ others, ap (λ (s : Stream). s.messages) (joins piece more) ∙ ap (λ (l : List (List ℕ)). l ++ others) n.1 ∙ append_assoc given (m ∷ n.0) others)
+  next_of_all given m n = (
+    n.0 ++ others,
+    ap (λ (s : Stream). s.messages) (joins piece more) ∙ ap (λ (l : List (List ℕ)). l ++ others) n.1
+        ∙ append_assoc given (m ∷ n.0) others,
+  )
 
   not_faulty : (given : List (List ℕ)) (f : WireFault) → NextFaulty given (cut_stream piece) f → ⊥
   not_faulty given f n =
@@ -110,7 +132,8 @@ module _ (joins : JoinsPieces) (breaks : CutsNoMore) (journal : List Event) (con
 
   not_size : (given : List (List ℕ)) → SizeFaulty given (cut_stream piece) → ⊥
   not_size given n =
-      let stays : (cut_stream piece).rest ++ more ≡ [] = sym (ap (λ (s : Stream). s.rest) (breaks piece more n.0 n.2)) ∙ whole in
+      let stays : (cut_stream piece).rest ++ more ≡ [] = sym (ap (λ (s : Stream). s.rest) (breaks piece more n.0 n.2))
+      ∙ whole in
       let none : (cut_stream piece).rest ≡ [] = front_of_none (cut_stream piece).rest more stays in
       let same : More ≡ Broken n.0 = sym (at_few [] (omega arith)) ∙ ap cut_of (sym none) ∙ n.2 in
       cc
@@ -120,29 +143,40 @@ module _ (joins : JoinsPieces) (breaks : CutsNoMore) (journal : List Event) (con
       front_of_none (x ∷ xs) ys e = absurd cc
 
   module _ (before : List Event) (front : IsPrefix before journal) (goes_on : has_hang before conn ≡ false) where
-    in_turn : (given : List (List ℕ)) (reason : Why) → messages_of before conn ≡ given → NextRefused enabled conn before given (cut_stream piece) reason
+    in_turn : (given : List (List ℕ)) (reason : Why) → messages_of before conn ≡ given → NextRefused enabled conn before
+        given (cut_stream piece) reason
         → (msg : TMsg) × IsInTurn before conn msg × (enabled before (Msg conn msg) ≡ Some reason)
     in_turn given reason exact n =
         let next = next_of_all given n.0 n.2.0 in
-        let read = may given next.0 n.0 next.1 in
-        (n.1, subst (λ (x : TMsg). IsInTurn before conn x) (one_message (t_of n.0) read.0 n.1 read.1 n.3) (read.2 before front exact goes_on), n.4)
+        let read = may given next.0 n.0 next.1 in (
+          n.1,
+          subst (λ (x : TMsg). IsInTurn before conn x) (one_message (t_of n.0) read.0 n.1 read.1 n.3)
+              (read.2 before front exact goes_on),
+          n.4,
+        )
 
-    not_spent : (given : List (List ℕ)) (m : List ℕ) → IsNext given (cut_stream piece).messages m → fits_budget (given ++ m ∷ []) ≡ false → ⊥
+    not_spent : (given : List (List ℕ)) (m : List ℕ) → IsNext given (cut_stream piece).messages m
+        → fits_budget (given ++ m ∷ []) ≡ false → ⊥
     not_spent given m n out =
         let next = next_of_all given m n in
-        let split : (cut_stream (piece ++ more)).messages ≡ (given ++ m ∷ []) ++ next.0 = next.1 ∙ sym (append_assoc given (m ∷ []) next.0) in
-        let inside : fits_budget (given ++ m ∷ []) ≡ true = front_fits (given ++ m ∷ []) next.0 (sym (ap fits_budget split) ∙ fits) in
+        let split : (cut_stream (piece ++ more)).messages ≡ (given ++ m ∷ [])
+        ++ next.0 = next.1 ∙ sym (append_assoc given (m ∷ []) next.0) in
+        let inside : fits_budget (given ++ m ∷ []) ≡ true = front_fits (given ++ m ∷ []) next.0
+        (sym (ap fits_budget split) ∙ fits) in
         let same : true ≡ false = sym inside ∙ out in
         cc
 
-    not_broken : (given : List (List ℕ)) (b : Bad) → messages_of before conn ≡ given → IsBroken enabled conn before given (cut_stream piece) b → ⊥
+    not_broken : (given : List (List ℕ)) (b : Bad) → messages_of before conn ≡ given → IsBroken enabled conn before
+        given (cut_stream piece) b → ⊥
     not_broken given (bad.Wire f) exact (inl n) = not_faulty given f n
     not_broken given (bad.Wire f) exact (inr n) = not_size given n.1
     not_broken given bad.Size exact n = let t = in_turn given why.Size exact n in t.1.0 t.2
     not_broken given bad.Tag exact n = let t = in_turn given why.Tag exact n in t.1.1 t.2
 
-    ends_soundly : (given : List (List ℕ)) (cause : Ending) → messages_of before conn ≡ given → (cause ≡ ending.Torn → more ≡ []) → (cause ≡ ending.ReadFault → ⊥)
-        → EndsAfter enabled conn before given (cut_stream piece) cause → (cause ≡ ending.End) ⊎ (cause ≡ ending.NoMemory)
+    ends_soundly : (given : List (List ℕ)) (cause : Ending) → messages_of before conn ≡ given →
+        (cause ≡ ending.Torn → more ≡ []) → (cause ≡ ending.ReadFault → ⊥)
+        → EndsAfter enabled conn before given (cut_stream piece) cause → (cause ≡ ending.End)
+        ⊎ (cause ≡ ending.NoMemory)
     ends_soundly given ending.End exact torn fault e = inl refl
     ends_soundly given ending.Torn exact torn fault e =
         let all : piece ++ more ≡ piece = ap (λ (l : List ℕ). piece ++ l) (torn refl) ∙ append-nil piece in
@@ -156,51 +190,63 @@ module _ (joins : JoinsPieces) (breaks : CutsNoMore) (journal : List Event) (con
 -- ---- one slot
 
 -- what a source told that was read, and what it tells still
-told_parts : (first now : Option (List ℕ)) (piece bytes : List ℕ) → first ≡ Some bytes → first ≡ then_told piece now → (more : List ℕ) × (now ≡ Some more) × (bytes ≡ piece ++ more)
+told_parts : (first now : Option (List ℕ)) (piece bytes : List ℕ) → first ≡ Some bytes → first ≡ then_told piece now
+    → (more : List ℕ) × (now ≡ Some more) × (bytes ≡ piece ++ more)
 told_parts first None piece bytes told read = absurd (let same : Some bytes ≡ None = sym told ∙ read in cc)
-told_parts first (Some more) piece bytes told read = let same : Some bytes ≡ Some (piece ++ more) = sym told ∙ read in (more, refl, cc)
+told_parts first (Some more) piece bytes told read = let same : Some bytes ≡ Some (piece ++ more) = sym told ∙ read in
+    (more, refl, cc)
 
-module _ {G L S K : Type 0} (joins : JoinsPieces) (breaks : CutsNoMore) (m : Outside G L S K) (journal : List Event) where
-  served_soundly : (n : ℕ) (x : Objects G L S K) (read : Option Ending) (wrote : WriteEnd) (cause : Ending) (bytes : List ℕ)
-      → IsServed enabled output_at answer_at journal n (m.link x.link).begins (m.reader x.reader).bytes read wrote (m.writer x.writer).bytes → Tells m (slot.Served x read wrote) → IsCause read wrote cause
-      → (m.link x.link).begins ≡ Some bytes → (m.reader x.reader).faults ≡ 0 → (m.writer x.writer).faults ≡ 0 → (cut_stream bytes).rest ≡ []
-      → fits_budget (cut_stream bytes).messages ≡ true → MayCome journal n (cut_stream bytes).messages
-      → (cause ≡ ending.End) ⊎ (cause ≡ ending.NoMemory)
-  served_soundly n x None write.Ended cause bytes is tells caused told reads writes whole fits may = absurd caused
-  served_soundly n x None write.Gone cause bytes is tells caused told reads writes whole fits may = absurd (risen_above (m.writer x.writer).faults (tells.3 refl) writes)
-  served_soundly n x None write.NoMemory cause bytes is tells caused told reads writes whole fits may = inr caused
-  served_soundly n x (Some r) wrote cause bytes is tells caused told reads writes whole fits may =
-      let given = messages_of journal n in
-      let g = is.gives in
-      let piece : List ℕ = g.0 in
-      let before : List Event = g.3.0 in
-      let turn = g.3.1 in
-      let parts = told_parts (m.link x.link).begins (m.reader x.reader).bytes piece bytes told g.1 in
-      let split : bytes ≡ piece ++ parts.0 = parts.2 in
-      let torn : r ≡ ending.Torn → parts.0 ≡ [] = λ e. subst (λ (o : Option (List ℕ)). AreTold o []) parts.1 (tells.2 (ap Some e)) in
-      let fault : r ≡ ending.ReadFault → ⊥ = λ e. risen_above (m.reader x.reader).faults (tells.0 (ap Some e)) reads in
-      let ends = ends_soundly joins breaks journal n piece parts.0
-      (subst (λ (l : List ℕ). (cut_stream l).rest ≡ []) split whole)
-      (subst (λ (l : List ℕ). fits_budget (cut_stream l).messages ≡ true) split fits)
-      (subst (λ (l : List ℕ). MayCome journal n (cut_stream l).messages) split may)
-      before turn.front turn.goes_on given r (just_these journal before n turn.front turn.messages) torn fault g.3.2 in
-      subst (λ (c : Ending). (c ≡ ending.End) ⊎ (c ≡ ending.NoMemory)) (sym caused) ends
+module _ {G L S K : Type 0} (joins : JoinsPieces) (breaks : CutsNoMore) (m : Outside G L S K) (journal : List Event)
+  where
+    served_soundly : (n : ℕ) (x : Objects G L S K) (read : Option Ending) (wrote : WriteEnd) (cause : Ending)
+        (bytes : List ℕ)
+        → IsServed enabled output_at answer_at journal n (m.link x.link).begins (m.reader x.reader).bytes read wrote
+        (m.writer x.writer).bytes → Tells m (slot.Served x read wrote) → IsCause read wrote cause
+        → (m.link x.link).begins ≡ Some bytes → (m.reader x.reader).faults ≡ 0 → (m.writer x.writer).faults ≡ 0 →
+        (cut_stream bytes).rest ≡ []
+        → fits_budget (cut_stream bytes).messages ≡ true → MayCome journal n (cut_stream bytes).messages
+        → (cause ≡ ending.End) ⊎ (cause ≡ ending.NoMemory)
+    served_soundly n x None write.Ended cause bytes is tells caused told reads writes whole fits may = absurd caused
+    served_soundly n x None write.Gone cause bytes is tells caused told reads writes whole fits may =
+        absurd (risen_above (m.writer x.writer).faults (tells.3 refl) writes)
+    served_soundly n x None write.NoMemory cause bytes is tells caused told reads writes whole fits may = inr caused
+    served_soundly n x (Some r) wrote cause bytes is tells caused told reads writes whole fits may =
+        let given = messages_of journal n in
+        let g = is.gives in
+        let piece : List ℕ = g.0 in
+        let before : List Event = g.3.0 in
+        let turn = g.3.1 in
+        let parts = told_parts (m.link x.link).begins (m.reader x.reader).bytes piece bytes told g.1 in
+        let split : bytes ≡ piece ++ parts.0 = parts.2 in
+        let torn : r ≡ ending.Torn → parts.0 ≡ [] = λ e. subst (λ (o : Option (List ℕ)). AreTold o []) parts.1
+        (tells.2 (ap Some e)) in
+        let fault : r ≡ ending.ReadFault → ⊥ = λ e. risen_above (m.reader x.reader).faults (tells.0 (ap Some e)) reads in
+        let ends = ends_soundly joins breaks journal n piece parts.0
+        (subst (λ (l : List ℕ). (cut_stream l).rest ≡ []) split whole)
+        (subst (λ (l : List ℕ). fits_budget (cut_stream l).messages ≡ true) split fits)
+        (subst (λ (l : List ℕ). MayCome journal n (cut_stream l).messages) split may)
+        before turn.front turn.goes_on given r (just_these journal before n turn.front turn.messages) torn fault g.3.2 in
+        subst (λ (c : Ending). (c ≡ ending.End) ⊎ (c ≡ ending.NoMemory)) (sym caused) ends
 
-  sound_one : (n : ℕ) (s : Slot G L S K) → IsOf m enabled output_at answer_at journal n s → Tells m s → EndsWell m journal (served_of journal n s)
-  sound_one n slot.Unbound is tells = λ cause ended sound. absurd cc
-  sound_one n (slot.Bound gate) is tells = absurd tells
-  sound_one n (slot.Unlinked gate) is tells = λ cause ended sound. absurd cc
-  sound_one n (slot.Unhalved gate link) is tells = λ cause ended sound. absurd cc
-  sound_one n (slot.Undialled x refused) is tells = λ cause ended sound. absurd cc
-  sound_one n (slot.Served x read wrote) is tells = λ cause ended sound.
-      let same : is.cause ≡ cause = cause_told (endings_of journal n) is.cause cause is.ended ended in
-      let linked : x.link ≡ sound.link = let e = sound.linked in cc in
-      let reads : x.reader ≡ sound.reader = let e = sound.read in cc in
-      let writes : x.writer ≡ sound.writer = let e = sound.written in cc in
-      served_soundly n x read wrote cause sound.bytes is tells (subst (λ (c : Ending). IsCause read wrote c) same is.caused)
-      (ap (λ (x : L). (m.link x).begins) linked ∙ sound.told) (ap (λ (x : S). (m.reader x).faults) reads ∙ sound.reads) (ap (λ (x : K). (m.writer x).faults) writes ∙ sound.writes) sound.whole sound.fits sound.may_come
+    sound_one : (n : ℕ) (s : Slot G L S K) → IsOf m enabled output_at answer_at journal n s → Tells m s
+        → EndsWell m journal (served_of journal n s)
+    sound_one n slot.Unbound is tells = λ cause ended sound. absurd cc
+    sound_one n (slot.Bound gate) is tells = absurd tells
+    sound_one n (slot.Unlinked gate) is tells = λ cause ended sound. absurd cc
+    sound_one n (slot.Unhalved gate link) is tells = λ cause ended sound. absurd cc
+    sound_one n (slot.Undialled x refused) is tells = λ cause ended sound. absurd cc
+    sound_one n (slot.Served x read wrote) is tells = λ cause ended sound.
+        let same : is.cause ≡ cause = cause_told (endings_of journal n) is.cause cause is.ended ended in
+        let linked : x.link ≡ sound.link = let e = sound.linked in cc in
+        let reads : x.reader ≡ sound.reader = let e = sound.read in cc in
+        let writes : x.writer ≡ sound.writer = let e = sound.written in cc in
+        served_soundly n x read wrote cause sound.bytes is tells (subst (λ (c : Ending). IsCause read wrote c) same
+        is.caused)
+        (ap (λ (x : L). (m.link x).begins) linked ∙ sound.told) (ap (λ (x : S). (m.reader x).faults) reads ∙ sound.reads)
+        (ap (λ (x : K). (m.writer x).faults) writes ∙ sound.writes) sound.whole sound.fits sound.may_come
 
-  pub sound_all : (path : List ℕ) (n : ℕ) (slots : List (Slot G L S K)) → EachIs m enabled output_at answer_at journal n slots → EachTells m path n slots
-      → AllByRecursion (EndsWell m journal) (served_from journal n slots)
-  sound_all path n [] is tells = tt
-  sound_all path n (s ∷ slots) is tells = (sound_one n s is.0 tells.1, sound_all path (n + 1) slots is.1 tells.2)
+    pub sound_all : (path : List ℕ) (n : ℕ) (slots : List (Slot G L S K))
+        → EachIs m enabled output_at answer_at journal n slots → EachTells m path n slots
+        → AllByRecursion (EndsWell m journal) (served_from journal n slots)
+    sound_all path n [] is tells = tt
+    sound_all path n (s ∷ slots) is tells = (sound_one n s is.0 tells.1, sound_all path (n + 1) slots is.1 tells.2)

@@ -20,11 +20,13 @@ use Rattle.am_server.specs.declared.served.Served.{Served}
 use Rattle.am_server.specs.declared.writing.ServeEnd.{ServeEnd}
 use Rattle.am_server.specs.declared.writing.ServeEnd.TheVariants as end
 
--- No line of the script is refused: not after any beginning of the journal that has the events of the lines before it, and none from it on.
+-- No line of the script is refused: not after any beginning of the journal that has the events of the lines before it,
+-- and none from it on.
 abbrev pub NoneRefused : ℕ → List ℕ → List Event → Type 0
 NoneRefused clients script journal =
     (before after : List Asked) (line : Asked) (fault : LineFault) (seen : List Event)
-    → asked_by_script script ≡ before ++ line ∷ after → IsPrefix seen journal → filter is_scripted seen ≡ asked_events before
+    → asked_by_script script ≡ before ++ line ∷ after → IsPrefix seen journal
+    → filter is_scripted seen ≡ asked_events before
     → ¬ IsRefused enabled answer_at clients seen line fault
 
 -- the journal's lines, and then the report of its run
@@ -37,7 +39,8 @@ module _ {G L S K : Type 0} where
   IsCalm m s = IfSome s.gate (λ g. (m.gate g).faults ≡ 0) × IfSome s.link (λ l. (m.link l).faults ≡ 0)
 
   -- The script is within its limit, no line of it is refused, and no count of faults rises.
-  pub record NothingFails (m : Outside G L S K) (clients : ℕ) (script : List ℕ) (i : Given) (o : Seen) (journal : List Event) (served : List (Served G L S K)) : Type 0 where
+  pub record NothingFails (m : Outside G L S K) (clients : ℕ) (script : List ℕ) (i : Given) (o : Seen)
+      (journal : List Event) (served : List (Served G L S K)) : Type 0 where
     pub fits : length script ≤ input_limit
     pub none_refused : NoneRefused clients script journal
     pub input : ¬ HasRisen i.input.before.faults i.input.now.faults
@@ -46,6 +49,8 @@ module _ {G L S K : Type 0} where
     pub slots : AllByRecursion (IsCalm m) served
 
   -- then all is done, and the whole text written, or memory runs out
-  abbrev pub IsComplete : Outside G L S K → ℕ → List ℕ → Given → Seen → List Event → List (Served G L S K) → ServeEnd → Type 0
+  abbrev pub IsComplete : Outside G L S K → ℕ → List ℕ → Given → Seen → List Event → List (Served G L S K)
+      → ServeEnd → Type 0
   IsComplete m clients script i o journal served e =
-      NothingFails m clients script i o journal served → ((e ≡ end.Done) × IsWhole o (whole_text journal)) ⊎ (e ≡ end.NoMemory)
+      NothingFails m clients script i o journal served → ((e ≡ end.Done) × IsWhole o (whole_text journal))
+      ⊎ (e ≡ end.NoMemory)

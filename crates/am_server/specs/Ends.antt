@@ -1,5 +1,6 @@
 -- How serving ends.
-use Rattle.std.specs.Prelude.{◌≡◌, ◌⊎◌, ℕ, ◌<◌, ◌≤◌, Bool, true, false, List, [], ◌++◌, length, Option, Some, None, IfSome, if◌then◌else◌, codes}
+use Rattle.std.specs.Prelude.{◌≡◌, ◌⊎◌, ℕ, ◌<◌, ◌≤◌, Bool, true, false, List, [], ◌++◌, length, Option, Some, None}
+use Rattle.std.specs.Prelude.{IfSome, if◌then◌else◌, codes}
 use Rattle.std.specs.List.{list_any, AllByRecursion}
 use Rattle.am_base.specs.Outside.{AreTold, HasRisen}
 use Rattle.am_base.specs.Stops.{input_limit}
@@ -29,7 +30,8 @@ use Rattle.am_server.specs.declared.served.Served.{Served}
 use Rattle.am_server.specs.declared.writing.ServeEnd.{ServeEnd}
 use Rattle.am_server.specs.declared.writing.ServeEnd.TheVariants as end
 
--- how serving ends after a script that was done, by whether memory ran out and no hang-up tells it, and whether the output has failed
+-- how serving ends after a script that was done, by whether memory ran out and no hang-up tells it, and whether the
+-- output has failed
 abbrev pub end_done : Bool → Bool → ServeEnd
 end_done untold failed = if untold then end.NoMemory else (if failed then end.WriteFault else end.Done)
 
@@ -45,8 +47,8 @@ ended_otherwise (Some ending.Gone) = true
 ended_otherwise (Some ending.NoMemory) = false
 
 module _ {G L S K : Type 0} where
-  -- Memory ran out for the slot, and no hang-up tells it: before its connection was dialled, or for its last replies, behind a hang-up
-  -- with another cause.
+  -- Memory ran out for the slot, and no hang-up tells it: before its connection was dialled, or for its last replies,
+  -- behind a hang-up with another cause.
   abbrev pub wants_untold : Slot G L S K → Bool
   wants_untold slot.Unbound = false
   wants_untold (slot.Bound gate) = true
@@ -57,13 +59,16 @@ module _ {G L S K : Type 0} where
   wants_untold (slot.Served x read write.Gone) = false
   wants_untold (slot.Served x read write.NoMemory) = ended_otherwise read
 
-  -- How serving ends: a refused line goes before a slot that has failed, that before want of memory, and that before a failed output.
+  -- How serving ends: a refused line goes before a slot that has failed, that before want of memory, and that before a
+  -- failed output.
   abbrev pub end_at : List (Slot G L S K) → ScriptEnd → Bool → ServeEnd
   end_at slots (script.Refused line why) failed = end.Script
   end_at slots script.NoMemory failed = if list_any has_failed slots then end.HostFault else end.NoMemory
-  end_at slots script.Done failed = if list_any has_failed slots then end.HostFault else end_done (list_any wants_untold slots) failed
+  end_at slots script.Done failed = if list_any has_failed slots then end.HostFault else end_done
+      (list_any wants_untold slots) failed
 
-  -- The slots were served, and what came of it was written: whole, but where the output has failed, or memory ran out for a line.
+  -- The slots were served, and what came of it was written: whole, but where the output has failed, or memory ran out
+  -- for a line.
   abbrev pub Writes : List Event → List (Slot G L S K) → ScriptEnd → Seen → ServeEnd → Type 0
   Writes journal slots done o e =
       ((e ≡ end_at slots done false) × IsWhole o (served_text journal slots done))
@@ -77,10 +82,12 @@ pub record IsIdle {G L S K : Type 0} (o : Seen) (journal : List Event) (served :
   pub none : served ≡ []
 
 -- a script that is too long is refused whole
-pub record IsTooLong {G L S K : Type 0} (o : Seen) (journal : List Event) (served : List (Served G L S K)) (e : ServeEnd) : Type 0 where
+pub record IsTooLong {G L S K : Type 0} (o : Seen) (journal : List Event) (served : List (Served G L S K))
+    (e : ServeEnd) : Type 0 where
   pub empty : journal ≡ []
   pub none : served ≡ []
-  pub put : ((e ≡ end.Script) × IsPut o (refused_text 0 (codes "input"))) ⊎ ((e ≡ end.NoMemory) × (o.now.bytes ≡ o.before.bytes))
+  pub put : ((e ≡ end.Script) × IsPut o (refused_text 0 (codes "input")))
+      ⊎ ((e ≡ end.NoMemory) × (o.now.bytes ≡ o.before.bytes))
 
 -- all was done, and there was memory for all that no hang-up tells of
 abbrev pub AllDone : ServeEnd → Type 0
@@ -91,9 +98,10 @@ AllDone end.HostFault = ⊥
 AllDone end.NoMemory = ⊥
 AllDone end.WriteFault = Unit {0}
 
--- A script was served: its slots, the script's end, and one journal that has just their entries. Where all was done, each sink that has
--- not failed got all replies. A connection with sound objects ends well.
-pub record Serves {G L S K : Type 0} (m : Outside G L S K) (path : List ℕ) (clients : ℕ) (lines : List ℕ) (h : HostSeen) (o : Seen) (journal : List Event) (served : List (Served G L S K)) (e : ServeEnd) : Type 0 where
+-- A script was served: its slots, the script's end, and one journal that has just their entries. Where all was done,
+-- each sink that has not failed got all replies. A connection with sound objects ends well.
+pub record Serves {G L S K : Type 0} (m : Outside G L S K) (path : List ℕ) (clients : ℕ) (lines : List ℕ) (h : HostSeen)
+    (o : Seen) (journal : List Event) (served : List (Served G L S K)) (e : ServeEnd) : Type 0 where
   pub slots : List (Slot G L S K)
   pub done : ScriptEnd
   pub count : length slots ≡ clients
@@ -109,14 +117,18 @@ pub record Serves {G L S K : Type 0} (m : Outside G L S K) (path : List ℕ) (cl
   pub sound : AllByRecursion (EndsWell m journal) served
 
 -- what came of a script of lawful length: it was served, or there was no memory to begin
-abbrev pub ServesLines : {G L S K : Type 0} → Outside G L S K → List ℕ → ℕ → List ℕ → HostSeen → Seen → List Event → List (Served G L S K) → ServeEnd → Type 0
+abbrev pub ServesLines : {G L S K : Type 0} → Outside G L S K → List ℕ → ℕ → List ℕ → HostSeen → Seen → List Event
+    → List (Served G L S K) → ServeEnd → Type 0
 ServesLines m path clients lines h o journal served e =
     Serves m path clients lines h o journal served e ⊎ ((e ≡ end.NoMemory) × IsIdle o journal served)
 
--- How serving ends: the input could not be read, or was too long, or there was no memory for it, or its lines were served.
-abbrev pub SaysServe : {G L S K : Type 0} → Outside G L S K → List ℕ → ℕ → Given → Seen → List Event → List (Served G L S K) → ServeEnd → Type 0
+-- How serving ends: the input could not be read, or was too long, or there was no memory for it, or its lines were
+-- served.
+abbrev pub SaysServe : {G L S K : Type 0} → Outside G L S K → List ℕ → ℕ → Given → Seen → List Event
+    → List (Served G L S K) → ServeEnd → Type 0
 SaysServe m path clients i o journal served e =
     ((e ≡ end.ReadFault) × HasRisen i.input.before.faults i.input.now.faults × IsIdle o journal served)
     ⊎ (IfSome i.input.before.bytes (λ bytes. input_limit < length bytes) × IsTooLong o journal served e)
     ⊎ ((e ≡ end.NoMemory) × IsIdle o journal served)
-    ⊎ ((lines : List ℕ) × AreTold i.input.before.bytes lines × (length lines ≤ input_limit) × Serves m path clients lines i.host o journal served e)
+    ⊎ ((lines : List ℕ) × AreTold i.input.before.bytes lines × (length lines ≤ input_limit)
+    × Serves m path clients lines i.host o journal served e)

@@ -12,13 +12,15 @@ use Rattle.am_server.specs.Texts.{host_text, served_text}
 use Rattle.am_server.specs.declared.texts.Stop.{Stop}
 use Rattle.am_server.specs.declared.texts.Stop.TheVariants as stop
 
--- An output got a front of a text. Where it has failed its count of faults has risen; where memory ran out it got one of these fronts whole.
+-- An output got a front of a text. Where it has failed its count of faults has risen; where memory ran out it got one
+-- of these fronts whole.
 abbrev pub StopsIn : Stop → Seen → List ℕ → (ℕ → List ℕ) → Type 0
 StopsIn stop.Failed o text front = IsCut o text
 StopsIn stop.NoMemory o text front = (n : ℕ) × IsWhole o (front n)
 
 module _ {G L S K : Type 0} where
-  -- An output got the lines of a front of the journal, or all of them, the report, and the lines `host` of a front of the slots.
+  -- An output got the lines of a front of the journal, or all of them, the report, and the lines `host` of a front of
+  -- the slots.
   abbrev pub IsLeft : Seen → List Event → List (Slot G L S K) → Type 0
   IsLeft o journal slots =
       ((n : ℕ) × IsWhole o (journal_text (take n journal)))

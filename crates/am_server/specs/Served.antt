@@ -26,12 +26,58 @@ ended_with (Some why) = end.Ended why
 module _ {G L S K : Type 0} where
   -- a slot as it is told: its number, its objects, and how it ended
   abbrev pub served_of : List Event → ℕ → Slot G L S K → Served G L S K
-  served_of journal n slot.Unbound = record { slot = n; gate = None; link = None; reader = None; writer = None; end = end.Bind }
-  served_of journal n (slot.Bound g) = record { slot = n; gate = Some g; link = None; reader = None; writer = None; end = end.NoMemory }
-  served_of journal n (slot.Unlinked g) = record { slot = n; gate = Some g; link = None; reader = None; writer = None; end = end.Accept }
-  served_of journal n (slot.Unhalved g l) = record { slot = n; gate = Some g; link = Some l; reader = None; writer = None; end = end.Halve }
-  served_of journal n (slot.Undialled x refused) = record { slot = n; gate = Some x.gate; link = Some x.link; reader = Some x.reader; writer = Some x.writer; end = end.NoMemory }
-  served_of journal n (slot.Served x read wrote) = record { slot = n; gate = Some x.gate; link = Some x.link; reader = Some x.reader; writer = Some x.writer; end = ended_with (ending_of journal n) }
+  served_of journal n slot.Unbound = record {
+    slot = n;
+    gate = None;
+    link = None;
+    reader = None;
+    writer = None;
+    end =
+        end.Bind;
+  }
+  served_of journal n (slot.Bound g) = record {
+    slot = n;
+    gate = Some g;
+    link = None;
+    reader = None;
+    writer = None;
+    end = end.NoMemory;
+  }
+  served_of journal n (slot.Unlinked g) = record {
+    slot = n;
+    gate = Some g;
+    link = None;
+    reader = None;
+    writer = None;
+    end = end.Accept;
+  }
+  served_of journal n (slot.Unhalved g l) = record {
+    slot = n;
+    gate = Some g;
+    link = Some l;
+    reader = None;
+    writer =
+        None;
+    end = end.Halve;
+  }
+  served_of journal n (slot.Undialled x refused) = record {
+    slot = n;
+    gate = Some x.gate;
+    link = Some x.link;
+    reader =
+        Some x.reader;
+    writer = Some x.writer;
+    end = end.NoMemory;
+  }
+  served_of journal n (slot.Served x read wrote) = record {
+    slot = n;
+    gate = Some x.gate;
+    link = Some x.link;
+    reader =
+        Some x.reader;
+    writer = Some x.writer;
+    end = ended_with (ending_of journal n);
+  }
 
   -- slots one after another, from this number on
   abbrev pub served_from : List Event → ℕ → List (Slot G L S K) → List (Served G L S K)

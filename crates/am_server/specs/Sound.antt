@@ -20,17 +20,18 @@ use Rattle.am_server.specs.declared.served.ServedEnd.TheVariants as served
 abbrev pub IsInTurn : List Event → ℕ → TMsg → Type 0
 IsInTurn seen conn msg = (enabled seen (Msg conn msg) ≢ Some why.Size) × (enabled seen (Msg conn msg) ≢ Some why.Tag)
 
--- Each message can be read, and may come in its turn: after each beginning of the journal that has the connection's messages before it,
--- none from it on, and no hang-up of the connection.
+-- Each message can be read, and may come in its turn: after each beginning of the journal that has the connection's
+-- messages before it, none from it on, and no hang-up of the connection.
 abbrev pub MayCome : List Event → ℕ → List (List ℕ) → Type 0
 MayCome journal conn messages =
     (before after : List (List ℕ)) (m : List ℕ) → messages ≡ before ++ m ∷ after
     → (msg : TMsg) × (t_of m ≡ Ok msg)
-    × ((seen : List Event) → IsPrefix seen journal → messages_of seen conn ≡ before → has_hang seen conn ≡ false → IsInTurn seen conn msg)
+    × ((seen : List Event) → IsPrefix seen journal → messages_of seen conn ≡ before → has_hang seen conn ≡ false →
+    IsInTurn seen conn msg)
 
 module _ {G L S K : Type 0} where
-  -- The source tells its bytes, which are whole messages within the limits that may come in their turn, and neither it nor the sink has
-  -- failed.
+  -- The source tells its bytes, which are whole messages within the limits that may come in their turn, and neither it
+  -- nor the sink has failed.
   pub record IsSound (m : Outside G L S K) (journal : List Event) (s : Served G L S K) : Type 0 where
     pub link : L
     pub linked : s.link ≡ Some link
@@ -48,4 +49,5 @@ module _ {G L S K : Type 0} where
 
   -- then the connection ends with the end of the source, or for want of memory
   abbrev pub EndsWell : Outside G L S K → List Event → Served G L S K → Type 0
-  EndsWell m journal s = (cause : Ending) → s.end ≡ served.Ended cause → IsSound m journal s → (cause ≡ ending.End) ⊎ (cause ≡ ending.NoMemory)
+  EndsWell m journal s = (cause : Ending) → s.end ≡ served.Ended cause → IsSound m journal s → (cause ≡ ending.End)
+      ⊎ (cause ≡ ending.NoMemory)

@@ -40,4 +40,5 @@ module _ {G L S K : Type 0} where
 
   -- the whole text: the journal's lines, the report of its run, the lines `host`, and the line `refused`
   abbrev pub served_text : List Event → List (Slot G L S K) → ScriptEnd → List ℕ
-  served_text journal slots end = journal_text journal ++ report_text (view_of journal) ++ host_text 0 slots ++ refusal_text end
+  served_text journal slots end = journal_text journal ++ report_text (view_of journal) ++ host_text 0 slots
+      ++ refusal_text end

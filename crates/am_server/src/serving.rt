@@ -73,8 +73,8 @@ fn refuse_input<O: Sink, G, L, S, K>(alloc: Global, output: &mut O) -> Serving<G
     }
 }
 
-/// Reads a script to its end, binds the gates of a site's slots, serves a connection of each at once, and does the script beside them.
-/// Writes the journal and the report once all have ended.
+/// Reads a script to its end, binds the gates of a site's slots, serves a connection of each at once, and does the
+/// script beside them. Writes the journal and the report once all have ended.
 pub fn serve<I: Source, O: Sink, H: Host, R: Threads + Wait + Sync>(
     rt: &R,
     alloc: Global,
@@ -90,7 +90,8 @@ pub fn serve<I: Source, O: Sink, H: Host, R: Threads + Wait + Sync>(
         result.journal result.served result.end }
     // What each event of the journal does could be done at its place.
     ensures possible { IsPossible result.journal }
-    // Where no slot is told of, the host was asked for nothing: it is only once the script was read, and there was memory to begin.
+    // Where no slot is told of, the host was asked for nothing: it is only once the script was read, and there was
+    // memory to begin.
     ensures untouched { result.served ≡ [] → host.new ≡ host.old }
 {
     match read_to_end(alloc, input, INPUT_LIMIT) {

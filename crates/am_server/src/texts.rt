@@ -54,7 +54,8 @@ fn put_event<O: Sink>(alloc: Global, output: &mut O, event: &Event) -> Result<()
     requires { IsLawful event.now }
     ensures ok { OnOk result (IsWhole (seen (O.told output.old) (O.told output.new)) (ended_line event.now)) }
     ensures later { (O.told output.old).faults ≤ (O.told output.new).faults }
-    ensures err { IfErr result (λ e. StopsIn e (seen (O.told output.old) (O.told output.new)) (ended_line event.now) (λ _. [])) }
+    ensures err { IfErr result (λ e. StopsIn e (seen (O.told output.old) (O.told output.new)) (ended_line event.now)
+        (λ _. [])) }
 {
     match event_line(alloc, event) {
         Ok(line) => put(output, line.as_slice()),
@@ -85,7 +86,8 @@ fn report_of(alloc: Global, core: &Core) -> Result<Bytes, NoMemory>
 
 fn put_report<O: Sink>(alloc: Global, output: &mut O, core: &Core) -> Result<(), Stop>
     requires { core.now ≡ settled core.now.journal }
-    ensures ok { OnOk result (IsWhole (seen (O.told output.old) (O.told output.new)) (report_text (view_of core.now.journal))) }
+    ensures ok { OnOk result (IsWhole (seen (O.told output.old) (O.told output.new))
+        (report_text (view_of core.now.journal))) }
     ensures later { (O.told output.old).faults ≤ (O.told output.new).faults }
     ensures err { IfErr result (λ e. StopsIn e (seen (O.told output.old) (O.told output.new))
         (report_text (view_of core.now.journal)) (λ _. [])) }
@@ -119,7 +121,8 @@ fn host_line(alloc: Global, number: u64) -> Result<Bytes, NoMemory>
 fn put_host<O: Sink>(alloc: Global, output: &mut O, number: u64) -> Result<(), Stop>
     ensures ok { OnOk result (IsWhole (seen (O.told output.old) (O.told output.new)) (host_line number)) }
     ensures later { (O.told output.old).faults ≤ (O.told output.new).faults }
-    ensures err { IfErr result (λ e. StopsIn e (seen (O.told output.old) (O.told output.new)) (host_line number) (λ _. [])) }
+    ensures err { IfErr result (λ e. StopsIn e (seen (O.told output.old) (O.told output.new)) (host_line number)
+        (λ _. [])) }
 {
     match host_line(alloc, number) {
         Ok(line) => put(output, line.as_slice()),
@@ -133,7 +136,8 @@ fn put_slot<G, L, S, K, O: Sink>(
     number: u64,
     slot: &Slot<G, L, S, K>,
 ) -> Result<(), Stop>
-    ensures ok { OnOk result (IsWhole (seen (O.told output.old) (O.told output.new)) (if has_failed slot.now then host_line number else [])) }
+    ensures ok { OnOk result (IsWhole (seen (O.told output.old) (O.told output.new))
+        (if has_failed slot.now then host_line number else [])) }
     ensures later { (O.told output.old).faults ≤ (O.told output.new).faults }
     ensures err { IfErr result (λ e. StopsIn e (seen (O.told output.old) (O.told output.new))
         (if has_failed slot.now then host_line number else []) (λ _. [])) }
@@ -167,7 +171,8 @@ fn put_hosts<G, L, S, K, O: Sink>(
 fn put_refusal<O: Sink>(alloc: Global, output: &mut O, end: ScriptEnd) -> Result<(), Stop>
     ensures ok { OnOk result (IsWhole (seen (O.told output.old) (O.told output.new)) (refusal_text end)) }
     ensures later { (O.told output.old).faults ≤ (O.told output.new).faults }
-    ensures err { IfErr result (λ e. StopsIn e (seen (O.told output.old) (O.told output.new)) (refusal_text end) (λ _. [])) }
+    ensures err { IfErr result (λ e. StopsIn e (seen (O.told output.old) (O.told output.new)) (refusal_text end)
+        (λ _. [])) }
 {
     match end {
         ScriptEnd::Done | ScriptEnd::NoMemory => Ok(()),
@@ -178,8 +183,8 @@ fn put_refusal<O: Sink>(alloc: Global, output: &mut O, end: ScriptEnd) -> Result
     }
 }
 
-/// Writes the journal's lines one by one, the report, a line `host` for each slot that has failed, and a line `refused` where a line of
-/// the script is. At want of memory what stands before stays written.
+/// Writes the journal's lines one by one, the report, a line `host` for each slot that has failed, and a line `refused`
+/// where a line of the script is. At want of memory what stands before stays written.
 pub(crate) fn put_text<G, L, S, K, O: Sink>(
     alloc: Global,
     core: &Core,
@@ -189,8 +194,10 @@ pub(crate) fn put_text<G, L, S, K, O: Sink>(
 ) -> Result<(), Stop>
     requires settled { core.now ≡ settled core.now.journal }
     requires lawful { AllByRecursion IsLawful core.now.journal }
-    ensures ok { OnOk result (IsWhole (seen (O.told output.old) (O.told output.new)) (served_text core.now.journal slots.now end)) }
-    ensures err { IfErr result (λ e. StopsAt e (seen (O.told output.old) (O.told output.new)) core.now.journal slots.now end) }
+    ensures ok { OnOk result (IsWhole (seen (O.told output.old) (O.told output.new))
+        (served_text core.now.journal slots.now end)) }
+    ensures err { IfErr result (λ e. StopsAt e (seen (O.told output.old) (O.told output.new)) core.now.journal slots.now
+        end) }
 {
     put_journal(alloc, output, core.journal())?;
     put_report(alloc, output, core)?;

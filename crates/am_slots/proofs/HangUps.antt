@@ -1,5 +1,6 @@
 -- A journal of enabled events has one hang-up at most of each connection.
-use Rattle.std.proofs.Common.{◌≡◌, ⊎_elim, ℕ, Bool, true, false, ◌||◌, List, [], ◌∷◌, ◌++◌, Some, None, refl, sym, ap, ◌∙◌, append_assoc, append-nil}
+use Rattle.std.proofs.Common.{◌≡◌, ⊎_elim, ℕ, Bool, true, false, ◌||◌, List, [], ◌∷◌, ◌++◌, Some, None, refl, sym, ap}
+use Rattle.std.proofs.Common.{◌∙◌, append_assoc, append-nil}
 use Rattle.std.specs.Prelude.{if◌then◌else◌}
 use Rattle.std.specs.List.{list_any}
 use Rattle.std.proofs.lemmas.Bool.{cases_Bool, or_left, or_right, eq-eqb, eqb-true, false_from_ne_true}
@@ -52,40 +53,54 @@ played_next : (enabled : Rule) (before events : List Event) (e : Event) → AreP
     → enabled (before ++ events) e ≡ None → ArePlayed enabled before (events ++ e ∷ [])
 unfolding ArePlayed
 played_next enabled before [] e p lawful next = (lawful, ap (λ l. enabled l e) (sym (append-nil before)) ∙ next, tt)
-played_next enabled before (x ∷ events) e p lawful next =
-    (p.0, p.1, played_next enabled (before ++ x ∷ []) events e p.2 lawful (ap (λ l. enabled l e) (append_assoc before (x ∷ []) events) ∙ next))
+played_next enabled before (x ∷ events) e p lawful next = (
+  p.0,
+  p.1,
+  played_next enabled (before ++ x ∷ []) events e p.2 lawful
+      (ap (λ l. enabled l e) (append_assoc before (x ∷ []) events) ∙ next),
+)
 
 not_again : (journal : List Event) (conn : ℕ) → has_hang journal conn ≡ true → hang_why journal conn ≡ None → ⊥
 not_again journal conn h e = by_cases (has_dial journal conn) (has_hang journal conn) h e
   where
-    by_cases : (dialled ended : Bool) → ended ≡ true → (if dialled then (if ended then Some why.Ended else None) else Some why.Conn) ≡ None → ⊥
+    by_cases : (dialled ended : Bool) → ended ≡ true → (if dialled then (if ended then Some why.Ended else None) else
+        Some why.Conn) ≡ None → ⊥
     by_cases true true h e = cc
     by_cases true false h e = cc
     by_cases false ended h e = cc
 
-module _ (enabled : Rule) (conn : ℕ) (law : (journal : List Event) (why : Ending) → IsPlayed enabled journal → enabled journal (event.Hang conn why) ≡ hang_why journal conn) where
-  no_hang_next : (journal : List Event) (e : Event) → IsPlayed enabled journal → enabled journal e ≡ None → has_hang journal conn ≡ true → is_hang_of conn e ≡ false
+module _ (enabled : Rule) (conn : ℕ) (law : (journal : List Event) (why : Ending) → IsPlayed enabled journal
+    → enabled journal (event.Hang conn why) ≡ hang_why journal conn) where
+  no_hang_next : (journal : List Event) (e : Event) → IsPlayed enabled journal
+      → enabled journal e ≡ None → has_hang journal conn ≡ true → is_hang_of conn e ≡ false
   no_hang_next journal e played next h =
       false_from_ne_true (is_hang_of conn e)
       (λ is. let x = hang_ends conn e is in
       not_again journal conn h (sym (law journal x.0 played) ∙ ap (enabled journal) (sym x.1) ∙ next))
 
-  has_hang_next : (journal : List Event) (e : Event) → has_hang journal conn ≡ true → has_hang (journal ++ e ∷ []) conn ≡ true
-  has_hang_next journal e h = list_any-append (is_hang_of conn) journal (e ∷ []) ∙ or_left (list_any (is_hang_of conn) journal) (list_any (is_hang_of conn) (e ∷ [])) h
+  has_hang_next : (journal : List Event) (e : Event) → has_hang journal conn ≡ true → has_hang (journal ++ e ∷ [])
+      conn ≡ true
+  has_hang_next journal e h = list_any-append (is_hang_of conn) journal (e ∷ [])
+      ∙ or_left (list_any (is_hang_of conn) journal) (list_any (is_hang_of conn) (e ∷ [])) h
 
-  has_hang_new : (journal : List Event) (e : Event) → is_hang_of conn e ≡ true → has_hang (journal ++ e ∷ []) conn ≡ true
+  has_hang_new : (journal : List Event) (e : Event) → is_hang_of conn e ≡ true → has_hang (journal ++ e ∷ [])
+      conn ≡ true
   has_hang_new journal e h =
       list_any-append (is_hang_of conn) journal (e ∷ [])
-      ∙ or_right (list_any (is_hang_of conn) journal) (list_any (is_hang_of conn) (e ∷ [])) (or_left (is_hang_of conn e) false h)
+      ∙ or_right (list_any (is_hang_of conn) journal) (list_any (is_hang_of conn) (e ∷ []))
+      (or_left (is_hang_of conn e) false h)
 
-  none_more : (before events : List Event) → IsPlayed enabled before → ArePlayed enabled before events → has_hang before conn ≡ true → endings_of events conn ≡ []
+  none_more : (before events : List Event) → IsPlayed enabled before → ArePlayed enabled before events
+      → has_hang before conn ≡ true → endings_of events conn ≡ []
   unfolding ArePlayed
   none_more before [] played next h = refl
   none_more before (e ∷ events) played next h =
       ap (λ l. l ++ endings_of events conn) (others_end_nothing conn e (no_hang_next before e played next.1 h))
-      ∙ none_more (before ++ e ∷ []) events (played_next enabled [] before e played next.0 next.1) next.2 (has_hang_next before e h)
+      ∙ none_more (before ++ e ∷ []) events (played_next enabled [] before e played next.0 next.1) next.2
+      (has_hang_next before e h)
 
-  one_ending : (before events : List Event) → IsPlayed enabled before → ArePlayed enabled before events → has_hang events conn ≡ true
+  one_ending : (before events : List Event) → IsPlayed enabled before → ArePlayed enabled before events
+      → has_hang events conn ≡ true
       → (cause : Ending) × (endings_of events conn ≡ cause ∷ [])
   unfolding ArePlayed
   one_ending before [] played next h = absurd cc
@@ -94,14 +109,17 @@ module _ (enabled : Rule) (conn : ℕ) (law : (journal : List Event) (why : Endi
       ⊎_elim
       (λ is. let x = hang_ends conn e is in (
         x.0,
-        ap (λ y. ended_by conn y ++ endings_of events conn) x.1 ∙ ap (λ l. l ++ endings_of events conn) (hang_ended conn x.0)
+        ap (λ y. ended_by conn y ++ endings_of events conn) x.1 ∙ ap (λ l. l ++ endings_of events conn)
+            (hang_ended conn x.0)
             ∙ ap (λ l. x.0 ∷ l) (none_more (before ++ e ∷ []) events now next.2 (has_hang_new before e is)),
       ))
-      (λ no. let rest = one_ending (before ++ e ∷ []) events now next.2 (sym (ap (λ b. b || has_hang events conn) no) ∙ h) in
+      (λ no. let rest = one_ending (before ++ e ∷ []) events now next.2
+      (sym (ap (λ b. b || has_hang events conn) no) ∙ h) in
       (rest.0, ap (λ l. l ++ endings_of events conn) (others_end_nothing conn e no) ∙ rest.1))
       (cases_Bool (is_hang_of conn e))
 
   -- a journal that has a hang-up of the connection has just one
-  pub ends_once : (journal : List Event) → IsPlayed enabled journal → has_hang journal conn ≡ true → (cause : Ending) × (endings_of journal conn ≡ cause ∷ [])
+  pub ends_once : (journal : List Event) → IsPlayed enabled journal → has_hang journal conn ≡ true → (cause : Ending)
+      × (endings_of journal conn ≡ cause ∷ [])
   unfolding ArePlayed
   ends_once journal played h = one_ending [] journal tt played h

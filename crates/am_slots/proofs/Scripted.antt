@@ -1,5 +1,6 @@
 -- The entries of a script's seat are events of windows.
-use Rattle.std.proofs.Common.{◌≡◌, ℕ, Bool, true, false, cond, List, [], ◌∷◌, ◌++◌, Option, Some, None, refl, sym, subst, codes}
+use Rattle.std.proofs.Common.{◌≡◌, ℕ, Bool, true, false, cond, List, [], ◌∷◌, ◌++◌, Option, Some, None, refl, sym}
+use Rattle.std.proofs.Common.{subst, codes}
 use Rattle.std.specs.List.{AllByRecursion}
 use Rattle.am_text.specs.Lines.{lines_of}
 use Rattle.am_journal.specs.declared.event.Event.{Event}
@@ -8,7 +9,8 @@ use Rattle.am_text.specs.Front.{after_front}
 use Rattle.am_journal.specs.Line.{event_of, window_at}
 use Rattle.am_counter.specs.Known.{Known}
 use Rattle.am_serve.specs.Gained.{Rule, Answers, plain}
-use Rattle.am_serve.specs.Script.{is_scripted, asks_event, asks_window, awaits_or, asked_by, then_asked, asked_by_lines, asked_by_script, asked_events, Passed, EndsScript}
+use Rattle.am_serve.specs.Script.{is_scripted, asks_event, asks_window, awaits_or, asked_by, then_asked, asked_by_lines}
+use Rattle.am_serve.specs.Script.{asked_by_script, asked_events, Passed, EndsScript}
 use Rattle.am_serve.specs.declared.asked.Asked.{Asked}
 use Rattle.am_serve.specs.declared.asked.Asked.TheVariants.{Does, Awaits, Ends, Faulty}
 use Rattle.am_serve.specs.declared.scripting.ScriptEnd.{ScriptEnd}
@@ -49,9 +51,11 @@ awaits_scripted (Some rest) a p = window_scripted (window_at rest)
 line_scripted : (line : List ℕ) → IsScripted (asked_by line)
 line_scripted line =
     let others = awaits_or (after_front (codes "await ") line) (asks_event (event_of line)) in
-    either_one (is_report line) Ends others tt (awaits_scripted (after_front (codes "await ") line) (asks_event (event_of line)) (event_scripted (event_of line)))
+    either_one (is_report line) Ends others tt (awaits_scripted (after_front (codes "await ") line)
+    (asks_event (event_of line)) (event_scripted (event_of line)))
 
-then_scripted : (a : Asked) (others : List Asked) → IsScripted a → AreScripted others → AreScripted (then_asked a others)
+then_scripted : (a : Asked) (others : List Asked) → IsScripted a → AreScripted others
+    → AreScripted (then_asked a others)
 then_scripted (Does e) others p q = (p, q)
 then_scripted (Awaits w) others p q = (tt, q)
 then_scripted Ends others p q = tt
@@ -60,33 +64,42 @@ then_scripted Faulty others p q = (tt, tt)
 pub lines_scripted : (lines : List (List ℕ)) → AreScripted (asked_by_lines lines)
 unfolding asked_by_lines
 lines_scripted [] = tt
-lines_scripted (line ∷ lines) = then_scripted (asked_by line) (asked_by_lines lines) (line_scripted line) (lines_scripted lines)
+lines_scripted (line ∷ lines) = then_scripted (asked_by line) (asked_by_lines lines) (line_scripted line)
+    (lines_scripted lines)
 
 pub front_scripted : (xs ys : List Asked) → AreScripted (xs ++ ys) → AreScripted xs
 front_scripted [] ys p = tt
 front_scripted (x ∷ xs) ys p = (p.0, front_scripted xs ys p.1)
 
-events_scripted : (asked : List Asked) → AreScripted asked → AllByRecursion (λ e. is_scripted e ≡ true) (asked_events asked)
+events_scripted : (asked : List Asked) → AreScripted asked → AllByRecursion (λ e. is_scripted e ≡ true)
+    (asked_events asked)
 events_scripted [] p = tt
 events_scripted (Does e ∷ others) p = (p.0, events_scripted others p.1)
 events_scripted (Awaits w ∷ others) p = events_scripted others p.1
 events_scripted (Ends ∷ others) p = events_scripted others p.1
 events_scripted (Faulty ∷ others) p = events_scripted others p.1
 
-entries_scripted : (entries : List (ℕ × Event)) → AllByRecursion (λ e. is_scripted e ≡ true) (plain entries) → AllByRecursion (λ (x : ℕ × Event). is_scripted x.1 ≡ true) entries
+entries_scripted : (entries : List (ℕ × Event)) → AllByRecursion (λ e. is_scripted e ≡ true) (plain entries)
+    → AllByRecursion (λ (x : ℕ × Event). is_scripted x.1 ≡ true) entries
 entries_scripted [] p = tt
 entries_scripted (x ∷ entries) p = (p.0, entries_scripted entries p.1)
 
-passed_scripted : (enabled : Rule) (answer : Answers) (lines : List Asked) (w : Known) → AreScripted lines → Passed enabled answer unseen lines w
+passed_scripted : (enabled : Rule) (answer : Answers) (lines : List Asked) (w : Known) → AreScripted lines
+    → Passed enabled answer unseen lines w
     → AllByRecursion (λ (x : ℕ × Event). is_scripted x.1 ≡ true) w.mine
 passed_scripted enabled answer lines w are p =
-    entries_scripted w.mine (subst (λ (l : List Event). AllByRecursion (λ e. is_scripted e ≡ true) l) (sym p.events) (events_scripted lines are))
+    entries_scripted w.mine (subst (λ (l : List Event). AllByRecursion (λ e. is_scripted e ≡ true) l) (sym p.events)
+    (events_scripted lines are))
 
 -- what a script's seat has added are events of windows
-pub script_scripted : (enabled : Rule) (answer : Answers) (clients : ℕ) (script : List ℕ) (e : ScriptEnd) (w : Known) → EndsScript enabled answer clients unseen (asked_by_script script) e w
+pub script_scripted : (enabled : Rule) (answer : Answers) (clients : ℕ) (script : List ℕ) (e : ScriptEnd) (w : Known)
+    → EndsScript enabled answer clients unseen (asked_by_script script) e w
     → AllByRecursion (λ (x : ℕ × Event). is_scripted x.1 ≡ true) w.mine
-script_scripted enabled answer clients script end.Done w h = passed_scripted enabled answer _ w (lines_scripted (lines_of script)) h
+script_scripted enabled answer clients script end.Done w h = passed_scripted enabled answer _ w
+    (lines_scripted (lines_of script)) h
 script_scripted enabled answer clients script (end.Refused line why) w h =
-    passed_scripted enabled answer h.before w (front_scripted h.before _ (subst AreScripted h.split (lines_scripted (lines_of script)))) h.passed
+    passed_scripted enabled answer h.before w (front_scripted h.before _
+    (subst AreScripted h.split (lines_scripted (lines_of script)))) h.passed
 script_scripted enabled answer clients script end.NoMemory w h =
-    passed_scripted enabled answer h.0 w (front_scripted h.0 h.1 (subst AreScripted h.2 (lines_scripted (lines_of script)))) h.3
+    passed_scripted enabled answer h.0 w (front_scripted h.0 h.1 (subst AreScripted h.2
+    (lines_scripted (lines_of script)))) h.3

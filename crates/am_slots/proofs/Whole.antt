@@ -18,15 +18,18 @@ use Rattle.am_slots.proofs.Each.{each_parts, each_has, each_tells, each_unbound}
 -- a seat that has seen nothing
 unseen_is : (v : Known) → IsFresh 1 v → v.seen ≡ [] → v ≡ unseen
 unseen_is v f e =
-    let F : ℕ → List Event → List (ℕ × Event) → List (List (ℕ × Event)) → Known = λ p s m l. record { parts = p; seen = s; mine = m; ended = l } in
+    let F : ℕ → List Event → List (ℕ × Event) → List (List (ℕ × Event))
+    → Known = λ p s m l. record { parts = p; seen = s; mine = m; ended = l } in
     ap (λ (p : ℕ). F p v.seen v.mine v.ended) f.parts
     ∙ ap (λ (s : List Event). F 1 s v.mine v.ended) e
     ∙ ap (λ (m : List (ℕ × Event)). F 1 [] m v.ended) f.mine
     ∙ ap (λ (l : List (List (ℕ × Event))). F 1 [] [] l) f.ended
 
-module _ {T G L S K : Type 0} (Fits : T → Type 0) (known : T → Known) (o : Outside G L S K) (enabled : Rule) (unsent : List Event → ℕ → List ℕ) (answer : Answers)
+module _ {T G L S K : Type 0} (Fits : T → Type 0) (known : T → Known) (o : Outside G L S K) (enabled : Rule)
+    (unsent : List Event → ℕ → List ℕ) (answer : Answers)
     (bound slots : List (Slot G L S K)) (xs ys : List (Worker T G L S K))
-    (before : slots_of xs ≡ bound) (h : EachWorks Fits known o enabled unsent answer xs ys) (after : slots ≡ slots_of ys) where
+    (before : slots_of xs ≡ bound) (h : EachWorks Fits known o enabled unsent answer xs ys)
+    (after : slots ≡ slots_of ys) where
   pub all_tells : (path : List ℕ) → HaveNames o.gate path 0 bound → EachTells o path 0 slots
   all_tells path n =
       let P : List (Slot G L S K) → Type 0 = λ l. HaveNames o.gate path 0 l in
@@ -39,22 +42,36 @@ module _ {T G L S K : Type 0} (Fits : T → Type 0) (known : T → Known) (o : O
       ∙ each_unbound Fits known o enabled unsent answer xs ys h
       ∙ ap (λ (l : List (Slot G L S K)). unbound l) before
 
-  module _ (n : ℕ) (v u w x : Known) (entries : List (ℕ × Event)) (fresh : IsFresh (2 * n + 1) v) (hired : IsFresh 1 u) (gains : Gains u entries w) (takes : TakesInEach known w ys x) where
+  module _ (n : ℕ) (v u w x : Known) (entries : List (ℕ × Event)) (fresh : IsFresh (2 * n + 1) v) (hired : IsFresh 1 u)
+      (gains : Gains u entries w) (takes : TakesInEach known w ys x) where
     pub all_parts : length bound ≡ n → x.parts ≡ v.parts
     all_parts count =
-        omega (arith, fresh.parts, hired.parts, gains.parts, takes.parts, each_parts Fits known o enabled unsent answer xs ys h, count, ap length before, length-map xs (λ (y : Worker T G L S K). y.slot))
+        omega (
+          arith,
+          fresh.parts,
+          hired.parts,
+          gains.parts,
+          takes.parts,
+          each_parts Fits known o enabled unsent answer xs ys h,
+          count,
+          ap length before,
+          length-map xs (λ (y : Worker T G L S K). y.slot),
+        )
 
     ended_is : x.ended ≡ flat_map (λ (y : Worker T G L S K). lists_of (known y.seat)) ys
-    ended_is = takes.ended ∙ ap (λ (l : List (List (ℕ × Event))). l ++ flat_map (λ (y : Worker T G L S K). lists_of (known y.seat)) ys) (gains.ended ∙ hired.ended)
+    ended_is = takes.ended ∙ ap (λ (l : List (List (ℕ × Event))). l
+        ++ flat_map (λ (y : Worker T G L S K). lists_of (known y.seat)) ys) (gains.ended ∙ hired.ended)
 
-    pub all_served : (clients : ℕ) (script : List ℕ) (end : ScriptEnd) → u.seen ≡ [] → EndsScript enabled answer clients u (asked_by_script script) end w
+    pub all_served : (clients : ℕ) (script : List ℕ) (end : ScriptEnd) → u.seen ≡ []
+        → EndsScript enabled answer clients u (asked_by_script script) end w
         → ServesAll o enabled unsent answer clients script slots end x
     all_served clients script end seen ends =
         let P : List (Slot G L S K) → Type 0 = λ l. EachHas o enabled unsent answer 0 x.seen l x.ended in
         let Q : List (List (ℕ × Event)) → Type 0 = λ l. EachHas o enabled unsent answer 0 x.seen (slots_of ys) l in
         let R : Known → Type 0 = λ k. EndsScript enabled answer clients k (asked_by_script script) end w in
         record {
-          each = subst P (sym after) (subst Q (sym ended_is) (each_has Fits known o enabled unsent answer xs ys h x.seen takes.each));
+          each = subst P (sym after) (subst Q (sym ended_is) (each_has Fits known o enabled unsent answer xs ys h x.seen
+              takes.each));
           known = w;
           seen = takes.seen;
           mine = takes.mine;

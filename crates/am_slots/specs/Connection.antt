@@ -46,4 +46,5 @@ endings_of journal conn = flat_map (ended_by conn) journal
 
 -- at a turn behind the connection's hang-up no reply to it was unsent
 abbrev pub IsDrained : (List Event → ℕ → List ℕ) → List Event → ℕ → Type 0
-IsDrained unsent journal conn = (before : List Event) × IsPrefix before journal × (has_hang before conn ≡ true) × (unsent before conn ≡ [])
+IsDrained unsent journal conn = (before : List Event) × IsPrefix before journal × (has_hang before conn ≡ true)
+    × (unsent before conn ≡ [])

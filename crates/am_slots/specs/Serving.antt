@@ -19,14 +19,17 @@ module _ {G L S K : Type 0} (o : Outside G L S K) where
   -- and what a journal has of them
   abbrev pub EachIs : Rule → (List Event → ℕ → List ℕ) → Answers → List Event → ℕ → List (Slot G L S K) → Type 0
   EachIs enabled unsent answer journal conn [] = Unit {0}
-  EachIs enabled unsent answer journal conn (s ∷ slots) = IsOf o enabled unsent answer journal conn s × EachIs enabled unsent answer journal (conn + 1) slots
+  EachIs enabled unsent answer journal conn (s ∷ slots) = IsOf o enabled unsent answer journal conn s
+      × EachIs enabled unsent answer journal (conn + 1) slots
 
 -- what a script's seat knows at first
 abbrev pub unseen : Known
 unseen = record { parts = 1; seen = []; mine = []; ended = [] }
 
 -- All slots were served and the script was done: the seat has its entries, and those of the slots' seats ended in it.
-pub record ServesAll {G L S K : Type 0} (o : Outside G L S K) (enabled : Rule) (unsent : List Event → ℕ → List ℕ) (answer : Answers) (clients : ℕ) (script : List ℕ) (slots : List (Slot G L S K)) (end : ScriptEnd) (w : Known) : Type 0 where
+pub record ServesAll {G L S K : Type 0} (o : Outside G L S K) (enabled : Rule) (unsent : List Event → ℕ → List ℕ)
+    (answer : Answers) (clients : ℕ) (script : List ℕ) (slots : List (Slot G L S K)) (end : ScriptEnd)
+    (w : Known) : Type 0 where
   pub each : EachHas o enabled unsent answer 0 w.seen slots w.ended
   pub known : Known
   pub seen : IsPrefix known.seen w.seen
@@ -34,14 +37,17 @@ pub record ServesAll {G L S K : Type 0} (o : Outside G L S K) (enabled : Rule) (
   pub did : EndsScript enabled answer clients unseen (asked_by_script script) end known
 
 -- A script was done so, and the journal's events of windows are those of its lines.
-pub record DidScript (enabled : Rule) (answer : Answers) (clients : ℕ) (script : List ℕ) (journal : List Event) (end : ScriptEnd) : Type 0 where
+pub record DidScript (enabled : Rule) (answer : Answers) (clients : ℕ) (script : List ℕ) (journal : List Event)
+    (end : ScriptEnd) : Type 0 where
   pub known : Known
   pub seen : IsPrefix known.seen journal
   pub did : EndsScript enabled answer clients unseen (asked_by_script script) end known
   pub events : filter is_scripted journal ≡ plain known.mine
 
 -- A journal of slots that were served and a script that was done, and of nothing else.
-pub record IsRun {G L S K : Type 0} (o : Outside G L S K) (enabled : Rule) (unsent : List Event → ℕ → List ℕ) (answer : Answers) (clients : ℕ) (script : List ℕ) (journal : List Event) (slots : List (Slot G L S K)) (end : ScriptEnd) : Type 0 where
+pub record IsRun {G L S K : Type 0} (o : Outside G L S K) (enabled : Rule) (unsent : List Event → ℕ → List ℕ)
+    (answer : Answers) (clients : ℕ) (script : List ℕ) (journal : List Event) (slots : List (Slot G L S K))
+    (end : ScriptEnd) : Type 0 where
   pub each : EachIs o enabled unsent answer journal 0 slots
   pub others : (conn : ℕ) → clients ≤ conn → IsSilent journal conn
   pub did : DidScript enabled answer clients script journal end

@@ -17,7 +17,8 @@ use Rattle.am_slots.specs.Connection.{IsDrained}
 
 -- its dialling was refused so, after a journal with which what was seen begins
 abbrev pub WasRefused : Rule → ℕ → List Event → Refused → Type 0
-WasRefused enabled conn seen refused = (now : List Event) × IsPrefix now seen × Refuses refused (enabled now (Dial conn))
+WasRefused enabled conn seen refused = (now : List Event) × IsPrefix now seen
+    × Refuses refused (enabled now (Dial conn))
 
 -- the hang-up of a connection with this cause, as an entry
 abbrev pub IsHangUp : ℕ → Ending → List (ℕ × Event) → Type 0
@@ -36,7 +37,8 @@ HangsAfterWriting conn end.NoMemory entries = (entries ≡ []) ⊎ IsHangUp conn
 
 -- What a seat that dials a connection and reads has added: the dialling, messages of the bytes that were read, each
 -- piece of which was read once there was room, and a hang-up.
-pub record Reads (enabled : Rule) (answer : Answers) (conn : ℕ) (seen : List Event) (first now : Option (List ℕ)) (read : Option Ending) (entries : List (ℕ × Event)) : Type 0 where
+pub record Reads (enabled : Rule) (answer : Answers) (conn : ℕ) (seen : List Event) (first now : Option (List ℕ))
+    (read : Option Ending) (entries : List (ℕ × Event)) : Type 0 where
   pub number : ℕ
   pub messages : List (ℕ × Event)
   pub hang : List (ℕ × Event)
@@ -45,9 +47,10 @@ pub record Reads (enabled : Rule) (answer : Answers) (conn : ℕ) (seen : List E
   pub hangs : HangsAfterReading conn read hang
   pub gives : GivesOf enabled answer conn seen (spellings messages) first now read
 
--- What a seat that writes has added: the takings of replies, which its sink got, and a hang-up. Where it answers that the connection has
--- ended, nothing was unsent then.
-pub record Writes (unsent : List Event → ℕ → List ℕ) (conn : ℕ) (seen : List Event) (wrote : WriteEnd) (held : Option (List ℕ)) (entries : List (ℕ × Event)) : Type 0 where
+-- What a seat that writes has added: the takings of replies, which its sink got, and a hang-up. Where it answers that
+-- the connection has ended, nothing was unsent then.
+pub record Writes (unsent : List Event → ℕ → List ℕ) (conn : ℕ) (seen : List Event) (wrote : WriteEnd)
+    (held : Option (List ℕ)) (entries : List (ℕ × Event)) : Type 0 where
   pub takings : List (ℕ × Event)
   pub hang : List (ℕ × Event)
   pub first : Option (List ℕ)
@@ -59,8 +62,11 @@ pub record Writes (unsent : List Event → ℕ → List ℕ) (conn : ℕ) (seen 
   pub gets : Gets wrote first (taken_bytes unsent seen entries) held
   pub drained : wrote ≡ end.Ended → IsDrained unsent seen conn
 
--- A connection's seats, the first of which took in the second: what they have added, as far as a journal was seen that has the hang-up.
-pub record Serves (enabled : Rule) (unsent : List Event → ℕ → List ℕ) (answer : Answers) (conn : ℕ) (seen : List Event) (first now : Option (List ℕ)) (read : Option Ending) (wrote : WriteEnd) (held : Option (List ℕ)) (lists : List (List (ℕ × Event))) : Type 0 where
+-- A connection's seats, the first of which took in the second: what they have added, as far as a journal was seen that
+-- has the hang-up.
+pub record Serves (enabled : Rule) (unsent : List Event → ℕ → List ℕ) (answer : Answers) (conn : ℕ) (seen : List Event)
+    (first now : Option (List ℕ)) (read : Option Ending) (wrote : WriteEnd) (held : Option (List ℕ))
+    (lists : List (List (ℕ × Event))) : Type 0 where
   pub reads : List (ℕ × Event)
   pub writes : List (ℕ × Event)
   pub are : lists ≡ reads ∷ writes ∷ []

@@ -35,21 +35,25 @@ IsCause None end.Gone cause = cause ≡ ending.Gone
 IsCause None end.NoMemory cause = cause ≡ ending.NoMemory
 
 -- what the objects outside tell
-abbrev pub outside : {G L S K : Type 0} → (G → GateTold) → (L → LinkTold) → (S → BytesTold) → (K → BytesTold) → Outside G L S K
+abbrev pub outside : {G L S K : Type 0} → (G → GateTold) → (L → LinkTold) → (S → BytesTold) → (K → BytesTold)
+    → Outside G L S K
 outside gate link reader writer = record { gate = gate; link = link; reader = reader; writer = writer }
 
--- A connection that was served: it was dialled once and has ended once, its messages are those of its source, which was read on only while
--- there was room for replies, and its sink got what was sent to it. Where writing ended with it, nothing was left unsent.
-pub record IsServed (enabled : Rule) (unsent : List Event → ℕ → List ℕ) (answer : Answers) (journal : List Event) (conn : ℕ) (first now : Option (List ℕ)) (read : Option Ending) (wrote : WriteEnd) (held : Option (List ℕ)) : Type 0 where
-  pub dialled : filter (is_dial_of conn) journal ≡ Dial conn ∷ []
-  pub cause : Ending
-  pub ended : endings_of journal conn ≡ cause ∷ []
-  pub caused : IsCause read wrote cause
-  pub gives : GivesOf enabled answer conn journal (messages_of journal conn) first now read
-  pub empty : Option (List ℕ)
-  pub begins_empty : AreTold empty []
-  pub gets : Gets wrote empty (sent unsent journal conn) held
-  pub drained : wrote ≡ end.Ended → IsDrained unsent journal conn
+-- A connection that was served: it was dialled once and has ended once, its messages are those of its source, which was
+-- read on only while there was room for replies, and its sink got what was sent to it. Where writing ended with it,
+-- nothing was left unsent.
+pub record IsServed (enabled : Rule) (unsent : List Event → ℕ → List ℕ) (answer : Answers) (journal : List Event)
+    (conn : ℕ) (first now : Option (List ℕ)) (read : Option Ending) (wrote : WriteEnd) (held : Option (List ℕ)) : Type 0
+  where
+    pub dialled : filter (is_dial_of conn) journal ≡ Dial conn ∷ []
+    pub cause : Ending
+    pub ended : endings_of journal conn ≡ cause ∷ []
+    pub caused : IsCause read wrote cause
+    pub gives : GivesOf enabled answer conn journal (messages_of journal conn) first now read
+    pub empty : Option (List ℕ)
+    pub begins_empty : AreTold empty []
+    pub gets : Gets wrote empty (sent unsent journal conn) held
+    pub drained : wrote ≡ end.Ended → IsDrained unsent journal conn
 
 -- ---- slots by themselves
 
@@ -72,20 +76,22 @@ module _ {G L S K : Type 0} where
   HasName told path conn (slot.Undialled x refused) = IsNamed (told x.gate).name path conn
   HasName told path conn (slot.Served x read wrote) = IsNamed (told x.gate).name path conn
 
-  -- A connection was taken whole, its gate and its link having been asked once, and is closed: both its halves were ended.
+  -- A connection was taken whole, its gate and its link having been asked once, and is closed: both its halves were
+  -- ended.
   pub record IsClosed (o : Outside G L S K) (x : Objects G L S K) : Type 0 where
     pub given : (o.gate x.gate).given ≡ 1
     pub halved : (o.link x.link).is_halved ≡ true
     pub reader : (o.reader x.reader).is_ended ≡ true
     pub writer : (o.writer x.writer).is_ended ≡ true
 
-  -- What its objects tell once it was served: one that failed has counted it, and gave nothing; a source that has ended has nothing left;
-  -- none waits.
+  -- What its objects tell once it was served: one that failed has counted it, and gave nothing; a source that has ended
+  -- has nothing left; none waits.
   abbrev pub Tells : Outside G L S K → Slot G L S K → Type 0
   Tells o slot.Unbound = Unit {0}
   Tells o (slot.Bound gate) = ⊥
   Tells o (slot.Unlinked gate) = HasRisen 0 (o.gate gate).faults × ((o.gate gate).given ≡ 0)
-  Tells o (slot.Unhalved gate link) = HasRisen 0 (o.link link).faults × ((o.gate gate).given ≡ 1) × ((o.link link).is_halved ≡ false)
+  Tells o (slot.Unhalved gate link) = HasRisen 0 (o.link link).faults × ((o.gate gate).given ≡ 1)
+      × ((o.link link).is_halved ≡ false)
   Tells o (slot.Undialled x refused) = IsClosed o x
   Tells o (slot.Served x read wrote) =
       (read ≡ Some ending.ReadFault → HasRisen 0 (o.reader x.reader).faults)
@@ -114,28 +120,31 @@ HasGiven all missing before now = (now + missing ≡ before + all) ⊎ (2 ^ 64 �
 
 -- ---- slots and a journal
 
-module _ {G L S K : Type 0} (o : Outside G L S K) (enabled : Rule) (unsent : List Event → ℕ → List ℕ) (answer : Answers) where
-  -- what the seat of a slot has, and those that ended in it, as far as a journal was seen
-  abbrev pub Has : ℕ → List Event → Slot G L S K → List (List (ℕ × Event)) → Type 0
-  Has conn seen slot.Unbound lists = lists ≡ [] ∷ []
-  Has conn seen (slot.Bound gate) lists = lists ≡ [] ∷ []
-  Has conn seen (slot.Unlinked gate) lists = lists ≡ [] ∷ []
-  Has conn seen (slot.Unhalved gate link) lists = lists ≡ [] ∷ []
-  Has conn seen (slot.Undialled x refused) lists = (lists ≡ [] ∷ []) × WasRefused enabled conn seen refused
-  Has conn seen (slot.Served x read wrote) lists = Serves enabled unsent answer conn seen (o.link x.link).begins (o.reader x.reader).bytes read wrote (o.writer x.writer).bytes lists
+module _ {G L S K : Type 0} (o : Outside G L S K) (enabled : Rule) (unsent : List Event → ℕ → List ℕ) (answer : Answers)
+  where
+    -- what the seat of a slot has, and those that ended in it, as far as a journal was seen
+    abbrev pub Has : ℕ → List Event → Slot G L S K → List (List (ℕ × Event)) → Type 0
+    Has conn seen slot.Unbound lists = lists ≡ [] ∷ []
+    Has conn seen (slot.Bound gate) lists = lists ≡ [] ∷ []
+    Has conn seen (slot.Unlinked gate) lists = lists ≡ [] ∷ []
+    Has conn seen (slot.Unhalved gate link) lists = lists ≡ [] ∷ []
+    Has conn seen (slot.Undialled x refused) lists = (lists ≡ [] ∷ []) × WasRefused enabled conn seen refused
+    Has conn seen (slot.Served x read wrote) lists = Serves enabled unsent answer conn seen (o.link x.link).begins
+        (o.reader x.reader).bytes read wrote (o.writer x.writer).bytes lists
 
-  -- the same of slots one after another, from this connection on
-  abbrev pub EachHas : ℕ → List Event → List (Slot G L S K) → List (List (ℕ × Event)) → Type 0
-  EachHas conn seen [] lists = lists ≡ []
-  EachHas conn seen (s ∷ slots) lists =
-      (own : List (List (ℕ × Event))) × (others : List (List (ℕ × Event)))
-      × (lists ≡ own ++ others) × Has conn seen s own × EachHas (conn + 1) seen slots others
+    -- the same of slots one after another, from this connection on
+    abbrev pub EachHas : ℕ → List Event → List (Slot G L S K) → List (List (ℕ × Event)) → Type 0
+    EachHas conn seen [] lists = lists ≡ []
+    EachHas conn seen (s ∷ slots) lists =
+        (own : List (List (ℕ × Event))) × (others : List (List (ℕ × Event)))
+        × (lists ≡ own ++ others) × Has conn seen s own × EachHas (conn + 1) seen slots others
 
-  -- What a journal has of a slot. One was not dialled for want of memory alone.
-  abbrev pub IsOf : List Event → ℕ → Slot G L S K → Type 0
-  IsOf journal conn slot.Unbound = IsSilent journal conn
-  IsOf journal conn (slot.Bound gate) = IsSilent journal conn
-  IsOf journal conn (slot.Unlinked gate) = IsSilent journal conn
-  IsOf journal conn (slot.Unhalved gate link) = IsSilent journal conn
-  IsOf journal conn (slot.Undialled x refused) = IsSilent journal conn × (refused ≡ why.NoMemory)
-  IsOf journal conn (slot.Served x read wrote) = IsServed enabled unsent answer journal conn (o.link x.link).begins (o.reader x.reader).bytes read wrote (o.writer x.writer).bytes
+    -- What a journal has of a slot. One was not dialled for want of memory alone.
+    abbrev pub IsOf : List Event → ℕ → Slot G L S K → Type 0
+    IsOf journal conn slot.Unbound = IsSilent journal conn
+    IsOf journal conn (slot.Bound gate) = IsSilent journal conn
+    IsOf journal conn (slot.Unlinked gate) = IsSilent journal conn
+    IsOf journal conn (slot.Unhalved gate link) = IsSilent journal conn
+    IsOf journal conn (slot.Undialled x refused) = IsSilent journal conn × (refused ≡ why.NoMemory)
+    IsOf journal conn (slot.Served x read wrote) = IsServed enabled unsent answer journal conn (o.link x.link).begins
+        (o.reader x.reader).bytes read wrote (o.writer x.writer).bytes

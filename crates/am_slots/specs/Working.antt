@@ -1,5 +1,6 @@
 -- What serving does to the workers of slots.
-use Rattle.std.specs.Prelude.{◌≡◌, ℕ, ◌+◌, ◌<◌, ◌≤◌, true, List, [], ◌∷◌, ◌++◌, Option, Some, slice_index_or, length, map, vec_capacity}
+use Rattle.std.specs.Prelude.{◌≡◌, ℕ, ◌+◌, ◌<◌, ◌≤◌, true, List, [], ◌∷◌, ◌++◌, Option, Some, slice_index_or, length}
+use Rattle.std.specs.Prelude.{map, vec_capacity}
 use Rattle.std.specs.List.{flat_map, AllByRecursion}
 use denote.Ref.{MutBor}
 use denote.Param.Members.{Shared}
@@ -24,7 +25,8 @@ use Rattle.am_slots.specs.declared.slot.Slot.{Slot}
 use Rattle.am_slots.specs.declared.working.Worker.{Worker}
 
 -- what a side that reads does
-pub record DidRead (enabled : Rule) (answer : Answers) (conn : ℕ) (v w : Known) (s : Seen) (read : Option Ending) : Type 0 where
+pub record DidRead (enabled : Rule) (answer : Answers) (conn : ℕ) (v w : Known) (s : Seen) (read : Option Ending) : Type
+    0 where
   pub gains : Gains v (gained v w) w
   pub entries : AreRead conn read v w
   pub gives : GivesOf enabled answer conn w.seen (spellings (gained v w)) s.before.bytes s.now.bytes read
@@ -35,14 +37,15 @@ pub record DidRead (enabled : Rule) (answer : Answers) (conn : ℕ) (v w : Known
   pub closed : s.now.is_ended ≡ true
 
 -- what a side that writes does
-pub record DidWrite (unsent : List Event → ℕ → List ℕ) (conn : ℕ) (v w : Known) (s : Seen) (wrote : WriteEnd) : Type 0 where
-  pub gains : Gains v (gained v w) w
-  pub entries : AreWritten conn wrote v w
-  pub gets : Gets wrote s.before.bytes (taken_bytes unsent w.seen (gained v w)) s.now.bytes
-  pub ended : has_hang w.seen conn ≡ true
-  pub nothing_unsent : wrote ≡ end.Ended → unsent w.seen conn ≡ []
-  pub gone : wrote ≡ end.Gone → HasRisen s.before.faults s.now.faults
-  pub closed : s.now.is_ended ≡ true
+pub record DidWrite (unsent : List Event → ℕ → List ℕ) (conn : ℕ) (v w : Known) (s : Seen) (wrote : WriteEnd) : Type 0
+  where
+    pub gains : Gains v (gained v w) w
+    pub entries : AreWritten conn wrote v w
+    pub gets : Gets wrote s.before.bytes (taken_bytes unsent w.seen (gained v w)) s.now.bytes
+    pub ended : has_hang w.seen conn ≡ true
+    pub nothing_unsent : wrote ≡ end.Ended → unsent w.seen conn ≡ []
+    pub gone : wrote ≡ end.Gone → HasRisen s.before.faults s.now.faults
+    pub closed : s.now.is_ended ≡ true
 
 -- a seat has dialled a connection, and has no other entry
 pub record HasDialled (conn : ℕ) (v : Known) : Type 0 where
@@ -65,7 +68,8 @@ module _ {T G L S K : Type 0} (Fits : T → Type 0) (known : T → Known) where
     pub waits : IsWaiting told w.slot
 
   -- a worker whose slot was served
-  pub record Works (o : Outside G L S K) (enabled : Rule) (unsent : List Event → ℕ → List ℕ) (answer : Answers) (conn : ℕ) (before after : Worker T G L S K) : Type 0 where
+  pub record Works (o : Outside G L S K) (enabled : Rule) (unsent : List Event → ℕ → List ℕ) (answer : Answers)
+      (conn : ℕ) (before after : Worker T G L S K) : Type 0 where
     pub fits : Fits after.seat
     pub parts : (known after.seat).parts ≡ 2
     pub has : Has o enabled unsent answer conn (known after.seat).seen after.slot (lists_of (known after.seat))
@@ -74,9 +78,11 @@ module _ {T G L S K : Type 0} (Fits : T → Type 0) (known : T → Known) where
     pub bound : unbound (after.slot ∷ []) ≡ unbound (before.slot ∷ [])
 
   -- the same of each, from connection 0 on
-  pub record EachWorks (o : Outside G L S K) (enabled : Rule) (unsent : List Event → ℕ → List ℕ) (answer : Answers) (before after : List (Worker T G L S K)) : Type 0 where
+  pub record EachWorks (o : Outside G L S K) (enabled : Rule) (unsent : List Event → ℕ → List ℕ) (answer : Answers)
+      (before after : List (Worker T G L S K)) : Type 0 where
     pub count : length after ≡ length before
-    pub each : (k : ℕ) (d : Worker T G L S K) → k < length before → Works o enabled unsent answer k (slice_index_or before k d) (slice_index_or after k d)
+    pub each : (k : ℕ) (d : Worker T G L S K) → k < length before → Works o enabled unsent answer k
+        (slice_index_or before k d) (slice_index_or after k d)
 
 module _ {F W : Type 0} (g : Shared F (ℕ × (MutBor W × Unit {0})) (Unit {0} × (MutBor W × Unit {0}))) (f : F) where
   -- each worker is what a call of f with its place left of it

@@ -1,4 +1,5 @@
-//! Serving connections, one for each slot of a host, and a script beside them, over any journal whose seats can be split.
+//! Serving connections, one for each slot of a host, and a script beside them, over any journal whose seats can be
+//! split.
 #![tactic(auto)]
 
 mod binding;

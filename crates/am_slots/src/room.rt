@@ -9,7 +9,8 @@ use am_serve::Bells;
 use am_text::NoMemory;
 use std::alloc::Global;
 
-/// Room for workers and for what becomes of their slots, and the bells of all sides. It is taken before any gate is bound.
+/// Room for workers and for what becomes of their slots, and the bells of all sides. It is taken before any gate is
+/// bound.
 #[derive(Drop)]
 pub(crate) struct Room<T, G, L, S, K> {
     pub workers: Vec<Worker<T, G, L, S, K>>,

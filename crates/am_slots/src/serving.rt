@@ -39,7 +39,8 @@ fn serve_sides<
 ) -> (Option<Ending>, WriteEnd)
     requires fits { C.fits at.now.desk.now seat.old × C.fits at.now.desk.now other.old }
     requires conn { at.now.conn < connection_count }
-    requires dialled { (has_dial (C.known seat.old).seen at.now.conn ≡ true) × (has_dial (C.known other.old).seen at.now.conn ≡ true) }
+    requires dialled { (has_dial (C.known seat.old).seen at.now.conn ≡ true)
+        × (has_dial (C.known other.old).seen at.now.conn ≡ true) }
     ensures fits { C.fits at.now.desk.now seat.new × C.fits at.now.desk.now other.new }
     ensures read { DidRead C.enabled C.answer at.now.conn (C.known seat.old) (C.known seat.new)
         (seen (S.told objects.old.reader) (S.told objects.new.reader))
@@ -80,7 +81,8 @@ fn serve_connection<
     requires conn { at.now.conn < connection_count }
     requires dialled { HasDialled at.now.conn (C.known seat.old) }
     requires parts { (C.known seat.old).parts ≡ 2 }
-    requires begins { ((S.told objects.reader).bytes ≡ (L.told objects.link).begins) × AreTold (K.told objects.writer).bytes [] }
+    requires begins { ((S.told objects.reader).bytes ≡ (L.told objects.link).begins)
+        × AreTold (K.told objects.writer).bytes [] }
     requires fresh { ((S.told objects.reader).faults ≡ 0) × ((K.told objects.writer).faults ≡ 0) }
     requires asked { ((G.told objects.gate).given ≡ 1) × ((L.told objects.link).is_halved ≡ true) }
     ensures fits { C.fits at.now.desk.now seat.new }
@@ -88,7 +90,8 @@ fn serve_connection<
     ensures has { Has (outside G.told L.told S.told K.told)
         C.enabled C.unsent C.answer at.now.conn (C.known seat.new).seen result (lists_of (C.known seat.new)) }
     ensures tells { Tells (outside G.told L.told S.told K.told) result }
-    ensures named { (path : List ℕ) → IsNamed (G.told objects.gate).name path at.now.conn → HasName G.told path at.now.conn result }
+    ensures named { (path : List ℕ) → IsNamed (G.told objects.gate).name path at.now.conn
+        → HasName G.told path at.now.conn result }
     ensures bound { unbound (result ∷ []) ≡ 0 }
 {
     let mut objects = objects;
@@ -128,7 +131,8 @@ fn serve_gate<
     ensures has { Has (outside G.told L.told S.told K.told)
         C.enabled C.unsent C.answer at.now.conn (C.known seat.new).seen result (lists_of (C.known seat.new)) }
     ensures tells { Tells (outside G.told L.told S.told K.told) result }
-    ensures named { (path : List ℕ) → IsNamed (G.told gate).name path at.now.conn → HasName G.told path at.now.conn result }
+    ensures named { (path : List ℕ) → IsNamed (G.told gate).name path at.now.conn
+        → HasName G.told path at.now.conn result }
     ensures bound { unbound (result ∷ []) ≡ 0 }
 {
     let mut gate = gate;

@@ -60,7 +60,8 @@ fn serve_beside<
     requires accepts { AcceptsEach F.Fn serve.now workers.old }
     ensures fits { C.fits script.now.desk.now seat.new }
     ensures gains { Gains (C.known seat.old) (gained (C.known seat.old) (C.known seat.new)) (C.known seat.new) }
-    ensures ends { EndsScript C.enabled C.answer script.now.clients (C.known seat.old) (asked_by_script script.now.lines.now) result (C.known seat.new) }
+    ensures ends { EndsScript C.enabled C.answer script.now.clients (C.known seat.old)
+        (asked_by_script script.now.lines.now) result (C.known seat.new) }
     ensures each { ServesEach F.Fn serve.now workers.old workers.new }
 {
     // Where no thread can be made the script comes last: it may wait for connections.
@@ -100,7 +101,8 @@ fn serve_workers<
     requires few { length workers.old ≤ connection_count }
     ensures fits { C.fits script.now.desk.now seat.new }
     ensures gains { Gains (C.known seat.old) (gained (C.known seat.old) (C.known seat.new)) (C.known seat.new) }
-    ensures ends { EndsScript C.enabled C.answer script.now.clients (C.known seat.old) (asked_by_script script.now.lines.now) result (C.known seat.new) }
+    ensures ends { EndsScript C.enabled C.answer script.now.clients (C.known seat.old)
+        (asked_by_script script.now.lines.now) result (C.known seat.new) }
     ensures works { EachWorks (C.fits script.now.desk.now) C.known (outside G.told L.told S.told K.told)
         C.enabled C.unsent C.answer workers.old workers.new }
 {
@@ -167,9 +169,9 @@ fn serve_bound<
     (gather(rt, desk, seat, workers, slots), end)
 }
 
-/// Binds a gate for each of so many slots, and then takes a connection at each and serves it, all at once, and does the script beside
-/// them, until all have ended. Want of memory for the slots themselves is told before anything is bound; a connection that found none
-/// is in its slot.
+/// Binds a gate for each of so many slots, and then takes a connection at each and serves it, all at once, and does the
+/// script beside them, until all have ended. Want of memory for the slots themselves is told before anything is bound;
+/// a connection that found none is in its slot.
 pub fn serve_slots<H: Host, C: Seats<Seat = T> + Sync, T: Send + Drop, R: Threads + Wait + Sync>(
     rt: &R,
     alloc: Global,
@@ -192,7 +194,8 @@ pub fn serve_slots<H: Host, C: Seats<Seat = T> + Sync, T: Send + Drop, R: Thread
     ensures risen { IfOk result (λ r. HasRisenBy (unbound r.0) (H.told host.old).faults (H.told host.new).faults) }
     ensures later { (H.told host.old).faults ≤ (H.told host.new).faults }
     // Each slot was asked for once.
-    ensures given { IfOk result (λ r. HasGiven service.now.clients (unbound r.0) (H.told host.old).given (H.told host.new).given) }
+    ensures given { IfOk result (λ r. HasGiven service.now.clients (unbound r.0) (H.told host.old).given
+        (H.told host.new).given) }
     ensures err { OnErr result (C.known seat.new ≡ C.known seat.old) }
     // Without memory nothing was bound.
     ensures untouched { OnErr result (host.new ≡ host.old) }

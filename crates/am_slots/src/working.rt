@@ -32,7 +32,8 @@ pub(crate) fn hire<C: Seats<Seat = T>, T: Drop, G: Drop, L: Drop, S: Drop, K: Dr
     ensures fresh { IsFresh 1 (C.known seat.new) }
     ensures seen { (C.known seat.new).seen ≡ (C.known seat.old).seen }
     ensures slots { slots_of result.items ≡ slots }
-    ensures ready { (told : G → GateTold) → AreWaiting told slots → All (IsReady (C.fits desk.now) C.known told) result.items }
+    ensures ready { (told : G → GateTold) → AreWaiting told slots → All (IsReady (C.fits desk.now) C.known told)
+        result.items }
 {
     let mut workers = workers;
     for slot in slots.into_vec() {

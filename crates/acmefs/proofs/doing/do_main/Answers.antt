@@ -22,17 +22,24 @@ pub returns-clause-does : goal.returns-clause-does
 returns-clause-does g c = record {
   does = done {G = g.row.H-G.Denot} {L = g.row.H-G-L.Denot} {S = g.row.H-G-L-R.Denot} {K = g.row.H-G-L-W.Denot}
       _ (outside g.H.G.Gate.told g.H.G.L.Link.told g.H.G.L.R.Source.told g.H.G.L.W.Sink.told)
-      c.name_of.result.now (tree_name c.args.tree) _ _ _ c.do_path-doing.result c.entry_of.result c.do_status.ensures c.listed.ensures c.entry_of.ensures c.name_of.ensures.name c.do_path-doing.ensures.says;
+      c.name_of.result.now (tree_name c.args.tree) _ _ _ c.do_path-doing.result c.entry_of.result c.do_status.ensures
+      c.listed.ensures c.entry_of.ensures c.name_of.ensures.name c.do_path-doing.ensures.says;
   dialled = asked_at {G = g.row.H-G.Denot} {L = g.row.H-G-L.Denot} {S = g.row.H-G-L-R.Denot} {K = g.row.H-G-L-W.Denot}
       (outside g.H.G.Gate.told g.H.G.L.Link.told g.H.G.L.R.Source.told g.H.G.L.W.Sink.told) c.args.path.now
-      (host_seen (g.H.Host.told c.args.host.now) (g.H.Host.told c.do_path-doing.new.host)) c.do_path-doing.result c.entry_of.result c.listed.result c.entry_of.ensures c.listed.ensures
-      (λ none. let un = none_linked {G = g.row.H-G.Denot} {L = g.row.H-G-L.Denot} {S = g.row.H-G-L-R.Denot} {K = g.row.H-G-L-W.Denot} c.do_path-doing.result c.entry_of.result c.listed.result c.entry_of.ensures c.listed.ensures none in
-      ap (λ (h : g.row.H.Denot). g.H.Host.told h) (c.do_path-doing.ensures.untouched un.0 un.1)) c.do_path-doing.ensures.given;
+      (host_seen (g.H.Host.told c.args.host.now) (g.H.Host.told c.do_path-doing.new.host)) c.do_path-doing.result
+      c.entry_of.result c.listed.result c.entry_of.ensures c.listed.ensures
+      (λ none. let un = none_linked {G = g.row.H-G.Denot} {L = g.row.H-G-L.Denot} {S = g.row.H-G-L-R.Denot}
+      {K = g.row.H-G-L-W.Denot} c.do_path-doing.result c.entry_of.result c.listed.result c.entry_of.ensures
+      c.listed.ensures none in
+      ap (λ (h : g.row.H.Denot). g.H.Host.told h) (c.do_path-doing.ensures.untouched un.0 un.1))
+      c.do_path-doing.ensures.given;
   empty = c.new.ensures;
   journal = of_none c.journals_are_lawful.ensures _ c.new.ensures;
 }
 
 pub returns-clause-unasked : goal.returns-clause-unasked
 returns-clause-unasked g c = λ none.
-    let un = none_linked {G = g.row.H-G.Denot} {L = g.row.H-G-L.Denot} {S = g.row.H-G-L-R.Denot} {K = g.row.H-G-L-W.Denot} c.do_path-doing.result c.entry_of.result c.listed.result c.entry_of.ensures c.listed.ensures none in
+    let un = none_linked {G = g.row.H-G.Denot} {L = g.row.H-G-L.Denot} {S = g.row.H-G-L-R.Denot}
+    {K = g.row.H-G-L-W.Denot} c.do_path-doing.result c.entry_of.result c.listed.result c.entry_of.ensures
+    c.listed.ensures none in
     c.do_path-doing.ensures.untouched un.0 un.1

@@ -8,7 +8,8 @@ returns-clause-drills g c = (c.drill-drilled.result.end, c.drill_status.ensures,
 pub returns-clause-journal : goal.returns-clause-journal
 returns-clause-journal g c =
     of_done c.journals_are_lawful.ensures _
-    (drill_done c.drill-drilled.result.end c.args.rounds _ _ (c.drill_is_played.ensures.played c.args.rounds c.requires.rounds.1) (c.drill_is_played.ensures.in_range c.args.rounds) c.drill-drilled.ensures.says)
+    (drill_done c.drill-drilled.result.end c.args.rounds _ _ (c.drill_is_played.ensures.played c.args.rounds
+    c.requires.rounds.1) (c.drill_is_played.ensures.in_range c.args.rounds) c.drill-drilled.ensures.says)
     c.drill-drilled.ensures.possible
 
 pub returns-clause-events : goal.returns-clause-events

@@ -3,7 +3,11 @@ use Rattle.am_replay.proofs.RoundTrip.{says_played, says_trips}
 use Rattle.acmefs.proofs.replaying.replay_main.Goals as goal
 
 pub returns-clause-own_text : goal.returns-clause-own_text
-returns-clause-own_text g c = (c.replay-ended.result.end, c.status_of.ensures, says_own c.replay-ended.result.end _ _ _ _ c.replay-ended.ensures.says)
+returns-clause-own_text g c = (
+  c.replay-ended.result.end,
+  c.status_of.ensures,
+  says_own c.replay-ended.result.end _ _ _ _ c.replay-ended.ensures.says,
+)
 
 pub returns-clause-journal : goal.returns-clause-journal
 returns-clause-journal g c = record {

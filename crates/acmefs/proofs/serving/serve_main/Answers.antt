@@ -9,7 +9,8 @@ returns-clause-serves g c =
     (of_serve {G = g.row.H-G.Denot} {L = g.row.H-G-L.Denot} {S = g.row.H-G-L-R.Denot} {K = g.row.H-G-L-W.Denot}
     c.journals_are_lawful.ensures
     (outside g.H.G.Gate.told g.H.G.L.Link.told g.H.G.L.R.Source.told g.H.G.L.W.Sink.told)
-    _ _ (given (g.I.Source.told c.args.input.now) (g.I.Source.told c.serve.new.input) (g.H.Host.told c.args.host.now) (g.H.Host.told c.serve.new.host))
+    _ _ (given (g.I.Source.told c.args.input.now) (g.I.Source.told c.serve.new.input) (g.H.Host.told c.args.host.now)
+    (g.H.Host.told c.serve.new.host))
     _ _ _ _ c.serve.result.end c.outcome_of.ensures.status c.serve.ensures.says c.serve.ensures.possible)
 
 pub returns-clause-events : goal.returns-clause-events

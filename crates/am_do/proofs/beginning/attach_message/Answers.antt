@@ -8,5 +8,6 @@ use Rattle.am_do.proofs.beginning.attach_message.Goals as goal
 
 pub returns-clause-may : goal.returns-clause-may
 returns-clause-may c =
-    let same : t.Attach 0 4294967295 c.in_ok-uname.uname c.in_ok-aname.aname ≡ attach_of c.args.tree.now = search rules in
+    let same : t.Attach 0 4294967295 c.in_ok-uname.uname c.in_ok-aname.aname ≡ attach_of c.args.tree.now =
+    search rules in
     subst (λ (b : TBody). MaySend [] b) (sym same) (attach_may c.args.tree.now c.requires)

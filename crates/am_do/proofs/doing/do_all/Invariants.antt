@@ -13,6 +13,7 @@ invariant-loop-line g l = record {
   sink : (g.W.Sink.told l.fn.client.sink).faults ≤ (g.W.Sink.told l.client.sink).faults;
   source : (g.R.Source.told l.fn.client.source).faults ≤ (g.R.Source.told l.client.source).faults;
   far : SoFar l.fn.client.talk.msize l.fn.lines l.line-iterator.rest.items l.fn.client.talk l.client.talk
-      (g.W.Sink.told l.fn.client.sink).bytes (g.W.Sink.told l.client.sink).bytes (g.R.Source.told l.fn.client.source).bytes (g.R.Source.told l.client.source).bytes
+      (g.W.Sink.told l.fn.client.sink).bytes (g.W.Sink.told l.client.sink).bytes
+      (g.R.Source.told l.fn.client.source).bytes (g.R.Source.told l.client.source).bytes
       l.failed (seen (g.O.Sink.told l.fn.output) (g.O.Sink.told l.output));
 }

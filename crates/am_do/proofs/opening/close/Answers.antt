@@ -8,13 +8,34 @@ use Rattle.am_do.proofs.opening.close.Goals as goal
 
 pub returns-in-Ok-clause-ok : goal.returns-in-Ok-clause-ok
 returns-in-Ok-clause-ok g c =
-    subst (λ (r : Result (List ℕ) Stop). IfOk r (λ (line : List ℕ). Went (close_told c.args.client.now.talk.msize c.args.fid) c.args.client.now.talk c.ask.new.client.talk (g.W.Sink.told c.args.client.now.sink).bytes (g.W.Sink.told c.ask.new.client.sink).bytes (g.R.Source.told c.args.client.now.source).bytes (g.R.Source.told c.ask.new.client.source).bytes line tt)) (sym c.said.ensures)
-    (said_ok c.ok_or_error.result (ok_or_error c.in-Ok.reply) (λ (line : List ℕ). Went (close_told c.args.client.now.talk.msize c.args.fid) c.args.client.now.talk c.ask.new.client.talk (g.W.Sink.told c.args.client.now.sink).bytes (g.W.Sink.told c.ask.new.client.sink).bytes (g.R.Source.told c.args.client.now.source).bytes (g.R.Source.told c.ask.new.client.source).bytes line tt) c.ok_or_error.ensures (went_saying (λ (reply : Reply) (rest : List ℕ). says (ok_or_error reply) rest) (ok_or_error c.in-Ok.reply) (close_is c.args.client.now.talk.msize c.args.fid) (λ bytes. refl) c.in-Ok.ensures.ok))
+    subst (λ (r : Result (List ℕ) Stop). IfOk r (λ (line : List ℕ).
+    Went (close_told c.args.client.now.talk.msize c.args.fid) c.args.client.now.talk c.ask.new.client.talk
+    (g.W.Sink.told c.args.client.now.sink).bytes (g.W.Sink.told c.ask.new.client.sink).bytes
+    (g.R.Source.told c.args.client.now.source).bytes (g.R.Source.told c.ask.new.client.source).bytes line tt))
+    (sym c.said.ensures)
+    (said_ok c.ok_or_error.result (ok_or_error c.in-Ok.reply) (λ (line : List ℕ).
+    Went (close_told c.args.client.now.talk.msize c.args.fid) c.args.client.now.talk c.ask.new.client.talk
+    (g.W.Sink.told c.args.client.now.sink).bytes (g.W.Sink.told c.ask.new.client.sink).bytes
+    (g.R.Source.told c.args.client.now.source).bytes (g.R.Source.told c.ask.new.client.source).bytes line tt)
+    c.ok_or_error.ensures (went_saying (λ (reply : Reply) (rest : List ℕ). says (ok_or_error reply) rest)
+    (ok_or_error c.in-Ok.reply) (close_is c.args.client.now.talk.msize c.args.fid) (λ bytes. refl)
+    c.in-Ok.ensures.ok))
 
 pub returns-in-Ok-clause-err : goal.returns-in-Ok-clause-err
 returns-in-Ok-clause-err g c =
-    subst (λ (r : Result (List ℕ) Stop). IfErr r (λ (end : Stop). Halted end (close_told c.args.client.now.talk.msize c.args.fid) c.args.client.now.talk (ends (g.W.Sink.told c.args.client.now.sink) (g.W.Sink.told c.ask.new.client.sink) (g.R.Source.told c.args.client.now.source) (g.R.Source.told c.ask.new.client.source)) [])) (sym c.said.ensures)
-    (said_err c.ok_or_error.result (λ (end : Stop). Halted end (close_told c.args.client.now.talk.msize c.args.fid) c.args.client.now.talk (ends (g.W.Sink.told c.args.client.now.sink) (g.W.Sink.told c.ask.new.client.sink) (g.R.Source.told c.args.client.now.source) (g.R.Source.told c.ask.new.client.source)) []) (halted_saying (λ (reply : Reply) (rest : List ℕ). says (ok_or_error reply) rest) (g.W.Sink.told c.args.client.now.sink).faults (g.W.Sink.told c.ask.new.client.sink).faults (g.R.Source.told c.args.client.now.source).faults (g.R.Source.told c.ask.new.client.source).faults (close_is c.args.client.now.talk.msize c.args.fid) c.ask.ensures.later_sink c.ask.ensures.later_source c.in-Ok.ensures.ok))
+    subst (λ (r : Result (List ℕ) Stop). IfErr r (λ (end : Stop). Halted end
+    (close_told c.args.client.now.talk.msize c.args.fid) c.args.client.now.talk
+    (ends (g.W.Sink.told c.args.client.now.sink) (g.W.Sink.told c.ask.new.client.sink)
+    (g.R.Source.told c.args.client.now.source) (g.R.Source.told c.ask.new.client.source)) [])) (sym c.said.ensures)
+    (said_err c.ok_or_error.result (λ (end : Stop). Halted end (close_told c.args.client.now.talk.msize c.args.fid)
+    c.args.client.now.talk (ends (g.W.Sink.told c.args.client.now.sink) (g.W.Sink.told c.ask.new.client.sink)
+    (g.R.Source.told c.args.client.now.source) (g.R.Source.told c.ask.new.client.source)) [])
+    (halted_saying (λ (reply : Reply) (rest : List ℕ). says (ok_or_error reply) rest)
+    (g.W.Sink.told c.args.client.now.sink).faults (g.W.Sink.told c.ask.new.client.sink).faults
+    (g.R.Source.told c.args.client.now.source).faults (g.R.Source.told c.ask.new.client.source).faults
+    (close_is c.args.client.now.talk.msize c.args.fid) c.ask.ensures.later_sink c.ask.ensures.later_source
+    c.in-Ok.ensures.ok))
 
 pub returns-in-Err-clause-err : goal.returns-in-Err-clause-err
-returns-in-Err-clause-err g c = halted_asking (λ (reply : Reply) (rest : List ℕ). says (ok_or_error reply) rest) (close_is c.args.client.now.talk.msize c.args.fid) c.in-Err.ensures.err
+returns-in-Err-clause-err g c = halted_asking (λ (reply : Reply) (rest : List ℕ). says (ok_or_error reply) rest)
+    (close_is c.args.client.now.talk.msize c.args.fid) c.in-Err.ensures.err

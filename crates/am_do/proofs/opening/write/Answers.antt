@@ -8,13 +8,35 @@ use Rattle.am_do.proofs.opening.write.Goals as goal
 
 pub returns-in-Ok-clause-ok : goal.returns-in-Ok-clause-ok
 returns-in-Ok-clause-ok g c =
-    subst (λ (r : Result (List ℕ) Stop). IfOk r (λ (line : List ℕ). Went (write_told c.args.client.now.talk.msize c.args.fid c.args.offset c.args.bytes) c.args.client.now.talk c.ask.new.client.talk (g.W.Sink.told c.args.client.now.sink).bytes (g.W.Sink.told c.ask.new.client.sink).bytes (g.R.Source.told c.args.client.now.source).bytes (g.R.Source.told c.ask.new.client.source).bytes line tt)) (sym c.said.ensures)
-    (said_ok c.write_answer.result (write_answer c.in-Ok.reply) (λ (line : List ℕ). Went (write_told c.args.client.now.talk.msize c.args.fid c.args.offset c.args.bytes) c.args.client.now.talk c.ask.new.client.talk (g.W.Sink.told c.args.client.now.sink).bytes (g.W.Sink.told c.ask.new.client.sink).bytes (g.R.Source.told c.args.client.now.source).bytes (g.R.Source.told c.ask.new.client.source).bytes line tt) c.write_answer.ensures (went_saying (λ (reply : Reply) (rest : List ℕ). says (write_answer reply) rest) (write_answer c.in-Ok.reply) (write_is c.args.client.now.talk.msize c.args.fid c.args.offset c.args.bytes) (λ bytes. refl) c.in-Ok.ensures.ok))
+    subst (λ (r : Result (List ℕ) Stop). IfOk r (λ (line : List ℕ).
+    Went (write_told c.args.client.now.talk.msize c.args.fid c.args.offset c.args.bytes) c.args.client.now.talk
+    c.ask.new.client.talk (g.W.Sink.told c.args.client.now.sink).bytes (g.W.Sink.told c.ask.new.client.sink).bytes
+    (g.R.Source.told c.args.client.now.source).bytes (g.R.Source.told c.ask.new.client.source).bytes line tt))
+    (sym c.said.ensures)
+    (said_ok c.write_answer.result (write_answer c.in-Ok.reply) (λ (line : List ℕ).
+    Went (write_told c.args.client.now.talk.msize c.args.fid c.args.offset c.args.bytes) c.args.client.now.talk
+    c.ask.new.client.talk (g.W.Sink.told c.args.client.now.sink).bytes (g.W.Sink.told c.ask.new.client.sink).bytes
+    (g.R.Source.told c.args.client.now.source).bytes (g.R.Source.told c.ask.new.client.source).bytes line tt)
+    c.write_answer.ensures (went_saying (λ (reply : Reply) (rest : List ℕ). says (write_answer reply) rest)
+    (write_answer c.in-Ok.reply) (write_is c.args.client.now.talk.msize c.args.fid c.args.offset c.args.bytes)
+    (λ bytes. refl) c.in-Ok.ensures.ok))
 
 pub returns-in-Ok-clause-err : goal.returns-in-Ok-clause-err
 returns-in-Ok-clause-err g c =
-    subst (λ (r : Result (List ℕ) Stop). IfErr r (λ (end : Stop). Halted end (write_told c.args.client.now.talk.msize c.args.fid c.args.offset c.args.bytes) c.args.client.now.talk (ends (g.W.Sink.told c.args.client.now.sink) (g.W.Sink.told c.ask.new.client.sink) (g.R.Source.told c.args.client.now.source) (g.R.Source.told c.ask.new.client.source)) [])) (sym c.said.ensures)
-    (said_err c.write_answer.result (λ (end : Stop). Halted end (write_told c.args.client.now.talk.msize c.args.fid c.args.offset c.args.bytes) c.args.client.now.talk (ends (g.W.Sink.told c.args.client.now.sink) (g.W.Sink.told c.ask.new.client.sink) (g.R.Source.told c.args.client.now.source) (g.R.Source.told c.ask.new.client.source)) []) (halted_saying (λ (reply : Reply) (rest : List ℕ). says (write_answer reply) rest) (g.W.Sink.told c.args.client.now.sink).faults (g.W.Sink.told c.ask.new.client.sink).faults (g.R.Source.told c.args.client.now.source).faults (g.R.Source.told c.ask.new.client.source).faults (write_is c.args.client.now.talk.msize c.args.fid c.args.offset c.args.bytes) c.ask.ensures.later_sink c.ask.ensures.later_source c.in-Ok.ensures.ok))
+    subst (λ (r : Result (List ℕ) Stop). IfErr r (λ (end : Stop). Halted end
+    (write_told c.args.client.now.talk.msize c.args.fid c.args.offset c.args.bytes) c.args.client.now.talk
+    (ends (g.W.Sink.told c.args.client.now.sink) (g.W.Sink.told c.ask.new.client.sink)
+    (g.R.Source.told c.args.client.now.source) (g.R.Source.told c.ask.new.client.source)) [])) (sym c.said.ensures)
+    (said_err c.write_answer.result (λ (end : Stop). Halted end (write_told c.args.client.now.talk.msize c.args.fid
+    c.args.offset c.args.bytes) c.args.client.now.talk (ends (g.W.Sink.told c.args.client.now.sink)
+    (g.W.Sink.told c.ask.new.client.sink) (g.R.Source.told c.args.client.now.source)
+    (g.R.Source.told c.ask.new.client.source)) []) (halted_saying
+    (λ (reply : Reply) (rest : List ℕ). says (write_answer reply) rest)
+    (g.W.Sink.told c.args.client.now.sink).faults (g.W.Sink.told c.ask.new.client.sink).faults
+    (g.R.Source.told c.args.client.now.source).faults (g.R.Source.told c.ask.new.client.source).faults
+    (write_is c.args.client.now.talk.msize c.args.fid c.args.offset c.args.bytes) c.ask.ensures.later_sink
+    c.ask.ensures.later_source c.in-Ok.ensures.ok))
 
 pub returns-in-Err-clause-err : goal.returns-in-Err-clause-err
-returns-in-Err-clause-err g c = halted_asking (λ (reply : Reply) (rest : List ℕ). says (write_answer reply) rest) (write_is c.args.client.now.talk.msize c.args.fid c.args.offset c.args.bytes) c.in-Err.ensures.err
+returns-in-Err-clause-err g c = halted_asking (λ (reply : Reply) (rest : List ℕ). says (write_answer reply) rest)
+    (write_is c.args.client.now.talk.msize c.args.fid c.args.offset c.args.bytes) c.in-Err.ensures.err

@@ -9,4 +9,5 @@ loop-init g c = record {
 
 pub returns-then-alone-clause-ended : goal.returns-then-alone-clause-ended
 returns-then-alone-clause-ended g c =
-    λ _. have_ended_kept c.args.script.now.clients _ _ (looks_further _ _ c.look.ensures.seen) (c.have_ended-alone.ensures.ended c.if-alone.true)
+    λ _. have_ended_kept c.args.script.now.clients _ _ (looks_further _ _ c.look.ensures.seen)
+    (c.have_ended-alone.ensures.ended c.if-alone.true)

@@ -14,7 +14,10 @@ returns-else-await_window-clause-does g c = (
 )
 
 pub returns-in-Ok-Faulty-clause-does : goal.returns-in-Ok-Faulty-clause-does
-returns-in-Ok-Faulty-clause-does g c = (looks_same (g.C.Counter.known c.args.seat.now), sym (rw c.in-Ok-Faulty.field-0-is at c.in-Ok-Faulty.ensures.exact))
+returns-in-Ok-Faulty-clause-does g c = (
+  looks_same (g.C.Counter.known c.args.seat.now),
+  sym (rw c.in-Ok-Faulty.field-0-is at c.in-Ok-Faulty.ensures.exact),
+)
 
 pub returns-in-Err-clause-does : goal.returns-in-Err-clause-does
 returns-in-Err-clause-does g c = looks_same (g.C.Counter.known c.args.seat.now)

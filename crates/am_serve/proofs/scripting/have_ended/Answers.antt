@@ -16,7 +16,8 @@ loop-conn-preserved g c = record {
   ended =
       let below : c.loop-conn.conn < 64 = omega (arith, c.loop-conn-test.true, c.requires.clients) in
       have_ended_more c.loop-conn.conn _ _ (looks_further _ _ c.look.ensures.seen) c.loop-conn.invariant.ended
-      (sym (g.met.C.Counter.connections.ended _ c.loop-conn.conn c.look.ensures.played below) ∙ sym c.look.ensures.answer ∙ search rules);
+      (sym (g.met.C.Counter.connections.ended _ c.loop-conn.conn c.look.ensures.played below)
+      ∙ sym c.look.ensures.answer ∙ search rules);
 }
 
 pub returns-then-not-look-clause-goes_on : goal.returns-then-not-look-clause-goes_on
@@ -25,5 +26,6 @@ returns-then-not-look-clause-goes_on g c =
     λ _. (
       c.loop-conn.conn,
       c.loop-conn-test.true,
-      sym (g.met.C.Counter.connections.ended _ c.loop-conn.conn c.look.ensures.played below) ∙ sym c.look.ensures.answer ∙ search rules,
+      sym (g.met.C.Counter.connections.ended _ c.loop-conn.conn c.look.ensures.played below) ∙ sym c.look.ensures.answer
+          ∙ search rules,
     )

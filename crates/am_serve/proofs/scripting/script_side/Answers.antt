@@ -2,24 +2,29 @@ use Rattle.std.proofs.Common.{◌≡◌, length, arith, sym, subst}
 use Rattle.std.proofs.lemmas.Grind.{common_steps}
 use Rattle.am_counter.specs.Known.{Known}
 use Rattle.am_serve.specs.Script.{asked_by_script, Passed}
-use Rattle.am_serve.proofs.Passing.{none_so_far, passes_next, so_far_gains, looks_same, looks_equal, reported, refused, out, ended}
+use Rattle.am_serve.proofs.Passing.{none_so_far, passes_next, so_far_gains, looks_same, looks_equal, reported, refused}
+use Rattle.am_serve.proofs.Passing.{out, ended}
 use Rattle.am_serve.proofs.scripting.script_side.Goals as goal
 
 pub returns-then-not-begin_script-clause-gains : goal.returns-then-not-begin_script-clause-gains
 returns-then-not-begin_script-clause-gains g c =
     let v = g.C.Counter.known c.args.seat.now in
-    so_far_gains g.C.Counter.enabled g.C.Counter.answer _ v _ _ _ _ (none_so_far g.C.Counter.enabled g.C.Counter.answer v (asked_by_script c.args.script.now.lines.now)) (looks_same v)
+    so_far_gains g.C.Counter.enabled g.C.Counter.answer _ v _ _ _ _
+    (none_so_far g.C.Counter.enabled g.C.Counter.answer v (asked_by_script c.args.script.now.lines.now))
+    (looks_same v)
 
 pub returns-then-not-begin_script-clause-ends : goal.returns-then-not-begin_script-clause-ends
 returns-then-not-begin_script-clause-ends g c =
     let v = g.C.Counter.known c.args.seat.now in
-    out g.C.Counter.enabled g.C.Counter.answer _ v _ _ _ _ (none_so_far g.C.Counter.enabled g.C.Counter.answer v (asked_by_script c.args.script.now.lines.now)) (looks_same v)
+    out g.C.Counter.enabled g.C.Counter.answer _ v _ _ _ _ (none_so_far g.C.Counter.enabled g.C.Counter.answer v
+    (asked_by_script c.args.script.now.lines.now)) (looks_same v)
 
 pub loop-rest-init : goal.loop-rest-init
 loop-rest-init g c = record {
   fits = c.requires.fits;
   count = omega arith;
-  so_far = none_so_far g.C.Counter.enabled g.C.Counter.answer (g.C.Counter.known c.args.seat.now) (asked_by_script c.args.script.now.lines.now);
+  so_far = none_so_far g.C.Counter.enabled g.C.Counter.answer (g.C.Counter.known c.args.seat.now)
+      (asked_by_script c.args.script.now.lines.now);
 }
 
 pub loop-rest-preserved : goal.loop-rest-preserved
@@ -27,40 +32,49 @@ loop-rest-preserved g c = record {
   fits = c.do_line.ensures.fits;
   count = omega (arith, c.loop-rest.invariant.count, c.split_line.ensures.shorter);
   so_far =
-      passes_next g.C.Counter.enabled g.C.Counter.answer _ (g.C.Counter.known c.loop-rest.seat) _ _ c.loop-rest.rest.now c.split_line.result.1.now c.split_line.result.0.now _
+      passes_next g.C.Counter.enabled g.C.Counter.answer _ (g.C.Counter.known c.loop-rest.seat) _ _ c.loop-rest.rest.now
+      c.split_line.result.1.now c.split_line.result.0.now _
       c.split_line.ensures.lines c.loop-rest.invariant.so_far c.in-Passed.ensures.does;
 }
 
 pub returns-in-Report-clause-gains : goal.returns-in-Report-clause-gains
 returns-in-Report-clause-gains g c =
-    so_far_gains g.C.Counter.enabled g.C.Counter.answer _ (g.C.Counter.known c.loop-rest.seat) _ _ _ _ c.loop-rest.invariant.so_far (looks_equal _ _ c.in-Report.ensures.does.1)
+    so_far_gains g.C.Counter.enabled g.C.Counter.answer _ (g.C.Counter.known c.loop-rest.seat) _ _ _ _
+    c.loop-rest.invariant.so_far (looks_equal _ _ c.in-Report.ensures.does.1)
 
 pub returns-in-Report-clause-ends : goal.returns-in-Report-clause-ends
 returns-in-Report-clause-ends g c =
-    let P : Known → Type 0 = λ w. Passed g.C.Counter.enabled g.C.Counter.answer (g.C.Counter.known c.args.seat.now) (asked_by_script c.args.script.now.lines.now) w in
+    let P : Known → Type 0 = λ w. Passed g.C.Counter.enabled g.C.Counter.answer (g.C.Counter.known c.args.seat.now)
+    (asked_by_script c.args.script.now.lines.now) w in
     subst P (sym c.in-Report.ensures.does.1)
-    (reported g.C.Counter.enabled g.C.Counter.answer _ _ _ c.loop-rest.rest.now c.split_line.result.1.now c.split_line.result.0.now _ c.split_line.ensures.lines c.loop-rest.invariant.so_far c.in-Report.ensures.does.0)
+    (reported g.C.Counter.enabled g.C.Counter.answer _ _ _ c.loop-rest.rest.now c.split_line.result.1.now
+    c.split_line.result.0.now _ c.split_line.ensures.lines c.loop-rest.invariant.so_far c.in-Report.ensures.does.0)
 
 pub returns-in-Refused-clause-gains : goal.returns-in-Refused-clause-gains
 returns-in-Refused-clause-gains g c =
-    so_far_gains g.C.Counter.enabled g.C.Counter.answer _ (g.C.Counter.known c.loop-rest.seat) _ _ _ _ c.loop-rest.invariant.so_far c.in-Refused.ensures.does.0
+    so_far_gains g.C.Counter.enabled g.C.Counter.answer _ (g.C.Counter.known c.loop-rest.seat) _ _ _ _
+    c.loop-rest.invariant.so_far c.in-Refused.ensures.does.0
 
 pub returns-in-Refused-clause-ends : goal.returns-in-Refused-clause-ends
 returns-in-Refused-clause-ends g c =
-    refused g.C.Counter.enabled g.C.Counter.answer c.args.script.now.clients _ (g.C.Counter.known c.loop-rest.seat) _ _ c.loop-rest.rest.now c.split_line.result.1.now c.split_line.result.0.now _ _
+    refused g.C.Counter.enabled g.C.Counter.answer c.args.script.now.clients _ (g.C.Counter.known c.loop-rest.seat) _ _
+    c.loop-rest.rest.now c.split_line.result.1.now c.split_line.result.0.now _ _
     c.split_line.ensures.lines c.loop-rest.invariant.so_far c.in-Refused.ensures.does.0 c.in-Refused.ensures.does.1
 
 pub returns-in-NoMemory-clause-gains : goal.returns-in-NoMemory-clause-gains
 returns-in-NoMemory-clause-gains g c =
-    so_far_gains g.C.Counter.enabled g.C.Counter.answer _ (g.C.Counter.known c.loop-rest.seat) _ _ _ _ c.loop-rest.invariant.so_far c.in-NoMemory.ensures.does
+    so_far_gains g.C.Counter.enabled g.C.Counter.answer _ (g.C.Counter.known c.loop-rest.seat) _ _ _ _
+    c.loop-rest.invariant.so_far c.in-NoMemory.ensures.does
 
 pub returns-in-NoMemory-clause-ends : goal.returns-in-NoMemory-clause-ends
 returns-in-NoMemory-clause-ends g c =
-    out g.C.Counter.enabled g.C.Counter.answer _ (g.C.Counter.known c.loop-rest.seat) _ _ _ _ c.loop-rest.invariant.so_far c.in-NoMemory.ensures.does
+    out g.C.Counter.enabled g.C.Counter.answer _ (g.C.Counter.known c.loop-rest.seat) _ _ _ _
+    c.loop-rest.invariant.so_far c.in-NoMemory.ensures.does
 
 pub returns-clause-gains : goal.returns-clause-gains
 returns-clause-gains g c =
-    so_far_gains g.C.Counter.enabled g.C.Counter.answer _ (g.C.Counter.known c.loop-rest.seat) _ _ _ _ c.loop-rest.invariant.so_far (looks_same (g.C.Counter.known c.loop-rest.seat))
+    so_far_gains g.C.Counter.enabled g.C.Counter.answer _ (g.C.Counter.known c.loop-rest.seat) _ _ _ _
+    c.loop-rest.invariant.so_far (looks_same (g.C.Counter.known c.loop-rest.seat))
 
 pub returns-clause-ends : goal.returns-clause-ends
 returns-clause-ends g c =

@@ -7,7 +7,8 @@ abbrev pub invariant-loop-rest : goal.invariant-loop-rest
 invariant-loop-rest g l = record {
   fits : g.C.Counter.fits l.script.desk.now l.seat;
   count : l.line + length l.rest ≤ length l.script.lines.now + 1;
-  so_far : PassedSoFar g.C.Counter.enabled g.C.Counter.answer (g.C.Counter.known l.fn.seat) (g.C.Counter.known l.seat) (asked_by_script l.script.lines.now) (asked_by_script l.rest) l.line;
+  so_far : PassedSoFar g.C.Counter.enabled g.C.Counter.answer (g.C.Counter.known l.fn.seat) (g.C.Counter.known l.seat)
+      (asked_by_script l.script.lines.now) (asked_by_script l.rest) l.line;
 }
 
 abbrev pub decreases-loop-rest : goal.decreases-loop-rest

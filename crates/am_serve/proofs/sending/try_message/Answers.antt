@@ -10,4 +10,8 @@ pub returns-in-Err-NoMemory-clause-tries : goal.returns-in-Err-NoMemory-clause-t
 returns-in-Err-NoMemory-clause-tries g c = (looks_same (g.C.Counter.known c.args.seat.now), tt)
 
 pub submit-requires-clause-in_range : goal.submit-requires-clause-in_range
-submit-requires-clause-in_range g c = (omega (arith, c.requires.conn), c.in-Ok.ensures.in_range, subst AreBytes c.in-Ok.ensures.found.1 (λ i. (c.type_inv.message i).fits))
+submit-requires-clause-in_range g c = (
+  omega (arith, c.requires.conn),
+  c.in-Ok.ensures.in_range,
+  subst AreBytes c.in-Ok.ensures.found.1 (λ i. (c.type_inv.message i).fits),
+)

@@ -15,21 +15,35 @@ returns-in-Ok-clause-says g c =
     says_lines {G = g.row.H-G.Denot} {L = g.row.H-G-L.Denot} {S = g.row.H-G-L-R.Denot} {K = g.row.H-G-L-W.Denot}
     (outside g.H.G.Gate.told g.H.G.L.Link.told g.H.G.L.R.Source.told g.H.G.L.W.Sink.told)
     c.args.site.now.path.now c.args.site.now.clients
-    (given (g.I.Source.told c.args.input.now) (g.I.Source.told c.read_to_end.new.source) (g.H.Host.told c.args.host.now) (g.H.Host.told c.serve_lines.new.host))
-    _ _ _ _ c.as_slice.result.now (subst T (sym c.as_slice.ensures) c.in-Ok.ensures.told) (subst F (sym c.as_slice.ensures) c.in-Ok.ensures.fits) c.serve_lines.ensures.serves
+    (given (g.I.Source.told c.args.input.now) (g.I.Source.told c.read_to_end.new.source) (g.H.Host.told c.args.host.now)
+    (g.H.Host.told c.serve_lines.new.host))
+    _ _ _ _ c.as_slice.result.now (subst T (sym c.as_slice.ensures) c.in-Ok.ensures.told)
+    (subst F (sym c.as_slice.ensures) c.in-Ok.ensures.fits) c.serve_lines.ensures.serves
 
 pub returns-in-Err-TooLong-clause-says : goal.returns-in-Err-TooLong-clause-says
 returns-in-Err-TooLong-clause-says g c =
-    let P : ReadStop → Type 0 = λ x. StopsFor x (g.I.Source.told c.args.input.now) (g.I.Source.told c.read_to_end.new.source) input_limit in
+    let P : ReadStop → Type 0 = λ x. StopsFor x (g.I.Source.told c.args.input.now)
+    (g.I.Source.told c.read_to_end.new.source) input_limit in
     let stopped = subst P c.in-Err-TooLong.field-0-is c.in-Err-TooLong.ensures.err in
     says_long {G = g.row.H-G.Denot} {L = g.row.H-G-L.Denot} {S = g.row.H-G-L-R.Denot} {K = g.row.H-G-L-W.Denot}
     (outside g.H.G.Gate.told g.H.G.L.Link.told g.H.G.L.R.Source.told g.H.G.L.W.Sink.told)
     c.args.site.now.path.now c.args.site.now.clients
-    (given (g.I.Source.told c.args.input.now) (g.I.Source.told c.read_to_end.new.source) (g.H.Host.told c.args.host.now) (g.H.Host.told c.args.host.now))
+    (given (g.I.Source.told c.args.input.now) (g.I.Source.told c.read_to_end.new.source) (g.H.Host.told c.args.host.now)
+    (g.H.Host.told c.args.host.now))
     _ _ _ _ stopped.0 c.refuse_input.ensures.long
 
 pub returns-in-Err-ReadFault-clause-says : goal.returns-in-Err-ReadFault-clause-says
 returns-in-Err-ReadFault-clause-says g c =
-    let P : ReadStop → Type 0 = λ x. StopsFor x (g.I.Source.told c.args.input.now) (g.I.Source.told c.read_to_end.new.source) input_limit in
+    let P : ReadStop → Type 0 = λ x. StopsFor x (g.I.Source.told c.args.input.now)
+    (g.I.Source.told c.read_to_end.new.source) input_limit in
     let stopped = subst P c.in-Err-ReadFault.field-0-is c.in-Err-ReadFault.ensures.err in
-    inl (c.idle.ensures.end, stopped, record { silent = refl; empty = c.idle.ensures.journal; none = c.idle.ensures.served })
+    inl (
+      c.idle.ensures.end,
+      stopped,
+      record {
+        silent = refl;
+        empty = c.idle.ensures.journal;
+        none =
+            c.idle.ensures.served;
+      },
+    )

@@ -12,9 +12,11 @@ loop-slot-preserved g c =
     let before = c.loop-slot.invariant in
     record {
       number = omega (arith, before.number);
-      put = whole_more (g.O.Sink.told c.args.output.now) (g.O.Sink.told c.loop-slot.output) (g.O.Sink.told c.put_slot.new.output)
+      put = whole_more (g.O.Sink.told c.args.output.now) (g.O.Sink.told c.loop-slot.output)
+          (g.O.Sink.told c.put_slot.new.output)
           (host_text 0 (take k slots)) (host_one c.loop-slot.number s) (host_text 0 (take (k + 1) slots))
-          (hosts_more slots k c.loop-slot.number s before.number c.loop-slot-test.true c.slot-item.is) before.put c.in_ok-put_slot.ensures.ok;
+          (hosts_more slots k c.loop-slot.number s before.number c.loop-slot-test.true c.slot-item.is) before.put
+          c.in_ok-put_slot.ensures.ok;
       later = omega (arith, before.later, c.put_slot.ensures.later);
     }
 
@@ -26,7 +28,10 @@ returns-in_err-put_slot-clause-err g c =
     let s = c.slot-item.result in
     let before = c.loop-slot.invariant in
     rw (p.1, p.2)
-    (stops_more c.in_err-put_slot.field-0.0 (g.O.Sink.told c.args.output.now) (g.O.Sink.told c.loop-slot.output) (g.O.Sink.told c.put_slot.new.output)
-    (λ n. host_text 0 (take n slots)) k (host_one c.loop-slot.number s) (host_text (0 + length (take (k + 1) slots)) (drop (k + 1) slots)) (host_text 0 slots)
-    (hosts_more slots k c.loop-slot.number s before.number c.loop-slot-test.true c.slot-item.is) (hosts_split slots (k + 1))
+    (stops_more c.in_err-put_slot.field-0.0 (g.O.Sink.told c.args.output.now) (g.O.Sink.told c.loop-slot.output)
+    (g.O.Sink.told c.put_slot.new.output)
+    (λ n. host_text 0 (take n slots)) k (host_one c.loop-slot.number s)
+    (host_text (0 + length (take (k + 1) slots)) (drop (k + 1) slots)) (host_text 0 slots)
+    (hosts_more slots k c.loop-slot.number s before.number c.loop-slot-test.true c.slot-item.is)
+    (hosts_split slots (k + 1))
     before.put before.later c.in_err-put_slot.ensures.err)

@@ -11,7 +11,8 @@ returns-in_err-put_event-clause-err g c =
     let k = c.loop-event.event-index in
     let e = c.event-item.result in
     rw (p.1, p.2)
-    (stops_more c.in_err-put_event.field-0.0 (g.O.Sink.told c.args.output.now) (g.O.Sink.told c.loop-event.output) (g.O.Sink.told c.put_event.new.output)
+    (stops_more c.in_err-put_event.field-0.0 (g.O.Sink.told c.args.output.now) (g.O.Sink.told c.loop-event.output)
+    (g.O.Sink.told c.put_event.new.output)
     (λ n. journal_text (take n journal)) k (ended_line e) (journal_text (drop (k + 1) journal)) (journal_text journal)
     (journal_more journal k e c.loop-event-test.true c.event-item.is) (journal_split journal (k + 1))
     c.loop-event.invariant.put c.loop-event.invariant.later c.in_err-put_event.ensures.err)

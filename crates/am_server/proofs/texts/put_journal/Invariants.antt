@@ -8,7 +8,8 @@ use Rattle.am_server.proofs.texts.put_journal.Given as goal
 
 abbrev pub invariant-loop-event : goal.invariant-loop-event
 invariant-loop-event g l = record {
-  put : IsWhole (seen (g.O.Sink.told l.fn.output) (g.O.Sink.told l.output)) (journal_text (take l.event-index l.journal));
+  put : IsWhole (seen (g.O.Sink.told l.fn.output) (g.O.Sink.told l.output))
+      (journal_text (take l.event-index l.journal));
   later : (g.O.Sink.told l.fn.output).faults ≤ (g.O.Sink.told l.output).faults;
   lawful : AllByRecursion IsLawful (drop l.event-index l.journal);
 }

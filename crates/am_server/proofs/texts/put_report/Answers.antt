@@ -8,11 +8,13 @@ use Rattle.am_server.proofs.texts.put_report.Goals as goal
 
 pub returns-in-Ok-clause-ok : goal.returns-in-Ok-clause-ok
 returns-in-Ok-clause-ok g c =
-    subst (λ (l : List ℕ). OnOk c.put.result (IsWhole (seen (g.O.Sink.told c.args.output.now) (g.O.Sink.told c.put.new.output)) l)) (c.as_slice.ensures ∙ c.in-Ok.ensures) c.put.ensures.ok
+    subst (λ (l : List ℕ). OnOk c.put.result (IsWhole (seen (g.O.Sink.told c.args.output.now)
+    (g.O.Sink.told c.put.new.output)) l)) (c.as_slice.ensures ∙ c.in-Ok.ensures) c.put.ensures.ok
 
 pub returns-in-Ok-clause-err : goal.returns-in-Ok-clause-err
 returns-in-Ok-clause-err g c =
-    subst (λ (l : List ℕ). IfErr c.put.result (λ e. StopsIn e (seen (g.O.Sink.told c.args.output.now) (g.O.Sink.told c.put.new.output)) l (λ _. []))) (c.as_slice.ensures ∙ c.in-Ok.ensures) c.put.ensures.err
+    subst (λ (l : List ℕ). IfErr c.put.result (λ e. StopsIn e (seen (g.O.Sink.told c.args.output.now)
+    (g.O.Sink.told c.put.new.output)) l (λ _. []))) (c.as_slice.ensures ∙ c.in-Ok.ensures) c.put.ensures.err
 
 pub returns-in-Err-clause-err : goal.returns-in-Err-clause-err
 returns-in-Err-clause-err g c = (0, whole_none (g.O.Sink.told c.args.output.now))

@@ -16,7 +16,8 @@ loop-slot-preserved g c =
       len = omega (arith, c.push_reserved.ensures.len, before.len);
       room = cc;
       waiting = waiting_next slots now s put g.H.G.Gate.told before.waiting c.bind_slot.ensures.waits;
-      named = named_next slots now s put g.H.G.Gate.told c.args.path.now c.loop-slot.slot before.count before.named c.bind_slot.ensures.named;
+      named = named_next slots now s put g.H.G.Gate.told c.args.path.now c.loop-slot.slot before.count before.named
+          c.bind_slot.ensures.named;
       risen = risen_next slots now s put _ _ _ before.risen c.bind_slot.ensures.risen c.bind_slot.ensures.later;
       later = omega (arith, before.later, c.bind_slot.ensures.later);
       given = given_next slots now s put c.loop-slot.slot _ _ _ before.given c.bind_slot.ensures.given;
@@ -24,12 +25,16 @@ loop-slot-preserved g c =
 
 pub returns-clause-risen : goal.returns-clause-risen
 returns-clause-risen g c =
-    subst (λ (l : List (Slot g.row.H-G.Denot g.row.H-G-L.Denot g.row.H-G-L-R.Denot g.row.H-G-L-W.Denot)). HasRisenBy (unbound l) (g.H.Host.told c.args.host.now).faults (g.H.Host.told c.loop-slot.host).faults)
+    subst (λ (l : List (Slot g.row.H-G.Denot g.row.H-G-L.Denot g.row.H-G-L-R.Denot g.row.H-G-L-W.Denot)).
+    HasRisenBy (unbound l) (g.H.Host.told c.args.host.now).faults (g.H.Host.told c.loop-slot.host).faults)
     (sym c.from_vec.ensures) c.loop-slot.invariant.risen
 
 pub returns-clause-given : goal.returns-clause-given
 returns-clause-given g c =
     let all : c.loop-slot.slot ≡ c.args.clients = omega (arith, c.loop-slot-test.false, c.loop-slot.auto.slot-end) in
-    subst (λ (l : List (Slot g.row.H-G.Denot g.row.H-G-L.Denot g.row.H-G-L-R.Denot g.row.H-G-L-W.Denot)). HasGiven c.args.clients (unbound l) (g.H.Host.told c.args.host.now).given (g.H.Host.told c.loop-slot.host).given)
+    subst (λ (l : List (Slot g.row.H-G.Denot g.row.H-G-L.Denot g.row.H-G-L-R.Denot g.row.H-G-L-W.Denot)).
+    HasGiven c.args.clients (unbound l) (g.H.Host.told c.args.host.now).given
+    (g.H.Host.told c.loop-slot.host).given)
     (sym c.from_vec.ensures)
-    (subst (λ (n : ℕ). HasGiven n (unbound c.loop-slot.slots.items) (g.H.Host.told c.args.host.now).given (g.H.Host.told c.loop-slot.host).given) all c.loop-slot.invariant.given)
+    (subst (λ (n : ℕ). HasGiven n (unbound c.loop-slot.slots.items) (g.H.Host.told c.args.host.now).given
+    (g.H.Host.told c.loop-slot.host).given) all c.loop-slot.invariant.given)

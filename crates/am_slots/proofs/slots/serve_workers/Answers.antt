@@ -13,7 +13,11 @@ pub serve_beside-requires-clause-accepts : goal.serve_beside-requires-clause-acc
 serve_beside-requires-clause-accepts g c κs within = λ i p lt e.
     let below : i < 64 = omega (arith, lt, c.requires.few) in
     let b = c.type_bounds in (
-      (below, ready_at (g.C.Counter.fits c.args.script.now.desk.now) g.C.Counter.known g.G.Gate.told c.args.workers.now i p.now c.requires.ready lt e),
+      (
+        below,
+        ready_at (g.C.Counter.fits c.args.script.now.desk.now) g.C.Counter.known g.G.Gate.told c.args.workers.now
+            i p.now c.requires.ready lt e,
+      ),
       (
         record { owned = b.send-T.owned; leaving = λ k. nothing_left (k (of_param 1)) },
         record { owned = b.send-G.owned; leaving = λ k. nothing_left (k (of_param 2)) },
@@ -30,5 +34,8 @@ returns-clause-works g c = record {
   count = c.serve_beside.ensures.each.count;
   each = λ k d lt.
       let h = (c.serve_beside.ensures.each.each k d lt).1 in
-      works_at (g.C.Counter.fits c.args.script.now.desk.now) g.C.Counter.known (outside g.G.Gate.told g.L.Link.told g.S.Source.told g.K.Sink.told) g.C.Counter.enabled g.C.Counter.unsent g.C.Counter.answer k (get_or c.args.workers.now k d) (get_or c.serve_beside.new.workers k d) h.argument.now h.after_call.now h.argument_is h.left h.call;
+      works_at (g.C.Counter.fits c.args.script.now.desk.now) g.C.Counter.known
+      (outside g.G.Gate.told g.L.Link.told g.S.Source.told g.K.Sink.told) g.C.Counter.enabled g.C.Counter.unsent
+      g.C.Counter.answer k (get_or c.args.workers.now k d) (get_or c.serve_beside.new.workers k d) h.argument.now
+      h.after_call.now h.argument_is h.left h.call;
 }
