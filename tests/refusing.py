@@ -1,4 +1,4 @@
-"""What tests/alloc and tests/alloc-serving share: a malloc that refuses one call, and the page with the results."""
+"""What tests/alloc and tests/alloc-serving share: a malloc that counts its calls and refuses one, and their page."""
 
 import os
 import struct
@@ -36,6 +36,11 @@ void *calloc(size_t k, size_t n) { return refused() ? NULL : __libc_calloc(k, n)
 """
 
 
+def content(path: str) -> bytes:
+    with open(path, "rb") as file:
+        return file.read()
+
+
 class Refuser:
     """The library that is preloaded, in a folder, and the count of allocations."""
 
@@ -53,5 +58,4 @@ class Refuser:
 
     def count(self) -> int:
         """How many allocations the last run made, as far as it came."""
-        with open(self.counted, "rb") as file:
-            return int(struct.unpack("l", file.read())[0])
+        return int(struct.unpack("l", content(self.counted))[0])

@@ -1,6 +1,6 @@
 //! Port `edit`: the editor itself opens what a message names.
 
-ghost use Rattle.std.specs.Prelude.{◌≡◌, IfSome, IfOk, OnOk};
+ghost use Rattle.std.specs.Prelude.{◌≡◌, option_copied, IfSome, IfOk, OnOk};
 ghost use Rattle.plumb_rules.specs.Texts.{data_name};
 ghost use Rattle.core_scene.specs.Scenes.{scene_of, kept_of, Did};
 ghost use Rattle.core_actions.specs.Opening.{target_of, IsThere};
