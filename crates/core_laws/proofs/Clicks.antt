@@ -187,8 +187,16 @@ behind : (before : List Event) (e : Event) (w : ℕ) (o : Option Item)
     → Told (run before) (kind_of e) w (doing_of (present (run before)) e) o
     → OnlyTells (run before) (run (before ++ e ∷ [])) (said_after before e) w o
 unfolding step
-behind before e w o h = subst (λ (s : State). OnlyTells (run before) s (said_after before e) w o)
-    (sym (run-push before e)) h
+behind before e w o h =
+    let same : OnlyTells (run before) (step (run before) e) (said_after before e) w o = record {
+      book = h.book;
+      says = h.says;
+      connections = h.connections;
+      sessions = h.sessions;
+      windows = h.windows;
+      scene = h.scene;
+    } in
+    subst (λ (s : State). OnlyTells (run before) s (said_after before e) w o) (sym (run-push before e)) same
 
 pub clicks : ClicksAreTold
 unfolding task_deeds
