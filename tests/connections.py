@@ -11,7 +11,6 @@ what the replay replies to it, and the report must be that of the replay.
 
 import fcntl
 import os
-import select
 import socket
 import subprocess
 import sys
