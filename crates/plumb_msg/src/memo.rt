@@ -32,7 +32,8 @@ impl Model for Scanned {
 /// it means: a line that goes on otherwise is scanned anew.
 #[derive(Drop)]
 pub struct Memo {
-    cell: Cell<Option<Scanned>>,
+    // In a box of its own, so that one in which nothing was scanned is small.
+    cell: Cell<Option<Box<Scanned>>>,
 }
 
 impl Model for Memo {
@@ -90,7 +91,7 @@ impl Memo {
         let Some(scanned) = self.cell.replace(None) else {
             return nothing(alloc);
         };
-        let (front, state) = parts(scanned);
+        let (front, state) = parts(Box::into_inner(scanned));
         if !begins_with(line, front.as_slice()) {
             return nothing(alloc);
         }
@@ -109,7 +110,8 @@ impl Memo {
         };
         let mut front = front;
         front.append(more)?;
-        self.cell.set(Some(Scanned { front, state }));
+        let scanned = Box::new(alloc, Scanned { front, state })?;
+        self.cell.set(Some(scanned));
         Ok(true)
     }
 }

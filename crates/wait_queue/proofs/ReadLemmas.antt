@@ -1,8 +1,8 @@
 -- What the waiting reads of the code show, as they come, are answered, cancelled, kept and set back.
 use Rattle.std.proofs.Common.{◌≡◌, ℕ, zero, suc, ◌<◌, ◌≤◌, ◌&&◌, ◌||◌, Bool, true, false, cond, not, List, [], ◌∷◌}
-use Rattle.std.proofs.Common.{length, get_or, set, take, map, filter, find, Some, None, refl, sym, ap, ◌∙◌, arith}
+use Rattle.std.proofs.Common.{◌++◌, subst, length, get_or, set, take, map, filter, find, Some, None, refl, sym, ap, ◌∙◌, arith}
 use Rattle.std.proofs.Common.{take_all}
-use Rattle.std.proofs.lemmas.List.{get_or_read}
+use Rattle.std.proofs.lemmas.List.{get_or_read, map-append, take-map}
 use Rattle.std.proofs.lemmas.Bool.Decides.{nat_tests}
 use Rattle.std.proofs.lemmas.List.Quantifiers.{position-Some}
 use Rattle.std.proofs.lemmas.List.Sums.{fails_before_first, position_or_len_is}
@@ -10,7 +10,7 @@ use Rattle.std.specs.List.{position, position_or_len, list_any}
 use Rattle.wait_queue.proofs.OpeningLemmas.{map-take-set}
 use Rattle.am_text.specs.Twice.{Twice, both}
 use Rattle.wait_queue.specs.Reads.{without_first}
-use Rattle.wait_queue.specs.Waiting.{asker_of, is_here, mark, here_again}
+use Rattle.wait_queue.specs.Waiting.{asker_of, is_here, mark, here_again, AreHere}
 use Rattle.wait_queue.specs.declared.types.Asker.{Asker}
 use Rattle.wait_queue.specs.declared.waiting_list.Waiting.{Waiting}
 
@@ -190,3 +190,43 @@ marked p ws i w v b l r e =
     let read : w ≡ get_or ws i v = get_or_read ws i w l r v in
     ap (λ (g : Bool). record { asker = (get_or ws i v).asker; gone = g })
     (e ∙ ap (λ (u : Waiting). u.gone || p u.asker) read)
+
+-- ---- none is gone
+
+filter_again : (ws : List Waiting) → filter is_here (map here_again ws) ≡ map here_again ws
+filter_again [] = refl
+filter_again (w ∷ ws) = ap (λ vs. here_again w ∷ vs) (filter_again ws)
+
+pub all_here : (ws : List Waiting) → AreHere ws → filter is_here ws ≡ ws
+all_here ws h = subst (λ vs. filter is_here vs ≡ vs) h (filter_again ws)
+
+here_is : (w : Waiting) → w.gone ≡ false → here_again w ≡ w
+here_is w e = ap (λ g. record { asker = w.asker; gone = g }) (sym e)
+
+pub here_kept : (ws : List Waiting) → AreHere (filter is_here ws)
+here_kept [] = refl
+here_kept (w ∷ ws) =
+    (elim w.gone as (λ g. w.gone ≡ g → map here_again (cond (not g) (w ∷ filter is_here ws) (filter is_here ws))
+    ≡ cond (not g) (w ∷ filter is_here ws) (filter is_here ws)) [
+      | true ↦ λ e. here_kept ws
+      | false ↦ λ e. ap (λ v. v ∷ map here_again (filter is_here ws)) (here_is w e)
+          ∙ ap (λ vs. w ∷ vs) (here_kept ws)
+    ]) refl
+
+-- those that are left
+pub here_left : (us vs : List Waiting) → vs ≡ filter is_here us → AreHere vs
+here_left us vs e = subst AreHere (sym e) (here_kept us)
+
+pub here_again_here : (ws : List Waiting) → AreHere (map here_again ws)
+here_again_here [] = refl
+here_again_here (w ∷ ws) = ap (λ vs. here_again w ∷ vs) (here_again_here ws)
+
+pub here_pushed : (ws : List Waiting) (a : Asker) → AreHere ws → AreHere (ws ++ record { asker = a; gone = false } ∷ [])
+here_pushed ws a h =
+    map-append here_again ws (record { asker = a; gone = false } ∷ [])
+    ∙ ap (λ vs. vs ++ record { asker = a; gone = false } ∷ []) h
+
+pub here_taken : (n : ℕ) (ws : List Waiting) → AreHere ws → AreHere (take n ws)
+here_taken n ws h = sym (take-map here_again n ws) ∙ ap (take n) h
+
+pub ruleset heres = (all_here, here_kept, here_again_here, here_pushed, here_taken)

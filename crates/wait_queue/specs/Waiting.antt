@@ -1,5 +1,5 @@
 -- What the waiting reads of the code show.
-use Rattle.std.specs.Prelude.{◌&&◌, ◌||◌, Bool, false, not}
+use Rattle.std.specs.Prelude.{◌≡◌, ◌&&◌, ◌||◌, Bool, false, not, List, map}
 use Rattle.wait_queue.specs.declared.types.Asker.{Asker}
 use Rattle.wait_queue.specs.declared.waiting_list.Waiting.{Waiting}
 
@@ -22,3 +22,7 @@ mark p w = record { asker = w.asker; gone = w.gone || p w.asker }
 -- waiting again
 abbrev pub here_again : Waiting → Waiting
 here_again w = record { asker = w.asker; gone = false }
+
+-- none is gone: waiting again changes none
+abbrev pub AreHere : List Waiting → Type 0
+AreHere ws = map here_again ws ≡ ws

@@ -1,11 +1,11 @@
 //! Reads that wait, in the order of asking.
 
 ghost use Rattle.std.specs.Prelude.{◌≡◌, ◌<◌, ◌&&◌, ◌||◌, ◌==◌, [], ◌∷◌, ◌++◌, map, filter, not, IfOk, IfSome, OnOk};
-ghost use Rattle.std.specs.Prelude.{OnErr, find, position, length};
+ghost use Rattle.std.specs.Prelude.{OnErr, find, position, length, false};
 ghost use Rattle.std.specs.List.{list_any};
 ghost use Rattle.am_text.specs.Twice.{Twice, both, IsSteady};
 ghost use Rattle.wait_queue.specs.Reads.{without_first, without_read, without_reads_on, is_read, is_on};
-ghost use Rattle.wait_queue.specs.Waiting.{is_here, is_ready, mark, here_again};
+ghost use Rattle.wait_queue.specs.Waiting.{is_here, is_ready, mark, here_again, AreHere};
 
 use crate::types::Asker;
 use crate::waiting_list::{Waiting, WaitingList};
@@ -100,6 +100,17 @@ fn mark_answered<A: Answers>(all: &mut WaitingList, by: &A)
     }
 }
 
+// Drops the reads that are gone. Where none is, it goes over none.
+#[tactic(auto, using(crate::proofs::ReadLemmas::heres))]
+fn drop_gone(all: &mut WaitingList, any_gone: bool)
+    requires { any_gone ≡ false → AreHere all.old }
+    ensures { all.new ≡ filter is_here all.old }
+{
+    if any_gone {
+        all.retain_here();
+    }
+}
+
 fn set_all_here(all: &mut WaitingList)
     ensures { all.new ≡ map here_again all.old }
 {
@@ -108,17 +119,33 @@ fn set_all_here(all: &mut WaitingList)
     }
 }
 
+// The reads that are gone wait again. Where none is, it goes over none.
+fn set_gone_here(all: &mut WaitingList, any_gone: bool)
+    requires { any_gone ≡ false → AreHere all.old }
+    ensures { all.new ≡ map here_again all.old }
+{
+    if any_gone {
+        set_all_here(all);
+    }
+}
+
 /// The waiting reads in the order of asking, in two states. The ones answered since the last `keep`
 /// are still here, marked, and the ones that came since then stand after the kept ones.
 pub struct Reads {
     all: WaitingList,
     kept: usize,
+    // Whether any may be gone.
+    any_gone: bool,
 }
 
 // By hand, so that a crate that drops reads goes by this drop, and has not to prove those of all that is in them.
 impl Drop for Reads {
     fn drop(self) {
-        let Reads { all: _, kept: _ } = self;
+        let Reads {
+            all: _,
+            kept: _,
+            any_gone: _,
+        } = self;
     }
 }
 
@@ -137,7 +164,10 @@ impl Model for Reads {
           (take r.kept r.all);
     } };
 
-    ghost invariant = { λ r. r.kept ≤ length r.all };
+    ghost use Rattle.std.specs.Prelude.{◌≡◌, false};
+    ghost use Rattle.wait_queue.specs.Waiting.{AreHere};
+
+    ghost invariant = { λ r. (r.kept ≤ length r.all) × (r.any_gone ≡ false → AreHere r.all) };
 }
 
 impl Reads {
@@ -148,6 +178,7 @@ impl Reads {
         Reads {
             all: WaitingList::new(alloc),
             kept: 0,
+            any_gone: false,
         }
     }
 
@@ -178,6 +209,7 @@ impl Reads {
             return;
         };
         self.all.set_gone(place, true);
+        self.any_gone = true;
     }
 
     /// Whether the read with this tag on this connection waited. It waits no more. It takes no memory.
@@ -189,6 +221,7 @@ impl Reads {
         let waited = has_read(&self.all, conn, tag);
         mark_read(&mut self.all, conn, tag);
         self.all.retain_here();
+        self.any_gone = false;
         self.kept = self.all.len();
         waited
     }
@@ -200,6 +233,7 @@ impl Reads {
     {
         mark_reads_on(&mut self.all, opening);
         self.all.retain_here();
+        self.any_gone = false;
         self.kept = self.all.len();
     }
 
@@ -210,6 +244,7 @@ impl Reads {
     {
         mark_answered(&mut self.all, by);
         self.all.retain_here();
+        self.any_gone = false;
         self.kept = self.all.len();
     }
 
@@ -217,7 +252,8 @@ impl Reads {
     pub fn keep(&mut self)
         ensures { self.new ≡ both self.old.present }
     {
-        self.all.retain_here();
+        drop_gone(&mut self.all, self.any_gone);
+        self.any_gone = false;
         self.kept = self.all.len();
     }
 
@@ -226,7 +262,8 @@ impl Reads {
         ensures { self.new ≡ both self.old.kept }
     {
         self.all.truncate(self.kept);
-        set_all_here(&mut self.all);
+        set_gone_here(&mut self.all, self.any_gone);
+        self.any_gone = false;
     }
 
     /// No read waits. It takes no memory.
@@ -235,5 +272,6 @@ impl Reads {
     {
         self.all.clear();
         self.kept = 0;
+        self.any_gone = false;
     }
 }
